@@ -1,0 +1,34 @@
+-- Files by their names, and what the calls of a cabinet answer.
+use Rattle.std.specs.Prelude.{◌≡◌, ℕ, nat_le, List, length, Option, Some, None, Result, Ok, Err, if◌then◌else◌}
+use Rattle.std.specs.Option.{option_map}
+use Rattle.std.specs.Str.{bytes_eq}
+use Rattle.block_traits.specs.declared.cabinet.LoadFault.{LoadFault}
+use Rattle.block_traits.specs.declared.cabinet.LoadFault.TheVariants as load
+
+-- the bytes of the file that each name has
+abbrev pub Files : Type 0
+Files = List ℕ → Option (List ℕ)
+
+-- one file is made or replaced, and the others stay
+abbrev pub with_file : List ℕ → List ℕ → Files → Files
+with_file name bytes files other = if bytes_eq other name then Some bytes else files other
+
+-- the same, where the files are told
+abbrev pub stored : List ℕ → List ℕ → Option Files → Option Files
+stored name bytes told = option_map (with_file name bytes) told
+
+-- the answer for what the name has
+abbrev pub load_answer : Option (List ℕ) → ℕ → Result (List ℕ) LoadFault
+load_answer None limit = Err load.Absent
+load_answer (Some bytes) limit = if nat_le (length bytes) limit then Ok bytes else Err load.TooLong
+
+-- it is answered, or the cabinet failed, or there was no memory
+abbrev pub Answers : Result (List ℕ) LoadFault → Result (List ℕ) LoadFault → Type 0
+Answers answer (Err load.Failed) = Unit {0}
+Answers answer (Err load.NoMemory) = Unit {0}
+Answers answer result = result ≡ answer
+
+-- the answer of a load, where the files are told
+abbrev pub LoadGives : Option Files → List ℕ → ℕ → Result (List ℕ) LoadFault → Type 0
+LoadGives None name limit result = Unit {0}
+LoadGives (Some files) name limit result = Answers (load_answer (files name) limit) result

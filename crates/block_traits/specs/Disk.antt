@@ -1,0 +1,62 @@
+-- What a disk tells of itself, and what a call of it does.
+use Rattle.std.specs.Prelude.{◌≡◌, ℕ, ◌<◌, ◌≤◌, ◌-◌, ◌^◌, List, length, take, Option, Some, None, Bool, IsTrue, IsSome}
+use Rattle.block_traits.specs.Causes.{Rose}
+use Rattle.block_traits.specs.Content.{Content, IsContentOf, logged, present}
+use Rattle.block_traits.specs.declared.disk.Event.{Event}
+
+-- a content that is told fits the size
+abbrev pub FitsSize : ℕ → Option Content → Type 0
+FitsSize size None = Unit {0}
+FitsSize size (Some c) = IsContentOf size c
+
+-- the size is small, the content fits it, and events are shown only where the content is told
+pub record IsWellFormed (size : ℕ) (shows : Bool) (told : Option Content) : Type 0 where
+  pub bound : size < 2 ^ 44
+  pub fits : FitsSize size told
+  pub shown : IsTrue shows → IsSome told
+
+-- what a disk tells of itself: its size in sectors, whether it shows its events, its content where it tells that,
+-- and how often it has failed
+pub record DiskState : Type 0 where
+  pub size : ℕ
+  pub shows : Bool
+  pub content : Option Content
+  pub faults : ℕ
+  pub well_formed : IsWellFormed size shows content
+
+-- these events were logged, and nothing else happened but that the count of faults may have risen
+pub record Logs (events : List Event) (old new : DiskState) : Type 0 where
+  pub content : new.content ≡ logged events old.content
+  pub size : new.size ≡ old.size
+  pub shows : new.shows ≡ old.shows
+  pub faults : old.faults ≤ new.faults
+
+-- the first of these events were logged, no other, and the disk failed
+pub record FailsIn (events : List Event) (old new : DiskState) : Type 0 where
+  pub count : ℕ
+  pub within : count ≤ length events
+  pub logs : Logs (take count events) old new
+  pub rose : Rose old.faults new.faults
+
+-- the bytes are what stands in sector n, where that is told
+abbrev pub GivesFrom : Option Content → ℕ → List ℕ → Type 0
+GivesFrom None n bytes = Unit {0}
+GivesFrom (Some c) n bytes = bytes ≡ present c n
+
+abbrev pub Gives : DiskState → ℕ → List ℕ → Type 0
+Gives d n bytes = GivesFrom d.content n bytes
+
+-- the number of the last sector
+abbrev pub last_sector : DiskState → ℕ
+last_sector d = d.size - 1
+
+-- the events that are shown are those of the history
+abbrev pub IsHistory : Option Content → Option (List Event) → Type 0
+IsHistory told None = Unit {0}
+IsHistory None (Some events) = ⊥
+IsHistory (Some c) (Some events) = events ≡ c.history
+
+-- where these events were logged since the start, to log what is left is to log all
+pub record Continues (left all : List Event) (middle start : DiskState) : Type 0 where
+  pub whole : (new : DiskState) → Logs left middle new → Logs all start new
+  pub part : (new : DiskState) → FailsIn left middle new → FailsIn all start new

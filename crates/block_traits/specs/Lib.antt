@@ -1,0 +1,5 @@
+pub mod Cabinet
+pub mod Causes
+pub mod Content
+pub mod Crash
+pub mod Disk

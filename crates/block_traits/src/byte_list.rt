@@ -1,0 +1,32 @@
+// A list of bytes, which contracts see as that list.
+ghost use Rattle.std.specs.Prelude.{◌≡◌, List, ℕ};
+
+use std::marker::Model;
+
+/// Bytes in memory.
+#[derive(Debug, Drop)]
+pub struct ByteList {
+    bytes: Vec<u8>,
+}
+
+impl Model for ByteList {
+    ghost Value = { List ℕ };
+
+    ghost view = { λ list. list.bytes.items };
+}
+
+impl ByteList {
+    /// Takes the bytes over.
+    pub fn from_vec(bytes: Vec<u8>) -> ByteList
+        ensures { result ≡ bytes.items }
+    {
+        ByteList { bytes }
+    }
+
+    /// The bytes as they stand.
+    pub fn as_slice(&self) -> &[u8]
+        ensures { result.now ≡ self.now }
+    {
+        self.bytes.as_slice()
+    }
+}

@@ -1,0 +1,86 @@
+// A disk of 512-byte sectors, by what it had at first and what was done to it since.
+ghost use Rattle.std.specs.Prelude.{◌≡◌, ◌<◌, ◌∷◌, [], OnOk, OnErr, is_some, option_copied};
+ghost use Rattle.block_traits.specs.Disk.{DiskState, FailsIn, Gives, IsHistory, Logs};
+
+/// The content of one sector.
+pub type Sector = [u8; 512];
+
+/// What was done to a disk.
+#[derive(Clone, Copy, Debug, PartialEq, Eq)]
+pub enum Event {
+    /// Sector `n` was given these bytes.
+    Write { n: u64, bytes: Sector },
+    /// What was written before is kept from then on, also where power fails.
+    Flush,
+}
+
+/// The device failed.
+#[derive(Clone, Copy, Debug, PartialEq, Eq)]
+pub struct DiskFailed;
+
+/// A disk of fewer than 2^44 sectors.
+pub trait Disk: Drop {
+    /// Its size, which never changes; whether it shows its events, which never changes; its content
+    /// where it tells that, which it then always does; and a count of faults, which never falls.
+    /// What it tells is well formed.
+    ghost state: { Self → DiskState };
+
+    /// The size in sectors.
+    fn sectors(&self) -> u64
+        ensures { result ≡ (state self.now).size };
+
+    /// Reads sector `n`: what stands there now, where that is told.
+    /// After a failure `into` may hold any bytes.
+    fn read(&mut self, n: u64, into: &mut Sector) -> Result<(), DiskFailed>
+        requires { n < (state self.old).size }
+        ensures bytes { OnOk result (Gives (state self.old) n into.new) }
+        ensures ok { OnOk result (Logs [] (state self.old) (state self.new)) }
+        ensures err { OnErr result (FailsIn [] (state self.old) (state self.new)) };
+
+    /// Writes sector `n`. A failed write was done or wasn't.
+    fn write(&mut self, n: u64, from: &Sector) -> Result<(), DiskFailed>
+        requires { n < (state self.old).size }
+        ensures ok {
+            OnOk result (Logs (Event.Write n from.now ∷ []) (state self.old) (state self.new))
+        }
+        ensures err {
+            OnErr result (FailsIn (Event.Write n from.now ∷ []) (state self.old) (state self.new))
+        };
+
+    /// Makes what was written before last. A failed flush was done or wasn't.
+    fn flush(&mut self) -> Result<(), DiskFailed>
+        ensures ok { OnOk result (Logs (Event.Flush ∷ []) (state self.old) (state self.new)) }
+        ensures err {
+            OnErr result (FailsIn (Event.Flush ∷ []) (state self.old) (state self.new))
+        };
+
+    /// The whole history, the oldest event first, where the disk shows its events.
+    fn events(&self) -> Option<&[Event]>
+        ensures shown { is_some result ≡ (state self.now).shows }
+        ensures history { IsHistory (state self.now).content (option_copied result) };
+}
+
+/// A boxed disk is the disk in it.
+impl Disk for Box<dyn Disk> {
+    ghost state = { λ b. (Disk-box b).state b.value };
+
+    fn sectors(&self) -> u64 {
+        (**self).sectors()
+    }
+
+    fn read(&mut self, n: u64, into: &mut Sector) -> Result<(), DiskFailed> {
+        (**self).read(n, into)
+    }
+
+    fn write(&mut self, n: u64, from: &Sector) -> Result<(), DiskFailed> {
+        (**self).write(n, from)
+    }
+
+    fn flush(&mut self) -> Result<(), DiskFailed> {
+        (**self).flush()
+    }
+
+    fn events(&self) -> Option<&[Event]> {
+        (**self).events()
+    }
+}

@@ -1,0 +1,24 @@
+//! The outside world, as the crates above see it: disks of 512-byte sectors, the place of a
+//! disk's metadata, sources and sinks of bytes, a cabinet of files, and entropy.
+//!
+//! Each trait says in ghost members what an object tells of itself: its content, where it tells
+//! that, and how often it has failed. An object that answers a failure has counted it.
+#![tactic(auto)]
+
+mod byte_list;
+mod cabinet;
+mod disk;
+mod faults;
+mod laws;
+mod meta_place;
+mod streams;
+
+pub use byte_list::ByteList;
+pub use cabinet::{Cabinet, LoadFault, StoreFault};
+pub use disk::{Disk, DiskFailed, Event, Sector};
+pub use faults::NoMemory;
+pub use laws::{
+    flush_keeps_the_present, kept_values_are_sectors, last_kept_value_is_present,
+};
+pub use meta_place::{LastSector, MetaPlace, load_last, store_last};
+pub use streams::{Entropy, EntropyFailed, Sink, SinkFailed, Source, SourceFailed};

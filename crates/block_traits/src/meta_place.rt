@@ -1,0 +1,111 @@
+// The last sector of a disk, where the metadata of a provider stands (g_eli.h).
+ghost use Rattle.std.specs.Prelude.{◌≡◌, ◌<◌, ◌-◌, ◌∷◌, [], ℕ, List, OnOk, OnErr};
+ghost use Rattle.block_traits.specs.Disk.{DiskState, FailsIn, Gives, Logs, last_sector};
+
+use crate::{Disk, DiskFailed, Event, Sector};
+
+/// A disk by its last sector, where its metadata stands.
+pub trait MetaPlace {
+    /// The state of the disk.
+    ghost state: { Self → DiskState };
+
+    /// What else the object keeps, in numbers of its own choice. No call changes it.
+    ghost rest: { Self → List ℕ };
+
+    /// The size of the disk in sectors.
+    fn sectors(&self) -> u64
+        ensures { result ≡ (state self.now).size };
+
+    /// Reads the last sector. After a failure `into` may hold any bytes.
+    fn load(&mut self, into: &mut Sector) -> Result<(), DiskFailed>
+        requires { 0 < (state self.old).size }
+        ensures bytes { OnOk result (Gives (state self.old) (last_sector (state self.old)) into.new) }
+        ensures ok { OnOk result (Logs [] (state self.old) (state self.new)) }
+        ensures err { OnErr result (FailsIn [] (state self.old) (state self.new)) }
+        ensures rest { rest self.new ≡ rest self.old };
+
+    /// Writes the last sector, and then flushes. Where it fails, the first of these two were done,
+    /// or both, or none.
+    fn store(&mut self, from: &Sector) -> Result<(), DiskFailed>
+        requires { 0 < (state self.old).size }
+        ensures ok {
+            let events = Event.Write (last_sector (state self.old)) from.now ∷ Event.Flush ∷ [] in
+            OnOk result (Logs events (state self.old) (state self.new))
+        }
+        ensures err {
+            let events = Event.Write (last_sector (state self.old)) from.now ∷ Event.Flush ∷ [] in
+            OnErr result (FailsIn events (state self.old) (state self.new))
+        }
+        ensures rest { rest self.new ≡ rest self.old };
+}
+
+/// The last sector of a disk that no provider holds.
+#[derive(Drop)]
+pub struct LastSector<D: Disk> {
+    /// The disk.
+    pub disk: D,
+}
+
+impl<D: Disk> LastSector<D> {
+    /// Takes the disk over. Makes no call of it.
+    pub fn new(disk: D) -> LastSector<D>
+        ensures { result.disk ≡ disk }
+    {
+        LastSector { disk }
+    }
+
+    /// The disk as it is now. Makes no call of it.
+    pub fn into_disk(self) -> D
+        ensures { result ≡ self.disk }
+    {
+        self.disk
+    }
+}
+
+/// It has the disk's state, and keeps nothing else.
+impl<D: Disk> MetaPlace for LastSector<D> {
+    ghost state = { λ place. D.state place.disk };
+
+    ghost rest = { λ _. [] };
+
+    fn sectors(&self) -> u64 {
+        self.disk.sectors()
+    }
+
+    fn load(&mut self, into: &mut Sector) -> Result<(), DiskFailed> {
+        load_last(&mut self.disk, into)
+    }
+
+    fn store(&mut self, from: &Sector) -> Result<(), DiskFailed> {
+        store_last(&mut self.disk, from)
+    }
+}
+
+/// Reads the last sector of a disk. After a failure `into` may hold any bytes.
+pub fn load_last<D: Disk>(disk: &mut D, into: &mut Sector) -> Result<(), DiskFailed>
+    requires { 0 < (D.state disk.old).size }
+    ensures bytes { OnOk result (Gives (D.state disk.old) (last_sector (D.state disk.old)) into.new) }
+    ensures ok { OnOk result (Logs [] (D.state disk.old) (D.state disk.new)) }
+    ensures err { OnErr result (FailsIn [] (D.state disk.old) (D.state disk.new)) }
+{
+    let last = disk.sectors() - 1;
+    disk.read(last, into)
+}
+
+/// Writes the last sector of a disk, and then flushes. Where it fails, the first of these two were
+/// done, or both, or none.
+pub fn store_last<D: Disk>(disk: &mut D, from: &Sector) -> Result<(), DiskFailed>
+    requires { 0 < (D.state disk.old).size }
+    ensures ok {
+        let events = Event.Write (last_sector (D.state disk.old)) from.now ∷ Event.Flush ∷ [] in
+        OnOk result (Logs events (D.state disk.old) (D.state disk.new))
+    }
+    ensures err {
+        let events = Event.Write (last_sector (D.state disk.old)) from.now ∷ Event.Flush ∷ [] in
+        OnErr result (FailsIn events (D.state disk.old) (D.state disk.new))
+    }
+{
+    let last = disk.sectors() - 1;
+    disk.write(last, from)?;
+    disk.flush()
+}

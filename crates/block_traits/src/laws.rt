@@ -27,3 +27,18 @@ pub fn kept_values_are_sectors()
     }
 {
 }
+
+/// An image of a crash is among the torn ones.
+pub fn crash_image_is_torn()
+    ensures {
+        (size : ℕ) (c : Content) (choice : ℕ → ℕ) (image : List (List ℕ)) → IsContentOf size c →
+        IsImage c choice image → IsTorn c image
+    }
+{
+}
+
+/// A torn image is among the altered ones.
+pub fn torn_image_is_altered()
+    ensures { (c : Content) (image : List (List ℕ)) → IsTorn c image → IsAltered c image }
+{
+}

@@ -1,5 +1,5 @@
 -- The images that a crash leaves, each kind among the next.
-use Rattle.std.proofs.Common.{◌≡◌, ℕ, ◌+◌, ◌<◌, List, [], length, get_or, inl, arith, All, Contains}
+use Rattle.std.proofs.Common.{ℕ, ◌<◌, List, [], length, get_or, inl, arith}
 use Rattle.std.proofs.lemmas.Option.{slice_get_within, get_or_from_slice_get}
 use Rattle.std.proofs.lemmas.List.Elements.{All-from_get_or, All-contains}
 use Rattle.block_traits.specs.Content.{Content, IsSector, IsContentOf, kept_values}
@@ -18,9 +18,9 @@ IsTorn-image size c choice image content is =
       same = record {
         size = is.size;
         sectors = All-from_get_or IsSector image [] (λ n small.
-          let within : n < length c.base = omega (arith, is.size) in
-          let fits : n < size = omega (arith, content.sectors) in
-          All-contains IsSector (kept_values c n) (get_or image n []) (All-kept_values size c n content fits) (holds n within));
+            let within : n < length c.base = omega (arith, is.size) in
+            let fits : n < size = omega (arith, content.sectors) in
+            All-contains IsSector (kept_values c n) (get_or image n []) (All-kept_values size c n content fits) (holds n within));
       };
       others = λ n small. inl (holds n (omega arith));
       last = λ n end. holds n (omega arith);

@@ -1,5 +1,5 @@
 -- What a disk tells of itself, and what a call of it does.
-use Rattle.std.specs.Prelude.{◌≡◌, ℕ, ◌<◌, ◌≤◌, ◌-◌, ◌^◌, List, length, take, Option, Some, None, Bool, IsTrue, IsSome}
+use Rattle.std.specs.Prelude.{◌≡◌, ℕ, ◌<◌, ◌≤◌, ◌-◌, ◌^◌, List, length, take, Option, Some, None, Bool, true, false, IsTrue, IsSome}
 use Rattle.block_traits.specs.Causes.{Rose}
 use Rattle.block_traits.specs.Content.{Content, IsContentOf, logged, present}
 use Rattle.block_traits.specs.declared.disk.Event.{Event}
@@ -23,6 +23,26 @@ pub record DiskState : Type 0 where
   pub content : Option Content
   pub faults : ℕ
   pub well_formed : IsWellFormed size shows content
+
+-- a disk that tells no content, and so shows no events
+abbrev pub untold : (size faults : ℕ) → size < 2 ^ 44 → DiskState
+untold size faults bound = record {
+  size = size;
+  shows = false;
+  content = None;
+  faults = faults;
+  well_formed = record { bound = bound; fits = tt; shown = λ h. h };
+}
+
+-- a disk that tells its content and shows its events
+abbrev pub showing : (c : Content) (faults : ℕ) → length c.base < 2 ^ 44 → IsContentOf (length c.base) c → DiskState
+showing c faults bound fits = record {
+  size = length c.base;
+  shows = true;
+  content = Some c;
+  faults = faults;
+  well_formed = record { bound = bound; fits = fits; shown = λ h. h };
+}
 
 -- these events were logged, and nothing else happened but that the count of faults may have risen
 pub record Logs (events : List Event) (old new : DiskState) : Type 0 where

@@ -45,16 +45,10 @@ pub trait Cabinet {
         ensures within { IfOk result (λ bytes. length bytes ≤ limit) }
         ensures files { files self.new ≡ files self.old }
         ensures later { faults self.old ≤ faults self.new }
-        ensures failed {
-            IsErrOf result LoadFault.Failed → Rose (faults self.old) (faults self.new)
-        }
+        ensures failed { IsErrOf result LoadFault.Failed → Rose (faults self.old) (faults self.new) }
         ensures more_misses { misses self.old ≤ misses self.new }
-        ensures absent {
-            IsErrOf result LoadFault.Absent → Rose (misses self.old) (misses self.new)
-        }
-        ensures too_long {
-            IsErrOf result LoadFault.TooLong → Rose (misses self.old) (misses self.new)
-        };
+        ensures absent { IsErrOf result LoadFault.Absent → Rose (misses self.old) (misses self.new) }
+        ensures too_long { IsErrOf result LoadFault.TooLong → Rose (misses self.old) (misses self.new) };
 
     /// Makes or replaces the file of this name, and leaves the others. After a failure a cabinet
     /// that tells its files has what it had.
@@ -62,8 +56,6 @@ pub trait Cabinet {
         ensures ok { OnOk result (files self.new ≡ stored name.now bytes.now (files self.old)) }
         ensures err { OnErr result (files self.new ≡ files self.old) }
         ensures later { faults self.old ≤ faults self.new }
-        ensures failed {
-            IsErrOf result StoreFault.Failed → Rose (faults self.old) (faults self.new)
-        }
+        ensures failed { IsErrOf result StoreFault.Failed → Rose (faults self.old) (faults self.new) }
         ensures more_misses { misses self.old ≤ misses self.new };
 }

@@ -40,19 +40,13 @@ pub trait Disk: Drop {
     /// Writes sector `n`. A failed write was done or wasn't.
     fn write(&mut self, n: u64, from: &Sector) -> Result<(), DiskFailed>
         requires { n < (state self.old).size }
-        ensures ok {
-            OnOk result (Logs (Event.Write n from.now ∷ []) (state self.old) (state self.new))
-        }
-        ensures err {
-            OnErr result (FailsIn (Event.Write n from.now ∷ []) (state self.old) (state self.new))
-        };
+        ensures ok { OnOk result (Logs (Event.Write n from.now ∷ []) (state self.old) (state self.new)) }
+        ensures err { OnErr result (FailsIn (Event.Write n from.now ∷ []) (state self.old) (state self.new)) };
 
     /// Makes what was written before last. A failed flush was done or wasn't.
     fn flush(&mut self) -> Result<(), DiskFailed>
         ensures ok { OnOk result (Logs (Event.Flush ∷ []) (state self.old) (state self.new)) }
-        ensures err {
-            OnErr result (FailsIn (Event.Flush ∷ []) (state self.old) (state self.new))
-        };
+        ensures err { OnErr result (FailsIn (Event.Flush ∷ []) (state self.old) (state self.new)) };
 
     /// The whole history, the oldest event first, where the disk shows its events.
     fn events(&self) -> Option<&[Event]>

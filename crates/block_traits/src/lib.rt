@@ -18,7 +18,8 @@ pub use cabinet::{Cabinet, LoadFault, StoreFault};
 pub use disk::{Disk, DiskFailed, Event, Sector};
 pub use faults::NoMemory;
 pub use laws::{
-    crash_image_is_torn, flush_keeps_the_present, kept_values_are_sectors, last_kept_value_is_present, torn_image_is_altered,
+    crash_image_is_torn, flush_keeps_the_present, kept_values_are_sectors,
+    last_kept_value_is_present, torn_image_is_altered,
 };
 pub use meta_place::{LastSector, MetaPlace, load_last, store_last};
 pub use streams::{Entropy, EntropyFailed, Sink, SinkFailed, Source, SourceFailed};

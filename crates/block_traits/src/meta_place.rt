@@ -28,14 +28,10 @@ pub trait MetaPlace {
     /// or both, or none.
     fn store(&mut self, from: &Sector) -> Result<(), DiskFailed>
         requires { 0 < (state self.old).size }
-        ensures ok {
-            let events = Event.Write (last_sector (state self.old)) from.now ∷ Event.Flush ∷ [] in
-            OnOk result (Logs events (state self.old) (state self.new))
-        }
-        ensures err {
-            let events = Event.Write (last_sector (state self.old)) from.now ∷ Event.Flush ∷ [] in
-            OnErr result (FailsIn events (state self.old) (state self.new))
-        }
+        ensures ok { let events = Event.Write (last_sector (state self.old)) from.now ∷ Event.Flush ∷ [] in
+            OnOk result (Logs events (state self.old) (state self.new)) }
+        ensures err { let events = Event.Write (last_sector (state self.old)) from.now ∷ Event.Flush ∷ [] in
+            OnErr result (FailsIn events (state self.old) (state self.new)) }
         ensures rest { rest self.new ≡ rest self.old };
 }
 
@@ -96,14 +92,10 @@ pub fn load_last<D: Disk>(disk: &mut D, into: &mut Sector) -> Result<(), DiskFai
 /// done, or both, or none.
 pub fn store_last<D: Disk>(disk: &mut D, from: &Sector) -> Result<(), DiskFailed>
     requires { 0 < (D.state disk.old).size }
-    ensures ok {
-        let events = Event.Write (last_sector (D.state disk.old)) from.now ∷ Event.Flush ∷ [] in
-        OnOk result (Logs events (D.state disk.old) (D.state disk.new))
-    }
-    ensures err {
-        let events = Event.Write (last_sector (D.state disk.old)) from.now ∷ Event.Flush ∷ [] in
-        OnErr result (FailsIn events (D.state disk.old) (D.state disk.new))
-    }
+    ensures ok { let events = Event.Write (last_sector (D.state disk.old)) from.now ∷ Event.Flush ∷ [] in
+        OnOk result (Logs events (D.state disk.old) (D.state disk.new)) }
+    ensures err { let events = Event.Write (last_sector (D.state disk.old)) from.now ∷ Event.Flush ∷ [] in
+        OnErr result (FailsIn events (D.state disk.old) (D.state disk.new)) }
 {
     let last = disk.sectors() - 1;
     disk.write(last, from)?;

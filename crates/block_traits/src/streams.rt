@@ -28,9 +28,7 @@ pub trait Source {
     fn take(&mut self, into: &mut [u8]) -> Result<usize, SourceFailed>
         requires { 0 < length into.old }
         ensures bound { IfOk result (λ k. k ≤ length into.new) }
-        ensures bytes {
-            IfOk result (λ k. left self.old ≡ prepend_known (take k into.new) (left self.new))
-        }
+        ensures bytes { IfOk result (λ k. left self.old ≡ prepend_known (take k into.new) (left self.new)) }
         ensures end { IfOk result (λ k. k ≡ 0 → IsAtEnd (left self.new)) }
         ensures err { OnErr result (left self.new ≡ left self.old) }
         ensures cause { HasCause (faults self.old) (faults self.new) result };
@@ -48,12 +46,8 @@ pub trait Sink {
     /// fault, and is counted. A failure takes nothing.
     fn give(&mut self, from: &[u8]) -> Result<usize, SinkFailed>
         ensures bound { IfOk result (λ k. k ≤ length from.now) }
-        ensures bytes {
-            IfOk result (λ k. taken self.new ≡ append_known (taken self.old) (take k from.now))
-        }
-        ensures none {
-            IfOk result (λ k. k ≡ 0 → 0 < length from.now → Rose (faults self.old) (faults self.new))
-        }
+        ensures bytes { IfOk result (λ k. taken self.new ≡ append_known (taken self.old) (take k from.now)) }
+        ensures none { IfOk result (λ k. k ≡ 0 → 0 < length from.now → Rose (faults self.old) (faults self.new)) }
         ensures err { OnErr result (taken self.new ≡ taken self.old) }
         ensures cause { HasCause (faults self.old) (faults self.new) result };
 }

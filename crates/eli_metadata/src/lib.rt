@@ -1,0 +1,11 @@
+//! The metadata sector of a GELI provider (g_eli.h, version 7): reading, writing and checking it.
+#![tactic(auto)]
+
+mod bytes;
+mod codec;
+mod metadata;
+mod place;
+
+pub use codec::{decode, encode};
+pub use metadata::{MetaFault, Metadata};
+pub use place::{ReadMetaFault, read_metadata};

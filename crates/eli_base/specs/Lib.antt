@@ -1,0 +1,4 @@
+pub mod Algorithms
+pub mod SectorSize
+pub mod Keying
+pub mod Refusal

@@ -1,0 +1,33 @@
+ghost use Rattle.std.specs.Prelude.{◌≡◌};
+ghost use Rattle.eli_base.specs.Algorithms.{allows_length};
+
+/// The cipher of a provider's data, geli(8) `-e`.
+#[derive(Clone, Copy, Debug, PartialEq, Eq)]
+pub enum Cipher {
+    /// AES-CBC, number 11 in the metadata.
+    AesCbc,
+    /// AES-XTS, number 22 in the metadata.
+    AesXts,
+}
+
+impl Cipher {
+    /// Whether a key of `keylen` bits is one for this cipher, geli(8) `-l`: 128, 192 or 256 for
+    /// AES-CBC, 128 or 256 for AES-XTS.
+    pub fn allows(self, keylen: u16) -> bool
+        ensures { result ≡ allows_length self keylen }
+    {
+        match self {
+            Cipher::AesCbc => keylen == 128 || keylen == 192 || keylen == 256,
+            Cipher::AesXts => keylen == 128 || keylen == 256,
+        }
+    }
+}
+
+/// The authentication of a provider's data, geli(8) `-a`.
+#[derive(Clone, Copy, Debug, PartialEq, Eq)]
+pub enum Auth {
+    /// No tags.
+    Off,
+    /// HMAC/SHA256, number 18 in the metadata.
+    Sha256,
+}

@@ -1,4 +1,6 @@
 pub mod Algorithms
 pub mod SectorSize
 pub mod Keying
+pub mod Units
+pub mod Geometry
 pub mod Refusal

@@ -1,4 +1,4 @@
-use Rattle.std.specs.Prelude.{ℕ, Bool, List, [], ◌∷◌, ◌==◌, ◌^◌}
+use Rattle.std.specs.Prelude.{ℕ, Bool, [], ◌∷◌, ◌==◌, ◌^◌}
 use Rattle.std.specs.List.{list_any}
 
 -- Whether a number is a power of two from 512 to 65,536, the sector sizes of geli(8), option -s.

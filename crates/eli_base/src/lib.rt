@@ -5,9 +5,14 @@
 #![tactic(auto)]
 
 mod algorithms;
+mod layout;
 mod parameters;
 mod refusals;
 
 pub use algorithms::{Auth, Cipher};
+pub use layout::{GeoFault, Geometry, UnitSpan};
 pub use parameters::{MasterKey, Params, sector_size_ok};
 pub use refusals::{Reason, Refusal};
+
+#[cfg(test)]
+mod tests;

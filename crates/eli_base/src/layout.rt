@@ -1,0 +1,112 @@
+ghost use Rattle.std.specs.Prelude.{◌≡◌, ◌+◌, ◌-◌, ◌*◌, ◌%◌, ◌^◌, ◌<◌, ◌≤◌, MatchResult, IfOk};
+ghost use Rattle.eli_base.specs.Units.{unit_bytes_of, units_per_sector, media_sectors};
+
+use crate::algorithms::Auth;
+use crate::parameters::Params;
+use thiserror::Error;
+
+/// Why a provider has no geometry.
+#[derive(Clone, Copy, Debug, PartialEq, Eq, Error)]
+pub enum GeoFault {
+    /// An image of `size` bytes has no whole logical sector beside its metadata.
+    #[error("an image of {size} bytes has no whole logical sector")]
+    TooSmall { size: u64 },
+}
+
+/// The device sectors of one logical sector, in ascending order.
+#[derive(Clone, Copy, Debug, PartialEq, Eq)]
+pub struct UnitSpan {
+    /// The number of the first device sector.
+    pub first: u64,
+    /// How many there are.
+    pub count: u64,
+}
+
+/// How the logical sectors of a provider stand in the device sectors of its image, geli(8). The last
+/// device sector of the image has the metadata, and no unit stands there.
+#[derive(Clone, Copy, Debug, PartialEq, Eq)]
+pub struct Geometry {
+    /// The bytes of a logical sector.
+    pub sectorsize: u32,
+    /// How many logical sectors the provider has.
+    pub sectors: u64,
+    /// The device sectors of one logical sector.
+    pub units: u64,
+    /// The plain bytes of a unit that is not the last of its logical sector.
+    pub unit_bytes: u64,
+    /// The plain bytes of the last unit.
+    pub last_bytes: u64,
+    pub ghost bounded: { sectors * units < 2 ^ 44 },
+    pub ghost some_sectors: { 1 ≤ sectors },
+    pub ghost some_units: { 1 ≤ units },
+    pub ghost filled: { (units - 1) * unit_bytes + last_bytes ≡ sectorsize },
+    pub ghost last_at_least: { 16 ≤ last_bytes },
+    pub ghost last_at_most: { last_bytes ≤ unit_bytes },
+    pub ghost unit_at_most: { unit_bytes ≤ 512 },
+    pub ghost unit_blocks: { unit_bytes % 16 ≡ 0 },
+    pub ghost last_blocks: { last_bytes % 16 ≡ 0 },
+}
+
+fn unit_bytes(auth: Auth) -> u64
+    ensures { result ≡ unit_bytes_of auth }
+{
+    match auth {
+        Auth::Off => 512,
+        Auth::Sha256 => 480,
+    }
+}
+
+fn unit_count(auth: Auth, sectorsize: u32) -> u64
+    requires { 512 ≤ sectorsize }
+    ensures { result ≡ units_per_sector auth sectorsize }
+{
+    match auth {
+        Auth::Off => u64::from(sectorsize) / 512,
+        Auth::Sha256 => (u64::from(sectorsize) - 1) / 480 + 1,
+    }
+}
+
+impl Geometry {
+    ghost use Rattle.eli_base.specs.Geometry.{IsGeometryOf};
+
+    /// The geometry of a provider. It is refused exactly where the image has no whole logical sector.
+    pub fn of(params: &Params) -> Result<Geometry, GeoFault>
+        ensures geometry { MatchResult result
+            (λ geometry. IsGeometryOf params.now geometry)
+            (λ fault. fault ≡ GeoFault.TooSmall params.now.provsize) }
+        ensures fault { let media = media_sectors params.now.auth params.now.sectorsize params.now.provsize in
+            MatchResult result (λ _. 1 ≤ media) (λ _. media ≡ 0) }
+
+        // All units and the metadata fit the image.
+        ensures room { IfOk result (λ geometry. 512 * (geometry.sectors * geometry.units) + 512 ≤ params.now.provsize) }
+    {
+        let units = unit_count(params.auth, params.sectorsize);
+        let unit_bytes = unit_bytes(params.auth);
+        let sectors = params.provsize.saturating_sub(512) / (512 * units);
+        if sectors == 0 {
+            return Err(GeoFault::TooSmall {
+                size: params.provsize,
+            });
+        }
+        Ok(Geometry {
+            sectorsize: params.sectorsize,
+            sectors,
+            units,
+            unit_bytes,
+            last_bytes: u64::from(params.sectorsize) - (units - 1) * unit_bytes,
+        })
+    }
+
+    /// The device sectors of the logical sector `sector`.
+    pub fn units_of(&self, sector: u64) -> UnitSpan
+        requires { sector < self.now.sectors }
+        ensures first { result.first ≡ sector * self.now.units }
+        ensures count { result.count ≡ self.now.units }
+        ensures inside { result.first + result.count ≤ self.now.sectors * self.now.units }
+    {
+        UnitSpan {
+            first: sector * self.units,
+            count: self.units,
+        }
+    }
+}

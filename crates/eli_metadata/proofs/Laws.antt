@@ -135,9 +135,19 @@ stands b m rest range salt slots is =
     record {
       begins = here b 0 16 magic _ length-magic is;
       same =
-          rw (number_here b 16 4 _ _ range.version d16, number_here b 20 4 _ _ range.flags d20, number_here b 24 2 _ _ range.ealgo d24, number_here b 26 2 _ _ range.keylen d26,
-            number_here b 28 2 _ _ range.aalgo d28, number_here b 30 8 _ _ range.provsize d30, number_here b 38 4 _ _ range.sectorsize d38, key,
-            signed_here b 43 _ _ range.iterations d43, here b 47 64 _ _ salt d47, here b 111 384 _ _ slots d111)
+          rw (
+            number_here b 16 4 _ _ range.version d16,
+            number_here b 20 4 _ _ range.flags d20,
+            number_here b 24 2 _ _ range.ealgo d24,
+            number_here b 26 2 _ _ range.keylen d26,
+            number_here b 28 2 _ _ range.aalgo d28,
+            number_here b 30 8 _ _ range.provsize d30,
+            number_here b 38 4 _ _ range.sectorsize d38,
+            key,
+            signed_here b 43 _ _ range.iterations d43,
+            here b 47 64 _ _ salt d47,
+            here b 111 384 _ _ slots d111,
+          )
           refl;
       after = d495;
     }

@@ -1,2 +1,4 @@
+pub mod Check
 pub mod Format
 pub mod Place
+pub mod Refusals

@@ -3,9 +3,11 @@
 
 mod bytes;
 mod codec;
+mod gates;
 mod metadata;
 mod place;
 
 pub use codec::{decode, encode};
+pub use gates::{check, size_gate, slot_gate};
 pub use metadata::{MetaFault, Metadata};
 pub use place::{ReadMetaFault, read_metadata};

@@ -1,3 +1,8 @@
+// The fields of the metadata, and what may be wrong with them.
+ghost use Rattle.eli_metadata.specs.Refusals.{refusal_of};
+ghost use Rattle.std.specs.Prelude.{◌≡◌};
+
+use eli_base::Refusal;
 use thiserror::Error;
 
 /// The fields of the metadata sector, by their names in `struct g_eli_metadata` (g_eli.h).
@@ -39,4 +44,53 @@ pub enum MetaFault {
     /// The MD5 of the fields differs from the one beside them.
     #[error("the metadata's checksum differs")]
     BadHash,
+    /// These flags are set and aren't supported.
+    #[error("flags {mask:#x} aren't supported")]
+    UnsupportedFlags { mask: u32 },
+    /// The algorithm of encryption is neither AES-CBC nor AES-XTS.
+    #[error("cipher {found} isn't supported")]
+    UnsupportedCipher { found: u16 },
+    /// The cipher doesn't allow the length of the key.
+    #[error("a key of {found} bits isn't supported")]
+    BadKeyLength { found: u16 },
+    /// The provider is authenticated, and not by HMAC/SHA256.
+    #[error("authentication {found} isn't supported")]
+    UnsupportedAuth { found: u16 },
+    /// The size of a logical sector isn't a power of two from 512 to 65,536.
+    #[error("a sector of {found} bytes isn't supported")]
+    BadSectorSize { found: u32 },
+    /// The provider's size in the metadata is another than the one found, or is 2^53 bytes or more
+    /// (`found` is then 0).
+    #[error("the size {kept} doesn't match {found}")]
+    BadSize { kept: u64, found: u64 },
+    /// No slot holds a key.
+    #[error("no valid keys")]
+    NoValidKeys,
+    /// There is no slot of this number.
+    #[error("there is no slot {given}")]
+    KeyNumberOutOfRange { given: u8 },
+    /// The slot holds no key.
+    #[error("slot {slot} holds no key")]
+    KeyNotSet { slot: u8 },
+}
+
+impl From<MetaFault> for Refusal {
+    ghost from_gives = { λ fault refusal. refusal ≡ refusal_of fault };
+
+    fn from(fault: MetaFault) -> Refusal {
+        match fault {
+            MetaFault::BadMagic => Refusal::BadMagic,
+            MetaFault::BadVersion { found } => Refusal::BadVersion { found },
+            MetaFault::BadHash => Refusal::BadHash,
+            MetaFault::UnsupportedFlags { mask } => Refusal::UnsupportedFlags { mask },
+            MetaFault::UnsupportedCipher { found } => Refusal::UnsupportedCipher { found },
+            MetaFault::BadKeyLength { found } => Refusal::BadKeyLength { found },
+            MetaFault::UnsupportedAuth { found } => Refusal::UnsupportedAuth { found },
+            MetaFault::BadSectorSize { found } => Refusal::BadSectorSize { found },
+            MetaFault::BadSize { kept, found } => Refusal::BadSize { kept, found },
+            MetaFault::NoValidKeys => Refusal::NoValidKeys,
+            MetaFault::KeyNumberOutOfRange { given } => Refusal::KeyNumberOutOfRange { given },
+            MetaFault::KeyNotSet { slot } => Refusal::KeyNotSet { slot },
+        }
+    }
 }

@@ -1,9 +1,11 @@
 // The metadata at the end of a disk.
 ghost use Rattle.std.specs.Prelude.{◌≡◌};
 ghost use Rattle.eli_metadata.specs.Place.{ReadsMetadata};
+ghost use Rattle.eli_metadata.specs.Refusals.{read_refusal_of};
 
 use crate::{MetaFault, Metadata, decode};
 use block_traits::MetaPlace;
+use eli_base::Refusal;
 use thiserror::Error;
 
 /// Why no metadata was read.
@@ -18,6 +20,18 @@ pub enum ReadMetaFault {
     /// The bytes that were read are no metadata.
     #[error("{0}")]
     Meta(MetaFault),
+}
+
+impl From<ReadMetaFault> for Refusal {
+    ghost from_gives = { λ fault refusal. refusal ≡ read_refusal_of fault };
+
+    fn from(fault: ReadMetaFault) -> Refusal {
+        match fault {
+            ReadMetaFault::TooSmall { size } => Refusal::TooSmall { size },
+            ReadMetaFault::DeviceFault => Refusal::DeviceFault,
+            ReadMetaFault::Meta(fault) => Refusal::from(fault),
+        }
+    }
 }
 
 /// Reads the metadata in the last device sector.

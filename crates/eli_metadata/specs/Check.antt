@@ -1,0 +1,85 @@
+-- Which metadata a provider can be used by (g_eli.h, eli_metadata_decode and eli_metadata_crypto_supported; geli(8)).
+use Rattle.std.specs.Prelude.{ℕ, ◌*◌, ◌^◌, nat_lt, nat_le, bit_and, Bool, ◌==◌, if◌then◌else◌, not, Option, Some, None, Result, Ok, Err}
+use Rattle.eli_base.specs.declared.Auth.{Auth}
+use Rattle.eli_base.specs.declared.Auth.TheVariants.{Off, Sha256}
+use Rattle.eli_base.specs.declared.Cipher.{Cipher}
+use Rattle.eli_base.specs.declared.Cipher.TheVariants.{AesCbc, AesXts}
+use Rattle.eli_base.specs.declared.Params.{Params}
+use Rattle.eli_base.specs.Algorithms.{allows_length}
+use Rattle.eli_base.specs.SectorSize.{is_sector_size}
+use Rattle.eli_metadata.specs.declared.metadata.Metadata.{Metadata}
+use Rattle.eli_metadata.specs.declared.metadata.MetaFault.{MetaFault}
+use Rattle.eli_metadata.specs.declared.metadata.MetaFault.TheVariants.{UnsupportedFlags, UnsupportedCipher, BadKeyLength, UnsupportedAuth, BadSectorSize, BadSize, NoValidKeys, KeyNumberOutOfRange, KeyNotSet}
+
+-- what the metadata says of the data, in the types of the crates above
+pub record Settings : Type 0 where
+  pub version : ℕ
+  pub auth : Auth
+  pub cipher : Cipher
+  pub keylen : ℕ
+  pub sectorsize : ℕ
+  pub provsize : ℕ
+  pub readonly : Bool
+
+abbrev pub settings_of : Params → Settings
+settings_of p = record { version = p.version; auth = p.auth; cipher = p.cipher; keylen = p.keylen; sectorsize = p.sectorsize; provsize = p.provsize; readonly = p.readonly }
+
+-- whether all these flags are clear
+abbrev pub are_clear : ℕ → ℕ → Bool
+are_clear flags mask = bit_and flags mask == 0
+
+-- G_ELI_FLAG_AUTH, G_ELI_FLAG_RO
+abbrev pub is_authenticated : Metadata → Bool
+is_authenticated m = not (are_clear m.flags 0x10)
+
+abbrev pub is_readonly : Metadata → Bool
+is_readonly m = not (are_clear m.flags 0x20)
+
+-- G_ELI_FLAG_ONETIME, and the flags that g_eli.h doesn't name
+abbrev pub unsupported_flags : ℕ → ℕ
+unsupported_flags flags = bit_and flags 0xFFFFFC01
+
+-- CRYPTO_AES_CBC is 11 and CRYPTO_AES_XTS 22
+abbrev pub cipher_of : ℕ → Option Cipher
+cipher_of ealgo = if ealgo == 11 then Some AesCbc else (if ealgo == 22 then Some AesXts else None)
+
+-- CRYPTO_SHA2_256_HMAC is 18; without the flag AUTH the field isn't read
+abbrev pub auth_of : Metadata → Option Auth
+auth_of m = if is_authenticated m then (if m.aalgo == 18 then Some Sha256 else None) else Some Off
+
+-- the refusals in their order, or the settings
+abbrev pub check_size : Metadata → Cipher → Auth → Result Settings MetaFault
+check_size m cipher auth = if nat_lt m.provsize (2 ^ 53)
+    then Ok (record { version = m.version; auth = auth; cipher = cipher; keylen = m.keylen; sectorsize = m.sectorsize; provsize = m.provsize; readonly = is_readonly m })
+    else Err (BadSize m.provsize 0)
+
+abbrev pub check_sector : Metadata → Cipher → Auth → Result Settings MetaFault
+check_sector m cipher auth = if is_sector_size m.sectorsize then check_size m cipher auth else Err (BadSectorSize m.sectorsize)
+
+abbrev pub check_auth : Metadata → Cipher → Option Auth → Result Settings MetaFault
+check_auth m cipher None = Err (UnsupportedAuth m.aalgo)
+check_auth m cipher (Some auth) = check_sector m cipher auth
+
+abbrev pub check_cipher : Metadata → Option Cipher → Result Settings MetaFault
+check_cipher m None = Err (UnsupportedCipher m.ealgo)
+check_cipher m (Some cipher) = if allows_length cipher m.keylen then check_auth m cipher (auth_of m) else Err (BadKeyLength m.keylen)
+
+unfoldable pub supported : Metadata → Result Settings MetaFault
+supported m = if unsupported_flags m.flags == 0 then check_cipher m (cipher_of m.ealgo) else Err (UnsupportedFlags (unsupported_flags m.flags))
+
+-- the provider's size is that of an image of so many device sectors
+abbrev pub size_matches : Metadata → ℕ → Result (Unit {0}) MetaFault
+size_matches m sectors = if m.provsize == 512 * sectors then Ok tt else Err (BadSize m.provsize (512 * sectors))
+
+-- whether a slot holds a key
+abbrev pub is_set : Metadata → ℕ → Bool
+is_set m slot = not (bit_and m.keys (2 ^ slot) == 0)
+
+-- the named slot holds a key
+abbrev pub named_slot_opens : Metadata → Option ℕ → Result (Unit {0}) MetaFault
+named_slot_opens m None = Ok tt
+named_slot_opens m (Some slot) = if nat_le slot 1 then (if is_set m slot then Ok tt else Err (KeyNotSet slot)) else Err (KeyNumberOutOfRange slot)
+
+-- some slot holds a key, and so does the named one
+abbrev pub slot_matches : Metadata → Option ℕ → Result (Unit {0}) MetaFault
+slot_matches m slot = if are_clear m.keys 3 then Err NoValidKeys else named_slot_opens m slot

@@ -1,0 +1,16 @@
+use Rattle.std.proofs.Common.{◌-◌, length, drop, arith, length-drop, sym, ap, List, ℕ}
+use Rattle.std.proofs.Math.Seq.{take-add}
+use Rattle.std.proofs.lemmas.List.{take_all}
+use Rattle.reply_text.proofs.Printing.{TookAll-then}
+use Rattle.reply_text.proofs.print.write_text.Goals as goal
+
+pub loop-given-preserved : goal.loop-given-preserved
+loop-given-preserved g c =
+    let text = c.args.text.now in
+    let whole = take_all (length text - c.loop-given.given) (drop c.loop-given.given text) (omega (arith, length-drop c.loop-given.given text)) in
+    let bound = rw whole at c.in-Ok.ensures.bound in
+    let bytes = rw whole at c.in-Ok.ensures.bytes in
+    record {
+      inside = omega (arith, bound, length-drop c.loop-given.given text);
+      took = rw (take-add c.loop-given.given c.in-Ok.count text) (TookAll-then _ _ c.loop-given.invariant.took (record { took = bytes; later = c.in-Ok.ensures.cause.later }));
+    }

@@ -1,0 +1,150 @@
+-- The text of each reply.
+use Rattle.std.specs.Prelude.{ℕ, List, [], ◌∷◌, ◌++◌, map, codes}
+use Rattle.std.specs.List.{concat}
+use Rattle.std.specs.Fmt.{decimal, signed_decimal, digits}
+use Rattle.std.specs.Prelude.{false}
+use Rattle.hex.specs.Hex.{encode_lower}
+use Rattle.eli_base.specs.declared.Reason.{Reason}
+use Rattle.eli_base.specs.declared.Reason.TheVariants as reasons
+use Rattle.eli_base.specs.declared.Refusal.{Refusal}
+use Rattle.eli_base.specs.declared.Refusal.TheVariants as refusals
+use Rattle.eli_base.specs.Refusal.{number_of}
+use Rattle.eli_metadata.specs.declared.Metadata.{Metadata}
+use Rattle.reply_text.specs.declared.reply.Reply.{Reply}
+use Rattle.reply_text.specs.declared.reply.Reply.TheVariants.{Done, Dump, Refused}
+
+-- a label, a value and a newline
+unfoldable pub line : List ℕ → List ℕ → List ℕ
+line label value = label ++ (value ++ 10 ∷ [])
+
+-- the name of a reason
+abbrev pub reason_name : Reason → List ℕ
+reason_name reasons.UnknownVerb = codes "UnknownVerb"
+reason_name reasons.UnknownOption = codes "UnknownOption"
+reason_name reasons.MissingValue = codes "MissingValue"
+reason_name reasons.BadNumber = codes "BadNumber"
+reason_name reasons.BadName = codes "BadName"
+reason_name reasons.DashFile = codes "DashFile"
+reason_name reasons.TooManyFiles = codes "TooManyFiles"
+reason_name reasons.OperandCount = codes "OperandCount"
+reason_name reasons.MissingOption = codes "MissingOption"
+reason_name reasons.Exclusive = codes "Exclusive"
+reason_name reasons.BadHex = codes "BadHex"
+reason_name reasons.NotText = codes "NotText"
+
+-- the name of a refusal
+abbrev pub refusal_name : Refusal → List ℕ
+refusal_name (refusals.Usage word reason) = codes "Usage"
+refusal_name refusals.UnknownProvider = codes "UnknownProvider"
+refusal_name refusals.NotAttached = codes "NotAttached"
+refusal_name refusals.StillAttached = codes "StillAttached"
+refusal_name refusals.BadMagic = codes "BadMagic"
+refusal_name (refusals.BadVersion found) = codes "BadVersion"
+refusal_name refusals.BadHash = codes "BadHash"
+refusal_name (refusals.BadSize kept found) = codes "BadSize"
+refusal_name (refusals.UnsupportedCipher found) = codes "UnsupportedCipher"
+refusal_name (refusals.UnsupportedAuth found) = codes "UnsupportedAuth"
+refusal_name (refusals.BadKeyLength found) = codes "BadKeyLength"
+refusal_name (refusals.BadSectorSize found) = codes "BadSectorSize"
+refusal_name (refusals.UnsupportedFlags mask) = codes "UnsupportedFlags"
+refusal_name refusals.NoValidKeys = codes "NoValidKeys"
+refusal_name refusals.WrongKey = codes "WrongKey"
+refusal_name refusals.NoKeyComponents = codes "NoKeyComponents"
+refusal_name refusals.PassphraseNotSet = codes "PassphraseNotSet"
+refusal_name (refusals.KeyNumberOutOfRange given) = codes "KeyNumberOutOfRange"
+refusal_name (refusals.KeyNotSet slot) = codes "KeyNotSet"
+refusal_name (refusals.LastKey slot) = codes "LastKey"
+refusal_name refusals.IterationsNeedOneKey = codes "IterationsNeedOneKey"
+refusal_name refusals.PassphraseNeeded = codes "PassphraseNeeded"
+refusal_name (refusals.OutOfRange sector count media) = codes "OutOfRange"
+refusal_name refusals.ReadOnly = codes "ReadOnly"
+refusal_name (refusals.Integrity offset) = codes "Integrity"
+refusal_name refusals.DeviceFault = codes "DeviceFault"
+refusal_name (refusals.FileAbsent word) = codes "FileAbsent"
+refusal_name (refusals.CabinetFault word) = codes "CabinetFault"
+refusal_name refusals.EntropyFault = codes "EntropyFault"
+refusal_name (refusals.FileTooLong word limit) = codes "FileTooLong"
+refusal_name (refusals.BackupTooShort length) = codes "BackupTooShort"
+refusal_name (refusals.OldSizeMismatch kept given) = codes "OldSizeMismatch"
+refusal_name refusals.NoMemory = codes "NoMemory"
+refusal_name (refusals.NotGrown size given) = codes "NotGrown"
+refusal_name (refusals.TooSmall size) = codes "TooSmall"
+refusal_name (refusals.BadLength given sectorsize) = codes "BadLength"
+refusal_name refusals.KeyNumberNeeded = codes "KeyNumberNeeded"
+
+-- the numbers that a refusal carries, in order
+abbrev pub refusal_numbers : Refusal → List ℕ
+refusal_numbers (refusals.Usage word reason) = word ∷ []
+refusal_numbers (refusals.BadVersion found) = found ∷ []
+refusal_numbers (refusals.BadSize kept found) = kept ∷ found ∷ []
+refusal_numbers (refusals.UnsupportedCipher found) = found ∷ []
+refusal_numbers (refusals.UnsupportedAuth found) = found ∷ []
+refusal_numbers (refusals.BadKeyLength found) = found ∷ []
+refusal_numbers (refusals.BadSectorSize found) = found ∷ []
+refusal_numbers (refusals.UnsupportedFlags mask) = mask ∷ []
+refusal_numbers (refusals.KeyNumberOutOfRange given) = given ∷ []
+refusal_numbers (refusals.KeyNotSet slot) = slot ∷ []
+refusal_numbers (refusals.LastKey slot) = slot ∷ []
+refusal_numbers (refusals.OutOfRange sector count media) = sector ∷ count ∷ media ∷ []
+refusal_numbers (refusals.Integrity offset) = offset ∷ []
+refusal_numbers (refusals.FileAbsent word) = word ∷ []
+refusal_numbers (refusals.CabinetFault word) = word ∷ []
+refusal_numbers (refusals.FileTooLong word limit) = word ∷ limit ∷ []
+refusal_numbers (refusals.BackupTooShort length) = length ∷ []
+refusal_numbers (refusals.OldSizeMismatch kept given) = kept ∷ given ∷ []
+refusal_numbers (refusals.NotGrown size given) = size ∷ given ∷ []
+refusal_numbers (refusals.TooSmall size) = size ∷ []
+refusal_numbers (refusals.BadLength given sectorsize) = given ∷ sectorsize ∷ []
+refusal_numbers refusal = []
+
+-- a field after a space
+unfoldable pub field : List ℕ → List ℕ
+field text = 32 ∷ text
+
+unfoldable pub number_fields : List ℕ → List ℕ
+number_fields numbers = concat (map (λ number. field (decimal number)) numbers)
+
+-- the reason behind the number of the word
+abbrev pub reason_field : Refusal → List ℕ
+reason_field (refusals.Usage word reason) = field (reason_name reason)
+reason_field refusal = []
+
+-- `error `, the number and the name
+abbrev pub refusal_head : Refusal → List ℕ
+refusal_head r = codes "error " ++ decimal (number_of r) ++ field (refusal_name r)
+
+-- the head, the fields and a newline
+abbrev pub refusal_text : Refusal → List ℕ
+refusal_text r = refusal_head r ++ number_fields (refusal_numbers r) ++ reason_field r ++ (10 ∷ [])
+
+-- the version, the flags, and the algorithms
+abbrev pub format_lines : Metadata → List ℕ
+format_lines m =
+    line (codes "version: ") (decimal m.version)
+    ++ line (codes "flags: 0x") (digits 16 false m.flags)
+    ++ line (codes "ealgo: ") (decimal m.ealgo)
+    ++ line (codes "keylen: ") (decimal m.keylen)
+    ++ line (codes "aalgo: ") (decimal m.aalgo)
+
+-- the sizes, and which slots are set
+abbrev pub size_lines : Metadata → List ℕ
+size_lines m =
+    line (codes "provsize: ") (decimal m.provsize)
+    ++ line (codes "sectorsize: ") (decimal m.sectorsize)
+    ++ line (codes "keys: 0x") (digits 16 false m.keys)
+
+-- the iterations, the salt and the slots
+abbrev pub key_lines : Metadata → List ℕ
+key_lines m =
+    line (codes "iterations: ") (signed_decimal m.iterations)
+    ++ line (codes "salt: ") (encode_lower m.salt)
+    ++ line (codes "mkeys: ") (encode_lower m.mkeys)
+
+-- eleven lines, one for each field of the metadata in front of its MD5, and `ok`
+abbrev pub dump_text : Metadata → List ℕ
+dump_text m = format_lines m ++ size_lines m ++ key_lines m ++ codes "ok\n"
+
+abbrev pub reply_text : Reply → List ℕ
+reply_text Done = codes "ok\n"
+reply_text (Dump meta) = dump_text meta
+reply_text (Refused refusal) = refusal_text refusal

@@ -1,0 +1,100 @@
+// A file, or a device, as a disk.
+ghost use Rattle.std.specs.Prelude.{◌≡◌, ◌<◌, ◌≤◌, ◌^◌};
+ghost use Rattle.block_traits.specs.Causes.{Rose};
+
+use block_traits::{Disk, DiskFailed, Event, Sector};
+use std::fs::{File, OpenOptions};
+use std::io::{self, Seek, SeekFrom};
+use std::os::unix::fs::FileExt;
+use std::rt::Files;
+
+/// The whole 512-byte pieces of a file, read and written where they stand. It tells no content, shows
+/// no events, and counts each failure.
+#[derive(Drop)]
+pub struct FileDisk {
+    file: Option<File>,
+    sectors: u64,
+    faults: u64,
+    ghost small: { sectors < 2 ^ 44 },
+}
+
+impl FileDisk {
+    /// The disk of a file. A file that can't be opened, or of 2^53 bytes or more, is a disk of two
+    /// sectors whose every call fails. A file that can't be written is opened to be read, and each
+    /// write fails.
+    pub fn open(rt: &impl Files<File = File>, name: &str) -> FileDisk {
+        match open_sized(rt, name) {
+            Ok((file, length)) if length < 1 << 53 => FileDisk {
+                file: Some(file),
+                sectors: length / 512,
+                faults: 0,
+            },
+            _ => FileDisk {
+                file: None,
+                sectors: 2,
+                faults: 0,
+            },
+        }
+    }
+
+    // Counts a failure.
+    fn fail(&mut self) -> DiskFailed
+        ensures sectors { self.new.sectors ≡ self.old.sectors }
+        ensures later { self.old.faults ≤ self.new.faults }
+        ensures rose { Rose self.old.faults self.new.faults }
+    {
+        self.faults = self.faults.saturating_add(1);
+        DiskFailed
+    }
+}
+
+fn open_sized(rt: &impl Files<File = File>, name: &str) -> io::Result<(File, u64)> {
+    let opened = OpenOptions::new().read(true).write(true).open(rt, name);
+    let mut file = match opened {
+        Ok(file) => file,
+        Err(_) => File::open(rt, name)?,
+    };
+    let length = file.seek(SeekFrom::End(0))?;
+    Ok((file, length))
+}
+
+impl Disk for FileDisk {
+    ghost use Rattle.block_traits.specs.Disk.{untold};
+
+    ghost state = { λ d. untold d.sectors d.faults d.small };
+
+    fn sectors(&self) -> u64 {
+        self.sectors
+    }
+
+    fn read(&mut self, n: u64, into: &mut Sector) -> Result<(), DiskFailed> {
+        if let Some(file) = &self.file
+            && file.read_exact_at(into, 512 * n).is_ok()
+        {
+            return Ok(());
+        }
+        Err(self.fail())
+    }
+
+    fn write(&mut self, n: u64, from: &Sector) -> Result<(), DiskFailed> {
+        if let Some(file) = &self.file
+            && file.write_all_at(from, 512 * n).is_ok()
+        {
+            return Ok(());
+        }
+        Err(self.fail())
+    }
+
+    fn flush(&mut self) -> Result<(), DiskFailed> {
+        if let Some(file) = &self.file
+            && file.sync_data().is_ok()
+        {
+            return Ok(());
+        }
+        Err(self.fail())
+    }
+
+    fn events(&self) -> Option<&[Event]> {
+        None
+    }
+}

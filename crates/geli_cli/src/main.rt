@@ -1,0 +1,61 @@
+//! The program `geli`: the disks, streams, files and random bytes of the system are handed to the run.
+#![tactic(auto)]
+
+mod file_cabinet;
+mod file_disk;
+mod random_file;
+mod streams;
+#[cfg(test)]
+mod tests;
+
+use block_traits::{Disk, NoMemory};
+use file_cabinet::FileCabinet;
+use file_disk::FileDisk;
+use geli_core::{Shelf, Status, geli_main};
+use random_file::RandomFile;
+use std::process::ExitCode;
+use std::{env, io};
+use streams::{InputSource, OutputSink};
+
+fn main(rt: HostRuntime) -> ExitCode {
+    let status = match words(&rt).and_then(|words| serve(&rt, &words)) {
+        Ok(status) => status,
+        Err(NoMemory) => Status::NoMemory,
+    };
+    ExitCode::from(status.number())
+}
+
+// The words of the command line, without the program's name.
+fn words(rt: &HostRuntime) -> Result<Vec<String>, NoMemory> {
+    let mut words = Vec::new(rt.alloc());
+    let Ok(args) = env::args(rt) else {
+        return Err(NoMemory);
+    };
+    for word in args.skip(1) {
+        words.push(word)?;
+    }
+    Ok(words)
+}
+
+// Runs over the named image, and over the streams, files and random bytes of the system.
+fn serve(rt: &HostRuntime, words: &[String]) -> Result<Status, NoMemory> {
+    let alloc = rt.alloc();
+    let mut shelf = Shelf::new(alloc)?;
+    if let [_, name] = words {
+        let disk: Box<dyn Disk> = Box::new(alloc, FileDisk::open(rt, name.as_str()))?;
+        let _ = shelf.add(name.as_str(), disk);
+    }
+    let mut input = InputSource::new(rt.reader());
+    let mut output = OutputSink::new(io::writer(rt));
+    let mut files = FileCabinet::new(rt.clone()?);
+    let mut entropy = RandomFile::open(rt);
+    Ok(geli_main(
+        alloc,
+        words,
+        &mut input,
+        &mut output,
+        &mut files,
+        &mut entropy,
+        &mut shelf,
+    ))
+}

@@ -1,0 +1,70 @@
+// The standard streams, or any reader and writer.
+ghost use Rattle.std.specs.Prelude.{None};
+
+use block_traits::{Sink, SinkFailed, Source, SourceFailed};
+use std::io::{Read, Write};
+
+/// A reader as a source. It tells no content, and counts each failure.
+#[derive(Drop)]
+pub struct InputSource<R: Read + Drop> {
+    reader: R,
+    faults: u64,
+}
+
+impl<R: Read + Drop> InputSource<R> {
+    /// The source over a reader.
+    pub fn new(reader: R) -> InputSource<R> {
+        InputSource { reader, faults: 0 }
+    }
+}
+
+impl<R: Read + Drop> Source for InputSource<R> {
+    ghost left = { λ _. None };
+
+    ghost faults = { λ source. source.faults };
+
+    fn take(&mut self, into: &mut [u8]) -> Result<usize, SourceFailed> {
+        match self.reader.read(into) {
+            Ok(count) => Ok(count),
+            Err(_) => {
+                self.faults = self.faults.saturating_add(1);
+                Err(SourceFailed)
+            }
+        }
+    }
+}
+
+/// A writer as a sink. It tells no content, and counts each failure, and each piece of which nothing
+/// is taken.
+#[derive(Drop)]
+pub struct OutputSink<W: Write + Drop> {
+    writer: W,
+    faults: u64,
+}
+
+impl<W: Write + Drop> OutputSink<W> {
+    /// The sink over a writer.
+    pub fn new(writer: W) -> OutputSink<W> {
+        OutputSink { writer, faults: 0 }
+    }
+}
+
+impl<W: Write + Drop> Sink for OutputSink<W> {
+    ghost taken = { λ _. None };
+
+    ghost faults = { λ sink. sink.faults };
+
+    fn give(&mut self, from: &[u8]) -> Result<usize, SinkFailed> {
+        match self.writer.write(from) {
+            Ok(0) => {
+                self.faults = self.faults.saturating_add(1);
+                Ok(0)
+            }
+            Ok(count) => Ok(count),
+            Err(_) => {
+                self.faults = self.faults.saturating_add(1);
+                Err(SinkFailed)
+            }
+        }
+    }
+}

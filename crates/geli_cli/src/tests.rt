@@ -1,0 +1,89 @@
+// One test for each type of the edge, over the system's own files.
+use crate::file_cabinet::FileCabinet;
+use crate::file_disk::FileDisk;
+use crate::random_file::RandomFile;
+use crate::streams::{InputSource, OutputSink};
+use block_traits::{Cabinet, Disk, Entropy, LoadFault, Sink, Source};
+use std::fs;
+use std::test::Fail;
+
+#[test]
+fn a_file_is_a_disk(rt: HostRuntime) -> Result<(), Fail> {
+    let name = "/tmp/vuthrel_file_disk_test.img";
+    fs::write(&rt, name, [7u8; 1124].as_slice())?;
+    let mut disk = FileDisk::open(&rt, name);
+    assert_eq!(rt; disk.sectors(), 2);
+    let mut bytes = [0; 512];
+    if 1 < disk.sectors() {
+        assert!(rt; disk.write(1, &[9; 512]).is_ok());
+    }
+    assert!(rt; disk.flush().is_ok());
+    if 1 < disk.sectors() {
+        assert!(rt; disk.read(1, &mut bytes).is_ok());
+    }
+    assert_eq!(rt; bytes, [9; 512]);
+    assert!(rt; disk.events().is_none());
+    let file = fs::read(&rt, name)?;
+    assert_eq!(rt; file.len(), 1124);
+    assert_eq!(rt; file.get(511).copied(), Some(7));
+    assert_eq!(rt; file.get(512).copied(), Some(9));
+    assert_eq!(rt; file.get(1024).copied(), Some(7));
+    fs::remove_file(&rt, name)?;
+    let mut absent = FileDisk::open(&rt, "/tmp/vuthrel_no_such_file");
+    assert_eq!(rt; absent.sectors(), 2);
+    assert!(rt; absent.flush().is_err());
+    Ok(())
+}
+
+#[test]
+fn files_are_a_cabinet(rt: HostRuntime) -> Result<(), Fail> {
+    let alloc = rt.alloc();
+    let name = b"/tmp/vuthrel_cabinet_test";
+    let mut files = FileCabinet::new(rt.clone()?);
+    assert!(rt; files.store(alloc, name, b"five!").is_ok());
+    match files.load(alloc, name, 5) {
+        Ok(bytes) => assert_eq!(rt; bytes.as_slice(), b"five!".as_slice()),
+        Err(_) => return Err(Fail::from("not loaded")),
+    }
+    let long = files.load(alloc, name, 4);
+    assert_eq!(rt; long.err(), Some(LoadFault::TooLong));
+    fs::remove_file(&rt, "/tmp/vuthrel_cabinet_test")?;
+    let absent = files.load(alloc, name, 5);
+    assert_eq!(rt; absent.err(), Some(LoadFault::Absent));
+    let unnamed = files.load(alloc, &[0xff], 5);
+    assert_eq!(rt; unnamed.err(), Some(LoadFault::Absent));
+    let folder = files.load(alloc, b"/tmp", 5);
+    assert_eq!(rt; folder.err(), Some(LoadFault::Failed));
+    assert!(rt; files.store(alloc, &[0xff], b"").is_err());
+    Ok(())
+}
+
+#[test]
+fn a_reader_is_a_source(rt: HostRuntime) -> Result<(), Fail> {
+    let mut source = InputSource::new(b"abc".as_slice());
+    let mut into = [0; 2];
+    assert_eq!(rt; source.take(&mut into), Ok(2));
+    assert_eq!(rt; into, *b"ab");
+    assert_eq!(rt; source.take(&mut into), Ok(1));
+    assert_eq!(rt; source.take(&mut into), Ok(0));
+    Ok(())
+}
+
+#[test]
+fn a_writer_is_a_sink(rt: HostRuntime) -> Result<(), Fail> {
+    let mut sink = OutputSink::new(Vec::new(rt.alloc()));
+    assert_eq!(rt; sink.give(b"ab"), Ok(2));
+    assert_eq!(rt; sink.give(b""), Ok(0));
+    Ok(())
+}
+
+#[test]
+fn the_device_gives_random_bytes(rt: HostRuntime) -> Result<(), Fail> {
+    let mut random = RandomFile::open(&rt);
+    let mut first = [0; 32];
+    let mut second = [0; 32];
+    assert!(rt; random.fill(&mut first).is_ok());
+    assert!(rt; random.fill(&mut second).is_ok());
+    assert!(rt; first != second);
+    Ok(())
+}

@@ -1,8 +1,9 @@
 -- What a disk tells of itself, and what a call of it does.
-use Rattle.std.specs.Prelude.{◌≡◌, ℕ, ◌<◌, ◌≤◌, ◌-◌, ◌^◌, List, length, take, Option, Some, None, Bool, true, false, IsTrue, IsSome}
+use Rattle.std.specs.Prelude.{◌≡◌, ℕ, ◌<◌, ◌≤◌, ◌-◌, ◌^◌, List, [], ◌∷◌, length, take, Option, Some, None, Bool, true, false, IsTrue, IsSome}
 use Rattle.block_traits.specs.Causes.{Rose}
 use Rattle.block_traits.specs.Content.{Content, IsContentOf, logged, present}
 use Rattle.block_traits.specs.declared.disk.Event.{Event}
+use Rattle.block_traits.specs.declared.disk.Event.TheVariants.{Write, Flush}
 
 -- a content that is told fits the size
 abbrev pub FitsSize : ℕ → Option Content → Type 0
@@ -69,6 +70,10 @@ Gives d n bytes = GivesFrom d.content n bytes
 -- the number of the last sector
 abbrev pub last_sector : DiskState → ℕ
 last_sector d = d.size - 1
+
+-- what a store does: it writes these bytes to the last sector, and then it flushes
+abbrev pub store_events : DiskState → List ℕ → List Event
+store_events d bytes = Write (last_sector d) bytes ∷ Flush ∷ []
 
 -- the events that are shown are those of the history
 abbrev pub IsHistory : Option Content → Option (List Event) → Type 0

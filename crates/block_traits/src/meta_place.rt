@@ -1,8 +1,8 @@
 // The last sector of a disk, where the metadata of a provider stands (g_eli.h).
 ghost use Rattle.std.specs.Prelude.{◌≡◌, ◌<◌, ◌-◌, ◌∷◌, [], ℕ, List, OnOk, OnErr};
-ghost use Rattle.block_traits.specs.Disk.{DiskState, FailsIn, Gives, Logs, last_sector};
+ghost use Rattle.block_traits.specs.Disk.{DiskState, FailsIn, Gives, Logs, last_sector, store_events};
 
-use crate::{Disk, DiskFailed, Event, Sector};
+use crate::{Disk, DiskFailed, Sector};
 
 /// A disk by its last sector, where its metadata stands.
 pub trait MetaPlace {
@@ -28,10 +28,8 @@ pub trait MetaPlace {
     /// or both, or none.
     fn store(&mut self, from: &Sector) -> Result<(), DiskFailed>
         requires { 0 < (state self.old).size }
-        ensures ok { let events = Event.Write (last_sector (state self.old)) from.now ∷ Event.Flush ∷ [] in
-            OnOk result (Logs events (state self.old) (state self.new)) }
-        ensures err { let events = Event.Write (last_sector (state self.old)) from.now ∷ Event.Flush ∷ [] in
-            OnErr result (FailsIn events (state self.old) (state self.new)) }
+        ensures ok { OnOk result (Logs (store_events (state self.old) from.now) (state self.old) (state self.new)) }
+        ensures err { OnErr result (FailsIn (store_events (state self.old) from.now) (state self.old) (state self.new)) }
         ensures rest { rest self.new ≡ rest self.old };
 }
 
@@ -92,10 +90,8 @@ pub fn load_last<D: Disk>(disk: &mut D, into: &mut Sector) -> Result<(), DiskFai
 /// done, or both, or none.
 pub fn store_last<D: Disk>(disk: &mut D, from: &Sector) -> Result<(), DiskFailed>
     requires { 0 < (D.state disk.old).size }
-    ensures ok { let events = Event.Write (last_sector (D.state disk.old)) from.now ∷ Event.Flush ∷ [] in
-        OnOk result (Logs events (D.state disk.old) (D.state disk.new)) }
-    ensures err { let events = Event.Write (last_sector (D.state disk.old)) from.now ∷ Event.Flush ∷ [] in
-        OnErr result (FailsIn events (D.state disk.old) (D.state disk.new)) }
+    ensures ok { OnOk result (Logs (store_events (D.state disk.old) from.now) (D.state disk.old) (D.state disk.new)) }
+    ensures err { OnErr result (FailsIn (store_events (D.state disk.old) from.now) (D.state disk.old) (D.state disk.new)) }
 {
     let last = disk.sectors() - 1;
     disk.write(last, from)?;

@@ -1,5 +1,5 @@
 // The last sector of a disk, where the metadata of a provider stands (g_eli.h).
-ghost use Rattle.std.specs.Prelude.{◌≡◌, ◌<◌, ◌-◌, ◌∷◌, [], ℕ, List, OnOk, OnErr};
+ghost use Rattle.std.specs.Prelude.{◌≡◌, ◌<◌, [], ℕ, List, OnOk, OnErr};
 ghost use Rattle.block_traits.specs.Disk.{DiskState, FailsIn, Gives, Logs, last_sector, store_events};
 
 use crate::{Disk, DiskFailed, Sector};

@@ -1,0 +1,12 @@
+//! The outside world in memory: a disk that shows its events, a source, a sink, a cabinet of
+//! files, and entropy. Each tells its content, and fails at the calls that it is told to fail at,
+//! where it has no room, or where more is asked than is left, and at no other.
+#![tactic(auto)]
+
+mod image;
+mod mem_disk;
+mod plan;
+mod sectors;
+
+pub use mem_disk::MemDisk;
+pub use plan::{CallKind, FailAt};

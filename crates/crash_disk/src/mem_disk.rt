@@ -1,0 +1,155 @@
+// A disk in memory, which shows its events and fails where a list says.
+ghost use Rattle.std.specs.Prelude.{◌≡◌, ◌<◌, ◌≤◌, ◌^◌, ◌/◌, ◌∷◌, [], IfOk, OnOk, OnErr, is_err, All, length, replicate};
+ghost use Rattle.crash_disk.specs.Image.{sectors_of, zero_sector};
+
+use crate::image::{image_sectors, zero_sectors};
+use crate::plan::{CallKind, FailAt, Plan};
+use crate::sectors::SectorLog;
+use block_traits::{Disk, DiskFailed, Event, NoMemory, Sector};
+use std::alloc::Global;
+
+/// A disk in memory. It tells its content and shows its events.
+#[derive(Drop)]
+pub struct MemDisk {
+    log: SectorLog,
+    plan: Plan,
+    faults: u64,
+}
+
+impl MemDisk {
+    ghost use Rattle.block_traits.specs.Content.{IsEventOf, IsSector};
+    ghost use Rattle.crash_disk.specs.MemDisk.{after_change, change_fails, disk_of, fresh, state_of, with_plan};
+    ghost use Rattle.crash_disk.specs.Plan.{one_more, with_entries};
+
+    /// A disk of so many sectors of zeros, with room for so many events.
+    pub fn new(alloc: Global, sectors: u64, room: u64) -> Result<MemDisk, NoMemory>
+        requires { sectors < 2 ^ 44 }
+        ensures { IfOk result (λ disk. state_of disk ≡ fresh (replicate sectors zero_sector) room) }
+    {
+        MemDisk::from_sectors(alloc, zero_sectors(alloc, sectors)?, room)
+    }
+
+    /// A disk that has the whole 512-byte pieces of an image, with room for so many events. Bytes
+    /// behind the last whole piece are dropped.
+    pub fn from_image(alloc: Global, image: &[u8], room: u64) -> Result<MemDisk, NoMemory>
+        requires { length image.now / 512 < 2 ^ 44 }
+        ensures { IfOk result (λ disk. state_of disk ≡ fresh (sectors_of image.now) room) }
+    {
+        MemDisk::from_sectors(alloc, image_sectors(alloc, image)?, room)
+    }
+
+    /// Sets which calls fail from now on, by their numbers since the disk was made. Of two entries
+    /// for one call the first counts.
+    pub fn fail_calls(&mut self, list: &[FailAt]) -> Result<(), NoMemory>
+        ensures ok { OnOk result (state_of self.new ≡ with_plan (with_entries list.now (state_of self.old).plan) (state_of self.old)) }
+        ensures err { OnErr result (state_of self.new ≡ state_of self.old) }
+    {
+        self.plan.set(list)
+    }
+
+    /// What was done to the disk, the oldest event first.
+    pub fn history(&self) -> &[Event]
+        ensures { result.now ≡ (state_of self.now).content.history }
+    {
+        self.log.events()
+    }
+
+    /// How often the disk has failed.
+    pub fn faults(&self) -> u64
+        ensures { result ≡ (state_of self.now).faults }
+    {
+        self.faults
+    }
+
+    // A disk that had these sectors from the start.
+    fn from_sectors(alloc: Global, base: Vec<Sector>, room: u64) -> Result<MemDisk, NoMemory>
+        requires small { length base.items < 2 ^ 44 }
+        requires sectors { All IsSector base.items }
+        ensures { IfOk result (λ disk. state_of disk ≡ fresh base.items room) }
+    {
+        let log = SectorLog::new(alloc, base, room)?;
+        Ok(MemDisk {
+            log,
+            plan: Plan::new(alloc),
+            faults: 0,
+        })
+    }
+
+    // Appends an event, or fails, as the plan and the room say.
+    fn change(&mut self, kind: CallKind, event: Event) -> Result<(), DiskFailed>
+        requires { IsEventOf (disk_of self.old).size event }
+        ensures answer { is_err result ≡ change_fails kind (state_of self.old) }
+        ensures after { state_of self.new ≡ after_change kind event (state_of self.old) }
+        ensures later { self.old.faults ≤ self.new.faults }
+    {
+        match (self.log.is_full(), self.plan.next(kind)) {
+            (false, None) => {
+                self.log.append(event);
+                Ok(())
+            }
+            (false, Some(true)) => {
+                self.log.append(event);
+                Err(self.fail())
+            }
+            _ => Err(self.fail()),
+        }
+    }
+
+    // Counts a failure.
+    fn fail(&mut self) -> DiskFailed
+        ensures after { self.new ≡ record self.old { faults = one_more self.old.faults } }
+        ensures later { self.old.faults ≤ self.new.faults }
+    {
+        self.faults = self.faults.saturating_add(1);
+        DiskFailed
+    }
+}
+
+impl Disk for MemDisk {
+    ghost use Rattle.block_traits.specs.Disk.{FailsIn, Gives, Logs};
+    ghost use Rattle.crash_disk.specs.MemDisk.{after_change, after_read, change_fails, disk_of, read_fails, state_of};
+
+    ghost state = { disk_of };
+
+    fn sectors(&self) -> u64 {
+        self.log.len()
+    }
+
+    fn read(&mut self, n: u64, into: &mut Sector) -> Result<(), DiskFailed>
+        requires { n < (disk_of self.old).size }
+        ensures bytes { OnOk result (Gives (disk_of self.old) n into.new) }
+        ensures ok { OnOk result (Logs [] (disk_of self.old) (disk_of self.new)) }
+        ensures err { OnErr result (FailsIn [] (disk_of self.old) (disk_of self.new)) }
+        ensures answer { is_err result ≡ read_fails (state_of self.old) }
+        ensures after { state_of self.new ≡ after_read (state_of self.old) }
+    {
+        if self.plan.next(CallKind::Read).is_some() {
+            return Err(self.fail());
+        }
+        *into = *self.log.get(n);
+        Ok(())
+    }
+
+    fn write(&mut self, n: u64, from: &Sector) -> Result<(), DiskFailed>
+        requires { n < (disk_of self.old).size }
+        ensures ok { OnOk result (Logs (Event.Write n from.now ∷ []) (disk_of self.old) (disk_of self.new)) }
+        ensures err { OnErr result (FailsIn (Event.Write n from.now ∷ []) (disk_of self.old) (disk_of self.new)) }
+        ensures answer { is_err result ≡ change_fails CallKind.Write (state_of self.old) }
+        ensures after { state_of self.new ≡ after_change CallKind.Write (Event.Write n from.now) (state_of self.old) }
+    {
+        self.change(CallKind::Write, Event::Write { n, bytes: *from })
+    }
+
+    fn flush(&mut self) -> Result<(), DiskFailed>
+        ensures ok { OnOk result (Logs (Event.Flush ∷ []) (disk_of self.old) (disk_of self.new)) }
+        ensures err { OnErr result (FailsIn (Event.Flush ∷ []) (disk_of self.old) (disk_of self.new)) }
+        ensures answer { is_err result ≡ change_fails CallKind.Flush (state_of self.old) }
+        ensures after { state_of self.new ≡ after_change CallKind.Flush Event.Flush (state_of self.old) }
+    {
+        self.change(CallKind::Flush, Event::Flush)
+    }
+
+    fn events(&self) -> Option<&[Event]> {
+        Some(self.log.events())
+    }
+}

@@ -1,0 +1,92 @@
+// Sectors in memory, with all that was done to them.
+ghost use Rattle.std.specs.Prelude.{◌≡◌, ◌<◌, ◌≤◌, ◌^◌, ◌∷◌, [], ◌↔◌, IfOk, IsTrue, All, length, vec_capacity};
+ghost use Rattle.block_traits.specs.Content.{IsContentOf, IsEventOf, IsSector, present};
+ghost use Rattle.block_traits.proofs.Props.{IsContentOf-prop};
+ghost use Rattle.crash_disk.specs.Replay.{content, replayed};
+
+use block_traits::{Event, NoMemory, Sector};
+use std::alloc::Global;
+
+/// Sectors by what they held at first and what was done to them since, with room for more events.
+#[derive(Drop)]
+pub struct SectorLog {
+    base: Vec<Sector>,
+    present: Vec<Sector>,
+    events: Vec<Event>,
+    room: u64,
+    ghost small: { length base.items < 2 ^ 44 },
+    ghost fits: { IsContentOf (length base.items) (content base.items events.items) } by { IsContentOf-prop (length base.items) (content base.items events.items) },
+    ghost replayed: { present.items ≡ replayed base.items events.items },
+    ghost within: { length events.items ≤ room },
+    ghost reserved: { room ≤ vec_capacity events },
+}
+
+impl SectorLog {
+    ghost use Rattle.crash_disk.specs.SectorLog.{content_of, Appends};
+
+    /// These sectors, with room for so many events.
+    pub fn new(alloc: Global, base: Vec<Sector>, room: u64) -> Result<SectorLog, NoMemory>
+        requires small { length base.items < 2 ^ 44 }
+        requires sectors { All IsSector base.items }
+        ensures content { IfOk result (λ log. content_of log ≡ content base.items []) }
+        ensures room { IfOk result (λ log. log.room ≡ room) }
+    {
+        let present = Vec::from_slice(alloc, &base)?;
+        let events = Vec::with_capacity(alloc, room as usize)?;
+        Ok(SectorLog {
+            base,
+            present,
+            events,
+            room,
+        })
+    }
+
+    /// How many sectors there are.
+    pub fn len(&self) -> u64
+        ensures { result ≡ length self.now.base.items }
+    {
+        self.base.len() as u64
+    }
+
+    /// What stands in sector `n` now.
+    pub fn get(&self, n: u64) -> &Sector
+        requires { n < length self.now.base.items }
+        ensures { result.now ≡ present (content_of self.now) n }
+    {
+        &self.present[n as usize]
+    }
+
+    /// Whether there is no room for another event.
+    pub fn is_full(&self) -> bool
+        ensures { IsTrue result ↔ (length self.now.events.items ≡ self.now.room) }
+    {
+        self.events.len() as u64 == self.room
+    }
+
+    /// What was done, the oldest first.
+    pub fn events(&self) -> &[Event]
+        ensures { result.now ≡ self.now.events.items }
+    {
+        self.events.as_slice()
+    }
+
+    /// Does what an event says.
+    pub fn append(&mut self, event: Event)
+        requires room { length self.old.events.items < self.old.room }
+        requires fits { IsEventOf (length self.old.base.items) event }
+        ensures { Appends event self.old self.new }
+    {
+        apply(&mut self.present, event);
+        self.events.push_reserved(event);
+    }
+}
+
+// Does to sectors what an event says.
+fn apply(sectors: &mut [Sector], event: Event)
+    requires { IsEventOf (length sectors.old) event }
+    ensures { sectors.new ≡ replayed sectors.old (event ∷ []) }
+{
+    if let Event::Write { n, bytes } = event {
+        sectors[n as usize] = bytes;
+    }
+}

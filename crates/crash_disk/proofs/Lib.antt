@@ -1,3 +1,4 @@
 pub mod ImageLemmas
 pub mod PlanLemmas
 pub mod ReplayLemmas
+pub mod StreamLemmas

@@ -6,7 +6,8 @@ use Rattle.block_traits.specs.Disk.{DiskState, showing}
 use Rattle.crash_disk.specs.declared.plan.CallKind.{CallKind}
 use Rattle.crash_disk.specs.declared.plan.CallKind.TheVariants.{Read}
 use Rattle.crash_disk.specs.declared.mem_disk.MemDisk.{MemDisk}
-use Rattle.crash_disk.specs.Plan.{PlanState, counted, no_plan, one_more, planned}
+use Rattle.crash_disk.specs.Count.{one_more}
+use Rattle.crash_disk.specs.Plan.{PlanState, counted, no_plan, planned}
 use Rattle.crash_disk.specs.SectorLog.{content_of}
 
 -- its content, how many events it has room for, how often it has failed, and which calls fail

@@ -1,5 +1,6 @@
 -- Which calls of a disk fail.
-use Rattle.std.specs.Prelude.{ℕ, ◌+◌, ◌-◌, ◌^◌, ◌==◌, ◌&&◌, min, Bool, true, false, List, [], ◌∷◌, if◌then◌else◌, Option, Some, None}
+use Rattle.std.specs.Prelude.{ℕ, ◌==◌, ◌&&◌, Bool, true, false, List, [], ◌∷◌, if◌then◌else◌, Option, Some, None}
+use Rattle.crash_disk.specs.Count.{one_more}
 use Rattle.crash_disk.specs.declared.plan.CallKind.{CallKind}
 use Rattle.crash_disk.specs.declared.plan.CallKind.TheVariants.{Read, Write, Flush}
 use Rattle.crash_disk.specs.declared.plan.FailAt.{FailAt}
@@ -18,10 +19,6 @@ no_plan = record { reads = 0; writes = 0; flushes = 0; entries = [] }
 -- these calls fail from now on
 abbrev pub with_entries : List FailAt → PlanState → PlanState
 with_entries entries plan = record plan { entries = entries }
-
--- one more, which stands still at the last value of a counter
-abbrev pub one_more : ℕ → ℕ
-one_more count = min (count + 1) (2 ^ 64 - 1)
 
 -- how many calls of a kind were made
 abbrev pub made : CallKind → PlanState → ℕ

@@ -3,10 +3,17 @@
 //! where it has no room, or where more is asked than is left, and at no other.
 #![tactic(auto)]
 
+mod calls;
 mod image;
 mod mem_disk;
+mod mem_entropy;
+mod mem_sink;
+mod mem_source;
 mod plan;
 mod sectors;
 
 pub use mem_disk::MemDisk;
+pub use mem_entropy::MemEntropy;
+pub use mem_sink::MemSink;
+pub use mem_source::MemSource;
 pub use plan::{CallKind, FailAt};

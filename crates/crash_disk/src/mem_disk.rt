@@ -18,8 +18,9 @@ pub struct MemDisk {
 
 impl MemDisk {
     ghost use Rattle.block_traits.specs.Content.{IsEventOf, IsSector};
+    ghost use Rattle.crash_disk.specs.Count.{one_more};
     ghost use Rattle.crash_disk.specs.MemDisk.{after_change, change_fails, disk_of, fresh, state_of, with_plan};
-    ghost use Rattle.crash_disk.specs.Plan.{one_more, with_entries};
+    ghost use Rattle.crash_disk.specs.Plan.{with_entries};
 
     /// A disk of so many sectors of zeros, with room for so many events.
     pub fn new(alloc: Global, sectors: u64, room: u64) -> Result<MemDisk, NoMemory>

@@ -1,0 +1,64 @@
+-- What a source, a sink and entropy in memory are, and what their calls make of them.
+use Rattle.std.specs.Prelude.{ℕ, ◌-◌, ◌==◌, ◌&&◌, ◌||◌, not, nat_lt, min, Bool, List, ◌++◌, length, take, drop, if◌then◌else◌}
+use Rattle.crash_disk.specs.Calls.{CallsState, called, next_fails, piece}
+use Rattle.crash_disk.specs.Count.{one_more}
+
+-- the bytes that are left, the most that each call gives, the calls that fail, and how often it has failed
+pub record SourceState : Type 0 where
+  pub left : List ℕ
+  pub cuts : List ℕ
+  pub calls : CallsState
+  pub faults : ℕ
+
+-- how many bytes the next call gives, where there is so much room
+abbrev pub given : ℕ → SourceState → ℕ
+given room source = min (piece source.cuts source.calls room) (length source.left)
+
+-- after the next call
+abbrev pub after_take : ℕ → SourceState → SourceState
+after_take room source = record source {
+  left = if next_fails source.calls then source.left else drop (given room source) source.left;
+  calls = called source.calls;
+  faults = if next_fails source.calls then one_more source.faults else source.faults;
+}
+
+-- the bytes that it took, how many it has room for, the most that each call takes, the calls that fail, and how
+-- often it has failed
+pub record SinkState : Type 0 where
+  pub bytes : List ℕ
+  pub room : ℕ
+  pub cuts : List ℕ
+  pub calls : CallsState
+  pub faults : ℕ
+
+-- how many bytes of a piece of this length the next call takes
+abbrev pub taken : ℕ → SinkState → ℕ
+taken size sink = min (piece sink.cuts sink.calls size) (sink.room - length sink.bytes)
+
+-- the next call fails: it is listed, or the piece isn't empty and there is no room
+abbrev pub give_fails : ℕ → SinkState → Bool
+give_fails size sink = next_fails sink.calls || (length sink.bytes == sink.room && not (size == 0))
+
+-- after the next call
+abbrev pub after_give : List ℕ → SinkState → SinkState
+after_give from sink = record sink {
+  bytes = if give_fails (length from) sink then sink.bytes else sink.bytes ++ take (taken (length from) sink) from;
+  calls = called sink.calls;
+  faults = if give_fails (length from) sink then one_more sink.faults else sink.faults;
+}
+
+-- the bytes that are left, and how often it has failed
+pub record EntropyState : Type 0 where
+  pub left : List ℕ
+  pub faults : ℕ
+
+-- a call fails that asks for more than is left
+abbrev pub fill_fails : ℕ → EntropyState → Bool
+fill_fails wanted entropy = nat_lt (length entropy.left) wanted
+
+-- after a call
+abbrev pub after_fill : ℕ → EntropyState → EntropyState
+after_fill wanted entropy = record {
+  left = if fill_fails wanted entropy then entropy.left else drop wanted entropy.left;
+  faults = if fill_fails wanted entropy then one_more entropy.faults else entropy.faults;
+}

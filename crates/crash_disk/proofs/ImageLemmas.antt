@@ -1,7 +1,7 @@
 -- The sectors of an image.
-use Rattle.std.proofs.Common.{◌≡◌, ℕ, ◌+◌, ◌*◌, ◌<◌, ◌≤◌, ◌/◌, List, [], ◌∷◌, ◌++◌, length, take, drop, map, refl, ap, ◌∙◌, sym, add-one, arith, suc, zero, length-append, length-drop, All, get_or}
+use Rattle.std.proofs.Common.{◌≡◌, ℕ, ◌+◌, ◌*◌, ◌<◌, ◌/◌, List, [], ◌∷◌, ◌++◌, length, take, drop, map, refl, ap, ◌∙◌, add-one, arith, suc, zero, length-append, length-drop, All}
 use Rattle.std.proofs.lemmas.List.{map-append, length-take-le, length-map}
-use Rattle.std.proofs.lemmas.List.Elements.{All-map, All-nil, All-push, All-weaker, All-replicate}
+use Rattle.std.proofs.lemmas.List.Elements.{All-map, All-nil, All-push, All-weaker}
 use Rattle.block_traits.specs.Content.{IsSector}
 use Rattle.crash_disk.specs.Image.{numbers_below, sectors_of, zero_sector}
 

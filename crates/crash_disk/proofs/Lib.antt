@@ -1,3 +1,4 @@
+pub mod CabinetLemmas
 pub mod ImageLemmas
 pub mod PlanLemmas
 pub mod ReplayLemmas

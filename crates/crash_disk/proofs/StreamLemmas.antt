@@ -1,5 +1,5 @@
 -- Bytes that are given from a list.
-use Rattle.std.proofs.Common.{◌≡◌, ℕ, ◌+◌, ◌≤◌, List, ◌++◌, length, take, drop, Some, ap, ◌∙◌, sym}
+use Rattle.std.proofs.Common.{◌≡◌, ℕ, ◌+◌, List, ◌++◌, take, drop, Some, ap, ◌∙◌, sym}
 use Rattle.std.proofs.lemmas.List.{take-append-drop, drop-drop}
 
 -- the first of the bytes that are left, and then the others

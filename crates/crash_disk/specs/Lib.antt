@@ -1,6 +1,7 @@
 pub mod Calls
 pub mod Count
 pub mod Image
+pub mod MemCabinet
 pub mod MemDisk
 pub mod Plan
 pub mod Replay

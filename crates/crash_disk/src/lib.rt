@@ -5,6 +5,7 @@
 
 mod calls;
 mod image;
+mod mem_cabinet;
 mod mem_disk;
 mod mem_entropy;
 mod mem_sink;
@@ -12,6 +13,7 @@ mod mem_source;
 mod plan;
 mod sectors;
 
+pub use mem_cabinet::MemCabinet;
 pub use mem_disk::MemDisk;
 pub use mem_entropy::MemEntropy;
 pub use mem_sink::MemSink;

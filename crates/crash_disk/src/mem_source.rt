@@ -38,7 +38,12 @@ impl Model for MemSource {
 impl MemSource {
     /// Gives these bytes. Call k, counted from 1, gives at most `cuts[k - 1]` of them, where a cut of
     /// 0 counts as 1, and fails where `fails` has k.
-    pub fn new(alloc: Global, bytes: &[u8], cuts: &[usize], fails: &[u64]) -> Result<MemSource, NoMemory>
+    pub fn new(
+        alloc: Global,
+        bytes: &[u8],
+        cuts: &[usize],
+        fails: &[u64],
+    ) -> Result<MemSource, NoMemory>
         ensures { IfOk result (λ source. source ≡ record { left = bytes.now; cuts = cuts.now; calls = failing fails.now; faults = 0 }) }
     {
         Ok(MemSource {

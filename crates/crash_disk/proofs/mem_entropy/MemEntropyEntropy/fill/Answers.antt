@@ -9,8 +9,8 @@ returns-clause-ok c =
     let used = c.self.inside.used in
     let filled = c.copy_from_slice.new.self in
     let first =
-      c.copy_from_slice.ensures.after
-      ∙ ap (take (length c.args.into.now)) (take_rest bytes used)
-      ∙ ap (λ (n : ℕ). take n (drop used bytes)) (sym c.copy_from_slice.auto.self)
-      ∙ ap (λ (l : List ℕ). take (length filled) (drop used l)) c.deref.ensures.value in
+    c.copy_from_slice.ensures.after
+    ∙ ap (take (length c.args.into.now)) (take_rest bytes used)
+    ∙ ap (λ (n : ℕ). take n (drop used bytes)) (sym c.copy_from_slice.auto.self)
+    ∙ ap (λ (l : List ℕ). take (length filled) (drop used l)) c.deref.ensures.value in
     rw (← c.self.view_is) (left_split c.self.inside.bytes.items filled used (length filled) first)

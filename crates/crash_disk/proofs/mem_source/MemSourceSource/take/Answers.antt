@@ -14,8 +14,8 @@ returns-clause-bytes c =
     let small : count ≤ length into = grind (arith, common_steps) in
     let size : length filled ≡ count = c.copy_from_slice.auto.self ∙ length-take-le count into small in
     let first =
-      take_at filled (drop count into) count size
-      ∙ c.copy_from_slice.ensures.after
-      ∙ ap (take count) (take_rest bytes given)
-      ∙ ap (λ (l : List ℕ). take count (drop given l)) c.deref-2.ensures.value in
+    take_at filled (drop count into) count size
+    ∙ c.copy_from_slice.ensures.after
+    ∙ ap (take count) (take_rest bytes given)
+    ∙ ap (λ (l : List ℕ). take count (drop given l)) c.deref-2.ensures.value in
     rw (← c.self.view_is) (left_split c.self.inside.bytes.items _ given count first)

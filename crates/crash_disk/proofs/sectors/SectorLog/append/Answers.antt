@@ -1,9 +1,8 @@
-use Rattle.std.proofs.Common.{rules, arith, ap, ◌∙◌, sym, ◌≡◌, ◌∷◌, [], List, ℕ, length, drop, ◌++◌}
+use Rattle.std.proofs.Common.{arith, ap, ◌∙◌, sym, ◌≡◌, ◌∷◌, [], List, ℕ, length, drop, ◌++◌}
 use Rattle.std.proofs.lemmas.List.{take_at}
 use Rattle.std.proofs.lemmas.List.Elements.{All-cons, All-nil}
 use Rattle.std.proofs.lemmas.Grind.{common_steps}
-use Rattle.block_traits.specs.declared.disk.Event.{Event}
-use Rattle.block_traits.specs.Content.{IsContentOf, IsEventOf}
+use Rattle.block_traits.specs.Content.{IsEventOf}
 use Rattle.block_traits.proofs.Contents.{IsContentOf-more}
 use Rattle.crash_disk.specs.Replay.{content, replayed}
 use Rattle.crash_disk.proofs.ReplayLemmas.{length-replayed, replayed-append}
@@ -26,11 +25,11 @@ invariant_of-self c =
       small = log.small;
       fits = rw events (IsContentOf-more (length log.base.items) (event ∷ []) (content log.base.items log.events.items) log.fits one);
       replayed =
-        take_at c.apply.new.sectors (drop (length c.apply.new.sectors) log.present.items) log.present.len same
-        ∙ c.apply.ensures
-        ∙ ap (λ (sectors : List (List ℕ)). replayed sectors (event ∷ [])) (c.deref_mut.ensures.value ∙ log.replayed)
-        ∙ sym (replayed-append log.base.items log.events.items (event ∷ []))
-        ∙ ap (replayed log.base.items) (sym events);
+          take_at c.apply.new.sectors (drop (length c.apply.new.sectors) log.present.items) log.present.len same
+          ∙ c.apply.ensures
+          ∙ ap (λ (sectors : List (List ℕ)). replayed sectors (event ∷ [])) (c.deref_mut.ensures.value ∙ log.replayed)
+          ∙ sym (replayed-append log.base.items log.events.items (event ∷ []))
+          ∙ ap (replayed log.base.items) (sym events);
       within = grind (arith, common_steps);
       reserved = grind (arith, common_steps);
     }

@@ -19,3 +19,6 @@ pub use mem_entropy::MemEntropy;
 pub use mem_sink::MemSink;
 pub use mem_source::MemSource;
 pub use plan::{CallKind, FailAt};
+
+#[cfg(test)]
+mod tests;

@@ -1,0 +1,165 @@
+use crate::{Hmac256, Hmac512, pbkdf2_sha512};
+use std::alloc::{AllocError, Global};
+use std::test::Fail;
+
+// A key and a message, and the codes with SHA-256 and SHA-512 as hexadecimal text.
+struct MacCase {
+    key: &'static [u8],
+    message: &'static [u8],
+    code256: &'static str,
+    code512: &'static str,
+}
+
+// The key of RFC 4231, test case 4.
+const COUNTED_KEY: [u8; 25] = [
+    1, 2, 3, 4, 5, 6, 7, 8, 9, 10, 11, 12, 13, 14, 15, 16, 17, 18, 19, 20, 21, 22, 23, 24, 25,
+];
+
+// RFC 4231, test cases 1 to 7: key and message shorter and longer than a block. The RFC prints the first 128
+// bits of case 5; Python's hmac gives the rest.
+const MAC_CASES: [MacCase; 7] = [
+    MacCase {
+        key: &[0x0b; 20],
+        message: b"Hi There",
+        code256: "b0344c61d8db38535ca8afceaf0bf12b881dc200c9833da726e9376c2e32cff7",
+        code512: "87aa7cdea5ef619d4ff0b4241a1d6cb02379f4e2ce4ec2787ad0b30545e17cdedaa833b7d6b8a702038b274eaea3f4e4be9d914eeb61f1702e696c203a126854",
+    },
+    MacCase {
+        key: b"Jefe",
+        message: b"what do ya want for nothing?",
+        code256: "5bdcc146bf60754e6a042426089575c75a003f089d2739839dec58b964ec3843",
+        code512: "164b7a7bfcf819e2e395fbe73b56e0a387bd64222e831fd610270cd7ea2505549758bf75c05a994a6d034f65f8f0e6fdcaeab1a34d4a6b4b636e070a38bce737",
+    },
+    MacCase {
+        key: &[0xaa; 20],
+        message: &[0xdd; 50],
+        code256: "773ea91e36800e46854db8ebd09181a72959098b3ef8c122d9635514ced565fe",
+        code512: "fa73b0089d56a284efb0f0756c890be9b1b5dbdd8ee81a3655f83e33b2279d39bf3e848279a722c806b485a47e67c807b946a337bee8942674278859e13292fb",
+    },
+    MacCase {
+        key: &COUNTED_KEY,
+        message: &[0xcd; 50],
+        code256: "82558a389a443c0ea4cc819899f2083a85f0faa3e578f8077a2e3ff46729665b",
+        code512: "b0ba465637458c6990e5a8c5f61d4af7e576d97ff94b872de76f8050361ee3dba91ca5c11aa25eb4d679275cc5788063a5f19741120c4f2de2adebeb10a298dd",
+    },
+    MacCase {
+        key: &[0x0c; 20],
+        message: b"Test With Truncation",
+        code256: "a3b6167473100ee06e0c796c2955552bfa6f7c0a6a8aef8b93f860aab0cd20c5",
+        code512: "415fad6271580a531d4179bc891d87a650188707922a4fbb36663a1eb16da008711c5b50ddd0fc235084eb9d3364a1454fb2ef67cd1d29fe6773068ea266e96b",
+    },
+    MacCase {
+        key: &[0xaa; 131],
+        message: b"Test Using Larger Than Block-Size Key - Hash Key First",
+        code256: "60e431591ee0b67f0d8a26aacbf5b77f8e0bc6213728c5140546040f0ee37f54",
+        code512: "80b24263c7c1a3ebb71493c1dd7be8b49b46d1f41b4aeec1121b013783f8f3526b56d037e05f2598bd0fd2215d6a1e5295e64f73f63f0aec8b915a985d786598",
+    },
+    MacCase {
+        key: &[0xaa; 131],
+        message: b"This is a test using a larger than block-size key and a larger than block-size data. The key needs to be hashed before being used by the HMAC algorithm.",
+        code256: "9b09ffa71b942fcb27635fbcd5b0e944bfdc63644f0713938a7f51535c3a35e2",
+        code512: "e37b6a775dc87dbaa4dfa9f96e5e3ffddebd71f8867289865df5a32d20cdc944b6022cac3c4982b10d5eeb55c3e4de15134676fb6de0446065c97440fa8c6a58",
+    },
+];
+
+// A password, a salt, a count of iterations, and the 64 bytes as hexadecimal text.
+struct KdfCase {
+    password: &'static [u8],
+    salt: &'static [u8],
+    count: u32,
+    derived: &'static str,
+}
+
+// The inputs of RFC 6070 and an empty password, with SHA-512 by Python's hashlib.
+const KDF_CASES: [KdfCase; 6] = [
+    KdfCase {
+        password: b"password",
+        salt: b"salt",
+        count: 1,
+        derived: "867f70cf1ade02cff3752599a3a53dc4af34c7a669815ae5d513554e1c8cf252c02d470a285a0501bad999bfe943c08f050235d7d68b1da55e63f73b60a57fce",
+    },
+    KdfCase {
+        password: b"password",
+        salt: b"salt",
+        count: 2,
+        derived: "e1d9c16aa681708a45f5c7c4e215ceb66e011a2e9f0040713f18aefdb866d53cf76cab2868a39b9f7840edce4fef5a82be67335c77a6068e04112754f27ccf4e",
+    },
+    KdfCase {
+        password: b"password",
+        salt: b"salt",
+        count: 4096,
+        derived: "d197b1b33db0143e018b12f3d1d1479e6cdebdcc97c5c0f87f6902e072f457b5143f30602641b3d55cd335988cb36b84376060ecd532e039b742a239434af2d5",
+    },
+    KdfCase {
+        password: b"passwordPASSWORDpassword",
+        salt: b"saltSALTsaltSALTsaltSALTsaltSALTsalt",
+        count: 4096,
+        derived: "8c0511f4c6e597c6ac6315d8f0362e225f3c501495ba23b868c005174dc4ee71115b59f9e60cd9532fa33e0f75aefe30225c583a186cd82bd4daea9724a3d3b8",
+    },
+    KdfCase {
+        password: b"pass\0word",
+        salt: b"sa\0lt",
+        count: 4096,
+        derived: "9d9e9c4cd21fe4be24d5b8244c759665f39d98fc12a9ca759bb021db3cfadf345844aebe70dd8b2f6966f25f3613e1187bbd24ed2ca43ed13b246e4675be7ab9",
+    },
+    KdfCase {
+        password: b"",
+        salt: b"",
+        count: 3,
+        derived: "ba78a2c18fe1f3cfffaba0f93ccf85fc342edf2c34ff439f928c464fe04ee9c43d6516594282bf31d9b80ba31d67e6d076cc2e45ba2d5c9d6bca44f288940c5d",
+    },
+];
+
+fn hex_of(alloc: Global, bytes: &[u8]) -> Result<String, AllocError> {
+    let mut text = String::new(alloc);
+    for byte in bytes {
+        write!(text, "{byte:02x}")?;
+    }
+    Ok(text)
+}
+
+// Each published code, with the message cut at every place.
+#[test]
+fn published_codes(rt: HostRuntime) -> Result<(), Fail> {
+    for case in &MAC_CASES {
+        for cut in 0..=case.message.len() {
+            let (front, back) = case.message.split_at(cut);
+            let mut short = Hmac256::new(case.key);
+            short.update(front);
+            short.update(back);
+            let code = hex_of(rt.alloc(), &short.finish())?;
+            assert_eq!(rt; code.as_str(), case.code256, "cut at {cut}");
+            let mut long = Hmac512::new(case.key);
+            long.update(front);
+            long.update(back);
+            let code = hex_of(rt.alloc(), &long.finish())?;
+            assert_eq!(rt; code.as_str(), case.code512, "cut at {cut}");
+        }
+    }
+    Ok(())
+}
+
+#[test]
+fn published_keys(rt: HostRuntime) -> Result<(), Fail> {
+    for case in &KDF_CASES {
+        assert!(rt; case.count > 0);
+        let mut out = [0u8; 64];
+        pbkdf2_sha512(case.password, case.salt, case.count, &mut out);
+        let derived = hex_of(rt.alloc(), &out)?;
+        assert_eq!(rt; derived.as_str(), case.derived);
+    }
+    Ok(())
+}
+
+// An empty key is the block of zeros, and one iteration is the code of the salt and the number 1.
+#[test]
+fn equal_codes(rt: HostRuntime) {
+    let empty = Hmac512::new(b"");
+    let zeros = Hmac512::new(&[0; 64]);
+    assert_eq!(rt; empty.finish(), zeros.finish());
+    let mut out = [0u8; 64];
+    pbkdf2_sha512(b"pass", b"pepper", 1, &mut out);
+    let mut once = Hmac512::new(b"pass");
+    once.update(b"pepper\0\0\0\x01");
+    assert_eq!(rt; once.finish(), out);
+}

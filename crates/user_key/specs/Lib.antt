@@ -1,0 +1,2 @@
+pub mod Passphrase
+pub mod UserKey

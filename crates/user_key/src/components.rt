@@ -1,0 +1,47 @@
+//! What a user key is made of.
+
+use block_traits::ByteList;
+use thiserror::Error;
+
+/// What the options say of a passphrase.
+#[derive(Debug, Drop)]
+pub enum PassPart {
+    /// The key is to have no passphrase: `-p` or `-P` was given.
+    Without,
+    /// Neither that nor a passphrase file was given.
+    Missing,
+    /// The passphrase: the first lines of its files, joined in order. It may be empty.
+    Given(ByteList),
+}
+
+/// The components of a user key.
+#[derive(Debug, Drop)]
+pub struct Components {
+    /// How many key files were given.
+    pub keyfile_count: u32,
+    /// The bytes of the key files, joined in order.
+    pub keyfiles: ByteList,
+    /// The passphrase.
+    pub passphrase: PassPart,
+}
+
+/// A user key.
+#[derive(Debug, Drop, PartialEq, Eq)]
+pub struct UserKey {
+    /// The 64 bytes of the key.
+    pub bytes: [u8; 64],
+}
+
+/// Why components make no user key.
+#[derive(Clone, Copy, Debug, PartialEq, Eq, Error)]
+pub enum KeyFault {
+    /// A passphrase is given or wanted, and the metadata say that none was set up.
+    #[error("no passphrase was set up")]
+    PassphraseNotSet,
+    /// A passphrase is wanted, and no file gives it.
+    #[error("a passphrase is needed")]
+    PassphraseNeeded,
+    /// There is neither a passphrase nor a key file.
+    #[error("no key components are given")]
+    NoKeyComponents,
+}

@@ -1,0 +1,52 @@
+//! The user key.
+
+ghost use Rattle.std.specs.Prelude.{◌≡◌, [], ◌++◌};
+ghost use Rattle.hmac_kdf.specs.Hmac.{hmac512};
+ghost use Rattle.user_key.specs.UserKey.{user_key};
+
+use crate::components::{Components, KeyFault, PassPart, UserKey};
+use hmac_kdf::{Hmac512, pbkdf2_sha512};
+
+// The key of these bytes: HMAC-SHA-512 with an empty key of the three, one behind the other.
+fn key_of(keyfiles: &[u8], front: &[u8], back: &[u8]) -> UserKey
+    ensures { result.bytes ≡ hmac512 [] (keyfiles.now ++ front.now ++ back.now) }
+{
+    let mut hasher = Hmac512::new(&[]);
+    hasher.update(keyfiles);
+    hasher.update(front);
+    hasher.update(back);
+    UserKey {
+        bytes: hasher.finish(),
+    }
+}
+
+/// The user key that these components make under the salt and the iterations of a provider's metadata.
+///
+/// Iterations below 0 say that no passphrase was set up, 0 that it is salted and not stretched. In this
+/// order it is refused as `PassphraseNotSet` where the iterations are below 0 and the passphrase isn't
+/// `Without`, as `PassphraseNeeded` where it is `Missing`, and as `NoKeyComponents` where it is `Without`
+/// and there is no key file.
+pub fn derive(parts: &Components, salt: &[u8; 64], iterations: i32) -> Result<UserKey, KeyFault>
+    ensures { result ≡ user_key parts.now salt.now iterations }
+{
+    let keyfiles = parts.keyfiles.as_slice();
+    match &parts.passphrase {
+        PassPart::Without if parts.keyfile_count == 0 => Err(KeyFault::NoKeyComponents),
+        PassPart::Without => Ok(key_of(keyfiles, &[], &[])),
+        _ if iterations < 0 => Err(KeyFault::PassphraseNotSet),
+        PassPart::Missing => Err(KeyFault::PassphraseNeeded),
+        PassPart::Given(passphrase) if iterations == 0 => {
+            Ok(key_of(keyfiles, salt, passphrase.as_slice()))
+        }
+        PassPart::Given(passphrase) => {
+            let mut stretched = [0u8; 64];
+            pbkdf2_sha512(
+                passphrase.as_slice(),
+                salt,
+                iterations.unsigned_abs(),
+                &mut stretched,
+            );
+            Ok(key_of(keyfiles, &stretched, &[]))
+        }
+    }
+}

@@ -1,2 +1,3 @@
 pub mod Blocks
 pub mod Iterates
+pub mod Lengths

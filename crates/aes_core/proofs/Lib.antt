@@ -1,0 +1,7 @@
+pub mod Fill
+pub mod Boxes
+pub mod Turns
+pub mod KeyWords
+pub mod Keys
+pub mod Inverse
+pub mod InPlace

@@ -1,0 +1,8 @@
+use Rattle.std.proofs.Common.{◌≡◌, ◌/◌, ◌≤◌, arith}
+use Rattle.aes_core.proofs.Turns.{key_term_first}
+use Rattle.aes_core.proofs.expansion.key_term.Goals as goal
+
+pub returns-then-i-nk-eq0 : goal.returns-then-i-nk-eq0
+returns-then-i-nk-eq0 c =
+    key_term_first c.args.nk c.args.i c.args.w.now _ _ _ _ _ c.if-i-nk-eq0.true c.word-last.ensures c.rotated.ensures c.sub_word.ensures
+    c.round_constant.ensures c.xor_word.ensures

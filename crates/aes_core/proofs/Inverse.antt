@@ -220,7 +220,7 @@ xor-xor s k same =
 abbrev pub AreRoundKeys : List ℕ → ℕ → Type 0
 AreRoundKeys w m = (r : ℕ) → r ≤ m + 1 → IsState (round_key w r)
 
-get_or-small : (s : List ℕ) → ((k : ℕ) → k < length s → get_or s k 0 < 256) → (k : ℕ) → get_or s k 0 < 256
+pub get_or-small : (s : List ℕ) → ((k : ℕ) → k < length s → get_or s k 0 < 256) → (k : ℕ) → get_or s k 0 < 256
 get_or-small s here k = elim (cases_lt k (length s)) [ inl lt ↦ here k lt | inr ge ↦ let none : get_or s k 0 ≡ 0 = get_or_past s k 0 ge in omega (arith, none) ]
 
 pub IsState-xor : (s k : List ℕ) → IsState s → IsState k → IsState (xor s k)

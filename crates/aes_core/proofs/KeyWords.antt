@@ -19,7 +19,7 @@ term_of nk v i =
 key_term-append : (nk i : ℕ) (xs ys : List ℕ) → 1 ≤ i → 4 * i ≤ length xs → key_term nk (xs ++ ys) i ≡ key_term nk xs i
 key_term-append nk i xs ys low le = ap (λ (v : List ℕ). term_of nk v i) (chunk-append (4 * (i - 1)) 4 xs ys (omega arith))
 
-length-rotated : (v : List ℕ) → length v ≡ 4 → length (rotated v) ≡ 4
+pub length-rotated : (v : List ℕ) → length v ≡ 4 → length (rotated v) ≡ 4
 length-rotated v len = omega (arith, length-append (drop 1 v) (take 1 v), length-drop 1 v, length-take-le 1 v (omega arith))
 
 length-term_of : (nk : ℕ) (v : List ℕ) (i : ℕ) → length v ≡ 4 → length (term_of nk v i) ≡ 4
@@ -28,6 +28,9 @@ length-term_of nk v i len =
     let first = length-zip2 bit_xor (sub_bytes (rotated v)) (round_constant (i / nk)) turned ∙ turned in
     let P : List ℕ → Type 0 = λ x. length x ≡ 4 in
     cond_both (nat_eq (i % nk) 0) _ _ P (λ h. first) (λ h. cond_both (nat_eq nk 8 && nat_eq (i % 8) 4) _ _ P (λ k. length-map v sbox ∙ len) (λ k. len))
+
+pub length-key_term : (nk i : ℕ) (w : List ℕ) → 1 ≤ i → 4 * i ≤ length w → length (key_term nk w i) ≡ 4
+length-key_term nk i w low le = length-term_of nk (word w (i - 1)) i (length-chunk (4 * (i - 1)) 4 w (omega arith))
 
 -- the key expansion has a word more with each step
 pub length-expanded : (key : List ℕ) (nk n : ℕ) → length key ≡ 4 * nk → 1 ≤ nk → length (expanded key nk n) ≡ 4 * (nk + n)

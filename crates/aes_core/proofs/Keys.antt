@@ -1,9 +1,10 @@
 -- The cipher reads only the round keys, and the key expansion begins with the key.
-use Rattle.std.proofs.Common.{◌≡◌, ℕ, zero, suc, ◌+◌, ◌-◌, ◌*◌, ◌/◌, ◌%◌, ◌<◌, ◌≤◌, List, ◌++◌, length, take, drop, replicate, refl, sym, ap, ◌∙◌, arith, length-append, add-one}
+use Rattle.std.proofs.Common.{◌≡◌, ℕ, zero, suc, ◌+◌, ◌-◌, ◌*◌, ◌/◌, ◌%◌, ◌<◌, ◌≤◌, List, ◌++◌, length, take, drop, replicate, refl, sym, ap, subst, ◌∙◌, arith, length-append, add-one}
 use Rattle.std.proofs.lemmas.List.{take-append-le, take_all, take_at, length-take-le, length-replicate}
 use Rattle.std.specs.Simd.Lanes.{chunk}
 use Rattle.aes_core.specs.Aes.{xor, sub_bytes, shift_rows, mix_columns, inverse_sub_bytes, inverse_shift_rows, inverse_mix_columns, round_key, key_words, rounds, key_schedule, expanded, key_term, word, after_rounds, after_inverse_rounds, enciphered, deciphered, encrypt, decrypt}
-use Rattle.aes_core.specs.Schedule.{IsSchedule, padded_schedule}
+use Rattle.aes_core.specs.Schedule.{AreBytes, IsSchedule, padded_schedule}
+use Rattle.aes_core.proofs.KeyBytes.{AreBytes-append, AreBytes-zeros, AreBytes-expanded}
 use Rattle.aes_core.proofs.KeyWords.{chunk-append, length-expanded}
 
 after_rounds-append : (w z b : List ℕ) (n : ℕ) → 16 * (n + 1) ≤ length w → after_rounds (w ++ z) b n ≡ after_rounds w b n
@@ -78,9 +79,12 @@ key_first key keys nk len low high e =
     ap (take (4 * nk)) e ∙ take-append-le (4 * nk) (key_schedule key) z (omega arith) ∙ ap (λ (k : ℕ). take k (key_schedule key)) (sym len)
     ∙ take-expanded key (key_words key) (4 * (rounds key + 1) - key_words key) (omega arith) (omega arith)
 
-pub IsSchedule_new : (key keys : List ℕ) (nk : ℕ) → length key ≡ 4 * nk → nk % 2 ≡ 0 → 4 ≤ nk → nk ≤ 8 → keys ≡ key_schedule key ++ replicate (240 - 16 * (nk + 7)) 0 → IsSchedule keys nk
+AreBytes-schedule : (key : List ℕ) (nk : ℕ) → length key ≡ 4 * nk → 4 ≤ nk → AreBytes key → AreBytes (key_schedule key)
+AreBytes-schedule key nk len low small = AreBytes-expanded key (key_words key) (4 * (rounds key + 1) - key_words key) (omega arith) (omega arith) small
+
+pub IsSchedule_new : (key keys : List ℕ) (nk : ℕ) → length key ≡ 4 * nk → nk % 2 ≡ 0 → 4 ≤ nk → nk ≤ 8 → AreBytes key → keys ≡ key_schedule key ++ replicate (240 - 16 * (nk + 7)) 0 → IsSchedule keys nk
 unfolding padded_schedule
-IsSchedule_new key keys nk len even low high e =
+IsSchedule_new key keys nk len even low high small e =
     let ls = length-key_schedule key nk len low in
     let z : List ℕ = replicate (240 - 16 * (nk + 7)) 0 in
     let words : nk ≡ key_words key = omega arith in
@@ -90,5 +94,6 @@ IsSchedule_new key keys nk len even low high e =
       low = low;
       high = high;
       long = ap length e ∙ omega (arith, length-append (key_schedule key) z, length-replicate {A = ℕ} (240 - 16 * (nk + 7)) 0);
+      bytes = subst AreBytes (sym e) (AreBytes-append (key_schedule key) z (AreBytes-schedule key nk len low small) (AreBytes-zeros (240 - 16 * (nk + 7))));
       expanded = e ∙ ap (λ (k : ℕ). key_schedule key ++ replicate (240 - 16 * (k + 7)) 0) words ∙ ap padded_schedule (sym front);
     }

@@ -3,5 +3,6 @@ pub mod Boxes
 pub mod Turns
 pub mod KeyWords
 pub mod Keys
+pub mod KeyBytes
 pub mod Inverse
 pub mod InPlace

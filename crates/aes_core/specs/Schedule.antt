@@ -25,4 +25,5 @@ pub record IsSchedule (keys : List ℕ) (nk : ℕ) : Type 0 where
   pub low : 4 ≤ nk
   pub high : nk ≤ 8
   pub long : length keys ≡ 240
+  pub bytes : AreBytes keys
   pub expanded : keys ≡ padded_schedule (take (4 * nk) keys)

@@ -85,8 +85,12 @@ impl Schedule {
 }
 
 /// A law: the inverse cipher takes back what the cipher did, under every key and for every block.
-pub fn decrypt_undoes_encrypt(key: &[u8], block: &[u8; 16])
-    requires { IsKeyLength (length key.now) }
+pub fn decrypt_undoes_encrypt(key: &[u8], block: &[u8])
+    requires key { IsKeyLength (length key.now) }
+    requires block { length block.now ≡ 16 }
     ensures { decrypt key.now (encrypt key.now block.now) ≡ block.now }
 {
 }
+
+#[cfg(test)]
+mod tests;

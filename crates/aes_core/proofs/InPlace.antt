@@ -1,9 +1,9 @@
 -- A slice whose blocks are replaced one after the other.
-use Rattle.std.proofs.Common.{◌≡◌, ℕ, zero, suc, ◌+◌, ◌-◌, ◌*◌, ◌/◌, ◌%◌, ◌<◌, ◌≤◌, List, [], ◌++◌, length, take, drop, refl, sym, ap, ◌∙◌, arith, add-one, append_assoc, length-append, zero-add}
-use Rattle.std.proofs.lemmas.List.{take_at, drop_at, drop-append-le, take-append-le, length-drop, drop_all, append-nil, drop-drop}
+use Rattle.std.proofs.Common.{◌≡◌, ℕ, ◌+◌, ◌*◌, List, ◌++◌, length, take, drop, refl, sym, ap, ◌∙◌, arith, add-one, append_assoc, length-append}
+use Rattle.std.proofs.lemmas.List.{take_at, drop_at, drop_all, append-nil, drop-drop}
 use Rattle.std.specs.Simd.Lanes.{chunk}
 use Rattle.aes_core.specs.Blocks.{block, blocks}
-use borrow.Rule.Slice.PartMut.{put_mid, post_of}
+use borrow.Rule.Slice.PartMut.{put_mid}
 
 -- the first j blocks of p are replaced by f 0, …, f (j - 1)
 pub record IsDone (f : ℕ → List ℕ) (p now : List ℕ) (j : ℕ) : Type 0 where

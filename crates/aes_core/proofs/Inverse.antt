@@ -1,6 +1,6 @@
 -- The inverse cipher undoes the cipher: each inverse step undoes its step.
-use Rattle.std.proofs.Common.{◌≡◌, ℕ, zero, suc, ◌+◌, ◌-◌, ◌*◌, ◌/◌, ◌%◌, ◌^◌, ◌<◌, ◌≤◌, List, [], ◌∷◌, length, map, get_or, bit_xor, refl, sym, ap, ◌∙◌, arith, add-one, zero-add}
-use lib.Bits.{xor_assoc, xor_comm, xor_self, xor_zero_r, xor_zero_l, xor_lt}
+use Rattle.std.proofs.Common.{◌≡◌, ℕ, zero, suc, ◌+◌, ◌-◌, ◌*◌, ◌/◌, ◌%◌, ◌<◌, ◌≤◌, List, [], ◌∷◌, length, map, get_or, bit_xor, refl, sym, ap, ◌∙◌, arith, zero-add}
+use lib.Bits.{xor_assoc, xor_comm, xor_self, xor_zero_r, xor_zero_l}
 use Rattle.std.proofs.lemmas.Nat.{xor_shr, xor_mod, xor_of_8}
 use Rattle.std.proofs.lemmas.List.{length-map, get_or-map, get_or_past, ext_get_or}
 use Rattle.std.proofs.lemmas.List.FromFn.{fill_by_all, length-map-range_with_len, get_or-map-range_with_len, get_or-range_with_len}
@@ -8,7 +8,6 @@ use Rattle.std.proofs.lemmas.Simd.{length-zip2, get_or-zip2}
 use Rattle.std.proofs.lemmas.Bool.{cases_lt}
 use Rattle.std.proofs.Common.{inl, inr, ◌⊎◌, lit<}
 use Rattle.std.specs.List.{range_with_len}
-use Rattle.std.specs.Simd.Lanes.{zip2}
 use Rattle.aes_core.specs.Field.{times_x, times_bits, times, power}
 use Rattle.aes_core.specs.Aes.{sbox, inverse_sbox, bytes_by, xor, sub_bytes, shift_rows, mix_columns, circulant_byte, inverse_sub_bytes, inverse_shift_rows, inverse_mix_columns, round_key, after_rounds, after_inverse_rounds, enciphered, deciphered}
 use Rattle.aes_core.proofs.Boxes.{agree_at}

@@ -1,14 +1,14 @@
 -- Each number of a key schedule is a byte, so the inverse cipher undoes the cipher.
-use Rattle.std.proofs.Common.{◌≡◌, ℕ, zero, suc, ◌+◌, ◌-◌, ◌*◌, ◌/◌, ◌%◌, ◌<◌, ◌≤◌, ◌⊎◌, inl, inr, List, [], ◌∷◌, ◌++◌, length, get_or, take, drop, map, replicate, nat_eq, ◌&&◌, bit_xor, refl, sym, ap, ◌∙◌, arith, lit<}
+use Rattle.std.proofs.Common.{◌≡◌, ℕ, zero, suc, ◌+◌, ◌-◌, ◌*◌, ◌/◌, ◌%◌, ◌<◌, ◌≤◌, inl, inr, List, [], ◌∷◌, ◌++◌, length, get_or, take, drop, replicate, nat_eq, ◌&&◌, bit_xor, refl, sym, ◌∙◌, arith, lit<}
 use Rattle.std.proofs.lemmas.Nat.{xor_of_8}
 use Rattle.std.proofs.lemmas.List.{length-map, get_or-map, get_or_past, get_or_append_left, get_or-append_right, get_or-drop, get_or-take, length-take, length-take-le}
-use Rattle.std.proofs.lemmas.Simd.{length-zip2, get_or-zip2, length-chunk, get_or-chunk}
+use Rattle.std.proofs.lemmas.Simd.{length-zip2, get_or-zip2, length-chunk}
 use Rattle.std.proofs.lemmas.Bool.{cases_lt, cond_both}
 use Rattle.std.specs.Simd.Lanes.{chunk}
 use Rattle.aes_core.specs.Field.{power}
-use Rattle.aes_core.specs.Aes.{sbox, xor, word, rotated, sub_bytes, key_term, expanded, round_constant, key_words, rounds, key_schedule, round_key, encrypt, decrypt}
+use Rattle.aes_core.specs.Aes.{sbox, xor, word, rotated, sub_bytes, key_term, expanded, round_constant, key_words, rounds, key_schedule, round_key, shift_rows, after_rounds, encrypt, decrypt}
 use Rattle.aes_core.specs.Schedule.{IsKeyLength, AreBytes, IsKey, IsSchedule}
-use Rattle.aes_core.proofs.Inverse.{IsState, AreRoundKeys, get_or-small, sbox-lt, power-lt, deciphered-enciphered}
+use Rattle.aes_core.proofs.Inverse.{IsState, IsState-after_rounds, IsState-shift_rows, IsState-sub_bytes, IsState-xor, AreRoundKeys, get_or-small, sbox-lt, power-lt, deciphered-enciphered}
 use Rattle.aes_core.proofs.KeyWords.{length-expanded, length-key_term, length-rotated}
 
 pub AreBytes-append : (xs ys : List ℕ) → AreBytes xs → AreBytes ys → AreBytes (xs ++ ys)
@@ -118,6 +118,17 @@ round_keys key h r le =
 pub decrypt-encrypt : (key b : List ℕ) → IsKey key → length b ≡ 16 → AreBytes b → decrypt key (encrypt key b) ≡ b
 unfolding encrypt decrypt
 decrypt-encrypt key b h len bytes = deciphered-enciphered (key_schedule key) b (rounds key - 1) (record { long = len; bytes = bytes }) (round_keys key h)
+
+-- the cipher gives a block of bytes
+pub IsState-encrypt : (key b : List ℕ) → IsKey key → IsState b → IsState (encrypt key b)
+unfolding encrypt
+IsState-encrypt key b h state =
+    let w : List ℕ = key_schedule key in
+    let m : ℕ = rounds key - 1 in
+    let keys = round_keys key h in
+    let before = IsState-after_rounds w b m m state keys (omega arith) in
+    let half = IsState-shift_rows (sub_bytes (after_rounds w b m)) (IsState-sub_bytes (after_rounds w b m) before.long) in
+    IsState-xor (shift_rows (sub_bytes (after_rounds w b m))) (round_key w (m + 1)) half (keys (m + 1) (omega arith))
 
 pub IsKey-front : (keys : List ℕ) (nk : ℕ) → IsSchedule keys nk → IsKey (take (4 * nk) keys)
 IsKey-front keys nk h =

@@ -1,11 +1,11 @@
 -- How the key expansion grows in a buffer of 240 bytes with zeros behind it.
-use Rattle.std.proofs.Common.{◌≡◌, ℕ, zero, suc, ◌+◌, ◌-◌, ◌*◌, ◌/◌, ◌%◌, ◌<◌, ◌≤◌, List, [], ◌∷◌, ◌++◌, length, map, take, drop, replicate, cond, bit_xor, nat_eq, ◌&&◌, refl, sym, ap, ◌∙◌, add-one, arith, append_assoc, length-append}
-use Rattle.std.proofs.lemmas.List.{length-map, take_at, drop_at, take-append-le, drop-append-le, drop-replicate, length-drop, length-take-le, length-replicate}
+use Rattle.std.proofs.Common.{◌≡◌, ℕ, zero, suc, ◌+◌, ◌-◌, ◌*◌, ◌/◌, ◌%◌, ◌≤◌, List, ◌++◌, length, take, drop, replicate, cond, bit_xor, nat_eq, ◌&&◌, sym, ap, ◌∙◌, add-one, arith, append_assoc, length-append}
+use Rattle.std.proofs.lemmas.List.{length-map, take_at, drop_at, take-append-le, drop-append-le, drop-replicate, length-drop, length-take-le}
 use Rattle.std.proofs.lemmas.Simd.{length-zip2, length-chunk}
 use Rattle.std.proofs.lemmas.Bool.{cond_both}
-use Rattle.std.specs.Simd.Lanes.{zip2, chunk}
+use Rattle.std.specs.Simd.Lanes.{chunk}
 use Rattle.aes_core.specs.Aes.{sbox, xor, word, rotated, sub_bytes, key_term, expanded, round_constant}
-use borrow.Rule.Slice.PartMut.{put_mid, post_of}
+use borrow.Rule.Slice.PartMut.{put_mid}
 
 pub chunk-append : (i n : ℕ) (xs ys : List ℕ) → i + n ≤ length xs → chunk i n (xs ++ ys) ≡ chunk i n xs
 chunk-append i n xs ys le =

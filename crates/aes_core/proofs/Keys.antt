@@ -1,8 +1,7 @@
 -- The cipher reads only the round keys, and the key expansion begins with the key.
-use Rattle.std.proofs.Common.{◌≡◌, ℕ, zero, suc, ◌+◌, ◌-◌, ◌*◌, ◌/◌, ◌%◌, ◌<◌, ◌≤◌, List, ◌++◌, length, take, drop, replicate, refl, sym, ap, subst, ◌∙◌, arith, length-append, add-one}
-use Rattle.std.proofs.lemmas.List.{take-append-le, take_all, take_at, length-take-le, length-replicate}
-use Rattle.std.specs.Simd.Lanes.{chunk}
-use Rattle.aes_core.specs.Aes.{xor, sub_bytes, shift_rows, mix_columns, inverse_sub_bytes, inverse_shift_rows, inverse_mix_columns, round_key, key_words, rounds, key_schedule, expanded, key_term, word, after_rounds, after_inverse_rounds, enciphered, deciphered, encrypt, decrypt}
+use Rattle.std.proofs.Common.{◌≡◌, ℕ, zero, suc, ◌+◌, ◌-◌, ◌*◌, ◌%◌, ◌≤◌, List, ◌++◌, length, take, replicate, sym, ap, subst, ◌∙◌, arith, length-append}
+use Rattle.std.proofs.lemmas.List.{take-append-le, take_all, length-take-le, length-replicate}
+use Rattle.aes_core.specs.Aes.{xor, sub_bytes, shift_rows, mix_columns, inverse_sub_bytes, inverse_shift_rows, inverse_mix_columns, key_words, rounds, key_schedule, expanded, key_term, word, after_rounds, after_inverse_rounds, enciphered, deciphered, encrypt, decrypt}
 use Rattle.aes_core.specs.Schedule.{AreBytes, IsSchedule, padded_schedule}
 use Rattle.aes_core.proofs.KeyBytes.{AreBytes-append, AreBytes-zeros, AreBytes-expanded}
 use Rattle.aes_core.proofs.KeyWords.{chunk-append, length-expanded}

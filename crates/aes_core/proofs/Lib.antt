@@ -6,3 +6,4 @@ pub mod Keys
 pub mod KeyBytes
 pub mod Inverse
 pub mod InPlace
+pub mod BlockLists

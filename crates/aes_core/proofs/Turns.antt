@@ -1,8 +1,8 @@
 -- One turn of each loop.
-use Rattle.std.proofs.Common.{◌≡◌, ℕ, zero, suc, ◌+◌, ◌-◌, ◌*◌, ◌/◌, ◌%◌, ◌<◌, ◌≤◌, ◌≢◌, List, [], ◌∷◌, map, get_or, nat_eq, true, eq-eqb, bit_xor, refl, sym, ap, ◌∙◌, add-one, arith, lit<}
+use Rattle.std.proofs.Common.{◌≡◌, ℕ, suc, ◌+◌, ◌-◌, ◌*◌, ◌/◌, ◌%◌, ◌<◌, ◌≤◌, ◌≢◌, List, [], ◌∷◌, nat_eq, true, eq-eqb, bit_xor, refl, sym, ap, ◌∙◌, add-one, arith, lit<}
 use Rattle.aes_core.proofs.Boxes.{times-two}
 use Rattle.aes_core.proofs.Inverse.{power-lt}
-use lib.Bits.{xor_assoc, xor_zero_r, xor_zero_l}
+use lib.Bits.{xor_assoc, xor_zero_r}
 use Rattle.aes_core.specs.Field.{times_x, times_bits, times, power}
 use Rattle.aes_core.specs.Aes.{xor, word, rotated, key_term, sub_bytes, shift_rows, mix_columns, inverse_sub_bytes, inverse_shift_rows, inverse_mix_columns, round_key, after_rounds, after_inverse_rounds}
 

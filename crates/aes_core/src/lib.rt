@@ -89,8 +89,7 @@ pub fn decrypt_undoes_encrypt(key: &[u8], block: &[u8])
     requires key { IsKeyLength (length key.now) }
     requires block { length block.now ≡ 16 }
     ensures { decrypt key.now (encrypt key.now block.now) ≡ block.now }
-{
-}
+{}
 
 #[cfg(test)]
 mod tests;

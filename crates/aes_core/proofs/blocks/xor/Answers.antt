@@ -1,4 +1,4 @@
-use Rattle.std.proofs.Common.{◌≡◌, get_or, length, bit_xor, arith, refl, sym, ◌∙◌}
+use Rattle.std.proofs.Common.{◌≡◌, get_or, bit_xor, arith, refl, sym, ◌∙◌}
 use Rattle.aes_core.proofs.Fill.{IsFilled-more, IsFilled-all, zip2-by_index}
 use Rattle.aes_core.proofs.blocks.xor.Goals as goal
 

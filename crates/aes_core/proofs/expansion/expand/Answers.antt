@@ -1,4 +1,4 @@
-use Rattle.std.proofs.Common.{◌≡◌, ◌+◌, ◌*◌, ◌≤◌, arith}
+use Rattle.std.proofs.Common.{arith}
 use Rattle.aes_core.proofs.KeyWords.{expand_start, expand_step}
 use Rattle.aes_core.proofs.expansion.expand.Goals as goal
 

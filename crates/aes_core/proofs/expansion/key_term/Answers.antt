@@ -1,4 +1,3 @@
-use Rattle.std.proofs.Common.{◌≡◌, ◌/◌, ◌≤◌, arith}
 use Rattle.aes_core.proofs.Turns.{key_term_first}
 use Rattle.aes_core.proofs.expansion.key_term.Goals as goal
 

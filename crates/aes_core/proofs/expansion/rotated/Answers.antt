@@ -1,7 +1,6 @@
-use Rattle.std.proofs.Common.{◌≡◌, ℕ, ◌+◌, ◌-◌, ◌*◌, ◌∷◌, [], List, length, get_or, map, drop, take, ◌++◌, bit_xor, arith, refl, sym, ap, ◌∙◌}
-use Rattle.std.specs.Simd.Lanes.{zip2}
-use Rattle.aes_core.specs.Aes.{sbox, word, sub_bytes, rotated, xor}
-use Rattle.aes_core.proofs.Fill.{four, chunk-by_index}
+use Rattle.std.proofs.Common.{◌≡◌, length, arith, sym, ap}
+use Rattle.aes_core.specs.Aes.{rotated}
+use Rattle.aes_core.proofs.Fill.{four}
 use Rattle.aes_core.proofs.expansion.rotated.Goals as goal
 
 pub returns : goal.returns

@@ -1,5 +1,4 @@
-use Rattle.std.proofs.Common.{ℕ, ◌+◌, ◌-◌, ◌*◌, ◌/◌, ◌%◌, List, [], ◌∷◌, get_or, bit_xor, slice_index}
-use Rattle.aes_core.specs.Field.{times}
+use Rattle.std.proofs.Common.{[], ◌∷◌}
 use Rattle.aes_core.specs.Aes.{circulant_byte}
 use Rattle.aes_core.proofs.Fill.{IsFilled}
 use Rattle.aes_core.proofs.steps.inverse_mix_columns.Given as goal

@@ -1,4 +1,4 @@
-use Rattle.std.proofs.Common.{◌≡◌, ℕ, ◌+◌, ◌*◌, ◌/◌, ◌%◌, [], ◌∷◌, arith, refl, sym, ◌∙◌}
+use Rattle.std.proofs.Common.{◌≡◌, ◌+◌, ◌*◌, ◌/◌, ◌%◌, [], ◌∷◌, arith}
 use Rattle.aes_core.proofs.Fill.{IsFilled-more, IsFilled-all}
 use Rattle.aes_core.specs.Aes.{circulant_byte}
 use Rattle.aes_core.proofs.steps.mix_columns.Goals as goal

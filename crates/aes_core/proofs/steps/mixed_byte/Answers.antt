@@ -1,4 +1,4 @@
-use Rattle.std.proofs.Common.{refl, arith}
+use Rattle.std.proofs.Common.{arith}
 use Rattle.aes_core.proofs.Boxes.{times-one, times-two, times-three}
 use Rattle.aes_core.proofs.steps.mixed_byte.Goals as goal
 

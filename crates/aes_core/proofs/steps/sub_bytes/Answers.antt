@@ -1,5 +1,5 @@
-use Rattle.std.proofs.Common.{◌≡◌, ℕ, List, get_or, length, map, arith, sym, ◌∙◌, subst}
-use Rattle.aes_core.proofs.Fill.{IsFilled, IsFilled-more, IsFilled-all, map-by_index}
+use Rattle.std.proofs.Common.{◌≡◌, get_or, length, arith, sym, ◌∙◌}
+use Rattle.aes_core.proofs.Fill.{IsFilled-more, IsFilled-all, map-by_index}
 use Rattle.aes_core.specs.Aes.{sbox}
 use Rattle.aes_core.proofs.steps.sub_bytes.Goals as goal
 

@@ -1,6 +1,5 @@
-use Rattle.std.proofs.Common.{◌≡◌, ◌+◌, ◌*◌, ◌/◌, ◌%◌, ◌-◌, bit_xor, sym, ap, ◌∙◌, arith}
+use Rattle.std.proofs.Common.{arith}
 use lib.Bits.{xor_zero_r}
-use Rattle.aes_core.specs.Field.{times_x, times_bits}
 use Rattle.aes_core.proofs.Turns.{times_start, times_more, times_done, times_odd, times_even}
 use Rattle.aes_core.proofs.steps.times.Goals as goal
 use Rattle.aes_core.proofs.steps.times.Goals.{then-bits-eq1, else-bits-eq1}

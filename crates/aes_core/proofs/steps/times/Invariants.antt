@@ -1,4 +1,4 @@
-use Rattle.std.proofs.Common.{◌≡◌, ◌-◌, ◌<◌, ◌≤◌, bit_xor}
+use Rattle.std.proofs.Common.{◌≡◌, ◌-◌, bit_xor}
 use Rattle.aes_core.specs.Field.{times_bits, times}
 use Rattle.aes_core.proofs.steps.times.Given as goal
 

@@ -1,0 +1,70 @@
+//! Cipher block chaining (NIST SP 800-38A, 6.2) over AES, in place, on whole blocks.
+#![tactic(auto)]
+
+ghost use Rattle.std.specs.Prelude.{◌≡◌, ℕ, ◌+◌, ◌*◌, ◌/◌, ◌%◌, List, length};
+ghost use Rattle.aes_core.specs.Aes.{xor, encrypt, decrypt};
+ghost use Rattle.aes_core.specs.Schedule.{IsKeyLength};
+ghost use Rattle.cbc_mode.specs.Cbc.{cbc_seal, cbc_open};
+
+use aes_core::Schedule;
+use aes_core::blocks::{Block, block_at, xor};
+
+// The cipher text of one block, from the block of cipher text before it.
+fn sealed(k: &Schedule, plain: Block, before: Block) -> Block
+    ensures { result ≡ encrypt k.now (xor plain before) }
+{
+    let mut out = xor(plain, before);
+    k.encrypt_block(&mut out);
+    out
+}
+
+// The plain text of one block, from the block of cipher text before it.
+fn opened(k: &Schedule, cipher: Block, before: Block) -> Block
+    ensures { result ≡ xor (decrypt k.now cipher) before }
+{
+    let mut out = cipher;
+    k.decrypt_block(&mut out);
+    xor(out, before)
+}
+
+/// Enciphers whole blocks in place, under this key and initial vector. `cbc_open` takes it back.
+pub fn cbc_seal(k: &Schedule, iv: &[u8; 16], block: &mut [u8])
+    requires { length block.old % 16 ≡ 0 }
+    ensures sealed { block.new ≡ cbc_seal k.now iv.now block.old }
+    ensures taken_back { cbc_open k.now iv.now block.new ≡ block.old }
+{
+    let mut last = *iv;
+    for j in 0..block.len() / 16 {
+        let plain = block_at(block, j);
+        let cipher = sealed(k, plain, last);
+        block[16 * j..16 * j + 16].copy_from_slice(&cipher);
+        last = cipher;
+    }
+    // Opening takes it back since the schedule is that of a key.
+    k.is_of_a_key();
+}
+
+/// Deciphers whole blocks in place, under this key and initial vector.
+pub fn cbc_open(k: &Schedule, iv: &[u8; 16], block: &mut [u8])
+    requires { length block.old % 16 ≡ 0 }
+    ensures { block.new ≡ cbc_open k.now iv.now block.old }
+{
+    let mut before = *iv;
+    for j in 0..block.len() / 16 {
+        let cipher = block_at(block, j);
+        let plain = opened(k, cipher, before);
+        block[16 * j..16 * j + 16].copy_from_slice(&plain);
+        before = cipher;
+    }
+}
+
+/// A law: whatever is sealed opens to what it was, under every key and initial vector.
+pub fn cbc_open_undoes_cbc_seal(key: &[u8], iv: &[u8], plain: &[u8])
+    requires key { IsKeyLength (length key.now) }
+    requires iv { length iv.now ≡ 16 }
+    requires plain { length plain.now % 16 ≡ 0 }
+    ensures { cbc_open key.now iv.now (cbc_seal key.now iv.now plain.now) ≡ plain.now }
+{}
+
+#[cfg(test)]
+mod tests;

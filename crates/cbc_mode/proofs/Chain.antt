@@ -3,7 +3,6 @@ use Rattle.std.proofs.Common.{◌≡◌, ℕ, zero, suc, ◌+◌, ◌*◌, ◌/�
 use Rattle.std.proofs.lemmas.List.{take_at}
 use Rattle.std.proofs.Math.Seq.{drop-append-add}
 use Rattle.std.proofs.lemmas.Simd.{length-chunk}
-use Rattle.std.specs.Simd.Lanes.{chunk}
 use Rattle.aes_core.specs.Aes.{xor, encrypt, decrypt}
 use Rattle.aes_core.specs.Blocks.{block, blocks}
 use Rattle.aes_core.specs.Schedule.{AreBytes, IsKey}

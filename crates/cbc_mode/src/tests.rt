@@ -1,6 +1,7 @@
 use crate::{cbc_open, cbc_seal};
 use aes_core::Schedule;
 use sha2::{Digest, Sha256};
+use std::process::Abort;
 use std::test::Fail;
 
 // Numbers as bytes, the first number first and each big-endian.
@@ -170,18 +171,30 @@ const ROWS: [Row; 6] = [
     },
 ];
 
+// The plain text of a row: byte i is (7 * i + i / 256) mod 256.
+fn fill(text: &mut [u8]) {
+    for (i, byte) in text.iter_mut().enumerate() {
+        *byte = ((7 * (i % 256) + i / 256 % 256) % 256) as u8;
+    }
+}
+
+fn check(rt: &impl Abort, row: Row, text: &mut [u8]) -> Result<(), Fail> {
+    assert!(rt; row.key_length <= 32);
+    let k = Schedule::new(&bytes_of(row.key)[..row.key_length]).ok_or("a key was refused")?;
+    assert!(rt; text.len() % 16 == 0);
+    cbc_seal(&k, &row.iv.to_be_bytes(), text);
+    let digest = Sha256::digest(text);
+    assert_eq!(rt; digest, bytes_of(row.digest), "{}", row.length);
+    Ok(())
+}
+
 #[test]
 fn as_another_implementation(rt: HostRuntime) -> Result<(), Fail> {
     let mut text = vec![in rt.alloc(); 0u8; 65536]?;
     for row in ROWS {
-        assert!(rt; row.key_length <= 32 && row.length <= text.len() && row.length % 16 == 0);
-        for (i, byte) in text.iter_mut().enumerate() {
-            *byte = ((7 * (i % 256) + i / 256) % 256) as u8;
-        }
-        let k = Schedule::new(&bytes_of(row.key)[..row.key_length]).ok_or("a key was refused")?;
-        cbc_seal(&k, &row.iv.to_be_bytes(), &mut text[..row.length]);
-        let digest = Sha256::digest(&text[..row.length]);
-        assert_eq!(rt; digest, bytes_of(row.digest), "{}", row.length);
+        assert!(rt; row.length <= text.len());
+        fill(&mut text);
+        check(&rt, row, &mut text[..row.length])?;
     }
     Ok(())
 }

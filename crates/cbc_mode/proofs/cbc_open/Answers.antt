@@ -1,4 +1,4 @@
-use Rattle.std.proofs.Common.{◌≡◌, ◌*◌, ◌∙◌, length, sym, ap, arith}
+use Rattle.std.proofs.Common.{◌∙◌, length, sym, ap, arith}
 use Rattle.aes_core.proofs.InPlace.{IsDone-start, IsDone-block, IsDone-next}
 use Rattle.cbc_mode.specs.Cbc.{opened}
 use Rattle.cbc_mode.proofs.Chain.{block_before-start, block_before-more, opened_at}

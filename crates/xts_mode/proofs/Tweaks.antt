@@ -1,0 +1,76 @@
+-- The tweaks of a data unit, block by block, and that opening undoes sealing.
+use Rattle.std.proofs.Common.{◌≡◌, ℕ, zero, suc, ◌+◌, ◌*◌, ◌/◌, ◌%◌, ◌<◌, ◌≤◌, List, length, refl, sym, ap, ◌∙◌, arith, add-one, lit<}
+use Rattle.std.proofs.lemmas.Simd.{length-chunk}
+use Rattle.std.specs.Int.{w128, byte_at, bytes_low_first, to_le_bytes}
+use Rattle.aes_core.specs.Aes.{xor, encrypt, decrypt}
+use Rattle.aes_core.specs.Blocks.{block, blocks}
+use Rattle.aes_core.specs.Schedule.{AreBytes, IsKey}
+use Rattle.aes_core.proofs.Inverse.{IsState, IsState-xor, xor-xor}
+use Rattle.aes_core.proofs.KeyBytes.{AreBytes-chunk, IsState-encrypt, decrypt-encrypt}
+use Rattle.aes_core.proofs.BlockLists.{AreBlocks, length-blocks, block-blocks, blocks-same, blocks-block}
+use Rattle.xts_mode.specs.Xts.{doubled, tweak_at, first_tweak, masked, xts_seal, xts_open}
+
+pub tweak_start : (t : ℕ) → tweak_at t 0 ≡ t
+unfolding tweak_at
+tweak_start t = refl
+
+pub tweak_step : (t now next j : ℕ) → now ≡ tweak_at t j → next ≡ doubled now → next ≡ tweak_at t (j + 1)
+unfolding tweak_at
+tweak_step t now next j e en = en ∙ ap doubled e ∙ sym (ap (tweak_at t) (add-one j))
+
+-- the block that the code masks is the definition's
+pub masked_at : (f : List ℕ → List ℕ) (p b r : List ℕ) (t now j : ℕ) → now ≡ tweak_at t j → b ≡ block p j
+    → r ≡ (let mask = to_le_bytes w128 now in xor (f (xor b mask)) mask) → r ≡ masked f t p j
+masked_at f p b r t now j et eb er = er ∙ (λ i. let mask = to_le_bytes w128 (et i) in xor (f (xor (eb i) mask)) mask)
+
+byte_at-lt : (i n : ℕ) → byte_at i n < 256
+byte_at-lt zero n = omega arith
+byte_at-lt (suc i) n = omega arith
+
+AreBytes-low_first : (i k n : ℕ) → AreBytes (bytes_low_first i k n)
+AreBytes-low_first i zero n m = lit< tt
+AreBytes-low_first i (suc k) n zero = byte_at-lt i n
+AreBytes-low_first i (suc k) n (suc m) = AreBytes-low_first (suc i) k n m
+
+IsState-mask : (t : ℕ) → IsState (to_le_bytes w128 t)
+IsState-mask t = record { long = refl; bytes = AreBytes-low_first 0 16 t }
+
+IsState-block : (p : List ℕ) (j : ℕ) → AreBytes p → 16 * j + 16 ≤ length p → IsState (block p j)
+IsState-block p j small le = record { long = length-chunk (16 * j) 16 p le; bytes = AreBytes-chunk (16 * j) 16 p small }
+
+IsState-masked : (key p : List ℕ) (t j : ℕ) → IsKey key → AreBytes p → 16 * j + 16 ≤ length p → IsState (masked (encrypt key) t p j)
+IsState-masked key p t j hk small le =
+    let mask : List ℕ = to_le_bytes w128 (tweak_at t j) in
+    let hm = IsState-mask (tweak_at t j) in
+    IsState-xor (encrypt key (xor (block p j) mask)) mask
+    (IsState-encrypt key (xor (block p j) mask) hk (IsState-xor (block p j) mask (IsState-block p j small le) hm)) hm
+
+-- one block opens to what it was
+opened-sealed : (key p : List ℕ) (t n j : ℕ) → IsKey key → AreBytes p → length p ≡ 16 * n → j < n
+    → masked (decrypt key) t (blocks (masked (encrypt key) t p) n) j ≡ block p j
+opened-sealed key p t n j hk small len lt =
+    let f : ℕ → List ℕ = masked (encrypt key) t p in
+    let are : AreBlocks f n = λ i below. (IsState-masked key p t i hk small (omega arith)).long in
+    let mask : List ℕ = to_le_bytes w128 (tweak_at t j) in
+    let hm = IsState-mask (tweak_at t j) in
+    let plain = IsState-block p j small (omega arith) in
+    let mixed = IsState-xor (block p j) mask plain hm in
+    let sealed = IsState-encrypt key (xor (block p j) mask) hk mixed in
+    ap (λ (b : List ℕ). xor (decrypt key (xor b mask)) mask) (block-blocks f n j are lt)
+    ∙ ap (λ (b : List ℕ). xor (decrypt key b) mask) (xor-xor (encrypt key (xor (block p j) mask)) mask (sealed.long ∙ sym hm.long))
+    ∙ ap (λ (b : List ℕ). xor b mask) (decrypt-encrypt key (xor (block p j) mask) hk mixed.long mixed.bytes)
+    ∙ xor-xor (block p j) mask (plain.long ∙ sym hm.long)
+
+-- what is sealed opens to what it was
+pub xts_open-xts_seal : (key1 key2 p : List ℕ) (unit : ℕ) → IsKey key1 → AreBytes p → length p % 16 ≡ 0 → xts_open key1 key2 unit (xts_seal key1 key2 unit p) ≡ p
+xts_open-xts_seal key1 key2 p unit hk small whole =
+    let n : ℕ = length p / 16 in
+    let t : ℕ = first_tweak key2 unit in
+    let f : ℕ → List ℕ = masked (encrypt key1) t p in
+    let lp : length p ≡ 16 * n = omega arith in
+    let are : AreBlocks f n = λ i below. (IsState-masked key1 p t i hk small (omega arith)).long in
+    let lc = length-blocks f n are in
+    let count : length (blocks f n) / 16 ≡ n = omega arith in
+    ap (λ (m : ℕ). blocks (masked (decrypt key1) t (blocks f n)) m) count
+    ∙ blocks-same (masked (decrypt key1) t (blocks f n)) (block p) n (λ j lt. opened-sealed key1 p t n j hk small lp lt)
+    ∙ blocks-block p n lp

@@ -13,6 +13,7 @@ pub struct Piece<'a> {
     pub start: u32,
     /// The number of the word from 0.
     pub number: u32,
+    pub ghost inside: { start + length bytes.now ≤ 300001 },
 }
 
 /// What is left of a line whose words are taken one by one.
@@ -114,6 +115,25 @@ impl<'a> Words<'a> {
             words = words.behind(len, number);
         }
         None
+    }
+
+    /// The number of the next word, which is how many were taken.
+    pub fn number(self) -> u32
+        ensures { result ≡ self.entry.number }
+    {
+        self.number
+    }
+
+    /// How many words are left.
+    pub fn count(self) -> u32
+        ensures count { result ≡ length (left self.entry) }
+        ensures bound { self.entry.number + result ≤ 300001 }
+    {
+        let mut words = self;
+        'count: while let Some((_, behind)) = words.next() {
+            words = behind;
+        }
+        words.number - self.number
     }
 
     // What is left behind a part of `len` bytes, with the number of the next word.

@@ -1,8 +1,17 @@
 //! Lines to commands: the words of a line, the options of a verb, and the command that they come to, by
-//! POSIX option syntax (XBD, chapter 12).
+//! the syntax of geli(8), which is POSIX option syntax (XBD, 12.2).
 #![tactic(auto)]
 
+mod commands;
 mod cursor;
+mod kinds;
+mod lines;
+mod numbers;
+mod pass;
+mod settings;
 mod spans;
+mod table;
 
-pub use spans::{Sep, Span};
+pub use commands::{Command, Usage};
+pub use lines::read_line;
+pub use spans::{KeyWords, Sep, Span, SpanList};

@@ -1,3 +1,7 @@
+ghost use Rattle.std.specs.Prelude.{◌≡◌, ◌<◌, ◌≤◌, [], ◌∷◌, ◌++◌, length};
+
+use std::marker::Model;
+
 /// What stands between the words of a line.
 #[derive(Clone, Copy, Debug, PartialEq, Eq)]
 pub enum Sep {
@@ -16,4 +20,73 @@ pub struct Span {
     pub end: u32,
     /// The number of the word in which the value stands, from 0.
     pub word: u32,
+}
+
+/// The files of one option, in the order in which they were named: a list of at most 16 spans.
+#[derive(Debug, Drop)]
+pub struct SpanList {
+    spans: [Span; 16],
+    count: usize,
+}
+
+impl Model for SpanList {
+    ghost use Rattle.std.specs.Prelude.{◌≤◌, List, take};
+    ghost use Rattle.command_words.specs.declared.spans.Span.{Span};
+
+    ghost Value = { List Span };
+
+    ghost view = { λ list. take list.count list.spans };
+
+    ghost invariant = { λ list. list.count ≤ 16 };
+}
+
+impl SpanList {
+    /// The list without a span.
+    pub fn new() -> SpanList
+        ensures { result ≡ [] }
+    {
+        let none = Span {
+            start: 0,
+            end: 0,
+            word: 0,
+        };
+        SpanList {
+            spans: [none; 16],
+            count: 0,
+        }
+    }
+
+    /// The number of spans.
+    pub fn len(&self) -> usize
+        ensures { result ≡ length self.now }
+    {
+        self.as_slice().len()
+    }
+
+    /// The spans in order.
+    pub fn as_slice(&self) -> &[Span]
+        ensures { result.now ≡ self.now }
+    {
+        &self.spans[..self.count]
+    }
+
+    /// Adds a span at the end.
+    pub fn push(&mut self, span: Span)
+        requires { length self.old < 16 }
+        ensures { self.new ≡ self.old ++ span ∷ [] }
+    {
+        self.spans[self.count] = span;
+        self.count += 1;
+    }
+}
+
+/// The words of one key: its key files, its passphrase files, and whether it goes without a passphrase.
+#[derive(Debug, Drop)]
+pub struct KeyWords {
+    /// `-k` or `-K`.
+    pub files: SpanList,
+    /// `-j` or `-J`.
+    pub pass: SpanList,
+    /// `-p` or `-P`.
+    pub without: bool,
 }

@@ -1,0 +1,75 @@
+use Rattle.std.specs.Prelude.{ℕ, ◌+◌, ℤ, pos, List, [], ◌∷◌, ◌++◌, length, map, Bool, true, false, not, ◌||◌, ◌==◌, if◌then◌else◌, Option, None, Some, unwrap_or, option_and_then, option_map, codes}
+use Rattle.std.specs.Option.{option_map_or}
+use Rattle.std.specs.List.{list_any}
+use Rattle.std.specs.Str.{bytes_eq}
+use Rattle.eli_base.specs.declared.Auth.{Auth}
+use Rattle.eli_base.specs.declared.Auth.TheVariants.{Off, Sha256}
+use Rattle.eli_base.specs.declared.Cipher.{Cipher}
+use Rattle.eli_base.specs.declared.Cipher.TheVariants.{AesXts}
+use Rattle.command_words.specs.declared.spans.Span.{Span}
+use Rattle.command_words.specs.declared.spans.KeyWords.{KeyWords}
+use Rattle.command_words.specs.declared.settings.Settings.{Settings}
+use Rattle.command_words.specs.declared.table.Switch.{Switch}
+use Rattle.command_words.specs.declared.table.Switch.TheVariants.{WithoutOld, WithoutFresh, FixedSize, OnlyCheck, ReadOnly, Verbose}
+use Rattle.command_words.specs.declared.table.Valued.{Valued}
+use Rattle.command_words.specs.declared.table.Valued.TheVariants.{AuthName, CipherName, Iterations, KeyLength, SectorSize, Slot, Backup, OldFile, OldPass, FreshFile, FreshPass}
+use Rattle.command_words.specs.Words.{Word}
+use Rattle.command_words.specs.Values.{decimal, cipher_named}
+use Rattle.command_words.specs.Options.{Item, Set, Given, Unknown, Missing, values}
+
+-- The bytes of a value in the line.
+abbrev pub span_of : Word → Span
+span_of word = record { start = word.start; end = word.start + length word.bytes; word = word.number }
+
+-- Of an option with one value the last one counts.
+abbrev pub last : List Word → Option Word
+last [] = None
+last (word ∷ []) = Some word
+last (word ∷ next ∷ words) = last (next ∷ words)
+
+abbrev pub last_value : Valued → List Item → Option Word
+last_value option items = last (values option items)
+
+-- The number of an option without a value, which tells them apart.
+abbrev pub switch_place : Switch → ℕ
+switch_place WithoutOld = 0
+switch_place WithoutFresh = 1
+switch_place FixedSize = 2
+switch_place OnlyCheck = 3
+switch_place ReadOnly = 4
+switch_place Verbose = 5
+
+abbrev pub sets : Switch → Item → Bool
+sets switch (Set given) = switch_place switch == switch_place given
+sets switch (Given option word) = false
+sets switch (Unknown number) = false
+sets switch (Missing number) = false
+
+-- Whether an option without a value was given.
+abbrev pub is_set : Switch → List Item → Bool
+is_set switch items = list_any (sets switch) items
+
+-- The file of a backup; `none` names no file.
+abbrev pub backup_of : Word → Option Span
+backup_of word = if bytes_eq word.bytes (codes "none") then None else Some (span_of word)
+
+-- The files of an option.
+abbrev pub files_of : Valued → List Item → List Span
+files_of option items = map span_of (values option items)
+
+-- What options without a fault come to.
+abbrev pub settings_of : List Item → Settings
+settings_of items = record {
+  auth = option_map_or (λ word. Sha256) (last_value AuthName items) Off;
+  cipher = unwrap_or (option_and_then (λ word. cipher_named word.bytes) (last_value CipherName items)) AesXts;
+  iterations = option_map (λ word. pos (decimal word.bytes)) (last_value Iterations items);
+  keylen = option_map_or (λ word. decimal word.bytes) (last_value KeyLength items) 128;
+  sectorsize = option_map_or (λ word. decimal word.bytes) (last_value SectorSize items) 512;
+  slot = option_map (λ word. decimal word.bytes) (last_value Slot items);
+  backup = option_and_then backup_of (last_value Backup items);
+  autoresize = not (is_set FixedSize items);
+  only_check = is_set OnlyCheck items;
+  readonly = is_set ReadOnly items;
+  old_key = record { files = files_of OldFile items; pass = files_of OldPass items; without = is_set WithoutOld items };
+  fresh_key = record { files = files_of FreshFile items; pass = files_of FreshPass items; without = is_set WithoutFresh items };
+}

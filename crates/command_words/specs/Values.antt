@@ -1,0 +1,63 @@
+use Rattle.std.specs.Prelude.{ℕ, ◌+◌, ◌-◌, ◌*◌, ◌^◌, List, [], ◌∷◌, length, Bool, ◌&&◌, ◌==◌, nat_le, if◌then◌else◌, Option, None, Some, is_some, codes}
+use Rattle.std.specs.List.{list_all}
+use Rattle.std.specs.Char.{is_ascii_digit}
+use Rattle.std.specs.Str.{bytes_eq, str_eq_ignore_ascii_case}
+use Rattle.eli_base.specs.declared.Auth.{Auth}
+use Rattle.eli_base.specs.declared.Auth.TheVariants.{Sha256}
+use Rattle.eli_base.specs.declared.Cipher.{Cipher}
+use Rattle.eli_base.specs.declared.Cipher.TheVariants.{AesCbc, AesXts}
+use Rattle.eli_base.specs.declared.Reason.{Reason}
+use Rattle.eli_base.specs.declared.Reason.TheVariants.{BadNumber, BadName, DashFile, TooManyFiles}
+use Rattle.command_words.specs.declared.table.Valued.{Valued}
+use Rattle.command_words.specs.declared.table.Valued.TheVariants.{AuthName, CipherName, Iterations, KeyLength, SectorSize, Slot, Backup, OldFile, OldPass, FreshFile, FreshPass}
+
+-- The value of decimal digits: each counts the power of ten of its place.
+abbrev pub decimal : List ℕ → ℕ
+decimal [] = 0
+decimal (digit ∷ digits) = (digit - 48) * 10 ^ length digits + decimal digits
+
+-- Whether the bytes are one to twenty decimal digits.
+abbrev pub is_numeral : List ℕ → Bool
+is_numeral bytes = nat_le 1 (length bytes) && nat_le (length bytes) 20 && list_all is_ascii_digit bytes
+
+-- A number: one to twenty decimal digits whose value lies within its bounds.
+abbrev pub number_within : ℕ → ℕ → List ℕ → Option ℕ
+number_within low high bytes =
+    if is_numeral bytes && nat_le low (decimal bytes) && nat_le (decimal bytes) high then Some (decimal bytes) else None
+
+-- The authentication of a name, in any case of ASCII letters.
+abbrev pub auth_named : List ℕ → Option Auth
+auth_named name = if str_eq_ignore_ascii_case name (codes "HMAC/SHA256") then Some Sha256 else None
+
+-- The cipher of a name, in any case of ASCII letters.
+abbrev pub cipher_named : List ℕ → Option Cipher
+cipher_named name =
+    if str_eq_ignore_ascii_case name (codes "AES-XTS") then Some AesXts
+    else (if str_eq_ignore_ascii_case name (codes "AES-CBC") then Some AesCbc else None)
+
+-- The fault of a value that must be there.
+abbrev pub unless : Bool → Reason → Option Reason
+unless good reason = if good then None else Some reason
+
+-- The fault of a file that is named once.
+abbrev pub file_fault : List ℕ → Option Reason
+file_fault bytes = if bytes_eq bytes (codes "-") then Some DashFile else None
+
+-- The fault of one more file, behind so many of the same option.
+abbrev pub files_fault : ℕ → List ℕ → Option Reason
+files_fault before bytes =
+    if bytes_eq bytes (codes "-") then Some DashFile else (if nat_le 16 before then Some TooManyFiles else None)
+
+-- What is wrong with the value of an option, of which so many came before.
+abbrev pub value_fault : Valued → ℕ → List ℕ → Option Reason
+value_fault AuthName before bytes = unless (is_some (auth_named bytes)) BadName
+value_fault CipherName before bytes = unless (is_some (cipher_named bytes)) BadName
+value_fault Iterations before bytes = unless (is_some (number_within 0 2147483647 bytes)) BadNumber
+value_fault KeyLength before bytes = unless (is_some (number_within 0 65535 bytes)) BadNumber
+value_fault SectorSize before bytes = unless (is_some (number_within 0 4294967295 bytes)) BadNumber
+value_fault Slot before bytes = unless (is_some (number_within 0 255 bytes)) BadNumber
+value_fault Backup before bytes = file_fault bytes
+value_fault OldFile before bytes = files_fault before bytes
+value_fault OldPass before bytes = files_fault before bytes
+value_fault FreshFile before bytes = files_fault before bytes
+value_fault FreshPass before bytes = files_fault before bytes

@@ -1,0 +1,81 @@
+ghost use Rattle.std.specs.Prelude.{◌≡◌, ◌≤◌, ◌<◌, ◌+◌, ◌*◌, ◌^◌, MatchOption, IfSome};
+ghost use Rattle.std.specs.Char.{is_ascii_digit};
+ghost use Rattle.std.specs.List.{list_all};
+ghost use Rattle.std.specs.Option.{SomeIff};
+ghost use Rattle.command_words.specs.Values.{decimal, is_numeral, number_within, auth_named, cipher_named};
+
+use eli_base::{Auth, Cipher};
+
+// Ten times the value and a digit.
+fn with_digit(value: u64, digit: u64) -> Option<u64>
+    ensures { SomeIff result (value * 10 + digit < 2 ^ 64) (value * 10 + digit) }
+{
+    value.checked_mul(10)?.checked_add(digit)
+}
+
+// The value of decimal digits, where it is below 2^64.
+#[tactic(auto, using(crate::proofs::NumberLaws::decimal_last))]
+fn digits_value(digits: &[u8]) -> Option<u64>
+    ensures { MatchOption result (2 ^ 64 ≤ decimal digits.now) (λ value. value ≡ decimal digits.now) }
+{
+    if digits.is_empty() {
+        return Some(0);
+    }
+    let last = digits.len() - 1;
+    let digit = u64::from(digits[last].saturating_sub(b'0'));
+    match digits_value(&digits[..last]) {
+        Some(value) => with_digit(value, digit),
+        None => None,
+    }
+}
+
+fn all_digits(bytes: &[u8]) -> bool
+    ensures { result ≡ list_all is_ascii_digit bytes.now }
+{
+    bytes.iter().all(|byte| byte.is_ascii_digit())
+}
+
+// Whether the bytes are one to twenty decimal digits.
+fn is_digits(bytes: &[u8]) -> bool
+    ensures { result ≡ is_numeral bytes.now }
+{
+    !bytes.is_empty() && bytes.len() <= 20 && all_digits(bytes)
+}
+
+/// The number that the bytes spell, where they are one to twenty decimal digits and it lies within
+/// the bounds.
+pub fn number(bytes: &[u8], low: u64, high: u64) -> Option<u64>
+    ensures number { result ≡ number_within low high bytes.now }
+    ensures within { IfSome result (λ value. value ≤ high) }
+{
+    if !is_digits(bytes) {
+        return None;
+    }
+    match digits_value(bytes) {
+        Some(value) if low <= value && value <= high => Some(value),
+        _ => None,
+    }
+}
+
+/// The authentication of this name, in any case of letters.
+pub fn auth(name: &[u8]) -> Option<Auth>
+    ensures { result ≡ auth_named name.now }
+{
+    if name.eq_ignore_ascii_case(b"HMAC/SHA256") {
+        return Some(Auth::Sha256);
+    }
+    None
+}
+
+/// The cipher of this name, in any case of letters.
+pub fn cipher(name: &[u8]) -> Option<Cipher>
+    ensures { result ≡ cipher_named name.now }
+{
+    if name.eq_ignore_ascii_case(b"AES-XTS") {
+        return Some(Cipher::AesXts);
+    }
+    if name.eq_ignore_ascii_case(b"AES-CBC") {
+        return Some(Cipher::AesCbc);
+    }
+    None
+}

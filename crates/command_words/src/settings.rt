@@ -1,0 +1,154 @@
+ghost use Rattle.std.specs.Prelude.{◌≡◌, [], ◌++◌, ◌∷◌, length, false, MatchResult};
+ghost use Rattle.command_words.specs.Values.{value_fault, files_fault, file_fault, number_within};
+ghost use Rattle.command_words.specs.Cursor.{seen};
+ghost use Rattle.command_words.specs.Settings.{span_of, backup_of};
+
+use crate::cursor::Piece;
+use crate::numbers;
+use crate::spans::{KeyWords, Span, SpanList};
+use crate::table::{Switch, Valued};
+use eli_base::{Auth, Cipher, Reason};
+
+/// What the options of a line say.
+#[derive(Drop)]
+pub struct Settings {
+    pub auth: Auth,
+    pub cipher: Cipher,
+    pub iterations: Option<i32>,
+    pub keylen: u16,
+    pub sectorsize: u32,
+    pub slot: Option<u8>,
+    pub backup: Option<Span>,
+    pub autoresize: bool,
+    pub only_check: bool,
+    pub readonly: bool,
+    pub old_key: KeyWords,
+    pub fresh_key: KeyWords,
+}
+
+impl Piece<'_> {
+    /// The places of the bytes.
+    pub fn span(self) -> Span
+        ensures { result ≡ span_of (seen self.entry) }
+    {
+        Span {
+            start: self.start,
+            end: self.start + self.bytes.len() as u32,
+            word: self.number,
+        }
+    }
+}
+
+fn number(value: Piece, high: u64) -> Result<u64, Reason>
+    ensures { MatchResult result
+        (λ number. number_within 0 high value.entry.bytes.now ≡ Some number)
+        (λ reason. (number_within 0 high value.entry.bytes.now ≡ None) × (reason ≡ Reason.BadNumber)) }
+{
+    numbers::number(value.bytes, 0, high).ok_or(Reason::BadNumber)
+}
+
+fn backup(value: Piece) -> Result<Option<Span>, Reason>
+    ensures { MatchResult result
+        (λ file. (file_fault value.entry.bytes.now ≡ None) × (file ≡ backup_of (seen value.entry)))
+        (λ reason. file_fault value.entry.bytes.now ≡ Some reason) }
+{
+    if value.bytes == b"-".as_slice() {
+        return Err(Reason::DashFile);
+    }
+    if value.bytes == b"none".as_slice() {
+        return Ok(None);
+    }
+    Ok(Some(value.span()))
+}
+
+fn add_file(files: &mut SpanList, value: Piece) -> Result<(), Reason>
+    ensures { MatchResult result
+        (λ _. (files_fault (length files.old) value.entry.bytes.now ≡ None) × (files.new ≡ files.old ++ span_of (seen value.entry) ∷ []))
+        (λ reason. (files_fault (length files.old) value.entry.bytes.now ≡ Some reason) × (files.new ≡ files.old)) }
+{
+    if value.bytes == b"-".as_slice() {
+        return Err(Reason::DashFile);
+    }
+    if files.len() >= 16 {
+        return Err(Reason::TooManyFiles);
+    }
+    files.push(value.span());
+    Ok(())
+}
+
+impl KeyWords {
+    fn new() -> KeyWords
+        ensures files { result.files ≡ [] }
+        ensures pass { result.pass ≡ [] }
+        ensures without { result.without ≡ false }
+    {
+        KeyWords {
+            files: SpanList::new(),
+            pass: SpanList::new(),
+            without: false,
+        }
+    }
+}
+
+impl Settings {
+    ghost use Rattle.command_words.specs.Settings.{settings_of};
+    ghost use Rattle.command_words.specs.Pass.{files_so_far, with_value, with_switch};
+
+    /// What no option says.
+    pub fn new() -> Settings
+        ensures { result ≡ settings_of [] }
+    {
+        Settings {
+            auth: Auth::Off,
+            cipher: Cipher::AesXts,
+            iterations: None,
+            keylen: 128,
+            sectorsize: 512,
+            slot: None,
+            backup: None,
+            autoresize: true,
+            only_check: false,
+            readonly: false,
+            old_key: KeyWords::new(),
+            fresh_key: KeyWords::new(),
+        }
+    }
+
+    /// Takes an option without a value.
+    pub fn set(&mut self, switch: Switch)
+        ensures { self.new ≡ with_switch self.old switch }
+    {
+        match switch {
+            Switch::WithoutOld => self.old_key.without = true,
+            Switch::WithoutFresh => self.fresh_key.without = true,
+            Switch::FixedSize => self.autoresize = false,
+            Switch::OnlyCheck => self.only_check = true,
+            Switch::ReadOnly => self.readonly = true,
+            Switch::Verbose => {}
+        }
+    }
+
+    /// Takes an option with its value, or says what is wrong with the value.
+    pub fn put(&mut self, option: Valued, value: Piece) -> Result<(), Reason>
+        ensures { MatchResult result
+            (λ _. (value_fault option (length (files_so_far self.old option)) value.entry.bytes.now ≡ None) × (self.new ≡ with_value self.old option (seen value.entry)))
+            (λ reason. value_fault option (length (files_so_far self.old option)) value.entry.bytes.now ≡ Some reason) }
+    {
+        match option {
+            Valued::AuthName => self.auth = numbers::auth(value.bytes).ok_or(Reason::BadName)?,
+            Valued::CipherName => self.cipher = numbers::cipher(value.bytes).ok_or(
+                Reason::BadName,
+            )?,
+            Valued::Iterations => self.iterations = Some(number(value, 2_147_483_647)? as i32),
+            Valued::KeyLength => self.keylen = number(value, 65_535)? as u16,
+            Valued::SectorSize => self.sectorsize = number(value, 4_294_967_295)? as u32,
+            Valued::Slot => self.slot = Some(number(value, 255)? as u8),
+            Valued::Backup => self.backup = backup(value)?,
+            Valued::OldFile => add_file(&mut self.old_key.files, value)?,
+            Valued::OldPass => add_file(&mut self.old_key.pass, value)?,
+            Valued::FreshFile => add_file(&mut self.fresh_key.files, value)?,
+            Valued::FreshPass => add_file(&mut self.fresh_key.pass, value)?,
+        }
+        Ok(())
+    }
+}

@@ -1,3 +1,4 @@
 mod NumberLaws
 mod OptionsLaws
+mod PlacesLaws
 mod WordsLaws

@@ -6,3 +6,4 @@ pub mod Options
 pub mod Settings
 pub mod Reading
 pub mod Pass
+pub mod Places

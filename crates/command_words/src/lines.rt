@@ -1,6 +1,7 @@
-ghost use Rattle.std.specs.Prelude.{◌≡◌, ◌+◌, ◌≤◌, length};
+ghost use Rattle.std.specs.Prelude.{◌≡◌, ◌+◌, ◌≤◌, length, IfOk, IfSome};
 ghost use Rattle.std.specs.Str.{is_utf8};
 ghost use Rattle.command_words.specs.Cursor.{left};
+ghost use Rattle.command_words.specs.Places.{CommandIsWithin};
 ghost use Rattle.command_words.specs.Reading.{reading, by_verb, is_comment, complaint, command_at, is_torn, lacks_option, excludes};
 
 use crate::commands::{Command, Usage};
@@ -122,9 +123,8 @@ fn is_text(line: &[u8]) -> bool
     }
 }
 
-/// Reads one line of at most 300,000 bytes: no command where the line has no word or, between blanks,
-/// is a comment; else a command, or what is wrong.
-pub fn read_line(line: &[u8], sep: Sep) -> Result<Option<Command>, Usage>
+// What a line says.
+fn read(line: &[u8], sep: Sep) -> Result<Option<Command>, Usage>
     requires { length line.now ≤ 300000 }
     ensures { result ≡ reading sep line.now }
 {
@@ -148,4 +148,16 @@ pub fn read_line(line: &[u8], sep: Sep) -> Result<Option<Command>, Usage>
     };
     let command = read_command(verb, words)?;
     Ok(Some(command))
+}
+
+/// Reads one line of at most 300,000 bytes: no command where the line has no word or, between blanks,
+/// is a comment; else a command, or what is wrong.
+pub fn read_line(line: &[u8], sep: Sep) -> Result<Option<Command>, Usage>
+    requires { length line.now ≤ 300000 }
+    ensures reading { result ≡ reading sep line.now }
+
+    // The places of a command lie in the line.
+    ensures places { IfOk result (λ read. IfSome read (CommandIsWithin (length line.now))) }
+{
+    read(line, sep)
 }

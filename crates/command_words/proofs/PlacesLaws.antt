@@ -1,0 +1,253 @@
+-- Words, values and spans stand in the line.
+use Rattle.std.proofs.Common.{◌≡◌, ℕ, suc, ◌+◌, ◌-◌, ◌<◌, ◌≤◌, List, [], ◌∷◌, ◌++◌, length, take, drop, map, refl, sym, ◌∙◌, ap, subst, arith, Bool, true, false, cond, Option, None, Some, Result, Ok, Err, IfOk, IfSome, ◌==◌, length-drop, slice_index_or}
+use Rattle.std.proofs.lemmas.List.{drop-drop}
+use Rattle.std.proofs.lemmas.List.Elements.{All-from_recursion}
+use Rattle.std.specs.Prelude.{All, codes, option_and_then}
+use Rattle.std.specs.List.{slice_split, onto_first, AllByRecursion, flat_map}
+use Rattle.std.specs.Str.{bytes_eq, is_utf8}
+use Rattle.eli_base.specs.declared.Reason.{Reason}
+use Rattle.command_words.specs.declared.commands.Command.{Command}
+use Rattle.command_words.specs.declared.commands.Usage.{Usage}
+use Rattle.command_words.specs.declared.settings.Settings.{Settings}
+use Rattle.command_words.specs.declared.spans.Sep.{Sep}
+use Rattle.command_words.specs.declared.spans.Span.{Span}
+use Rattle.command_words.specs.declared.spans.KeyWords.{KeyWords}
+use Rattle.command_words.specs.declared.table.Verb.{Verb}
+use Rattle.command_words.specs.declared.table.Verb.TheVariants.{Dump, Init, Attach}
+use Rattle.command_words.specs.declared.table.Valued.{Valued}
+use Rattle.command_words.specs.declared.table.Valued.TheVariants.{Backup, OldFile, OldPass, FreshFile, FreshPass}
+use Rattle.command_words.specs.declared.table.Letter.{Letter}
+use Rattle.command_words.specs.declared.table.Letter.TheVariants.{Alone, WithValue}
+use Rattle.command_words.specs.Words.{Word, words, placed, is_between, is_word}
+use Rattle.command_words.specs.Table.{letter_of, verb_named}
+use Rattle.command_words.specs.Options.{Item, Set, Given, Unknown, Missing, Group, letters, with_letter, Kind, Ends, Letters, Operand, kind_of, Options, options, onto, with_word, values, value_in, place, first_fault}
+use Rattle.command_words.specs.Settings.{settings_of, span_of, last, last_value, files_of, backup_of}
+use Rattle.command_words.specs.Reading.{reading, by_words, by_verb, by_options, unless_fault, settled, or_complaint, complaint, command_of, command_at, operand, is_comment, some_command}
+use Rattle.command_words.specs.Places.{IsWithin, KeyIsWithin, CommandIsWithin}
+
+-- a word stands in the line
+abbrev pub Stands : List ℕ → Word → Type 0
+Stands line word = (word.start + length word.bytes ≤ length line) × (take (length word.bytes) (drop word.start line) ≡ word.bytes)
+
+-- the parts of a line from there on
+abbrev Parts : List ℕ → ℕ → List (List ℕ) → Type 0
+Parts line start [] = Unit {0}
+Parts line start (part ∷ parts) =
+    (start + length part ≤ length line) × (take (length part) (drop start line) ≡ part) × Parts line (start + length part + 1) parts
+
+-- one byte on
+drop_one : (line : List ℕ) (start x : ℕ) (xs : List ℕ) → drop start line ≡ x ∷ xs → drop (start + 1) line ≡ xs
+drop_one line start x xs e = sym (drop-drop 1 start line) ∙ ap (λ rest. drop 1 rest) e
+
+below_end : (line : List ℕ) (start x : ℕ) (xs : List ℕ) → drop start line ≡ x ∷ xs → start + 1 ≤ length line
+below_end line start x xs e = omega (arith, length-drop start line, ap length e)
+
+parts_more : (line : List ℕ) (start x : ℕ) (xs : List ℕ) (b : Bool) (parts : List (List ℕ))
+    → drop start line ≡ x ∷ xs → Parts line (start + 1) parts → Parts line start (cond b ([] ∷ parts) (onto_first x parts))
+parts_more line start x xs true parts e h =
+    let l : start + 1 ≤ length line = below_end line start x xs e in
+    let same : start + 1 ≡ start + 0 + 1 = omega arith in
+    (omega arith, refl, subst (λ (n : ℕ). Parts line n parts) same h)
+parts_more line start x xs false [] e h = (below_end line start x xs e, rw e, tt)
+parts_more line start x xs false (part ∷ parts) e h =
+    let rest : take (length part) xs ≡ part = rw (drop_one line start x xs e) at h.1 in
+    let same : start + 1 + length part + 1 ≡ start + suc (length part) + 1 = omega arith in
+    (omega (arith, h.0), rw e (ap (λ bytes. x ∷ bytes) rest), subst (λ (n : ℕ). Parts line n parts) same h.2)
+
+parts_stand : (p : ℕ → Bool) (rest line : List ℕ) (start : ℕ) → drop start line ≡ rest → start ≤ length line → Parts line start (slice_split p rest)
+parts_stand p [] line start e h = (omega arith, refl, tt)
+parts_stand p (x ∷ xs) line start e h =
+    parts_more line start x xs (p x) (slice_split p xs) e (parts_stand p xs line (start + 1) (drop_one line start x xs e) (below_end line start x xs e))
+
+-- the words of a line
+
+abbrev AllStand : List ℕ → List Word → Type 0
+AllStand line words = AllByRecursion (Stands line) words
+
+placed_part : (line : List ℕ) (start : ℕ) (part : List ℕ) (number : ℕ) (b : Bool) (counted skipped : List Word)
+    → Stands line (record { number = number; start = start; bytes = part }) → AllStand line counted → AllStand line skipped
+    → AllStand line (cond b (record { number = number; start = start; bytes = part } ∷ counted) skipped)
+placed_part line start part number true counted skipped h hs gs = (h, hs)
+placed_part line start part number false counted skipped h hs gs = gs
+
+placed_stand : (line : List ℕ) (sep : Sep) (number start : ℕ) (parts : List (List ℕ)) → Parts line start parts → AllStand line (placed sep number start parts)
+placed_stand line sep number start [] h = tt
+placed_stand line sep number start (part ∷ parts) h =
+    placed_part line start part number (is_word sep part) _ _ (h.0, h.1)
+    (placed_stand line sep (number + 1) (start + length part + 1) parts h.2)
+    (placed_stand line sep number (start + length part + 1) parts h.2)
+
+words_stand : (sep : Sep) (line : List ℕ) → AllStand line (words sep line)
+words_stand sep [] = tt
+words_stand sep (b ∷ bs) = placed_stand (b ∷ bs) sep 0 0 _ (parts_stand (is_between sep) (b ∷ bs) (b ∷ bs) 0 refl (omega arith))
+
+-- the values of options and the operands
+
+abbrev ItemStands : List ℕ → Item → Type 0
+ItemStands line (Set switch) = Unit {0}
+ItemStands line (Given option word) = Stands line word
+ItemStands line (Unknown number) = Unit {0}
+ItemStands line (Missing number) = Unit {0}
+
+abbrev ItemsStand : List ℕ → List Item → Type 0
+ItemsStand line items = AllByRecursion (ItemStands line) items
+
+items_append : (line : List ℕ) (items more : List Item) → ItemsStand line items → ItemsStand line more → ItemsStand line (items ++ more)
+items_append line [] more h g = g
+items_append line (item ∷ items) more h g = (h.0, items_append line items more h.1 g)
+
+-- the bytes behind the first
+tail_of : (line rest : List ℕ) (start b : ℕ) (bs : List ℕ) → drop start line ≡ rest → take (suc (length bs)) rest ≡ b ∷ bs → take (length bs) (drop (start + 1) line) ≡ bs
+tail_of line [] start b bs e h = let no : ⊥ = cc in absurd no
+tail_of line (y ∷ ys) start b bs e h =
+    let same : take (length bs) ys ≡ bs = cc in
+    rw (drop_one line start y ys e) same
+
+tail_stands : (line : List ℕ) (number start b : ℕ) (bs : List ℕ)
+    → Stands line (record { number = number; start = start; bytes = b ∷ bs }) → Stands line (record { number = number; start = start + 1; bytes = bs })
+tail_stands line number start b bs h = (omega (arith, h.0), tail_of line (drop start line) start b bs refl h.1)
+
+letter_stands : (line : List ℕ) (letter : Option Letter) (number start : ℕ) (rest : List ℕ) (group : Group)
+    → Stands line (record { number = number; start = start; bytes = rest }) → ItemsStand line group.items
+    → ItemsStand line (with_letter letter number start rest group).items
+letter_stands line None number start rest group h g = (tt, tt)
+letter_stands line (Some (Alone switch)) number start rest group h g = (tt, g)
+letter_stands line (Some (WithValue option)) number start [] group h g = tt
+letter_stands line (Some (WithValue option)) number start (b ∷ bs) group h g = (h, tt)
+
+letters_stand : (line : List ℕ) (verb : Verb) (number start : ℕ) (bytes : List ℕ)
+    → Stands line (record { number = number; start = start; bytes = bytes }) → ItemsStand line (letters verb number start bytes).items
+letters_stand line verb number start [] h = tt
+letters_stand line verb number start (b ∷ bs) h =
+    let behind : Stands line (record { number = number; start = start + 1; bytes = bs }) = tail_stands line number start b bs h in
+    letter_stands line (letter_of verb b) number (start + 1) bs _ behind (letters_stand line verb number (start + 1) bs behind)
+
+-- the letters of a word stand behind its dash
+abbrev KindStands : List ℕ → ℕ → ℕ → Kind → Type 0
+KindStands line number start Ends = Unit {0}
+KindStands line number start (Letters bytes) = Stands line (record { number = number; start = start; bytes = bytes })
+KindStands line number start Operand = Unit {0}
+
+kind_choice : (line : List ℕ) (number start : ℕ) (bytes : List ℕ) (dash ends : Bool)
+    → Stands line (record { number = number; start = start; bytes = bytes }) → KindStands line number start (cond dash (cond ends Ends (Letters bytes)) Operand)
+kind_choice line number start bytes true true h = tt
+kind_choice line number start bytes true false h = h
+kind_choice line number start bytes false ends h = tt
+
+kind_stands : (line : List ℕ) (number start : ℕ) (bytes : List ℕ)
+    → Stands line (record { number = number; start = start; bytes = bytes }) → KindStands line number (start + 1) (kind_of bytes)
+kind_stands line number start [] h = tt
+kind_stands line number start (b ∷ []) h = tt
+kind_stands line number start (b ∷ c ∷ bs) h = kind_choice line number (start + 1) (c ∷ bs) (b == 45) _ (tail_stands line number start b (c ∷ bs) h)
+
+record OptionsStand (line : List ℕ) (read : Options) : Type 0 where
+  items : ItemsStand line read.items
+  operands : AllStand line read.operands
+
+onto_stands : (line : List ℕ) (items : List Item) (read : Options) → ItemsStand line items → OptionsStand line read → OptionsStand line (onto items read)
+onto_stands line items read h g = record { items = items_append line items read.items h g.items; operands = g.operands }
+
+word_stands : (line : List ℕ) (kind : Kind) (verb : Verb) (word : Word) (behind : List Word) (rest : Option Valued → Options)
+    → KindStands line word.number (word.start + 1) kind → Stands line word → AllStand line behind → ((waiting : Option Valued) → OptionsStand line (rest waiting))
+    → OptionsStand line (with_word kind verb word behind rest)
+word_stands line Ends verb word behind rest k h hs then = record { items = tt; operands = hs }
+word_stands line (Letters bytes) verb word behind rest k h hs then = onto_stands line _ _ (letters_stand line verb word.number (word.start + 1) bytes k) (then _)
+word_stands line Operand verb word behind rest k h hs then = record { items = tt; operands = (h, hs) }
+
+options_stand : (line : List ℕ) (verb : Verb) (total : ℕ) (words : List Word) (waiting : Option Valued) → AllStand line words → OptionsStand line (options verb total words waiting)
+options_stand line verb total [] None h = record { items = tt; operands = tt }
+options_stand line verb total [] (Some option) h = record { items = (tt, tt); operands = tt }
+options_stand line verb total (word ∷ behind) (Some option) h =
+    onto_stands line (Given option word ∷ []) _ (h.0, tt) (options_stand line verb total behind None h.1)
+options_stand line verb total (word ∷ behind) None h =
+    word_stands line (kind_of word.bytes) verb word behind _ (kind_stands line word.number word.start word.bytes h.0) h.0 h.1
+    (λ waiting. options_stand line verb total behind waiting h.1)
+
+-- the spans of a command
+
+stand_append : (line : List ℕ) (words more : List Word) → AllStand line words → AllStand line more → AllStand line (words ++ more)
+stand_append line [] more h g = g
+stand_append line (word ∷ words) more h g = (h.0, stand_append line words more h.1 g)
+
+value_choice : (line : List ℕ) (b : Bool) (word : Word) → Stands line word → AllStand line (cond b (word ∷ []) [])
+value_choice line true word h = (h, tt)
+value_choice line false word h = tt
+
+value_stands : (line : List ℕ) (option : Valued) (item : Item) → ItemStands line item → AllStand line (value_in option item)
+value_stands line option (Set switch) h = tt
+value_stands line option (Given given word) h = value_choice line (place option == place given) word h
+value_stands line option (Unknown number) h = tt
+value_stands line option (Missing number) h = tt
+
+values_stand : (line : List ℕ) (option : Valued) (items : List Item) → ItemsStand line items → AllStand line (values option items)
+values_stand line option [] h = tt
+values_stand line option (item ∷ items) h = stand_append line _ _ (value_stands line option item h.0) (values_stand line option items h.1)
+
+span_within : (line : List ℕ) (word : Word) → Stands line word → IsWithin (length line) (span_of word)
+span_within line word h = (omega arith, h.0)
+
+spans_within : (line : List ℕ) (words : List Word) → AllStand line words → AllByRecursion (IsWithin (length line)) (map span_of words)
+spans_within line [] h = tt
+spans_within line (word ∷ words) h = (span_within line word h.0, spans_within line words h.1)
+
+files_within : (line : List ℕ) (option : Valued) (items : List Item) → ItemsStand line items → All (IsWithin (length line)) (files_of option items)
+files_within line option items h = All-from_recursion _ _ (spans_within line (values option items) (values_stand line option items h))
+
+backup_choice : (line : List ℕ) (b : Bool) (word : Word) → Stands line word → IfSome (cond b None (Some (span_of word))) (IsWithin (length line))
+backup_choice line true word h = tt
+backup_choice line false word h = span_within line word h
+
+backup_within : (line : List ℕ) (words : List Word) → AllStand line words → IfSome (option_and_then backup_of (last words)) (IsWithin (length line))
+backup_within line [] h = tt
+backup_within line (word ∷ []) h = backup_choice line (bytes_eq word.bytes (codes "none")) word h.0
+backup_within line (word ∷ next ∷ words) h = backup_within line (next ∷ words) h.1
+
+operand_within : (line : List ℕ) (operands : List Word) → AllStand line operands → IsWithin (length line) (operand operands 0)
+operand_within line [] h = (omega arith, omega arith)
+operand_within line (word ∷ words) h = span_within line word h.0
+
+command_within : (line : List ℕ) (verb : Verb) (items : List Item) (operands : List Word) → ItemsStand line items → AllStand line operands → CommandIsWithin (length line) (command_of verb (settings_of items) operands)
+command_within line Dump items operands h g = operand_within line operands g
+command_within line Init items operands h g =
+    (operand_within line operands g, (files_within line FreshFile items h, files_within line FreshPass items h), backup_within line _ (values_stand line Backup items h))
+command_within line Attach items operands h g =
+    (operand_within line operands g, (files_within line OldFile items h, files_within line OldPass items h))
+
+abbrev ResultWithin : List ℕ → Result Command Usage → Type 0
+ResultWithin line result = IfOk result (CommandIsWithin (length line))
+
+complaint_within : (line : List ℕ) (complaint : Option Reason) (total : ℕ) (command : Command) → CommandIsWithin (length line) command → ResultWithin line (or_complaint complaint total command)
+complaint_within line None total command h = h
+complaint_within line (Some reason) total command h = tt
+
+fault_within : (line : List ℕ) (fault : Option Usage) (result : Result Command Usage) → ResultWithin line result → ResultWithin line (unless_fault fault result)
+fault_within line None result h = h
+fault_within line (Some usage) result h = tt
+
+verb_within : (line : List ℕ) (verb : Option Verb) (total : ℕ) (words : List Word) → AllStand line words → ResultWithin line (by_verb verb total words)
+verb_within line None total words h = tt
+verb_within line (Some verb) total words h =
+    let o : Options = options verb total words None in
+    let stand : OptionsStand line o = options_stand line verb total words None h in
+    let settings : Settings = settings_of o.items in
+    fault_within line (first_fault [] o.items) (settled verb total settings o.operands)
+    (complaint_within line (complaint verb settings (length o.operands)) total (command_of verb settings o.operands) (command_within line verb o.items o.operands stand.items stand.operands))
+
+some_within : (line : List ℕ) (result : Result Command Usage) → ResultWithin line result → IfOk (some_command result) (λ read. IfSome read (CommandIsWithin (length line)))
+some_within line (Ok command) h = h
+some_within line (Err usage) h = tt
+
+text_choice : (line : List ℕ) (comment text : Bool) (usage : Usage) (result : Result Command Usage) → ResultWithin line result
+    → IfOk (cond comment (Ok None) (cond text (some_command result) (Err usage))) (λ (read : Option Command). IfSome read (CommandIsWithin (length line)))
+text_choice line true text usage result h = tt
+text_choice line false true usage result h = some_within line result h
+text_choice line false false usage result h = tt
+
+by_words_within : (line : List ℕ) (sep : Sep) (text : Bool) (words : List Word) → AllStand line words → IfOk (by_words sep text words) (λ read. IfSome read (CommandIsWithin (length line)))
+by_words_within line sep text [] h = tt
+by_words_within line sep text (word ∷ behind) h =
+    text_choice line (is_comment sep word.bytes) text _ (by_verb (verb_named word.bytes) (1 + length behind) behind) (verb_within line (verb_named word.bytes) (1 + length behind) behind h.1)
+
+-- The spans of what a line says lie in the line.
+pub reading_within : (sep : Sep) (line : List ℕ) → IfOk (reading sep line) (λ read. IfSome read (CommandIsWithin (length line)))
+reading_within sep line = by_words_within line sep (is_utf8 line) (words sep line) (words_stand sep line)

@@ -1,0 +1,5 @@
+use Rattle.command_words.proofs.PlacesLaws.{reading_within}
+use Rattle.command_words.proofs.lines.read_line.Goals as goal
+
+pub returns-clause-places : goal.returns-clause-places
+returns-clause-places c = rw c.read.ensures (reading_within c.args.sep c.args.line.now)

@@ -1,6 +1,6 @@
 -- Texts printed one after another.
-use Rattle.std.proofs.Common.{◌≡◌, ℕ, ◌+◌, ◌≤◌, ◌<◌, List, [], ◌++◌, length, take, drop, map, get_or, refl, ap, ◌∙◌, sym, append_assoc, arith, length-append, Option, Some, None, Result, Ok, Err, IsErr}
-use Rattle.std.proofs.Math.Seq.{take-add, take-append-add}
+use Rattle.std.proofs.Common.{◌≡◌, ℕ, ◌+◌, ◌<◌, List, [], ◌++◌, length, take, drop, map, get_or, refl, ap, ◌∙◌, sym, append_assoc, arith, length-append, Option, Some, None, Result, Ok, Err, IsErr}
+use Rattle.std.proofs.Math.Seq.{take-append-add}
 use Rattle.std.proofs.lemmas.List.{take-append-le, append-nil, take_more, take-append-drop, map-append}
 use Rattle.std.proofs.lemmas.List.Folds.{concat-append}
 use Rattle.std.proofs.lemmas.Bool.{false≢true}

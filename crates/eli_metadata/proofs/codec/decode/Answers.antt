@@ -1,6 +1,5 @@
-use Rattle.std.proofs.Common.{◌≡◌, ◌++◌, ◌∷◌, [], take, sym, ◌∙◌, true}
+use Rattle.std.proofs.Common.{sym, ◌∙◌}
 use Rattle.std.proofs.lemmas.Slice.Eq.{bytes_eq-Decides}
-use Rattle.eli_metadata.specs.Format.{encoded}
 use Rattle.eli_metadata.proofs.Laws.{encoded-fields}
 use Rattle.eli_metadata.proofs.codec.decode.Goals as goal
 

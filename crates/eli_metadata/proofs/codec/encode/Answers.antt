@@ -1,5 +1,4 @@
-use Rattle.std.proofs.Common.{◌≡◌, length, ◌∙◌}
-use Rattle.eli_metadata.specs.Format.{encoded}
+use Rattle.std.proofs.Common.{◌≡◌, length}
 use Rattle.eli_metadata.proofs.Laws.{encoded-taken, metadata_in-encoded}
 use Rattle.eli_metadata.proofs.codec.encode.Goals as goal
 

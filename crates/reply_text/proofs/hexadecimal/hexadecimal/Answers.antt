@@ -1,5 +1,5 @@
-use Rattle.std.proofs.Common.{◌≡◌, ◌≤◌, ◌/◌, ◌-◌, ◌∙◌, length, arith, lit≤}
-use Rattle.std.proofs.Math.ListN.{set, length-set}
+use Rattle.std.proofs.Common.{◌-◌, ◌∙◌, arith, lit≤}
+use Rattle.std.proofs.Math.ListN.{length-set}
 use Rattle.reply_text.proofs.Digits.{digits-start, digits-last, digits-next, room-next, small-next}
 use Rattle.reply_text.proofs.hexadecimal.hexadecimal.Goals as goal
 

@@ -1,4 +1,4 @@
-use Rattle.std.proofs.Common.{◌+◌, [], List, ℕ}
+use Rattle.std.proofs.Common.{◌+◌, []}
 use Rattle.reply_text.proofs.Printing.{Prints-failed, TookAll-then, TookPart-more, TookPart-then, concat-more, concat-split}
 use Rattle.reply_text.proofs.print.write_pieces.Goals as goal
 

@@ -1,4 +1,4 @@
-use Rattle.std.proofs.Common.{◌-◌, length, drop, arith, length-drop, sym, ap, List, ℕ}
+use Rattle.std.proofs.Common.{◌-◌, length, drop, arith, length-drop}
 use Rattle.std.proofs.Math.Seq.{take-add}
 use Rattle.std.proofs.lemmas.List.{take_all}
 use Rattle.reply_text.proofs.Printing.{TookAll-then}

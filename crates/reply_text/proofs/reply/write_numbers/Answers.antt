@@ -1,4 +1,4 @@
-use Rattle.std.proofs.Common.{◌+◌, List, ℕ}
+use Rattle.std.proofs.Common.{◌+◌}
 use Rattle.std.specs.Fmt.{decimal}
 use Rattle.reply_text.specs.Text.{number_fields, field}
 use Rattle.reply_text.proofs.Printing.{Prints-failed, TookAll-nothing, TookAll-then, TookPart-more, TookPart-then, concat-more, concat-split}

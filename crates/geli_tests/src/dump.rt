@@ -1,0 +1,249 @@
+// `geli dump IMAGE`: each reply, each form of the words, each failing call of the sink.
+use block_traits::{Disk, NoMemory, Sector};
+use crash_disk::{CallKind, FailAt, MemCabinet, MemDisk, MemEntropy, MemSink, MemSource};
+use geli_core::{Drawers, Shelf, Status, geli_main, run};
+use std::alloc::Global;
+use std::test::Fail;
+
+// The first 47 bytes of the metadata: version 7, flags 0x200, AES-XTS, 128 bits, no authentication,
+// 1,048,576 bytes, sectors of 4,096 bytes, slot 0 set, 1,000 iterations.
+const HEAD: [u8; 47] =
+    *b"GEOM::ELI\0\0\0\0\0\0\0\x07\0\0\0\0\x02\0\0\x16\0\x80\0\0\0\0\0\x10\0\0\0\0\0\0\x10\0\0\x01\xe8\x03\0\0";
+
+// The MD5 of these and of a salt and slots of zeros, by python3's hashlib.
+const DIGEST: [u8; 16] = [
+    0x52, 0xeb, 0x10, 0x78, 0xb5, 0x82, 0x36, 0xa5, 0xab, 0x0b, 0x65, 0xf2, 0x43, 0x88, 0x88, 0x71,
+];
+
+const USAGE: &str = "usage: geli script IMAGE... or geli VERB ...\n";
+
+// The metadata's sector.
+fn metadata() -> Sector {
+    let mut sector = [0; 512];
+    sector[..47].copy_from_slice(&HEAD);
+    sector[495..511].copy_from_slice(&DIGEST);
+    sector
+}
+
+// The lines of that metadata.
+fn dump_text(alloc: Global) -> Result<String, NoMemory> {
+    let mut text = String::from_str(
+        alloc,
+        "version: 7\nflags: 0x200\nealgo: 22\nkeylen: 128\naalgo: 0\nprovsize: 1048576\nsectorsize: 4096\nkeys: 0x1\niterations: 1000\nsalt: ",
+    )?;
+    for _ in 0..16 {
+        text.push_str("00000000")?;
+    }
+    text.push_str("\nmkeys: ")?;
+    for _ in 0..96 {
+        text.push_str("00000000")?;
+    }
+    text.push_str("\nok\n")?;
+    Ok(text)
+}
+
+fn words(alloc: Global, texts: &[&str]) -> Result<Vec<String>, NoMemory> {
+    let mut words = Vec::new(alloc);
+    for text in texts {
+        words.push(String::from_str(alloc, text)?)?;
+    }
+    Ok(words)
+}
+
+// Runs over one disk under the name `a.img`.
+fn run_over(
+    alloc: Global,
+    disk: MemDisk,
+    texts: &[&str],
+    output: &mut MemSink,
+) -> Result<Status, NoMemory> {
+    let mut shelf = Drawers::new(alloc)?;
+    if shelf.add("a.img", disk).is_err() {
+        return Err(NoMemory);
+    }
+    Ok(run(&words(alloc, texts)?, output, &mut shelf))
+}
+
+// The image whose last sector this is.
+fn disk_of(alloc: Global, last: &Sector) -> Result<MemDisk, NoMemory> {
+    let mut image = [0; 1024];
+    image[512..].copy_from_slice(last);
+    MemDisk::from_image(alloc, &image, 0)
+}
+
+#[test]
+fn each_last_sector_has_its_reply(rt: HostRuntime) -> Result<(), Fail> {
+    let alloc = rt.alloc();
+    let whole = dump_text(alloc)?;
+    let changes = [
+        (511, 0xff, whole.as_str(), Status::Done),
+        (47, 0x01, "error 7 BadHash\n", Status::SomeRefused),
+        (494, 0x80, "error 7 BadHash\n", Status::SomeRefused),
+        (510, 0x00, "error 7 BadHash\n", Status::SomeRefused),
+        (16, 8, "error 6 BadVersion 8\n", Status::SomeRefused),
+        (19, 1, "error 6 BadVersion 16777223\n", Status::SomeRefused),
+        (0, 0, "error 5 BadMagic\n", Status::SomeRefused),
+        (9, 1, "error 5 BadMagic\n", Status::SomeRefused),
+        (15, 0x80, "error 5 BadMagic\n", Status::SomeRefused),
+    ];
+    for (place, byte, text, status) in changes {
+        let mut last = metadata();
+        if place < last.len() {
+            last[place] = byte;
+        }
+        let mut output = MemSink::new(alloc, &[], &[], 2048)?;
+        let ended = run_over(
+            alloc,
+            disk_of(alloc, &last)?,
+            &["dump", "a.img"],
+            &mut output,
+        )?;
+        assert_eq!(rt; output.bytes(), text.as_bytes());
+        assert_eq!(rt; ended, status);
+    }
+    Ok(())
+}
+
+#[test]
+fn small_images_and_failing_disks_are_refused(rt: HostRuntime) -> Result<(), Fail> {
+    let alloc = rt.alloc();
+    let zeros = [0; 1024];
+    let sizes = [
+        (0, "error 35 TooSmall 0\n"),
+        (511, "error 35 TooSmall 0\n"),
+        (512, "error 35 TooSmall 512\n"),
+        (1023, "error 35 TooSmall 512\n"),
+        (1024, "error 5 BadMagic\n"),
+    ];
+    for (size, text) in sizes {
+        let image = zeros.get(..size).unwrap_or(&[]);
+        let mut output = MemSink::new(alloc, &[], &[], 2048)?;
+        let disk = MemDisk::from_image(alloc, image, 0)?;
+        let ended = run_over(alloc, disk, &["dump", "a.img"], &mut output)?;
+        assert_eq!(rt; output.bytes(), text.as_bytes());
+        assert_eq!(rt; ended, Status::SomeRefused);
+    }
+    let mut disk = disk_of(alloc, &metadata())?;
+    disk.fail_calls(&[FailAt {
+        kind: CallKind::Read,
+        nth: 1,
+        lands: false,
+    }])?;
+    let mut output = MemSink::new(alloc, &[], &[], 2048)?;
+    let ended = run_over(alloc, disk, &["dump", "a.img"], &mut output)?;
+    assert_eq!(rt; output.bytes(), b"error 26 DeviceFault\n".as_slice());
+    assert_eq!(rt; ended.number(), 1);
+    Ok(())
+}
+
+#[test]
+fn each_form_of_the_words_has_its_answer(rt: HostRuntime) -> Result<(), Fail> {
+    let alloc = rt.alloc();
+    let mut long = String::new(alloc);
+    for _ in 0..59_999 {
+        long.push_str("aaaaa")?;
+    }
+    let mut longer = long.clone()?;
+    longer.push_str("a")?;
+    let unknown = "error 2 UnknownProvider\n";
+    let forms: [(&[&str], &str, Status); 12] = [
+        (&[], USAGE, Status::BadWords),
+        (&["dump"], USAGE, Status::BadWords),
+        (&["dump", "-v", "a.img"], USAGE, Status::BadWords),
+        (&["dump", "a.img", "a.img"], USAGE, Status::BadWords),
+        (&["dump", "-a.img"], USAGE, Status::BadWords),
+        (&["dump", "a\0b"], USAGE, Status::BadWords),
+        (&["Dump", "a.img"], USAGE, Status::BadWords),
+        (&["script", "a.img"], USAGE, Status::BadWords),
+        (&["dump", longer.as_str()], USAGE, Status::BadWords),
+        (&["dump", long.as_str()], unknown, Status::SomeRefused),
+        (&["dump", "b.img"], unknown, Status::SomeRefused),
+        (&["dump", ""], unknown, Status::SomeRefused),
+    ];
+    for (texts, text, status) in forms {
+        let mut output = MemSink::new(alloc, &[], &[], 2048)?;
+        let ended = run_over(alloc, MemDisk::new(alloc, 2, 0)?, texts, &mut output)?;
+        assert_eq!(rt; output.bytes(), text.as_bytes());
+        assert_eq!(rt; ended, status);
+    }
+    Ok(())
+}
+
+#[test]
+fn a_failing_sink_gets_a_part_of_the_text(rt: HostRuntime) -> Result<(), Fail> {
+    let alloc = rt.alloc();
+    let whole = dump_text(alloc)?;
+    let slow = [1; 1100];
+    let mut output = MemSink::new(alloc, &slow, &[], 2048)?;
+    let disk = disk_of(alloc, &metadata())?;
+    let ended = run_over(alloc, disk, &["dump", "a.img"], &mut output)?;
+    assert_eq!(rt; output.bytes(), whole.as_bytes());
+    assert_eq!(rt; ended, Status::Done);
+    for call in 1..=34u64 {
+        let mut output = MemSink::new(alloc, &[], &[call], 2048)?;
+        let disk = disk_of(alloc, &metadata())?;
+        let ended = run_over(alloc, disk, &["dump", "a.img"], &mut output)?;
+        assert!(rt; whole.as_bytes().starts_with(output.bytes()));
+        assert!(rt; output.bytes().len() < whole.len());
+        assert_eq!(rt; ended, Status::WriteFault);
+    }
+    let mut output = MemSink::new(alloc, &[], &[1], 2048)?;
+    let ended = run_over(alloc, MemDisk::new(alloc, 2, 0)?, &[], &mut output)?;
+    assert_eq!(rt; ended.number(), 4);
+    Ok(())
+}
+
+#[test]
+fn hostile_sectors_are_refused_by_name(rt: HostRuntime) -> Result<(), Fail> {
+    let alloc = rt.alloc();
+    let mut state: u32 = 2026;
+    for turn in 0..64u32 {
+        let mut last = [0; 512];
+        for byte in last.iter_mut() {
+            state = state.wrapping_mul(1_664_525).wrapping_add(1_013_904_223);
+            let [.., high] = state.to_le_bytes();
+            *byte = high;
+        }
+        let found = u32::from_le_bytes([last[16], last[17], last[18], last[19]]);
+        let mut text = String::from_str(alloc, "error 5 BadMagic\n")?;
+        if turn % 2 == 1 && found != 7 {
+            last[..16].copy_from_slice(b"GEOM::ELI\0\0\0\0\0\0\0");
+            text = format!(in alloc; "error 6 BadVersion {found}\n")?;
+        }
+        let mut output = MemSink::new(alloc, &[], &[], 2048)?;
+        let ended = run_over(
+            alloc,
+            disk_of(alloc, &last)?,
+            &["dump", "a.img"],
+            &mut output,
+        )?;
+        assert_eq!(rt; output.bytes(), text.as_bytes());
+        assert_eq!(rt; ended, Status::SomeRefused);
+    }
+    Ok(())
+}
+
+#[test]
+fn the_top_call_runs_over_a_boxed_disk(rt: HostRuntime) -> Result<(), Fail> {
+    let alloc = rt.alloc();
+    let mut shelf = Shelf::new(alloc)?;
+    let disk: Box<dyn Disk> = Box::new(alloc, disk_of(alloc, &metadata())?)?;
+    assert!(rt; shelf.add("a.img", disk).is_ok());
+    let second: Box<dyn Disk> = Box::new(alloc, MemDisk::new(alloc, 2, 0)?)?;
+    assert!(rt; shelf.add("b.img", second).is_err());
+    let mut output = MemSink::new(alloc, &[], &[], 2048)?;
+    let ended = geli_main(
+        alloc,
+        &words(alloc, &["dump", "a.img"])?,
+        &mut MemSource::new(alloc, b"", &[], &[])?,
+        &mut output,
+        &mut MemCabinet::new(alloc),
+        &mut MemEntropy::new(alloc, b"")?,
+        &mut shelf,
+    );
+    assert_eq!(rt; output.bytes(), dump_text(alloc)?.as_bytes());
+    assert_eq!(rt; ended.number(), 0);
+    assert_eq!(rt; shelf.events("a.img"), Some([].as_slice()));
+    assert_eq!(rt; shelf.events("b.img"), None);
+    Ok(())
+}

@@ -1,0 +1,6 @@
+//! Whole runs over objects in memory. All that is expected comes from the texts of the formats, from
+//! public standards, or from another implementation.
+#![tactic(auto)]
+
+#[cfg(test)]
+mod dump;

@@ -18,7 +18,7 @@ const DIGEST: [u8; 16] = [
 const USAGE: &str = "usage: geli script IMAGE... or geli VERB ...\n";
 
 // The metadata's sector.
-fn metadata() -> Sector {
+pub(crate) fn metadata() -> Sector {
     let mut sector = [0; 512];
     sector[..47].copy_from_slice(&HEAD);
     sector[495..511].copy_from_slice(&DIGEST);

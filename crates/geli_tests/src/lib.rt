@@ -4,3 +4,5 @@
 
 #[cfg(test)]
 mod dump;
+#[cfg(test)]
+mod metadata;

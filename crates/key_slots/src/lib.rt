@@ -1,0 +1,15 @@
+//! The two slots of a GELI provider's metadata, each with the master key wrapped by a user key (g_eli.h).
+//!
+//! A slot has 192 bytes: the master key and a code that proves it, enciphered by AES-CBC. No call takes
+//! memory.
+#![tactic(auto)]
+
+mod opening;
+mod placing;
+#[cfg(test)]
+mod tests;
+mod wrapping;
+
+pub use opening::{unwrap, unwrap_any};
+pub use placing::{clear_slot, put_slot};
+pub use wrapping::wrap;

@@ -1,0 +1,94 @@
+// A slot opened by a user key.
+ghost use Rattle.std.specs.Prelude.{◌≡◌, ℕ, ◌<◌, ◌↔◌, List, Some};
+ghost use Rattle.eli_metadata.specs.Check.{is_set};
+ghost use Rattle.key_slots.specs.Slots.{IsKeyBits, Opens, slot_bytes, deciphered, has_code, master_in, unwrapped, numbered, unwrapped_any};
+
+use crate::wrapping::{SLOT_SIZE, ZERO_VECTOR, check_code, wrapping_schedule};
+use cbc_mode::cbc_open;
+use eli_base::MasterKey;
+use eli_metadata::Metadata;
+use user_key::UserKey;
+
+fn is_set(meta: &Metadata, slot: u8) -> bool
+    requires { slot < 2 }
+    ensures { result ≡ is_set meta.now slot }
+{
+    meta.keys & (1 << slot) != 0
+}
+
+fn slot_bytes(meta: &Metadata, slot: u8) -> [u8; SLOT_SIZE]
+    requires { slot < 2 }
+    ensures { result ≡ slot_bytes meta.now slot }
+{
+    let start = SLOT_SIZE * usize::from(slot);
+    let mut bytes = [0u8; SLOT_SIZE];
+    bytes.copy_from_slice(&meta.mkeys[start..start + SLOT_SIZE]);
+    bytes
+}
+
+// The text that a slot deciphers to.
+fn deciphered(meta: &Metadata, key: &UserKey, slot: u8) -> [u8; SLOT_SIZE]
+    requires slot { slot < 2 }
+    requires keylen { IsKeyBits meta.now.keylen }
+    ensures { result ≡ deciphered (slot_bytes meta.now slot) key.now.bytes meta.now.keylen }
+{
+    let mut text = slot_bytes(meta, slot);
+    cbc_open(
+        &wrapping_schedule(key, meta.keylen),
+        &ZERO_VECTOR,
+        &mut text,
+    );
+    text
+}
+
+// Whether the code in a slot's text is that of the master key before it.
+fn has_code(text: &[u8; SLOT_SIZE], key: &UserKey) -> bool
+    ensures { result ≡ has_code key.now.bytes text.now }
+{
+    &text[128..] == check_code(key, &text[..128]).as_slice()
+}
+
+// The master key in a slot's text, if the code behind it is right.
+fn master_in(text: &[u8; SLOT_SIZE], key: &UserKey) -> Option<MasterKey>
+    ensures { result ≡ master_in key.now.bytes text.now }
+{
+    if !has_code(text, key) {
+        return None;
+    }
+    let mut bytes = [0u8; 128];
+    bytes.copy_from_slice(&text[..128]);
+    Some(MasterKey { bytes })
+}
+
+/// The master key to which a slot opens with this user key: None exactly where the slot's bit is clear or
+/// the code in the slot doesn't match.
+pub fn unwrap(meta: &Metadata, key: &UserKey, slot: u8) -> Option<MasterKey>
+    requires slot { slot < 2 }
+    requires keylen { IsKeyBits meta.now.keylen }
+    ensures answer { result ≡ unwrapped meta.now key.now.bytes slot }
+    ensures opens { (master : List ℕ) → Opens meta.now key.now.bytes slot master ↔ (result ≡ Some (record { bytes = master })) }
+{
+    if is_set(meta, slot) {
+        master_in(&deciphered(meta, key, slot), key)
+    } else {
+        None
+    }
+}
+
+// The same with the slot's number.
+fn unwrap_numbered(meta: &Metadata, key: &UserKey, slot: u8) -> Option<(MasterKey, u8)>
+    requires slot { slot < 2 }
+    requires keylen { IsKeyBits meta.now.keylen }
+    ensures { result ≡ numbered (unwrapped meta.now key.now.bytes slot) slot }
+{
+    let master = unwrap(meta, key, slot)?;
+    Some((master, slot))
+}
+
+/// The master key and the number of the first slot that opens with this user key: slot 0 before slot 1.
+pub fn unwrap_any(meta: &Metadata, key: &UserKey) -> Option<(MasterKey, u8)>
+    requires { IsKeyBits meta.now.keylen }
+    ensures { result ≡ unwrapped_any meta.now key.now.bytes }
+{
+    unwrap_numbered(meta, key, 0).or_else(|| unwrap_numbered(meta, key, 1))
+}

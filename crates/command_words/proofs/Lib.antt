@@ -1,4 +1,5 @@
 mod NumberLaws
 mod OptionsLaws
 mod PlacesLaws
+mod TextLaws
 mod WordsLaws

@@ -30,16 +30,16 @@ abbrev pub Stands : List ℕ → Word → Type 0
 Stands line word = (word.start + length word.bytes ≤ length line) × (take (length word.bytes) (drop word.start line) ≡ word.bytes)
 
 -- the parts of a line from there on
-abbrev Parts : List ℕ → ℕ → List (List ℕ) → Type 0
+abbrev pub Parts : List ℕ → ℕ → List (List ℕ) → Type 0
 Parts line start [] = Unit {0}
 Parts line start (part ∷ parts) =
     (start + length part ≤ length line) × (take (length part) (drop start line) ≡ part) × Parts line (start + length part + 1) parts
 
 -- one byte on
-drop_one : (line : List ℕ) (start x : ℕ) (xs : List ℕ) → drop start line ≡ x ∷ xs → drop (start + 1) line ≡ xs
+pub drop_one : (line : List ℕ) (start x : ℕ) (xs : List ℕ) → drop start line ≡ x ∷ xs → drop (start + 1) line ≡ xs
 drop_one line start x xs e = sym (drop-drop 1 start line) ∙ ap (λ rest. drop 1 rest) e
 
-below_end : (line : List ℕ) (start x : ℕ) (xs : List ℕ) → drop start line ≡ x ∷ xs → start + 1 ≤ length line
+pub below_end : (line : List ℕ) (start x : ℕ) (xs : List ℕ) → drop start line ≡ x ∷ xs → start + 1 ≤ length line
 below_end line start x xs e = omega (arith, length-drop start line, ap length e)
 
 parts_more : (line : List ℕ) (start x : ℕ) (xs : List ℕ) (b : Bool) (parts : List (List ℕ))
@@ -54,14 +54,14 @@ parts_more line start x xs false (part ∷ parts) e h =
     let same : start + 1 + length part + 1 ≡ start + suc (length part) + 1 = omega arith in
     (omega (arith, h.0), rw e (ap (λ bytes. x ∷ bytes) rest), subst (λ (n : ℕ). Parts line n parts) same h.2)
 
-parts_stand : (p : ℕ → Bool) (rest line : List ℕ) (start : ℕ) → drop start line ≡ rest → start ≤ length line → Parts line start (slice_split p rest)
+pub parts_stand : (p : ℕ → Bool) (rest line : List ℕ) (start : ℕ) → drop start line ≡ rest → start ≤ length line → Parts line start (slice_split p rest)
 parts_stand p [] line start e h = (omega arith, refl, tt)
 parts_stand p (x ∷ xs) line start e h =
     parts_more line start x xs (p x) (slice_split p xs) e (parts_stand p xs line (start + 1) (drop_one line start x xs e) (below_end line start x xs e))
 
 -- the words of a line
 
-abbrev AllStand : List ℕ → List Word → Type 0
+abbrev pub AllStand : List ℕ → List Word → Type 0
 AllStand line words = AllByRecursion (Stands line) words
 
 placed_part : (line : List ℕ) (start : ℕ) (part : List ℕ) (number : ℕ) (b : Bool) (counted skipped : List Word)
@@ -77,19 +77,19 @@ placed_stand line sep number start (part ∷ parts) h =
     (placed_stand line sep (number + 1) (start + length part + 1) parts h.2)
     (placed_stand line sep number (start + length part + 1) parts h.2)
 
-words_stand : (sep : Sep) (line : List ℕ) → AllStand line (words sep line)
+pub words_stand : (sep : Sep) (line : List ℕ) → AllStand line (words sep line)
 words_stand sep [] = tt
 words_stand sep (b ∷ bs) = placed_stand (b ∷ bs) sep 0 0 _ (parts_stand (is_between sep) (b ∷ bs) (b ∷ bs) 0 refl (omega arith))
 
 -- the values of options and the operands
 
-abbrev ItemStands : List ℕ → Item → Type 0
+abbrev pub ItemStands : List ℕ → Item → Type 0
 ItemStands line (Set switch) = Unit {0}
 ItemStands line (Given option word) = Stands line word
 ItemStands line (Unknown number) = Unit {0}
 ItemStands line (Missing number) = Unit {0}
 
-abbrev ItemsStand : List ℕ → List Item → Type 0
+abbrev pub ItemsStand : List ℕ → List Item → Type 0
 ItemsStand line items = AllByRecursion (ItemStands line) items
 
 items_append : (line : List ℕ) (items more : List Item) → ItemsStand line items → ItemsStand line more → ItemsStand line (items ++ more)
@@ -140,9 +140,9 @@ kind_stands line number start [] h = tt
 kind_stands line number start (b ∷ []) h = tt
 kind_stands line number start (b ∷ c ∷ bs) h = kind_choice line number (start + 1) (c ∷ bs) (b == 45) _ (tail_stands line number start b (c ∷ bs) h)
 
-record OptionsStand (line : List ℕ) (read : Options) : Type 0 where
-  items : ItemsStand line read.items
-  operands : AllStand line read.operands
+pub record OptionsStand (line : List ℕ) (read : Options) : Type 0 where
+  pub items : ItemsStand line read.items
+  pub operands : AllStand line read.operands
 
 onto_stands : (line : List ℕ) (items : List Item) (read : Options) → ItemsStand line items → OptionsStand line read → OptionsStand line (onto items read)
 onto_stands line items read h g = record { items = items_append line items read.items h g.items; operands = g.operands }
@@ -154,7 +154,7 @@ word_stands line Ends verb word behind rest k h hs then = record { items = tt; o
 word_stands line (Letters bytes) verb word behind rest k h hs then = onto_stands line _ _ (letters_stand line verb word.number (word.start + 1) bytes k) (then _)
 word_stands line Operand verb word behind rest k h hs then = record { items = tt; operands = (h, hs) }
 
-options_stand : (line : List ℕ) (verb : Verb) (total : ℕ) (words : List Word) (waiting : Option Valued) → AllStand line words → OptionsStand line (options verb total words waiting)
+pub options_stand : (line : List ℕ) (verb : Verb) (total : ℕ) (words : List Word) (waiting : Option Valued) → AllStand line words → OptionsStand line (options verb total words waiting)
 options_stand line verb total [] None h = record { items = tt; operands = tt }
 options_stand line verb total [] (Some option) h = record { items = (tt, tt); operands = tt }
 options_stand line verb total (word ∷ behind) (Some option) h =
@@ -213,40 +213,41 @@ command_within line Init items operands h g =
 command_within line Attach items operands h g =
     (operand_within line operands g, (files_within line OldFile items h, files_within line OldPass items h))
 
-abbrev ResultWithin : List ℕ → Result Command Usage → Type 0
-ResultWithin line result = IfOk result (CommandIsWithin (length line))
+-- what holds of a command holds of a result that may refuse it
 
-complaint_within : (line : List ℕ) (complaint : Option Reason) (total : ℕ) (command : Command) → CommandIsWithin (length line) command → ResultWithin line (or_complaint complaint total command)
-complaint_within line None total command h = h
-complaint_within line (Some reason) total command h = tt
+pub complaint_keeps : (Q : Command → Type 0) (complaint : Option Reason) (total : ℕ) (command : Command) → Q command → IfOk (or_complaint complaint total command) Q
+complaint_keeps Q None total command h = h
+complaint_keeps Q (Some reason) total command h = tt
 
-fault_within : (line : List ℕ) (fault : Option Usage) (result : Result Command Usage) → ResultWithin line result → ResultWithin line (unless_fault fault result)
-fault_within line None result h = h
-fault_within line (Some usage) result h = tt
+pub fault_keeps : (Q : Command → Type 0) (fault : Option Usage) (result : Result Command Usage) → IfOk result Q → IfOk (unless_fault fault result) Q
+fault_keeps Q None result h = h
+fault_keeps Q (Some usage) result h = tt
 
-verb_within : (line : List ℕ) (verb : Option Verb) (total : ℕ) (words : List Word) → AllStand line words → ResultWithin line (by_verb verb total words)
+some_keeps : (Q : Command → Type 0) (result : Result Command Usage) → IfOk result Q → IfOk (some_command result) (λ read. IfSome read Q)
+some_keeps Q (Ok command) h = h
+some_keeps Q (Err usage) h = tt
+
+pub text_keeps : (Q : Command → Type 0) (comment text : Bool) (usage : Usage) (result : Result Command Usage) → (text ≡ true → IfOk result Q)
+    → IfOk (cond comment (Ok None) (cond text (some_command result) (Err usage))) (λ (read : Option Command). IfSome read Q)
+text_keeps Q true text usage result h = tt
+text_keeps Q false true usage result h = some_keeps Q result (h refl)
+text_keeps Q false false usage result h = tt
+
+verb_within : (line : List ℕ) (verb : Option Verb) (total : ℕ) (words : List Word) → AllStand line words → IfOk (by_verb verb total words) (CommandIsWithin (length line))
 verb_within line None total words h = tt
 verb_within line (Some verb) total words h =
     let o : Options = options verb total words None in
     let stand : OptionsStand line o = options_stand line verb total words None h in
     let settings : Settings = settings_of o.items in
-    fault_within line (first_fault [] o.items) (settled verb total settings o.operands)
-    (complaint_within line (complaint verb settings (length o.operands)) total (command_of verb settings o.operands) (command_within line verb o.items o.operands stand.items stand.operands))
-
-some_within : (line : List ℕ) (result : Result Command Usage) → ResultWithin line result → IfOk (some_command result) (λ read. IfSome read (CommandIsWithin (length line)))
-some_within line (Ok command) h = h
-some_within line (Err usage) h = tt
-
-text_choice : (line : List ℕ) (comment text : Bool) (usage : Usage) (result : Result Command Usage) → ResultWithin line result
-    → IfOk (cond comment (Ok None) (cond text (some_command result) (Err usage))) (λ (read : Option Command). IfSome read (CommandIsWithin (length line)))
-text_choice line true text usage result h = tt
-text_choice line false true usage result h = some_within line result h
-text_choice line false false usage result h = tt
+    fault_keeps (CommandIsWithin (length line)) (first_fault [] o.items) (settled verb total settings o.operands)
+    (complaint_keeps (CommandIsWithin (length line)) (complaint verb settings (length o.operands)) total (command_of verb settings o.operands)
+    (command_within line verb o.items o.operands stand.items stand.operands))
 
 by_words_within : (line : List ℕ) (sep : Sep) (text : Bool) (words : List Word) → AllStand line words → IfOk (by_words sep text words) (λ read. IfSome read (CommandIsWithin (length line)))
 by_words_within line sep text [] h = tt
 by_words_within line sep text (word ∷ behind) h =
-    text_choice line (is_comment sep word.bytes) text _ (by_verb (verb_named word.bytes) (1 + length behind) behind) (verb_within line (verb_named word.bytes) (1 + length behind) behind h.1)
+    text_keeps (CommandIsWithin (length line)) (is_comment sep word.bytes) text _ (by_verb (verb_named word.bytes) (1 + length behind) behind)
+    (λ _. verb_within line (verb_named word.bytes) (1 + length behind) behind h.1)
 
 -- The spans of what a line says lie in the line.
 pub reading_within : (sep : Sep) (line : List ℕ) → IfOk (reading sep line) (λ read. IfSome read (CommandIsWithin (length line)))

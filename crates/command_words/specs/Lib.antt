@@ -7,3 +7,4 @@ pub mod Settings
 pub mod Reading
 pub mod Pass
 pub mod Places
+pub mod Images

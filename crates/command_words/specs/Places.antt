@@ -1,4 +1,5 @@
 use Rattle.std.specs.Prelude.{ℕ, ◌≤◌, List, All, IfSome, slice_range, Option, None, Some}
+use Rattle.std.specs.Str.{IsUtf8}
 use Rattle.command_words.specs.declared.commands.Command.{Command}
 use Rattle.command_words.specs.declared.commands.Command.TheVariants.{Dump, Init, Attach}
 use Rattle.command_words.specs.declared.spans.Span.{Span}
@@ -28,3 +29,7 @@ provider_of (Attach prov only_check readonly slot old) = Some prov
 -- The bytes of a span.
 abbrev pub bytes_at : List ℕ → Span → List ℕ
 bytes_at line span = slice_range line span.start span.end
+
+-- The names of providers in a line are text.
+abbrev pub ProviderIsText : List ℕ → Command → Type 0
+ProviderIsText line command = IfSome (provider_of command) (λ prov. IsUtf8 (bytes_at line prov))

@@ -4,6 +4,7 @@
 
 mod commands;
 mod cursor;
+mod images;
 mod kinds;
 mod lines;
 mod numbers;
@@ -13,5 +14,6 @@ mod spans;
 mod table;
 
 pub use commands::{Command, Usage};
+pub use images::{ImageNames, images_of, joined};
 pub use lines::read_line;
 pub use spans::{KeyWords, Sep, Span, SpanList};

@@ -1,7 +1,7 @@
 ghost use Rattle.std.specs.Prelude.{◌≡◌, ◌+◌, ◌≤◌, length, IfOk, IfSome};
 ghost use Rattle.std.specs.Str.{is_utf8};
 ghost use Rattle.command_words.specs.Cursor.{left};
-ghost use Rattle.command_words.specs.Places.{CommandIsWithin};
+ghost use Rattle.command_words.specs.Places.{CommandIsWithin, ProviderIsText};
 ghost use Rattle.command_words.specs.Reading.{reading, by_verb, is_comment, complaint, command_at, is_torn, lacks_option, excludes};
 
 use crate::commands::{Command, Usage};
@@ -158,6 +158,9 @@ pub fn read_line(line: &[u8], sep: Sep) -> Result<Option<Command>, Usage>
 
     // The places of a command lie in the line.
     ensures places { IfOk result (λ read. IfSome read (CommandIsWithin (length line.now))) }
+
+    // The name of a provider is text.
+    ensures text { IfOk result (λ read. IfSome read (ProviderIsText line.now)) }
 {
     read(line, sep)
 }

@@ -1,0 +1,110 @@
+ghost use Rattle.std.specs.Prelude.{◌≡◌, [], ◌∷◌, map, length, IfOk, string_bytes};
+ghost use Rattle.std.specs.Str.{IsUtf8};
+ghost use Rattle.command_words.specs.Images.{line_of, image_in, image_names};
+ghost use Rattle.command_words.specs.Places.{IsWithin, bytes_at, provider_of};
+
+use crate::commands::Command;
+use crate::lines::read_line;
+use crate::spans::{Sep, Span};
+use block_traits::NoMemory;
+use std::alloc::{AllocError, Global};
+use std::marker::Model;
+use std::str;
+
+/// The names of images, in order: a list of texts.
+#[derive(Debug, Drop)]
+pub struct ImageNames {
+    names: Vec<String>,
+}
+
+impl Model for ImageNames {
+    ghost use Rattle.std.specs.Prelude.{ℕ, List, map, string_bytes};
+
+    ghost Value = { List (List ℕ) };
+
+    ghost view = { λ images. map string_bytes images.names.items };
+}
+
+impl ImageNames {
+    /// The names in order.
+    pub fn as_slice(&self) -> &[String]
+        ensures { map string_bytes result.now ≡ self.now }
+    {
+        self.names.as_slice()
+    }
+
+    fn of_none(alloc: Global) -> ImageNames
+        ensures { result ≡ [] }
+    {
+        ImageNames {
+            names: Vec::new(alloc),
+        }
+    }
+
+    fn of_one(alloc: Global, name: String) -> Result<ImageNames, NoMemory>
+        ensures { IfOk result (λ images. images ≡ string_bytes name ∷ []) }
+    {
+        let mut names = Vec::new(alloc);
+        names.push(name)?;
+        Ok(ImageNames { names })
+    }
+}
+
+/// The line of some words, which stand between zero bytes.
+pub fn joined(alloc: Global, words: &[String]) -> Result<Vec<u8>, AllocError>
+    ensures { IfOk result (λ line. line.items ≡ line_of (map string_bytes words.now)) }
+{
+    let mut line = Vec::new(alloc);
+    let Some((first, others)) = words.split_first() else {
+        return Ok(line);
+    };
+    line.extend_from_slice(first.as_bytes())?;
+    for word in others {
+        line.push(0)?;
+        line.extend_from_slice(word.as_bytes())?;
+    }
+    Ok(line)
+}
+
+// The name at a place of the line.
+fn name_at(alloc: Global, line: &[u8], span: Span) -> Result<String, AllocError>
+    requires within { IsWithin (length line.now) span }
+    requires text { IsUtf8 (bytes_at line.now span) }
+    ensures { IfOk result (λ name. string_bytes name ≡ bytes_at line.now span) }
+{
+    let bytes = &line[span.start as usize..span.end as usize];
+    match str::from_utf8(bytes) {
+        Ok(text) => String::from_str(alloc, text),
+        Err(_) => unreachable!(),
+    }
+}
+
+impl Command {
+    /// The provider that the command names, if it names one.
+    pub fn provider(&self) -> Option<Span>
+        ensures { result ≡ provider_of self.now }
+    {
+        match self {
+            Command::Dump { prov } => Some(*prov),
+            Command::Init { prov, .. } => Some(*prov),
+            Command::Attach { prov, .. } => Some(*prov),
+        }
+    }
+}
+
+/// The images that the words of one command name: its provider, if they are a command and it has one.
+pub fn images_of(alloc: Global, words: &[String]) -> Result<ImageNames, NoMemory>
+    ensures { IfOk result (λ images. images ≡ image_names (map string_bytes words.now)) }
+{
+    let line = joined(alloc, words)?;
+    if line.len() > 300_000 {
+        return Ok(ImageNames::of_none(alloc));
+    }
+    let Ok(Some(command)) = read_line(line.as_slice(), Sep::Zeros) else {
+        return Ok(ImageNames::of_none(alloc));
+    };
+    match command.provider() {
+        Some(span) => ImageNames::of_one(alloc, name_at(alloc, line.as_slice(), span)?),
+        None => Ok(ImageNames::of_none(alloc)),
+    }
+}

@@ -1,3 +1,4 @@
+mod JoinLaws
 mod NumberLaws
 mod OptionsLaws
 mod PlacesLaws

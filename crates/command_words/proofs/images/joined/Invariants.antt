@@ -5,4 +5,4 @@ use Rattle.command_words.proofs.images.joined.Given as goal
 
 -- The first word, and each other one behind a zero byte.
 abbrev pub invariant-loop-word : goal.invariant-loop-word
-invariant-loop-word l = l.line.items ≡ string_bytes l.first ++ flat_map (λ word. 0 ∷ string_bytes word) (take l.word-index l.others)
+invariant-loop-word l = l.line.items ≡ l.initial.line.items ++ flat_map (λ word. 0 ∷ string_bytes word) (take l.word-index l.others)

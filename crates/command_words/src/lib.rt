@@ -17,3 +17,6 @@ pub use commands::{Command, Usage};
 pub use images::{ImageNames, images_of, joined};
 pub use lines::read_line;
 pub use spans::{KeyWords, Sep, Span, SpanList};
+
+#[cfg(test)]
+mod tests;

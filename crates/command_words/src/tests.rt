@@ -1,0 +1,169 @@
+mod table;
+
+use super::*;
+use eli_base::Reason;
+use std::alloc::Global;
+use std::fmt::Write;
+use std::process::Abort;
+use std::test::Fail;
+use table::TABLE;
+
+fn show_span(rt: &impl Abort, out: &mut String, line: &[u8], span: &Span) -> Result<(), Fail> {
+    let (start, end) = (span.start as usize, span.end as usize);
+    assert!(rt; start <= end && end <= line.len());
+    out.push_str(std::str::from_utf8(&line[start..end])?)?;
+    write!(out, "@{}+{}", span.word, span.start)?;
+    Ok(())
+}
+
+fn show_spans(
+    rt: &impl Abort,
+    out: &mut String,
+    line: &[u8],
+    spans: &SpanList,
+) -> Result<(), Fail> {
+    for (place, span) in spans.as_slice().iter().enumerate() {
+        if place > 0 {
+            out.push(' ')?;
+        }
+        show_span(rt, out, line, span)?;
+    }
+    Ok(())
+}
+
+fn show_key(rt: &impl Abort, out: &mut String, line: &[u8], key: &KeyWords) -> Result<(), Fail> {
+    out.push_str(" files[")?;
+    show_spans(rt, out, line, &key.files)?;
+    out.push_str("] pass[")?;
+    show_spans(rt, out, line, &key.pass)?;
+    let without = key.without;
+    write!(out, "] without={without}")?;
+    Ok(())
+}
+
+fn show_command(
+    rt: &impl Abort,
+    out: &mut String,
+    line: &[u8],
+    command: &Command,
+) -> Result<(), Fail> {
+    match command {
+        Command::Dump { prov } => {
+            out.push_str("dump ")?;
+            show_span(rt, out, line, prov)
+        }
+        Command::Init {
+            prov,
+            cipher,
+            auth,
+            keylen,
+            sectorsize,
+            iterations,
+            autoresize,
+            fresh,
+            backup,
+        } => {
+            out.push_str("init ")?;
+            show_span(rt, out, line, prov)?;
+            write!(
+                out,
+                " {cipher:?} {auth:?} {keylen} {sectorsize} {iterations:?} grow={autoresize}"
+            )?;
+            show_key(rt, out, line, fresh)?;
+            out.push_str(" backup=")?;
+            match backup {
+                Some(file) => show_span(rt, out, line, file),
+                None => Ok(out.push_str("None")?),
+            }
+        }
+        Command::Attach {
+            prov,
+            only_check,
+            readonly,
+            slot,
+            old,
+        } => {
+            out.push_str("attach ")?;
+            show_span(rt, out, line, prov)?;
+            write!(out, " check={only_check} readonly={readonly} slot={slot:?}")?;
+            show_key(rt, out, line, old)
+        }
+    }
+}
+
+fn show(rt: &impl Abort, alloc: Global, line: &[u8], sep: Sep) -> Result<String, Fail> {
+    assert!(rt; line.len() <= 300_000);
+    let mut out = String::new(alloc);
+    match read_line(line, sep) {
+        Ok(None) => out.push_str("none")?,
+        Ok(Some(command)) => show_command(rt, &mut out, line, &command)?,
+        Err(Usage { word, reason }) => write!(out, "usage {word} {reason:?}")?,
+    }
+    Ok(out)
+}
+
+fn plain_bytes(alloc: Global, text: &str) -> Result<Vec<u8>, Fail> {
+    let mut bytes = Vec::new(alloc);
+    for byte in text.bytes() {
+        bytes.push(match byte {
+            b'~' => 0,
+            b'`' => b'\t',
+            b'^' => b'\r',
+            other => other,
+        })?;
+    }
+    Ok(bytes)
+}
+
+#[test]
+fn lines_of_the_table(rt: HostRuntime) -> Result<(), Fail> {
+    let alloc = rt.alloc();
+    let mut count = 0u64;
+    for row in TABLE.lines() {
+        let (sep, rest) = row.split_once('|').ok_or("a separator")?;
+        let (line, want) = rest.split_once('|').ok_or("a reply")?;
+        let sep = if sep == "Z" { Sep::Zeros } else { Sep::Blanks };
+        let bytes = plain_bytes(alloc, line)?;
+        let want = plain_bytes(alloc, want)?;
+        let shown = show(&rt, alloc, bytes.as_slice(), sep)?;
+        assert!(&rt; shown.as_bytes() == want.as_slice(), "{row} gives {shown}");
+        count = count.saturating_add(1);
+    }
+    assert_eq!(rt; count, 203);
+    Ok(())
+}
+
+#[test]
+fn lines_that_are_no_text(rt: HostRuntime) -> Result<(), Fail> {
+    let alloc = rt.alloc();
+    let not_text = Some(Usage {
+        word: 0,
+        reason: Reason::NotText,
+    });
+    assert_eq!(rt; read_line(b"\xff dump", Sep::Blanks).err(), not_text);
+    assert_eq!(rt; read_line(b"dump a.img \xc3", Sep::Blanks).err(), not_text);
+    assert_eq!(rt; read_line(b"dump\0\xff", Sep::Zeros).err(), not_text);
+    assert!(&rt; matches!(read_line(b" # \xff", Sep::Blanks), Ok(None)));
+    let mut long = String::from_str(alloc, "dump ")?;
+    for _ in 0..299_995 {
+        long.push('a')?;
+    }
+    let shown = show(&rt, alloc, long.as_bytes(), Sep::Blanks)?;
+    assert_eq!(rt; shown.len(), 300_004);
+    Ok(())
+}
+
+#[test]
+fn images_of_words(rt: HostRuntime) -> Result<(), Fail> {
+    let alloc = rt.alloc();
+    let mut words = Vec::new(alloc);
+    for word in ["attach", "-C", "-k", "my key", "my image"] {
+        words.push(String::from_str(alloc, word)?)?;
+    }
+    let images = images_of(alloc, words.as_slice())?;
+    assert_eq!(rt; images.as_slice().len(), 1);
+    assert!(&rt; images.as_slice()[0].as_str() == "my image");
+    words.push(String::from_str(alloc, "other")?)?;
+    assert_eq!(rt; images_of(alloc, words.as_slice())?.as_slice().len(), 0);
+    Ok(())
+}

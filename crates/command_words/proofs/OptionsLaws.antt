@@ -1,5 +1,5 @@
 -- One pass over the words gives what the options say.
-use Rattle.std.proofs.Common.{◌≡◌, ℕ, suc, ◌+◌, List, [], ◌∷◌, ◌++◌, length, map, refl, sym, ◌∙◌, ap, arith, Bool, true, false, ◌||◌, not, Option, None, Some, Result, Ok, Err, append_assoc}
+use Rattle.std.proofs.Common.{◌≡◌, ℕ, ◌+◌, List, [], ◌∷◌, ◌++◌, length, refl, sym, ◌∙◌, Bool, true, false, ◌||◌, Option, None, Some, Result, Ok, Err, append_assoc}
 use Rattle.std.proofs.lemmas.List.{append-nil, length-map, map-append}
 use Rattle.std.specs.Prelude.{option_map}
 use Rattle.eli_base.specs.declared.Reason.{Reason}
@@ -15,8 +15,8 @@ use Rattle.command_words.specs.declared.table.Letter.TheVariants.{Alone, WithVal
 use Rattle.command_words.specs.Words.{Word}
 use Rattle.command_words.specs.Table.{letter_of}
 use Rattle.command_words.specs.Values.{value_fault}
-use Rattle.command_words.specs.Options.{Item, Set, Given, Unknown, Missing, Group, letters, with_letter, Kind, Ends, Letters, Operand, kind_of, Options, options, values, value_in, fault_of, first_fault, or_else, onto, with_word}
-use Rattle.command_words.specs.Settings.{settings_of, span_of, last, last_value, is_set, sets, files_of}
+use Rattle.command_words.specs.Options.{Item, Set, Given, Group, letters, with_letter, Kind, Ends, Letters, Operand, kind_of, Options, options, values, value_in, fault_of, first_fault, or_else, with_word}
+use Rattle.command_words.specs.Settings.{settings_of, last, is_set, sets}
 use Rattle.command_words.specs.Reading.{settled, by_options, unless_fault}
 use Rattle.command_words.specs.Pass.{given, after, checked, files_so_far, with_value, with_switch, taken_letter, taken_letters, taken_word, taken_options}
 

@@ -1,17 +1,15 @@
 -- Words, values and spans stand in the line.
-use Rattle.std.proofs.Common.{◌≡◌, ℕ, suc, ◌+◌, ◌-◌, ◌<◌, ◌≤◌, List, [], ◌∷◌, ◌++◌, length, take, drop, map, refl, sym, ◌∙◌, ap, subst, arith, Bool, true, false, cond, Option, None, Some, Result, Ok, Err, IfOk, IfSome, ◌==◌, length-drop, slice_index_or}
+use Rattle.std.proofs.Common.{◌≡◌, ℕ, suc, ◌+◌, ◌≤◌, List, [], ◌∷◌, ◌++◌, length, take, drop, map, refl, sym, ◌∙◌, ap, subst, arith, Bool, true, false, cond, Option, None, Some, Result, Ok, Err, IfOk, IfSome, ◌==◌, length-drop}
 use Rattle.std.proofs.lemmas.List.{drop-drop}
 use Rattle.std.proofs.lemmas.List.Elements.{All-from_recursion}
 use Rattle.std.specs.Prelude.{All, codes, option_and_then}
-use Rattle.std.specs.List.{slice_split, onto_first, AllByRecursion, flat_map}
+use Rattle.std.specs.List.{slice_split, onto_first, AllByRecursion}
 use Rattle.std.specs.Str.{bytes_eq, is_utf8}
 use Rattle.eli_base.specs.declared.Reason.{Reason}
 use Rattle.command_words.specs.declared.commands.Command.{Command}
 use Rattle.command_words.specs.declared.commands.Usage.{Usage}
 use Rattle.command_words.specs.declared.settings.Settings.{Settings}
 use Rattle.command_words.specs.declared.spans.Sep.{Sep}
-use Rattle.command_words.specs.declared.spans.Span.{Span}
-use Rattle.command_words.specs.declared.spans.KeyWords.{KeyWords}
 use Rattle.command_words.specs.declared.table.Verb.{Verb}
 use Rattle.command_words.specs.declared.table.Verb.TheVariants.{Dump, Init, Attach}
 use Rattle.command_words.specs.declared.table.Valued.{Valued}
@@ -21,9 +19,9 @@ use Rattle.command_words.specs.declared.table.Letter.TheVariants.{Alone, WithVal
 use Rattle.command_words.specs.Words.{Word, words, placed, is_between, is_word}
 use Rattle.command_words.specs.Table.{letter_of, verb_named}
 use Rattle.command_words.specs.Options.{Item, Set, Given, Unknown, Missing, Group, letters, with_letter, Kind, Ends, Letters, Operand, kind_of, Options, options, onto, with_word, values, value_in, place, first_fault}
-use Rattle.command_words.specs.Settings.{settings_of, span_of, last, last_value, files_of, backup_of}
-use Rattle.command_words.specs.Reading.{reading, by_words, by_verb, by_options, unless_fault, settled, or_complaint, complaint, command_of, command_at, operand, is_comment, some_command}
-use Rattle.command_words.specs.Places.{IsWithin, KeyIsWithin, CommandIsWithin}
+use Rattle.command_words.specs.Settings.{settings_of, span_of, last, files_of, backup_of}
+use Rattle.command_words.specs.Reading.{reading, by_words, by_verb, unless_fault, settled, or_complaint, complaint, command_of, operand, is_comment, some_command}
+use Rattle.command_words.specs.Places.{IsWithin, CommandIsWithin}
 
 -- a word stands in the line
 abbrev pub Stands : List ℕ → Word → Type 0

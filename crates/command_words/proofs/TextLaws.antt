@@ -1,16 +1,13 @@
 -- In a line that is text each word is text.
-use Rattle.std.proofs.Common.{◌≡◌, ℕ, suc, ◌+◌, ◌-◌, ◌<◌, ◌≤◌, List, [], ◌∷◌, ◌++◌, length, take, drop, get_or, map, refl, sym, ◌∙◌, ap, subst, arith, Bool, true, false, cond, Option, None, Some, Result, Ok, Err, IfOk, IfSome, ◌==◌, ◌||◌, length-drop}
+use Rattle.std.proofs.Common.{◌≡◌, ℕ, suc, ◌+◌, ◌-◌, ◌<◌, ◌≤◌, List, [], ◌∷◌, length, take, drop, get_or, refl, sym, ◌∙◌, ap, subst, arith, Bool, true, false, cond, Option, None, Some, IfOk, IfSome, ◌==◌, ◌||◌, length-drop}
 use Rattle.std.proofs.lemmas.Bool.Decides.{nat_tests}
 use Rattle.std.proofs.lemmas.List.{get_or-drop}
 use Rattle.std.proofs.lemmas.Str.{IsCharBoundary-before_ascii, IsCharBoundary-after_ascii, IsCharBoundary-from_take, IsUtf8-between, IsUtf8-from_is_utf8}
 use Rattle.std.specs.List.{slice_split, onto_first, AllByRecursion}
 use Rattle.std.specs.Str.{IsUtf8, IsCharBoundary, is_utf8}
-use Rattle.command_words.specs.declared.commands.Command.{Command}
-use Rattle.command_words.specs.declared.commands.Usage.{Usage}
 use Rattle.command_words.specs.declared.settings.Settings.{Settings}
 use Rattle.command_words.specs.declared.spans.Sep.{Sep}
 use Rattle.command_words.specs.declared.spans.Sep.TheVariants.{Blanks, Zeros}
-use Rattle.command_words.specs.declared.spans.Span.{Span}
 use Rattle.command_words.specs.declared.table.Verb.{Verb}
 use Rattle.command_words.specs.declared.table.Verb.TheVariants.{Dump, Init, Attach}
 use Rattle.command_words.specs.declared.table.Valued.{Valued}
@@ -19,7 +16,7 @@ use Rattle.command_words.specs.Table.{verb_named}
 use Rattle.command_words.specs.Options.{Item, Kind, Ends, Letters, Operand, kind_of, Options, options, onto, with_word, first_fault}
 use Rattle.command_words.specs.Settings.{settings_of, span_of}
 use Rattle.command_words.specs.Reading.{reading, by_words, by_verb, settled, complaint, command_of, operand, is_comment}
-use Rattle.command_words.specs.Places.{bytes_at, provider_of, ProviderIsText}
+use Rattle.command_words.specs.Places.{bytes_at, ProviderIsText}
 use Rattle.command_words.proofs.PlacesLaws.{Stands, AllStand, Parts, parts_stand, drop_one, below_end, words_stand, OptionsStand, options_stand, complaint_keeps, fault_keeps, text_keeps}
 
 -- a test that passes bytes below 128 alone

@@ -1,10 +1,10 @@
 -- The first part of a line, and the parts behind it.
-use Rattle.std.proofs.Common.{◌≡◌, ℕ, suc, ◌+◌, ◌<◌, ◌≤◌, List, [], ◌∷◌, length, take, drop, refl, sym, ◌∙◌, ap, arith, nat_lt, true, false, Bool, cond, not}
+use Rattle.std.proofs.Common.{◌≡◌, ℕ, suc, ◌+◌, List, [], ◌∷◌, length, take, drop, refl, sym, ◌∙◌, ap, arith, nat_lt, true, false, Bool, cond, not}
 use Rattle.std.proofs.lemmas.Bool.Decides.{nat_tests}
 use Rattle.std.specs.List.{slice_split, position_or_len, onto_first}
 use Rattle.std.proofs.lemmas.List.Folds.{length-prefix_len}
 use Rattle.command_words.specs.declared.spans.Sep.{Sep}
-use Rattle.command_words.specs.Words.{Word, is_between, is_word, placed, parts_behind}
+use Rattle.command_words.specs.Words.{is_between, is_word, placed, parts_behind}
 
 -- zero is below a number and one
 zero_below : (n : ℕ) → nat_lt 0 (suc n) ≡ true

@@ -1,4 +1,4 @@
-use Rattle.std.specs.Prelude.{ℕ, ◌+◌, pos, List, [], ◌∷◌, ◌++◌, length, Bool, true, false, Option, None, Some, unwrap_or, Result, Ok, Err}
+use Rattle.std.specs.Prelude.{ℕ, ◌+◌, pos, List, [], ◌∷◌, ◌++◌, length, true, false, Option, None, Some, unwrap_or, Result, Ok, Err}
 use Rattle.eli_base.specs.declared.Auth.TheVariants.{Sha256}
 use Rattle.eli_base.specs.declared.Cipher.TheVariants.{AesXts}
 use Rattle.eli_base.specs.declared.Reason.{Reason}

@@ -1,4 +1,4 @@
-use Rattle.std.specs.Prelude.{ℕ, ◌≤◌, List, All, IfSome, slice_range, Option, None, Some}
+use Rattle.std.specs.Prelude.{ℕ, ◌≤◌, List, All, IfSome, slice_range, Option, Some}
 use Rattle.std.specs.Str.{IsUtf8}
 use Rattle.command_words.specs.declared.commands.Command.{Command}
 use Rattle.command_words.specs.declared.commands.Command.TheVariants.{Dump, Init, Attach}

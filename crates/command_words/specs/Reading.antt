@@ -14,7 +14,7 @@ use Rattle.command_words.specs.declared.table.Verb.{Verb}
 use Rattle.command_words.specs.declared.table.Verb.TheVariants.{Dump, Init, Attach}
 use Rattle.command_words.specs.Words.{Word, words}
 use Rattle.command_words.specs.Table.{verb_named, operand_count}
-use Rattle.command_words.specs.Options.{Item, Options, options, first_fault}
+use Rattle.command_words.specs.Options.{Options, options, first_fault}
 use Rattle.command_words.specs.Settings.{span_of, settings_of}
 
 -- Whether a verb lacks an option that it needs: without `-C` the attached provider would end with the command.

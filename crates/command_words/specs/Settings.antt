@@ -1,13 +1,10 @@
-use Rattle.std.specs.Prelude.{ℕ, ◌+◌, ℤ, pos, List, [], ◌∷◌, ◌++◌, length, map, Bool, true, false, not, ◌||◌, ◌==◌, if◌then◌else◌, Option, None, Some, unwrap_or, option_and_then, option_map, codes}
+use Rattle.std.specs.Prelude.{ℕ, ◌+◌, pos, List, [], ◌∷◌, length, map, Bool, false, not, ◌==◌, if◌then◌else◌, Option, None, Some, unwrap_or, option_and_then, option_map, codes}
 use Rattle.std.specs.Option.{option_map_or}
 use Rattle.std.specs.List.{list_any}
 use Rattle.std.specs.Str.{bytes_eq}
-use Rattle.eli_base.specs.declared.Auth.{Auth}
 use Rattle.eli_base.specs.declared.Auth.TheVariants.{Off, Sha256}
-use Rattle.eli_base.specs.declared.Cipher.{Cipher}
 use Rattle.eli_base.specs.declared.Cipher.TheVariants.{AesXts}
 use Rattle.command_words.specs.declared.spans.Span.{Span}
-use Rattle.command_words.specs.declared.spans.KeyWords.{KeyWords}
 use Rattle.command_words.specs.declared.settings.Settings.{Settings}
 use Rattle.command_words.specs.declared.table.Switch.{Switch}
 use Rattle.command_words.specs.declared.table.Switch.TheVariants.{WithoutOld, WithoutFresh, FixedSize, OnlyCheck, ReadOnly, Verbose}

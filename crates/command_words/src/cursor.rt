@@ -89,9 +89,9 @@ impl<'a> Words<'a> {
         }
     }
 
-    // The next word and the words behind it.
+    /// The next word and the words behind it.
     #[tactic(auto, using(crate::proofs::WordsLaws::word_taken))]
-    pub fn next(self) -> Option<(Piece<'a>, Words<'a>)>
+    pub fn split_first(self) -> Option<(Piece<'a>, Words<'a>)>
         ensures words { MatchOption result (left self.entry ≡ [])
             (λ taken. left self.entry ≡ seen taken.0 ∷ left taken.1) }
         ensures number { IfSome result (λ taken. (taken.0.number ≡ self.entry.number) × (taken.1.number ≡ self.entry.number + 1)) }
@@ -130,7 +130,7 @@ impl<'a> Words<'a> {
         ensures bound { self.entry.number + result ≤ 300001 }
     {
         let mut words = self;
-        'count: while let Some((_, behind)) = words.next() {
+        'count: while let Some((_, behind)) = words.split_first() {
             words = behind;
         }
         words.number - self.number

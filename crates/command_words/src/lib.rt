@@ -7,11 +7,11 @@ mod cursor;
 mod images;
 mod kinds;
 mod lines;
-mod numbers;
 mod pass;
 mod settings;
 mod spans;
 mod table;
+mod values;
 
 pub use commands::{Command, Usage};
 pub use images::{ImageNames, images_of, joined};

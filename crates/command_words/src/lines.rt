@@ -107,7 +107,7 @@ fn read_command(verb: Verb, words: Words) -> Result<Command, Usage>
             reason,
         });
     }
-    let Some((prov, _)) = operands.next() else {
+    let Some((prov, _)) = operands.split_first() else {
         unreachable!();
     };
     Ok(command(verb, settings, prov.span()))
@@ -128,7 +128,7 @@ fn read(line: &[u8], sep: Sep) -> Result<Option<Command>, Usage>
     requires { length line.now ≤ 300000 }
     ensures { result ≡ reading sep line.now }
 {
-    let Some((name, words)) = Words::new(line, sep).next() else {
+    let Some((name, words)) = Words::new(line, sep).split_first() else {
         return Ok(None);
     };
     if starts_comment(sep, name.bytes) {

@@ -83,7 +83,7 @@ pub fn take_options<'a>(verb: Verb, words: Words<'a>) -> Result<(Settings, Words
     let mut settings = Settings::new();
     let mut at = words;
     let mut waiting = None;
-    'words: while let Some((word, behind)) = at.next() {
+    'words: while let Some((word, behind)) = at.split_first() {
         if let Some(option) = waiting {
             put(&mut settings, option, word)?;
             waiting = None;

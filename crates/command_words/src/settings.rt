@@ -4,9 +4,9 @@ ghost use Rattle.command_words.specs.Cursor.{seen};
 ghost use Rattle.command_words.specs.Settings.{span_of, backup_of};
 
 use crate::cursor::Piece;
-use crate::numbers;
 use crate::spans::{KeyWords, Span, SpanList};
 use crate::table::{Switch, Valued};
+use crate::values;
 use eli_base::{Auth, Cipher, Reason};
 
 /// What the options of a line say.
@@ -44,7 +44,19 @@ fn number(value: Piece, high: u64) -> Result<u64, Reason>
         (λ number. number_within 0 high value.entry.bytes.now ≡ Some number)
         (λ reason. (number_within 0 high value.entry.bytes.now ≡ None) × (reason ≡ Reason.BadNumber)) }
 {
-    numbers::number(value.bytes, 0, high).ok_or(Reason::BadNumber)
+    values::number(value.bytes, 0, high).ok_or(Reason::BadNumber)
+}
+
+// The place of a file, which is not named `-`.
+fn named_file(value: Piece) -> Result<Span, Reason>
+    ensures { MatchResult result
+        (λ file. (file_fault value.entry.bytes.now ≡ None) × (file ≡ span_of (seen value.entry)))
+        (λ reason. file_fault value.entry.bytes.now ≡ Some reason) }
+{
+    if value.bytes == b"-".as_slice() {
+        return Err(Reason::DashFile);
+    }
+    Ok(value.span())
 }
 
 fn backup(value: Piece) -> Result<Option<Span>, Reason>
@@ -52,27 +64,24 @@ fn backup(value: Piece) -> Result<Option<Span>, Reason>
         (λ file. (file_fault value.entry.bytes.now ≡ None) × (file ≡ backup_of (seen value.entry)))
         (λ reason. file_fault value.entry.bytes.now ≡ Some reason) }
 {
-    if value.bytes == b"-".as_slice() {
-        return Err(Reason::DashFile);
-    }
+    let file = named_file(value)?;
     if value.bytes == b"none".as_slice() {
         return Ok(None);
     }
-    Ok(Some(value.span()))
+    Ok(Some(file))
 }
 
 fn add_file(files: &mut SpanList, value: Piece) -> Result<(), Reason>
     ensures { MatchResult result
-        (λ _. (files_fault (length files.old) value.entry.bytes.now ≡ None) × (files.new ≡ files.old ++ span_of (seen value.entry) ∷ []))
+        (λ _. (files_fault (length files.old) value.entry.bytes.now ≡ None)
+        × (files.new ≡ files.old ++ span_of (seen value.entry) ∷ []))
         (λ reason. (files_fault (length files.old) value.entry.bytes.now ≡ Some reason) × (files.new ≡ files.old)) }
 {
-    if value.bytes == b"-".as_slice() {
-        return Err(Reason::DashFile);
-    }
+    let file = named_file(value)?;
     if files.len() >= 16 {
         return Err(Reason::TooManyFiles);
     }
-    files.push(value.span());
+    files.push(file);
     Ok(())
 }
 
@@ -135,10 +144,8 @@ impl Settings {
             (λ reason. value_fault option (length (files_so_far self.old option)) value.entry.bytes.now ≡ Some reason) }
     {
         match option {
-            Valued::AuthName => self.auth = numbers::auth(value.bytes).ok_or(Reason::BadName)?,
-            Valued::CipherName => self.cipher = numbers::cipher(value.bytes).ok_or(
-                Reason::BadName,
-            )?,
+            Valued::AuthName => self.auth = values::auth(value.bytes).ok_or(Reason::BadName)?,
+            Valued::CipherName => self.cipher = values::cipher(value.bytes).ok_or(Reason::BadName)?,
             Valued::Iterations => self.iterations = Some(number(value, 2_147_483_647)? as i32),
             Valued::KeyLength => self.keylen = number(value, 65_535)? as u16,
             Valued::SectorSize => self.sectorsize = number(value, 4_294_967_295)? as u32,

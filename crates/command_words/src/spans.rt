@@ -42,7 +42,7 @@ impl Model for SpanList {
 
 impl SpanList {
     /// The list without a span.
-    pub fn new() -> SpanList
+    pub(crate) fn new() -> SpanList
         ensures { result ≡ [] }
     {
         let none = Span {
@@ -57,7 +57,7 @@ impl SpanList {
     }
 
     /// The number of spans.
-    pub fn len(&self) -> usize
+    pub(crate) fn len(&self) -> usize
         ensures { result ≡ length self.now }
     {
         self.as_slice().len()
@@ -71,7 +71,7 @@ impl SpanList {
     }
 
     /// Adds a span at the end.
-    pub fn push(&mut self, span: Span)
+    pub(crate) fn push(&mut self, span: Span)
         requires { length self.old < 16 }
         ensures { self.new ≡ self.old ++ span ∷ [] }
     {

@@ -1,5 +1,4 @@
-use Rattle.std.proofs.Common.{◌≡◌, ◌∷◌, ◌++◌, take, map, length, sym, ◌∙◌, ap, arith, rules, string_bytes, Global}
-use Rattle.std.specs.List.{flat_map}
+use Rattle.std.proofs.Common.{◌≡◌, take, sym, ◌∙◌, rules, string_bytes, Global}
 use Rattle.std.proofs.lemmas.List.{take_all}
 use Rattle.command_words.proofs.JoinLaws.{joined_first}
 use Rattle.command_words.proofs.images.joined.Goals as goal

@@ -1,9 +1,7 @@
 ghost use Rattle.std.specs.Prelude.{◌≡◌, [], ◌+◌, length, MatchResult, IfOk};
-ghost use Rattle.command_words.specs.Cursor.{seen};
-ghost use Rattle.command_words.specs.Options.{kind_of};
-ghost use Rattle.command_words.specs.Pass.{given, with_rest, taken_letters, taken_options, kind_seen};
+ghost use Rattle.command_words.specs.Cursor.{seen, left};
+ghost use Rattle.command_words.specs.Pass.{given, with_rest, taken_letters, taken_options};
 ghost use Rattle.command_words.specs.Settings.{settings_of};
-ghost use Rattle.command_words.specs.Cursor.{left};
 
 use crate::commands::Usage;
 use crate::cursor::{Piece, Words};

@@ -3,3 +3,4 @@ pub mod Aes
 pub mod Blocks
 pub mod Schedule
 pub mod ScheduleLaws
+pub mod Examples

@@ -8,6 +8,7 @@
 ghost use Rattle.std.specs.Prelude.{◌≡◌, ℕ, ◌↔◌, List, length, IsSome, IfSome};
 ghost use Rattle.aes_core.specs.Aes.{encrypt, decrypt};
 ghost use Rattle.aes_core.specs.Schedule.{IsKeyLength};
+ghost use Rattle.aes_core.specs.Examples.{example_key, example_plain, example_128, example_192, example_256};
 
 pub mod blocks;
 mod expansion;
@@ -89,6 +90,13 @@ pub fn decrypt_undoes_encrypt(key: &[u8], block: &[u8])
     requires key { IsKeyLength (length key.now) }
     requires block { length block.now ≡ 16 }
     ensures { decrypt key.now (encrypt key.now block.now) ≡ block.now }
+{}
+
+/// The cipher's definition gives the example vectors of the standard (FIPS 197, appendix C).
+pub fn examples_of_the_standard()
+    ensures key_128 { encrypt (example_key 16) example_plain ≡ example_128 }
+    ensures key_192 { encrypt (example_key 24) example_plain ≡ example_192 }
+    ensures key_256 { encrypt (example_key 32) example_plain ≡ example_256 }
 {}
 
 #[cfg(test)]

@@ -3,29 +3,17 @@
 ghost use Rattle.std.specs.Prelude.{◌≡◌, ℕ, ◌<◌};
 ghost use Rattle.aes_core.specs.Aes.{xor, round_key, enciphered, deciphered};
 
-use crate::blocks::{self, Block};
+use crate::blocks::{Block, block_at, xor};
 use crate::steps::{
     inverse_mix_columns, inverse_shift_rows, inverse_sub_bytes, mix_columns, shift_rows, sub_bytes,
 };
 
-// Round key r.
-fn round_key(keys: &[u8; 240], r: usize) -> Block
-    requires { r < 15 }
-    ensures { result ≡ round_key keys.now r }
-{
-    let mut out = [0u8; 16];
-    for i in 0..16 {
-        out[i] = keys[16 * r + i];
-    }
-    out
-}
-
-// AddRoundKey (FIPS 197, 5.1.4).
+// AddRoundKey (FIPS 197, 5.1.4), of round key r.
 fn add_round_key(s: Block, keys: &[u8; 240], r: usize) -> Block
     requires { r < 15 }
     ensures { result ≡ xor s (round_key keys.now r) }
 {
-    blocks::xor(s, round_key(keys, r))
+    xor(s, block_at(keys, r))
 }
 
 // The cipher under the round keys, with `count` rounds before the last (FIPS 197, 5.1).

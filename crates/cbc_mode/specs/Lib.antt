@@ -1,1 +1,2 @@
 pub mod Cbc
+pub mod Examples

@@ -5,6 +5,7 @@ ghost use Rattle.std.specs.Prelude.{◌≡◌, ℕ, ◌+◌, ◌*◌, ◌/◌, �
 ghost use Rattle.aes_core.specs.Aes.{xor, encrypt, decrypt};
 ghost use Rattle.aes_core.specs.Schedule.{IsKeyLength};
 ghost use Rattle.cbc_mode.specs.Cbc.{cbc_seal, cbc_open};
+ghost use Rattle.cbc_mode.specs.Examples.{example_key, example_iv, example_plain, example_cipher};
 
 use aes_core::Schedule;
 use aes_core::blocks::{Block, block_at, xor};
@@ -64,6 +65,11 @@ pub fn cbc_open_undoes_cbc_seal(key: &[u8], iv: &[u8], plain: &[u8])
     requires iv { length iv.now ≡ 16 }
     requires plain { length plain.now % 16 ≡ 0 }
     ensures { cbc_open key.now iv.now (cbc_seal key.now iv.now plain.now) ≡ plain.now }
+{}
+
+/// The definition gives the example of the standard (NIST SP 800-38A, F.2.1).
+pub fn example_of_the_standard()
+    ensures { cbc_seal example_key example_iv example_plain ≡ example_cipher }
 {}
 
 #[cfg(test)]

@@ -1,1 +1,2 @@
 pub mod Xts
+pub mod Examples

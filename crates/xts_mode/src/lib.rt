@@ -6,6 +6,7 @@ ghost use Rattle.std.specs.Int.{w128, to_le_bytes};
 ghost use Rattle.aes_core.specs.Aes.{xor, encrypt, decrypt};
 ghost use Rattle.aes_core.specs.Schedule.{IsKeyLength};
 ghost use Rattle.xts_mode.specs.Xts.{doubled, first_tweak, xts_seal, xts_open};
+ghost use Rattle.xts_mode.specs.Examples.{example_key1, example_key2, example_unit, example_plain, example_cipher};
 
 use aes_core::Schedule;
 use aes_core::blocks::{Block, block_at, xor};
@@ -84,6 +85,11 @@ pub fn xts_open_undoes_xts_seal(key1: &[u8], key2: &[u8], tweak: u64, plain: &[u
     requires key2 { IsKeyLength (length key2.now) }
     requires plain { length plain.now % 16 ≡ 0 }
     ensures { xts_open key1.now key2.now tweak (xts_seal key1.now key2.now tweak plain.now) ≡ plain.now }
+{}
+
+/// The definition gives the example of the standard (IEEE 1619, appendix B, vector 2).
+pub fn example_of_the_standard()
+    ensures { xts_seal example_key1 example_key2 example_unit example_plain ≡ example_cipher }
 {}
 
 #[cfg(test)]

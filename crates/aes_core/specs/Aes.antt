@@ -14,7 +14,7 @@ bit n i = n / 2 ^ i % 2
 abbrev pub byte_of_bits : (ℕ → ℕ) → ℕ
 byte_of_bits b = b 0 + 2 * b 1 + 4 * b 2 + 8 * b 3 + 16 * b 4 + 32 * b 5 + 64 * b 6 + 128 * b 7
 
--- the affine map (5.2)
+-- the affine map (5.1.1)
 abbrev pub affine : ℕ → ℕ
 affine b = byte_of_bits (λ i. (bit b i + bit b ((i + 4) % 8) + bit b ((i + 5) % 8) + bit b ((i + 6) % 8) + bit b ((i + 7) % 8) + bit 0x63 i) % 2)
 

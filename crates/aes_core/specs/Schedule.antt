@@ -2,7 +2,7 @@
 use Rattle.std.specs.Prelude.{◌≡◌, ℕ, ◌+◌, ◌-◌, ◌*◌, ◌%◌, ◌<◌, ◌≤◌, ◌⊎◌, List, ◌++◌, length, take, replicate, slice_index}
 use Rattle.aes_core.specs.Aes.{key_schedule, key_words}
 
--- the lengths of a key, in bytes (FIPS 197, table 3)
+-- the lengths of a key, in bytes (FIPS 197, 5)
 abbrev pub IsKeyLength : ℕ → Type 0
 IsKeyLength n = (n ≡ 16) ⊎ ((n ≡ 24) ⊎ (n ≡ 32))
 

@@ -1,4 +1,4 @@
--- Vector 2 of IEEE 1619, appendix B, under keys of 128 bits.
+-- Vector 2 of IEEE 1619, annex B, under keys of 128 bits.
 use Rattle.std.specs.Prelude.{ℕ, List, [], ◌∷◌, replicate}
 
 -- the key of the data

@@ -1,4 +1,4 @@
--- XTS over AES, on whole blocks (IEEE 1619, 5.1 to 5.4).
+-- XTS over AES, on whole blocks (IEEE 1619, 5).
 use Rattle.std.specs.Prelude.{ℕ, zero, suc, ◌*◌, ◌/◌, ◌%◌, ◌^◌, List, ◌++◌, length, replicate, bit_xor}
 use Rattle.std.specs.Int.{w64, w128, to_le_bytes, from_le_bytes}
 use Rattle.aes_core.specs.Aes.{xor, encrypt, decrypt}
@@ -13,7 +13,7 @@ unfoldable pub tweak_at : ℕ → ℕ → ℕ
 tweak_at t zero = t
 tweak_at t (suc j) = doubled (tweak_at t j)
 
--- the tweak of block 0 of the data unit with this number (5.1)
+-- the tweak of block 0 of the data unit with this number (5.1 and 5.3.1)
 unfoldable pub first_tweak : List ℕ → ℕ → ℕ
 first_tweak key2 unit = from_le_bytes w128 (encrypt key2 (to_le_bytes w64 unit ++ replicate 8 0))
 

@@ -18,7 +18,7 @@ fn doubled(t: u128) -> u128
     t.wrapping_mul(2) ^ (t >> 127).wrapping_mul(0x87)
 }
 
-// The tweak of the first block of a data unit (IEEE 1619, 5.1).
+// The tweak of the first block of a data unit (IEEE 1619, 5.1 and 5.3.1).
 fn first_tweak(k2: &Schedule, unit: u64) -> u128
     ensures { result ≡ first_tweak k2.now unit }
 {
@@ -87,7 +87,7 @@ pub fn xts_open_undoes_xts_seal(key1: &[u8], key2: &[u8], tweak: u64, plain: &[u
     ensures { xts_open key1.now key2.now tweak (xts_seal key1.now key2.now tweak plain.now) ≡ plain.now }
 {}
 
-/// The definition gives the example of the standard (IEEE 1619, appendix B, vector 2).
+/// The definition gives the example of the standard (IEEE 1619, annex B, vector 2).
 pub fn example_of_the_standard()
     ensures { xts_seal example_key1 example_key2 example_unit example_plain ≡ example_cipher }
 {}

@@ -23,7 +23,7 @@ struct Vector {
     cipher: [u128; 2],
 }
 
-// IEEE 1619, appendix B: vectors 1 to 3, and the first two blocks of vectors 4 and 10.
+// IEEE 1619, annex B: vectors 1 to 3, and the first two blocks of vectors 4 and 10.
 const VECTORS: [Vector; 5] = [
     Vector {
         first: [0, 0],

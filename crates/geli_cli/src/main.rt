@@ -13,8 +13,9 @@ use file_cabinet::FileCabinet;
 use file_disk::FileDisk;
 use geli_core::{Shelf, Status, geli_main};
 use random_file::RandomFile;
+use std::env;
+use std::io::{self, ErrorKind};
 use std::process::ExitCode;
-use std::{env, io};
 use streams::{InputSource, OutputSink};
 
 fn main(rt: HostRuntime) -> ExitCode {
@@ -25,14 +26,18 @@ fn main(rt: HostRuntime) -> ExitCode {
     ExitCode::from(status.number())
 }
 
-// The words of the command line, without the program's name.
+// The words of the command line, without the program's name. Words that are no text are no words, and
+// ask for nothing.
 fn words(rt: &HostRuntime) -> Result<Vec<String>, NoMemory> {
     let mut words = Vec::new(rt.alloc());
-    let Ok(args) = env::args(rt) else {
-        return Err(NoMemory);
-    };
-    for word in args.skip(1) {
-        words.push(word)?;
+    match env::args(rt) {
+        Ok(args) => {
+            for word in args.skip(1) {
+                words.push(word)?;
+            }
+        }
+        Err(error) if error.kind() == ErrorKind::OutOfMemory => return Err(NoMemory),
+        Err(_) => {}
     }
     Ok(words)
 }

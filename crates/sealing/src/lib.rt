@@ -1,0 +1,46 @@
+//! Sealing and opening: how the plain bytes of a logical sector of a GELI provider become device sectors, and
+//! what device sectors read as (geli(8)).
+//!
+//! The definitions stand in `specs/Sectors.antt`, for providers with authentication and without. The two calls
+//! encipher and decipher one run of cipher blocks at a byte offset, in place.
+#![tactic(auto)]
+
+ghost use Rattle.std.specs.Prelude.{◌≡◌, ℕ, ◌*◌, ◌%◌, List, [], ◌∷◌, length};
+ghost use Rattle.eli_base.specs.Keying.{keying_of};
+ghost use Rattle.range_keys.specs.Keys.{first_key, second_key, tweak};
+ghost use Rattle.sealing.specs.Runs.{sealed_run, opened_run};
+ghost use Rattle.sealing.specs.Sectors.{seal, reading};
+ghost use Rattle.xts_mode.specs.Xts.{xts_seal, xts_open};
+
+use cbc_mode::{cbc_open, cbc_seal};
+use eli_base::{Cipher, MasterKey, Params};
+use range_keys::KeyRing;
+use xts_mode::{xts_open, xts_seal};
+
+/// Enciphers a run of whole cipher blocks in place, under the keys of the byte offset at which it stands.
+/// `open_run` takes it back.
+pub fn seal_run(ring: &mut KeyRing, offset: u64, block: &mut [u8])
+    requires { length block.old % 16 ≡ 0 }
+    ensures sealed { block.new ≡ sealed_run ring.old.keying offset block.old }
+    ensures taken_back { opened_run ring.old.keying offset block.new ≡ block.old }
+    ensures keying { ring.new.keying ≡ ring.old.keying }
+{
+    let keys = ring.key_at(offset);
+    match ring.cipher() {
+        Cipher::AesXts => xts_seal(&keys.first, &keys.second, offset, block),
+        Cipher::AesCbc => cbc_seal(&keys.first, &ring.iv_at(offset), block),
+    }
+}
+
+/// Deciphers a run of whole cipher blocks in place, under the keys of the byte offset at which it stands.
+pub fn open_run(ring: &mut KeyRing, offset: u64, block: &mut [u8])
+    requires { length block.old % 16 ≡ 0 }
+    ensures opened { block.new ≡ opened_run ring.old.keying offset block.old }
+    ensures keying { ring.new.keying ≡ ring.old.keying }
+{
+    let keys = ring.key_at(offset);
+    match ring.cipher() {
+        Cipher::AesXts => xts_open(&keys.first, &keys.second, offset, block),
+        Cipher::AesCbc => cbc_open(&keys.first, &ring.iv_at(offset), block),
+    }
+}

@@ -21,14 +21,10 @@ pub fn seal_plain(ring: &mut KeyRing, offset: u64, block: &mut [u8])
     requires off { ring.old.keying.auth ≡ Off }
     requires size { length block.old ≡ ring.old.keying.sectorsize }
     requires place { offset % ring.old.keying.sectorsize ≡ 0 }
-    ensures sealed {
-        let k = ring.old.keying in
-        seal k (offset / k.sectorsize) block.old ≡ device_sectors k block.new
-    }
-    ensures taken_back {
-        let k = ring.old.keying in
-        reading k (offset / k.sectorsize) (device_sectors k block.new) ≡ Ok block.old
-    }
+    ensures sealed { let k = ring.old.keying in
+        seal k (offset / k.sectorsize) block.old ≡ device_sectors k block.new }
+    ensures taken_back { let k = ring.old.keying in
+        reading k (offset / k.sectorsize) (device_sectors k block.new) ≡ Ok block.old }
     ensures keying { ring.new.keying ≡ ring.old.keying }
 {
     ring.is_of_a_keying();
@@ -41,10 +37,8 @@ pub fn open_plain(ring: &mut KeyRing, offset: u64, block: &mut [u8])
     requires off { ring.old.keying.auth ≡ Off }
     requires size { length block.old ≡ ring.old.keying.sectorsize }
     requires place { offset % ring.old.keying.sectorsize ≡ 0 }
-    ensures opened {
-        let k = ring.old.keying in
-        reading k (offset / k.sectorsize) (device_sectors k block.old) ≡ Ok block.new
-    }
+    ensures opened { let k = ring.old.keying in
+        reading k (offset / k.sectorsize) (device_sectors k block.old) ≡ Ok block.new }
     ensures keying { ring.new.keying ≡ ring.old.keying }
 {
     ring.is_of_a_keying();
@@ -62,14 +56,13 @@ pub fn device_sector_by_its_number(
     requires off { params.now.auth ≡ Off }
     requires xts { params.now.cipher ≡ AesXts }
     requires size { params.now.sectorsize ≡ 512 }
-    ensures opened {
-        let k = keying_of params.now master.now in
+    ensures opened { let k = keying_of params.now master.now in
         let offset = number * 512 in
-        reading k number (sector.now ∷ []) ≡ Ok (xts_open (first_key k offset) (second_key k offset) (tweak offset) sector.now)
-    }
-    ensures sealed {
-        let k = keying_of params.now master.now in
+        reading k number (sector.now ∷ []) ≡ Ok (xts_open (first_key k offset) (second_key k offset) (tweak offset) sector.now) }
+    ensures sealed { let k = keying_of params.now master.now in
         let offset = number * 512 in
-        seal k number sector.now ≡ xts_seal (first_key k offset) (second_key k offset) (tweak offset) sector.now ∷ []
-    }
+        seal k number sector.now ≡ xts_seal (first_key k offset) (second_key k offset) (tweak offset) sector.now ∷ [] }
 {}
+
+#[cfg(test)]
+mod tests;

@@ -1,0 +1,234 @@
+use crate::KeyRing;
+use aes_core::Schedule;
+use eli_base::{Auth, Cipher, MasterKey, Params, sector_size_ok};
+use std::process::Abort;
+use std::test::Fail;
+
+// The range keys of the master key with the bytes 0 to 127, from another implementation of the rules of geli(8), and
+// by Python's hmac: the front and the back half, each number big-endian.
+const PLAIN_0_FRONT: [u128; 2] = [
+    0xf6403813b0b67abbb64a620d5fe0f8db,
+    0x4e540133355d685b208d3eb99cf53971,
+];
+
+const PLAIN_0_BACK: [u128; 2] = [
+    0x54a6167dc13df45c97c1307bd28ae36b,
+    0xec37dc99699cbfb4ed16bf23cdc57fc6,
+];
+
+const PLAIN_1_FRONT: [u128; 2] = [
+    0x981cd92650a32f0376c4bde21cc5038d,
+    0xcb221ab63eb4a3c43269c5b893469d11,
+];
+
+const PLAIN_1_BACK: [u128; 2] = [
+    0x7baa092e977dc069bdd2a26f651aa9ff,
+    0xc38dff70ae671f11d2bee00228dd6010,
+];
+
+const TAGGED_0_FRONT: [u128; 2] = [
+    0xe454883443510806b7bc289611e0b730,
+    0x5ec4d77a634de0f8fe769aacc957152e,
+];
+
+const TAGGED_0_BACK: [u128; 2] = [
+    0xa7fc9a2dabd1c675002f6950fb15af19,
+    0xc276e8bb61225f2ee39fb75b61d552bf,
+];
+
+const TAGGED_1_FRONT: [u128; 2] = [
+    0xe7d52bbb6fb5b4258cc43814022b48d0,
+    0x1463e4c17fe222f0821e2f7598d87088,
+];
+
+const TAGGED_1_BACK: [u128; 2] = [
+    0x80eb994832ca584809c320991f28ac88,
+    0x4f7b35b668bc67c63b06dd2f75c2424d,
+];
+
+// Where the keys of AES with 256 bits are asked for, and which they are.
+struct Place {
+    auth: Auth,
+    cipher: Cipher,
+    sectorsize: u32,
+    offset: u64,
+    first: [u128; 2],
+    second: [u128; 2],
+}
+
+const PLACES: [Place; 10] = [
+    Place {
+        auth: Auth::Off,
+        cipher: Cipher::AesXts,
+        sectorsize: 512,
+        offset: 0,
+        first: PLAIN_0_FRONT,
+        second: PLAIN_0_BACK,
+    },
+    Place {
+        auth: Auth::Off,
+        cipher: Cipher::AesXts,
+        sectorsize: 512,
+        offset: 536870400,
+        first: PLAIN_0_FRONT,
+        second: PLAIN_0_BACK,
+    },
+    Place {
+        auth: Auth::Off,
+        cipher: Cipher::AesXts,
+        sectorsize: 512,
+        offset: 536870912,
+        first: PLAIN_1_FRONT,
+        second: PLAIN_1_BACK,
+    },
+    Place {
+        auth: Auth::Off,
+        cipher: Cipher::AesXts,
+        sectorsize: 4096,
+        offset: 4294963200,
+        first: PLAIN_0_FRONT,
+        second: PLAIN_0_BACK,
+    },
+    Place {
+        auth: Auth::Off,
+        cipher: Cipher::AesXts,
+        sectorsize: 4096,
+        offset: 4294967296,
+        first: PLAIN_1_FRONT,
+        second: PLAIN_1_BACK,
+    },
+    Place {
+        auth: Auth::Sha256,
+        cipher: Cipher::AesXts,
+        sectorsize: 512,
+        offset: 536870400,
+        first: TAGGED_0_FRONT,
+        second: TAGGED_0_BACK,
+    },
+    Place {
+        auth: Auth::Sha256,
+        cipher: Cipher::AesXts,
+        sectorsize: 512,
+        offset: 536870912,
+        first: TAGGED_1_FRONT,
+        second: TAGGED_1_BACK,
+    },
+    Place {
+        auth: Auth::Sha256,
+        cipher: Cipher::AesXts,
+        sectorsize: 65536,
+        offset: 536870400,
+        first: TAGGED_0_FRONT,
+        second: TAGGED_0_BACK,
+    },
+    Place {
+        auth: Auth::Sha256,
+        cipher: Cipher::AesXts,
+        sectorsize: 65536,
+        offset: 536870912,
+        first: TAGGED_1_FRONT,
+        second: TAGGED_1_BACK,
+    },
+    Place {
+        auth: Auth::Off,
+        cipher: Cipher::AesCbc,
+        sectorsize: 512,
+        offset: 536870912,
+        first: PLAIN_1_FRONT,
+        second: PLAIN_1_FRONT,
+    },
+];
+
+fn master() -> MasterKey {
+    let mut bytes = [0u8; 128];
+    for (i, byte) in bytes.iter_mut().enumerate() {
+        *byte = (i % 128) as u8;
+    }
+    MasterKey { bytes }
+}
+
+// A block of zeros under a key of 256 bits.
+fn enciphered(key: &Schedule) -> [u8; 16] {
+    let mut block = [0u8; 16];
+    key.encrypt_block(&mut block);
+    block
+}
+
+fn expected(key: [u128; 2]) -> Result<[u8; 16], Fail> {
+    let mut bytes = [0u8; 32];
+    bytes[..16].copy_from_slice(&key[0].to_be_bytes());
+    bytes[16..].copy_from_slice(&key[1].to_be_bytes());
+    Ok(enciphered(&Schedule::new(&bytes).ok_or("no key")?))
+}
+
+#[test]
+fn range_keys_by_offset(rt: HostRuntime) -> Result<(), Fail> {
+    for place in &PLACES {
+        assert!(rt; place.cipher.allows(256) && sector_size_ok(place.sectorsize));
+        let params = Params::new(7, place.auth, place.cipher, 256, place.sectorsize, 0, false);
+        let mut ring = KeyRing::new(rt.alloc(), &master(), &params)?;
+        let keys = ring.key_at(place.offset);
+        assert_eq!(rt;
+            enciphered(&keys.first),
+            expected(place.first)?,
+            "first at {}",
+            place.offset
+        );
+        assert_eq!(rt;
+            enciphered(&keys.second),
+            expected(place.second)?,
+            "second at {}",
+            place.offset
+        );
+    }
+    Ok(())
+}
+
+// An initial vector and the key of a tag, each number big-endian.
+struct Vector {
+    offset: u64,
+    vector: u128,
+    tag_key: [u128; 2],
+}
+
+// From the same implementation, and by Python's hmac and hashlib.
+const VECTORS: [Vector; 2] = [
+    Vector {
+        offset: 0,
+        vector: 0xd17cf353aed507c38b1a44f6675bd28b,
+        tag_key: [
+            0x5638cfdb8282c3b5ea5938006390b67d,
+            0x6cc4e3db0b40ec8fbcb3a26fcbfe2f2c,
+        ],
+    },
+    Vector {
+        offset: 4608,
+        vector: 0x1951244524cb541595ddbb0ec3a787fb,
+        tag_key: [
+            0xa9d89ee641cba9739611e6fda2bbeccf,
+            0x8d40bbfa7dbae3f5e8cfb0ce4f591bf5,
+        ],
+    },
+];
+
+fn check_vector(rt: &impl Abort, ring: &KeyRing, vector: &Vector) {
+    assert!(rt; ring.auth() == Auth::Sha256);
+    let tag_key = ring.tag_key_at(vector.offset);
+    let mut expected = [0u8; 32];
+    expected[..16].copy_from_slice(&vector.tag_key[0].to_be_bytes());
+    expected[16..].copy_from_slice(&vector.tag_key[1].to_be_bytes());
+    assert_eq!(rt; tag_key, expected);
+    assert_eq!(rt; ring.iv_at(vector.offset), vector.vector.to_be_bytes());
+}
+
+#[test]
+fn vectors_and_tag_keys(rt: HostRuntime) -> Result<(), Fail> {
+    assert!(rt; Cipher::AesCbc.allows(192) && sector_size_ok(4096));
+    let params = Params::new(7, Auth::Sha256, Cipher::AesCbc, 192, 4096, 0, false);
+    let ring = KeyRing::new(rt.alloc(), &master(), &params)?;
+    assert!(rt; ring.cipher() == Cipher::AesCbc);
+    for vector in &VECTORS {
+        check_vector(&rt, &ring, vector);
+    }
+    Ok(())
+}

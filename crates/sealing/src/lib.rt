@@ -38,9 +38,9 @@ pub fn open_run(ring: &mut KeyRing, offset: u64, block: &mut [u8])
     ensures opened { block.new ≡ opened_run ring.old.keying offset block.old }
     ensures keying { ring.new.keying ≡ ring.old.keying }
 {
-    let keys = ring.key_at(offset);
+    let range = ring.key_at(offset);
     match ring.cipher() {
-        Cipher::AesXts => xts_open(&keys.first, &keys.second, offset, block),
-        Cipher::AesCbc => cbc_open(&keys.first, &ring.iv_at(offset), block),
+        Cipher::AesXts => xts_open(&range.first, &range.second, offset, block),
+        Cipher::AesCbc => cbc_open(&range.first, &ring.iv_at(offset), block),
     }
 }

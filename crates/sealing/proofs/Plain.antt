@@ -1,12 +1,11 @@
 -- Sealing and opening where there is no authentication.
-use Rattle.std.proofs.Common.{◌≡◌, ℕ, ◌*◌, ◌/◌, ◌%◌, List, length, Result, Ok, sym, ap, ◌∙◌, arith, mul_comm}
+use Rattle.std.proofs.Common.{◌≡◌, ℕ, ◌*◌, ◌/◌, ◌%◌, List, length, Ok, sym, ap, ◌∙◌, arith, mul_comm}
 use Rattle.std.proofs.Math.Nat.{div-add-mod}
 use Rattle.std.specs.List.{concat}
 use Rattle.eli_base.specs.declared.algorithms.Auth.{Auth}
 use Rattle.eli_base.specs.declared.algorithms.Auth.TheVariants.{Off}
 use Rattle.eli_base.specs.Keying.{Keying}
 use Rattle.eli_base.specs.Units.{units_per_sector}
-use Rattle.sealing.specs.Parts.{parts}
 use Rattle.sealing.specs.Runs.{sealed_run, opened_run}
 use Rattle.sealing.specs.Sectors.{units, device_sectors, sealed_with, seal, opened_with, joined, reading}
 use Rattle.sealing.proofs.PartLists.{concat-parts, joined-ok}

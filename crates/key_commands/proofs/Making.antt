@@ -1,0 +1,41 @@
+-- What `init` did, from what its parts did.
+use Rattle.std.proofs.Common.{◌≡◌, ℕ, None, Ok, Err}
+use Rattle.block_traits.specs.Disk.{DiskState}
+use Rattle.eli_base.specs.declared.Refusal.{Refusal}
+use Rattle.eli_base.specs.declared.Refusal.TheVariants.{EntropyFault, DeviceFault}
+use Rattle.eli_metadata.specs.declared.Metadata.{Metadata}
+use Rattle.key_commands.specs.Init.{Inits, MakesMetadata, RefusesInit}
+use Rattle.key_commands.specs.NewMetadata.{metadata_of}
+use Rattle.key_commands.specs.Options.{early_refusal}
+use Rattle.key_commands.specs.Random.{Draws, EntropyState}
+use Rattle.key_commands.specs.declared.options.InitOptions.{InitOptions}
+use Rattle.key_commands.specs.declared.random.RandomParts.{RandomParts}
+use Rattle.key_commands.proofs.Keys.{inside-early_refusal}
+use Rattle.key_slots.specs.Slots.{wrapped}
+use Rattle.user_key.specs.UserKey.{user_key}
+use Rattle.user_key.specs.declared.Components.{Components}
+use Rattle.user_key.specs.declared.UserKey.{UserKey}
+
+-- the metadata by the parts of the random bytes are those by the random bytes
+pub makes : (options : InitOptions) (parts : Components) (sectors : ℕ) (random : RandomParts) (key : UserKey) (m : Metadata) (old new : EntropyState)
+    → early_refusal options parts sectors ≡ None → Draws random old new → user_key parts random.salt options.iterations ≡ Ok key
+    → m ≡ metadata_of options sectors random.salt (wrapped random.master.bytes key.bytes options.keylen) random.filler
+    → MakesMetadata options parts sectors old m new
+makes options parts sectors random key m old new served draws derived is = record {
+  served = served;
+  random = draws.random;
+  size = draws.size;
+  taken = draws.taken;
+  key = key;
+  derived = rw (← draws.salt) derived;
+  metadata = rw (← draws.salt, ← draws.master, ← draws.filler) is;
+}
+
+-- a refusal before anything was done
+pub Inits-refused : (options : InitOptions) (parts : Components) (disk disk' : DiskState) (entropy entropy' : EntropyState) (refusal : Refusal)
+    → RefusesInit options parts disk entropy refusal disk' entropy' → Inits options parts disk entropy (Err refusal) disk' entropy'
+Inits-refused options parts disk disk' entropy entropy' DeviceFault refuses =
+    let inside = inside-early_refusal options parts disk.size DeviceFault refuses.cause in absurd (cc)
+Inits-refused options parts disk disk' entropy entropy' EntropyFault refuses =
+    let inside = inside-early_refusal options parts disk.size EntropyFault refuses.cause in absurd (cc)
+Inits-refused options parts disk disk' entropy entropy' _ refuses = refuses

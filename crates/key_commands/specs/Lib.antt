@@ -1,0 +1,5 @@
+pub mod Init
+pub mod Kept
+pub mod NewMetadata
+pub mod Options
+pub mod Random

@@ -1,0 +1,52 @@
+-- The metadata of a new provider (g_eli.h, struct g_eli_metadata; geli(8), init).
+use Rattle.std.specs.Prelude.{ℕ, ◌+◌, ◌*◌, List, ◌++◌, Bool, true, false}
+use Rattle.eli_base.specs.declared.Auth.{Auth}
+use Rattle.eli_base.specs.declared.Auth.TheVariants.{Off, Sha256}
+use Rattle.eli_base.specs.declared.Cipher.{Cipher}
+use Rattle.eli_base.specs.declared.Cipher.TheVariants.{AesCbc, AesXts}
+use Rattle.eli_metadata.specs.declared.Metadata.{Metadata}
+use Rattle.key_slots.specs.Slots.{wrapped}
+use Rattle.key_commands.specs.declared.options.InitOptions.{InitOptions}
+use Rattle.key_commands.specs.Random.{salt_in, master_key_in, filler_in}
+
+-- CRYPTO_AES_CBC is 11 and CRYPTO_AES_XTS 22
+abbrev pub cipher_number : Cipher → ℕ
+cipher_number AesCbc = 11
+cipher_number AesXts = 22
+
+-- CRYPTO_SHA2_256_HMAC is 18
+abbrev pub auth_number : Auth → ℕ
+auth_number Off = 0
+auth_number Sha256 = 18
+
+-- G_ELI_FLAG_AUTH
+abbrev pub auth_flag : Auth → ℕ
+auth_flag Off = 0
+auth_flag Sha256 = 0x10
+
+-- G_ELI_FLAG_AUTORESIZE
+abbrev pub autoresize_flag : Bool → ℕ
+autoresize_flag false = 0
+autoresize_flag true = 0x200
+
+-- the metadata of an image of so many device sectors, with this salt, slot 0 and slot 1; slot 0 alone is set
+abbrev pub metadata_of : InitOptions → ℕ → List ℕ → List ℕ → List ℕ → Metadata
+metadata_of options sectors salt slot0 slot1 = record {
+  version = 7;
+  flags = auth_flag options.auth + autoresize_flag options.autoresize;
+  ealgo = cipher_number options.cipher;
+  keylen = options.keylen;
+  aalgo = auth_number options.auth;
+  provsize = 512 * sectors;
+  sectorsize = options.sectorsize;
+  keys = 1;
+  iterations = options.iterations;
+  salt = salt;
+  mkeys = slot0 ++ slot1;
+}
+
+-- the metadata by the random bytes and the user key u: the master key that they have is wrapped in slot 0, and
+-- slot 1 has filler
+abbrev pub new_metadata : InitOptions → ℕ → List ℕ → List ℕ → Metadata
+new_metadata options sectors random u =
+    metadata_of options sectors (salt_in random) (wrapped (master_key_in random) u options.keylen) (filler_in random)

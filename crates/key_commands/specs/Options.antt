@@ -1,0 +1,29 @@
+-- What `geli init` refuses before anything is done (geli(8)).
+use Rattle.std.specs.Prelude.{ℕ, ◌*◌, ◌==◌, [], not, Option, Some, None, Result, Ok, Err, if◌then◌else◌}
+use Rattle.eli_base.specs.Algorithms.{allows_length}
+use Rattle.eli_base.specs.SectorSize.{is_sector_size}
+use Rattle.eli_base.specs.Units.{media_sectors}
+use Rattle.eli_base.specs.declared.Refusal.{Refusal}
+use Rattle.eli_base.specs.declared.Refusal.TheVariants as refusals
+use Rattle.user_key.specs.UserKey.{user_key}
+use Rattle.user_key.specs.declared.Components.{Components}
+use Rattle.user_key.specs.declared.UserKey.{UserKey}
+use Rattle.user_key.specs.declared.KeyFault.{KeyFault}
+use Rattle.user_key.specs.declared.KeyFault.TheVariants.{PassphraseNotSet, PassphraseNeeded, NoKeyComponents}
+use Rattle.key_commands.specs.declared.options.InitOptions.{InitOptions}
+
+-- the refusal of components that make no user key
+abbrev pub key_refusal : Result UserKey KeyFault → Option Refusal
+key_refusal (Ok key) = None
+key_refusal (Err PassphraseNotSet) = Some refusals.PassphraseNotSet
+key_refusal (Err PassphraseNeeded) = Some refusals.PassphraseNeeded
+key_refusal (Err NoKeyComponents) = Some refusals.NoKeyComponents
+
+-- the first refusal that holds of an image of so many device sectors. One of fewer than two has no logical
+-- sector. Whether components make a key is the same under every salt, so it is asked with none.
+abbrev pub early_refusal : InitOptions → Components → ℕ → Option Refusal
+early_refusal options parts sectors =
+    (if not (allows_length options.cipher options.keylen) then Some (refusals.BadKeyLength options.keylen)
+    else (if not (is_sector_size options.sectorsize) then Some (refusals.BadSectorSize options.sectorsize)
+    else (if media_sectors options.auth options.sectorsize (512 * sectors) == 0 then Some (refusals.TooSmall (512 * sectors))
+    else key_refusal (user_key parts [] options.iterations))))

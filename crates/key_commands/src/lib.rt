@@ -1,0 +1,13 @@
+//! The commands that change the keys of a GELI provider in its metadata (geli(8)).
+//!
+//! `init` makes a new provider of a disk. No call takes memory.
+#![tactic(auto)]
+
+mod options;
+mod provider;
+mod random;
+#[cfg(test)]
+mod tests;
+
+pub use options::InitOptions;
+pub use provider::init;

@@ -1,0 +1,126 @@
+//! A new provider.
+
+ghost use Rattle.std.specs.Prelude.{◌≡◌, ◌<◌, ◌≤◌, ◌^◌, ◌+◌, ◌++◌, OnOk, OnErr, length, take};
+ghost use Rattle.block_traits.specs.Disk.{FailsIn, Logs};
+ghost use Rattle.key_commands.specs.Init.{Inits, init_events};
+ghost use Rattle.key_commands.specs.NewMetadata.{auth_flag, auth_number, autoresize_flag, cipher_number, metadata_of};
+ghost use Rattle.key_commands.specs.Random.{entropy_of};
+ghost use Rattle.key_slots.specs.Slots.{IsKeyBits, wrapped};
+
+use crate::options::{InitOptions, VERSION, check};
+use crate::random::{RandomParts, draw};
+use block_traits::{Disk, DiskFailed, Entropy, store_last};
+use eli_base::{Auth, Cipher, Refusal};
+use eli_metadata::{Metadata, encode};
+use key_slots::wrap;
+use user_key::{Components, UserKey, derive};
+
+fn cipher_number(cipher: Cipher) -> u16
+    ensures { result ≡ cipher_number cipher }
+{
+    match cipher {
+        Cipher::AesCbc => 11,
+        Cipher::AesXts => 22,
+    }
+}
+
+fn auth_number(auth: Auth) -> u16
+    ensures { result ≡ auth_number auth }
+{
+    match auth {
+        Auth::Off => 0,
+        Auth::Sha256 => 18,
+    }
+}
+
+fn flags(options: &InitOptions) -> u32
+    ensures { result ≡ auth_flag options.now.auth + autoresize_flag options.now.autoresize }
+{
+    let auth = match options.auth {
+        Auth::Off => 0,
+        Auth::Sha256 => 0x10,
+    };
+    let autoresize = if options.autoresize { 0x200 } else { 0 };
+    auth + autoresize
+}
+
+fn put(mkeys: &mut [u8; 384], place: usize, bytes: &[u8])
+    requires { place + length bytes.now ≤ 384 }
+    ensures { take (place + length bytes.now) mkeys.new ≡ take place mkeys.old ++ bytes.now }
+{
+    mkeys[place..place + bytes.len()].copy_from_slice(bytes);
+}
+
+// The bytes of both slots.
+fn both_slots(slot0: &[u8; 192], slot1: &[u8; 192]) -> [u8; 384]
+    ensures { result ≡ slot0.now ++ slot1.now }
+{
+    let mut mkeys = [0; 384];
+    put(&mut mkeys, 0, slot0);
+    put(&mut mkeys, 192, slot1);
+    mkeys
+}
+
+fn metadata_of(options: &InitOptions, sectors: u64, random: &RandomParts, key: &UserKey) -> Metadata
+    requires keylen { IsKeyBits options.now.keylen }
+    requires small { sectors < 2 ^ 44 }
+    ensures { result ≡ metadata_of options.now sectors random.now.salt (wrapped random.now.master.bytes key.now.bytes options.now.keylen) random.now.filler }
+{
+    Metadata {
+        version: VERSION,
+        flags: flags(options),
+        ealgo: cipher_number(options.cipher),
+        keylen: options.keylen,
+        aalgo: auth_number(options.auth),
+        provsize: 512 * sectors,
+        sectorsize: options.sectorsize,
+        keys: 1,
+        iterations: options.iterations,
+        salt: random.salt,
+        mkeys: both_slots(&wrap(&random.master, key, options.keylen), &random.filler),
+    }
+}
+
+// Puts metadata in the place of what the last sector has. What was written before lasts first.
+fn replace_last<D: Disk>(disk: &mut D, meta: &Metadata) -> Result<(), DiskFailed>
+    requires { 0 < (D.state disk.old).size }
+    ensures ok { OnOk result (Logs (init_events (D.state disk.old) meta.now) (D.state disk.old) (D.state disk.new)) }
+    ensures err { OnErr result (FailsIn (init_events (D.state disk.old) meta.now) (D.state disk.old) (D.state disk.new)) }
+{
+    let mut sector = [0; 512];
+    encode(meta, &mut sector);
+    disk.flush()?;
+    store_last(disk, &sector)
+}
+
+/// Makes a new provider of a disk: its last sector gets new metadata, with a new master key that the user
+/// key of these components opens in slot 0. Answers the metadata.
+///
+/// In this order it is refused as `BadKeyLength`, `BadSectorSize` or `TooSmall` (in bytes: fewer than two
+/// device sectors, or no whole logical sector), or as the components of the key are, and then nothing was
+/// done; as `EntropyFault`, only where the entropy failed, and then the disk is as it was; as
+/// `DeviceFault`, only where the disk failed. The random bytes are taken in one call, before the first
+/// event of the disk.
+pub fn init<D: Disk, E: Entropy>(
+    disk: &mut D,
+    options: &InitOptions,
+    parts: &Components,
+    entropy: &mut E,
+) -> Result<Metadata, Refusal>
+    ensures { Inits options.now parts.now (D.state disk.old) (entropy_of E.left E.faults entropy.old)
+        result (D.state disk.new) (entropy_of E.left E.faults entropy.new) }
+{
+    let sectors = disk.sectors();
+    check(options, parts, sectors)?;
+    let Ok(random) = draw(entropy) else {
+        return Err(Refusal::EntropyFault);
+    };
+    let Ok(key) = derive(parts, &random.salt, options.iterations) else {
+        unreachable!();
+    };
+    let meta = metadata_of(options, sectors, &random, &key);
+    match replace_last(disk, &meta) {
+        Ok(()) => Ok(meta),
+        Err(_) => Err(Refusal::DeviceFault),
+    }
+}

@@ -1,9 +1,11 @@
 pub mod Calls
 pub mod Count
 pub mod Image
+pub mod Keeping
 pub mod MemCabinet
 pub mod MemDisk
 pub mod Plan
 pub mod Replay
 pub mod SectorLog
 pub mod Streams
+pub mod Survivor

@@ -12,6 +12,7 @@ mod mem_sink;
 mod mem_source;
 mod plan;
 mod sectors;
+mod survivor;
 
 pub use mem_cabinet::MemCabinet;
 pub use mem_disk::MemDisk;
@@ -19,6 +20,7 @@ pub use mem_entropy::MemEntropy;
 pub use mem_sink::MemSink;
 pub use mem_source::MemSource;
 pub use plan::{CallKind, FailAt};
+pub use survivor::{Pick, SurvivorFault, survivor_whole};
 
 #[cfg(test)]
 mod tests;

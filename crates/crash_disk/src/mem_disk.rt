@@ -1,12 +1,13 @@
 // A disk in memory, which shows its events and fails where a list says.
-ghost use Rattle.std.specs.Prelude.{◌≡◌, ◌<◌, ◌≤◌, ◌^◌, ◌/◌, ◌∷◌, [], IfOk, OnOk, OnErr, is_err, All, length, replicate};
+ghost use Rattle.std.specs.Prelude.{◌≡◌, ◌<◌, ◌≤◌, ◌^◌, ◌/◌, ◌∷◌, [], IfOk, OnOk, OnErr, is_err, All, length, replicate, take};
 ghost use Rattle.crash_disk.specs.Image.{sectors_of, zero_sector};
+ghost use Rattle.crash_disk.specs.Replay.{replayed};
 
 use crate::image::{image_sectors, zero_sectors};
 use crate::plan::{CallKind, FailAt, Plan};
 use crate::sectors::SectorLog;
 use block_traits::{Disk, DiskFailed, Event, NoMemory, Sector};
-use std::alloc::Global;
+use std::alloc::{AllocError, Global};
 
 /// A disk in memory. It tells its content and shows its events.
 #[derive(Drop)]
@@ -62,8 +63,32 @@ impl MemDisk {
         self.faults
     }
 
+    // What the sectors held at first.
+    pub(crate) fn base(&self) -> &[Sector]
+        ensures base { result.now ≡ (state_of self.now).content.base }
+        ensures small { length result.now < 2 ^ 44 }
+    {
+        self.log.base()
+    }
+
+    // How many events there is room for.
+    pub(crate) fn room(&self) -> u64
+        ensures { result ≡ (state_of self.now).room }
+    {
+        self.log.room()
+    }
+
+    // What the sectors held after the first events.
+    pub(crate) fn sectors_at(&self, alloc: Global, moment: usize) -> Result<Vec<Sector>, AllocError>
+        requires { moment ≤ length (state_of self.now).content.history }
+        ensures { let content = (state_of self.now).content in
+            IfOk result (λ image. image.items ≡ replayed content.base (take moment content.history)) }
+    {
+        self.log.at(alloc, moment)
+    }
+
     // A disk that had these sectors from the start.
-    fn from_sectors(alloc: Global, base: Vec<Sector>, room: u64) -> Result<MemDisk, NoMemory>
+    pub(crate) fn from_sectors(alloc: Global, base: Vec<Sector>, room: u64) -> Result<MemDisk, NoMemory>
         requires small { length base.items < 2 ^ 44 }
         requires sectors { All IsSector base.items }
         ensures { IfOk result (λ disk. state_of disk ≡ fresh base.items room) }

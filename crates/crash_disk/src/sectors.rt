@@ -1,11 +1,11 @@
 // Sectors in memory, with all that was done to them.
-ghost use Rattle.std.specs.Prelude.{◌≡◌, ◌<◌, ◌≤◌, ◌^◌, ◌∷◌, [], ◌↔◌, IfOk, IsTrue, All, length, vec_capacity};
+ghost use Rattle.std.specs.Prelude.{◌≡◌, ◌<◌, ◌≤◌, ◌^◌, ◌∷◌, [], ◌↔◌, IfOk, IsTrue, All, length, take, vec_capacity};
 ghost use Rattle.block_traits.specs.Content.{IsContentOf, IsEventOf, IsSector, present};
 ghost use Rattle.block_traits.proofs.Props.{IsContentOf-prop};
 ghost use Rattle.crash_disk.specs.Replay.{content, replayed};
 
 use block_traits::{Event, NoMemory, Sector};
-use std::alloc::Global;
+use std::alloc::{AllocError, Global};
 
 /// Sectors by what they held at first and what was done to them since, with room for more events.
 #[derive(Drop)]
@@ -68,6 +68,32 @@ impl SectorLog {
         ensures { result.now ≡ self.now.events.items }
     {
         self.events.as_slice()
+    }
+
+    /// What the sectors held at first.
+    pub fn base(&self) -> &[Sector]
+        ensures { result.now ≡ self.now.base.items }
+    {
+        self.base.as_slice()
+    }
+
+    /// What the sectors held after the first events.
+    pub fn at(&self, alloc: Global, moment: usize) -> Result<Vec<Sector>, AllocError>
+        requires { moment ≤ length self.now.events.items }
+        ensures { IfOk result (λ image. image.items ≡ replayed self.now.base.items (take moment self.now.events.items)) }
+    {
+        let mut image = Vec::from_slice(alloc, &self.base)?;
+        for event in &self.events[..moment] {
+            apply(&mut image, *event);
+        }
+        Ok(image)
+    }
+
+    /// How many events there is room for.
+    pub fn room(&self) -> u64
+        ensures { result ≡ self.now.room }
+    {
+        self.room
     }
 
     /// Does what an event says.

@@ -1,0 +1,148 @@
+// What a crash leaves of a disk in memory.
+ghost use Rattle.std.specs.Prelude.{◌≡◌, ◌<◌, ◌≤◌, ◌+◌, ◌-◌, ◌^◌, ◌++◌, ◌∷◌, [], ℕ, List, IfOk, IfErr, IfSome, IfNone, length, slice_get};
+ghost use Rattle.block_traits.specs.Content.{at_moment, kept_after};
+ghost use Rattle.block_traits.specs.Crash.{IsImage};
+ghost use Rattle.crash_disk.specs.Replay.{content};
+ghost use Rattle.crash_disk.specs.Survivor.{AllGood, IsBad, IsFault, IsGood, choice_of, is_picked};
+ghost use Rattle.crash_disk.specs.MemDisk.{fresh, state_of};
+
+use crate::MemDisk;
+use block_traits::{Event, Sector};
+use std::alloc::Global;
+
+/// A value that a sector has after a crash, by its place among those that it may have.
+#[derive(Clone, Copy, Debug, PartialEq, Eq)]
+pub struct Pick {
+    /// The number of the sector.
+    pub n: u64,
+    /// The place of the value, the oldest first.
+    pub place: usize,
+}
+
+/// Why there is no such image.
+#[derive(Clone, Copy, Debug, PartialEq, Eq)]
+pub enum SurvivorFault {
+    /// This pick is the first whose sector is past the end or was picked before, or whose place has
+    /// no value.
+    BadPick { index: usize },
+    /// There was no memory.
+    NoMemory,
+}
+
+/// The disk that a crash leaves after the first events: its base has the picked values, and the last
+/// value of each sector without a pick. It has the room of the disk, and nothing was done to it.
+pub fn survivor_whole(
+    alloc: Global,
+    disk: &MemDisk,
+    moment: usize,
+    picks: &[Pick],
+) -> Result<MemDisk, SurvivorFault>
+    requires { moment ≤ length (state_of disk.now).content.history }
+    ensures image { let left = at_moment moment (state_of disk.now).content in
+        IfOk result (λ survivor. IsImage left (choice_of left picks.now) (state_of survivor).content.base) }
+    ensures good { let left = at_moment moment (state_of disk.now).content in
+        IfOk result (λ _. AllGood left picks.now (length picks.now)) }
+    ensures rest { IfOk result (λ survivor. state_of survivor ≡ fresh (state_of survivor).content.base (state_of disk.now).room) }
+    ensures bad { IfErr result (IsFault (at_moment moment (state_of disk.now).content) picks.now) }
+{
+    let Ok(mut image) = disk.sectors_at(alloc, moment) else {
+        return Err(SurvivorFault::NoMemory);
+    };
+    let base = disk.base();
+    let events = &disk.history()[..moment];
+    for (index, pick) in picks.iter().enumerate() {
+        let Some(bytes) = picked_value(base, events, &picks[..index], *pick) else {
+            return Err(SurvivorFault::BadPick { index });
+        };
+        image[pick.n as usize] = bytes;
+    }
+    match MemDisk::from_sectors(alloc, image, disk.room()) {
+        Ok(survivor) => Ok(survivor),
+        Err(_) => Err(SurvivorFault::NoMemory),
+    }
+}
+
+// The value that is picked, unless the pick is bad.
+fn picked_value(base: &[Sector], events: &[Event], before: &[Pick], pick: Pick) -> Option<Sector>
+    ensures good { IfSome result (IsGood (content base.now events.now) before.now pick) }
+    ensures bad { IfNone result (IsBad (content base.now events.now) before.now pick) }
+{
+    if pick.n >= base.len() as u64 || is_picked(before, pick.n) {
+        return None;
+    }
+    kept_value(&base[pick.n as usize], events, pick.n, pick.place)
+}
+
+// Whether a sector is among the picks.
+fn is_picked(picks: &[Pick], n: u64) -> bool
+    ensures { result ≡ is_picked n picks.now }
+{
+    for pick in picks {
+        if pick.n == n {
+            return true;
+        }
+    }
+    false
+}
+
+// The value at a place among those that a sector may have after events.
+fn kept_value(base: &Sector, events: &[Event], n: u64, place: usize) -> Option<Sector>
+    ensures { result ≡ slice_get (kept_after events.now n (base.now ∷ [])) place }
+{
+    let place = place as u64;
+    let mut keeping = Keeping::new(*base, place);
+    for event in events {
+        keeping.add(event, n, place);
+    }
+    keeping.found
+}
+
+// The last of the values so far, how many they are, and the one at a place.
+#[derive(Drop)]
+struct Keeping {
+    last: Sector,
+    count: u64,
+    found: Option<Sector>,
+}
+
+impl Keeping {
+    ghost use Rattle.crash_disk.specs.Keeping.{KeepsOf};
+
+    fn new(value: Sector, place: u64) -> Keeping
+        ensures { KeepsOf (value ∷ []) place result }
+    {
+        Keeping {
+            last: value,
+            count: 1,
+            found: if place == 0 { Some(value) } else { None },
+        }
+    }
+
+    // Goes on by an event.
+    fn add(&mut self, event: &Event, n: u64, place: u64)
+        requires { self.old.count < 2 ^ 64 - 1 }
+        ensures keeps { (values : List (List ℕ)) → KeepsOf values place self.old → KeepsOf (kept_after (event.now ∷ []) n values) place self.new }
+        ensures count { self.new.count ≤ self.old.count + 1 }
+    {
+        match event {
+            Event::Write { n: m, bytes } => {
+                if *m == n {
+                    self.push(*bytes, place);
+                }
+            }
+            Event::Flush => *self = Keeping::new(self.last, place),
+        }
+    }
+
+    fn push(&mut self, value: Sector, place: u64)
+        requires { self.old.count < 2 ^ 64 - 1 }
+        ensures keeps { (values : List (List ℕ)) → KeepsOf values place self.old → KeepsOf (values ++ value ∷ []) place self.new }
+        ensures count { self.new.count ≡ self.old.count + 1 }
+    {
+        if self.count == place {
+            self.found = Some(value);
+        }
+        self.last = value;
+        self.count += 1;
+    }
+}

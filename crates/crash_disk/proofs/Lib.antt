@@ -5,3 +5,4 @@ pub mod PlanLemmas
 pub mod ReplayLemmas
 pub mod StreamLemmas
 pub mod SurvivorLemmas
+pub mod TornLemmas

@@ -20,7 +20,7 @@ pub use mem_entropy::MemEntropy;
 pub use mem_sink::MemSink;
 pub use mem_source::MemSource;
 pub use plan::{CallKind, FailAt};
-pub use survivor::{Pick, SurvivorFault, survivor_whole};
+pub use survivor::{Pick, SurvivorFault, Torn, survivor_torn, survivor_whole};
 
 #[cfg(test)]
 mod tests;

@@ -1,10 +1,12 @@
 // What a crash leaves of a disk in memory.
-ghost use Rattle.std.specs.Prelude.{◌≡◌, ◌<◌, ◌≤◌, ◌+◌, ◌-◌, ◌^◌, ◌++◌, ◌∷◌, [], ℕ, List, IfOk, IfErr, IfSome, IfNone, length, slice_get};
-ghost use Rattle.block_traits.specs.Content.{at_moment, kept_after};
-ghost use Rattle.block_traits.specs.Crash.{IsImage};
+ghost use Rattle.std.specs.Prelude.{◌≡◌, ◌<◌, ◌≤◌, ◌+◌, ◌-◌, ◌^◌, ◌++◌, ◌∷◌, [], ℕ, List, IfOk, IfErr, IfSome, IfNone, All, length, slice_get, slice_set};
+ghost use Rattle.std.specs.Bool.{OnTrue, OnFalse};
+ghost use Rattle.block_traits.specs.Content.{IsSector, at_moment, kept_after};
+ghost use Rattle.block_traits.specs.Crash.{IsImage, IsTorn};
 ghost use Rattle.crash_disk.specs.Replay.{content};
-ghost use Rattle.crash_disk.specs.Survivor.{AllGood, IsBad, IsFault, IsGood, choice_of, is_picked};
+ghost use Rattle.crash_disk.specs.Survivor.{AllGood, AllGoodTears, IsBad, IsBadTear, IsFault, IsGood, IsGoodTear, IsTornImage, choice_of, is_picked, is_torn};
 ghost use Rattle.crash_disk.specs.MemDisk.{fresh, state_of};
+ghost use Rattle.crash_disk.specs.declared.survivor.Torn.{Torn};
 
 use crate::MemDisk;
 use block_traits::{Event, Sector};
@@ -19,12 +21,24 @@ pub struct Pick {
     pub place: usize,
 }
 
-/// Why there is no such image.
+/// A sector that a crash tears, and the bytes that it holds then.
+#[derive(Clone, Copy, Debug, PartialEq, Eq)]
+pub struct Torn {
+    /// The number of the sector.
+    pub n: u64,
+    /// What it holds.
+    pub bytes: Sector,
+}
+
+/// Why there is no such image. All picks are looked at before the torn entries.
 #[derive(Clone, Copy, Debug, PartialEq, Eq)]
 pub enum SurvivorFault {
     /// This pick is the first whose sector is past the end or was picked before, or whose place has
     /// no value.
     BadPick { index: usize },
+    /// This torn entry is the first whose sector is the last one or past the end, was picked or
+    /// named before, or has one kept value alone.
+    BadTorn { index: usize },
     /// There was no memory.
     NoMemory,
 }
@@ -43,7 +57,64 @@ pub fn survivor_whole(
     ensures good { let left = at_moment moment (state_of disk.now).content in
         IfOk result (λ _. AllGood left picks.now (length picks.now)) }
     ensures rest { IfOk result (λ survivor. state_of survivor ≡ fresh (state_of survivor).content.base (state_of disk.now).room) }
-    ensures bad { IfErr result (IsFault (at_moment moment (state_of disk.now).content) picks.now) }
+    ensures bad { IfErr result (IsFault (at_moment moment (state_of disk.now).content) picks.now []) }
+{
+    let image = picked_image(alloc, disk, moment, picks)?;
+    match MemDisk::from_sectors(alloc, image, disk.room()) {
+        Ok(survivor) => Ok(survivor),
+        Err(_) => Err(SurvivorFault::NoMemory),
+    }
+}
+
+/// The same, where besides the named data sectors hold the given bytes.
+pub fn survivor_torn(
+    alloc: Global,
+    disk: &MemDisk,
+    moment: usize,
+    picks: &[Pick],
+    torn: &[Torn],
+) -> Result<MemDisk, SurvivorFault>
+    requires { moment ≤ length (state_of disk.now).content.history }
+    ensures image { let left = at_moment moment (state_of disk.now).content in
+        IfOk result (λ survivor. IsTornImage left (choice_of left picks.now) torn.now (state_of survivor).content.base) }
+    ensures torn { let left = at_moment moment (state_of disk.now).content in
+        IfOk result (λ survivor. IsTorn left (state_of survivor).content.base) }
+    ensures good { let left = at_moment moment (state_of disk.now).content in
+        IfOk result (λ _. AllGood left picks.now (length picks.now)) }
+    ensures good_torn { let left = at_moment moment (state_of disk.now).content in
+        IfOk result (λ _. AllGoodTears left picks.now torn.now (length torn.now)) }
+    ensures rest { IfOk result (λ survivor. state_of survivor ≡ fresh (state_of survivor).content.base (state_of disk.now).room) }
+    ensures bad { IfErr result (IsFault (at_moment moment (state_of disk.now).content) picks.now torn.now) }
+{
+    let mut image = picked_image(alloc, disk, moment, picks)?;
+    let base = disk.base();
+    let events = &disk.history()[..moment];
+    for (index, tear) in torn.iter().enumerate() {
+        if !can_tear(base, events, picks, &torn[..index], tear.n) {
+            return Err(SurvivorFault::BadTorn { index });
+        }
+        put(&mut image, tear.n, &tear.bytes);
+    }
+    match MemDisk::from_sectors(alloc, image, disk.room()) {
+        Ok(survivor) => Ok(survivor),
+        Err(_) => Err(SurvivorFault::NoMemory),
+    }
+}
+
+// The image that the picks name.
+fn picked_image(
+    alloc: Global,
+    disk: &MemDisk,
+    moment: usize,
+    picks: &[Pick],
+) -> Result<Vec<Sector>, SurvivorFault>
+    requires { moment ≤ length (state_of disk.now).content.history }
+    ensures image { let left = at_moment moment (state_of disk.now).content in
+        IfOk result (λ image. IsImage left (choice_of left picks.now) image.items) }
+    ensures sectors { IfOk result (λ image. All IsSector image.items) }
+    ensures good { let left = at_moment moment (state_of disk.now).content in
+        IfOk result (λ _. AllGood left picks.now (length picks.now)) }
+    ensures bad { IfErr result (λ fault. (torn : List Torn) → IsFault (at_moment moment (state_of disk.now).content) picks.now torn fault) }
 {
     let Ok(mut image) = disk.sectors_at(alloc, moment) else {
         return Err(SurvivorFault::NoMemory);
@@ -56,10 +127,39 @@ pub fn survivor_whole(
         };
         image[pick.n as usize] = bytes;
     }
-    match MemDisk::from_sectors(alloc, image, disk.room()) {
-        Ok(survivor) => Ok(survivor),
-        Err(_) => Err(SurvivorFault::NoMemory),
+    Ok(image)
+}
+
+// Gives a sector these bytes.
+fn put(image: &mut [Sector], n: u64, bytes: &Sector)
+    requires { n < length image.old }
+    ensures after { image.new ≡ slice_set image.old n bytes.now }
+    ensures sector { IsSector bytes.now }
+{
+    image[n as usize] = *bytes;
+}
+
+// Whether a sector may be torn.
+fn can_tear(base: &[Sector], events: &[Event], picks: &[Pick], before: &[Torn], n: u64) -> bool
+    ensures good { OnTrue result (IsGoodTear (content base.now events.now) picks.now before.now n) }
+    ensures bad { OnFalse result (IsBadTear (content base.now events.now) picks.now before.now n) }
+{
+    n < (base.len() as u64).saturating_sub(1)
+        && !is_picked(picks, n)
+        && !is_torn(before, n)
+        && kept_value(&base[n as usize], events, n, 1).is_some()
+}
+
+// Whether a sector is among the torn ones.
+fn is_torn(torn: &[Torn], n: u64) -> bool
+    ensures { result ≡ is_torn n torn.now }
+{
+    for tear in torn {
+        if tear.n == n {
+            return true;
+        }
     }
+    false
 }
 
 // The value that is picked, unless the pick is bad.

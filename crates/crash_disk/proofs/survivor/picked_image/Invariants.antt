@@ -3,7 +3,7 @@ use Rattle.block_traits.specs.Content.{at_moment}
 use Rattle.block_traits.specs.Crash.{IsImage}
 use Rattle.crash_disk.specs.MemDisk.{state_of}
 use Rattle.crash_disk.specs.Survivor.{AllGood, choice_of}
-use Rattle.crash_disk.proofs.survivor.survivor_whole.Given as goal
+use Rattle.crash_disk.proofs.survivor.picked_image.Given as goal
 
 abbrev pub invariant-loop-index : goal.invariant-loop-index
 invariant-loop-index l =

@@ -3,7 +3,7 @@ use Rattle.std.proofs.Common.{◌≡◌, ◌≢◌, ℕ, ◌+◌, ◌<◌, List,
 use Rattle.std.specs.List.{slice_get}
 use Rattle.std.proofs.lemmas.List.{take_more}
 use Rattle.block_traits.specs.declared.disk.Event.{Event}
-use Rattle.block_traits.specs.Content.{kept_after, last_of}
+use Rattle.block_traits.specs.Content.{kept_after}
 use Rattle.block_traits.proofs.Contents.{last_of-push, kept_after-append}
 use Rattle.crash_disk.specs.declared.survivor.Keeping.{Keeping}
 use Rattle.crash_disk.specs.Keeping.{KeepsOf}

@@ -1,5 +1,5 @@
 -- The image that the picks name.
-use Rattle.std.proofs.Common.{◌≡◌, ℕ, ◌+◌, ◌-◌, ◌<◌, ◌≤◌, ◌==◌, ◌||◌, ◌⊎◌, List, [], ◌∷◌, ◌++◌, length, take, get_or, set, refl, ap, ◌∙◌, sym, subst, arith, suc, zero, Some, None, length-append, length-set, cond, true, false, Bool, Option, inl, inr, eq-eqb, All}
+use Rattle.std.proofs.Common.{◌≡◌, ℕ, ◌+◌, ◌-◌, ◌<◌, ◌==◌, ◌||◌, List, [], ◌∷◌, ◌++◌, length, take, get_or, set, refl, ap, ◌∙◌, sym, subst, arith, suc, Some, length-append, length-set, cond, true, false, Bool, inl, inr, eq-eqb, All}
 use Rattle.std.proofs.lemmas.List.{get_or-set_same, get_or-set_other, get_or_default, take_more}
 use Rattle.std.proofs.lemmas.List.Elements.{All-take}
 use Rattle.std.proofs.lemmas.Bool.{cond-true, cond-false, cases_eq, ne_eqb}
@@ -7,7 +7,7 @@ use Rattle.std.proofs.lemmas.Option.{slice_get_within}
 use Rattle.std.specs.List.{slice_get}
 use Rattle.block_traits.specs.declared.disk.Event.{Event}
 use Rattle.block_traits.specs.declared.disk.Event.TheVariants.{Write, Flush}
-use Rattle.block_traits.specs.Content.{Content, IsContentOf, IsEventOf, IsSector, at_moment, kept_after, kept_values, last_of, present}
+use Rattle.block_traits.specs.Content.{Content, IsContentOf, IsEventOf, IsSector, at_moment, kept_after, kept_values, last_of}
 use Rattle.block_traits.specs.Crash.{IsImage}
 use Rattle.block_traits.proofs.Contents.{last_of-kept_values}
 use Rattle.block_traits.proofs.Images.{IsTorn-image}
@@ -41,8 +41,8 @@ pub IsImage-start : (c : Content) (image : List (List ℕ)) → image ≡ replay
 IsImage-start c image is = record {
   size = ap length is ∙ length-replayed c.base c.history;
   values = λ n small.
-    slice_get-last_of (kept_values c n) (some-kept_values c n)
-    ∙ ap (λ (bytes : List ℕ). Some bytes) (last_of-kept_values c n ∙ sym (ap (λ (l : List (List ℕ)). get_or l n []) is ∙ get_or-replayed c.base c.history n small));
+      slice_get-last_of (kept_values c n) (some-kept_values c n)
+      ∙ ap (λ (bytes : List ℕ). Some bytes) (last_of-kept_values c n ∙ sym (ap (λ (l : List (List ℕ)). get_or l n []) is ∙ get_or-replayed c.base c.history n small));
 }
 
 place_in-append : (picks more : List Pick) (n other : ℕ) → place_in (picks ++ more) n other ≡ place_in picks n (place_in more n other)

@@ -1,11 +1,11 @@
 -- The image that the torn entries leave of another.
-use Rattle.std.proofs.Common.{◌≡◌, ℕ, ◌+◌, ◌<◌, ◌≤◌, ◌==◌, ◌||◌, ◌⊎◌, List, [], ◌∷◌, ◌++◌, length, take, get_or, set, refl, ap, ◌∙◌, sym, subst, arith, length-set, cond, true, false, Bool, inl, inr, eq-eqb, Contains}
+use Rattle.std.proofs.Common.{◌≡◌, ℕ, ◌+◌, ◌<◌, ◌==◌, ◌||◌, ◌⊎◌, List, [], ◌∷◌, ◌++◌, length, take, get_or, set, refl, ap, ◌∙◌, sym, subst, arith, length-set, cond, true, false, Bool, inl, inr, eq-eqb, Contains}
 use Rattle.std.proofs.lemmas.List.{get_or-set_same, get_or-set_other, get_or_default, take_more}
 use Rattle.std.proofs.lemmas.List.Elements.{All-set}
 use Rattle.std.proofs.lemmas.Bool.{cond-true, cond-false, cases_eq, ne_eqb}
 use Rattle.std.proofs.lemmas.Option.{get_or_from_slice_get}
 use Rattle.block_traits.specs.Content.{Content, IsSector, kept_values}
-use Rattle.block_traits.specs.Crash.{HoldsKept, IsImage, IsTorn, IsUnsettled}
+use Rattle.block_traits.specs.Crash.{IsImage, IsTorn, IsUnsettled}
 use Rattle.crash_disk.specs.declared.survivor.Pick.{Pick}
 use Rattle.crash_disk.specs.declared.survivor.Torn.{Torn}
 use Rattle.crash_disk.specs.Survivor.{AllGoodTears, IsBadTear, IsGoodTear, IsTornImage, is_torn, torn_to}
@@ -73,8 +73,8 @@ IsTorn-more c image m bytes torn inside unsettled sector = record {
     | inr other ↦ subst (λ (value : List ℕ). Contains (kept_values c n) value ⊎ IsUnsettled c n) (sym (get_or-set_other image m n bytes [] (λ same. other (sym same)))) (torn.others n small)
   ];
   last = λ n end.
-    let apart : n ≡ m → ⊥ = λ same. omega (arith, same, end, inside) in
-    subst (Contains (kept_values c n)) (sym (get_or-set_other image m n bytes [] apart)) (torn.last n end);
+      let apart : n ≡ m → ⊥ = λ same. omega (arith, same, end, inside) in
+      subst (Contains (kept_values c n)) (sym (get_or-set_other image m n bytes [] apart)) (torn.last n end);
 }
 
 good-not-bad : (c : Content) (picks : List Pick) (before : List Torn) (n : ℕ) → IsGoodTear c picks before n → IsBadTear c picks before n → ⊥

@@ -1,12 +1,13 @@
 -- What a disk in memory is, and what its calls make of it.
-use Rattle.std.specs.Prelude.{ℕ, ◌==◌, ◌&&◌, ◌||◌, not, Bool, true, List, [], ◌∷◌, length, is_some, unwrap_or, if◌then◌else◌}
+use Rattle.std.specs.Prelude.{ℕ, ◌==◌, ◌&&◌, ◌||◌, not, Bool, true, List, [], ◌∷◌, length, map, slice_set, is_some, unwrap_or, if◌then◌else◌}
 use Rattle.block_traits.specs.declared.disk.Event.{Event}
-use Rattle.block_traits.specs.Content.{Content, with_events}
+use Rattle.block_traits.specs.Content.{Content, present, with_events}
 use Rattle.block_traits.specs.Disk.{DiskState, showing}
 use Rattle.crash_disk.specs.declared.plan.CallKind.{CallKind}
 use Rattle.crash_disk.specs.declared.plan.CallKind.TheVariants.{Read}
 use Rattle.crash_disk.specs.declared.mem_disk.MemDisk.{MemDisk}
 use Rattle.crash_disk.specs.Count.{one_more}
+use Rattle.crash_disk.specs.Image.{numbers_below}
 use Rattle.crash_disk.specs.Plan.{PlanState, counted, no_plan, planned}
 use Rattle.crash_disk.specs.SectorLog.{content_of}
 
@@ -71,3 +72,11 @@ after_change kind event state = record state {
   faults = if change_fails kind state then one_more state.faults else state.faults;
   plan = counted kind state.plan;
 }
+
+-- what stands in each sector now
+abbrev pub present_sectors : Content → List (List ℕ)
+present_sectors c = map (present c) (numbers_below (length c.base))
+
+-- what stands there now has always stood there, but that sector n holds these bytes
+abbrev pub after_alter : ℕ → List ℕ → MemState → MemState
+after_alter n bytes state = record state { content = record { base = slice_set (present_sectors state.content) n bytes; history = [] } }

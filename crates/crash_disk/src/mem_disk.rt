@@ -1,5 +1,5 @@
 // A disk in memory, which shows its events and fails where a list says.
-ghost use Rattle.std.specs.Prelude.{◌≡◌, ◌<◌, ◌≤◌, ◌^◌, ◌/◌, ◌∷◌, [], IfOk, OnOk, OnErr, is_err, All, length, replicate, take};
+ghost use Rattle.std.specs.Prelude.{◌≡◌, ◌<◌, ◌≤◌, ◌^◌, ◌/◌, ◌∷◌, [], IfOk, IsOk, OnOk, OnErr, is_err, All, length, replicate, take};
 ghost use Rattle.crash_disk.specs.Image.{sectors_of, zero_sector};
 ghost use Rattle.crash_disk.specs.Replay.{replayed};
 
@@ -20,7 +20,7 @@ pub struct MemDisk {
 impl MemDisk {
     ghost use Rattle.block_traits.specs.Content.{IsEventOf, IsSector};
     ghost use Rattle.crash_disk.specs.Count.{one_more};
-    ghost use Rattle.crash_disk.specs.MemDisk.{after_change, change_fails, disk_of, fresh, state_of, with_plan};
+    ghost use Rattle.crash_disk.specs.MemDisk.{after_alter, after_change, change_fails, disk_of, fresh, state_of, with_plan};
     ghost use Rattle.crash_disk.specs.Plan.{with_entries};
 
     /// A disk of so many sectors of zeros, with room for so many events.
@@ -47,6 +47,17 @@ impl MemDisk {
         ensures err { OnErr result (state_of self.new ≡ state_of self.old) }
     {
         self.plan.set(list)
+    }
+
+    /// Makes what stands on the disk now what it held at first, but for sector `n`, which holds these
+    /// bytes. Takes no memory.
+    pub fn alter(&mut self, n: u64, bytes: &Sector) -> Result<(), NoMemory>
+        requires { n < (disk_of self.old).size }
+        ensures ok { IsOk result }
+        ensures after { state_of self.new ≡ after_alter n bytes.now (state_of self.old) }
+    {
+        self.log.alter(n, bytes);
+        Ok(())
     }
 
     /// What was done to the disk, the oldest event first.
@@ -88,7 +99,11 @@ impl MemDisk {
     }
 
     // A disk that had these sectors from the start.
-    pub(crate) fn from_sectors(alloc: Global, base: Vec<Sector>, room: u64) -> Result<MemDisk, NoMemory>
+    pub(crate) fn from_sectors(
+        alloc: Global,
+        base: Vec<Sector>,
+        room: u64,
+    ) -> Result<MemDisk, NoMemory>
         requires small { length base.items < 2 ^ 44 }
         requires sectors { All IsSector base.items }
         ensures { IfOk result (λ disk. state_of disk ≡ fresh base.items room) }

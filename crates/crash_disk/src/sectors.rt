@@ -1,5 +1,5 @@
 // Sectors in memory, with all that was done to them.
-ghost use Rattle.std.specs.Prelude.{◌≡◌, ◌<◌, ◌≤◌, ◌^◌, ◌∷◌, [], ◌↔◌, IfOk, IsTrue, All, length, take, vec_capacity};
+ghost use Rattle.std.specs.Prelude.{◌≡◌, ◌<◌, ◌≤◌, ◌^◌, ◌∷◌, [], ◌↔◌, IfOk, IsTrue, All, length, slice_set, take, vec_capacity};
 ghost use Rattle.block_traits.specs.Content.{IsContentOf, IsEventOf, IsSector, present};
 ghost use Rattle.block_traits.proofs.Props.{IsContentOf-prop};
 ghost use Rattle.crash_disk.specs.Replay.{content, replayed};
@@ -104,6 +104,18 @@ impl SectorLog {
     {
         apply(&mut self.present, event);
         self.events.push_reserved(event);
+    }
+
+    /// Makes what stands in the sectors now what they held at first, but for sector `n`, which holds
+    /// these bytes.
+    pub fn alter(&mut self, n: u64, bytes: &Sector)
+        requires { n < length self.old.base.items }
+        ensures content { content_of self.new ≡ content (slice_set (replayed self.old.base.items self.old.events.items) n bytes.now) [] }
+        ensures room { self.new.room ≡ self.old.room }
+    {
+        self.present[n as usize] = *bytes;
+        self.base.copy_from_slice(&self.present);
+        self.events.clear();
     }
 }
 

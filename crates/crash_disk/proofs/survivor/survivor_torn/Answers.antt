@@ -38,9 +38,9 @@ loop-index-preserved c =
     let items = c.loop-index.image.items in
     let size : length c.put.new.image ≡ c.loop-index.image.len = c.put.auto.image ∙ c.deref_mut.ensures.len in
     let after =
-      take_at c.put.new.image (drop (length c.put.new.image) items) c.loop-index.image.len size
-      ∙ c.put.ensures.after
-      ∙ ap (λ (image : List (List ℕ)). set image tear.n tear.bytes) c.deref_mut.ensures.value in
+    take_at c.put.new.image (drop (length c.put.new.image) items) c.loop-index.image.len size
+    ∙ c.put.ensures.after
+    ∙ ap (λ (image : List (List ℕ)). set image tear.n tear.bytes) c.deref_mut.ensures.value in
     rw after record {
       image = IsTornImage-more left (choice_of left picks) picks torn items index tear c.loop-index-test.true here good c.loop-index.invariant.image;
       torn = IsTorn-more left items tear.n tear.bytes c.loop-index.invariant.torn good.inside good.unsettled c.put.ensures.sector;

@@ -1,6 +1,10 @@
 // With ample memory each call succeeds, and fails for each of its causes alone.
-use crate::{CallKind, FailAt, MemCabinet, MemDisk, MemEntropy, MemSink, MemSource};
+use crate::{
+    CallKind, FailAt, MemCabinet, MemDisk, MemEntropy, MemSink, MemSource, Pick, SurvivorFault,
+    Torn, survivor_torn, survivor_whole,
+};
 use block_traits::{Cabinet, Disk, Entropy, Event, LoadFault, Sink, Source, StoreFault};
+use std::alloc::Global;
 use std::test::Fail;
 
 #[derive(Clone, Copy)]
@@ -122,5 +126,60 @@ fn cabinet_keeps_its_files(rt: HostRuntime) -> Result<(), Fail> {
     assert!(rt; has(&cabinet, "new", "y"));
     assert!(rt; has(&cabinet, "k", "four"));
     assert!(rt; cabinet.get("other").is_none());
+    Ok(())
+}
+
+// The first byte of each sector that a crash leaves now.
+fn left(
+    alloc: Global,
+    disk: &MemDisk,
+    picks: &[Pick],
+    torn: &[Torn],
+) -> Result<[u8; 3], SurvivorFault> {
+    let moment = disk.history().len();
+    let mut survivor = if torn.is_empty() {
+        survivor_whole(alloc, disk, moment, picks)?
+    } else {
+        survivor_torn(alloc, disk, moment, picks, torn)?
+    };
+    let mut firsts = [0; 3];
+    for (n, first) in firsts.iter_mut().enumerate() {
+        let mut bytes = [0; 512];
+        if (n as u64) < survivor.sectors() && survivor.read(n as u64, &mut bytes).is_ok() {
+            *first = bytes[0];
+        }
+    }
+    Ok(firsts)
+}
+
+#[test]
+fn crash_leaves_what_is_picked_or_torn(rt: HostRuntime) -> Result<(), Fail> {
+    let alloc = rt.alloc();
+    let mut disk = MemDisk::new(alloc, 3, 8)?;
+    for step in [Step::Write(0), Step::Flush, Step::Write(1)] {
+        assert!(rt; is_done(&mut disk, step));
+    }
+    let pick = |n, place| Pick { n, place };
+    let tear = |n| Torn { n, bytes: [5; 512] };
+    assert_eq!(rt; left(alloc, &disk, &[], &[]), Ok([9, 9, 0]));
+    assert_eq!(rt; left(alloc, &disk, &[pick(1, 0)], &[]), Ok([9, 0, 0]));
+    assert_eq!(rt;
+        left(alloc, &disk, &[pick(1, 1), pick(0, 1)], &[]),
+        Err(SurvivorFault::BadPick { index: 1 })
+    );
+    assert_eq!(rt; left(alloc, &disk, &[], &[tear(1)]), Ok([9, 5, 0]));
+    assert_eq!(rt;
+        left(alloc, &disk, &[], &[tear(1), tear(0)]),
+        Err(SurvivorFault::BadTorn { index: 1 })
+    );
+    assert_eq!(rt;
+        left(alloc, &disk, &[], &[tear(2)]),
+        Err(SurvivorFault::BadTorn { index: 0 })
+    );
+    if disk.sectors() == 3 {
+        disk.alter(2, &[5; 512])?;
+    }
+    assert_eq!(rt; left(alloc, &disk, &[], &[]), Ok([9, 9, 5]));
+    assert_eq!(rt; disk.history().len(), 0);
     Ok(())
 }

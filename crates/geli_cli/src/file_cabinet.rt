@@ -1,5 +1,5 @@
 // The files of the system by their names.
-ghost use Rattle.std.specs.Prelude.{◌≤◌, None, IfOk, length};
+ghost use Rattle.std.specs.Prelude.{◌≡◌, ◌≤◌, None, IfOk, length};
 
 use block_traits::{ByteList, Cabinet, LoadFault, StoreFault};
 use std::alloc::Global;
@@ -18,7 +18,11 @@ pub struct FileCabinet<R: Files<File = File> + Drop> {
 
 impl<R: Files<File = File> + Drop> FileCabinet<R> {
     /// The files that the runtime reaches.
-    pub fn new(rt: R) -> FileCabinet<R> {
+    pub fn new(rt: R) -> FileCabinet<R>
+        ensures runtime { result.rt ≡ rt }
+        ensures faults { result.faults ≡ 0 }
+        ensures misses { result.misses ≡ 0 }
+    {
         FileCabinet {
             rt,
             faults: 0,

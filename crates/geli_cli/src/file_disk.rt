@@ -22,7 +22,9 @@ impl FileDisk {
     /// The disk of a file. A file that can't be opened, or of 2^53 bytes or more, is a disk of two
     /// sectors whose every call fails. A file that can't be written is opened to be read, and each
     /// write fails.
-    pub fn open(rt: &impl Files<File = File>, name: &str) -> FileDisk {
+    pub fn open(rt: &impl Files<File = File>, name: &str) -> FileDisk
+        ensures { result.faults ≡ 0 }
+    {
         match open_sized(rt, name) {
             Ok((file, length)) if length < 1 << 53 => FileDisk {
                 file: Some(file),

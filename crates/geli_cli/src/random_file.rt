@@ -1,5 +1,5 @@
 // The system's random bytes.
-ghost use Rattle.std.specs.Prelude.{None};
+ghost use Rattle.std.specs.Prelude.{◌≡◌, None};
 
 use block_traits::{Entropy, EntropyFailed};
 use std::fs::File;
@@ -15,7 +15,9 @@ pub struct RandomFile {
 
 impl RandomFile {
     /// Opens the device. Where it can't be opened, each call fails.
-    pub fn open(rt: &impl Files<File = File>) -> RandomFile {
+    pub fn open(rt: &impl Files<File = File>) -> RandomFile
+        ensures { result.faults ≡ 0 }
+    {
         RandomFile {
             file: File::open(rt, "/dev/urandom").ok(),
             faults: 0,

@@ -1,5 +1,5 @@
 // The standard streams, or any reader and writer.
-ghost use Rattle.std.specs.Prelude.{None};
+ghost use Rattle.std.specs.Prelude.{◌≡◌, None};
 
 use block_traits::{Sink, SinkFailed, Source, SourceFailed};
 use std::io::{Read, Write};
@@ -13,7 +13,10 @@ pub struct InputSource<R: Read + Drop> {
 
 impl<R: Read + Drop> InputSource<R> {
     /// The source over a reader.
-    pub fn new(reader: R) -> InputSource<R> {
+    pub fn new(reader: R) -> InputSource<R>
+        ensures reader { result.reader ≡ reader }
+        ensures faults { result.faults ≡ 0 }
+    {
         InputSource { reader, faults: 0 }
     }
 }
@@ -44,7 +47,10 @@ pub struct OutputSink<W: Write + Drop> {
 
 impl<W: Write + Drop> OutputSink<W> {
     /// The sink over a writer.
-    pub fn new(writer: W) -> OutputSink<W> {
+    pub fn new(writer: W) -> OutputSink<W>
+        ensures writer { result.writer ≡ writer }
+        ensures faults { result.faults ≡ 0 }
+    {
         OutputSink { writer, faults: 0 }
     }
 }

@@ -1,0 +1,76 @@
+-- What is known of metadata that were checked, and let through by the gates.
+use Rattle.std.proofs.Common.{◌≡◌, ℕ, ◌<◌, ◌*◌, ◌==◌, ◌⊎◌, Bool, true, false, cond, IsTrue, Option, Some, None, Result, Ok, Err, refl, sym, ap, ◌∙◌, arith, inl, inr, nat_le}
+use Rattle.std.proofs.lemmas.Bool.{eqb-true, leb-true}
+use Rattle.eli_base.specs.declared.algorithms.Auth.{Auth}
+use Rattle.eli_base.specs.declared.algorithms.Cipher.{Cipher}
+use Rattle.eli_base.specs.Algorithms.{allows_length}
+use Rattle.eli_base.specs.declared.parameters.Params.{Params}
+use Rattle.eli_base.specs.SectorSize.{is_sector_size}
+use Rattle.eli_base.specs.Units.{media_sectors}
+use Rattle.eli_metadata.specs.Check.{Settings, settings_of, supported, check_cipher, check_auth, check_sector, check_size, cipher_of, auth_of, unsupported_flags, is_readonly, is_set, size_matches, slot_matches, named_slot_opens, are_clear}
+use Rattle.eli_metadata.specs.declared.metadata.Metadata.{Metadata}
+use Rattle.eli_metadata.specs.declared.metadata.MetaFault.{MetaFault}
+
+-- what the settings that were checked have of the metadata
+pub record IsSaid (m : Metadata) (s : Settings) : Type 0 where
+  pub keylen : m.keylen ≡ s.keylen
+  pub provsize : m.provsize ≡ s.provsize
+  pub readonly : is_readonly m ≡ s.readonly
+
+passed : {T E : Type 0} (test : Bool) (r : Result T E) (fault : E) (x : T) → cond test r (Err fault) ≡ Ok x → r ≡ Ok x
+passed true r fault x h = h
+passed false r fault x h = absurd cc
+
+sized : (m : Metadata) (cipher : Cipher) (auth : Auth) (s : Settings) → check_sector m cipher auth ≡ Ok s → IsSaid m s
+sized m cipher auth s h =
+    let size = passed (is_sector_size m.sectorsize) _ _ s h in
+    let all = passed _ _ _ s size in
+    record { keylen = cc; provsize = cc; readonly = cc }
+
+authenticated : (m : Metadata) (cipher : Cipher) (auth : Option Auth) (s : Settings) → check_auth m cipher auth ≡ Ok s → IsSaid m s
+authenticated m cipher None s h = absurd cc
+authenticated m cipher (Some auth) s h = sized m cipher auth s h
+
+enciphered : (m : Metadata) (cipher : Option Cipher) (s : Settings) → check_cipher m cipher ≡ Ok s → IsSaid m s
+enciphered m None s h = absurd cc
+enciphered m (Some cipher) s h = authenticated m cipher (auth_of m) s (passed (allows_length cipher m.keylen) _ _ s h)
+
+pub said : (m : Metadata) (s : Settings) → supported m ≡ Ok s → IsSaid m s
+unfolding supported
+said m s h = enciphered m (cipher_of m.ealgo) s (passed _ _ _ s h)
+
+unrefused : {T E : Type 0} (test : Bool) (r : Result T E) (fault : E) (x : T) → cond test (Err fault) r ≡ Ok x → r ≡ Ok x
+unrefused false r fault x h = h
+unrefused true r fault x h = absurd cc
+
+tested : {T E : Type 0} (test : Bool) (r : Result T E) (fault : E) (x : T) → cond test r (Err fault) ≡ Ok x → test ≡ true
+tested true r fault x h = refl
+tested false r fault x h = absurd cc
+
+-- the metadata have the size of the disk in bytes
+pub size_is : (m : Metadata) (sectors : ℕ) → size_matches m sectors ≡ Ok tt → m.provsize ≡ 512 * sectors
+size_is m sectors h = eqb-true m.provsize (512 * sectors) (tested (m.provsize == 512 * sectors) _ _ _ h)
+
+-- a slot that is named is one of the two
+named_below : (m : Metadata) (named : Option ℕ) (slot : ℕ) → named_slot_opens m named ≡ Ok tt → named ≡ Some slot → slot < 2
+named_below m None slot h is = absurd cc
+named_below m (Some other) slot h is =
+    let below = leb-true other 1 (tested (nat_le other 1) _ _ _ h) in
+    let same : other ≡ slot = cc in
+    omega (arith, below, same)
+
+pub slot_below : (m : Metadata) (named : Option ℕ) (slot : ℕ) → slot_matches m named ≡ Ok tt → named ≡ Some slot → slot < 2
+slot_below m named slot h is = named_below m named slot (unrefused (are_clear m.keys 3) _ _ _ h) is
+
+-- what is known of a disk that is attached by metadata that were checked
+pub record IsChecked (m : Metadata) (p : Params) (size : ℕ) : Type 0 where
+  pub keylen : m.keylen ≡ p.keylen
+  pub readonly : is_readonly m ≡ p.readonly
+  pub provsize : p.provsize ≡ 512 * size
+  pub media : media_sectors p.auth p.sectorsize p.provsize ≡ media_sectors p.auth p.sectorsize (512 * size)
+
+pub checked : (m : Metadata) (p : Params) (size : ℕ) → supported m ≡ Ok (settings_of p) → size_matches m size ≡ Ok tt → IsChecked m p size
+checked m p size good fits =
+    let s = said m (settings_of p) good in
+    let provsize : p.provsize ≡ 512 * size = sym s.provsize ∙ size_is m size fits in
+    record { keylen = s.keylen; readonly = s.readonly; provsize = provsize; media = ap (media_sectors p.auth p.sectorsize) provsize }

@@ -1,0 +1,85 @@
+-- What is logged sector by sector.
+use Rattle.std.proofs.Common.{◌≡◌, ℕ, suc, ◌+◌, ◌-◌, ◌*◌, ◌<◌, ◌≤◌, List, [], ◌∷◌, ◌++◌, take, drop, refl, sym, ap, ◌∙◌, arith}
+use Rattle.std.proofs.lemmas.List.{drop-drop}
+use Rattle.block_traits.specs.declared.disk.Event.{Event}
+use Rattle.block_traits.specs.declared.disk.Event.TheVariants.{Write}
+use Rattle.block_traits.specs.Disk.{DiskState, Logs, FailsIn, Continues}
+use Rattle.block_traits.proofs.Logs.{Logs-then, FailsIn-then, FailsIn-more}
+use Rattle.eli_base.specs.Keying.{Keying}
+use Rattle.sealing.specs.Parts.{parts}
+use Rattle.provider.specs.Writing.{writes_from, sector_writes, data_writes}
+
+-- some events, and then what is left
+pub Continues-then : (events left all : List Event) {middle start next : DiskState} → Continues (events ++ left) all middle start → Logs events middle next → Continues left all next start
+Continues-then events left all continues one = record {
+  whole = λ new logs. continues.whole new (Logs-then events left one logs);
+  part = λ new fails. continues.part new (FailsIn-then events left one fails);
+}
+
+pub FailsIn-part : (events left all : List Event) {middle start new : DiskState} → Continues (events ++ left) all middle start → FailsIn events middle new → FailsIn all start new
+FailsIn-part events left all {middle} {start} {new} continues fails = continues.part new (FailsIn-more events left fails)
+
+-- the writes of the device sectors from the j-th of n on
+pub unit_writes : ℕ → ℕ → List ℕ → ℕ → List Event
+unit_writes first n bytes j = writes_from (first + j) (parts 512 (n - j) (drop (512 * j) bytes))
+
+pub unit_writes-start : (first n : ℕ) (bytes : List ℕ) → unit_writes first n bytes 0 ≡ writes_from first (parts 512 n bytes)
+unfolding unit_writes
+unit_writes-start first n bytes =
+    let at : first + 0 ≡ first = omega arith in
+    let left : n - 0 ≡ n = omega arith in
+    λ i. writes_from (at i) (parts 512 (left i) bytes)
+
+pub unit_writes-next : (first n : ℕ) (bytes : List ℕ) (j : ℕ) → j < n → unit_writes first n bytes j ≡ Write (first + j) (take 512 (drop (512 * j) bytes)) ∷ unit_writes first n bytes (j + 1)
+unfolding unit_writes
+unit_writes-next first n bytes j more =
+    let left : n - j ≡ suc (n - (j + 1)) = omega arith in
+    let at : first + j + 1 ≡ first + (j + 1) = omega arith in
+    let place : 512 * j + 512 ≡ 512 * (j + 1) = omega arith in
+    let behind : drop 512 (drop (512 * j) bytes) ≡ drop (512 * (j + 1)) bytes = drop-drop 512 (512 * j) bytes ∙ ap (λ (m : ℕ). drop m bytes) place in
+    ap (λ (m : ℕ). writes_from (first + j) (parts 512 m (drop (512 * j) bytes))) left
+    ∙ (λ i. Write (first + j) (take 512 (drop (512 * j) bytes)) ∷ writes_from (at i) (parts 512 (n - (j + 1)) (behind i)))
+
+pub unit_writes-end : (first n : ℕ) (bytes : List ℕ) (j : ℕ) → n ≤ j → unit_writes first n bytes j ≡ []
+unfolding unit_writes
+unit_writes-end first n bytes j none =
+    let left : n - j ≡ 0 = omega arith in
+    ap (λ (m : ℕ). writes_from (first + j) (parts 512 m (drop (512 * j) bytes))) left
+
+-- the writes of the logical sectors from the i-th of so many on
+pub run_writes : Keying → ℕ → ℕ → ℕ → List ℕ → ℕ → List Event
+run_writes k sector count size bytes i = data_writes k (sector + i) (count - i) (drop (i * size) bytes)
+
+pub run_writes-start : (k : Keying) (sector count size : ℕ) (bytes : List ℕ) → run_writes k sector count size bytes 0 ≡ data_writes k sector count bytes
+unfolding run_writes
+run_writes-start k sector count size bytes =
+    let at : sector + 0 ≡ sector = omega arith in
+    let left : count - 0 ≡ count = omega arith in
+    let none : 0 * size ≡ 0 = omega arith in
+    λ i. data_writes k (at i) (left i) (drop (none i) bytes)
+
+pub run_writes-next : (k : Keying) (sector count size : ℕ) (bytes : List ℕ) (i : ℕ) → size ≡ k.sectorsize → i < count
+    → run_writes k sector count size bytes i ≡ sector_writes k (sector + i) (take size (drop (i * size) bytes)) ++ run_writes k sector count size bytes (i + 1)
+unfolding run_writes
+run_writes-next k sector count size bytes i same more =
+    let left : count - i ≡ suc (count - (i + 1)) = omega arith in
+    let at : sector + i + 1 ≡ sector + (i + 1) = omega arith in
+    let place : i * size + size ≡ (i + 1) * size = omega arith in
+    let here : List ℕ = drop (i * size) bytes in
+    let behind : drop k.sectorsize here ≡ drop ((i + 1) * size) bytes =
+      ap (λ (m : ℕ). drop m here) (sym same) ∙ drop-drop size (i * size) bytes ∙ ap (λ (m : ℕ). drop m bytes) place in
+    ap (λ (m : ℕ). data_writes k (sector + i) m here) left
+    ∙ (λ j. sector_writes k (sector + i) (take (sym same j) here) ++ data_writes k (at j) (count - (i + 1)) (behind j))
+
+-- the same where the keying and the size are written otherwise
+pub run_writes-at : (k now : Keying) (sector count size width : ℕ) (bytes : List ℕ) (i : ℕ) → now ≡ k → width ≡ size → size ≡ k.sectorsize → i < count
+    → run_writes k sector count size bytes i ≡ sector_writes now (sector + i) (take width (drop (i * size) bytes)) ++ run_writes k sector count size bytes (i + 1)
+run_writes-at k now sector count size width bytes i kept wide same more =
+    run_writes-next k sector count size bytes i same more
+    ∙ (λ j. sector_writes (sym kept j) (sector + i) (take (sym wide j) (drop (i * size) bytes)) ++ run_writes k sector count size bytes (i + 1))
+
+pub run_writes-end : (k : Keying) (sector count size : ℕ) (bytes : List ℕ) (i : ℕ) → count ≤ i → run_writes k sector count size bytes i ≡ []
+unfolding run_writes
+run_writes-end k sector count size bytes i none =
+    let left : count - i ≡ 0 = omega arith in
+    ap (λ (m : ℕ). data_writes k (sector + i) m (drop (i * size) bytes)) left

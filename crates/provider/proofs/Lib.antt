@@ -1,0 +1,6 @@
+pub mod Cuts
+pub mod Ranges
+pub mod Readings
+pub mod Events
+pub mod Checked
+pub mod Sealed

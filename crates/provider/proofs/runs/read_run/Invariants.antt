@@ -1,0 +1,13 @@
+use Rattle.std.proofs.Common.{◌≡◌, ◌*◌, [], take, Ok}
+use Rattle.block_traits.specs.Disk.{Logs}
+use Rattle.provider.specs.Reading.{ReadsAs}
+use Rattle.provider.proofs.runs.read_run.Given as goal
+
+abbrev pub invariant-loop-i : goal.invariant-loop-i
+invariant-loop-i g l =
+    let state = g.D.Disk.state in
+    record {
+      keying : l.ring.keying ≡ l.initial.ring.keying;
+      logs : Logs [] (state l.initial.disk) (state l.disk);
+      reads : ReadsAs (state l.initial.disk) l.initial.ring.keying l.sector l.i (Ok (take (l.i * l.size) l.into));
+    }

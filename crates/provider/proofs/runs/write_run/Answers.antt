@@ -1,0 +1,71 @@
+use Rattle.std.proofs.Common.{rules, ◌≡◌, ◌+◌, ◌-◌, ◌*◌, ◌/◌, List, ℕ, length, take, drop, subst, sym, ◌∙◌, arith}
+use Rattle.block_traits.specs.declared.disk.Event.{Event}
+use Rattle.block_traits.specs.Disk.{Continues}
+use Rattle.block_traits.proofs.Logs.{Continues-start, Continues-end}
+use Rattle.provider.specs.Writing.{data_writes, sector_writes}
+use Rattle.provider.proofs.Events.{Continues-then, FailsIn-part, run_writes, run_writes-start, run_writes-at, run_writes-end}
+use Rattle.provider.proofs.runs.write_run.Goals as goal
+
+pub loop-i-init : goal.loop-i-init
+loop-i-init g c =
+    let start = g.D.Disk.state c.args.disk.now in
+    let k = c.args.ring.now.keying in
+    let size = length c.args.buffer.now in
+    let count = length c.args.from.now / size in
+    let all = data_writes k c.args.sector count c.args.from.now in
+    let P : List Event → Type 0 = λ events. Continues events all start start in
+    record {
+      keying = search rules;
+      size = search rules;
+      events = subst P (sym (run_writes-start k c.args.sector count size c.args.from.now)) (Continues-start all start);
+    }
+
+pub returns-in_err-write_sector-clause-err : goal.returns-in_err-write_sector-clause-err
+returns-in_err-write_sector-clause-err g c =
+    let state = g.D.Disk.state in
+    let k = c.args.ring.now.keying in
+    let from = c.args.from.now in
+    let size = length c.args.buffer.now in
+    let count = length from / size in
+    let all = data_writes k c.args.sector count from in
+    let left = run_writes k c.args.sector count size from (c.loop-i.i + 1) in
+    let width = c.loop-i.i * size + size - c.loop-i.i * size in
+    let wide : width ≡ size = omega arith in
+    let P : List Event → Type 0 = λ events. Continues events all (state c.loop-i.disk) (state c.args.disk.now) in
+    let here = subst P (run_writes-at k c.loop-i.ring.keying c.args.sector count size width from c.loop-i.i c.loop-i.invariant.keying wide c.requires.buffer c.loop-i-test.true)
+      c.loop-i.invariant.events in
+    let one = sector_writes c.loop-i.ring.keying (c.args.sector + c.loop-i.i) (take width (drop (c.loop-i.i * size) from)) in
+    let fails = FailsIn-part one left all here c.in_err-write_sector.ensures.err in
+    search rules
+
+pub loop-i-preserved : goal.loop-i-preserved
+loop-i-preserved g c =
+    let state = g.D.Disk.state in
+    let k = c.args.ring.now.keying in
+    let from = c.args.from.now in
+    let size = length c.args.buffer.now in
+    let count = length from / size in
+    let all = data_writes k c.args.sector count from in
+    let left = run_writes k c.args.sector count size from (c.loop-i.i + 1) in
+    let width = c.loop-i.i * size + size - c.loop-i.i * size in
+    let wide : width ≡ size = omega arith in
+    let P : List Event → Type 0 = λ events. Continues events all (state c.loop-i.disk) (state c.args.disk.now) in
+    let here = subst P (run_writes-at k c.loop-i.ring.keying c.args.sector count size width from c.loop-i.i c.loop-i.invariant.keying wide c.requires.buffer c.loop-i-test.true)
+      c.loop-i.invariant.events in
+    let one = sector_writes c.loop-i.ring.keying (c.args.sector + c.loop-i.i) (take width (drop (c.loop-i.i * size) from)) in
+    let logs = Continues-then one left all here c.in_ok-write_sector.ensures.ok in
+    record {
+      keying = c.in_ok-write_sector.ensures.keying ∙ c.loop-i.invariant.keying;
+      size = c.in_ok-write_sector.ensures.ok.size ∙ c.loop-i.invariant.size;
+      events = logs;
+    }
+
+pub returns-clause-ok : goal.returns-clause-ok
+returns-clause-ok g c =
+    let state = g.D.Disk.state in
+    let k = c.args.ring.now.keying in
+    let size = length c.args.buffer.now in
+    let count = length c.args.from.now / size in
+    let all = data_writes k c.args.sector count c.args.from.now in
+    let P : List Event → Type 0 = λ events. Continues events all (state c.loop-i.disk) (state c.args.disk.now) in
+    Continues-end all (subst P (run_writes-end k c.args.sector count size c.args.from.now c.loop-i.i c.loop-i-test.false) c.loop-i.invariant.events)

@@ -1,0 +1,13 @@
+use Rattle.std.proofs.Common.{[]}
+use Rattle.block_traits.specs.Disk.{Logs}
+use Rattle.sealing.specs.Parts.{parts}
+use Rattle.provider.specs.Reading.{StandFrom}
+use Rattle.provider.proofs.units.read_units.Given as goal
+
+abbrev pub invariant-loop-j : goal.invariant-loop-j
+invariant-loop-j g l =
+    let state = g.D.Disk.state in
+    record {
+      logs : Logs [] (state l.initial.disk) (state l.disk);
+      stand : StandFrom (state l.initial.disk).content l.first l.j (parts 512 l.j l.into);
+    }

@@ -1,0 +1,30 @@
+-- An attached provider: a disk whose data are read and written under a keying (geli(8), "attach").
+use Rattle.std.specs.Prelude.{◌≡◌, ℕ, ◌*◌, Bool, List, Option, Some, None}
+use Rattle.block_traits.specs.Disk.{DiskState}
+use Rattle.eli_base.specs.declared.parameters.MasterKey.{MasterKey}
+use Rattle.eli_base.specs.Keying.{Keying}
+use Rattle.eli_base.specs.Units.{media_sectors}
+use Rattle.eli_metadata.specs.declared.metadata.Metadata.{Metadata}
+use Rattle.key_slots.specs.Slots.{numbered, unwrapped, unwrapped_any}
+
+-- a disk, its keying, the slot of the metadata that gave the master key, and whether it is only read
+pub record Attached (D : Type 0) : Type 0 where
+  pub disk : D
+  pub keying : Keying
+  pub slot : ℕ
+  pub readonly : Bool
+
+-- keying, slot and read-only state are as before
+pub record IsKept {D : Type 0} (old new : Attached D) : Type 0 where
+  pub keying : new.keying ≡ old.keying
+  pub slot : new.slot ≡ old.slot
+  pub readonly : new.readonly ≡ old.readonly
+
+-- the logical sectors that a disk has room for under a keying
+abbrev pub media : Keying → DiskState → ℕ
+media k d = media_sectors k.auth k.sectorsize (512 * d.size)
+
+-- the master key, and the number of its slot, that the user key u opens: of the named slot, or else of the first that opens
+abbrev pub opened : Metadata → List ℕ → Option ℕ → Option (MasterKey × ℕ)
+opened m u None = unwrapped_any m u
+opened m u (Some slot) = numbered (unwrapped m u slot) slot

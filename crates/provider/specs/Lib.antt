@@ -1,0 +1,5 @@
+pub mod Answers
+pub mod Attached
+pub mod Reading
+pub mod Rest
+pub mod Writing

@@ -1,0 +1,27 @@
+-- What an attached provider tells of itself in numbers, beside its disk.
+use Rattle.std.specs.Prelude.{ℕ, Bool, true, false, List, ◌∷◌}
+use Rattle.eli_base.specs.declared.algorithms.Auth.{Auth}
+use Rattle.eli_base.specs.declared.algorithms.Auth.TheVariants.{Off, Sha256}
+use Rattle.eli_base.specs.declared.algorithms.Cipher.{Cipher}
+use Rattle.eli_base.specs.declared.algorithms.Cipher.TheVariants.{AesCbc, AesXts}
+use Rattle.eli_base.specs.Keying.{Keying}
+use Rattle.provider.specs.Attached.{Attached}
+
+-- the numbers of the algorithms in the metadata (cryptodev.h), and 0 for no authentication
+abbrev pub auth_number : Auth → ℕ
+auth_number Off = 0
+auth_number Sha256 = 18
+
+abbrev pub cipher_number : Cipher → ℕ
+cipher_number AesCbc = 11
+cipher_number AesXts = 22
+
+abbrev pub truth_number : Bool → ℕ
+truth_number false = 0
+truth_number true = 1
+
+-- read-only state, slot and keying, the bytes of the master key last
+abbrev pub rest_of : {D : Type 0} → Attached D → List ℕ
+rest_of p =
+    truth_number p.readonly ∷ p.slot ∷ p.keying.version ∷ auth_number p.keying.auth ∷ cipher_number p.keying.cipher
+    ∷ p.keying.keylen ∷ p.keying.sectorsize ∷ p.keying.master

@@ -1,0 +1,42 @@
+// What is opened and reserved before a provider is attached.
+ghost use Rattle.std.specs.Prelude.{◌≡◌, ◌<◌, IfOk, vec_len};
+ghost use Rattle.std.specs.Option.{ForSome};
+ghost use Rattle.eli_base.specs.Keying.{keying_of};
+ghost use Rattle.key_slots.specs.Slots.{IsKeyBits};
+ghost use Rattle.provider.specs.Attached.{opened};
+
+use block_traits::NoMemory;
+use eli_base::{MasterKey, Params};
+use eli_metadata::Metadata;
+use key_slots::{unwrap, unwrap_any};
+use range_keys::KeyRing;
+use std::alloc::Global;
+use user_key::UserKey;
+
+/// The master key, and the number of its slot, that a user key opens: of the named slot, or else of the first that
+/// opens.
+pub fn opened(meta: &Metadata, key: &UserKey, named: Option<u8>) -> Option<(MasterKey, u8)>
+    requires keylen { IsKeyBits meta.now.keylen }
+    requires named { ForSome named (λ slot. slot < 2) }
+    ensures { result ≡ opened meta.now key.now.bytes named }
+{
+    let Some(slot) = named else {
+        return unwrap_any(meta, key);
+    };
+    let master = unwrap(meta, key, slot)?;
+    Some((master, slot))
+}
+
+/// The memory that a provider keeps: its keys, and a buffer for one logical sector.
+pub fn reserve(
+    alloc: Global,
+    master: &MasterKey,
+    params: &Params,
+) -> Result<(KeyRing, Vec<u8>), NoMemory>
+    ensures keying { IfOk result (λ kept. kept.0.keying ≡ keying_of params.now master.now) }
+    ensures buffer { IfOk result (λ kept. vec_len kept.1 ≡ params.now.sectorsize) }
+{
+    let ring = KeyRing::new(alloc, master, params)?;
+    let buffer = vec![in alloc; 0; params.sectorsize as usize]?;
+    Ok((ring, buffer))
+}

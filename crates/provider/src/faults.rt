@@ -1,0 +1,44 @@
+// Why a call of a provider was refused.
+use thiserror::Error;
+
+/// Why a provider wasn't attached.
+#[derive(Clone, Copy, Debug, PartialEq, Eq, Error)]
+pub enum AttachFault {
+    /// The image, of `size` bytes, has no whole logical sector beside its metadata.
+    #[error("an image of {size} bytes has no whole logical sector")]
+    TooSmall { size: u64 },
+    /// No slot that is set opens with the user key, or the named one doesn't.
+    #[error("wrong key")]
+    WrongKey,
+    /// There was no memory.
+    #[error("no memory")]
+    NoMemory,
+}
+
+/// Why logical sectors weren't read.
+#[derive(Clone, Copy, Debug, PartialEq, Eq, Error)]
+pub enum ReadFault {
+    /// The request passes the end: its first sector, how many sectors it asks for, and how many there are.
+    #[error("sectors from {sector} on, {count} of them, pass the end at {media}")]
+    OutOfRange { sector: u64, count: u64, media: u64 },
+    /// The device failed.
+    #[error("the device failed")]
+    DeviceFault,
+    /// The tag of the unit at this byte offset of the device differs.
+    #[error("the tag at byte {offset} differs")]
+    Integrity { offset: u64 },
+}
+
+/// Why logical sectors weren't written.
+#[derive(Clone, Copy, Debug, PartialEq, Eq, Error)]
+pub enum WriteFault {
+    /// The provider is only read.
+    #[error("the provider is read-only")]
+    ReadOnly,
+    /// The request passes the end: its first sector, how many sectors it has, and how many there are.
+    #[error("sectors from {sector} on, {count} of them, pass the end at {media}")]
+    OutOfRange { sector: u64, count: u64, media: u64 },
+    /// The device failed.
+    #[error("the device failed")]
+    DeviceFault,
+}

@@ -1,0 +1,16 @@
+//! An attached GELI provider over any disk: what is written is sealed sector by sector, and what is read is
+//! opened (geli(8); g_eli.c).
+//!
+//! There is no authentication yet. No call after `attach` takes memory.
+#![tactic(auto)]
+
+mod attaching;
+mod faults;
+mod provider;
+mod runs;
+#[cfg(test)]
+mod tests;
+mod units;
+
+pub use faults::{AttachFault, ReadFault, WriteFault};
+pub use provider::Provider;

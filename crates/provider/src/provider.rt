@@ -1,0 +1,273 @@
+// A disk that is read and written under a keying.
+ghost use Rattle.std.specs.Prelude.{◌≡◌, ℕ, ◌+◌, ◌*◌, ◌/◌, ◌%◌, ◌<◌, ◌≤◌, ◌↔◌, ◌∷◌, [], List, IsTrue, OnOk, OnErr, length, replicate};
+ghost use Rattle.block_traits.specs.Disk.{DiskState, FailsIn, Logs};
+ghost use Rattle.eli_base.specs.declared.algorithms.Auth.TheVariants.{Off};
+ghost use Rattle.eli_base.specs.Units.{media_sectors};
+ghost use Rattle.eli_metadata.specs.Check.{settings_of, size_matches, slot_matches, supported};
+ghost use Rattle.provider.specs.Answers.{AttachAnswers, Means, ReadAnswers, Target, WriteAnswers, request};
+ghost use Rattle.provider.specs.Attached.{IsKept, media};
+ghost use Rattle.provider.specs.Rest.{rest_of};
+
+use crate::attaching::{opened, reserve};
+use crate::runs::{read_run, write_run};
+use crate::{AttachFault, ReadFault, WriteFault};
+use block_traits::{Disk, DiskFailed, Event, MetaPlace, Sector, load_last, store_last};
+use eli_base::{Geometry, MasterKey, Params};
+use eli_metadata::Metadata;
+use range_keys::KeyRing;
+use std::alloc::Global;
+use std::marker::Model;
+use user_key::UserKey;
+
+// The logical sectors that a disk has room for, beside the metadata.
+fn media_on<D: Disk>(disk: &D, sectorsize: u32) -> u64
+    requires { 512 ≤ sectorsize }
+    ensures { result ≡ media_sectors Off sectorsize (512 * (D.state disk.now).size) }
+{
+    let units = u64::from(sectorsize) / 512;
+    (512 * disk.sectors()).saturating_sub(512) / (512 * units)
+}
+
+// Whether a request passes the end.
+fn passes_end(sector: u64, count: u64, media: u64) -> bool
+    ensures { IsTrue result ↔ (media < sector + count) }
+{
+    count > media || sector > media - count
+}
+
+/// An attached provider, which has its disk.
+///
+/// Contracts see the disk, the keying, the slot that gave the master key, and whether the provider is only read.
+// The bound is `Drop` and not `Disk`, so that the type may be named at a boxed disk.
+#[derive(Drop)]
+pub struct Provider<D: Drop> {
+    disk: D,
+    ring: KeyRing,
+    params: Params,
+    master: MasterKey,
+    slot: u8,
+    readonly: bool,
+    // One logical sector is sealed here.
+    buffer: Vec<u8>,
+}
+
+impl<D: Drop> Model for Provider<D> {
+    ghost use Rattle.std.specs.Prelude.{◌≡◌, vec_len};
+    ghost use Rattle.eli_base.specs.declared.algorithms.Auth.TheVariants.{Off};
+    ghost use Rattle.eli_base.specs.Keying.{keying_of};
+    ghost use Rattle.provider.specs.Attached.{Attached};
+
+    ghost Value = { Attached D };
+
+    ghost view = { λ p. record { disk = p.disk; keying = p.ring.keying; slot = p.slot; readonly = p.readonly } };
+
+    ghost invariant = { λ p. (p.ring.keying ≡ keying_of p.params p.master) × (p.params.auth ≡ Off) × (vec_len p.buffer ≡ p.params.sectorsize) };
+}
+
+impl<D: Disk> Provider<D> {
+    /// Attaches the provider on this disk, whose metadata are `meta`: with the master key of the slot that is named, or
+    /// else of the first slot that `key` opens. It is only read where `readonly` or the metadata say so.
+    ///
+    /// `params` are those that `check` gave of the metadata, and both gates let this disk and this slot through. There is
+    /// no authentication yet.
+    ///
+    /// The disk comes back with the fault. In this order: `TooSmall`, exactly where the disk has no whole logical sector;
+    /// `WrongKey`, exactly where no slot that is asked for opens; `NoMemory`. No call of the disk is made. The memory of
+    /// all later calls is reserved here.
+    pub fn attach(
+        alloc: Global,
+        disk: D,
+        meta: &Metadata,
+        params: &Params,
+        key: &UserKey,
+        slot: Option<u8>,
+        readonly: bool,
+    ) -> Result<Provider<D>, (D, AttachFault)>
+        requires checked { supported meta.now ≡ Ok (settings_of params.now) }
+        requires size { size_matches meta.now (D.state disk).size ≡ Ok tt }
+        requires slot { slot_matches meta.now slot ≡ Ok tt }
+        requires off { params.now.auth ≡ Off }
+        ensures {
+            let target : Target = record { meta = meta.now; params = params.now; disk = D.state disk } in
+            let means : Means = record { key = key.now.bytes; named = slot; readonly = readonly } in
+            AttachAnswers target means disk result
+        }
+    {
+        let Ok(_) = Geometry::of(params) else {
+            let size = params.provsize;
+            return Err((disk, AttachFault::TooSmall { size }));
+        };
+        let Some((master, slot)) = opened(meta, key, slot) else {
+            return Err((disk, AttachFault::WrongKey));
+        };
+        let Ok((ring, buffer)) = reserve(alloc, &master, params) else {
+            return Err((disk, AttachFault::NoMemory));
+        };
+        Ok(Provider {
+            disk,
+            ring,
+            params: *params,
+            master,
+            slot,
+            readonly: readonly || params.readonly,
+            buffer,
+        })
+    }
+
+    /// The bytes of a logical sector.
+    pub fn sector_size(&self) -> u32
+        ensures size { result ≡ self.now.keying.sectorsize }
+        ensures at_least { 512 ≤ result }
+        ensures at_most { result ≤ 65536 }
+        ensures whole { result % 512 ≡ 0 }
+    {
+        self.params.sectorsize
+    }
+
+    /// How many logical sectors there are.
+    pub fn sectors(&self) -> u64
+        ensures { result ≡ media self.now.keying (D.state self.now.disk) }
+    {
+        media_on(&self.disk, self.params.sectorsize)
+    }
+
+    /// The number of the slot that gave the master key.
+    pub fn slot(&self) -> u8
+        ensures { result ≡ self.now.slot }
+    {
+        self.slot
+    }
+
+    /// Whether the provider is only read.
+    pub fn read_only(&self) -> bool
+        ensures { result ≡ self.now.readonly }
+    {
+        self.readonly
+    }
+
+    /// The master key.
+    pub fn master(&self) -> MasterKey
+        ensures { result.bytes ≡ self.now.keying.master }
+    {
+        self.master
+    }
+
+    /// Reads logical sectors from number `sector` on into `into`, whose length is a positive multiple of the sector
+    /// size.
+    ///
+    /// `OutOfRange` comes exactly where the request passes the end, and then no call of the disk is made; `DeviceFault`
+    /// only where the device failed. Sectors are read in ascending order up to the first that fails. After a refusal
+    /// `into` is all zeros.
+    pub fn read(&mut self, sector: u64, into: &mut [u8]) -> Result<(), ReadFault>
+        requires some { 0 < length into.old }
+        requires whole { length into.old % self.old.keying.sectorsize ≡ 0 }
+        ensures answer { ReadAnswers D.state (request D.state self.old sector into.old) into.new self.old self.new result }
+        ensures cleared { OnErr result (into.new ≡ replicate (length into.old) 0) }
+        ensures kept { IsKept self.old self.new }
+    {
+        let answer = self.read_sectors(sector, into);
+        if answer.is_err() {
+            into.fill(0);
+        }
+        answer
+    }
+
+    // The same, where `into` may hold any bytes after a refusal.
+    fn read_sectors(&mut self, sector: u64, into: &mut [u8]) -> Result<(), ReadFault>
+        requires some { 0 < length into.old }
+        requires whole { length into.old % self.old.keying.sectorsize ≡ 0 }
+        ensures answer { ReadAnswers D.state (request D.state self.old sector into.old) into.new self.old self.new result }
+        ensures kept { IsKept self.old self.new }
+    {
+        let media = self.sectors();
+        let size = self.params.sectorsize as usize;
+        let count = (into.len() / size) as u64;
+        if passes_end(sector, count, media) {
+            return Err(ReadFault::OutOfRange {
+                sector,
+                count,
+                media,
+            });
+        }
+        if read_run(&mut self.ring, &mut self.disk, sector, size, into).is_err() {
+            return Err(ReadFault::DeviceFault);
+        }
+        Ok(())
+    }
+
+    /// Writes logical sectors from number `sector` on, whose plain bytes are `from`; its length is a positive multiple of
+    /// the sector size.
+    ///
+    /// In this order: `ReadOnly`, exactly where the provider is only read; `OutOfRange`, exactly where the request passes
+    /// the end; and then no call of the disk is made. `DeviceFault` comes only where the device failed. The device
+    /// sectors of the sealed bytes are written in ascending order, up to the first that fails. The provider stays attached.
+    pub fn write(&mut self, sector: u64, from: &[u8]) -> Result<(), WriteFault>
+        requires some { 0 < length from.now }
+        requires whole { length from.now % self.old.keying.sectorsize ≡ 0 }
+        ensures answer { WriteAnswers D.state (request D.state self.old sector from.now) from.now self.old self.new result }
+        ensures kept { IsKept self.old self.new }
+    {
+        if self.readonly {
+            return Err(WriteFault::ReadOnly);
+        }
+        let media = self.sectors();
+        let count = (from.len() / self.params.sectorsize as usize) as u64;
+        if passes_end(sector, count, media) {
+            return Err(WriteFault::OutOfRange {
+                sector,
+                count,
+                media,
+            });
+        }
+        if write_run(&mut self.ring, &mut self.disk, sector, from, &mut self.buffer).is_err() {
+            return Err(WriteFault::DeviceFault);
+        }
+        Ok(())
+    }
+
+    /// Flushes the disk.
+    pub fn flush(&mut self) -> Result<(), DiskFailed>
+        ensures ok { OnOk result (Logs (Event.Flush ∷ []) (D.state self.old.disk) (D.state self.new.disk)) }
+        ensures err { OnErr result (FailsIn (Event.Flush ∷ []) (D.state self.old.disk) (D.state self.new.disk)) }
+        ensures kept { IsKept self.old self.new }
+    {
+        self.disk.flush()
+    }
+
+    /// Flushes the disk, and gives it back either way.
+    pub fn detach(self) -> (D, Result<(), DiskFailed>)
+        ensures ok { OnOk result.1 (Logs (Event.Flush ∷ []) (D.state self.disk) (D.state result.0)) }
+        ensures err { OnErr result.1 (FailsIn (Event.Flush ∷ []) (D.state self.disk) (D.state result.0)) }
+    {
+        let mut disk = self.disk;
+        let flushed = disk.flush();
+        (disk, flushed)
+    }
+
+    /// Gives the disk back as it is. No call of it is made.
+    pub fn withdraw(self) -> D
+        ensures { result ≡ self.disk }
+    {
+        let disk = self.disk;
+        disk
+    }
+}
+
+/// It has the disk's state, and keeps its keying, its slot and whether it is only read.
+impl<D: Disk> MetaPlace for Provider<D> {
+    ghost state = { λ p. D.state p.disk };
+
+    ghost rest = { rest_of };
+
+    fn sectors(&self) -> u64 {
+        self.disk.sectors()
+    }
+
+    fn load(&mut self, into: &mut Sector) -> Result<(), DiskFailed> {
+        load_last(&mut self.disk, into)
+    }
+
+    fn store(&mut self, from: &Sector) -> Result<(), DiskFailed> {
+        store_last(&mut self.disk, from)
+    }
+}

@@ -1,0 +1,82 @@
+// Logical sectors one after the other, opened and sealed.
+ghost use Rattle.std.specs.Prelude.{◌≡◌, ℕ, ◌+◌, ◌*◌, ◌/◌, ◌%◌, ◌≤◌, [], OnOk, OnErr, IfSome, length};
+ghost use Rattle.block_traits.specs.Disk.{DiskState, FailsIn, Logs};
+ghost use Rattle.eli_base.specs.declared.algorithms.Auth.TheVariants.{Off};
+ghost use Rattle.sealing.specs.Sectors.{units};
+ghost use Rattle.provider.specs.Reading.{ReadsAs, sector_reading};
+ghost use Rattle.provider.specs.Writing.{data_writes, sector_writes};
+
+use crate::units::{read_units, write_units};
+use block_traits::{Disk, DiskFailed};
+use plain_sectors::{open_plain, seal_plain};
+use range_keys::KeyRing;
+
+// Reads one logical sector.
+fn read_sector<D: Disk>(ring: &mut KeyRing, disk: &mut D, sector: u64, block: &mut [u8]) -> Result<(), DiskFailed>
+    requires off { ring.old.keying.auth ≡ Off }
+    requires size { length block.old ≡ ring.old.keying.sectorsize }
+    requires inside { sector * units ring.old.keying + units ring.old.keying ≤ (D.state disk.old).size }
+    ensures reads { OnOk result (IfSome (D.state disk.old).content (λ c. sector_reading ring.old.keying c sector ≡ Ok block.new)) }
+    ensures ok { OnOk result (Logs [] (D.state disk.old) (D.state disk.new)) }
+    ensures err { OnErr result (FailsIn [] (D.state disk.old) (D.state disk.new)) }
+    ensures keying { ring.new.keying ≡ ring.old.keying }
+{
+    ring.is_of_a_keying();
+    let size = block.len() as u64;
+    read_units(disk, sector * (size / 512), block)?;
+    open_plain(ring, sector * size, block);
+    Ok(())
+}
+
+// Reads logical sectors of `size` bytes, the first of number `sector`.
+pub fn read_run<D: Disk>(ring: &mut KeyRing, disk: &mut D, sector: u64, size: usize, into: &mut [u8]) -> Result<(), DiskFailed>
+    requires off { ring.old.keying.auth ≡ Off }
+    requires size { size ≡ ring.old.keying.sectorsize }
+    requires whole { length into.old % size ≡ 0 }
+    requires inside { (sector + length into.old / size) * units ring.old.keying ≤ (D.state disk.old).size }
+    ensures reads { OnOk result (ReadsAs (D.state disk.old) ring.old.keying sector (length into.old / size) (Ok into.new)) }
+    ensures ok { OnOk result (Logs [] (D.state disk.old) (D.state disk.new)) }
+    ensures err { OnErr result (FailsIn [] (D.state disk.old) (D.state disk.new)) }
+    ensures keying { ring.new.keying ≡ ring.old.keying }
+{
+    ring.is_of_a_keying();
+    for i in 0..into.len() / size {
+        read_sector(ring, disk, sector + i as u64, &mut into[i * size..i * size + size])?;
+    }
+    Ok(())
+}
+
+// Writes one logical sector, which is sealed in `buffer`.
+fn write_sector<D: Disk>(ring: &mut KeyRing, disk: &mut D, sector: u64, from: &[u8], buffer: &mut [u8]) -> Result<(), DiskFailed>
+    requires off { ring.old.keying.auth ≡ Off }
+    requires size { length from.now ≡ ring.old.keying.sectorsize }
+    requires buffer { length buffer.old ≡ length from.now }
+    requires inside { sector * units ring.old.keying + units ring.old.keying ≤ (D.state disk.old).size }
+    ensures ok { OnOk result (Logs (sector_writes ring.old.keying sector from.now) (D.state disk.old) (D.state disk.new)) }
+    ensures err { OnErr result (FailsIn (sector_writes ring.old.keying sector from.now) (D.state disk.old) (D.state disk.new)) }
+    ensures keying { ring.new.keying ≡ ring.old.keying }
+{
+    ring.is_of_a_keying();
+    let size = from.len() as u64;
+    buffer.copy_from_slice(from);
+    seal_plain(ring, sector * size, buffer);
+    write_units(disk, sector * (size / 512), buffer)
+}
+
+// Writes logical sectors in ascending order, each of the size of `buffer`, in which it is sealed.
+pub fn write_run<D: Disk>(ring: &mut KeyRing, disk: &mut D, sector: u64, from: &[u8], buffer: &mut [u8]) -> Result<(), DiskFailed>
+    requires off { ring.old.keying.auth ≡ Off }
+    requires buffer { length buffer.old ≡ ring.old.keying.sectorsize }
+    requires whole { length from.now % length buffer.old ≡ 0 }
+    requires inside { (sector + length from.now / length buffer.old) * units ring.old.keying ≤ (D.state disk.old).size }
+    ensures ok { OnOk result (Logs (data_writes ring.old.keying sector (length from.now / length buffer.old) from.now) (D.state disk.old) (D.state disk.new)) }
+    ensures err { OnErr result (FailsIn (data_writes ring.old.keying sector (length from.now / length buffer.old) from.now) (D.state disk.old) (D.state disk.new)) }
+    ensures keying { ring.new.keying ≡ ring.old.keying }
+{
+    ring.is_of_a_keying();
+    let size = buffer.len();
+    for i in 0..from.len() / size {
+        write_sector(ring, disk, sector + i as u64, &from[i * size..i * size + size], buffer)?;
+    }
+    Ok(())
+}

@@ -1,15 +1,18 @@
 -- What is known of metadata that were checked, and let through by the gates.
-use Rattle.std.proofs.Common.{◌≡◌, ℕ, ◌<◌, ◌*◌, ◌==◌, ◌⊎◌, Bool, true, false, cond, IsTrue, Option, Some, None, Result, Ok, Err, refl, sym, ap, ◌∙◌, arith, inl, inr, nat_le}
+use Rattle.std.proofs.Common.{◌≡◌, ℕ, ◌<◌, ◌*◌, ◌==◌, ◌⊎◌, Bool, true, false, cond, List, Option, Some, None, Result, Ok, Err, refl, sym, ap, ◌∙◌, arith, nat_le, nat_lt, ◌^◌}
 use Rattle.std.proofs.lemmas.Bool.{eqb-true, leb-true}
 use Rattle.eli_base.specs.declared.algorithms.Auth.{Auth}
 use Rattle.eli_base.specs.declared.algorithms.Cipher.{Cipher}
 use Rattle.eli_base.specs.Algorithms.{allows_length}
+use Rattle.eli_base.specs.declared.parameters.MasterKey.{MasterKey}
 use Rattle.eli_base.specs.declared.parameters.Params.{Params}
+use Rattle.eli_base.specs.Keying.{Keying, keying_of}
 use Rattle.eli_base.specs.SectorSize.{is_sector_size}
 use Rattle.eli_base.specs.Units.{media_sectors}
 use Rattle.eli_metadata.specs.Check.{Settings, settings_of, supported, check_cipher, check_auth, check_sector, check_size, cipher_of, auth_of, unsupported_flags, is_readonly, is_set, size_matches, slot_matches, named_slot_opens, are_clear}
 use Rattle.eli_metadata.specs.declared.metadata.Metadata.{Metadata}
 use Rattle.eli_metadata.specs.declared.metadata.MetaFault.{MetaFault}
+use Rattle.eli_metadata.specs.declared.metadata.MetaFault.TheVariants.{BadSize}
 
 -- what the settings that were checked have of the metadata
 pub record IsSaid (m : Metadata) (s : Settings) : Type 0 where
@@ -21,11 +24,21 @@ passed : {T E : Type 0} (test : Bool) (r : Result T E) (fault : E) (x : T) → c
 passed true r fault x h = h
 passed false r fault x h = absurd cc
 
+settings_in : Settings → Result Settings MetaFault → Settings
+settings_in other (Ok s) = s
+settings_in other (Err fault) = other
+
+found : (m : Metadata) (cipher : Cipher) (auth : Auth) (s : Settings) → check_size m cipher auth ≡ Ok s → IsSaid m s
+unfolding settings_in
+found m cipher auth s h =
+    let settings : Settings = record { version = m.version; auth = auth; cipher = cipher; keylen = m.keylen; sectorsize = m.sectorsize; provsize = m.provsize; readonly = is_readonly m } in
+    let ok : Result Settings MetaFault = Ok settings in
+    let all : ok ≡ Ok s = passed (nat_lt m.provsize (2 ^ 53)) ok (BadSize m.provsize 0) s h in
+    let same : settings ≡ s = ap (settings_in s) all in
+    record { keylen = ap (λ (t : Settings). t.keylen) same; provsize = ap (λ (t : Settings). t.provsize) same; readonly = ap (λ (t : Settings). t.readonly) same }
+
 sized : (m : Metadata) (cipher : Cipher) (auth : Auth) (s : Settings) → check_sector m cipher auth ≡ Ok s → IsSaid m s
-sized m cipher auth s h =
-    let size = passed (is_sector_size m.sectorsize) _ _ s h in
-    let all = passed _ _ _ s size in
-    record { keylen = cc; provsize = cc; readonly = cc }
+sized m cipher auth s h = found m cipher auth s (passed (is_sector_size m.sectorsize) _ _ s h)
 
 authenticated : (m : Metadata) (cipher : Cipher) (auth : Option Auth) (s : Settings) → check_auth m cipher auth ≡ Ok s → IsSaid m s
 authenticated m cipher None s h = absurd cc
@@ -74,3 +87,15 @@ checked m p size good fits =
     let s = said m (settings_of p) good in
     let provsize : p.provsize ≡ 512 * size = sym s.provsize ∙ size_is m size fits in
     record { keylen = s.keylen; readonly = s.readonly; provsize = provsize; media = ap (media_sectors p.auth p.sectorsize) provsize }
+
+-- the master key of a keying is the one that a slot gave
+pub opened_as : (answer : Option (MasterKey × ℕ)) (master : MasterKey) (slot : ℕ) (p : Params) (k : Keying) → answer ≡ Some (master, slot) → k ≡ keying_of p master
+    → answer ≡ Some (record { bytes = k.master }, slot)
+opened_as answer master slot p k is same =
+    let bytes : master.bytes ≡ k.master = sym (ap (λ (j : Keying). j.master) same) in
+    is ∙ (λ i. Some (record { bytes = bytes i }, slot))
+
+pub keyed_as : (master : MasterKey) (p : Params) (k : Keying) → k ≡ keying_of p master → k ≡ keying_of p (record { bytes = k.master })
+keyed_as master p k same =
+    let bytes : master.bytes ≡ k.master = sym (ap (λ (j : Keying). j.master) same) in
+    same ∙ (λ i. keying_of p (record { bytes = bytes i }))

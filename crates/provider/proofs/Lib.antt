@@ -4,3 +4,4 @@ pub mod Readings
 pub mod Events
 pub mod Checked
 pub mod Sealed
+pub mod Told

@@ -21,7 +21,9 @@ truth_number false = 0
 truth_number true = 1
 
 -- read-only state, slot and keying, the bytes of the master key last
+abbrev pub rest_numbers : Keying → ℕ → Bool → List ℕ
+rest_numbers k slot readonly =
+    truth_number readonly ∷ slot ∷ k.version ∷ auth_number k.auth ∷ cipher_number k.cipher ∷ k.keylen ∷ k.sectorsize ∷ k.master
+
 abbrev pub rest_of : {D : Type 0} → Attached D → List ℕ
-rest_of p =
-    truth_number p.readonly ∷ p.slot ∷ p.keying.version ∷ auth_number p.keying.auth ∷ cipher_number p.keying.cipher
-    ∷ p.keying.keylen ∷ p.keying.sectorsize ∷ p.keying.master
+rest_of p = rest_numbers p.keying p.slot p.readonly

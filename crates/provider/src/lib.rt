@@ -6,6 +6,7 @@
 
 mod attaching;
 mod faults;
+mod laws;
 mod provider;
 mod runs;
 #[cfg(test)]
@@ -13,4 +14,5 @@ mod tests;
 mod units;
 
 pub use faults::{AttachFault, ReadFault, WriteFault};
+pub use laws::rest_tells_all;
 pub use provider::Provider;

@@ -1,5 +1,5 @@
 -- What is known of metadata that were checked, and let through by the gates.
-use Rattle.std.proofs.Common.{◌≡◌, ℕ, ◌<◌, ◌*◌, ◌==◌, ◌⊎◌, Bool, true, false, cond, List, Option, Some, None, Result, Ok, Err, refl, sym, ap, ◌∙◌, arith, nat_le, nat_lt, ◌^◌}
+use Rattle.std.proofs.Common.{◌≡◌, ℕ, ◌<◌, ◌*◌, ◌==◌, Bool, true, false, cond, Option, Some, None, Result, Ok, Err, refl, sym, ap, ◌∙◌, arith, nat_le, nat_lt, ◌^◌}
 use Rattle.std.proofs.lemmas.Bool.{eqb-true, leb-true}
 use Rattle.eli_base.specs.declared.algorithms.Auth.{Auth}
 use Rattle.eli_base.specs.declared.algorithms.Cipher.{Cipher}
@@ -9,7 +9,7 @@ use Rattle.eli_base.specs.declared.parameters.Params.{Params}
 use Rattle.eli_base.specs.Keying.{Keying, keying_of}
 use Rattle.eli_base.specs.SectorSize.{is_sector_size}
 use Rattle.eli_base.specs.Units.{media_sectors}
-use Rattle.eli_metadata.specs.Check.{Settings, settings_of, supported, check_cipher, check_auth, check_sector, check_size, cipher_of, auth_of, unsupported_flags, is_readonly, is_set, size_matches, slot_matches, named_slot_opens, are_clear}
+use Rattle.eli_metadata.specs.Check.{Settings, settings_of, supported, check_cipher, check_auth, check_sector, check_size, cipher_of, auth_of, is_readonly, size_matches, slot_matches, named_slot_opens, are_clear}
 use Rattle.eli_metadata.specs.declared.metadata.Metadata.{Metadata}
 use Rattle.eli_metadata.specs.declared.metadata.MetaFault.{MetaFault}
 use Rattle.eli_metadata.specs.declared.metadata.MetaFault.TheVariants.{BadSize}

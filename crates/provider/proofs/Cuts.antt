@@ -21,7 +21,7 @@ parts-front (suc n) xs ys e =
     let all : take (512 + 512 * n) xs ≡ take (512 + 512 * n) ys = ap (λ (m : ℕ). take m xs) (sym more) ∙ e ∙ ap (λ (m : ℕ). take m ys) more in
     let fits : 512 ≤ 512 + 512 * n = omega arith in
     let first : take 512 xs ≡ take 512 ys =
-      sym (take-take 512 (512 + 512 * n) xs fits) ∙ ap (take 512) all ∙ take-take 512 (512 + 512 * n) ys fits in
+    sym (take-take 512 (512 + 512 * n) xs fits) ∙ ap (take 512) all ∙ take-take 512 (512 + 512 * n) ys fits in
     let others = parts-front n (drop 512 xs) (drop 512 ys) (sym (drop-take 512 (512 * n) xs) ∙ ap (drop 512) all ∙ drop-take 512 (512 * n) ys) in
     λ i. first i ∷ others i
 
@@ -31,6 +31,6 @@ parts-put n k xs ys len room =
     let now : List ℕ = put_mid (512 * n) k xs ys in
     let front : parts 512 n now ≡ parts 512 n xs = parts-front n now xs (take-put_mid_below (512 * n) k xs ys (512 * n) (omega arith) room) in
     let behind : drop (512 * n) now ≡ ys ++ post_of (512 * n) k xs =
-      drop_at (take (512 * n) xs) (ys ++ post_of (512 * n) k xs) (512 * n) (length-take-le (512 * n) xs room) in
+    drop_at (take (512 * n) xs) (ys ++ post_of (512 * n) k xs) (512 * n) (length-take-le (512 * n) xs room) in
     let last : take 512 (drop (512 * n) now) ≡ ys = ap (take 512) behind ∙ take_at ys (post_of (512 * n) k xs) 512 len in
     ap (λ (m : ℕ). parts 512 m now) (add-one n) ∙ parts-suc n now ∙ (λ i. front i ++ last i ∷ [])

@@ -1,5 +1,5 @@
 -- What is logged sector by sector.
-use Rattle.std.proofs.Common.{◌≡◌, ℕ, suc, ◌+◌, ◌-◌, ◌*◌, ◌<◌, ◌≤◌, List, [], ◌∷◌, ◌++◌, take, drop, refl, sym, ap, ◌∙◌, arith}
+use Rattle.std.proofs.Common.{◌≡◌, ℕ, suc, ◌+◌, ◌-◌, ◌*◌, ◌<◌, ◌≤◌, List, [], ◌∷◌, ◌++◌, take, drop, sym, ap, ◌∙◌, arith}
 use Rattle.std.proofs.lemmas.List.{drop-drop}
 use Rattle.block_traits.specs.declared.disk.Event.{Event}
 use Rattle.block_traits.specs.declared.disk.Event.TheVariants.{Write}
@@ -67,7 +67,7 @@ run_writes-next k sector count size bytes i same more =
     let place : i * size + size ≡ (i + 1) * size = omega arith in
     let here : List ℕ = drop (i * size) bytes in
     let behind : drop k.sectorsize here ≡ drop ((i + 1) * size) bytes =
-      ap (λ (m : ℕ). drop m here) (sym same) ∙ drop-drop size (i * size) bytes ∙ ap (λ (m : ℕ). drop m bytes) place in
+    ap (λ (m : ℕ). drop m here) (sym same) ∙ drop-drop size (i * size) bytes ∙ ap (λ (m : ℕ). drop m bytes) place in
     ap (λ (m : ℕ). data_writes k (sector + i) m here) left
     ∙ (λ j. sector_writes k (sector + i) (take (sym same j) here) ++ data_writes k (at j) (count - (i + 1)) (behind j))
 

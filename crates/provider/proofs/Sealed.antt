@@ -1,7 +1,6 @@
 -- One logical sector without authentication, at its place on the disk.
-use Rattle.std.proofs.Common.{◌≡◌, ℕ, ◌*◌, ◌/◌, ◌<◌, ◌≤◌, List, length, sym, ap, ◌∙◌, arith, Option, Some, None, Result, Ok, IfSome}
+use Rattle.std.proofs.Common.{◌≡◌, ℕ, ◌*◌, ◌/◌, ◌<◌, List, length, sym, ap, ◌∙◌, Option, Some, None, Ok, IfSome}
 use Rattle.std.proofs.Math.Nat.{mul-div_cancel}
-use Rattle.block_traits.specs.declared.disk.Event.{Event}
 use Rattle.block_traits.specs.Content.{Content}
 use Rattle.eli_base.specs.declared.algorithms.Auth.TheVariants.{Off}
 use Rattle.eli_base.specs.Keying.{Keying}
@@ -23,7 +22,7 @@ sector_writes-is k sector size bytes plain block off same some is sealed long =
     let count : size / 512 ≡ units k = units-off k size off same in
     let all : length block / 512 ≡ units k = ap (λ (n : ℕ). n / 512) long ∙ count in
     let out : parts 512 (length block / 512) block ≡ seal k sector bytes =
-      ap (λ (n : ℕ). parts 512 n block) all ∙ sym sealed ∙ (λ i. seal k (number_at sector size k same some i) (is i)) in
+    ap (λ (n : ℕ). parts 512 n block) all ∙ sym sealed ∙ (λ i. seal k (number_at sector size k same some i) (is i)) in
     λ i. writes_from (sector * count i) (out i)
 
 -- what is read is the reading of the sector
@@ -35,5 +34,5 @@ sector_reading-is None k sector size sealed block off same some stand opened = t
 sector_reading-is (Some c) k sector size sealed block off same some stand opened =
     let count : size / 512 ≡ units k = units-off k size off same in
     let there : standing c (sector * units k) (units k) ≡ device_sectors k sealed =
-      (λ i. standing c (sector * sym count i) (sym count i)) ∙ sym stand ∙ ap (λ (n : ℕ). parts 512 n sealed) count in
+    (λ i. standing c (sector * sym count i) (sym count i)) ∙ sym stand ∙ ap (λ (n : ℕ). parts 512 n sealed) count in
     (λ i. reading k (sym (number_at sector size k same some) i) (there i)) ∙ opened

@@ -1,5 +1,5 @@
 -- Numbers that tell what they stand for.
-use Rattle.std.proofs.Common.{◌≡◌, ℕ, Bool, true, false, List, refl, arith}
+use Rattle.std.proofs.Common.{◌≡◌, ℕ, Bool, true, false, refl, arith}
 use Rattle.eli_base.specs.declared.algorithms.Auth.{Auth}
 use Rattle.eli_base.specs.declared.algorithms.Auth.TheVariants.{Off, Sha256}
 use Rattle.eli_base.specs.declared.algorithms.Cipher.{Cipher}
@@ -36,6 +36,8 @@ rest-same k j slot other readonly too h =
     let sectorsize : k.sectorsize ≡ j.sectorsize = cc in
     let master : k.master ≡ j.master = cc in
     let auth = auth-same k.auth j.auth auths in
-    let cipher = cipher-same k.cipher j.cipher ciphers in
-    (λ i. record { version = version i; auth = auth i; cipher = cipher i; keylen = keylen i; sectorsize = sectorsize i; master = master i },
-    slots, truth-same readonly too truth)
+    let cipher = cipher-same k.cipher j.cipher ciphers in (
+      λ i. record { version = version i; auth = auth i; cipher = cipher i; keylen = keylen i; sectorsize = sectorsize i; master = master i },
+      slots,
+      truth-same readonly too truth,
+    )

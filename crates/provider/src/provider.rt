@@ -87,11 +87,9 @@ impl<D: Disk> Provider<D> {
         requires size { size_matches meta.now (D.state disk).size ≡ Ok tt }
         requires slot { slot_matches meta.now slot ≡ Ok tt }
         requires off { params.now.auth ≡ Off }
-        ensures {
-            let target : Target = record { meta = meta.now; params = params.now; disk = D.state disk } in
+        ensures { let target : Target = record { meta = meta.now; params = params.now; disk = D.state disk } in
             let means : Means = record { key = key.now.bytes; named = slot; readonly = readonly } in
-            AttachAnswers target means disk result
-        }
+            AttachAnswers target means disk result }
     {
         let Ok(_) = Geometry::of(params) else {
             let size = params.provsize;
@@ -219,7 +217,8 @@ impl<D: Disk> Provider<D> {
                 media,
             });
         }
-        if write_run(&mut self.ring, &mut self.disk, sector, from, &mut self.buffer).is_err() {
+        let buffer = &mut self.buffer;
+        if write_run(&mut self.ring, &mut self.disk, sector, from, buffer).is_err() {
             return Err(WriteFault::DeviceFault);
         }
         Ok(())

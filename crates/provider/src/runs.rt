@@ -12,7 +12,12 @@ use plain_sectors::{open_plain, seal_plain};
 use range_keys::KeyRing;
 
 // Reads one logical sector.
-fn read_sector<D: Disk>(ring: &mut KeyRing, disk: &mut D, sector: u64, block: &mut [u8]) -> Result<(), DiskFailed>
+fn read_sector<D: Disk>(
+    ring: &mut KeyRing,
+    disk: &mut D,
+    sector: u64,
+    block: &mut [u8],
+) -> Result<(), DiskFailed>
     requires off { ring.old.keying.auth ≡ Off }
     requires size { length block.old ≡ ring.old.keying.sectorsize }
     requires inside { sector * units ring.old.keying + units ring.old.keying ≤ (D.state disk.old).size }
@@ -29,7 +34,13 @@ fn read_sector<D: Disk>(ring: &mut KeyRing, disk: &mut D, sector: u64, block: &m
 }
 
 // Reads logical sectors of `size` bytes, the first of number `sector`.
-pub fn read_run<D: Disk>(ring: &mut KeyRing, disk: &mut D, sector: u64, size: usize, into: &mut [u8]) -> Result<(), DiskFailed>
+pub fn read_run<D: Disk>(
+    ring: &mut KeyRing,
+    disk: &mut D,
+    sector: u64,
+    size: usize,
+    into: &mut [u8],
+) -> Result<(), DiskFailed>
     requires off { ring.old.keying.auth ≡ Off }
     requires size { size ≡ ring.old.keying.sectorsize }
     requires whole { length into.old % size ≡ 0 }
@@ -41,13 +52,20 @@ pub fn read_run<D: Disk>(ring: &mut KeyRing, disk: &mut D, sector: u64, size: us
 {
     ring.is_of_a_keying();
     for i in 0..into.len() / size {
-        read_sector(ring, disk, sector + i as u64, &mut into[i * size..i * size + size])?;
+        let block = &mut into[i * size..i * size + size];
+        read_sector(ring, disk, sector + i as u64, block)?;
     }
     Ok(())
 }
 
 // Writes one logical sector, which is sealed in `buffer`.
-fn write_sector<D: Disk>(ring: &mut KeyRing, disk: &mut D, sector: u64, from: &[u8], buffer: &mut [u8]) -> Result<(), DiskFailed>
+fn write_sector<D: Disk>(
+    ring: &mut KeyRing,
+    disk: &mut D,
+    sector: u64,
+    from: &[u8],
+    buffer: &mut [u8],
+) -> Result<(), DiskFailed>
     requires off { ring.old.keying.auth ≡ Off }
     requires size { length from.now ≡ ring.old.keying.sectorsize }
     requires buffer { length buffer.old ≡ length from.now }
@@ -64,7 +82,13 @@ fn write_sector<D: Disk>(ring: &mut KeyRing, disk: &mut D, sector: u64, from: &[
 }
 
 // Writes logical sectors in ascending order, each of the size of `buffer`, in which it is sealed.
-pub fn write_run<D: Disk>(ring: &mut KeyRing, disk: &mut D, sector: u64, from: &[u8], buffer: &mut [u8]) -> Result<(), DiskFailed>
+pub fn write_run<D: Disk>(
+    ring: &mut KeyRing,
+    disk: &mut D,
+    sector: u64,
+    from: &[u8],
+    buffer: &mut [u8],
+) -> Result<(), DiskFailed>
     requires off { ring.old.keying.auth ≡ Off }
     requires buffer { length buffer.old ≡ ring.old.keying.sectorsize }
     requires whole { length from.now % length buffer.old ≡ 0 }
@@ -76,7 +100,8 @@ pub fn write_run<D: Disk>(ring: &mut KeyRing, disk: &mut D, sector: u64, from: &
     ring.is_of_a_keying();
     let size = buffer.len();
     for i in 0..from.len() / size {
-        write_sector(ring, disk, sector + i as u64, &from[i * size..i * size + size], buffer)?;
+        let plain = &from[i * size..i * size + size];
+        write_sector(ring, disk, sector + i as u64, plain, buffer)?;
     }
     Ok(())
 }

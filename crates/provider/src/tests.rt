@@ -145,10 +145,10 @@ fn read(
 // The numbers of the sectors that were written.
 fn are_writes_of(history: &[Event], numbers: &[u64]) -> bool {
     history.len() == numbers.len()
-        && history
-            .iter()
-            .zip(numbers)
-            .all(|(event, number)| matches!(event, Event::Write { n, .. } if n == number))
+        && history.iter().zip(numbers).all(|(
+            event,
+            number,
+        )| matches!(event, Event::Write { n, .. } if n == number))
 }
 
 #[test]
@@ -169,7 +169,10 @@ fn one_sector_disk(rt: HostRuntime) -> Result<(), Fail> {
     let disk = provider.withdraw();
     assert!(rt; are_writes_of(disk.history(), &[0, 1, 2, 3, 4, 5, 6, 7]));
     let mut provider = attached(&rt, alloc, disk, &meta, true);
-    assert_eq!(rt; write(&rt, &mut provider, 5, &[7; 4096]), Err(WriteFault::ReadOnly));
+    assert_eq!(rt;
+        write(&rt, &mut provider, 5, &[7; 4096]),
+        Err(WriteFault::ReadOnly)
+    );
     Ok(())
 }
 
@@ -183,9 +186,16 @@ fn third_write_fails(rt: HostRuntime) -> Result<(), Fail> {
     ];
     for (lands, numbers) in cases {
         let mut disk = MemDisk::new(alloc, 9, 16)?;
-        disk.fail_calls(&[FailAt { kind: CallKind::Write, nth: 3, lands }])?;
+        disk.fail_calls(&[FailAt {
+            kind: CallKind::Write,
+            nth: 3,
+            lands,
+        }])?;
         let mut provider = attached(&rt, alloc, disk, &meta, false);
-        assert_eq!(rt; write(&rt, &mut provider, 0, &[7; 4096]), Err(WriteFault::DeviceFault));
+        assert_eq!(rt;
+            write(&rt, &mut provider, 0, &[7; 4096]),
+            Err(WriteFault::DeviceFault)
+        );
         assert_eq!(rt; write(&rt, &mut provider, 0, &[7; 4096]), Ok(()));
         let disk = provider.withdraw();
         assert!(rt; are_writes_of(disk.history(), numbers));
@@ -197,10 +207,17 @@ fn third_write_fails(rt: HostRuntime) -> Result<(), Fail> {
 fn second_read_fails(rt: HostRuntime) -> Result<(), Fail> {
     let alloc = rt.alloc();
     let mut disk = MemDisk::new(alloc, 9, 0)?;
-    disk.fail_calls(&[FailAt { kind: CallKind::Read, nth: 2, lands: false }])?;
+    disk.fail_calls(&[FailAt {
+        kind: CallKind::Read,
+        nth: 2,
+        lands: false,
+    }])?;
     let mut provider = attached(&rt, alloc, disk, &metadata(AES_XTS, 4096, 9 * 512), false);
     let mut into = [9; 4096];
-    assert_eq!(rt; read(&rt, &mut provider, 0, &mut into), Err(ReadFault::DeviceFault));
+    assert_eq!(rt;
+        read(&rt, &mut provider, 0, &mut into),
+        Err(ReadFault::DeviceFault)
+    );
     assert!(rt; into == [0; 4096]);
     Ok(())
 }
@@ -238,7 +255,12 @@ fn check_row(rt: &impl Abort, alloc: Global, row: &Row, plain: &[u8]) -> Result<
     let mut expected = [0u8; 32];
     expected[..16].copy_from_slice(&row.digest[0].to_be_bytes());
     expected[16..].copy_from_slice(&row.digest[1].to_be_bytes());
-    assert_eq!(rt; digest_of(rt, &mut disk, units), expected, "{} bytes", row.sectorsize);
+    assert_eq!(rt;
+        digest_of(rt, &mut disk, units),
+        expected,
+        "{} bytes",
+        row.sectorsize
+    );
     let mut provider = attached(rt, alloc, disk, &meta, true);
     let mut into = vec![in alloc; 0u8; plain.len()]?;
     assert_eq!(rt; read(rt, &mut provider, 1, &mut into), Ok(()));

@@ -10,10 +10,8 @@ use block_traits::{Disk, DiskFailed, Sector};
 // Reads as many device sectors as `into` has room for, the first from number `first`.
 pub fn read_units<D: Disk>(disk: &mut D, first: u64, into: &mut [u8]) -> Result<(), DiskFailed>
     requires { first + length into.old / 512 ≤ (D.state disk.old).size }
-    ensures stand {
-        let count = length into.old / 512 in
-        OnOk result (StandFrom (D.state disk.old).content first count (parts 512 count into.new))
-    }
+    ensures stand { let count = length into.old / 512 in
+        OnOk result (StandFrom (D.state disk.old).content first count (parts 512 count into.new)) }
     ensures ok { OnOk result (Logs [] (D.state disk.old) (D.state disk.new)) }
     ensures err { OnErr result (FailsIn [] (D.state disk.old) (D.state disk.new)) }
 {

@@ -1,9 +1,10 @@
-use Rattle.std.proofs.Common.{◌≡◌, ◌+◌, ◌*◌, ◌≤◌, [], length, subst, ◌∙◌, arith, Option, Ok, IfSome}
+use Rattle.std.proofs.Common.{◌≡◌, ◌+◌, ◌*◌, ◌/◌, ◌≤◌, [], length, subst, ◌∙◌, arith, Option, Ok, IfSome}
 use Rattle.block_traits.specs.Content.{Content}
 use Rattle.block_traits.proofs.Logs.{Logs-then, logged-none}
 use Rattle.eli_base.specs.Keying.{Keying}
+use Rattle.sealing.specs.Sectors.{units}
 use Rattle.provider.specs.Reading.{sector_reading}
-use Rattle.provider.proofs.Ranges.{bytes_inside}
+use Rattle.provider.proofs.Ranges.{bytes_inside, number_small, units-off}
 use Rattle.provider.proofs.Readings.{ReadsFrom-next}
 use Rattle.provider.proofs.runs.read_run.Goals as goal
 
@@ -25,3 +26,11 @@ loop-i-preserved g c =
       logs = Logs-then [] [] before.logs c.in_ok-read_sector.ensures.ok;
       reads = ReadsFrom-next start.content k c.args.sector c.loop-i.i c.args.size _ c.loop-i.into block before.reads gives len room;
     }
+
+pub overflow_add-sector : goal.overflow_add-sector
+overflow_add-sector g c =
+    let d = g.D.Disk.state c.args.disk.now in
+    let k = c.args.ring.now.keying in
+    let size = c.args.size in
+    let some : 1 ≤ units k = omega (arith, units-off k size c.requires.off c.requires.size, c.is_of_a_keying.ensures.at_least) in
+    omega (arith, number_small (c.args.sector + length c.args.into.now / size) (units k) d.size some c.requires.inside, d.well_formed.bound, c.loop-i-test.true)

@@ -16,4 +16,4 @@ pub returns-clause-reads : goal.returns-clause-reads
 returns-clause-reads g c =
     let some : 0 < length c.args.block.now = omega arith in
     sector_reading-is (g.D.Disk.state c.args.disk.now).content c.args.ring.now.keying c.args.sector (length c.args.block.now) c.read_units.new.into c.open_plain.new.block
-      c.requires.off c.requires.size some c.in_ok-read_units.ensures.stand c.open_plain.ensures.opened
+    c.requires.off c.requires.size some c.in_ok-read_units.ensures.stand c.open_plain.ensures.opened

@@ -1,9 +1,11 @@
-use Rattle.std.proofs.Common.{rules, ◌≡◌, ◌+◌, ◌-◌, ◌*◌, ◌/◌, List, ℕ, length, take, drop, subst, sym, ◌∙◌, arith}
+use Rattle.std.proofs.Common.{rules, ◌≡◌, ◌+◌, ◌-◌, ◌*◌, ◌/◌, ◌≤◌, List, length, take, drop, subst, sym, ◌∙◌, arith}
 use Rattle.block_traits.specs.declared.disk.Event.{Event}
 use Rattle.block_traits.specs.Disk.{Continues}
 use Rattle.block_traits.proofs.Logs.{Continues-start, Continues-end}
+use Rattle.sealing.specs.Sectors.{units}
 use Rattle.provider.specs.Writing.{data_writes, sector_writes}
 use Rattle.provider.proofs.Events.{Continues-then, FailsIn-part, run_writes, run_writes-start, run_writes-at, run_writes-end}
+use Rattle.provider.proofs.Ranges.{number_small, units-off}
 use Rattle.provider.proofs.runs.write_run.Goals as goal
 
 pub loop-i-init : goal.loop-i-init
@@ -33,7 +35,7 @@ returns-in_err-write_sector-clause-err g c =
     let wide : width ≡ size = omega arith in
     let P : List Event → Type 0 = λ events. Continues events all (state c.loop-i.disk) (state c.args.disk.now) in
     let here = subst P (run_writes-at k c.loop-i.ring.keying c.args.sector count size width from c.loop-i.i c.loop-i.invariant.keying wide c.requires.buffer c.loop-i-test.true)
-      c.loop-i.invariant.events in
+    c.loop-i.invariant.events in
     let one = sector_writes c.loop-i.ring.keying (c.args.sector + c.loop-i.i) (take width (drop (c.loop-i.i * size) from)) in
     let fails = FailsIn-part one left all here c.in_err-write_sector.ensures.err in
     search rules
@@ -51,7 +53,7 @@ loop-i-preserved g c =
     let wide : width ≡ size = omega arith in
     let P : List Event → Type 0 = λ events. Continues events all (state c.loop-i.disk) (state c.args.disk.now) in
     let here = subst P (run_writes-at k c.loop-i.ring.keying c.args.sector count size width from c.loop-i.i c.loop-i.invariant.keying wide c.requires.buffer c.loop-i-test.true)
-      c.loop-i.invariant.events in
+    c.loop-i.invariant.events in
     let one = sector_writes c.loop-i.ring.keying (c.args.sector + c.loop-i.i) (take width (drop (c.loop-i.i * size) from)) in
     let logs = Continues-then one left all here c.in_ok-write_sector.ensures.ok in
     record {
@@ -69,3 +71,11 @@ returns-clause-ok g c =
     let all = data_writes k c.args.sector count c.args.from.now in
     let P : List Event → Type 0 = λ events. Continues events all (state c.loop-i.disk) (state c.args.disk.now) in
     Continues-end all (subst P (run_writes-end k c.args.sector count size c.args.from.now c.loop-i.i c.loop-i-test.false) c.loop-i.invariant.events)
+
+pub overflow_add-sector : goal.overflow_add-sector
+overflow_add-sector g c =
+    let d = g.D.Disk.state c.args.disk.now in
+    let k = c.args.ring.now.keying in
+    let size = length c.args.buffer.now in
+    let some : 1 ≤ units k = omega (arith, units-off k size c.requires.off c.requires.buffer, c.is_of_a_keying.ensures.at_least) in
+    omega (arith, number_small (c.args.sector + length c.args.from.now / size) (units k) d.size some c.requires.inside, d.well_formed.bound, c.loop-i-test.true)

@@ -1,4 +1,4 @@
-use Rattle.std.proofs.Common.{◌≡◌, ◌<◌, List, length, ap, subst, ◌∙◌, arith}
+use Rattle.std.proofs.Common.{◌≡◌, ◌<◌, List, length, subst, arith}
 use Rattle.std.proofs.lemmas.Result.{on_ok_weaker, on_err_weaker}
 use Rattle.block_traits.specs.declared.disk.Event.{Event}
 use Rattle.block_traits.specs.Disk.{Logs, FailsIn}
@@ -12,7 +12,7 @@ returns-clause-ok g c =
     let some : 0 < length c.args.from.now = omega arith in
     let long : length c.seal_plain.new.block ≡ length c.args.from.now = omega arith in
     let is = sector_writes-is c.args.ring.now.keying c.args.sector (length c.args.from.now) c.args.from.now c.copy_from_slice.new.self c.seal_plain.new.block
-      c.requires.off same some c.copy_from_slice.ensures.after c.seal_plain.ensures.sealed long in
+    c.requires.off same some c.copy_from_slice.ensures.after c.seal_plain.ensures.sealed long in
     let P : List Event → Type 0 = λ events. Logs events (state c.args.disk.now) (state c.write_units.new.disk) in
     on_ok_weaker c.write_units.result (subst P is) c.write_units.ensures.ok
 
@@ -23,6 +23,6 @@ returns-clause-err g c =
     let some : 0 < length c.args.from.now = omega arith in
     let long : length c.seal_plain.new.block ≡ length c.args.from.now = omega arith in
     let is = sector_writes-is c.args.ring.now.keying c.args.sector (length c.args.from.now) c.args.from.now c.copy_from_slice.new.self c.seal_plain.new.block
-      c.requires.off same some c.copy_from_slice.ensures.after c.seal_plain.ensures.sealed long in
+    c.requires.off same some c.copy_from_slice.ensures.after c.seal_plain.ensures.sealed long in
     let P : List Event → Type 0 = λ events. FailsIn events (state c.args.disk.now) (state c.write_units.new.disk) in
     on_err_weaker c.write_units.result (subst P is) c.write_units.ensures.err

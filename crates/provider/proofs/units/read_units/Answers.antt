@@ -1,6 +1,6 @@
 use Rattle.std.proofs.Common.{◌≡◌, ◌+◌, ◌*◌, ◌≤◌, List, ℕ, [], length, subst, sym, ap, ◌∙◌, arith, Option}
 use Rattle.block_traits.specs.Content.{Content}
-use Rattle.block_traits.specs.Disk.{Logs, GivesFrom}
+use Rattle.block_traits.specs.Disk.{GivesFrom}
 use Rattle.block_traits.proofs.Logs.{Logs-then, logged-none}
 use Rattle.provider.proofs.Readings.{StandFrom-next}
 use Rattle.provider.proofs.units.read_units.Goals as goal

@@ -1,5 +1,4 @@
-use Rattle.std.proofs.Common.{rules, ◌≡◌, ◌+◌, ◌/◌, List, ℕ, [], ◌∷◌, ◌++◌, length, subst, sym, ap, ◌∙◌}
-use Rattle.std.proofs.lemmas.Result.{on_ok_weaker}
+use Rattle.std.proofs.Common.{rules, ◌+◌, ◌/◌, List, ℕ, [], ◌∷◌, length, subst, sym, ap, ◌∙◌}
 use Rattle.block_traits.specs.declared.disk.Event.{Event}
 use Rattle.block_traits.specs.declared.disk.Event.TheVariants.{Write}
 use Rattle.block_traits.specs.Disk.{Continues}
@@ -28,7 +27,7 @@ returns-in_err-write-clause-err g c =
     let left = unit_writes c.args.first count c.args.from.now (c.loop-j.j + 1) in
     let P : List Event → Type 0 = λ events. Continues events all (state c.loop-j.disk) (state c.args.disk.now) in
     let here = subst P (unit_writes-next c.args.first count c.args.from.now c.loop-j.j c.loop-j-test.true
-      ∙ ap (λ (b : List ℕ). Write (c.args.first + c.loop-j.j) b ∷ left) (sym c.unit_of.ensures)) c.loop-j.invariant.events in
+    ∙ ap (λ (b : List ℕ). Write (c.args.first + c.loop-j.j) b ∷ left) (sym c.unit_of.ensures)) c.loop-j.invariant.events in
     let fails = FailsIn-part (Write (c.args.first + c.loop-j.j) c.unit_of.result ∷ []) left all here c.in_err-write.ensures.err in
     search rules
 
@@ -40,7 +39,7 @@ loop-j-preserved g c =
     let left = unit_writes c.args.first count c.args.from.now (c.loop-j.j + 1) in
     let P : List Event → Type 0 = λ events. Continues events all (state c.loop-j.disk) (state c.args.disk.now) in
     let here = subst P (unit_writes-next c.args.first count c.args.from.now c.loop-j.j c.loop-j-test.true
-      ∙ ap (λ (b : List ℕ). Write (c.args.first + c.loop-j.j) b ∷ left) (sym c.unit_of.ensures)) c.loop-j.invariant.events in
+    ∙ ap (λ (b : List ℕ). Write (c.args.first + c.loop-j.j) b ∷ left) (sym c.unit_of.ensures)) c.loop-j.invariant.events in
     record {
       size = c.in_ok-write.ensures.ok.size ∙ c.loop-j.invariant.size;
       events = Continues-then (Write (c.args.first + c.loop-j.j) c.unit_of.result ∷ []) left all here c.in_ok-write.ensures.ok;

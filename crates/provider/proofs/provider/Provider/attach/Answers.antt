@@ -1,5 +1,4 @@
-use Rattle.std.proofs.Common.{rules, ◌≡◌, ◌||◌, ℕ, List, Bool, Option, Some, None, IsSome, refl, subst, sym, ap, ◌∙◌, arith}
-use Rattle.eli_base.specs.Keying.{Keying}
+use Rattle.std.proofs.Common.{rules, ◌||◌, Bool, IsSome, refl, subst, sym, ap, ◌∙◌, arith}
 use Rattle.eli_metadata.specs.Check.{is_readonly}
 use Rattle.key_slots.specs.Slots.{IsKeyBits}
 use Rattle.provider.proofs.Checked.{checked, keyed_as, opened_as}
@@ -39,7 +38,7 @@ returns g c =
       opened = opened_as _ c.in-Some.master c.in-Some.slot c.args.params.now k (sym c.opened.ensures ∙ c.in-Some.is) same;
       keying = keyed_as c.in-Some.master c.args.params.now k same;
       readonly = elim c.if-readonly.branch [
-          then-readonly w ↦ w.result-is ∙ w.if-readonly.true ∙ sym (ap (λ (r : Bool). r || is_readonly m) w.if-readonly.true)
+        | then-readonly w ↦ w.result-is ∙ w.if-readonly.true ∙ sym (ap (λ (r : Bool). r || is_readonly m) w.if-readonly.true)
         | else-readonly w ↦ w.result-is ∙ sym is.readonly ∙ sym (ap (λ (r : Bool). r || is_readonly m) w.if-readonly.false)
       ];
     }

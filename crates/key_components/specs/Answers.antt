@@ -1,0 +1,91 @@
+-- What loading answers, and when a refusal may come.
+use Rattle.std.specs.Prelude.{◌≡◌, ◌≤◌, ◌⊎◌, ℕ, List, ◌∷◌, ◌++◌, Option, None, Some, IfSome, Result, Ok, Err}
+use Rattle.block_traits.specs.Cabinet.{Files, load_answer}
+use Rattle.block_traits.specs.Causes.{Rose}
+use Rattle.block_traits.specs.declared.cabinet.LoadFault.{LoadFault}
+use Rattle.block_traits.specs.declared.cabinet.LoadFault.TheVariants as load
+use Rattle.command_words.specs.declared.spans.Span.{Span}
+use Rattle.command_words.specs.declared.spans.KeyWords.{KeyWords}
+use Rattle.eli_base.specs.declared.refusals.Refusal.{Refusal}
+use Rattle.eli_base.specs.declared.refusals.Refusal.TheVariants.{CabinetFault, FileAbsent, FileTooLong, NoMemory}
+use Rattle.key_components.specs.Files.{Taking, file_limit, first_fault, key_files, passphrase_files, passphrase_limit}
+
+-- a refusal, or else a value
+abbrev pub unless : {T : Type 0} → Option Refusal → T → Result T Refusal
+unless None value = Ok value
+unless (Some refusal) value = Err refusal
+
+-- the refusal of a file that the word names, by what a load of it answers
+abbrev pub refusal_of : ℕ → LoadFault → Refusal
+refusal_of word load.Absent = FileAbsent word
+refusal_of word load.TooLong = FileTooLong word file_limit
+refusal_of word load.Failed = CabinetFault word
+refusal_of word load.NoMemory = NoMemory
+
+-- the answer for one file of a limited length
+abbrev pub refused : ℕ → Result (List ℕ) LoadFault → Result (List ℕ) Refusal
+refused word (Ok bytes) = Ok bytes
+refused word (Err fault) = Err (refusal_of word fault)
+
+abbrev pub file_answer : ℕ → ℕ → Option (List ℕ) → Result (List ℕ) Refusal
+file_answer word limit file = refused word (load_answer file limit)
+
+-- it is refused so, or the cabinet failed, or there was no memory
+abbrev pub IsRefusal : {T : Type 0} → Result T Refusal → Refusal → Type 0
+IsRefusal answer (CabinetFault word) = Unit {0}
+IsRefusal answer NoMemory = Unit {0}
+IsRefusal answer refusal = Err refusal ≡ answer
+
+-- it is answered, or the cabinet failed, or there was no memory
+abbrev pub IsAnswer : {T : Type 0} → Result T Refusal → Result T Refusal → Type 0
+IsAnswer answer (Ok value) = Ok value ≡ answer
+IsAnswer answer (Err refusal) = IsRefusal answer refusal
+
+-- the number of the word that a refusal names
+abbrev pub word_of : Refusal → Option ℕ
+word_of (CabinetFault word) = Some word
+word_of (FileAbsent word) = Some word
+word_of (FileTooLong word limit) = Some word
+word_of refusal = None
+
+-- The word is that of a file, and the files before it are without fault, where that is told.
+pub record IsAt (taking : Taking) (told : Option Files) (line : List ℕ) (spans : List Span) (word : ℕ) : Type 0 where
+  pub before : List Span
+  pub span : Span
+  pub behind : List Span
+  pub place : spans ≡ before ++ span ∷ behind
+  pub named : span.word ≡ word
+  pub served : IfSome told (λ files. first_fault taking files line 0 before ≡ None)
+
+-- the same among the passphrase files, which come behind the key files
+pub record IsBehind (told : Option Files) (line : List ℕ) (words : KeyWords) (word : ℕ) : Type 0 where
+  pub keys : IfSome told (λ files. first_fault key_files files line 0 words.files ≡ None)
+  pub at : IsAt passphrase_files told line words.pass word
+
+-- the same among all files of a key
+abbrev pub IsReached : Option Files → List ℕ → KeyWords → ℕ → Type 0
+IsReached told line words word = IsAt key_files told line words.files word ⊎ IsBehind told line words word
+
+-- a cabinet by its files, where it tells them, how often it failed, and how often a file was absent or too long
+pub record CabinetState : Type 0 where
+  pub files : Option Files
+  pub faults : ℕ
+  pub misses : ℕ
+
+abbrev pub cabinet_of : {C : Type 0} → (C → Option Files) → (C → ℕ) → (C → ℕ) → C → CabinetState
+cabinet_of files faults misses cabinet = record { files = files cabinet; faults = faults cabinet; misses = misses cabinet }
+
+-- whether such a refusal may come, by what the cabinet was before and is now; no other refusal comes
+abbrev pub MayRefuse : CabinetState → CabinetState → Refusal → Type 0
+MayRefuse old new (CabinetFault word) = Rose old.faults new.faults
+MayRefuse old new (FileAbsent word) = Rose old.misses new.misses
+MayRefuse old new (FileTooLong word limit) = ((limit ≡ file_limit) × Rose old.misses new.misses) ⊎ (limit ≡ passphrase_limit)
+MayRefuse old new NoMemory = Unit {0}
+MayRefuse old new refusal = ⊥
+
+-- The files are as they were, no count fell, and a refusal has its cause.
+pub record Loads (old new : CabinetState) (refusal : Option Refusal) : Type 0 where
+  pub files : new.files ≡ old.files
+  pub faults : old.faults ≤ new.faults
+  pub misses : old.misses ≤ new.misses
+  pub cause : IfSome refusal (MayRefuse old new)

@@ -1,0 +1,50 @@
+//! One file of a key.
+
+ghost use Rattle.std.specs.Prelude.{◌≡◌, ◌≤◌, length, IfOk, IfErr, IfSome};
+ghost use Rattle.std.specs.Result.{result_err};
+ghost use Rattle.command_words.specs.Places.{IsWithin, bytes_at};
+ghost use Rattle.key_components.specs.Answers.{IsAnswer, Loads, cabinet_of, file_answer, refusal_of, word_of};
+
+use block_traits::{ByteList, Cabinet, LoadFault};
+use command_words::Span;
+use eli_base::Refusal;
+use std::alloc::Global;
+
+/// The most bytes of a file, and of all key files of one option together.
+pub const FILE_LIMIT: usize = 1_048_576;
+
+// The refusal of the file that the word names, by what a load of it answered.
+fn refusal(word: u32, fault: LoadFault) -> Refusal
+    ensures { result ≡ refusal_of word fault }
+{
+    match fault {
+        LoadFault::Absent => Refusal::FileAbsent { word },
+        LoadFault::TooLong => Refusal::FileTooLong {
+            word,
+            limit: FILE_LIMIT as u64,
+        },
+        LoadFault::Failed => Refusal::CabinetFault { word },
+        LoadFault::NoMemory => Refusal::NoMemory,
+    }
+}
+
+/// Loads the file that a span of the line names, if it has at most `limit` bytes.
+pub fn load_file<C: Cabinet>(
+    alloc: Global,
+    line: &[u8],
+    span: Span,
+    limit: usize,
+    files: &mut C,
+) -> Result<ByteList, Refusal>
+    requires { IsWithin (length line.now) span }
+    ensures answer { IfSome (C.files files.old) (λ told. IsAnswer (file_answer span.word limit (told (bytes_at line.now span))) result) }
+    ensures within { IfOk result (λ bytes. length bytes ≤ limit) }
+    ensures word { IfErr result (λ refusal. IfSome (word_of refusal) (λ word. span.word ≡ word)) }
+    ensures loads { Loads (cabinet_of C.files C.faults C.misses files.old) (cabinet_of C.files C.faults C.misses files.new) (result_err result) }
+{
+    let name = &line[span.start as usize..span.end as usize];
+    match files.load(alloc, name, limit as u64) {
+        Ok(bytes) => Ok(bytes),
+        Err(fault) => Err(refusal(span.word, fault)),
+    }
+}

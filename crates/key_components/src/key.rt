@@ -1,0 +1,73 @@
+//! The components of a key.
+
+ghost use Rattle.std.specs.Prelude.{◌≡◌, length, min, IfOk, IfErr, IfSome};
+ghost use Rattle.std.specs.Result.{result_err};
+ghost use Rattle.command_words.specs.Places.{KeyIsWithin};
+ghost use Rattle.key_components.specs.Answers.{IsAnswer, IsReached, Loads, cabinet_of, word_of};
+ghost use Rattle.key_components.specs.Key.{FitsWords, components_of, passphrase_of};
+
+use crate::parts::{Part, load_part};
+use block_traits::{ByteList, Cabinet};
+use command_words::{KeyWords, SpanList};
+use eli_base::Refusal;
+use std::alloc::Global;
+use user_key::{Components, PassPart};
+
+// The number of the spans. A list has at most 16.
+fn count(spans: &SpanList) -> u32
+    ensures { result ≡ min (length spans.now) 4294967295 }
+{
+    u32::try_from(spans.as_slice().len()).unwrap_or(u32::MAX)
+}
+
+// What the options say of the passphrase, which their files make.
+fn pass_part(words: &KeyWords, passphrase: ByteList) -> PassPart
+    ensures { result ≡ passphrase_of words.now passphrase }
+{
+    if words.without {
+        PassPart::Without
+    } else if words.pass.as_slice().is_empty() {
+        PassPart::Missing
+    } else {
+        PassPart::Given(passphrase)
+    }
+}
+
+/// Loads the components of a key: first its key files, then its passphrase files, each from left to
+/// right. After a refusal no further file is loaded.
+///
+/// The key files are joined, and so are the first lines of the passphrase files. Where no passphrase is
+/// wanted its files are loaded all the same, and the passphrase is `Without`.
+///
+/// A refusal names the word of the file at which it arises: `CabinetFault` where the cabinet failed,
+/// `FileAbsent` where there is no such file, `FileTooLong` of 1,048,576 bytes where the key files up to
+/// this one have more, or a passphrase file alone, and of 1,024 bytes where the first lines up to that
+/// of this file have more. `NoMemory` may come at any load.
+pub fn load_components<C: Cabinet>(
+    alloc: Global,
+    line: &[u8],
+    words: &KeyWords,
+    files: &mut C,
+) -> Result<Components, Refusal>
+    requires { KeyIsWithin (length line.now) words.now }
+
+    // Where the cabinet tells its files, they decide the answer, unless it failed or there was no memory.
+    ensures answer { IfSome (C.files files.old) (λ told. IsAnswer (components_of told line.now words.now) result) }
+
+    // In any case the components are of the kind that the words want, and within the limits.
+    ensures fits { IfOk result (FitsWords words.now) }
+
+    // A refusal names the word of a file that was reached.
+    ensures reached { IfErr result (λ refusal. IfSome (word_of refusal) (IsReached (C.files files.old) line.now words.now)) }
+
+    // Each refusal has its cause, and no file changes.
+    ensures loads { Loads (cabinet_of C.files C.faults C.misses files.old) (cabinet_of C.files C.faults C.misses files.new) (result_err result) }
+{
+    let keyfiles = load_part(alloc, line, Part::KeyFiles, words.files.as_slice(), files)?;
+    let passphrase = load_part(alloc, line, Part::Passphrase, words.pass.as_slice(), files)?;
+    Ok(Components {
+        keyfile_count: count(&words.files),
+        keyfiles,
+        passphrase: pass_part(words, passphrase),
+    })
+}

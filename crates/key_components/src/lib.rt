@@ -1,0 +1,13 @@
+//! The components of a user key, loaded from the files that a key's options name (geli(8), the options
+//! `-J`, `-j`, `-K` and `-k`).
+//!
+//! A *key file* counts whole. Of a *passphrase file* its first line counts.
+#![tactic(auto)]
+
+mod files;
+mod key;
+mod parts;
+#[cfg(test)]
+mod tests;
+
+pub use key::load_components;

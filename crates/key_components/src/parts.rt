@@ -1,0 +1,101 @@
+//! The files of one option of a key.
+
+ghost use Rattle.std.specs.Prelude.{◌≡◌, ◌+◌, ◌≤◌, ◌⊎◌, All, length, IfOk, IfErr, IfSome};
+ghost use Rattle.std.specs.Result.{result_err};
+ghost use Rattle.command_words.specs.Places.{IsWithin, bytes_at};
+ghost use Rattle.user_key.specs.Passphrase.{first_line};
+ghost use Rattle.key_components.specs.Answers.{IsAnswer, IsAt, Loads, cabinet_of, unless, word_of};
+ghost use Rattle.key_components.specs.Files.{content, first_fault, joined, passphrase_limit};
+ghost use Rattle.key_components.specs.Parts.{limit_of, line_fault, taking_of};
+
+use crate::files::{FILE_LIMIT, load_file};
+use block_traits::{ByteList, Cabinet};
+use command_words::Span;
+use eli_base::Refusal;
+use std::alloc::Global;
+use user_key::first_line;
+
+/// The most bytes of a passphrase.
+const PASSPHRASE_LIMIT: usize = 1024;
+
+/// What the files of an option are to a key.
+#[derive(Clone, Copy)]
+pub enum Part {
+    /// Key files: each counts whole.
+    KeyFiles,
+    /// Passphrase files: the first line of each counts.
+    Passphrase,
+}
+
+// The first line of a file, if it and the `used` bytes before it are no longer than a passphrase.
+fn take_line(alloc: Global, file: &[u8], word: u32, used: usize) -> Result<ByteList, Refusal>
+    requires { used ≤ passphrase_limit }
+    ensures answer { IsAnswer (unless (line_fault word used file.now) (first_line file.now)) result }
+    ensures within { IfOk result (λ line. used + length line ≤ passphrase_limit) }
+    ensures refusal { IfErr result (λ refusal. (refusal ≡ Refusal.FileTooLong word passphrase_limit) ⊎ (refusal ≡ Refusal.NoMemory)) }
+{
+    let line = first_line(file);
+    if line.len() > PASSPHRASE_LIMIT - used {
+        return Err(Refusal::FileTooLong {
+            word,
+            limit: PASSPHRASE_LIMIT as u64,
+        });
+    }
+    match Vec::from_slice(alloc, line) {
+        Ok(bytes) => Ok(ByteList::from_vec(bytes)),
+        Err(_) => Err(Refusal::NoMemory),
+    }
+}
+
+impl Part {
+    // What counts of the file that a span of the line names, where `used` bytes counted before it.
+    fn load_piece<C: Cabinet>(
+        self,
+        alloc: Global,
+        line: &[u8],
+        span: Span,
+        used: usize,
+        files: &mut C,
+    ) -> Result<ByteList, Refusal>
+        requires span { IsWithin (length line.now) span }
+        requires used { used ≤ limit_of self }
+        ensures answer { IfSome (C.files files.old) (λ told.
+            IsAnswer (unless ((taking_of self).fault span.word used (told (bytes_at line.now span))) ((taking_of self).piece (content told line.now span))) result) }
+        ensures within { IfOk result (λ piece. used + length piece ≤ limit_of self) }
+        ensures word { IfErr result (λ refusal. IfSome (word_of refusal) (λ word. span.word ≡ word)) }
+        ensures loads { Loads (cabinet_of C.files C.faults C.misses files.old) (cabinet_of C.files C.faults C.misses files.new) (result_err result) }
+    {
+        match self {
+            Part::KeyFiles => load_file(alloc, line, span, FILE_LIMIT - used, files),
+            Part::Passphrase => {
+                let file = load_file(alloc, line, span, FILE_LIMIT, files)?;
+                take_line(alloc, file.as_slice(), span.word, used)
+            }
+        }
+    }
+}
+
+/// Loads the files of one option, and joins in order what counts of them.
+pub fn load_part<C: Cabinet>(
+    alloc: Global,
+    line: &[u8],
+    part: Part,
+    spans: &[Span],
+    files: &mut C,
+) -> Result<ByteList, Refusal>
+    requires { All (IsWithin (length line.now)) spans.now }
+    ensures answer { IfSome (C.files files.old) (λ told.
+        IsAnswer (unless (first_fault (taking_of part) told line.now 0 spans.now) (joined (taking_of part) told line.now spans.now)) result) }
+    ensures within { IfOk result (λ bytes. length bytes ≤ limit_of part) }
+    ensures at { IfErr result (λ refusal. IfSome (word_of refusal) (IsAt (taking_of part) (C.files files.old) line.now spans.now)) }
+    ensures loads { Loads (cabinet_of C.files C.faults C.misses files.old) (cabinet_of C.files C.faults C.misses files.new) (result_err result) }
+{
+    let mut joined = Vec::new(alloc);
+    for span in spans {
+        let piece = part.load_piece(alloc, line, *span, joined.len(), files)?;
+        let Ok(()) = joined.extend_from_slice(piece.as_slice()) else {
+            return Err(Refusal::NoMemory);
+        };
+    }
+    Ok(ByteList::from_vec(joined))
+}

@@ -10,6 +10,9 @@ use std::test::Fail;
 const HEAD: [u8; 47] =
     *b"GEOM::ELI\0\0\0\0\0\0\0\x07\0\0\0\0\x02\0\0\x16\0\x80\0\0\0\0\0\x10\0\0\0\0\0\0\x10\0\0\x01\xe8\x03\0\0";
 
+// The first 16 bytes of all metadata.
+const MAGIC: [u8; 16] = *b"GEOM::ELI\0\0\0\0\0\0\0";
+
 // The MD5 of these and of a salt and slots of zeros, by python3's hashlib.
 const DIGEST: [u8; 16] = [
     0x52, 0xeb, 0x10, 0x78, 0xb5, 0x82, 0x36, 0xa5, 0xab, 0x0b, 0x65, 0xf2, 0x43, 0x88, 0x88, 0x71,
@@ -136,36 +139,53 @@ fn small_images_and_failing_disks_are_refused(rt: HostRuntime) -> Result<(), Fai
     Ok(())
 }
 
+// Whether these words over an empty image print this text and end with this status.
+fn answers(alloc: Global, texts: &[&str], text: &str, status: Status) -> Result<bool, NoMemory> {
+    let mut output = MemSink::new(alloc, &[], &[], 2048)?;
+    let ended = run_over(alloc, MemDisk::new(alloc, 2, 0)?, texts, &mut output)?;
+    Ok(output.bytes() == text.as_bytes() && ended == status)
+}
+
+fn are_bad_words(alloc: Global, texts: &[&str]) -> Result<bool, NoMemory> {
+    answers(alloc, texts, USAGE, Status::BadWords)
+}
+
+fn is_unknown(alloc: Global, name: &str) -> Result<bool, NoMemory> {
+    answers(
+        alloc,
+        &["dump", name],
+        "error 2 UnknownProvider\n",
+        Status::SomeRefused,
+    )
+}
+
 #[test]
 fn each_form_of_the_words_has_its_answer(rt: HostRuntime) -> Result<(), Fail> {
     let alloc = rt.alloc();
-    let mut long = String::new(alloc);
+    assert!(rt; are_bad_words(alloc, &[])?);
+    assert!(rt; are_bad_words(alloc, &["dump"])?);
+    assert!(rt; are_bad_words(alloc, &["dump", "-v", "a.img"])?);
+    assert!(rt; are_bad_words(alloc, &["dump", "a.img", "a.img"])?);
+    assert!(rt; are_bad_words(alloc, &["dump", "-a.img"])?);
+    assert!(rt; are_bad_words(alloc, &["dump", "a\0b"])?);
+    assert!(rt; are_bad_words(alloc, &["Dump", "a.img"])?);
+    assert!(rt; are_bad_words(alloc, &["script", "a.img"])?);
+    assert!(rt; is_unknown(alloc, "b.img")?);
+    assert!(rt; is_unknown(alloc, "")?);
+    Ok(())
+}
+
+// A name has at most 299,995 bytes.
+#[test]
+fn the_longest_name_is_a_name(rt: HostRuntime) -> Result<(), Fail> {
+    let alloc = rt.alloc();
+    let mut name = String::new(alloc);
     for _ in 0..59_999 {
-        long.push_str("aaaaa")?;
+        name.push_str("aaaaa")?;
     }
-    let mut longer = long.clone()?;
-    longer.push_str("a")?;
-    let unknown = "error 2 UnknownProvider\n";
-    let forms: [(&[&str], &str, Status); 12] = [
-        (&[], USAGE, Status::BadWords),
-        (&["dump"], USAGE, Status::BadWords),
-        (&["dump", "-v", "a.img"], USAGE, Status::BadWords),
-        (&["dump", "a.img", "a.img"], USAGE, Status::BadWords),
-        (&["dump", "-a.img"], USAGE, Status::BadWords),
-        (&["dump", "a\0b"], USAGE, Status::BadWords),
-        (&["Dump", "a.img"], USAGE, Status::BadWords),
-        (&["script", "a.img"], USAGE, Status::BadWords),
-        (&["dump", longer.as_str()], USAGE, Status::BadWords),
-        (&["dump", long.as_str()], unknown, Status::SomeRefused),
-        (&["dump", "b.img"], unknown, Status::SomeRefused),
-        (&["dump", ""], unknown, Status::SomeRefused),
-    ];
-    for (texts, text, status) in forms {
-        let mut output = MemSink::new(alloc, &[], &[], 2048)?;
-        let ended = run_over(alloc, MemDisk::new(alloc, 2, 0)?, texts, &mut output)?;
-        assert_eq!(rt; output.bytes(), text.as_bytes());
-        assert_eq!(rt; ended, status);
-    }
+    assert!(rt; is_unknown(alloc, name.as_str())?);
+    name.push_str("a")?;
+    assert!(rt; are_bad_words(alloc, &["dump", name.as_str()])?);
     Ok(())
 }
 
@@ -193,21 +213,34 @@ fn a_failing_sink_gets_a_part_of_the_text(rt: HostRuntime) -> Result<(), Fail> {
     Ok(())
 }
 
+// The next sector of bytes by a linear congruential generator.
+fn next_sector(state: &mut u32) -> Sector {
+    let mut sector = [0; 512];
+    for byte in sector.iter_mut() {
+        *state = state.wrapping_mul(1_664_525).wrapping_add(1_013_904_223);
+        let [.., high] = state.to_le_bytes();
+        *byte = high;
+    }
+    sector
+}
+
+// The sector with the magic at its beginning.
+fn with_magic(sector: &Sector) -> Sector {
+    let mut named = *sector;
+    named[0..16].copy_from_slice(&MAGIC);
+    named
+}
+
 #[test]
 fn hostile_sectors_are_refused_by_name(rt: HostRuntime) -> Result<(), Fail> {
     let alloc = rt.alloc();
     let mut state: u32 = 2026;
     for turn in 0..64u32 {
-        let mut last = [0; 512];
-        for byte in last.iter_mut() {
-            state = state.wrapping_mul(1_664_525).wrapping_add(1_013_904_223);
-            let [.., high] = state.to_le_bytes();
-            *byte = high;
-        }
+        let mut last = next_sector(&mut state);
         let found = u32::from_le_bytes([last[16], last[17], last[18], last[19]]);
         let mut text = String::from_str(alloc, "error 5 BadMagic\n")?;
         if turn % 2 == 1 && found != 7 {
-            last[..16].copy_from_slice(b"GEOM::ELI\0\0\0\0\0\0\0");
+            last = with_magic(&last);
             text = format!(in alloc; "error 6 BadVersion {found}\n")?;
         }
         let mut output = MemSink::new(alloc, &[], &[], 2048)?;

@@ -125,18 +125,32 @@ fn expected(ranges: &[(usize, u8)], bit: usize) -> Option<u8> {
         .map(|(_, number)| *number)
 }
 
+// The sector with the MD5 of its first 495 bytes behind them.
+fn hashed(sector: &Sector) -> Sector {
+    let mut anew = *sector;
+    let digest = Md5::digest(&sector[..495]);
+    anew[495..511].copy_from_slice(&digest);
+    anew
+}
+
+// The metadata's sector with one bit changed.
+fn flipped(byte: usize, place: u32) -> Sector {
+    let mut sector = metadata();
+    if let Some(found) = sector.get_mut(byte) {
+        *found ^= 1u8.wrapping_shl(place);
+    }
+    sector
+}
+
 #[test]
 fn each_bit_is_refused_by_its_table(rt: HostRuntime) -> Result<(), Fail> {
-    for byte in 0..512usize {
-        for place in 0..8u32 {
-            let bit = 8 * byte + place as usize;
-            let mut sector = metadata();
-            sector[byte] ^= 1 << place;
-            assert_eq!(rt; Some(number_of(&sector)), expected(&AS_THEY_STAND, bit));
-            if bit < 3960 {
-                let digest = Md5::digest(&sector[..495]);
-                sector[495..511].copy_from_slice(&digest);
-            }
+    for bit in 0..4096usize {
+        let sector = flipped(bit / 8, (bit % 8) as u32);
+        assert_eq!(rt; Some(number_of(&sector)), expected(&AS_THEY_STAND, bit));
+        if bit < 3960 {
+            let anew = hashed(&sector);
+            assert_eq!(rt; Some(number_of(&anew)), expected(&HASHED_ANEW, bit));
+        } else {
             assert_eq!(rt; Some(number_of(&sector)), expected(&HASHED_ANEW, bit));
         }
     }

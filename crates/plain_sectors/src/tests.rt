@@ -2,164 +2,68 @@ use crate::{open_plain, seal_plain};
 use eli_base::{Auth, Cipher, MasterKey, Params, sector_size_ok};
 use range_keys::KeyRing;
 use sha2::{Digest, Sha256};
-use std::alloc::Global;
+use std::alloc::{AllocError, Global};
 use std::process::Abort;
 use std::test::Fail;
 
-// A cipher, a key length and a sector size, and the digest of sealed sectors.
-struct Row {
-    cipher: Cipher,
-    keylen: u16,
-    sectorsize: u32,
-    digest: [u128; 2],
-}
+const SECTOR_SIZES: [u32; 8] = [512, 1024, 2048, 4096, 8192, 16384, 32768, 65536];
 
-// Another implementation's answers, by tools/sector_tables.py.
-const ROWS: [Row; 16] = [
-    Row {
-        cipher: Cipher::AesXts,
-        keylen: 128,
-        sectorsize: 512,
-        digest: [
-            0x8bbd8a2f30e7909650d8dbdfbc62394c,
-            0xcceaffacea8fcfed6af6d51c864a8d70,
-        ],
-    },
-    Row {
-        cipher: Cipher::AesXts,
-        keylen: 256,
-        sectorsize: 512,
-        digest: [
-            0x9fa371eba942d6062d12de2bcca04c85,
-            0x159c415311cbf10896c0f077d58e8239,
-        ],
-    },
-    Row {
-        cipher: Cipher::AesCbc,
-        keylen: 128,
-        sectorsize: 512,
-        digest: [
-            0x72747f3a27468c9c622ef9038925817c,
-            0xe4a25f4bbd9c421093e042153fc0951c,
-        ],
-    },
-    Row {
-        cipher: Cipher::AesCbc,
-        keylen: 192,
-        sectorsize: 512,
-        digest: [
-            0x0cf9965bd222741f7fe63c5943718649,
-            0xc45b1984dd78a96f41970bef02c2e495,
-        ],
-    },
-    Row {
-        cipher: Cipher::AesCbc,
-        keylen: 256,
-        sectorsize: 512,
-        digest: [
-            0xd07452b48b3df61cc2bef0cb5cd04617,
-            0xa6a64fb9021f008948de399c64a96951,
-        ],
-    },
-    Row {
-        cipher: Cipher::AesXts,
-        keylen: 128,
-        sectorsize: 1024,
-        digest: [
-            0xe87c605f0e48f5c23648bceb3c835e69,
-            0x147fd8b7fc1d0c2ab454584adae170b9,
-        ],
-    },
-    Row {
-        cipher: Cipher::AesCbc,
-        keylen: 192,
-        sectorsize: 2048,
-        digest: [
-            0x632e9f1a28b6b91b5d9428bdb37d0fc8,
-            0xa69b42b46ea413bed9841e3c7e33dcd4,
-        ],
-    },
-    Row {
-        cipher: Cipher::AesXts,
-        keylen: 128,
-        sectorsize: 4096,
-        digest: [
-            0x1fc103d67b77e6b370a46595f3b0c787,
-            0xe7a5cd39c00f91738813bec659e49a96,
-        ],
-    },
-    Row {
-        cipher: Cipher::AesXts,
-        keylen: 256,
-        sectorsize: 4096,
-        digest: [
-            0xe78c2cde3a27edc462414a4de198d1c5,
-            0x6ebe7bb5feeb8ddd4abe1c1eafa0cca9,
-        ],
-    },
-    Row {
-        cipher: Cipher::AesCbc,
-        keylen: 128,
-        sectorsize: 4096,
-        digest: [
-            0x7da8a8da3758023886996d8934d53ca1,
-            0x10218335411e4e5097e642de799b9227,
-        ],
-    },
-    Row {
-        cipher: Cipher::AesCbc,
-        keylen: 192,
-        sectorsize: 4096,
-        digest: [
-            0x6a4f79b91a811686be92af859ecbbc35,
-            0x553933f24e356a5f4105617090abad23,
-        ],
-    },
-    Row {
-        cipher: Cipher::AesCbc,
-        keylen: 256,
-        sectorsize: 4096,
-        digest: [
-            0xb4dd78141e7f5475147b8e578e4cb0f5,
-            0x2ce97e407acb22b6b9faf69344bc21b3,
-        ],
-    },
-    Row {
-        cipher: Cipher::AesXts,
-        keylen: 256,
-        sectorsize: 8192,
-        digest: [
-            0x4c6f1f06d6dd6a5fe12a3b1b37fe7b04,
-            0x3b88851066c8926b1684086baae74898,
-        ],
-    },
-    Row {
-        cipher: Cipher::AesCbc,
-        keylen: 128,
-        sectorsize: 16384,
-        digest: [
-            0x9389010d0abe5c0d4f2c314b11405b63,
-            0x3314979209b34b4a56c3b799a02c412b,
-        ],
-    },
-    Row {
-        cipher: Cipher::AesXts,
-        keylen: 128,
-        sectorsize: 32768,
-        digest: [
-            0xaae3c82e81575dd0f1a498b9fd991ccf,
-            0xc0b6e0e47f3f137176b19246e81b707f,
-        ],
-    },
-    Row {
-        cipher: Cipher::AesCbc,
-        keylen: 256,
-        sectorsize: 65536,
-        digest: [
-            0xbef0accb2a87951b997baeb967dafdca,
-            0x5996fcf36de2f7b77541cbc15f9f8c3f,
-        ],
-    },
+// Another implementation's answers, by tools/sector_tables.py: a table for each cipher and key length, with a digest for
+// each of the sector sizes above, of what one plain text is sealed to at five byte offsets, one sector after the other.
+
+const XTS_128: [&str; 8] = [
+    "8bbd8a2f30e7909650d8dbdfbc62394ccceaffacea8fcfed6af6d51c864a8d70",
+    "e87c605f0e48f5c23648bceb3c835e69147fd8b7fc1d0c2ab454584adae170b9",
+    "58bf0ca11762cd0eff953adc146c20acaa6c8311f607370cfb1c046f926e43e8",
+    "1fc103d67b77e6b370a46595f3b0c787e7a5cd39c00f91738813bec659e49a96",
+    "3aaf07667f1263034e13db6c51b726af0126785720347569ea1617f84fbb7cb3",
+    "f714a5bca29205df8e7744349244d6d1742303a49f8a706d68b20a1b8d1a24cf",
+    "aae3c82e81575dd0f1a498b9fd991ccfc0b6e0e47f3f137176b19246e81b707f",
+    "e6312e2c808aa80fa66509864c21afbb5763537cbbe80dbf1c40fc11609de93e",
+];
+
+const XTS_256: [&str; 8] = [
+    "9fa371eba942d6062d12de2bcca04c85159c415311cbf10896c0f077d58e8239",
+    "3fa3003f8bb6d55deb112609547cf2801c224bd805a9440cf8c9ef07eb0f5eb1",
+    "b738ef8b7f80717795c7097890b3c9f27a002da978bb1f31276376faf901c2c7",
+    "e78c2cde3a27edc462414a4de198d1c56ebe7bb5feeb8ddd4abe1c1eafa0cca9",
+    "4c6f1f06d6dd6a5fe12a3b1b37fe7b043b88851066c8926b1684086baae74898",
+    "fbc2badcbdab2a1fc23979ed219e56141f754ec6495bb25b2a9f720eb4ad653a",
+    "0e3002694b6d63afb6de9a3f466e11de6175b9a7d63d862cdd0f64de5a0e1efe",
+    "5f72fd06c531c0ed66931489a77f96596c5ee0fca0a478a23a4be0e7c0c36694",
+];
+
+const CBC_128: [&str; 8] = [
+    "72747f3a27468c9c622ef9038925817ce4a25f4bbd9c421093e042153fc0951c",
+    "3a6dfeca291786900ad130bfc9f55821ae9a77e110db8b4af4b5d43fee189042",
+    "87311c7fd402011950a2d2fbef2c3e4a959b39d4d72d828cf13b222b6d670e92",
+    "7da8a8da3758023886996d8934d53ca110218335411e4e5097e642de799b9227",
+    "180f384ce368242cf2bc85d885a6d6e81edf4f5085024f2b5a25958f82355155",
+    "9389010d0abe5c0d4f2c314b11405b633314979209b34b4a56c3b799a02c412b",
+    "05a89140774c556c33b17818f2cc3a2cfb0ffa5798dbc43029091eba3392d8b8",
+    "afaa72a3c9211746c38ae78dcd199ad980b8167684954dced024951bcaa3efdb",
+];
+
+const CBC_192: [&str; 8] = [
+    "0cf9965bd222741f7fe63c5943718649c45b1984dd78a96f41970bef02c2e495",
+    "d3af38bb73c6fa4eb852175ee4f4c035ade5a16cf1cdd3285d3a42ea5619aaa6",
+    "632e9f1a28b6b91b5d9428bdb37d0fc8a69b42b46ea413bed9841e3c7e33dcd4",
+    "6a4f79b91a811686be92af859ecbbc35553933f24e356a5f4105617090abad23",
+    "071e5165e0d3cb607de09add2e4b90c72bc0b7aedd42dadf52a05d67e3f6bbab",
+    "ad6ef0eac509c8cc7f8dba3d410e3d0756329d6027e65a3c6a312769e7d8c436",
+    "4718e59476dbb4a880d0c9587b32bf5678786a7af6164be411bd15ffd4fe3af7",
+    "e2e8c576a5753dafe7ea80cd641525b2de9b69616795b742ed48210fc0e78291",
+];
+
+const CBC_256: [&str; 8] = [
+    "d07452b48b3df61cc2bef0cb5cd04617a6a64fb9021f008948de399c64a96951",
+    "19855a3226f4a042807a765b8c586ff4133918553f56e58ba3cf9f9a502eba8d",
+    "105fcfce2a19b90a6bd21e5935d5c50f0cdea5cc3ba6e504776feb5182451577",
+    "b4dd78141e7f5475147b8e578e4cb0f52ce97e407acb22b6b9faf69344bc21b3",
+    "8b3e17957a9dadbe76d54e2f8904c74532e1eac23ce8bfd516c2883442e195e5",
+    "b9d64708da2184a47e7b357dea3ea17c98ed5af33edc63913662b29cd4ec85a4",
+    "6e86715acdfd4b84e3c472e9667a837ee62b8b8654dc8a0abeadf64c7aab4057",
+    "bef0accb2a87951b997baeb967dafdca5996fcf36de2f7b77541cbc15f9f8c3f",
 ];
 
 fn master() -> MasterKey {
@@ -170,96 +74,125 @@ fn master() -> MasterKey {
     MasterKey { bytes }
 }
 
-// The plain text of a row: byte i is (7 * i + i / 256) mod 256.
+// The plain text of each sector: byte i is (7 * i + i / 256) mod 256.
 fn fill(text: &mut [u8]) {
     for (i, byte) in text.iter_mut().enumerate() {
         *byte = ((7 * (i % 256) + i / 256 % 256) % 256) as u8;
     }
 }
 
-// Seals the plain text at an offset and adds it to the digest. The sector at 0 is opened again.
+fn hex_of(alloc: Global, bytes: &[u8]) -> Result<String, AllocError> {
+    let mut text = String::new(alloc);
+    for byte in bytes {
+        write!(text, "{byte:02x}")?;
+    }
+    Ok(text)
+}
+
+// A cipher, the bits of its key and the bytes of a logical sector.
+#[derive(Clone, Copy)]
+struct Combination {
+    cipher: Cipher,
+    keylen: u16,
+    sectorsize: u32,
+}
+
+// Seals the plain text at a byte offset, adds what it is sealed to to the digest, and opens it again.
 fn check_at(
     rt: &impl Abort,
     alloc: Global,
-    row: &Row,
+    tried: &Combination,
     offset: u64,
     plain: &[u8],
-    block: &mut [u8],
     digest: &mut Sha256,
 ) -> Result<(), Fail> {
-    assert!(rt; row.cipher.allows(row.keylen) && sector_size_ok(row.sectorsize));
-    let params = Params::new(
-        7,
-        Auth::Off,
-        row.cipher,
-        row.keylen,
-        row.sectorsize,
-        0,
-        false,
-    );
+    let Combination {
+        cipher,
+        keylen,
+        sectorsize,
+    } = *tried;
+    assert!(rt; cipher.allows(keylen) && sector_size_ok(sectorsize));
+    let params = Params::new(7, Auth::Off, cipher, keylen, sectorsize, 0, false);
     let mut ring = KeyRing::new(alloc, &master(), &params)?;
-    assert!(rt; block.len() == row.sectorsize as usize && plain.len() == block.len());
-    assert!(rt; offset % u64::from(row.sectorsize) == 0);
-    block.copy_from_slice(plain);
-    seal_plain(&mut ring, offset, block);
-    digest.update(&*block);
-    if offset == 0 {
-        open_plain(&mut ring, offset, block);
-        assert_eq!(rt;
-            Sha256::digest(&*block),
-            Sha256::digest(plain),
-            "{} bytes",
-            plain.len()
-        );
-    }
+    let mut block = plain.to_vec(alloc)?;
+    assert!(rt; block.len() == sectorsize as usize);
+    assert!(rt; offset % u64::from(sectorsize) == 0);
+    seal_plain(&mut ring, offset, &mut block);
+    digest.update(&block);
+    open_plain(&mut ring, offset, &mut block);
+    assert!(rt;
+        block.as_slice() == plain,
+        "opened, {keylen} bits, {sectorsize} bytes, at {offset}"
+    );
     Ok(())
 }
 
-fn check_digest(
+// With sectors of S bytes the offsets are 0, S, the last sector under key number 0, the first under key number 1, and
+// the last below 2^53.
+fn check_row(
     rt: &impl Abort,
     alloc: Global,
-    row: &Row,
-    plain: &[u8],
-    block: &mut [u8],
+    tried: &Combination,
+    expected: &str,
 ) -> Result<(), Fail> {
-    let size = u64::from(row.sectorsize);
+    let mut plain = vec![in alloc; 0u8; tried.sectorsize as usize]?;
+    fill(&mut plain);
+    let size = u64::from(tried.sectorsize);
     let next_number = size << 20;
     assert!(rt; next_number >= size);
     let mut digest = Sha256::new();
     for offset in [0, size, next_number - size, next_number, (1 << 53) - size] {
-        check_at(rt, alloc, row, offset, plain, block, &mut digest)?;
+        check_at(rt, alloc, tried, offset, &plain, &mut digest)?;
     }
-    let mut expected = [0u8; 32];
-    expected[..16].copy_from_slice(&row.digest[0].to_be_bytes());
-    expected[16..].copy_from_slice(&row.digest[1].to_be_bytes());
+    let digest = hex_of(alloc, &digest.finalize())?;
     assert_eq!(rt;
-        digest.finalize(),
+        digest.as_str(),
         expected,
         "{} bits, {size} bytes",
-        row.keylen
+        tried.keylen
     );
     Ok(())
 }
 
-fn check_row(
+fn check_table(
     rt: &impl Abort,
     alloc: Global,
-    row: &Row,
-    plain: &[u8],
-    block: &mut [u8],
+    cipher: Cipher,
+    keylen: u16,
+    digests: &[&str; 8],
 ) -> Result<(), Fail> {
-    let size = row.sectorsize as usize;
-    assert!(rt; size <= plain.len() && size <= block.len());
-    check_digest(rt, alloc, row, &plain[..size], &mut block[..size])
+    for (&sectorsize, expected) in SECTOR_SIZES.iter().zip(digests) {
+        let tried = Combination {
+            cipher,
+            keylen,
+            sectorsize,
+        };
+        check_row(rt, alloc, &tried, expected)?;
+    }
+    Ok(())
 }
 
 #[test]
-fn as_another_implementation(rt: HostRuntime) -> Result<(), Fail> {
-    let mut plain = vec![in rt.alloc(); 0u8; 65536]?;
-    let mut block = vec![in rt.alloc(); 0u8; 65536]?;
-    fill(&mut plain);
-    for row in &ROWS {
-        check_row(&rt, rt.alloc(), row, &plain, &mut block)?;
-    }
-    Ok(())
+fn xts_128_as_another_implementation(rt: HostRuntime) -> Result<(), Fail> {
+    check_table(&rt, rt.alloc(), Cipher::AesXts, 128, &XTS_128)
+}
+
+#[test]
+fn xts_256_as_another_implementation(rt: HostRuntime) -> Result<(), Fail> {
+    check_table(&rt, rt.alloc(), Cipher::AesXts, 256, &XTS_256)
+}
+
+#[test]
+fn cbc_128_as_another_implementation(rt: HostRuntime) -> Result<(), Fail> {
+    check_table(&rt, rt.alloc(), Cipher::AesCbc, 128, &CBC_128)
+}
+
+#[test]
+fn cbc_192_as_another_implementation(rt: HostRuntime) -> Result<(), Fail> {
+    check_table(&rt, rt.alloc(), Cipher::AesCbc, 192, &CBC_192)
+}
+
+#[test]
+fn cbc_256_as_another_implementation(rt: HostRuntime) -> Result<(), Fail> {
+    check_table(&rt, rt.alloc(), Cipher::AesCbc, 256, &CBC_256)
 }

@@ -1,3 +1,5 @@
 pub mod Keeping
 pub mod Keys
 pub mod Making
+pub mod Usable
+pub mod Wrapping

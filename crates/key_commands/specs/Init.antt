@@ -14,13 +14,15 @@ use Rattle.key_commands.specs.declared.options.InitOptions.{InitOptions}
 use Rattle.key_commands.specs.Kept.{KeepsOldOr}
 use Rattle.key_commands.specs.NewMetadata.{new_metadata}
 use Rattle.key_commands.specs.Options.{early_refusal}
-use Rattle.key_commands.specs.Random.{EntropyState, Takes, TakesNone, random_size, salt_in}
+use Rattle.key_commands.specs.Random.{EntropyState, Takes, TakesNone, random_size, salt_in, master_key_in}
+use Rattle.key_commands.specs.Usable.{IsUsable}
 
 -- the disk is flushed, the sector of the metadata is written, and the disk is flushed
 abbrev pub init_events : DiskState → Metadata → List Event
 init_events disk m = Flush ∷ store_events disk (encoded m)
 
--- nothing is refused, the random bytes are taken, and the metadata are those that are made of them
+-- nothing is refused, the random bytes are taken, and the metadata are those that are made of them, which are of use: the
+-- user key of these components opens them to the master key among the random bytes
 pub record MakesMetadata (options : InitOptions) (parts : Components) (sectors : ℕ) (old : EntropyState) (m : Metadata) (new : EntropyState) : Type 0 where
   pub served : early_refusal options parts sectors ≡ None
   pub random : List ℕ
@@ -29,6 +31,7 @@ pub record MakesMetadata (options : InitOptions) (parts : Components) (sectors :
   pub key : UserKey
   pub derived : user_key parts (salt_in random) options.iterations ≡ Ok key
   pub metadata : m ≡ new_metadata options sectors random key.bytes
+  pub usable : IsUsable options parts sectors m key (master_key_in random)
 
 -- the metadata were made, and written with all of the events
 pub record Writes (options : InitOptions) (parts : Components) (disk : DiskState) (entropy : EntropyState) (m : Metadata) (disk' : DiskState) (entropy' : EntropyState) : Type 0 where

@@ -3,3 +3,4 @@ pub mod Kept
 pub mod NewMetadata
 pub mod Options
 pub mod Random
+pub mod Usable

@@ -1,11 +1,12 @@
 //! A new provider.
 
-ghost use Rattle.std.specs.Prelude.{◌≡◌, ◌<◌, ◌≤◌, ◌^◌, ◌+◌, ◌++◌, OnOk, OnErr, length, take};
+ghost use Rattle.std.specs.Prelude.{◌≡◌, ◌<◌, ◌≤◌, ◌^◌, ◌+◌, ◌++◌, Ok, OnOk, OnErr, length, take};
 ghost use Rattle.block_traits.specs.Disk.{FailsIn, Logs};
+ghost use Rattle.eli_metadata.specs.Format.{encoded, metadata_in};
 ghost use Rattle.key_commands.specs.Init.{Inits, init_events};
 ghost use Rattle.key_commands.specs.NewMetadata.{auth_flag, auth_number, autoresize_flag, cipher_number, metadata_of};
 ghost use Rattle.key_commands.specs.Random.{entropy_of};
-ghost use Rattle.key_slots.specs.Slots.{IsKeyBits, wrapped};
+ghost use Rattle.key_slots.specs.Slots.{IsKeyBits, Opens, wrapped};
 
 use crate::options::{InitOptions, VERSION, check};
 use crate::random::{RandomParts, draw};
@@ -64,7 +65,8 @@ fn both_slots(slot0: &[u8; 192], slot1: &[u8; 192]) -> [u8; 384]
 fn metadata_of(options: &InitOptions, sectors: u64, random: &RandomParts, key: &UserKey) -> Metadata
     requires keylen { IsKeyBits options.now.keylen }
     requires small { sectors < 2 ^ 44 }
-    ensures { result ≡ metadata_of options.now sectors random.now.salt (wrapped random.now.master.bytes key.now.bytes options.now.keylen) random.now.filler }
+    ensures fields { result ≡ metadata_of options.now sectors random.now.salt (wrapped random.now.master.bytes key.now.bytes options.now.keylen) random.now.filler }
+    ensures opens { Opens result key.now.bytes 0 random.now.master.bytes }
 {
     Metadata {
         version: VERSION,
@@ -84,6 +86,7 @@ fn metadata_of(options: &InitOptions, sectors: u64, random: &RandomParts, key: &
 // Puts metadata in the place of what the last sector has. What was written before lasts first.
 fn replace_last<D: Disk>(disk: &mut D, meta: &Metadata) -> Result<(), DiskFailed>
     requires { 0 < (D.state disk.old).size }
+    ensures read { meta.now.version ≡ 7 → metadata_in (encoded meta.now) ≡ Ok meta.now }
     ensures ok { OnOk result (Logs (init_events (D.state disk.old) meta.now) (D.state disk.old) (D.state disk.new)) }
     ensures err { OnErr result (FailsIn (init_events (D.state disk.old) meta.now) (D.state disk.old) (D.state disk.new)) }
 {
@@ -95,6 +98,10 @@ fn replace_last<D: Disk>(disk: &mut D, meta: &Metadata) -> Result<(), DiskFailed
 
 /// Makes a new provider of a disk: its last sector gets new metadata, with a new master key that the user
 /// key of these components opens in slot 0. Answers the metadata.
+///
+/// The metadata are of use: read from their sector they are the same, they pass `check`, `size_gate` and
+/// `slot_gate` for this disk, a whole logical sector is beside them, and the key that `derive` gives by their
+/// own salt and iterations opens them to the master key among the random bytes.
 ///
 /// In this order it is refused as `BadKeyLength`, `BadSectorSize` or `TooSmall` (in bytes: fewer than two
 /// device sectors, or no whole logical sector), or as the components of the key are, and then nothing was

@@ -1,4 +1,4 @@
-use Rattle.std.proofs.Common.{◌≡◌, ℕ, Some, refl, subst, sym, rules, to_z, of_z}
+use Rattle.std.proofs.Common.{◌≡◌, ℕ, Some, ◌<◌, ◌^◌, refl, subst, sym, rules, to_z, of_z}
 use Rattle.std.specs.Prelude.{FitsSigned}
 use Rattle.std.specs.Int.{w32}
 use Rattle.std.proofs.lemmas.Int.{to_z-of_z}
@@ -27,10 +27,11 @@ returns-in-Ok-replace_last g c =
     let range : FitsSigned w32 z = search rules in
     let same : to_z w32 (of_z w32 z) ≡ z = to_z-of_z w32 z range in
     let derived = rw same at (sym c.in-Ok-derive.ensures) in
+    let small : c.sectors-sectors.result < 2 ^ 44 = rw c.sectors-sectors.ensures (g.D.Disk.state c.args.disk.now).well_formed.bound in
     let P : ℕ → Type 0 =
     λ n. MakesMetadata c.args.options.now c.args.parts.now n (entropy_of g.E.Entropy.left g.E.Entropy.faults c.args.entropy.now) m (entropy_of g.E.Entropy.left g.E.Entropy.faults c.draw.new.entropy) in
     let made = makes c.args.options.now c.args.parts.now c.sectors-sectors.result c.in-Ok.random c.in-Ok-derive.key m _ _
-    c.in_ok-check.ensures.ok c.in-Ok.ensures.ok derived c.metadata_of-meta.ensures in
+    c.in_ok-check.ensures.ok c.in-Ok.ensures.ok derived c.metadata_of-meta.ensures.fields small c.replace_last.ensures.read c.metadata_of-meta.ensures.opens in
     let logs = c.in-Ok-replace_last.ensures.ok in
     record { makes = subst P c.sectors-sectors.ensures made; logs = logs; kept = KeepsOldOr-init _ _ _ logs }
 
@@ -41,9 +42,10 @@ returns-in-Err g c =
     let range : FitsSigned w32 z = search rules in
     let same : to_z w32 (of_z w32 z) ≡ z = to_z-of_z w32 z range in
     let derived = rw same at (sym c.in-Ok-derive.ensures) in
+    let small : c.sectors-sectors.result < 2 ^ 44 = rw c.sectors-sectors.ensures (g.D.Disk.state c.args.disk.now).well_formed.bound in
     let P : ℕ → Type 0 =
     λ n. MakesMetadata c.args.options.now c.args.parts.now n (entropy_of g.E.Entropy.left g.E.Entropy.faults c.args.entropy.now) m (entropy_of g.E.Entropy.left g.E.Entropy.faults c.draw.new.entropy) in
     let made = makes c.args.options.now c.args.parts.now c.sectors-sectors.result c.in-Ok.random c.in-Ok-derive.key m _ _
-    c.in_ok-check.ensures.ok c.in-Ok.ensures.ok derived c.metadata_of-meta.ensures in
+    c.in_ok-check.ensures.ok c.in-Ok.ensures.ok derived c.metadata_of-meta.ensures.fields small c.replace_last.ensures.read c.metadata_of-meta.ensures.opens in
     let fails = c.in-Err.ensures.err in
     record { m = m; makes = subst P c.sectors-sectors.ensures made; fails = fails; kept = KeepsOldOr-part _ _ _ fails }

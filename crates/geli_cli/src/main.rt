@@ -9,6 +9,7 @@ mod streams;
 mod tests;
 
 use block_traits::{Disk, NoMemory};
+use command_words::images_of;
 use file_cabinet::FileCabinet;
 use file_disk::FileDisk;
 use geli_core::{Shelf, Status, geli_main};
@@ -42,11 +43,12 @@ fn words(rt: &HostRuntime) -> Result<Vec<String>, NoMemory> {
     Ok(words)
 }
 
-// Runs over the named image, and over the streams, files and random bytes of the system.
+// Runs over the images that the words name, and over the streams, files and random bytes of the system.
 fn serve(rt: &HostRuntime, words: &[String]) -> Result<Status, NoMemory> {
     let alloc = rt.alloc();
     let mut shelf = Shelf::new(alloc)?;
-    if let [_, name] = words {
+    let images = images_of(alloc, words)?;
+    for name in images.as_slice() {
         let disk: Box<dyn Disk> = Box::new(alloc, FileDisk::open(rt, name.as_str()))?;
         let _ = shelf.add(name.as_str(), disk);
     }

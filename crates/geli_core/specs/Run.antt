@@ -1,16 +1,35 @@
 -- What a run does and prints, and the status with which it ends.
-use Rattle.std.specs.Prelude.{◌≡◌, ℕ, List, Option, Some, None, codes}
+use Rattle.std.specs.Prelude.{◌≡◌, ℕ, List, Option, Some, None, Bool, true, false, Result, Ok, Err, codes, length, nat_le, if◌then◌else◌}
+use Rattle.command_words.specs.Images.{line_of}
+use Rattle.command_words.specs.Reading.{reading}
+use Rattle.command_words.specs.declared.commands.Command.{Command}
+use Rattle.command_words.specs.declared.commands.Command.TheVariants as commands
+use Rattle.command_words.specs.declared.commands.Usage.{Usage}
+use Rattle.command_words.specs.declared.spans.Sep.TheVariants.{Zeros}
 use Rattle.reply_text.specs.declared.Reply.{Reply}
 use Rattle.reply_text.specs.declared.Reply.TheVariants as replies
 use Rattle.reply_text.specs.Output.{SinkState, TookAll, TookPart}
 use Rattle.reply_text.specs.Text.{reply_text}
 use Rattle.shelf.specs.World.{World}
-use Rattle.shelf.specs.Turn.{DumpTurn}
+use Rattle.shelf.specs.Turn.{Turn}
 use Rattle.geli_core.specs.declared.status.Status.{Status}
-use Rattle.geli_core.specs.declared.status.Status.TheVariants.{Done, SomeRefused, BadWords, WriteFault}
+use Rattle.geli_core.specs.declared.status.Status.TheVariants.{Done, SomeRefused, BadWords, WriteFault, NoMemory}
 
 abbrev pub usage_text : List ℕ
 usage_text = codes "usage: geli script IMAGE... or geli VERB ...\n"
+
+-- the command that a line says, if it says one
+abbrev pub said : Result (Option Command) Usage → Option Command
+said (Ok command) = command
+said (Err usage) = None
+
+-- the most bytes of a line
+abbrev pub line_limit : ℕ
+line_limit = 300000
+
+-- the command of a line whose words stand between zero bytes. A line that is too long is none.
+abbrev pub command_in : List ℕ → Option Command
+command_in line = if nat_le (length line) line_limit then said (reading Zeros line) else None
 
 -- the status after a reply that was printed
 abbrev pub status_of : Reply → Status
@@ -24,17 +43,38 @@ EndsWith text printed old WriteFault new = TookPart text old new
 EndsWith text printed old status new = (status ≡ printed) × TookAll text old new
 
 -- the one command was served, and its reply printed
-pub record Serves (name : List ℕ) (old : World) (sink : SinkState) (status : Status) (new : World) (after : SinkState) : Type 0 where
+pub record Serves (line : List ℕ) (command : Command) (old : World) (sink : SinkState) (status : Status) (new : World) (after : SinkState) : Type 0 where
   pub reply : Reply
-  pub turn : DumpTurn name old reply new
+  pub turn : Turn line command old reply new
   pub printed : EndsWith (reply_text reply) (status_of reply) sink status after
 
--- the words asked for nothing: the usage line is printed, and the shelf is as it was
+-- the words asked for nothing: the usage line is printed, and the world is as it was
 pub record Declines (old : World) (sink : SinkState) (status : Status) (new : World) (after : SinkState) : Type 0 where
   pub unchanged : new ≡ old
   pub printed : EndsWith usage_text BadWords sink status after
 
--- the run for the name that the words give, if they give one
-abbrev pub Runs : Option (List ℕ) → World → SinkState → Status → World → SinkState → Type 0
-Runs None old sink status new after = Declines old sink status new after
-Runs (Some name) old sink status new after = Serves name old sink status new after
+-- there was no memory for the line: nothing was printed, and the world is as it was
+pub record Abandons (old : World) (sink : SinkState) (new : World) (after : SinkState) : Type 0 where
+  pub unchanged : new ≡ old
+  pub unprinted : after ≡ sink
+
+-- the run of a line, which says a command or none
+abbrev pub RunsLine : List ℕ → Option Command → World → SinkState → Status → World → SinkState → Type 0
+RunsLine line None old sink status new after = Declines old sink status new after
+RunsLine line (Some command) old sink status new after = Serves line command old sink status new after
+
+-- the run of the words of the command line
+abbrev pub Runs : List (List ℕ) → World → SinkState → Status → World → SinkState → Type 0
+Runs words old sink NoMemory new after = Abandons old sink new after
+Runs words old sink status new after = RunsLine (line_of words) (command_in (line_of words)) old sink status new after
+
+-- whether a command writes no disk
+abbrev pub only_reads : Command → Bool
+only_reads (commands.Dump prov) = true
+only_reads (commands.Init prov cipher auth keylen sectorsize iterations autoresize fresh backup) = false
+only_reads (commands.Attach prov only_check readonly slot old) = true
+
+-- whether the words ask for no write of a disk
+abbrev pub asks_no_write : Option Command → Bool
+asks_no_write None = true
+asks_no_write (Some command) = only_reads command

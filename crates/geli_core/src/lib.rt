@@ -1,9 +1,9 @@
 //! The run of the program: what the words ask for is done, printed and answered by a status.
 #![tactic(auto)]
 
+mod command;
 mod status;
 mod top_call;
-mod words;
 
 pub use shelf::{AddFault, Drawers, Shelf};
 pub use status::Status;

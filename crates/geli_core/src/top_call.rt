@@ -1,13 +1,17 @@
 // The run: the words are read, the command is served, and the reply is printed.
-ghost use Rattle.std.specs.Prelude.{◌≡◌};
+ghost use Rattle.std.specs.Prelude.{◌≡◌, ◌≢◌, IsTrue, map, string_bytes};
+ghost use Rattle.command_words.specs.Images.{line_of};
+ghost use Rattle.key_commands.specs.Random.{entropy_of};
+ghost use Rattle.key_components.specs.Answers.{cabinet_of};
 ghost use Rattle.reply_text.specs.Output.{sink_of};
-ghost use Rattle.shelf.specs.World.{world_of, contents};
-ghost use Rattle.geli_core.specs.Words.{image_in};
-ghost use Rattle.geli_core.specs.Run.{Runs, status_of, usage_text};
+ghost use Rattle.reply_text.specs.Text.{reply_text};
+ghost use Rattle.shelf.specs.World.{World, contents, drawers_of};
+ghost use Rattle.geli_core.specs.Run.{EndsWith, Runs, asks_no_write, command_in, status_of, usage_text};
 
 use crate::Status;
-use crate::words::image_in;
+use crate::command::command_in;
 use block_traits::{Cabinet, Disk, Entropy, Sink, Source};
+use command_words::joined;
 use reply_text::{Reply, write_reply, write_text};
 use shelf::{Drawers, Shelf};
 use std::alloc::Global;
@@ -16,40 +20,69 @@ const USAGE: &[u8] = b"usage: geli script IMAGE... or geli VERB ...\n";
 
 /// Does what the words of the command line ask for, on the disks of the shelf, and prints the reply.
 ///
-/// The words are `dump` and the name of an image; all others are `BadWords`, and the usage line is
-/// printed. `WriteFault` comes only where the sink failed. No disk is written.
+/// The words are one command: `dump`, `init`, or `attach` with `-C`, each for one image. All others are `BadWords`,
+/// and the usage line is printed. `NoMemory` comes only before anything was done or printed, and `WriteFault` only
+/// where the sink failed. The input isn't read.
 pub fn geli_main<S: Source, K: Sink, C: Cabinet, E: Entropy>(
-    _alloc: Global,
+    alloc: Global,
     words: &[String],
     _input: &mut S,
     output: &mut K,
-    _files: &mut C,
-    _entropy: &mut E,
+    files: &mut C,
+    entropy: &mut E,
     shelf: &mut Shelf,
 ) -> Status
-    ensures runs { Runs (image_in words.now) (world_of (⟦<Box<dyn Disk> as Disk>⟧).state shelf.old) (sink_of K.taken K.faults output.old)
-        result (world_of (⟦<Box<dyn Disk> as Disk>⟧).state shelf.new) (sink_of K.taken K.faults output.new) }
-    ensures histories { contents (world_of (⟦<Box<dyn Disk> as Disk>⟧).state shelf.new) ≡ contents (world_of (⟦<Box<dyn Disk> as Disk>⟧).state shelf.old) }
+    ensures runs { let old : World = record { drawers = drawers_of (⟦<Box<dyn Disk> as Disk>⟧).state shelf.old; cabinet = cabinet_of C.files C.faults C.misses files.old; entropy = entropy_of E.left E.faults entropy.old } in
+        let new : World = record { drawers = drawers_of (⟦<Box<dyn Disk> as Disk>⟧).state shelf.new; cabinet = cabinet_of C.files C.faults C.misses files.new; entropy = entropy_of E.left E.faults entropy.new } in
+        Runs (map string_bytes words.now) old (sink_of K.taken K.faults output.old) result new (sink_of K.taken K.faults output.new) }
+    ensures histories { IsTrue (asks_no_write (command_in (line_of (map string_bytes words.now)))) →
+        contents (drawers_of (⟦<Box<dyn Disk> as Disk>⟧).state shelf.new) ≡ contents (drawers_of (⟦<Box<dyn Disk> as Disk>⟧).state shelf.old) }
+    ensures input { _input.new ≡ _input.old }
 {
-    run(words, output, shelf)
+    run(alloc, words, output, files, entropy, shelf)
 }
 
 /// The run over drawers of disks of any one type.
-#[tactic(auto, using(crate::proofs::Histories::contents_after_dump))]
-pub fn run<K: Sink, D: Disk>(words: &[String], output: &mut K, shelf: &mut Drawers<D>) -> Status
-    ensures runs { Runs (image_in words.now) (world_of D.state shelf.old) (sink_of K.taken K.faults output.old)
-        result (world_of D.state shelf.new) (sink_of K.taken K.faults output.new) }
-    ensures histories { contents (world_of D.state shelf.new) ≡ contents (world_of D.state shelf.old) }
+pub fn run<K: Sink, C: Cabinet, E: Entropy, D: Disk>(
+    alloc: Global,
+    words: &[String],
+    output: &mut K,
+    files: &mut C,
+    entropy: &mut E,
+    shelf: &mut Drawers<D>,
+) -> Status
+    ensures runs { let old : World = record { drawers = drawers_of D.state shelf.old; cabinet = cabinet_of C.files C.faults C.misses files.old; entropy = entropy_of E.left E.faults entropy.old } in
+        let new : World = record { drawers = drawers_of D.state shelf.new; cabinet = cabinet_of C.files C.faults C.misses files.new; entropy = entropy_of E.left E.faults entropy.new } in
+        Runs (map string_bytes words.now) old (sink_of K.taken K.faults output.old) result new (sink_of K.taken K.faults output.new) }
+    ensures histories { IsTrue (asks_no_write (command_in (line_of (map string_bytes words.now)))) →
+        contents (drawers_of D.state shelf.new) ≡ contents (drawers_of D.state shelf.old) }
 {
-    let Some(name) = image_in(words) else {
-        return match write_text(USAGE, output) {
-            Ok(()) => Status::BadWords,
-            Err(_) => Status::WriteFault,
-        };
+    let Ok(line) = joined(alloc, words) else {
+        return Status::NoMemory;
     };
-    let reply = shelf.dump(name);
-    match write_reply(&reply, output) {
-        Ok(()) => status_of(&reply),
+    let Some(command) = command_in(&line) else {
+        return print_usage(output);
+    };
+    let reply = shelf.serve(alloc, &line, &command, files, entropy);
+    print_reply(&reply, output)
+}
+
+fn print_reply<K: Sink>(reply: &Reply, output: &mut K) -> Status
+    ensures printed { EndsWith (reply_text reply.now) (status_of reply.now) (sink_of K.taken K.faults output.old) result (sink_of K.taken K.faults output.new) }
+    ensures memory { result ≢ Status.NoMemory }
+{
+    match write_reply(reply, output) {
+        Ok(()) => status_of(reply),
+        Err(_) => Status::WriteFault,
+    }
+}
+
+fn print_usage<K: Sink>(output: &mut K) -> Status
+    ensures printed { EndsWith usage_text Status.BadWords (sink_of K.taken K.faults output.old) result (sink_of K.taken K.faults output.new) }
+    ensures memory { result ≢ Status.NoMemory }
+{
+    match write_text(USAGE, output) {
+        Ok(()) => Status::BadWords,
         Err(_) => Status::WriteFault,
     }
 }

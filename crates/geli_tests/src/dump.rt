@@ -1,7 +1,8 @@
 // `geli dump IMAGE`: each reply, each form of the words, each failing call of the sink.
+use crate::common::{USAGE, World, disk_with, words};
 use block_traits::{Disk, NoMemory, Sector};
 use crash_disk::{CallKind, FailAt, MemCabinet, MemDisk, MemEntropy, MemSink, MemSource};
-use geli_core::{Drawers, Shelf, Status, geli_main, run};
+use geli_core::{Shelf, Status, geli_main};
 use std::alloc::Global;
 use std::test::Fail;
 
@@ -17,8 +18,6 @@ const MAGIC: [u8; 16] = *b"GEOM::ELI\0\0\0\0\0\0\0";
 const DIGEST: [u8; 16] = [
     0x52, 0xeb, 0x10, 0x78, 0xb5, 0x82, 0x36, 0xa5, 0xab, 0x0b, 0x65, 0xf2, 0x43, 0x88, 0x88, 0x71,
 ];
-
-const USAGE: &str = "usage: geli script IMAGE... or geli VERB ...\n";
 
 // The metadata's sector.
 pub(crate) fn metadata() -> Sector {
@@ -45,33 +44,14 @@ fn dump_text(alloc: Global) -> Result<String, NoMemory> {
     Ok(text)
 }
 
-fn words(alloc: Global, texts: &[&str]) -> Result<Vec<String>, NoMemory> {
-    let mut words = Vec::new(alloc);
-    for text in texts {
-        words.push(String::from_str(alloc, text)?)?;
-    }
-    Ok(words)
-}
-
-// Runs over one disk under the name `a.img`.
+// Runs the words of a line over one disk under the name `a.img`.
 fn run_over(
     alloc: Global,
     disk: MemDisk,
-    texts: &[&str],
+    line: &str,
     output: &mut MemSink,
-) -> Result<Status, NoMemory> {
-    let mut shelf = Drawers::new(alloc)?;
-    if shelf.add("a.img", disk).is_err() {
-        return Err(NoMemory);
-    }
-    Ok(run(&words(alloc, texts)?, output, &mut shelf))
-}
-
-// The image whose last sector this is.
-fn disk_of(alloc: Global, last: &Sector) -> Result<MemDisk, NoMemory> {
-    let mut image = [0; 1024];
-    image[512..].copy_from_slice(last);
-    MemDisk::from_image(alloc, &image, 0)
+) -> Result<Status, Fail> {
+    World::new(alloc, disk)?.run(alloc, line, output)
 }
 
 #[test]
@@ -97,8 +77,8 @@ fn each_last_sector_has_its_reply(rt: HostRuntime) -> Result<(), Fail> {
         let mut output = MemSink::new(alloc, &[], &[], 2048)?;
         let ended = run_over(
             alloc,
-            disk_of(alloc, &last)?,
-            &["dump", "a.img"],
+            disk_with(alloc, 2, &last)?,
+            "dump a.img",
             &mut output,
         )?;
         assert_eq!(rt; output.bytes(), text.as_bytes());
@@ -122,38 +102,39 @@ fn small_images_and_failing_disks_are_refused(rt: HostRuntime) -> Result<(), Fai
         let image = zeros.get(..size).unwrap_or(&[]);
         let mut output = MemSink::new(alloc, &[], &[], 2048)?;
         let disk = MemDisk::from_image(alloc, image, 0)?;
-        let ended = run_over(alloc, disk, &["dump", "a.img"], &mut output)?;
+        let ended = run_over(alloc, disk, "dump a.img", &mut output)?;
         assert_eq!(rt; output.bytes(), text.as_bytes());
         assert_eq!(rt; ended, Status::SomeRefused);
     }
-    let mut disk = disk_of(alloc, &metadata())?;
+    let mut disk = disk_with(alloc, 2, &metadata())?;
     disk.fail_calls(&[FailAt {
         kind: CallKind::Read,
         nth: 1,
         lands: false,
     }])?;
     let mut output = MemSink::new(alloc, &[], &[], 2048)?;
-    let ended = run_over(alloc, disk, &["dump", "a.img"], &mut output)?;
+    let ended = run_over(alloc, disk, "dump a.img", &mut output)?;
     assert_eq!(rt; output.bytes(), b"error 26 DeviceFault\n".as_slice());
     assert_eq!(rt; ended.number(), 1);
     Ok(())
 }
 
 // Whether these words over an empty image print this text and end with this status.
-fn answers(alloc: Global, texts: &[&str], text: &str, status: Status) -> Result<bool, NoMemory> {
+fn answers(alloc: Global, line: &str, text: &str, status: Status) -> Result<bool, Fail> {
     let mut output = MemSink::new(alloc, &[], &[], 2048)?;
-    let ended = run_over(alloc, MemDisk::new(alloc, 2, 0)?, texts, &mut output)?;
+    let ended = run_over(alloc, MemDisk::new(alloc, 2, 0)?, line, &mut output)?;
     Ok(output.bytes() == text.as_bytes() && ended == status)
 }
 
-fn are_bad_words(alloc: Global, texts: &[&str]) -> Result<bool, NoMemory> {
-    answers(alloc, texts, USAGE, Status::BadWords)
+fn are_bad_words(alloc: Global, line: &str) -> Result<bool, Fail> {
+    answers(alloc, line, USAGE, Status::BadWords)
 }
 
-fn is_unknown(alloc: Global, name: &str) -> Result<bool, NoMemory> {
+fn is_unknown(alloc: Global, name: &str) -> Result<bool, Fail> {
+    let line = format!(in alloc; "dump {name}")?;
     answers(
         alloc,
-        &["dump", name],
+        line.as_str(),
         "error 2 UnknownProvider\n",
         Status::SomeRefused,
     )
@@ -162,14 +143,14 @@ fn is_unknown(alloc: Global, name: &str) -> Result<bool, NoMemory> {
 #[test]
 fn each_form_of_the_words_has_its_answer(rt: HostRuntime) -> Result<(), Fail> {
     let alloc = rt.alloc();
-    assert!(rt; are_bad_words(alloc, &[])?);
-    assert!(rt; are_bad_words(alloc, &["dump"])?);
-    assert!(rt; are_bad_words(alloc, &["dump", "-v", "a.img"])?);
-    assert!(rt; are_bad_words(alloc, &["dump", "a.img", "a.img"])?);
-    assert!(rt; are_bad_words(alloc, &["dump", "-a.img"])?);
-    assert!(rt; are_bad_words(alloc, &["dump", "a\0b"])?);
-    assert!(rt; are_bad_words(alloc, &["Dump", "a.img"])?);
-    assert!(rt; are_bad_words(alloc, &["script", "a.img"])?);
+    assert!(rt; are_bad_words(alloc, "")?);
+    assert!(rt; are_bad_words(alloc, "dump")?);
+    assert!(rt; are_bad_words(alloc, "dump -x a.img")?);
+    assert!(rt; are_bad_words(alloc, "dump a.img a.img")?);
+    assert!(rt; are_bad_words(alloc, "dump -a.img")?);
+    assert!(rt; are_bad_words(alloc, "dump a\0b")?);
+    assert!(rt; are_bad_words(alloc, "Dump a.img")?);
+    assert!(rt; are_bad_words(alloc, "script a.img")?);
     assert!(rt; is_unknown(alloc, "b.img")?);
     assert!(rt; is_unknown(alloc, "")?);
     Ok(())
@@ -185,7 +166,8 @@ fn the_longest_name_is_a_name(rt: HostRuntime) -> Result<(), Fail> {
     }
     assert!(rt; is_unknown(alloc, name.as_str())?);
     name.push_str("a")?;
-    assert!(rt; are_bad_words(alloc, &["dump", name.as_str()])?);
+    let line = format!(in alloc; "dump {name}")?;
+    assert!(rt; are_bad_words(alloc, line.as_str())?);
     Ok(())
 }
 
@@ -195,20 +177,20 @@ fn a_failing_sink_gets_a_part_of_the_text(rt: HostRuntime) -> Result<(), Fail> {
     let whole = dump_text(alloc)?;
     let slow = [1; 1100];
     let mut output = MemSink::new(alloc, &slow, &[], 2048)?;
-    let disk = disk_of(alloc, &metadata())?;
-    let ended = run_over(alloc, disk, &["dump", "a.img"], &mut output)?;
+    let disk = disk_with(alloc, 2, &metadata())?;
+    let ended = run_over(alloc, disk, "dump a.img", &mut output)?;
     assert_eq!(rt; output.bytes(), whole.as_bytes());
     assert_eq!(rt; ended, Status::Done);
     for call in 1..=34u64 {
         let mut output = MemSink::new(alloc, &[], &[call], 2048)?;
-        let disk = disk_of(alloc, &metadata())?;
-        let ended = run_over(alloc, disk, &["dump", "a.img"], &mut output)?;
+        let disk = disk_with(alloc, 2, &metadata())?;
+        let ended = run_over(alloc, disk, "dump a.img", &mut output)?;
         assert!(rt; whole.as_bytes().starts_with(output.bytes()));
         assert!(rt; output.bytes().len() < whole.len());
         assert_eq!(rt; ended, Status::WriteFault);
     }
     let mut output = MemSink::new(alloc, &[], &[1], 2048)?;
-    let ended = run_over(alloc, MemDisk::new(alloc, 2, 0)?, &[], &mut output)?;
+    let ended = run_over(alloc, MemDisk::new(alloc, 2, 0)?, "", &mut output)?;
     assert_eq!(rt; ended.number(), 4);
     Ok(())
 }
@@ -246,8 +228,8 @@ fn hostile_sectors_are_refused_by_name(rt: HostRuntime) -> Result<(), Fail> {
         let mut output = MemSink::new(alloc, &[], &[], 2048)?;
         let ended = run_over(
             alloc,
-            disk_of(alloc, &last)?,
-            &["dump", "a.img"],
+            disk_with(alloc, 2, &last)?,
+            "dump a.img",
             &mut output,
         )?;
         assert_eq!(rt; output.bytes(), text.as_bytes());
@@ -260,14 +242,14 @@ fn hostile_sectors_are_refused_by_name(rt: HostRuntime) -> Result<(), Fail> {
 fn the_top_call_runs_over_a_boxed_disk(rt: HostRuntime) -> Result<(), Fail> {
     let alloc = rt.alloc();
     let mut shelf = Shelf::new(alloc)?;
-    let disk: Box<dyn Disk> = Box::new(alloc, disk_of(alloc, &metadata())?)?;
+    let disk: Box<dyn Disk> = Box::new(alloc, disk_with(alloc, 2, &metadata())?)?;
     assert!(rt; shelf.add("a.img", disk).is_ok());
     let second: Box<dyn Disk> = Box::new(alloc, MemDisk::new(alloc, 2, 0)?)?;
     assert!(rt; shelf.add("b.img", second).is_err());
     let mut output = MemSink::new(alloc, &[], &[], 2048)?;
     let ended = geli_main(
         alloc,
-        &words(alloc, &["dump", "a.img"])?,
+        &words(alloc, "dump a.img")?,
         &mut MemSource::new(alloc, b"", &[], &[])?,
         &mut output,
         &mut MemCabinet::new(alloc),

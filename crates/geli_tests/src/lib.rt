@@ -3,6 +3,16 @@
 #![tactic(auto)]
 
 #[cfg(test)]
+mod attach;
+#[cfg(test)]
+mod common;
+#[cfg(test)]
 mod dump;
+#[cfg(test)]
+mod failures;
+#[cfg(test)]
+mod init;
+#[cfg(test)]
+mod limits;
 #[cfg(test)]
 mod metadata;

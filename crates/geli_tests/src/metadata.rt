@@ -1,9 +1,9 @@
 // Which metadata is refused, and how: each change of one field, and each change of one bit.
+use crate::common::hashed;
 use crate::dump::metadata;
 use block_traits::Sector;
 use eli_base::Refusal;
 use eli_metadata::{MetaFault, Metadata, check, decode, size_gate, slot_gate};
-use md5::{Digest, Md5};
 use std::test::Fail;
 
 // All that stands between an image of 2,048 sectors and the use of its provider.
@@ -123,14 +123,6 @@ fn expected(ranges: &[(usize, u8)], bit: usize) -> Option<u8> {
         .iter()
         .find(|(end, _)| bit < *end)
         .map(|(_, number)| *number)
-}
-
-// The sector with the MD5 of its first 495 bytes behind them.
-fn hashed(sector: &Sector) -> Sector {
-    let mut anew = *sector;
-    let digest = Md5::digest(&sector[..495]);
-    anew[495..511].copy_from_slice(&digest);
-    anew
 }
 
 // The metadata's sector with one bit changed.

@@ -13,6 +13,7 @@ mod runs;
 mod tests;
 mod units;
 
+pub use attaching::opened;
 pub use faults::{AttachFault, ReadFault, WriteFault};
 pub use laws::rest_tells_all;
 pub use provider::Provider;

@@ -1,12 +1,21 @@
 // A named disk.
-ghost use Rattle.shelf.specs.World.{drawer_of};
-ghost use Rattle.shelf.specs.Turn.{DumpStep, reply_to};
-ghost use Rattle.std.specs.Prelude.{◌≡◌};
+ghost use Rattle.command_words.specs.Places.{CommandIsWithin};
+ghost use Rattle.key_commands.specs.Random.{entropy_of};
+ghost use Rattle.key_components.specs.Answers.{cabinet_of};
+ghost use Rattle.shelf.specs.Turn.{Serves, done_or, dump_or};
+ghost use Rattle.shelf.specs.World.{Reach};
+ghost use Rattle.std.specs.Prelude.{◌≡◌, length};
 
-use block_traits::{ByteList, Disk, LastSector};
+use crate::making::{init, iterations_of};
+use crate::reading::read_last;
+use crate::trying::try_key;
+use block_traits::{ByteList, Cabinet, Disk, Entropy, LastSector};
+use command_words::Command;
 use eli_base::Refusal;
-use eli_metadata::{Metadata, ReadMetaFault, read_metadata};
+use eli_metadata::Metadata;
+use key_commands::InitOptions;
 use reply_text::Reply;
+use std::alloc::Global;
 
 /// A disk under its name.
 #[derive(Drop)]
@@ -18,25 +27,90 @@ pub struct Drawer<D: Drop> {
 }
 
 impl<D: Disk> Drawer<D> {
-    /// Reads the metadata. Gives the drawer back as it then is, with the reply.
-    pub fn dump(self) -> (Drawer<D>, Reply)
-        ensures { DumpStep (drawer_of D.state self) result.1 (drawer_of D.state result.0) }
+    /// Serves a command that names this drawer; the places in the command are those of the line. Gives the drawer
+    /// back as it then is, with the reply.
+    pub fn serve<C: Cabinet, E: Entropy>(
+        self,
+        alloc: Global,
+        line: &[u8],
+        command: &Command,
+        files: &mut C,
+        entropy: &mut E,
+    ) -> (Drawer<D>, Reply)
+        requires { CommandIsWithin (length line.now) command.now }
+        ensures name { result.0.name ≡ self.name }
+        ensures serves { let old : Reach = record { disk = D.state self.disk; cabinet = cabinet_of C.files C.faults C.misses files.old; entropy = entropy_of E.left E.faults entropy.old } in
+            let new : Reach = record { disk = D.state result.0.disk; cabinet = cabinet_of C.files C.faults C.misses files.new; entropy = entropy_of E.left E.faults entropy.new } in
+            Serves line.now command.now old result.1 new }
     {
         let mut place = LastSector::new(self.disk);
-        let answer = read_metadata(&mut place);
+        let reply = serve(alloc, &mut place, line, command, files, entropy);
         let drawer = Drawer {
             name: self.name,
             disk: place.into_disk(),
         };
-        (drawer, reply_to(answer))
+        (drawer, reply)
     }
 }
 
-fn reply_to(answer: Result<Metadata, ReadMetaFault>) -> Reply
-    ensures { result ≡ reply_to answer }
+// Goes through the row of the command's verb.
+fn serve<D: Disk, C: Cabinet, E: Entropy>(
+    alloc: Global,
+    place: &mut LastSector<D>,
+    line: &[u8],
+    command: &Command,
+    files: &mut C,
+    entropy: &mut E,
+) -> Reply
+    requires { CommandIsWithin (length line.now) command.now }
+    ensures { let old : Reach = record { disk = D.state place.old.disk; cabinet = cabinet_of C.files C.faults C.misses files.old; entropy = entropy_of E.left E.faults entropy.old } in
+        let new : Reach = record { disk = D.state place.new.disk; cabinet = cabinet_of C.files C.faults C.misses files.new; entropy = entropy_of E.left E.faults entropy.new } in
+        Serves line.now command.now old result new }
+{
+    match command {
+        Command::Dump { .. } => dump_or(read_last(place)),
+        Command::Init {
+            cipher,
+            auth,
+            keylen,
+            sectorsize,
+            iterations,
+            autoresize,
+            fresh,
+            backup,
+            ..
+        } => {
+            let options = InitOptions {
+                cipher: *cipher,
+                auth: *auth,
+                keylen: *keylen,
+                sectorsize: *sectorsize,
+                iterations: iterations_of(fresh, *iterations),
+                autoresize: *autoresize,
+            };
+            let disk = &mut place.disk;
+            done_or(init(alloc, disk, line, &options, fresh, *backup, files, entropy))
+        }
+        Command::Attach { slot, old, .. } => {
+            done_or(try_key(alloc, place, line, *slot, old, files))
+        }
+    }
+}
+
+fn done_or(answer: Result<(), Refusal>) -> Reply
+    ensures { result ≡ done_or answer }
+{
+    match answer {
+        Ok(()) => Reply::Done,
+        Err(refusal) => Reply::Refused(refusal),
+    }
+}
+
+fn dump_or(answer: Result<Metadata, Refusal>) -> Reply
+    ensures { result ≡ dump_or answer }
 {
     match answer {
         Ok(meta) => Reply::Dump(meta),
-        Err(fault) => Reply::Refused(Refusal::from(fault)),
+        Err(refusal) => Reply::Refused(refusal),
     }
 }

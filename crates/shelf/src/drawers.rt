@@ -1,12 +1,16 @@
 // The drawers in order of adding.
 ghost use Rattle.std.specs.Prelude.{◌≡◌, ◌<◌, ◌≤◌, ◌∷◌, ◌++◌, [], IfOk, IfSome, MatchResult, length, option_copied, vec_capacity, vec_len};
 ghost use Rattle.std.specs.List.{insert};
-ghost use Rattle.shelf.specs.World.{world_of, place_of};
+ghost use Rattle.command_words.specs.Places.{CommandIsWithin};
+ghost use Rattle.key_commands.specs.Random.{entropy_of};
+ghost use Rattle.key_components.specs.Answers.{cabinet_of};
 ghost use Rattle.shelf.specs.Adding.{Adds, RefusesToAdd};
-ghost use Rattle.shelf.specs.Turn.{DumpTurn, Shows};
+ghost use Rattle.shelf.specs.Turn.{Shows, Turn};
+ghost use Rattle.shelf.specs.World.{World, drawers_of, place_of};
 
 use crate::Drawer;
-use block_traits::{ByteList, Disk, Event, NoMemory};
+use block_traits::{ByteList, Cabinet, Disk, Entropy, Event, NoMemory};
+use command_words::Command;
 use eli_base::Refusal;
 use reply_text::Reply;
 use std::alloc::Global;
@@ -60,8 +64,8 @@ impl<D: Disk> Drawers<D> {
     /// `Full` exactly where there is no room, else `Taken` exactly where a drawer has the name.
     pub fn add(&mut self, name: &str, disk: D) -> Result<(), (D, AddFault)>
         ensures { MatchResult result
-            (λ _. Adds name.now (D.state disk) (world_of D.state self.old) (world_of D.state self.new))
-            (λ refused. (refused.0 ≡ disk) × RefusesToAdd name.now refused.1 (world_of D.state self.old) × (self.new ≡ self.old)) }
+            (λ _. Adds name.now (D.state disk) (drawers_of D.state self.old) (drawers_of D.state self.new))
+            (λ refused. (refused.0 ≡ disk) × RefusesToAdd name.now refused.1 (drawers_of D.state self.old) × (self.new ≡ self.old)) }
     {
         if self.drawers.len() >= ROOM {
             return Err((disk, AddFault::Full));
@@ -79,16 +83,30 @@ impl<D: Disk> Drawers<D> {
         }
     }
 
-    /// Reads the metadata of the named disk: `UnknownProvider` exactly where no drawer has the name,
-    /// and else what the drawer answers. The other drawers stay as they are.
-    pub fn dump(&mut self, name: &[u8]) -> Reply
-        ensures { DumpTurn name.now (world_of D.state self.old) result (world_of D.state self.new) }
+    /// Serves a command, whose places are those of the line: `UnknownProvider` exactly where no drawer has the name of
+    /// its provider, and else what the drawer answers. The other drawers stay as they are.
+    pub fn serve<C: Cabinet, E: Entropy>(
+        &mut self,
+        alloc: Global,
+        line: &[u8],
+        command: &Command,
+        files: &mut C,
+        entropy: &mut E,
+    ) -> Reply
+        requires { CommandIsWithin (length line.now) command.now }
+        ensures { let old : World = record { drawers = drawers_of D.state self.old; cabinet = cabinet_of C.files C.faults C.misses files.old; entropy = entropy_of E.left E.faults entropy.old } in
+            let new : World = record { drawers = drawers_of D.state self.new; cabinet = cabinet_of C.files C.faults C.misses files.new; entropy = entropy_of E.left E.faults entropy.new } in
+            Turn line.now command.now old result new }
     {
+        let Some(prov) = command.provider() else {
+            unreachable!();
+        };
+        let name = &line[prov.start as usize..prov.end as usize];
         let Some(place) = find(&self.drawers, name) else {
             return Reply::Refused(Refusal::UnknownProvider);
         };
         let drawer = self.drawers.remove(place);
-        let (drawer, reply) = drawer.dump();
+        let (drawer, reply) = drawer.serve(alloc, line, command, files, entropy);
         put_back(&mut self.drawers, place, drawer);
         reply
     }
@@ -96,7 +114,7 @@ impl<D: Disk> Drawers<D> {
     /// What the named disk answers to `events`. None comes exactly where no drawer has the name or
     /// the disk doesn't show its events.
     pub fn events(&self, name: &str) -> Option<&[Event]>
-        ensures { Shows name.now (world_of D.state self.now) (option_copied result) }
+        ensures { Shows name.now (drawers_of D.state self.now) (option_copied result) }
     {
         let place = find(&self.drawers, name.as_bytes())?;
         self.drawers[place].disk.events()
@@ -105,7 +123,7 @@ impl<D: Disk> Drawers<D> {
 
 // The place of the first drawer with the name.
 fn find<D: Disk>(drawers: &[Drawer<D>], name: &[u8]) -> Option<usize>
-    ensures found { result ≡ place_of name.now (world_of D.state drawers.now) }
+    ensures found { result ≡ place_of name.now (drawers_of D.state drawers.now) }
     ensures bound { IfSome result (λ place. place < length drawers.now) }
 {
     for (place, drawer) in drawers.iter().enumerate() {

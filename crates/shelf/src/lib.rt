@@ -3,6 +3,11 @@
 
 mod drawer;
 mod drawers;
+mod laws;
+mod making;
+mod reading;
+mod trying;
 
 pub use drawer::Drawer;
 pub use drawers::{AddFault, Drawers, Shelf};
+pub use laws::what_init_makes_can_be_attached;

@@ -1,5 +1,5 @@
 use Rattle.std.proofs.Common.{◌∙◌}
-use Rattle.shelf.proofs.Places.{is_some-copied, slice_get-world}
+use Rattle.shelf.proofs.Places.{is_some-copied, slice_get-drawers}
 use Rattle.shelf.specs.World.{drawer_of}
 use Rattle.shelf.proofs.drawers.Drawers.events.Goals as goal
 
@@ -10,6 +10,6 @@ returns g c =
     rw (← c.self.view_is, ← found)
     (record {
       drawer = drawer_of g.D.Disk.state c.index.result.now;
-      found = slice_get-world g.D.Disk.state c.self.inside.drawers.items c.in_ok-place.place c.index.result.now bound c.index.ensures;
+      found = slice_get-drawers g.D.Disk.state c.self.inside.drawers.items c.in_ok-place.place c.index.result.now bound c.index.ensures;
       events = record { shows = is_some-copied c.events.result ∙ c.events.ensures.shown; history = c.events.ensures.history };
     })

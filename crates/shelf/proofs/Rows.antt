@@ -1,0 +1,30 @@
+-- How rows are gone through.
+use Rattle.std.proofs.Common.{ℕ, List, IfOk, IfSome, Result, Ok, Err, refl}
+use Rattle.std.specs.Prelude.{IfErr}
+use Rattle.std.specs.Result.{result_err}
+use Rattle.block_traits.specs.Disk.{DiskState}
+use Rattle.command_words.specs.declared.spans.KeyWords.{KeyWords}
+use Rattle.eli_base.specs.declared.refusals.Refusal.{Refusal}
+use Rattle.key_commands.specs.Random.{EntropyState}
+use Rattle.key_components.specs.Answers.{CabinetState, IsAnswer, IsReached, Loads, word_of}
+use Rattle.key_components.specs.Key.{FitsWords, components_of}
+use Rattle.user_key.specs.declared.components.Components.{Components}
+use Rattle.shelf.specs.Steps.{LoadsComponents, Then}
+use Rattle.shelf.specs.World.{Reach}
+
+-- the first step refused
+pub Then-refused : {A B : Type 0} (First : Reach → Result A Refusal → Reach → Type 0) (Next : A → Reach → Result B Refusal → Reach → Type 0)
+    (old new : Reach) (refusal : Refusal) → First old (Err refusal) new → Then First Next old (Err refusal) new
+Then-refused First Next old new refusal first = record { given = Err refusal; middle = new; first = first; next = (refl, refl) }
+
+-- the first step gave a value
+pub Then-goes_on : {A B : Type 0} (First : Reach → Result A Refusal → Reach → Type 0) (Next : A → Reach → Result B Refusal → Reach → Type 0)
+    (old middle : Reach) (value : A) (answer : Result B Refusal) (new : Reach) → First old (Ok value) middle → Next value middle answer new → Then First Next old answer new
+Then-goes_on First Next old middle value answer new first next = record { given = Ok value; middle = middle; first = first; next = next }
+
+-- the files of a key were loaded
+pub loaded : (line : List ℕ) (words : KeyWords) (disk : DiskState) (entropy : EntropyState) (old new : CabinetState) (answer : Result Components Refusal)
+    → IfSome old.files (λ files. IsAnswer (components_of files line words) answer) → IfOk answer (FitsWords words)
+    → IfErr answer (λ refusal. IfSome (word_of refusal) (IsReached old.files line words)) → Loads old new (result_err answer)
+    → LoadsComponents line words (record { disk = disk; cabinet = old; entropy = entropy }) answer (record { disk = disk; cabinet = new; entropy = entropy })
+loaded line words disk entropy old new answer told fits reached loads = record { told = told; fits = fits; reached = reached; loads = loads; disk = refl; entropy = refl }

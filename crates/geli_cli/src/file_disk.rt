@@ -1,5 +1,5 @@
 // A file, or a device, as a disk.
-ghost use Rattle.std.specs.Prelude.{◌≡◌, ◌<◌, ◌≤◌, ◌^◌};
+ghost use Rattle.std.specs.Prelude.{◌≡◌, ◌<◌, ◌≤◌, ◌^◌, IsNone};
 ghost use Rattle.block_traits.specs.Causes.{Rose};
 
 use block_traits::{Disk, DiskFailed, Event, Sector};
@@ -23,7 +23,8 @@ impl FileDisk {
     /// sectors whose every call fails. A file that can't be written is opened to be read, and each
     /// write fails.
     pub fn open(rt: &impl Files<File = File>, name: &str) -> FileDisk
-        ensures { result.faults ≡ 0 }
+        ensures faults { result.faults ≡ 0 }
+        ensures unopened { IsNone result.file → result.sectors ≡ 2 }
     {
         match open_sized(rt, name) {
             Ok((file, length)) if length < 1 << 53 => FileDisk {

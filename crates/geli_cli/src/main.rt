@@ -12,7 +12,7 @@ use block_traits::{Disk, NoMemory};
 use command_words::images_of;
 use file_cabinet::FileCabinet;
 use file_disk::FileDisk;
-use geli_core::{Shelf, Status, geli_main};
+use geli_core::{AddFault, Shelf, Status, geli_main};
 use random_file::RandomFile;
 use std::env;
 use std::io::{self, ErrorKind};
@@ -50,7 +50,9 @@ fn serve(rt: &HostRuntime, words: &[String]) -> Result<Status, NoMemory> {
     let images = images_of(alloc, words)?;
     for name in images.as_slice() {
         let disk: Box<dyn Disk> = Box::new(alloc, FileDisk::open(rt, name.as_str()))?;
-        let _ = shelf.add(name.as_str(), disk);
+        if let Err((_, AddFault::NoMemory)) = shelf.add(name.as_str(), disk) {
+            return Err(NoMemory);
+        }
     }
     let mut input = InputSource::new(rt.reader());
     let mut output = OutputSink::new(io::writer(rt));

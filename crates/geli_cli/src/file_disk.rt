@@ -1,6 +1,7 @@
 // A file, or a device, as a disk.
-ghost use Rattle.std.specs.Prelude.{◌≡◌, ◌<◌, ◌≤◌, ◌^◌, IsNone};
+ghost use Rattle.std.specs.Prelude.{◌≡◌, ◌<◌, ◌≤◌, ◌^◌, ◌∷◌, [], IsErr, IsNone, OnErr, OnOk};
 ghost use Rattle.block_traits.specs.Causes.{Rose};
+ghost use Rattle.block_traits.specs.Disk.{FailsIn, Gives, Logs};
 
 use block_traits::{Disk, DiskFailed, Event, Sector};
 use std::fs::{File, OpenOptions};
@@ -61,16 +62,23 @@ fn open_sized(rt: &impl Files<File = File>, name: &str) -> io::Result<(File, u64
     Ok((file, length))
 }
 
+/// A file that isn't opened is a disk whose every call fails.
 impl Disk for FileDisk {
-    ghost use Rattle.block_traits.specs.Disk.{untold};
+    ghost use Rattle.geli_cli.specs.FileDisk.{state_of};
 
-    ghost state = { λ d. untold d.sectors d.faults d.small };
+    ghost state = { state_of };
 
     fn sectors(&self) -> u64 {
         self.sectors
     }
 
-    fn read(&mut self, n: u64, into: &mut Sector) -> Result<(), DiskFailed> {
+    fn read(&mut self, n: u64, into: &mut Sector) -> Result<(), DiskFailed>
+        requires { n < (state_of self.old).size }
+        ensures bytes { OnOk result (Gives (state_of self.old) n into.new) }
+        ensures ok { OnOk result (Logs [] (state_of self.old) (state_of self.new)) }
+        ensures err { OnErr result (FailsIn [] (state_of self.old) (state_of self.new)) }
+        ensures unopened { IsNone self.old.file → IsErr result }
+    {
         if let Some(file) = &self.file
             && file.read_exact_at(into, 512 * n).is_ok()
         {
@@ -79,7 +87,12 @@ impl Disk for FileDisk {
         Err(self.fail())
     }
 
-    fn write(&mut self, n: u64, from: &Sector) -> Result<(), DiskFailed> {
+    fn write(&mut self, n: u64, from: &Sector) -> Result<(), DiskFailed>
+        requires { n < (state_of self.old).size }
+        ensures ok { OnOk result (Logs (Event.Write n from.now ∷ []) (state_of self.old) (state_of self.new)) }
+        ensures err { OnErr result (FailsIn (Event.Write n from.now ∷ []) (state_of self.old) (state_of self.new)) }
+        ensures unopened { IsNone self.old.file → IsErr result }
+    {
         if let Some(file) = &self.file
             && file.write_all_at(from, 512 * n).is_ok()
         {
@@ -88,7 +101,11 @@ impl Disk for FileDisk {
         Err(self.fail())
     }
 
-    fn flush(&mut self) -> Result<(), DiskFailed> {
+    fn flush(&mut self) -> Result<(), DiskFailed>
+        ensures ok { OnOk result (Logs (Event.Flush ∷ []) (state_of self.old) (state_of self.new)) }
+        ensures err { OnErr result (FailsIn (Event.Flush ∷ []) (state_of self.old) (state_of self.new)) }
+        ensures unopened { IsNone self.old.file → IsErr result }
+    {
         if let Some(file) = &self.file
             && file.sync_data().is_ok()
         {

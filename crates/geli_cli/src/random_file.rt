@@ -1,5 +1,6 @@
 // The system's random bytes.
-ghost use Rattle.std.specs.Prelude.{◌≡◌, None};
+ghost use Rattle.std.specs.Prelude.{◌≡◌, None, IsErr, IsNone};
+ghost use Rattle.block_traits.specs.Causes.{HasCause};
 
 use block_traits::{Entropy, EntropyFailed};
 use std::fs::File;
@@ -25,12 +26,16 @@ impl RandomFile {
     }
 }
 
+/// A device that isn't opened is entropy whose every call fails.
 impl Entropy for RandomFile {
     ghost left = { λ _. None };
 
     ghost faults = { λ random. random.faults };
 
-    fn fill(&mut self, into: &mut [u8]) -> Result<(), EntropyFailed> {
+    fn fill(&mut self, into: &mut [u8]) -> Result<(), EntropyFailed>
+        ensures cause { HasCause self.old.faults self.new.faults result }
+        ensures unopened { IsNone self.old.file → IsErr result }
+    {
         if let Some(file) = &mut self.file
             && file.read_exact(into).is_ok()
         {

@@ -68,6 +68,14 @@ abbrev pub Runs : List (List ℕ) → World → SinkState → Status → World �
 Runs words old sink NoMemory new after = Abandons old sink new after
 Runs words old sink status new after = RunsLine (line_of words) (command_in (line_of words)) old sink status new after
 
+-- the status with which the run of a line ends: that of a reply where the line says a command, and else BadWords; or the sink
+-- failed, or there was no memory
+abbrev pub EndsBy : Option Command → Status → Type 0
+EndsBy command WriteFault = Unit {0}
+EndsBy command NoMemory = Unit {0}
+EndsBy None status = status ≡ BadWords
+EndsBy (Some command) status = (reply : Reply) × (status ≡ status_of reply)
+
 -- whether a command writes no disk
 abbrev pub only_reads : Command → Bool
 only_reads (commands.Dump prov) = true

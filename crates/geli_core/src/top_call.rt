@@ -5,8 +5,8 @@ ghost use Rattle.key_commands.specs.Random.{entropy_of};
 ghost use Rattle.key_components.specs.Answers.{cabinet_of};
 ghost use Rattle.reply_text.specs.Output.{sink_of};
 ghost use Rattle.reply_text.specs.Text.{reply_text};
-ghost use Rattle.shelf.specs.World.{World, contents, drawers_of};
-ghost use Rattle.geli_core.specs.Run.{EndsWith, Runs, asks_no_write, command_in, status_of, usage_text};
+ghost use Rattle.shelf.specs.World.{contents, drawers_of, world_of};
+ghost use Rattle.geli_core.specs.Run.{EndsBy, EndsWith, Runs, asks_no_write, command_in, status_of, usage_text};
 
 use crate::Status;
 use crate::command::command_in;
@@ -32,17 +32,21 @@ pub fn geli_main<S: Source, K: Sink, C: Cabinet, E: Entropy>(
     entropy: &mut E,
     shelf: &mut Shelf,
 ) -> Status
-    ensures runs { let old : World = record { drawers = drawers_of (⟦<Box<dyn Disk> as Disk>⟧).state shelf.old; cabinet = cabinet_of C.files C.faults C.misses files.old; entropy = entropy_of E.left E.faults entropy.old } in
-        let new : World = record { drawers = drawers_of (⟦<Box<dyn Disk> as Disk>⟧).state shelf.new; cabinet = cabinet_of C.files C.faults C.misses files.new; entropy = entropy_of E.left E.faults entropy.new } in
-        Runs (map string_bytes words.now) old (sink_of K.taken K.faults output.old) result new (sink_of K.taken K.faults output.new) }
+    ensures runs { Runs (map string_bytes words.now)
+        (world_of (⟦<Box<dyn Disk> as Disk>⟧).state shelf.old (cabinet_of C.files C.faults C.misses files.old) (entropy_of E.left E.faults entropy.old))
+        (sink_of K.taken K.faults output.old) result
+        (world_of (⟦<Box<dyn Disk> as Disk>⟧).state shelf.new (cabinet_of C.files C.faults C.misses files.new) (entropy_of E.left E.faults entropy.new))
+        (sink_of K.taken K.faults output.new) }
     ensures histories { IsTrue (asks_no_write (command_in (line_of (map string_bytes words.now)))) →
         contents (drawers_of (⟦<Box<dyn Disk> as Disk>⟧).state shelf.new) ≡ contents (drawers_of (⟦<Box<dyn Disk> as Disk>⟧).state shelf.old) }
+    ensures ends { EndsBy (command_in (line_of (map string_bytes words.now))) result }
     ensures input { _input.new ≡ _input.old }
 {
     run(alloc, words, output, files, entropy, shelf)
 }
 
 /// The run over drawers of disks of any one type.
+#[tactic(auto, using(crate::proofs::Ending::ends_declined, crate::proofs::Ending::ends_served))]
 pub fn run<K: Sink, C: Cabinet, E: Entropy, D: Disk>(
     alloc: Global,
     words: &[String],
@@ -51,11 +55,14 @@ pub fn run<K: Sink, C: Cabinet, E: Entropy, D: Disk>(
     entropy: &mut E,
     shelf: &mut Drawers<D>,
 ) -> Status
-    ensures runs { let old : World = record { drawers = drawers_of D.state shelf.old; cabinet = cabinet_of C.files C.faults C.misses files.old; entropy = entropy_of E.left E.faults entropy.old } in
-        let new : World = record { drawers = drawers_of D.state shelf.new; cabinet = cabinet_of C.files C.faults C.misses files.new; entropy = entropy_of E.left E.faults entropy.new } in
-        Runs (map string_bytes words.now) old (sink_of K.taken K.faults output.old) result new (sink_of K.taken K.faults output.new) }
+    ensures runs { Runs (map string_bytes words.now)
+        (world_of D.state shelf.old (cabinet_of C.files C.faults C.misses files.old) (entropy_of E.left E.faults entropy.old))
+        (sink_of K.taken K.faults output.old) result
+        (world_of D.state shelf.new (cabinet_of C.files C.faults C.misses files.new) (entropy_of E.left E.faults entropy.new))
+        (sink_of K.taken K.faults output.new) }
     ensures histories { IsTrue (asks_no_write (command_in (line_of (map string_bytes words.now)))) →
         contents (drawers_of D.state shelf.new) ≡ contents (drawers_of D.state shelf.old) }
+    ensures ends { EndsBy (command_in (line_of (map string_bytes words.now))) result }
 {
     let Ok(line) = joined(alloc, words) else {
         return Status::NoMemory;

@@ -124,7 +124,7 @@ fn add_events(text: &mut String, events: &[Event]) -> Result<(), Fail> {
 }
 
 // Ten times 384 bytes, of which byte i is (i * 7 + 3) mod 256.
-fn random_bytes() -> [u8; 3840] {
+pub(crate) fn random_bytes() -> [u8; 3840] {
     let mut random = [0; 3840];
     for (i, byte) in random.iter_mut().enumerate() {
         *byte = ((i % 384 * 7 + 3) % 256) as u8;
@@ -151,7 +151,7 @@ fn long_line() -> [u8; 1024] {
 }
 
 // A cabinet of small files.
-fn stock(alloc: Global) -> Result<MemCabinet, Fail> {
+pub(crate) fn stock(alloc: Global) -> Result<MemCabinet, Fail> {
     let mut files = MemCabinet::new(alloc);
     files.put("k", &key_file())?;
     files.put("n", b"n\0\xff\n")?;

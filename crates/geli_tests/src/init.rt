@@ -1,7 +1,8 @@
 // `geli init`: the metadata that it writes, against another implementation, and its refusals.
-use crate::common::{World, blank, digest_text, made, play};
-use block_traits::{Event, Sector};
-use crash_disk::{CallKind, FailAt, MemDisk, MemEntropy};
+use crate::common::{World, blank, digest_text, made, play, random_bytes, stock, words};
+use block_traits::{Disk, Event, Sector};
+use crash_disk::{CallKind, FailAt, MemDisk, MemEntropy, MemSink, MemSource};
+use geli_core::{Shelf, geli_main};
 use std::alloc::Global;
 use std::test::Fail;
 
@@ -24,6 +25,37 @@ fn single_commands_on_one_shelf(rt: HostRuntime) -> Result<(), Fail> {
     let events = [Event::Flush, Event::Write { n: 2047, bytes }, Event::Flush];
     assert_eq!(rt; world.shelf.events("a.img"), Some(events.as_slice()));
     assert_eq!(rt; world.files.get("b"), Some(bytes.as_slice()));
+    Ok(())
+}
+
+#[test]
+fn the_top_call_makes_a_provider_over_a_boxed_disk(rt: HostRuntime) -> Result<(), Fail> {
+    let alloc = rt.alloc();
+    let mut shelf = Shelf::new(alloc)?;
+    let disk: Box<dyn Disk> = Box::new(alloc, blank(alloc, 2048)?)?;
+    assert!(rt; shelf.add("a.img", disk).is_ok());
+    let mut files = stock(alloc)?;
+    let mut entropy = MemEntropy::new(alloc, &random_bytes())?;
+    for (line, text) in [
+        ("init -K k -J p -i 1000 a.img", "ok\n"),
+        ("attach -C -k k -j p a.img", "ok\n"),
+        ("attach -C -k k -j q a.img", "error 15 WrongKey\n"),
+    ] {
+        let mut output = MemSink::new(alloc, &[], &[], 2048)?;
+        geli_main(
+            alloc,
+            &words(alloc, line)?,
+            &mut MemSource::new(alloc, b"", &[], &[])?,
+            &mut output,
+            &mut files,
+            &mut entropy,
+            &mut shelf,
+        );
+        assert_eq!(rt; output.bytes(), text.as_bytes());
+    }
+    let bytes = made(alloc, 2048, "init -K k -J p -i 1000 a.img")?;
+    let events = [Event::Flush, Event::Write { n: 2047, bytes }, Event::Flush];
+    assert_eq!(rt; shelf.events("a.img"), Some(events.as_slice()));
     Ok(())
 }
 

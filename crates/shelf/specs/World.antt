@@ -35,8 +35,14 @@ pub record World : Type 0 where
   pub cabinet : CabinetState
   pub entropy : EntropyState
 
+abbrev pub world_of : {D : Type 0} → (D → DiskState) → List (Drawer D) → CabinetState → EntropyState → World
+world_of state drawers cabinet entropy = record { drawers = drawers_of state drawers; cabinet = cabinet; entropy = entropy }
+
 -- what a command may change where it names a drawer: the disk in it, the cabinet and the entropy
 pub record Reach : Type 0 where
   pub disk : DiskState
   pub cabinet : CabinetState
   pub entropy : EntropyState
+
+abbrev pub reach_of : DiskState → CabinetState → EntropyState → Reach
+reach_of disk cabinet entropy = record { disk = disk; cabinet = cabinet; entropy = entropy }

@@ -3,7 +3,7 @@ ghost use Rattle.command_words.specs.Places.{CommandIsWithin};
 ghost use Rattle.key_commands.specs.Random.{entropy_of};
 ghost use Rattle.key_components.specs.Answers.{cabinet_of};
 ghost use Rattle.shelf.specs.Turn.{Serves, done_or, dump_or};
-ghost use Rattle.shelf.specs.World.{Reach};
+ghost use Rattle.shelf.specs.World.{reach_of};
 ghost use Rattle.std.specs.Prelude.{◌≡◌, length};
 
 use crate::making::{init, iterations_of};
@@ -39,9 +39,9 @@ impl<D: Disk> Drawer<D> {
     ) -> (Drawer<D>, Reply)
         requires { CommandIsWithin (length line.now) command.now }
         ensures name { result.0.name ≡ self.name }
-        ensures serves { let old : Reach = record { disk = D.state self.disk; cabinet = cabinet_of C.files C.faults C.misses files.old; entropy = entropy_of E.left E.faults entropy.old } in
-            let new : Reach = record { disk = D.state result.0.disk; cabinet = cabinet_of C.files C.faults C.misses files.new; entropy = entropy_of E.left E.faults entropy.new } in
-            Serves line.now command.now old result.1 new }
+        ensures serves { Serves line.now command.now
+            (reach_of (D.state self.disk) (cabinet_of C.files C.faults C.misses files.old) (entropy_of E.left E.faults entropy.old)) result.1
+            (reach_of (D.state result.0.disk) (cabinet_of C.files C.faults C.misses files.new) (entropy_of E.left E.faults entropy.new)) }
     {
         let mut place = LastSector::new(self.disk);
         let reply = serve(alloc, &mut place, line, command, files, entropy);
@@ -63,9 +63,9 @@ fn serve<D: Disk, C: Cabinet, E: Entropy>(
     entropy: &mut E,
 ) -> Reply
     requires { CommandIsWithin (length line.now) command.now }
-    ensures { let old : Reach = record { disk = D.state place.old.disk; cabinet = cabinet_of C.files C.faults C.misses files.old; entropy = entropy_of E.left E.faults entropy.old } in
-        let new : Reach = record { disk = D.state place.new.disk; cabinet = cabinet_of C.files C.faults C.misses files.new; entropy = entropy_of E.left E.faults entropy.new } in
-        Serves line.now command.now old result new }
+    ensures { Serves line.now command.now
+        (reach_of (D.state place.old.disk) (cabinet_of C.files C.faults C.misses files.old) (entropy_of E.left E.faults entropy.old)) result
+        (reach_of (D.state place.new.disk) (cabinet_of C.files C.faults C.misses files.new) (entropy_of E.left E.faults entropy.new)) }
 {
     match command {
         Command::Dump { .. } => dump_or(read_last(place)),

@@ -6,7 +6,7 @@ ghost use Rattle.key_commands.specs.Random.{entropy_of};
 ghost use Rattle.key_components.specs.Answers.{cabinet_of};
 ghost use Rattle.shelf.specs.Adding.{Adds, RefusesToAdd};
 ghost use Rattle.shelf.specs.Turn.{Shows, Turn};
-ghost use Rattle.shelf.specs.World.{World, drawers_of, place_of};
+ghost use Rattle.shelf.specs.World.{drawers_of, place_of, world_of};
 
 use crate::Drawer;
 use block_traits::{ByteList, Cabinet, Disk, Entropy, Event, NoMemory};
@@ -94,9 +94,9 @@ impl<D: Disk> Drawers<D> {
         entropy: &mut E,
     ) -> Reply
         requires { CommandIsWithin (length line.now) command.now }
-        ensures { let old : World = record { drawers = drawers_of D.state self.old; cabinet = cabinet_of C.files C.faults C.misses files.old; entropy = entropy_of E.left E.faults entropy.old } in
-            let new : World = record { drawers = drawers_of D.state self.new; cabinet = cabinet_of C.files C.faults C.misses files.new; entropy = entropy_of E.left E.faults entropy.new } in
-            Turn line.now command.now old result new }
+        ensures { Turn line.now command.now
+            (world_of D.state self.old (cabinet_of C.files C.faults C.misses files.old) (entropy_of E.left E.faults entropy.old)) result
+            (world_of D.state self.new (cabinet_of C.files C.faults C.misses files.new) (entropy_of E.left E.faults entropy.new)) }
     {
         let Some(prov) = command.provider() else {
             unreachable!();

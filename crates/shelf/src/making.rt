@@ -7,7 +7,7 @@ ghost use Rattle.key_commands.specs.Random.{EntropyState, entropy_of};
 ghost use Rattle.key_components.specs.Answers.{cabinet_of};
 ghost use Rattle.shelf.specs.Steps.{BacksUp};
 ghost use Rattle.shelf.specs.Turn.{InitRow, iterations_of};
-ghost use Rattle.shelf.specs.World.{Reach};
+ghost use Rattle.shelf.specs.World.{reach_of};
 
 use block_traits::{Cabinet, Disk, Entropy, StoreFault};
 use command_words::{KeyWords, Span};
@@ -41,9 +41,9 @@ fn back_up<C: Cabinet>(
 ) -> Result<(), Refusal>
     requires { IfSome backup (IsWithin (length line.now)) }
     ensures { (disk : DiskState) (entropy : EntropyState) →
-        let old : Reach = record { disk = disk; cabinet = cabinet_of C.files C.faults C.misses files.old; entropy = entropy } in
-        let new : Reach = record { disk = disk; cabinet = cabinet_of C.files C.faults C.misses files.new; entropy = entropy } in
-        BacksUp line.now backup meta.now old result new }
+        BacksUp line.now backup meta.now
+        (reach_of disk (cabinet_of C.files C.faults C.misses files.old) entropy) result
+        (reach_of disk (cabinet_of C.files C.faults C.misses files.new) entropy) }
 {
     let Some(span) = backup else {
         return Ok(());
@@ -72,9 +72,9 @@ pub fn init<D: Disk, C: Cabinet, E: Entropy>(
 ) -> Result<(), Refusal>
     requires key { KeyIsWithin (length line.now) fresh.now }
     requires backup { IfSome backup (IsWithin (length line.now)) }
-    ensures { let old : Reach = record { disk = D.state disk.old; cabinet = cabinet_of C.files C.faults C.misses files.old; entropy = entropy_of E.left E.faults entropy.old } in
-        let new : Reach = record { disk = D.state disk.new; cabinet = cabinet_of C.files C.faults C.misses files.new; entropy = entropy_of E.left E.faults entropy.new } in
-        InitRow line.now options.now fresh.now backup old result new }
+    ensures { InitRow line.now options.now fresh.now backup
+        (reach_of (D.state disk.old) (cabinet_of C.files C.faults C.misses files.old) (entropy_of E.left E.faults entropy.old)) result
+        (reach_of (D.state disk.new) (cabinet_of C.files C.faults C.misses files.new) (entropy_of E.left E.faults entropy.new)) }
 {
     let parts = load_components(alloc, line, fresh, files)?;
     let meta = key_commands::init(disk, options, &parts, entropy)?;

@@ -7,7 +7,7 @@ ghost use Rattle.key_commands.specs.Random.{EntropyState};
 ghost use Rattle.key_components.specs.Answers.{cabinet_of};
 ghost use Rattle.shelf.specs.Steps.{admitted, key_refusal_of, tried};
 ghost use Rattle.shelf.specs.Turn.{TryRow};
-ghost use Rattle.shelf.specs.World.{Reach};
+ghost use Rattle.shelf.specs.World.{reach_of};
 ghost use Rattle.user_key.specs.UserKey.{user_key};
 
 use crate::reading::read_last;
@@ -81,9 +81,9 @@ pub fn try_key<P: MetaPlace, C: Cabinet>(
 ) -> Result<(), Refusal>
     requires { KeyIsWithin (length line.now) words.now }
     ensures row { (entropy : EntropyState) →
-        let old : Reach = record { disk = P.state place.old; cabinet = cabinet_of C.files C.faults C.misses files.old; entropy = entropy } in
-        let new : Reach = record { disk = P.state place.new; cabinet = cabinet_of C.files C.faults C.misses files.new; entropy = entropy } in
-        TryRow line.now slot words.now old result new }
+        TryRow line.now slot words.now
+        (reach_of (P.state place.old) (cabinet_of C.files C.faults C.misses files.old) entropy) result
+        (reach_of (P.state place.new) (cabinet_of C.files C.faults C.misses files.new) entropy) }
     ensures rest { P.rest place.new ≡ P.rest place.old }
 {
     let meta = read_last(place)?;

@@ -1,1 +1,5 @@
 pub mod FileDisk
+pub mod Files
+pub mod Opening
+pub mod Program
+pub mod RandomFile

@@ -1,45 +1,68 @@
 // The files of the system by their names.
-ghost use Rattle.std.specs.Prelude.{◌≡◌, ◌≤◌, None, IfOk, length};
+ghost use Rattle.std.specs.Prelude.{◌≡◌, ◌≢◌, ◌≤◌, None, Err, IfOk, IsErrOf, length};
+ghost use Rattle.std.specs.IoError.{error_kind};
+ghost use Rattle.block_traits.specs.Causes.{Rose};
+ghost use Rattle.geli_cli.specs.Files.{LoadsNamed, ReadAnswers, StoresNamed, fault_of};
 
+use crate::opener::Opener;
 use block_traits::{ByteList, Cabinet, LoadFault, StoreFault};
 use std::alloc::Global;
-use std::fs::File;
+use std::fs::{OpenFile, OpenOptions};
 use std::io::{self, ErrorKind, Read, Write};
-use std::rt::Files;
 
-/// The files of the system. It tells no content, and counts each failure, and each file that is absent
+/// Files as an opener finds them. It tells no content, and counts each failure, and each file that is absent
 /// or too long. A name that isn't UTF-8 names no file.
 #[derive(Drop)]
-pub struct FileCabinet<R: Files<File = File> + Drop> {
-    rt: R,
+pub struct FileCabinet<O: Opener + Drop> {
+    opener: O,
     faults: u64,
     misses: u64,
 }
 
-impl<R: Files<File = File> + Drop> FileCabinet<R> {
-    /// The files that the runtime reaches.
-    pub fn new(rt: R) -> FileCabinet<R>
-        ensures runtime { result.rt ≡ rt }
+impl<O: Opener + Drop> FileCabinet<O> {
+    /// The files that the opener finds.
+    pub fn new(opener: O) -> FileCabinet<O>
+        ensures opener { result.opener ≡ opener }
         ensures faults { result.faults ≡ 0 }
         ensures misses { result.misses ≡ 0 }
     {
         FileCabinet {
-            rt,
+            opener,
             faults: 0,
             misses: 0,
         }
     }
+
+    // Counts a failed store.
+    fn fail(&mut self) -> StoreFault
+        ensures fault { result ≡ StoreFault.Failed }
+        ensures later { self.old.faults ≤ self.new.faults }
+        ensures rose { Rose self.old.faults self.new.faults }
+        ensures misses { self.new.misses ≡ self.old.misses }
+    {
+        self.faults = self.faults.saturating_add(1);
+        StoreFault::Failed
+    }
 }
 
-impl<R: Files<File = File> + Drop> Cabinet for FileCabinet<R> {
+impl<O: Opener + Drop> Cabinet for FileCabinet<O> {
     ghost files = { λ _. None };
 
     ghost faults = { λ cabinet. cabinet.faults };
 
     ghost misses = { λ cabinet. cabinet.misses };
 
-    fn load(&mut self, alloc: Global, name: &[u8], limit: u64) -> Result<ByteList, LoadFault> {
-        let loaded = load_file(&self.rt, alloc, name, limit);
+    /// Besides what a cabinet does: the file that is opened under the name is read, whole where it knows its bytes.
+    fn load(&mut self, alloc: Global, name: &[u8], limit: u64) -> Result<ByteList, LoadFault>
+        ensures named { LoadsNamed O.answers O.File.remaining self.old.opener name.now limit result }
+        ensures within { IfOk result (λ bytes. length bytes ≤ limit) }
+        ensures later { self.old.faults ≤ self.new.faults }
+        ensures failed { IsErrOf result LoadFault.Failed → Rose self.old.faults self.new.faults }
+        ensures more_misses { self.old.misses ≤ self.new.misses }
+        ensures absent { IsErrOf result LoadFault.Absent → Rose self.old.misses self.new.misses }
+        ensures too_long { IsErrOf result LoadFault.TooLong → Rose self.old.misses self.new.misses }
+    {
+        let loaded = load_file(&mut self.opener, alloc, name, limit);
         match loaded {
             Err(LoadFault::Absent | LoadFault::TooLong) => {
                 self.misses = self.misses.saturating_add(1);
@@ -50,51 +73,72 @@ impl<R: Files<File = File> + Drop> Cabinet for FileCabinet<R> {
         loaded
     }
 
-    fn store(&mut self, _alloc: Global, name: &[u8], bytes: &[u8]) -> Result<(), StoreFault> {
-        if store_file(&self.rt, name, bytes).is_ok() {
-            return Ok(());
+    /// Besides what a cabinet does: a file is made or cut off under the name, and where it answers Ok the file has taken
+    /// the bytes. There is never want of memory. What was written is on the disk before the answer.
+    fn store(&mut self, _alloc: Global, name: &[u8], bytes: &[u8]) -> Result<(), StoreFault>
+        ensures named { StoresNamed O.answers O.File.contents self.old.opener name.now bytes.now result }
+        ensures memory { result ≢ Err StoreFault.NoMemory }
+        ensures later { self.old.faults ≤ self.new.faults }
+        ensures failed { IsErrOf result StoreFault.Failed → Rose self.old.faults self.new.faults }
+        ensures more_misses { self.old.misses ≤ self.new.misses }
+    {
+        let Ok(name) = str::from_utf8(name) else {
+            return Err(self.fail());
+        };
+        let mut how = OpenOptions::new();
+        how.write(true).create(true).truncate(true);
+        let Ok(mut file) = self.opener.open(&how, name) else {
+            return Err(self.fail());
+        };
+        if file.write_all(bytes).is_err() || file.sync_all().is_err() {
+            return Err(self.fail());
         }
-        self.faults = self.faults.saturating_add(1);
-        Err(StoreFault::Failed)
+        Ok(())
     }
 }
 
-fn load_file(
-    rt: &impl Files<File = File>,
+fn load_file<O: Opener>(
+    opener: &mut O,
     alloc: Global,
     name: &[u8],
     limit: u64,
 ) -> Result<ByteList, LoadFault>
-    ensures { IfOk result (λ bytes. length bytes ≤ limit) }
+    ensures named { LoadsNamed O.answers O.File.remaining opener.old name.now limit result }
+    ensures within { IfOk result (λ bytes. length bytes ≤ limit) }
 {
     let Ok(name) = str::from_utf8(name) else {
         return Err(LoadFault::Absent);
     };
-    let file = File::open(rt, name).map_err(|error| fault_of(&error))?;
+    match opener.open(OpenOptions::new().read(true), name) {
+        Ok(file) => read_whole(file, alloc, limit),
+        Err(error) => Err(fault_of(&error)),
+    }
+}
+
+// What a reader has left, if that is at most so many bytes.
+fn read_whole<R: Read + Drop>(reader: R, alloc: Global, limit: u64) -> Result<ByteList, LoadFault>
+    ensures answers { ReadAnswers (R.remaining reader) limit result }
+    ensures within { IfOk result (λ bytes. length bytes ≤ limit) }
+{
     let mut bytes = Vec::new(alloc);
-    file.take(limit.saturating_add(1))
-        .read_to_end(&mut bytes)
-        .map_err(|error| fault_of(&error))?;
+    if let Err(error) = reader.take(limit.saturating_add(1)).read_to_end(&mut bytes) {
+        return Err(match error.kind() {
+            ErrorKind::OutOfMemory => LoadFault::NoMemory,
+            _ => LoadFault::Failed,
+        });
+    }
     if bytes.len() as u64 > limit {
         return Err(LoadFault::TooLong);
     }
     Ok(ByteList::from_vec(bytes))
 }
 
-fn fault_of(error: &io::Error) -> LoadFault {
+fn fault_of(error: &io::Error) -> LoadFault
+    ensures { result ≡ fault_of (error_kind error.now) }
+{
     match error.kind() {
         ErrorKind::NotFound => LoadFault::Absent,
         ErrorKind::OutOfMemory => LoadFault::NoMemory,
         _ => LoadFault::Failed,
     }
-}
-
-// Makes or replaces the file. What was written is on the disk before the answer.
-fn store_file(rt: &impl Files<File = File>, name: &[u8], bytes: &[u8]) -> io::Result<()> {
-    let Ok(name) = str::from_utf8(name) else {
-        return Err(io::Error::from(ErrorKind::InvalidFilename));
-    };
-    let mut file = File::create(rt, name)?;
-    file.write_all(bytes)?;
-    file.sync_all()
 }

@@ -3,41 +3,68 @@ ghost use Rattle.std.specs.Prelude.{◌≡◌, ◌<◌, ◌≤◌, ◌^◌, ◌�
 ghost use Rattle.block_traits.specs.Causes.{Rose};
 ghost use Rattle.block_traits.specs.Disk.{FailsIn, Gives, Logs};
 
+use crate::opener::{Opener, open_image};
 use block_traits::{Disk, DiskFailed, Event, Sector};
-use std::fs::{File, OpenOptions};
-use std::io::{self, Seek, SeekFrom};
+use std::fs::OpenFile;
+use std::io::{Seek, SeekFrom};
 use std::os::unix::fs::FileExt;
-use std::rt::Files;
 
 /// The whole 512-byte pieces of a file, read and written where they stand. It tells no content, shows
 /// no events, and counts each failure.
 #[derive(Drop)]
-pub struct FileDisk {
-    file: Option<File>,
+pub struct FileDisk<F: Drop> {
+    file: Option<F>,
     sectors: u64,
     faults: u64,
     ghost small: { sectors < 2 ^ 44 },
 }
 
-impl FileDisk {
+impl<F: Drop> FileDisk<F> {
+    ghost use Rattle.geli_cli.specs.FileDisk.{IsDiskOf, IsUnopened, OpensDisk};
+
     /// The disk of a file. A file that can't be opened, or of 2^53 bytes or more, is a disk of two
     /// sectors whose every call fails. A file that can't be written is opened to be read, and each
     /// write fails.
-    pub fn open(rt: &impl Files<File = File>, name: &str) -> FileDisk
+    pub fn open<O: Opener<File = F>>(opener: &mut O, name: &str) -> FileDisk<F>
+    where
+        F: Seek + 'static,
+        ensures opens { OpensDisk O.answers F.stream_position F.stream_bytes opener.old name.now result }
         ensures faults { result.faults ≡ 0 }
         ensures unopened { IsNone result.file → result.sectors ≡ 2 }
     {
-        match open_sized(rt, name) {
-            Ok((file, length)) if length < 1 << 53 => FileDisk {
-                file: Some(file),
-                sectors: length / 512,
-                faults: 0,
-            },
-            _ => FileDisk {
-                file: None,
-                sectors: 2,
-                faults: 0,
-            },
+        let Ok(mut file) = open_image(opener, name) else {
+            return FileDisk::unopened();
+        };
+        match file.seek(SeekFrom::End(0)) {
+            Ok(length) => FileDisk::of_file(file, length),
+            Err(_) => FileDisk::unopened(),
+        }
+    }
+
+    /// The disk of an open file of so many bytes.
+    pub fn of_file(file: F, length: u64) -> FileDisk<F>
+        ensures disk { IsDiskOf file length result }
+        ensures faults { result.faults ≡ 0 }
+    {
+        if length >= 1 << 53 {
+            return FileDisk::unopened();
+        }
+        FileDisk {
+            file: Some(file),
+            sectors: length / 512,
+            faults: 0,
+        }
+    }
+
+    // A disk of two sectors whose every call fails.
+    fn unopened() -> FileDisk<F>
+        ensures unopened { IsUnopened result }
+        ensures faults { result.faults ≡ 0 }
+    {
+        FileDisk {
+            file: None,
+            sectors: 2,
+            faults: 0,
         }
     }
 
@@ -52,18 +79,8 @@ impl FileDisk {
     }
 }
 
-fn open_sized(rt: &impl Files<File = File>, name: &str) -> io::Result<(File, u64)> {
-    let opened = OpenOptions::new().read(true).write(true).open(rt, name);
-    let mut file = match opened {
-        Ok(file) => file,
-        Err(_) => File::open(rt, name)?,
-    };
-    let length = file.seek(SeekFrom::End(0))?;
-    Ok((file, length))
-}
-
 /// A file that isn't opened is a disk whose every call fails.
-impl Disk for FileDisk {
+impl<F: FileExt + OpenFile + Drop> Disk for FileDisk<F> {
     ghost use Rattle.geli_cli.specs.FileDisk.{state_of};
 
     ghost state = { state_of };

@@ -1,5 +1,7 @@
 // The standard streams, or any reader and writer.
-ghost use Rattle.std.specs.Prelude.{◌≡◌, None};
+ghost use Rattle.std.specs.Prelude.{◌≡◌, ◌<◌, ◌≤◌, None, IfOk, length};
+ghost use Rattle.std.specs.Io.KnownBytes.{ReadConsumes, WriteAppends};
+ghost use Rattle.block_traits.specs.Causes.{HasCause, Rose};
 
 use block_traits::{Sink, SinkFailed, Source, SourceFailed};
 use std::io::{Read, Write};
@@ -26,7 +28,13 @@ impl<R: Read + Drop> Source for InputSource<R> {
 
     ghost faults = { λ source. source.faults };
 
-    fn take(&mut self, into: &mut [u8]) -> Result<usize, SourceFailed> {
+    /// Besides what a source does: where the reader knows its bytes, they are given, and 0 only at their end.
+    fn take(&mut self, into: &mut [u8]) -> Result<usize, SourceFailed>
+        requires { 0 < length into.old }
+        ensures bound { IfOk result (λ k. k ≤ length into.new) }
+        ensures known { ReadConsumes (R.remaining self.old.reader) (R.remaining self.new.reader) result into.new }
+        ensures cause { HasCause self.old.faults self.new.faults result }
+    {
         match self.reader.read(into) {
             Ok(count) => Ok(count),
             Err(_) => {
@@ -60,7 +68,13 @@ impl<W: Write + Drop> Sink for OutputSink<W> {
 
     ghost faults = { λ sink. sink.faults };
 
-    fn give(&mut self, from: &[u8]) -> Result<usize, SinkFailed> {
+    /// Besides what a sink does: where the writer knows its bytes, those that are taken stand behind them.
+    fn give(&mut self, from: &[u8]) -> Result<usize, SinkFailed>
+        ensures bound { IfOk result (λ k. k ≤ length from.now) }
+        ensures known { WriteAppends (W.contents self.old.writer) (W.contents self.new.writer) result from.now }
+        ensures none { IfOk result (λ k. k ≡ 0 → 0 < length from.now → Rose self.old.faults self.new.faults) }
+        ensures cause { HasCause self.old.faults self.new.faults result }
+    {
         match self.writer.write(from) {
             Ok(0) => {
                 self.faults = self.faults.saturating_add(1);

@@ -1,17 +1,36 @@
 // One test for each type of the edge, over the system's own files.
 use crate::file_cabinet::FileCabinet;
 use crate::file_disk::FileDisk;
+use crate::opener::{Opener, SystemFiles};
 use crate::random_file::RandomFile;
 use crate::streams::{InputSource, OutputSink};
 use block_traits::{Cabinet, Disk, Entropy, LoadFault, Sink, Source};
-use std::fs;
+use std::fs::{self, File, OpenOptions};
+use std::io::ErrorKind;
 use std::test::Fail;
 
 #[test]
+fn the_system_opens_files_by_their_names(rt: HostRuntime) -> Result<(), Fail> {
+    let mut files = SystemFiles::new(rt.clone()?);
+    let name = "/tmp/vuthrel_opener_test";
+    let absent = files.open(OpenOptions::new().read(true), name);
+    assert_eq!(rt;
+        absent.err().map(|error| error.kind()),
+        Some(ErrorKind::NotFound)
+    );
+    let made = files.open(OpenOptions::new().write(true).create(true), name);
+    assert!(rt; made.is_ok());
+    assert_eq!(rt; fs::read(&rt, name)?.len(), 0);
+    fs::remove_file(&rt, name)?;
+    Ok(())
+}
+
+#[test]
 fn a_file_is_a_disk(rt: HostRuntime) -> Result<(), Fail> {
+    let mut files = SystemFiles::new(rt.clone()?);
     let name = "/tmp/vuthrel_file_disk_test.img";
     fs::write(&rt, name, [7u8; 1124].as_slice())?;
-    let mut disk = FileDisk::open(&rt, name);
+    let mut disk = FileDisk::open(&mut files, name);
     assert_eq!(rt; disk.sectors(), 2);
     let mut bytes = [0; 512];
     if 1 < disk.sectors() {
@@ -29,9 +48,22 @@ fn a_file_is_a_disk(rt: HostRuntime) -> Result<(), Fail> {
     assert_eq!(rt; file.get(512).copied(), Some(9));
     assert_eq!(rt; file.get(1024).copied(), Some(7));
     fs::remove_file(&rt, name)?;
-    let mut absent = FileDisk::open(&rt, "/tmp/vuthrel_no_such_file");
+    let mut absent = FileDisk::open(&mut files, "/tmp/vuthrel_no_such_file");
     assert_eq!(rt; absent.sectors(), 2);
     assert!(rt; absent.flush().is_err());
+    Ok(())
+}
+
+#[test]
+fn a_file_of_2_to_the_53_bytes_is_no_disk(rt: HostRuntime) -> Result<(), Fail> {
+    let name = "/tmp/vuthrel_large_file_test.img";
+    fs::write(&rt, name, b"".as_slice())?;
+    let largest = FileDisk::of_file(File::open(&rt, name)?, (1 << 53) - 1);
+    assert_eq!(rt; largest.sectors(), (1 << 44) - 1);
+    let mut larger = FileDisk::of_file(File::open(&rt, name)?, 1 << 53);
+    assert_eq!(rt; larger.sectors(), 2);
+    assert!(rt; larger.flush().is_err());
+    fs::remove_file(&rt, name)?;
     Ok(())
 }
 
@@ -39,7 +71,8 @@ fn a_file_is_a_disk(rt: HostRuntime) -> Result<(), Fail> {
 fn files_are_a_cabinet(rt: HostRuntime) -> Result<(), Fail> {
     let alloc = rt.alloc();
     let name = b"/tmp/vuthrel_cabinet_test";
-    let mut files = FileCabinet::new(rt.clone()?);
+    let mut files = FileCabinet::new(SystemFiles::new(rt.clone()?));
+    assert!(rt; files.store(alloc, name, b"the longer one").is_ok());
     assert!(rt; files.store(alloc, name, b"five!").is_ok());
     match files.load(alloc, name, 5) {
         Ok(bytes) => assert_eq!(rt; bytes.as_slice(), b"five!".as_slice()),
@@ -79,7 +112,7 @@ fn a_writer_is_a_sink(rt: HostRuntime) -> Result<(), Fail> {
 
 #[test]
 fn the_device_gives_random_bytes(rt: HostRuntime) -> Result<(), Fail> {
-    let mut random = RandomFile::open(&rt);
+    let mut random = RandomFile::open(&mut SystemFiles::new(rt.clone()?));
     let mut first = [0; 32];
     let mut second = [0; 32];
     assert!(rt; random.fill(&mut first).is_ok());

@@ -32,3 +32,12 @@ Answers answer result = result ≡ answer
 abbrev pub LoadGives : Option Files → List ℕ → ℕ → Result (List ℕ) LoadFault → Type 0
 LoadGives None name limit result = Unit {0}
 LoadGives (Some files) name limit result = Answers (load_answer (files name) limit) result
+
+-- a cabinet by its files, where it tells them, how often it failed, and how often a file was absent or too long
+pub record CabinetState : Type 0 where
+  pub files : Option Files
+  pub faults : ℕ
+  pub misses : ℕ
+
+abbrev pub cabinet_of : {C : Type 0} → (C → Option Files) → (C → ℕ) → (C → ℕ) → C → CabinetState
+cabinet_of files faults misses cabinet = record { files = files cabinet; faults = faults cabinet; misses = misses cabinet }

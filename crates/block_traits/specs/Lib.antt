@@ -3,3 +3,4 @@ pub mod Causes
 pub mod Content
 pub mod Crash
 pub mod Disk
+pub mod Streams

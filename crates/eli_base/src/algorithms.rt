@@ -1,5 +1,5 @@
 ghost use Rattle.std.specs.Prelude.{◌≡◌};
-ghost use Rattle.eli_base.specs.Algorithms.{allows_length};
+ghost use Rattle.eli_base.specs.Algorithms.{allows_length, auth_number, cipher_number};
 
 /// The cipher of a provider's data, geli(8) `-e`.
 #[derive(Clone, Copy, Debug, PartialEq, Eq)]
@@ -21,6 +21,16 @@ impl Cipher {
             Cipher::AesXts => keylen == 128 || keylen == 256,
         }
     }
+
+    /// Its number in the metadata (cryptodev.h).
+    pub fn number(self) -> u16
+        ensures { result ≡ cipher_number self }
+    {
+        match self {
+            Cipher::AesCbc => 11,
+            Cipher::AesXts => 22,
+        }
+    }
 }
 
 /// The authentication of a provider's data, geli(8) `-a`.
@@ -30,4 +40,16 @@ pub enum Auth {
     Off,
     /// HMAC/SHA256, number 18 in the metadata.
     Sha256,
+}
+
+impl Auth {
+    /// Its number in the metadata (cryptodev.h), 0 for none.
+    pub fn number(self) -> u16
+        ensures { result ≡ auth_number self }
+    {
+        match self {
+            Auth::Off => 0,
+            Auth::Sha256 => 18,
+        }
+    }
 }

@@ -1,10 +1,10 @@
 -- The status after a text was printed is that of its line.
 use Rattle.std.proofs.Common.{None, Some}
+use Rattle.block_traits.specs.Streams.{SinkState}
 use Rattle.command_words.specs.declared.commands.Command.{Command}
 use Rattle.geli_core.specs.Run.{EndsBy, EndsWith, status_of, usage_text}
 use Rattle.geli_core.specs.declared.status.Status.{Status}
 use Rattle.geli_core.specs.declared.status.Status.TheVariants.{Done, SomeRefused, BadWords, ReadFault, WriteFault, NoMemory, LineTooLong, ScriptTooLong}
-use Rattle.reply_text.specs.Output.{SinkState}
 use Rattle.reply_text.specs.Text.{reply_text}
 use Rattle.reply_text.specs.declared.Reply.{Reply}
 

@@ -1,5 +1,6 @@
 -- What a run does and prints, and the status with which it ends.
 use Rattle.std.specs.Prelude.{◌≡◌, ℕ, List, Option, Some, None, Bool, true, false, Result, Ok, Err, codes, length, nat_le, if◌then◌else◌}
+use Rattle.block_traits.specs.Streams.{SinkState, TookAll, TookPart}
 use Rattle.command_words.specs.Images.{line_of}
 use Rattle.command_words.specs.Reading.{reading}
 use Rattle.command_words.specs.declared.commands.Command.{Command}
@@ -8,7 +9,6 @@ use Rattle.command_words.specs.declared.commands.Usage.{Usage}
 use Rattle.command_words.specs.declared.spans.Sep.TheVariants.{Zeros}
 use Rattle.reply_text.specs.declared.Reply.{Reply}
 use Rattle.reply_text.specs.declared.Reply.TheVariants as replies
-use Rattle.reply_text.specs.Output.{SinkState, TookAll, TookPart}
 use Rattle.reply_text.specs.Text.{reply_text}
 use Rattle.shelf.specs.World.{World}
 use Rattle.shelf.specs.Turn.{Turn}

@@ -1,9 +1,8 @@
 // The run: the words are read, the command is served, and the reply is printed.
 ghost use Rattle.std.specs.Prelude.{◌≡◌, ◌≢◌, IsTrue, map, string_bytes};
+ghost use Rattle.block_traits.specs.Cabinet.{cabinet_of};
+ghost use Rattle.block_traits.specs.Streams.{entropy_of, sink_of};
 ghost use Rattle.command_words.specs.Images.{line_of};
-ghost use Rattle.key_commands.specs.Random.{entropy_of};
-ghost use Rattle.key_components.specs.Answers.{cabinet_of};
-ghost use Rattle.reply_text.specs.Output.{sink_of};
 ghost use Rattle.reply_text.specs.Text.{reply_text};
 ghost use Rattle.shelf.specs.World.{contents, drawers_of, world_of};
 ghost use Rattle.geli_core.specs.Run.{EndsBy, EndsWith, Runs, asks_no_write, command_in, status_of, usage_text};

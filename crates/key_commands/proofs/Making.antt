@@ -2,6 +2,7 @@
 use Rattle.std.proofs.Common.{◌≡◌, ℕ, ◌<◌, ◌^◌, length, drop, ap, None, Ok, Err, arith, length-drop}
 use Rattle.std.proofs.lemmas.List.{length-take-le}
 use Rattle.block_traits.specs.Disk.{DiskState}
+use Rattle.block_traits.specs.Streams.{EntropyState}
 use Rattle.eli_base.specs.declared.Refusal.{Refusal}
 use Rattle.eli_base.specs.declared.Refusal.TheVariants.{EntropyFault, DeviceFault}
 use Rattle.eli_metadata.specs.Format.{encoded, metadata_in}
@@ -9,7 +10,7 @@ use Rattle.eli_metadata.specs.declared.Metadata.{Metadata}
 use Rattle.key_commands.specs.Init.{Inits, MakesMetadata, RefusesInit}
 use Rattle.key_commands.specs.NewMetadata.{metadata_of}
 use Rattle.key_commands.specs.Options.{early_refusal}
-use Rattle.key_commands.specs.Random.{Draws, EntropyState, master_key_in}
+use Rattle.key_commands.specs.Random.{Draws, master_key_in}
 use Rattle.key_commands.specs.declared.options.InitOptions.{InitOptions}
 use Rattle.key_commands.specs.declared.random.RandomParts.{RandomParts}
 use Rattle.key_commands.proofs.Keys.{inside-early_refusal}

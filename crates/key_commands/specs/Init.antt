@@ -1,6 +1,7 @@
 -- What `init` answers, and what it does to the disk and the entropy (geli(8), init).
 use Rattle.std.specs.Prelude.{◌≡◌, ℕ, List, ◌∷◌, length, None, Some, Result, Ok, Err}
 use Rattle.block_traits.specs.Disk.{DiskState, FailsIn, Logs, last_sector, store_events}
+use Rattle.block_traits.specs.Streams.{EntropyState, Takes, TakesNone}
 use Rattle.block_traits.specs.declared.Event.{Event}
 use Rattle.block_traits.specs.declared.Event.TheVariants.{Flush}
 use Rattle.eli_base.specs.declared.Refusal.{Refusal}
@@ -14,7 +15,7 @@ use Rattle.key_commands.specs.declared.options.InitOptions.{InitOptions}
 use Rattle.key_commands.specs.Kept.{KeepsOldOr}
 use Rattle.key_commands.specs.NewMetadata.{new_metadata}
 use Rattle.key_commands.specs.Options.{early_refusal}
-use Rattle.key_commands.specs.Random.{EntropyState, Takes, TakesNone, random_size, salt_in, master_key_in}
+use Rattle.key_commands.specs.Random.{random_size, salt_in, master_key_in}
 use Rattle.key_commands.specs.Usable.{IsUsable}
 
 -- the disk is flushed, the sector of the metadata is written, and the disk is flushed

@@ -1,23 +1,12 @@
 -- The metadata of a new provider (g_eli.h, struct g_eli_metadata; geli(8), init).
 use Rattle.std.specs.Prelude.{ℕ, ◌+◌, ◌*◌, List, ◌++◌, Bool, true, false}
+use Rattle.eli_base.specs.Algorithms.{auth_number, cipher_number}
 use Rattle.eli_base.specs.declared.Auth.{Auth}
 use Rattle.eli_base.specs.declared.Auth.TheVariants.{Off, Sha256}
-use Rattle.eli_base.specs.declared.Cipher.{Cipher}
-use Rattle.eli_base.specs.declared.Cipher.TheVariants.{AesCbc, AesXts}
 use Rattle.eli_metadata.specs.declared.Metadata.{Metadata}
 use Rattle.key_slots.specs.Slots.{wrapped}
 use Rattle.key_commands.specs.declared.options.InitOptions.{InitOptions}
 use Rattle.key_commands.specs.Random.{salt_in, master_key_in, filler_in}
-
--- CRYPTO_AES_CBC is 11 and CRYPTO_AES_XTS 22
-abbrev pub cipher_number : Cipher → ℕ
-cipher_number AesCbc = 11
-cipher_number AesXts = 22
-
--- CRYPTO_SHA2_256_HMAC is 18
-abbrev pub auth_number : Auth → ℕ
-auth_number Off = 0
-auth_number Sha256 = 18
 
 -- G_ELI_FLAG_AUTH
 abbrev pub auth_flag : Auth → ℕ

@@ -2,37 +2,19 @@
 
 ghost use Rattle.std.specs.Prelude.{◌≡◌, ◌<◌, ◌≤◌, ◌^◌, ◌+◌, ◌++◌, Ok, OnOk, OnErr, length, take};
 ghost use Rattle.block_traits.specs.Disk.{FailsIn, Logs};
+ghost use Rattle.block_traits.specs.Streams.{entropy_of};
 ghost use Rattle.eli_metadata.specs.Format.{encoded, metadata_in};
 ghost use Rattle.key_commands.specs.Init.{Inits, init_events};
-ghost use Rattle.key_commands.specs.NewMetadata.{auth_flag, auth_number, autoresize_flag, cipher_number, metadata_of};
-ghost use Rattle.key_commands.specs.Random.{entropy_of};
+ghost use Rattle.key_commands.specs.NewMetadata.{auth_flag, autoresize_flag, metadata_of};
 ghost use Rattle.key_slots.specs.Slots.{IsKeyBits, Opens, wrapped};
 
 use crate::options::{InitOptions, VERSION, check};
 use crate::random::{RandomParts, draw};
 use block_traits::{Disk, DiskFailed, Entropy, store_last};
-use eli_base::{Auth, Cipher, Refusal};
+use eli_base::{Auth, Refusal};
 use eli_metadata::{Metadata, encode};
 use key_slots::wrap;
 use user_key::{Components, UserKey, derive};
-
-fn cipher_number(cipher: Cipher) -> u16
-    ensures { result ≡ cipher_number cipher }
-{
-    match cipher {
-        Cipher::AesCbc => 11,
-        Cipher::AesXts => 22,
-    }
-}
-
-fn auth_number(auth: Auth) -> u16
-    ensures { result ≡ auth_number auth }
-{
-    match auth {
-        Auth::Off => 0,
-        Auth::Sha256 => 18,
-    }
-}
 
 fn flags(options: &InitOptions) -> u32
     ensures { result ≡ auth_flag options.now.auth + autoresize_flag options.now.autoresize }
@@ -71,9 +53,9 @@ fn metadata_of(options: &InitOptions, sectors: u64, random: &RandomParts, key: &
     Metadata {
         version: VERSION,
         flags: flags(options),
-        ealgo: cipher_number(options.cipher),
+        ealgo: options.cipher.number(),
         keylen: options.keylen,
-        aalgo: auth_number(options.auth),
+        aalgo: options.auth.number(),
         provsize: 512 * sectors,
         sectorsize: options.sectorsize,
         keys: 1,

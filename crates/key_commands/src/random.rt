@@ -1,7 +1,8 @@
 //! The random bytes of a new provider.
 
 ghost use Rattle.std.specs.Prelude.{◌≡◌, IfOk, OnErr};
-ghost use Rattle.key_commands.specs.Random.{Draws, TakesNone, entropy_of, filler_in, master_key_in, salt_in};
+ghost use Rattle.block_traits.specs.Streams.{TakesNone, entropy_of};
+ghost use Rattle.key_commands.specs.Random.{Draws, filler_in, master_key_in, salt_in};
 
 use block_traits::{Entropy, EntropyFailed};
 use eli_base::MasterKey;

@@ -1,9 +1,10 @@
 -- Loads one after another.
 use Rattle.std.proofs.Common.{◌≤◌, refl, ◌∙◌, arith, inl, inr, Option, Some, None, IfSome}
 use Rattle.block_traits.proofs.Causes.{Rose-earlier}
+use Rattle.block_traits.specs.Cabinet.{CabinetState}
 use Rattle.eli_base.specs.declared.refusals.Refusal.{Refusal}
 use Rattle.eli_base.specs.declared.refusals.Refusal.TheVariants.{CabinetFault, FileAbsent, FileTooLong, NoMemory}
-use Rattle.key_components.specs.Answers.{CabinetState, Loads, MayRefuse}
+use Rattle.key_components.specs.Answers.{Loads, MayRefuse}
 
 pub Loads-nothing : (state : CabinetState) → Loads state state None
 Loads-nothing state = record { files = refl; faults = omega arith; misses = omega arith; cause = tt }

@@ -1,6 +1,6 @@
 -- What loading answers, and when a refusal may come.
 use Rattle.std.specs.Prelude.{◌≡◌, ◌≤◌, ◌⊎◌, ℕ, List, ◌∷◌, ◌++◌, Option, None, Some, IfSome, Result, Ok, Err}
-use Rattle.block_traits.specs.Cabinet.{Files, load_answer}
+use Rattle.block_traits.specs.Cabinet.{CabinetState, Files, load_answer}
 use Rattle.block_traits.specs.Causes.{Rose}
 use Rattle.block_traits.specs.declared.cabinet.LoadFault.{LoadFault}
 use Rattle.block_traits.specs.declared.cabinet.LoadFault.TheVariants as load
@@ -65,15 +65,6 @@ pub record IsBehind (told : Option Files) (line : List ℕ) (words : KeyWords) (
 -- the same among all files of a key
 abbrev pub IsReached : Option Files → List ℕ → KeyWords → ℕ → Type 0
 IsReached told line words word = IsAt key_files told line words.files word ⊎ IsBehind told line words word
-
--- a cabinet by its files, where it tells them, how often it failed, and how often a file was absent or too long
-pub record CabinetState : Type 0 where
-  pub files : Option Files
-  pub faults : ℕ
-  pub misses : ℕ
-
-abbrev pub cabinet_of : {C : Type 0} → (C → Option Files) → (C → ℕ) → (C → ℕ) → C → CabinetState
-cabinet_of files faults misses cabinet = record { files = files cabinet; faults = faults cabinet; misses = misses cabinet }
 
 -- whether such a refusal may come, by what the cabinet was before and is now; no other refusal comes
 abbrev pub MayRefuse : CabinetState → CabinetState → Refusal → Type 0

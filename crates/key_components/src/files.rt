@@ -2,8 +2,9 @@
 
 ghost use Rattle.std.specs.Prelude.{◌≡◌, ◌≤◌, length, IfOk, IfErr, IfSome};
 ghost use Rattle.std.specs.Result.{result_err};
+ghost use Rattle.block_traits.specs.Cabinet.{cabinet_of};
 ghost use Rattle.command_words.specs.Places.{IsWithin, bytes_at};
-ghost use Rattle.key_components.specs.Answers.{IsAnswer, Loads, cabinet_of, file_answer, refusal_of, word_of};
+ghost use Rattle.key_components.specs.Answers.{IsAnswer, Loads, file_answer, refusal_of, word_of};
 
 use block_traits::{ByteList, Cabinet, LoadFault};
 use command_words::Span;

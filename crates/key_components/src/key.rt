@@ -2,8 +2,9 @@
 
 ghost use Rattle.std.specs.Prelude.{◌≡◌, length, min, IfOk, IfErr, IfSome};
 ghost use Rattle.std.specs.Result.{result_err};
+ghost use Rattle.block_traits.specs.Cabinet.{cabinet_of};
 ghost use Rattle.command_words.specs.Places.{KeyIsWithin};
-ghost use Rattle.key_components.specs.Answers.{IsAnswer, IsReached, Loads, cabinet_of, word_of};
+ghost use Rattle.key_components.specs.Answers.{IsAnswer, IsReached, Loads, word_of};
 ghost use Rattle.key_components.specs.Key.{FitsWords, components_of, passphrase_of};
 
 use crate::parts::{Part, load_part};

@@ -2,9 +2,10 @@
 
 ghost use Rattle.std.specs.Prelude.{◌≡◌, ◌+◌, ◌≤◌, ◌⊎◌, All, length, IfOk, IfErr, IfSome};
 ghost use Rattle.std.specs.Result.{result_err};
+ghost use Rattle.block_traits.specs.Cabinet.{cabinet_of};
 ghost use Rattle.command_words.specs.Places.{IsWithin, bytes_at};
 ghost use Rattle.user_key.specs.Passphrase.{first_line};
-ghost use Rattle.key_components.specs.Answers.{IsAnswer, IsAt, Loads, cabinet_of, unless, word_of};
+ghost use Rattle.key_components.specs.Answers.{IsAnswer, IsAt, Loads, unless, word_of};
 ghost use Rattle.key_components.specs.Files.{content, first_fault, joined, passphrase_limit};
 ghost use Rattle.key_components.specs.Parts.{limit_of, line_fault, taking_of};
 

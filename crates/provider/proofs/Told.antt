@@ -5,7 +5,8 @@ use Rattle.eli_base.specs.declared.algorithms.Auth.TheVariants.{Off, Sha256}
 use Rattle.eli_base.specs.declared.algorithms.Cipher.{Cipher}
 use Rattle.eli_base.specs.declared.algorithms.Cipher.TheVariants.{AesCbc, AesXts}
 use Rattle.eli_base.specs.Keying.{Keying}
-use Rattle.provider.specs.Rest.{auth_number, cipher_number, truth_number, rest_numbers}
+use Rattle.eli_base.specs.Algorithms.{auth_number, cipher_number}
+use Rattle.provider.specs.Rest.{truth_number, rest_numbers}
 
 auth-same : (a b : Auth) → auth_number a ≡ auth_number b → a ≡ b
 auth-same Off Off h = refl

@@ -6,8 +6,9 @@ use Rattle.std.proofs.lemmas.List.Folds.{concat-append}
 use Rattle.std.proofs.lemmas.Bool.{false≢true}
 use Rattle.std.specs.List.{concat}
 use Rattle.std.specs.Io.KnownBytes.{append_known}
+use Rattle.block_traits.specs.Streams.{SinkState, TookAll, TookPart}
 use Rattle.reply_text.specs.declared.print.WriteEnd.{WriteEnd}
-use Rattle.reply_text.specs.Output.{SinkState, TookAll, TookPart, Prints}
+use Rattle.reply_text.specs.Output.{Prints}
 
 append_known-then : (known : Option (List ℕ)) (first second : List ℕ) → append_known (append_known known first) second ≡ append_known known (first ++ second)
 append_known-then None first second = refl

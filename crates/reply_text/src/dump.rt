@@ -1,8 +1,9 @@
 // The metadata, line by line.
 ghost use Rattle.std.specs.Prelude.{◌≡◌, ◌*◌, length, codes, false};
 ghost use Rattle.std.specs.Fmt.{decimal, signed_decimal, digits};
+ghost use Rattle.block_traits.specs.Streams.{sink_of};
 ghost use Rattle.hex.specs.Hex.{encode_lower};
-ghost use Rattle.reply_text.specs.Output.{Prints, sink_of};
+ghost use Rattle.reply_text.specs.Output.{Prints};
 ghost use Rattle.reply_text.specs.Text.{line, dump_text, format_lines, size_lines, key_lines};
 
 use crate::hexadecimal::hexadecimal;

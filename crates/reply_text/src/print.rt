@@ -1,7 +1,8 @@
 // Texts given to a sink, piece by piece.
 ghost use Rattle.std.specs.Prelude.{◌≡◌, ◌++◌, ◌∷◌, [], map};
 ghost use Rattle.std.specs.List.{concat};
-ghost use Rattle.reply_text.specs.Output.{Prints, sink_of};
+ghost use Rattle.block_traits.specs.Streams.{sink_of};
+ghost use Rattle.reply_text.specs.Output.{Prints};
 ghost use Rattle.reply_text.specs.Text.{line};
 
 use block_traits::Sink;

@@ -1,6 +1,7 @@
 // What is answered to a command, and how it is printed.
 ghost use Rattle.std.specs.Prelude.{◌≡◌};
-ghost use Rattle.reply_text.specs.Output.{Prints, sink_of};
+ghost use Rattle.block_traits.specs.Streams.{sink_of};
+ghost use Rattle.reply_text.specs.Output.{Prints};
 ghost use Rattle.reply_text.specs.Text.{reply_text, refusal_text, refusal_numbers, number_fields, reason_field, refusal_head, field};
 ghost use Rattle.std.specs.Fmt.{decimal};
 

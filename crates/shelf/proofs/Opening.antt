@@ -3,7 +3,7 @@ use Rattle.std.proofs.Common.{◌≡◌, ◌==◌, ◌∙◌, ℕ, ◌-◌, ◌*
 use Rattle.std.proofs.Math.Nat.{zero-div}
 use Rattle.std.proofs.lemmas.Grind.{common_steps}
 use Rattle.std.proofs.lemmas.Bool.Decides.{Decides-eqb}
-use Rattle.block_traits.specs.Cabinet.{Files}
+use Rattle.block_traits.specs.Cabinet.{CabinetState, Files}
 use Rattle.block_traits.specs.Causes.{Rose}
 use Rattle.block_traits.specs.Content.{Content, logged, present, present_after, with_events}
 use Rattle.block_traits.specs.Disk.{DiskState, Gives, GivesFrom, Logs, FitsSize, last_sector}
@@ -30,7 +30,7 @@ use Rattle.key_commands.specs.Init.{init_events}
 use Rattle.key_commands.specs.Random.{master_key_in}
 use Rattle.key_commands.specs.Usable.{IsAccepted, IsUsable, OpensFirst, settings_for}
 use Rattle.key_commands.specs.declared.options.InitOptions.{InitOptions}
-use Rattle.key_components.specs.Answers.{CabinetState, IsAnswer, IsRefusal, MayRefuse}
+use Rattle.key_components.specs.Answers.{IsAnswer, IsRefusal, MayRefuse}
 use Rattle.key_slots.specs.Slots.{numbered}
 use Rattle.key_components.specs.Key.{components_of}
 use Rattle.provider.specs.Attached.{opened}

@@ -2,11 +2,12 @@
 use Rattle.std.proofs.Common.{ℕ, List, IfOk, IfSome, Result, Ok, Err, refl}
 use Rattle.std.specs.Prelude.{IfErr}
 use Rattle.std.specs.Result.{result_err}
+use Rattle.block_traits.specs.Cabinet.{CabinetState}
 use Rattle.block_traits.specs.Disk.{DiskState}
+use Rattle.block_traits.specs.Streams.{EntropyState}
 use Rattle.command_words.specs.declared.spans.KeyWords.{KeyWords}
 use Rattle.eli_base.specs.declared.refusals.Refusal.{Refusal}
-use Rattle.key_commands.specs.Random.{EntropyState}
-use Rattle.key_components.specs.Answers.{CabinetState, IsAnswer, IsReached, Loads, word_of}
+use Rattle.key_components.specs.Answers.{IsAnswer, IsReached, Loads, word_of}
 use Rattle.key_components.specs.Key.{FitsWords, components_of}
 use Rattle.user_key.specs.declared.components.Components.{Components}
 use Rattle.shelf.specs.Steps.{LoadsComponents, Then}

@@ -1,11 +1,10 @@
 -- That `attach -C` opens what `init` made.
 use Rattle.std.specs.Prelude.{◌≡◌, ℕ, List, Some, Result, Ok, Err}
-use Rattle.block_traits.specs.Cabinet.{Files}
+use Rattle.block_traits.specs.Cabinet.{CabinetState, Files}
 use Rattle.block_traits.specs.Causes.{Rose}
 use Rattle.command_words.specs.declared.spans.KeyWords.{KeyWords}
 use Rattle.eli_base.specs.declared.refusals.Refusal.{Refusal}
 use Rattle.eli_base.specs.declared.refusals.Refusal.TheVariants as refusals
-use Rattle.key_components.specs.Answers.{CabinetState}
 use Rattle.key_components.specs.Key.{components_of}
 use Rattle.shelf.specs.World.{Reach}
 

@@ -1,7 +1,7 @@
 -- The steps of which commands consist. A step answers a value or a refusal, and may change what the command reaches.
 use Rattle.std.specs.Prelude.{◌≡◌, ℕ, ◌≤◌, List, Option, Some, None, IfOk, IfErr, IfSome, Result, Ok, Err, if◌then◌else◌, ◌==◌}
 use Rattle.std.specs.Result.{result_err}
-use Rattle.block_traits.specs.Cabinet.{stored}
+use Rattle.block_traits.specs.Cabinet.{CabinetState, stored}
 use Rattle.block_traits.specs.Causes.{Rose}
 use Rattle.block_traits.specs.Disk.{DiskState}
 use Rattle.command_words.specs.Places.{bytes_at}
@@ -20,7 +20,7 @@ use Rattle.eli_metadata.specs.declared.metadata.MetaFault.{MetaFault}
 use Rattle.eli_metadata.specs.declared.place.ReadMetaFault.{ReadMetaFault}
 use Rattle.key_commands.specs.Init.{Inits}
 use Rattle.key_commands.specs.declared.options.InitOptions.{InitOptions}
-use Rattle.key_components.specs.Answers.{CabinetState, IsAnswer, IsReached, Loads, word_of}
+use Rattle.key_components.specs.Answers.{IsAnswer, IsReached, Loads, word_of}
 use Rattle.key_components.specs.Key.{FitsWords, components_of}
 use Rattle.provider.specs.Attached.{opened}
 use Rattle.user_key.specs.UserKey.{user_key}

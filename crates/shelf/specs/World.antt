@@ -2,10 +2,10 @@
 use Rattle.std.specs.Prelude.{ℕ, ◌+◌, List, [], ◌∷◌, Option, Some, None, map, if◌then◌else◌}
 use Rattle.std.specs.Option.{option_map}
 use Rattle.std.specs.Str.{bytes_eq}
+use Rattle.block_traits.specs.Cabinet.{CabinetState}
 use Rattle.block_traits.specs.Content.{Content}
 use Rattle.block_traits.specs.Disk.{DiskState}
-use Rattle.key_commands.specs.Random.{EntropyState}
-use Rattle.key_components.specs.Answers.{CabinetState}
+use Rattle.block_traits.specs.Streams.{EntropyState}
 use Rattle.shelf.specs.declared.drawer.Drawer.{Drawer}
 
 -- a drawer: its name, and what its disk tells of itself

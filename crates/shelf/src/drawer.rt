@@ -1,7 +1,7 @@
 // A named disk.
+ghost use Rattle.block_traits.specs.Cabinet.{cabinet_of};
+ghost use Rattle.block_traits.specs.Streams.{entropy_of};
 ghost use Rattle.command_words.specs.Places.{CommandIsWithin};
-ghost use Rattle.key_commands.specs.Random.{entropy_of};
-ghost use Rattle.key_components.specs.Answers.{cabinet_of};
 ghost use Rattle.shelf.specs.Turn.{Serves, done_or, dump_or};
 ghost use Rattle.shelf.specs.World.{reach_of};
 ghost use Rattle.std.specs.Prelude.{◌≡◌, length};

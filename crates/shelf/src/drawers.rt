@@ -1,9 +1,9 @@
 // The drawers in order of adding.
 ghost use Rattle.std.specs.Prelude.{◌≡◌, ◌<◌, ◌≤◌, ◌∷◌, ◌++◌, [], IfOk, IfSome, MatchResult, length, option_copied, vec_capacity, vec_len};
 ghost use Rattle.std.specs.List.{insert};
+ghost use Rattle.block_traits.specs.Cabinet.{cabinet_of};
+ghost use Rattle.block_traits.specs.Streams.{entropy_of};
 ghost use Rattle.command_words.specs.Places.{CommandIsWithin};
-ghost use Rattle.key_commands.specs.Random.{entropy_of};
-ghost use Rattle.key_components.specs.Answers.{cabinet_of};
 ghost use Rattle.shelf.specs.Adding.{Adds, RefusesToAdd};
 ghost use Rattle.shelf.specs.Turn.{Shows, Turn};
 ghost use Rattle.shelf.specs.World.{drawers_of, place_of, world_of};

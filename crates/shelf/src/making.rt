@@ -1,10 +1,10 @@
 //! `geli init`: a provider is made, and its metadata are backed up (geli(8), init).
 
 ghost use Rattle.std.specs.Prelude.{◌≡◌, IfSome, length};
+ghost use Rattle.block_traits.specs.Cabinet.{cabinet_of};
 ghost use Rattle.block_traits.specs.Disk.{DiskState};
+ghost use Rattle.block_traits.specs.Streams.{EntropyState, entropy_of};
 ghost use Rattle.command_words.specs.Places.{IsWithin, KeyIsWithin};
-ghost use Rattle.key_commands.specs.Random.{EntropyState, entropy_of};
-ghost use Rattle.key_components.specs.Answers.{cabinet_of};
 ghost use Rattle.shelf.specs.Steps.{BacksUp};
 ghost use Rattle.shelf.specs.Turn.{InitRow, iterations_of};
 ghost use Rattle.shelf.specs.World.{reach_of};

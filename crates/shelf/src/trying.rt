@@ -1,10 +1,10 @@
 //! `geli attach -C`: a key is tried, and nothing is attached (geli(8), attach).
 
 ghost use Rattle.std.specs.Prelude.{◌≡◌, ◌<◌, ◌^◌, IfOk, OnOk, MatchResult, Ok, Err, length};
+ghost use Rattle.block_traits.specs.Cabinet.{cabinet_of};
+ghost use Rattle.block_traits.specs.Streams.{EntropyState};
 ghost use Rattle.command_words.specs.Places.{KeyIsWithin};
 ghost use Rattle.eli_metadata.specs.Check.{settings_of, slot_matches, supported};
-ghost use Rattle.key_commands.specs.Random.{EntropyState};
-ghost use Rattle.key_components.specs.Answers.{cabinet_of};
 ghost use Rattle.shelf.specs.Steps.{admitted, key_refusal_of, tried};
 ghost use Rattle.shelf.specs.Turn.{TryRow};
 ghost use Rattle.shelf.specs.World.{reach_of};

@@ -1,5 +1,5 @@
-use Rattle.key_commands.specs.Random.{entropy_of}
-use Rattle.key_components.specs.Answers.{cabinet_of}
+use Rattle.block_traits.specs.Cabinet.{cabinet_of}
+use Rattle.block_traits.specs.Streams.{entropy_of}
 use Rattle.shelf.specs.World.{World, drawers_of}
 use Rattle.geli_core.proofs.Histories.{contents_after_reading}
 use Rattle.geli_core.proofs.top_call.run.Goals as goal

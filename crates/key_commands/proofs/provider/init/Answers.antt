@@ -3,9 +3,9 @@ use Rattle.std.specs.Prelude.{FitsSigned}
 use Rattle.std.specs.Int.{w32}
 use Rattle.std.proofs.lemmas.Int.{to_z-of_z}
 use Rattle.std.proofs.lemmas.Result.{err_from_is_err_and}
+use Rattle.block_traits.specs.Streams.{entropy_of}
 use Rattle.key_commands.specs.Init.{MakesMetadata}
 use Rattle.key_commands.specs.Options.{early_refusal}
-use Rattle.key_commands.specs.Random.{entropy_of}
 use Rattle.key_commands.proofs.Keeping.{KeepsOldOr-init, KeepsOldOr-part}
 use Rattle.key_commands.proofs.Making.{Inits-refused, makes}
 use Rattle.key_commands.proofs.provider.init.Goals as goal

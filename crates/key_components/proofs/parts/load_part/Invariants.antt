@@ -1,5 +1,6 @@
 use Rattle.std.proofs.Common.{◌≤◌, take, length, None}
-use Rattle.key_components.specs.Answers.{Loads, cabinet_of}
+use Rattle.block_traits.specs.Cabinet.{cabinet_of}
+use Rattle.key_components.specs.Answers.{Loads}
 use Rattle.key_components.specs.Parts.{limit_of, taking_of}
 use Rattle.key_components.proofs.Taken.{TakenSo}
 use Rattle.key_components.proofs.parts.load_part.Given as goal

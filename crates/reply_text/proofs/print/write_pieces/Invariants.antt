@@ -1,6 +1,6 @@
 use Rattle.std.proofs.Common.{map, take}
 use Rattle.std.specs.List.{concat}
-use Rattle.reply_text.specs.Output.{TookAll, sink_of}
+use Rattle.block_traits.specs.Streams.{TookAll, sink_of}
 use Rattle.reply_text.proofs.print.write_pieces.Given as goal
 
 -- the pieces so far were printed

@@ -1,5 +1,5 @@
 use Rattle.std.proofs.Common.{◌≤◌, ◌-◌, length, take}
-use Rattle.reply_text.specs.Output.{TookAll, sink_of}
+use Rattle.block_traits.specs.Streams.{TookAll, sink_of}
 use Rattle.reply_text.proofs.print.write_text.Given as goal
 
 abbrev pub invariant-loop-given : goal.invariant-loop-given

@@ -1,5 +1,5 @@
 use Rattle.std.proofs.Common.{take}
-use Rattle.reply_text.specs.Output.{TookAll, sink_of}
+use Rattle.block_traits.specs.Streams.{TookAll, sink_of}
 use Rattle.reply_text.specs.Text.{number_fields}
 use Rattle.reply_text.proofs.reply.write_numbers.Given as goal
 

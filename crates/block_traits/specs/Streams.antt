@@ -1,0 +1,44 @@
+-- What a sink and entropy tell of themselves, and what calls of them do.
+use Rattle.std.specs.Prelude.{◌≡◌, ℕ, ◌≤◌, List, length, take, Option}
+use Rattle.std.specs.Io.KnownBytes.{append_known, prepend_known}
+use Rattle.block_traits.specs.Causes.{Rose}
+
+-- a sink by the bytes that it took, where it tells them, and how often it failed
+pub record SinkState : Type 0 where
+  pub taken : Option (List ℕ)
+  pub faults : ℕ
+
+abbrev pub sink_of : {K : Type 0} → (K → Option (List ℕ)) → (K → ℕ) → K → SinkState
+sink_of taken faults sink = record { taken = taken sink; faults = faults sink }
+
+-- the sink took the whole text
+pub record TookAll (text : List ℕ) (old new : SinkState) : Type 0 where
+  pub took : new.taken ≡ append_known old.taken text
+  pub later : old.faults ≤ new.faults
+
+-- the sink failed, and took the first bytes of the text and no others
+pub record TookPart (text : List ℕ) (old new : SinkState) : Type 0 where
+  pub count : ℕ
+  pub within : count ≤ length text
+  pub took : new.taken ≡ append_known old.taken (take count text)
+  pub later : old.faults ≤ new.faults
+  pub rose : Rose old.faults new.faults
+
+-- entropy by the bytes that it has left, where it tells them, and how often it failed
+pub record EntropyState : Type 0 where
+  pub left : Option (List ℕ)
+  pub faults : ℕ
+
+abbrev pub entropy_of : {E : Type 0} → (E → Option (List ℕ)) → (E → ℕ) → E → EntropyState
+entropy_of left faults entropy = record { left = left entropy; faults = faults entropy }
+
+-- these bytes were taken in one piece, and no others
+pub record Takes (bytes : List ℕ) (old new : EntropyState) : Type 0 where
+  pub taken : old.left ≡ prepend_known bytes new.left
+  pub later : old.faults ≤ new.faults
+
+-- nothing was taken, and the entropy failed
+pub record TakesNone (old new : EntropyState) : Type 0 where
+  pub left : new.left ≡ old.left
+  pub later : old.faults ≤ new.faults
+  pub rose : Rose old.faults new.faults

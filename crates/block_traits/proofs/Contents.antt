@@ -68,9 +68,6 @@ AreSectors-kept_values size c n content small =
 pub All-kept_values : (size : ℕ) (c : Content) (n : ℕ) → IsContentOf size c → n < size → All IsSector (kept_values c n)
 All-kept_values size c n content small = (AreSectors-kept_values size c n content small).all
 
-pub IsSector-present : (size : ℕ) (c : Content) (n : ℕ) → IsContentOf size c → n < size → IsSector (present c n)
-IsSector-present size c n content small = rw (← last_of-kept_values c n) (AreSectors-kept_values size c n content small).last
-
 -- events that fit may follow
 pub IsContentOf-more : (size : ℕ) (events : List Event) (c : Content) → IsContentOf size c → All (IsEventOf size) events → IsContentOf size (with_events events c)
 IsContentOf-more size events c content fit = record {

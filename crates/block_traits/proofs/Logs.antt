@@ -57,19 +57,6 @@ FailsIn-next event more one fails = FailsIn-then (event ∷ []) more one fails
 pub Continues-start : (events : List Event) (start : DiskState) → Continues events events start start
 Continues-start events start = record { whole = λ new logs. logs; part = λ new fails. fails }
 
-pub Continues-next : (event : Event) (left all : List Event) {middle start next : DiskState} → Continues (event ∷ left) all middle start → Logs (event ∷ []) middle next → Continues left all next start
-Continues-next event left all continues one = record {
-  whole = λ new logs. continues.whole new (Logs-then (event ∷ []) left one logs);
-  part = λ new fails. continues.part new (FailsIn-next event left one fails);
-}
-
--- a read in between
-pub Continues-same : (left all : List Event) {middle start next : DiskState} → Continues left all middle start → Logs [] middle next → Continues left all next start
-Continues-same left all continues none = record {
-  whole = λ new logs. continues.whole new (Logs-then [] left none logs);
-  part = λ new fails. continues.part new (FailsIn-then [] left none fails);
-}
-
 -- the last event was logged
 pub Continues-end : (all : List Event) {middle start : DiskState} → Continues [] all middle start → Logs all start middle
 Continues-end all {middle} continues = continues.whole middle (Logs-nothing middle)

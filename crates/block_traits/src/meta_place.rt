@@ -52,7 +52,8 @@ impl<D: Disk> LastSector<D> {
     pub fn into_disk(self) -> D
         ensures { result ≡ self.disk }
     {
-        self.disk
+        let LastSector { disk } = self;
+        disk
     }
 }
 

@@ -47,7 +47,8 @@ pub enum Refusal {
     BadVersion { found: u32 },
     /// The MD5 of the metadata differs.
     BadHash,
-    /// Two sizes in bytes differ: the one that the metadata keeps, and the one found.
+    /// Two sizes in bytes differ: the one that the metadata keeps, and the one found. Or the kept one
+    /// is 2^53 or more, and `found` is 0.
     BadSize { kept: u64, found: u64 },
     /// The metadata names a cipher that is not served.
     UnsupportedCipher { found: u16 },
@@ -63,9 +64,9 @@ pub enum Refusal {
     NoValidKeys,
     /// No set slot, or not the named one, opens with the key.
     WrongKey,
-    /// Neither a passphrase nor a key file was given.
+    /// The key is to have no passphrase, and no key file was given.
     NoKeyComponents,
-    /// A passphrase was given, and the metadata has none.
+    /// The metadata says that no passphrase was set up, and the key isn't said to be without one.
     PassphraseNotSet,
     /// There is no slot of this number.
     KeyNumberOutOfRange { given: u8 },

@@ -42,10 +42,10 @@ fn sealed(k1: &Schedule, plain: Block, tweak: u128) -> Block
 fn opened(k1: &Schedule, cipher: Block, tweak: u128) -> Block
     ensures { let mask = to_le_bytes w128 tweak in result ≡ xor (decrypt k1.now (xor cipher mask)) mask }
 {
-    let whitening = tweak.to_le_bytes();
-    let mut out = xor(cipher, whitening);
+    let mask = tweak.to_le_bytes();
+    let mut out = xor(cipher, mask);
     k1.decrypt_block(&mut out);
-    xor(out, whitening)
+    xor(out, mask)
 }
 
 /// Enciphers the whole blocks of one data unit in place (IEEE 1619, 5.3): `k1` is the key of the

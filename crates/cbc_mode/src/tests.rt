@@ -12,7 +12,7 @@ fn bytes_of(numbers: [u128; 2]) -> [u8; 32] {
     out
 }
 
-// The plain text of NIST SP 800-38A, appendix F, and cipher texts of it.
+// The blocks of a text, the first number first and each big-endian.
 fn text_of(numbers: [u128; 4]) -> [u8; 64] {
     let mut out = [0u8; 64];
     out[..32].copy_from_slice(&bytes_of([numbers[0], numbers[1]]));
@@ -20,59 +20,74 @@ fn text_of(numbers: [u128; 4]) -> [u8; 64] {
     out
 }
 
+// A key, and what the plain text of the standard is enciphered to under it.
+#[derive(Clone, Copy)]
+struct Vector {
+    key: [u128; 2],
+    key_length: usize,
+    cipher: [u128; 4],
+}
+
+const PLAIN: [u128; 4] = [
+    0x6bc1bee22e409f96e93d7e117393172a,
+    0xae2d8a571e03ac9c9eb76fac45af8e51,
+    0x30c81c46a35ce411e5fbc1191a0a52ef,
+    0xf69f2445df4f9b17ad2b417be66c3710,
+];
+
+const INITIAL_VECTOR: u128 = 0x000102030405060708090a0b0c0d0e0f;
+
 // NIST SP 800-38A, F.2.1 to F.2.6.
+const VECTORS: [Vector; 3] = [
+    Vector {
+        key: [0x2b7e151628aed2a6abf7158809cf4f3c, 0],
+        key_length: 16,
+        cipher: [
+            0x7649abac8119b246cee98e9b12e9197d,
+            0x5086cb9b507219ee95db113a917678b2,
+            0x73bed6b8e3c1743b7116e69e22229516,
+            0x3ff1caa1681fac09120eca307586e1a7,
+        ],
+    },
+    Vector {
+        key: [
+            0x8e73b0f7da0e6452c810f32b809079e5,
+            0x62f8ead2522c6b7b0000000000000000,
+        ],
+        key_length: 24,
+        cipher: [
+            0x4f021db243bc633d7178183a9fa071e8,
+            0xb4d9ada9ad7dedf4e5e738763f69145a,
+            0x571b242012fb7ae07fa9baac3df102e0,
+            0x08b0e27988598881d920a9e64f5615cd,
+        ],
+    },
+    Vector {
+        key: [
+            0x603deb1015ca71be2b73aef0857d7781,
+            0x1f352c073b6108d72d9810a30914dff4,
+        ],
+        key_length: 32,
+        cipher: [
+            0xf58c4c04d6e5f1ba779eabfb5f7bfbd6,
+            0x9cfc4e967edb808d679f777bc6702c7d,
+            0x39f23369a9d9bacfa530e26304231461,
+            0xb2eb05e2c39be9fcda6c19078c6a9d1b,
+        ],
+    },
+];
+
 #[test]
 fn vectors_of_the_standard(rt: HostRuntime) -> Result<(), Fail> {
-    let plain = text_of([
-        0x6bc1bee22e409f96e93d7e117393172a,
-        0xae2d8a571e03ac9c9eb76fac45af8e51,
-        0x30c81c46a35ce411e5fbc1191a0a52ef,
-        0xf69f2445df4f9b17ad2b417be66c3710,
-    ]);
-    let iv = 0x000102030405060708090a0b0c0d0e0fu128.to_be_bytes();
-    for (key, length, cipher) in [
-        (
-            [0x2b7e151628aed2a6abf7158809cf4f3c, 0],
-            16usize,
-            [
-                0x7649abac8119b246cee98e9b12e9197d,
-                0x5086cb9b507219ee95db113a917678b2,
-                0x73bed6b8e3c1743b7116e69e22229516,
-                0x3ff1caa1681fac09120eca307586e1a7,
-            ],
-        ),
-        (
-            [
-                0x8e73b0f7da0e6452c810f32b809079e5,
-                0x62f8ead2522c6b7b0000000000000000,
-            ],
-            24,
-            [
-                0x4f021db243bc633d7178183a9fa071e8,
-                0xb4d9ada9ad7dedf4e5e738763f69145a,
-                0x571b242012fb7ae07fa9baac3df102e0,
-                0x08b0e27988598881d920a9e64f5615cd,
-            ],
-        ),
-        (
-            [
-                0x603deb1015ca71be2b73aef0857d7781,
-                0x1f352c073b6108d72d9810a30914dff4,
-            ],
-            32,
-            [
-                0xf58c4c04d6e5f1ba779eabfb5f7bfbd6,
-                0x9cfc4e967edb808d679f777bc6702c7d,
-                0x39f23369a9d9bacfa530e26304231461,
-                0xb2eb05e2c39be9fcda6c19078c6a9d1b,
-            ],
-        ),
-    ] {
+    let plain = text_of(PLAIN);
+    let iv = INITIAL_VECTOR.to_be_bytes();
+    for vector in VECTORS {
+        let length = vector.key_length;
         assert!(rt; length <= 32);
-        let k = Schedule::new(&bytes_of(key)[..length]).ok_or("a key was refused")?;
+        let k = Schedule::new(&bytes_of(vector.key)[..length]).ok_or("a key was refused")?;
         let mut text = plain;
         cbc_seal(&k, &iv, &mut text);
-        assert_eq!(rt; text, text_of(cipher), "{length}");
+        assert_eq!(rt; text, text_of(vector.cipher), "{length}");
         cbc_open(&k, &iv, &mut text);
         assert_eq!(rt; text, plain, "{length}");
     }

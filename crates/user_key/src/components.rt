@@ -41,7 +41,7 @@ pub enum KeyFault {
     /// A passphrase is wanted, and no file gives it.
     #[error("a passphrase is needed")]
     PassphraseNeeded,
-    /// There is neither a passphrase nor a key file.
+    /// The key is to have no passphrase, and no key file was given.
     #[error("no key components are given")]
     NoKeyComponents,
 }

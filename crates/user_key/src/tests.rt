@@ -26,7 +26,8 @@ const SALT: [u8; 64] = [
     0xb0, 0xb1, 0xb2, 0xb3, 0xb4, 0xb5, 0xb6, 0xb7, 0xb8, 0xb9, 0xba, 0xbb, 0xbc, 0xbd, 0xbe, 0xbf,
 ];
 
-// The keys are from another implementation of the rules of geli(8), and agree with Python's hmac and hashlib.
+// The first seven keys are from another implementation of the rules of geli(8); all agree with Python's hmac and
+// hashlib.
 const KEY_CASES: [KeyCase; 9] = [
     KeyCase {
         keyfile_count: 1,

@@ -1,5 +1,5 @@
 -- Files by their names.
-use Rattle.std.proofs.Common.{◌≡◌, ℕ, ◌+◌, Bool, true, false, cond, List, [], ◌∷◌, ◌++◌, set, Option, Some, None, option_map, bytes_eq, refl, ap, ◌∙◌, sym, add-one, true≢false}
+use Rattle.std.proofs.Common.{◌≡◌, ℕ, ◌+◌, Bool, true, false, cond, List, [], ◌∷◌, ◌++◌, set, get_or, Option, Some, None, option_map, bytes_eq, refl, ap, ◌∙◌, sym, add-one, true≢false}
 use mathlib.Core.Path.{fun_ext}
 use Rattle.std.proofs.lemmas.Slice.Eq.{bytes_eq-Decides}
 use Rattle.block_traits.specs.Cabinet.{with_file}
@@ -77,3 +77,16 @@ files_of-put_at name bytes files place new found is =
     ap (file_in other) (put_at-place_in file files)
     ∙ file_in-replaced other file files
     ∙ ap (λ (b : Bool). cond b (Some bytes) (file_in other files)) (bytes_eq-sym name other))
+
+-- whether the head has the name
+bytes_at-step : (same : Bool) (place : Option ℕ) (other file : NamedFile) (files : List NamedFile) → cond same (Some file.bytes) (option_map (λ n. (get_or files n other).bytes) place) ≡ option_map (λ n. (get_or (file ∷ files) n other).bytes) (cond same (Some 0) (option_map (λ n. n + 1) place))
+bytes_at-step true place other file files = refl
+bytes_at-step false None other file files = refl
+bytes_at-step false (Some n) other file files = rw add-one refl
+
+-- the bytes of the file at the place that is found for its name
+pub file_in-place_in : (name : List ℕ) (files : List NamedFile) (other : NamedFile) → file_in name files ≡ option_map (λ n. (get_or files n other).bytes) (place_in name files)
+file_in-place_in name [] other = refl
+file_in-place_in name (file ∷ files) other =
+    ap (cond (bytes_eq file.name name) (Some file.bytes)) (file_in-place_in name files other)
+    ∙ bytes_at-step (bytes_eq file.name name) (place_in name files) other file files

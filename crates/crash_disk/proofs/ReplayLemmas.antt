@@ -34,13 +34,6 @@ get_or-replayed base (Write m bytes ∷ events) n small =
     ∙ ap (present_after events n) (get_or-set_at base m n bytes small)
 get_or-replayed base (Flush ∷ events) n small = get_or-replayed base events n small
 
-pub replayed-flush : (base present : List (List ℕ)) (before now : List Event) → present ≡ replayed base before → now ≡ before ++ Flush ∷ [] → present ≡ replayed base now
-replayed-flush base present before now same more = same ∙ sym (replayed-append base before (Flush ∷ [])) ∙ ap (replayed base) (sym more)
-
-pub replayed-write : (base present : List (List ℕ)) (before now : List Event) (n : ℕ) (bytes : List ℕ) → present ≡ replayed base before → now ≡ before ++ Write n bytes ∷ [] → set present n bytes ≡ replayed base now
-replayed-write base present before now n bytes same more =
-    ap (λ (p : List (List ℕ)). set p n bytes) same ∙ sym (replayed-append base before (Write n bytes ∷ [])) ∙ ap (replayed base) (sym more)
-
 -- what stands in each sector after events
 get_or-map-numbers_below : (f : ℕ → List ℕ) (n i : ℕ) → i < n → get_or (map f (numbers_below n)) i [] ≡ f i
 get_or-map-numbers_below f zero i small = absurd (omega arith)

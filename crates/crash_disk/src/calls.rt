@@ -1,5 +1,5 @@
 // Which calls of an object fail, and how many bytes a call moves.
-ghost use Rattle.std.specs.Prelude.{◌≡◌, IfOk, OnOk, OnErr, [], slice_get};
+ghost use Rattle.std.specs.Prelude.{◌≡◌, IfOk, OnOk, OnErr, []};
 ghost use Rattle.crash_disk.specs.Calls.{cut_to};
 
 use block_traits::NoMemory;

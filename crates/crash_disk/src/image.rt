@@ -1,6 +1,5 @@
 // Images as sectors.
-ghost use Rattle.std.specs.Prelude.{◌≡◌, IfOk, All, replicate};
-ghost use Rattle.block_traits.specs.Content.{IsSector};
+ghost use Rattle.std.specs.Prelude.{◌≡◌, IfOk, replicate};
 ghost use Rattle.crash_disk.specs.Image.{sectors_of, zero_sector};
 
 use block_traits::Sector;
@@ -12,9 +11,7 @@ pub fn zero_sectors(alloc: Global, count: u64) -> Result<Vec<Sector>, AllocError
     ensures { IfOk result (λ sectors. sectors.items ≡ replicate count zero_sector) }
 {
     let mut sectors = Vec::new(alloc);
-    for n in 0..count {
-        sectors.push([0u8; 512])?;
-    }
+    sectors.resize(count as usize, [0u8; 512])?;
     Ok(sectors)
 }
 
@@ -22,11 +19,12 @@ pub fn zero_sectors(alloc: Global, count: u64) -> Result<Vec<Sector>, AllocError
 pub fn image_sectors(alloc: Global, image: &[u8]) -> Result<Vec<Sector>, AllocError>
     ensures { IfOk result (λ sectors. sectors.items ≡ sectors_of image.now) }
 {
-    let mut sectors = Vec::new(alloc);
-    for n in 0..image.len() / 512 {
+    let count = image.len() / 512;
+    let mut sectors = Vec::with_capacity(alloc, count)?;
+    for n in 0..count {
         let mut sector = [0u8; 512];
         sector.copy_from_slice(&image[512 * n..512 * n + 512]);
-        sectors.push(sector)?;
+        sectors.push_reserved(sector);
     }
     Ok(sectors)
 }

@@ -127,10 +127,8 @@ impl Cabinet for MemCabinet {
             self.misses = self.misses.saturating_add(1);
             return Err(LoadFault::TooLong);
         }
-        match Vec::from_slice(alloc, bytes) {
-            Ok(bytes) => Ok(ByteList::from_vec(bytes)),
-            Err(_) => Err(LoadFault::NoMemory),
-        }
+        let bytes = Vec::from_slice(alloc, bytes).map_err(|_| LoadFault::NoMemory)?;
+        Ok(ByteList::from_vec(bytes))
     }
 
     fn store(&mut self, alloc: Global, name: &[u8], bytes: &[u8]) -> Result<(), StoreFault>
@@ -145,10 +143,7 @@ impl Cabinet for MemCabinet {
         if self.call() {
             return Err(StoreFault::Failed);
         }
-        match put(alloc, &mut self.files, name, bytes) {
-            Ok(()) => Ok(()),
-            Err(_) => Err(StoreFault::NoMemory),
-        }
+        put(alloc, &mut self.files, name, bytes).map_err(|_| StoreFault::NoMemory)
     }
 }
 
@@ -198,10 +193,6 @@ fn place_of(files: &[NamedFile], name: &[u8]) -> Option<usize>
 fn find<'a>(files: &'a [NamedFile], name: &[u8]) -> Option<&'a [u8]>
     ensures { option_copied result ≡ file_in name.now files.now }
 {
-    for file in files {
-        if file.name.as_slice() == name {
-            return Some(file.bytes.as_slice());
-        }
-    }
-    None
+    let place = place_of(files, name)?;
+    Some(files[place].bytes.as_slice())
 }

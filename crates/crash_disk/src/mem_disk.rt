@@ -50,7 +50,8 @@ impl MemDisk {
     }
 
     /// Makes what stands on the disk now what it held at first, but for sector `n`, which holds these
-    /// bytes. Takes no memory.
+    /// bytes. The history is then empty; the counts of calls and faults, and the calls that fail,
+    /// stay. Takes no memory.
     pub fn alter(&mut self, n: u64, bytes: &Sector) -> Result<(), NoMemory>
         requires { n < (disk_of self.old).size }
         ensures ok { IsOk result }

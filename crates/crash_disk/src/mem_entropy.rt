@@ -27,7 +27,7 @@ impl Model for MemEntropy {
 }
 
 impl MemEntropy {
-    /// Gives these bytes, and then fails.
+    /// Gives these bytes in order. A call that asks for more than is left fails and takes nothing.
     pub fn new(alloc: Global, bytes: &[u8]) -> Result<MemEntropy, NoMemory>
         ensures { IfOk result (λ entropy. entropy ≡ record { left = bytes.now; faults = 0 }) }
     {

@@ -38,7 +38,8 @@ impl Model for MemSink {
 
 impl MemSink {
     /// Has room for so many bytes. Call k, counted from 1, takes at most `cuts[k - 1]` bytes, where a
-    /// cut of 0 counts as 1, and fails where `fails` has k.
+    /// cut of 0 counts as 1, and fails where `fails` has k. Without room left it fails at a piece that
+    /// isn't empty.
     pub fn new(alloc: Global, cuts: &[usize], fails: &[u64], room: u64) -> Result<MemSink, NoMemory>
         ensures { IfOk result (λ sink. sink ≡ record { bytes = []; room = room; cuts = cuts.now; calls = failing fails.now; faults = 0 }) }
     {
@@ -83,6 +84,7 @@ impl Sink for MemSink {
             return Err(SinkFailed);
         }
         let count = most.min(left as usize);
+        // Room was reserved, so this can't fail.
         let _ = self.bytes.extend_from_slice(&from[..count]);
         Ok(count)
     }

@@ -60,10 +60,7 @@ pub fn survivor_whole(
     ensures bad { IfErr result (IsFault (at_moment moment (state_of disk.now).content) picks.now []) }
 {
     let image = picked_image(alloc, disk, moment, picks)?;
-    match MemDisk::from_sectors(alloc, image, disk.room()) {
-        Ok(survivor) => Ok(survivor),
-        Err(_) => Err(SurvivorFault::NoMemory),
-    }
+    survivor_of(alloc, image, disk.room())
 }
 
 /// The same, where besides the named data sectors hold the given bytes.
@@ -95,10 +92,17 @@ pub fn survivor_torn(
         }
         put(&mut image, tear.n, &tear.bytes);
     }
-    match MemDisk::from_sectors(alloc, image, disk.room()) {
-        Ok(survivor) => Ok(survivor),
-        Err(_) => Err(SurvivorFault::NoMemory),
-    }
+    survivor_of(alloc, image, disk.room())
+}
+
+// A disk that had this image from the start.
+fn survivor_of(alloc: Global, image: Vec<Sector>, room: u64) -> Result<MemDisk, SurvivorFault>
+    requires small { length image.items < 2 ^ 44 }
+    requires sectors { All IsSector image.items }
+    ensures fresh { IfOk result (λ survivor. state_of survivor ≡ fresh image.items room) }
+    ensures err { IfErr result (λ fault. fault ≡ SurvivorFault.NoMemory) }
+{
+    MemDisk::from_sectors(alloc, image, room).map_err(|_| SurvivorFault::NoMemory)
 }
 
 // The image that the picks name.

@@ -1,6 +1,6 @@
 // Whether a provider can be used by its metadata.
-ghost use Rattle.std.specs.Prelude.{◌≡◌, ◌<◌, ◌*◌, ◌^◌, ◌==◌, not, bit_and, MatchResult, Ok, Err};
-ghost use Rattle.eli_metadata.specs.Check.{supported, settings_of, size_matches, slot_matches, is_set, cipher_of, auth_of, is_readonly, is_authenticated};
+ghost use Rattle.std.specs.Prelude.{◌≡◌, ◌<◌, ◌^◌, MatchResult, Ok, Err};
+ghost use Rattle.eli_metadata.specs.Check.{supported, settings_of, size_matches, slot_matches, is_set, cipher_of, auth_of, is_readonly};
 
 use crate::{MetaFault, Metadata};
 use eli_base::{Auth, Cipher, Params, sector_size_ok};

@@ -24,7 +24,8 @@ pub struct Metadata {
     pub sectorsize: u32,
     /// Bit n says that slot n holds a master key.
     pub keys: u8,
-    /// -1: no passphrase was set up; 0: PBKDF2 isn't used; above 0: its iterations.
+    /// Below 0: no passphrase was set up (-1 is written); 0: PBKDF2 isn't used; above 0: its
+    /// iterations.
     pub iterations: i32,
     /// The salt of the passphrase.
     pub salt: [u8; 64],

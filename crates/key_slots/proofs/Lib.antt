@@ -1,3 +1,4 @@
 pub mod Parts
 pub mod Texts
+pub mod First
 pub mod Changes

@@ -1,5 +1,5 @@
 -- The two slots of the metadata, each with the master key wrapped by a user key (g_eli.h, md_mkeys and md_keys; g_eli_key.c).
-use Rattle.std.specs.Prelude.{◌≡◌, ℕ, ◌+◌, ◌-◌, ◌*◌, ◌/◌, ◌^◌, ◌⊎◌, Bool, IsTrue, List, [], ◌∷◌, ◌++◌, take, drop, replicate, bit_and, bit_or, Option, Some, None, if◌then◌else◌}
+use Rattle.std.specs.Prelude.{◌≡◌, ℕ, ◌+◌, ◌-◌, ◌*◌, ◌/◌, ◌^◌, ◌<◌, ◌⊎◌, Bool, IsTrue, List, [], ◌∷◌, ◌++◌, take, drop, replicate, bit_and, bit_or, Option, Some, None, if◌then◌else◌}
 use Rattle.std.specs.Option.{option_or}
 use Rattle.std.specs.Str.{bytes_eq}
 use Rattle.cbc_mode.specs.Cbc.{cbc_seal, cbc_open}
@@ -51,6 +51,12 @@ slot_bytes m s = take 192 (drop (192 * s) m.mkeys)
 pub record Opens (m : Metadata) (u : List ℕ) (s : ℕ) (master : List ℕ) : Type 0 where
   pub set : IsTrue (is_set m s)
   pub slot : IsSlotOf (slot_bytes m s) u m.keylen master
+
+-- slot s is the first that opens with the user key u, and it opens to this master key
+pub record IsFirstToOpen (m : Metadata) (u : List ℕ) (s : ℕ) (master : List ℕ) : Type 0 where
+  pub slot : s < 2
+  pub opens : Opens m u s master
+  pub before : (t : ℕ) → t < s → (other : List ℕ) → ¬ Opens m u t other
 
 -- whether the code in a text of 192 bytes is that of the master key before it
 abbrev pub has_code : List ℕ → List ℕ → Bool

@@ -1,7 +1,7 @@
 // A slot opened by a user key.
 ghost use Rattle.std.specs.Prelude.{◌≡◌, ℕ, ◌<◌, ◌↔◌, List, Some};
 ghost use Rattle.eli_metadata.specs.Check.{is_set};
-ghost use Rattle.key_slots.specs.Slots.{IsKeyBits, Opens, slot_bytes, deciphered, has_code, master_in, unwrapped, numbered, unwrapped_any};
+ghost use Rattle.key_slots.specs.Slots.{IsFirstToOpen, IsKeyBits, Opens, slot_bytes, deciphered, has_code, master_in, unwrapped, numbered, unwrapped_any};
 
 use crate::wrapping::{SLOT_SIZE, ZERO_VECTOR, check_code, wrapping_schedule};
 use cbc_mode::cbc_open;
@@ -79,16 +79,22 @@ pub fn unwrap(meta: &Metadata, key: &UserKey, slot: u8) -> Option<MasterKey>
 fn unwrap_numbered(meta: &Metadata, key: &UserKey, slot: u8) -> Option<(MasterKey, u8)>
     requires slot { slot < 2 }
     requires keylen { IsKeyBits meta.now.keylen }
-    ensures { result ≡ numbered (unwrapped meta.now key.now.bytes slot) slot }
+    ensures answer { result ≡ numbered (unwrapped meta.now key.now.bytes slot) slot }
+    ensures opens { (master : List ℕ) → Opens meta.now key.now.bytes slot master ↔ (result ≡ Some (record { bytes = master }, slot)) }
 {
     let master = unwrap(meta, key, slot)?;
     Some((master, slot))
 }
 
-/// The master key and the number of the first slot that opens with this user key: slot 0 before slot 1.
+/// The master key and the number of the first slot that opens with this user key: slot 0 before slot 1. None exactly
+/// where neither opens.
 pub fn unwrap_any(meta: &Metadata, key: &UserKey) -> Option<(MasterKey, u8)>
     requires { IsKeyBits meta.now.keylen }
-    ensures { result ≡ unwrapped_any meta.now key.now.bytes }
+    ensures answer { result ≡ unwrapped_any meta.now key.now.bytes }
+    ensures opens { (slot : ℕ) (master : List ℕ) → IsFirstToOpen meta.now key.now.bytes slot master ↔ (result ≡ Some (record { bytes = master }, slot)) }
 {
-    unwrap_numbered(meta, key, 0).or_else(|| unwrap_numbered(meta, key, 1))
+    match unwrap_numbered(meta, key, 0) {
+        None => unwrap_numbered(meta, key, 1),
+        first => first,
+    }
 }

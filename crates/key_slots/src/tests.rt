@@ -119,6 +119,10 @@ fn slot_round_trip(rt: HostRuntime) {
         put_slot(&mut meta, 1, &wrap(&master_key(), &USER_KEY, keylen));
         assert_eq!(rt; meta.keys, 0x46);
         opens_unless_altered(&rt, &meta);
+        let mut unset = meta;
+        unset.keys &= !2;
+        assert_eq!(rt; unwrap(&unset, &USER_KEY, 1), None);
+        assert_eq!(rt; unwrap_any(&unset, &USER_KEY), None);
         clear_slot(&mut meta, 1, &[0x55; 192]);
         assert_eq!(rt; unwrap(&meta, &USER_KEY, 1), None);
         assert_eq!(rt; unwrap_any(&meta, &USER_KEY), None);
@@ -126,4 +130,15 @@ fn slot_round_trip(rt: HostRuntime) {
         assert_eq!(rt; &meta.mkeys[..192], [0xa5; 192].as_slice());
         assert_eq!(rt; &meta.mkeys[192..], [0x55; 192].as_slice());
     }
+}
+
+// Both slots open with one user key, each to a master key of its own.
+#[test]
+fn slot_0_comes_first(rt: HostRuntime) {
+    let mut meta = metadata(128);
+    let other = MasterKey { bytes: [0x77; 128] };
+    put_slot(&mut meta, 1, &wrap(&master_key(), &USER_KEY, 128));
+    put_slot(&mut meta, 0, &wrap(&other, &USER_KEY, 128));
+    assert_eq!(rt; unwrap_any(&meta, &USER_KEY), Some((other, 0)));
+    assert_eq!(rt; unwrap(&meta, &USER_KEY, 1), Some(master_key()));
 }

@@ -1,8 +1,8 @@
 // How the keys are made of one another.
-ghost use Rattle.std.specs.Prelude.{◌≡◌, [], ◌∷◌, ◌++◌, length, codes};
+ghost use Rattle.std.specs.Prelude.{◌≡◌, ◌++◌, codes};
 ghost use Rattle.sha2.specs.Sha256.{sha256};
 ghost use Rattle.hmac_kdf.specs.Hmac.{hmac512};
-ghost use Rattle.range_keys.specs.Keys.{le64, base_key, auth_key, iv_key, data_key};
+ghost use Rattle.range_keys.specs.Keys.{le64, base_key, auth_key, data_key};
 
 use eli_base::{Auth, MasterKey};
 use hmac_kdf::Hmac512;

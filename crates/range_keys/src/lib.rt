@@ -4,9 +4,19 @@
 //! the master key and a number. Initial vectors and the keys of tags go by the offset itself.
 #![tactic(auto)]
 
+ghost use Rattle.std.specs.Prelude.{◌≡◌, [], ◌∷◌, ◌++◌, codes};
+ghost use Rattle.range_keys.specs.Keys.{le64};
+
 mod derivation;
 mod ring;
 #[cfg(test)]
 mod tests;
 
 pub use ring::{KeyRing, RangeKey};
+
+/// The definitions give these bytes: the byte offset 4608, least significant byte first, and the message whose code is
+/// range key 1.
+pub fn examples_of_offsets()
+    ensures number { le64 4608 ≡ 0 ∷ 0x12 ∷ 0 ∷ 0 ∷ 0 ∷ 0 ∷ 0 ∷ 0 ∷ [] }
+    ensures message { codes "ekey" ++ le64 1 ≡ 0x65 ∷ 0x6b ∷ 0x65 ∷ 0x79 ∷ 1 ∷ 0 ∷ 0 ∷ 0 ∷ 0 ∷ 0 ∷ 0 ∷ 0 ∷ [] }
+{}

@@ -1,5 +1,5 @@
 // The ring of a provider's keys.
-ghost use Rattle.std.specs.Prelude.{◌≡◌, ◌≢◌, ℕ, ◌/◌, ◌^◌, List, length, take, drop, IsTrue, IfOk};
+ghost use Rattle.std.specs.Prelude.{◌≡◌, ◌≢◌, IsTrue, IfOk};
 ghost use Rattle.eli_base.specs.Algorithms.{allows_length};
 ghost use Rattle.eli_base.specs.Keying.{keying_of};
 ghost use Rattle.range_keys.specs.Keys.{first_part, second_part, numbered_block, first_key, second_key, iv, tag_key};

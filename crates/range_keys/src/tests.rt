@@ -1,6 +1,7 @@
 use crate::KeyRing;
 use aes_core::Schedule;
 use eli_base::{Auth, Cipher, MasterKey, Params, sector_size_ok};
+use std::alloc::Global;
 use std::process::Abort;
 use std::test::Fail;
 
@@ -47,6 +48,7 @@ const TAGGED_1_BACK: [u128; 2] = [
 ];
 
 // Where the keys of AES with 256 bits are asked for, and which they are.
+#[derive(Drop)]
 struct Place {
     auth: Auth,
     cipher: Cipher,
@@ -56,7 +58,7 @@ struct Place {
     second: [u128; 2],
 }
 
-const PLACES: [Place; 10] = [
+const PLACES: [Place; 6] = [
     Place {
         auth: Auth::Off,
         cipher: Cipher::AesXts,
@@ -98,38 +100,6 @@ const PLACES: [Place; 10] = [
         second: PLAIN_1_BACK,
     },
     Place {
-        auth: Auth::Sha256,
-        cipher: Cipher::AesXts,
-        sectorsize: 512,
-        offset: 536870400,
-        first: TAGGED_0_FRONT,
-        second: TAGGED_0_BACK,
-    },
-    Place {
-        auth: Auth::Sha256,
-        cipher: Cipher::AesXts,
-        sectorsize: 512,
-        offset: 536870912,
-        first: TAGGED_1_FRONT,
-        second: TAGGED_1_BACK,
-    },
-    Place {
-        auth: Auth::Sha256,
-        cipher: Cipher::AesXts,
-        sectorsize: 65536,
-        offset: 536870400,
-        first: TAGGED_0_FRONT,
-        second: TAGGED_0_BACK,
-    },
-    Place {
-        auth: Auth::Sha256,
-        cipher: Cipher::AesXts,
-        sectorsize: 65536,
-        offset: 536870912,
-        first: TAGGED_1_FRONT,
-        second: TAGGED_1_BACK,
-    },
-    Place {
         auth: Auth::Off,
         cipher: Cipher::AesCbc,
         sectorsize: 512,
@@ -161,25 +131,52 @@ fn expected(key: [u128; 2]) -> Result<[u8; 16], Fail> {
     Ok(enciphered(&Schedule::new(&bytes).ok_or("no key")?))
 }
 
+fn check_place(rt: &impl Abort, alloc: Global, place: &Place) -> Result<(), Fail> {
+    assert!(rt; place.cipher.allows(256) && sector_size_ok(place.sectorsize));
+    let params = Params::new(7, place.auth, place.cipher, 256, place.sectorsize, 0, false);
+    let mut ring = KeyRing::new(alloc, &master(), &params)?;
+    let keys = ring.key_at(place.offset);
+    assert_eq!(rt;
+        enciphered(&keys.first),
+        expected(place.first)?,
+        "first at {}",
+        place.offset
+    );
+    assert_eq!(rt;
+        enciphered(&keys.second),
+        expected(place.second)?,
+        "second at {}",
+        place.offset
+    );
+    Ok(())
+}
+
 #[test]
 fn range_keys_by_offset(rt: HostRuntime) -> Result<(), Fail> {
     for place in &PLACES {
-        assert!(rt; place.cipher.allows(256) && sector_size_ok(place.sectorsize));
-        let params = Params::new(7, place.auth, place.cipher, 256, place.sectorsize, 0, false);
-        let mut ring = KeyRing::new(rt.alloc(), &master(), &params)?;
-        let keys = ring.key_at(place.offset);
-        assert_eq!(rt;
-            enciphered(&keys.first),
-            expected(place.first)?,
-            "first at {}",
-            place.offset
-        );
-        assert_eq!(rt;
-            enciphered(&keys.second),
-            expected(place.second)?,
-            "second at {}",
-            place.offset
-        );
+        check_place(&rt, rt.alloc(), place)?;
+    }
+    Ok(())
+}
+
+// With authentication offsets are numbered by device sectors, whatever the logical sector: number 1 begins at 2^29.
+#[test]
+fn numbers_with_authentication(rt: HostRuntime) -> Result<(), Fail> {
+    for sectorsize in [512, 1024, 2048, 4096, 8192, 16384, 32768, 65536] {
+        for (offset, first, second) in [
+            (536870400, TAGGED_0_FRONT, TAGGED_0_BACK),
+            (536870912, TAGGED_1_FRONT, TAGGED_1_BACK),
+        ] {
+            let place = Place {
+                auth: Auth::Sha256,
+                cipher: Cipher::AesXts,
+                sectorsize,
+                offset,
+                first,
+                second,
+            };
+            check_place(&rt, rt.alloc(), &place)?;
+        }
     }
     Ok(())
 }

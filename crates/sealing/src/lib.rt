@@ -5,15 +5,11 @@
 //! encipher and decipher one run of cipher blocks at a byte offset, in place.
 #![tactic(auto)]
 
-ghost use Rattle.std.specs.Prelude.{◌≡◌, ℕ, ◌*◌, ◌%◌, List, [], ◌∷◌, length};
-ghost use Rattle.eli_base.specs.Keying.{keying_of};
-ghost use Rattle.range_keys.specs.Keys.{first_key, second_key, tweak};
+ghost use Rattle.std.specs.Prelude.{◌≡◌, ◌%◌, length};
 ghost use Rattle.sealing.specs.Runs.{sealed_run, opened_run};
-ghost use Rattle.sealing.specs.Sectors.{seal, reading};
-ghost use Rattle.xts_mode.specs.Xts.{xts_seal, xts_open};
 
 use cbc_mode::{cbc_open, cbc_seal};
-use eli_base::{Cipher, MasterKey, Params};
+use eli_base::Cipher;
 use range_keys::KeyRing;
 use xts_mode::{xts_open, xts_seal};
 
@@ -38,9 +34,9 @@ pub fn open_run(ring: &mut KeyRing, offset: u64, block: &mut [u8])
     ensures opened { block.new ≡ opened_run ring.old.keying offset block.old }
     ensures keying { ring.new.keying ≡ ring.old.keying }
 {
-    let range = ring.key_at(offset);
+    let keys = ring.key_at(offset);
     match ring.cipher() {
-        Cipher::AesXts => xts_open(&range.first, &range.second, offset, block),
-        Cipher::AesCbc => cbc_open(&range.first, &ring.iv_at(offset), block),
+        Cipher::AesXts => xts_open(&keys.first, &keys.second, offset, block),
+        Cipher::AesCbc => cbc_open(&keys.first, &ring.iv_at(offset), block),
     }
 }

@@ -1,6 +1,6 @@
 -- What is known of metadata that were checked, and let through by the gates.
-use Rattle.std.proofs.Common.{◌≡◌, ℕ, ◌<◌, ◌*◌, ◌==◌, Bool, true, false, cond, Option, Some, None, Result, Ok, Err, refl, sym, ap, ◌∙◌, arith, nat_le, nat_lt, ◌^◌}
-use Rattle.std.proofs.lemmas.Bool.{eqb-true, leb-true}
+use Rattle.std.proofs.Common.{◌≡◌, ℕ, ◌*◌, ◌==◌, Bool, true, false, cond, Option, Some, None, Result, Ok, Err, refl, sym, ap, ◌∙◌, nat_lt, ◌^◌}
+use Rattle.std.proofs.lemmas.Bool.{eqb-true}
 use Rattle.eli_base.specs.declared.algorithms.Auth.{Auth}
 use Rattle.eli_base.specs.declared.algorithms.Cipher.{Cipher}
 use Rattle.eli_base.specs.Algorithms.{allows_length}
@@ -9,7 +9,7 @@ use Rattle.eli_base.specs.declared.parameters.Params.{Params}
 use Rattle.eli_base.specs.Keying.{Keying, keying_of}
 use Rattle.eli_base.specs.SectorSize.{is_sector_size}
 use Rattle.eli_base.specs.Units.{media_sectors}
-use Rattle.eli_metadata.specs.Check.{Settings, settings_of, supported, check_cipher, check_auth, check_sector, check_size, cipher_of, auth_of, is_readonly, size_matches, slot_matches, named_slot_opens, are_clear}
+use Rattle.eli_metadata.specs.Check.{Settings, settings_of, supported, check_cipher, check_auth, check_sector, check_size, cipher_of, auth_of, is_readonly, size_matches}
 use Rattle.eli_metadata.specs.declared.metadata.Metadata.{Metadata}
 use Rattle.eli_metadata.specs.declared.metadata.MetaFault.{MetaFault}
 use Rattle.eli_metadata.specs.declared.metadata.MetaFault.TheVariants.{BadSize}
@@ -52,10 +52,6 @@ pub said : (m : Metadata) (s : Settings) → supported m ≡ Ok s → IsSaid m s
 unfolding supported
 said m s h = enciphered m (cipher_of m.ealgo) s (passed _ _ _ s h)
 
-unrefused : {T E : Type 0} (test : Bool) (r : Result T E) (fault : E) (x : T) → cond test (Err fault) r ≡ Ok x → r ≡ Ok x
-unrefused false r fault x h = h
-unrefused true r fault x h = absurd cc
-
 tested : {T E : Type 0} (test : Bool) (r : Result T E) (fault : E) (x : T) → cond test r (Err fault) ≡ Ok x → test ≡ true
 tested true r fault x h = refl
 tested false r fault x h = absurd cc
@@ -63,17 +59,6 @@ tested false r fault x h = absurd cc
 -- the metadata have the size of the disk in bytes
 pub size_is : (m : Metadata) (sectors : ℕ) → size_matches m sectors ≡ Ok tt → m.provsize ≡ 512 * sectors
 size_is m sectors h = eqb-true m.provsize (512 * sectors) (tested (m.provsize == 512 * sectors) _ _ _ h)
-
--- a slot that is named is one of the two
-named_below : (m : Metadata) (named : Option ℕ) (slot : ℕ) → named_slot_opens m named ≡ Ok tt → named ≡ Some slot → slot < 2
-named_below m None slot h is = absurd cc
-named_below m (Some other) slot h is =
-    let below = leb-true other 1 (tested (nat_le other 1) _ _ _ h) in
-    let same : other ≡ slot = cc in
-    omega (arith, below, same)
-
-pub slot_below : (m : Metadata) (named : Option ℕ) (slot : ℕ) → slot_matches m named ≡ Ok tt → named ≡ Some slot → slot < 2
-slot_below m named slot h is = named_below m named slot (unrefused (are_clear m.keys 3) _ _ _ h) is
 
 -- what is known of a disk that is attached by metadata that were checked
 pub record IsChecked (m : Metadata) (p : Params) (size : ℕ) : Type 0 where

@@ -1,5 +1,5 @@
 -- Where logical sectors stand on the disk.
-use Rattle.std.proofs.Common.{◌≡◌, ℕ, ◌+◌, ◌-◌, ◌*◌, ◌/◌, ◌^◌, ◌<◌, ◌≤◌, sym, ap, ◌∙◌, arith}
+use Rattle.std.proofs.Common.{◌≡◌, ℕ, ◌+◌, ◌*◌, ◌/◌, ◌^◌, ◌<◌, ◌≤◌, sym, ap, ◌∙◌, arith}
 use Rattle.std.proofs.Math.Nat.{mul-le-mul_right, mul-le-mul_left, div-mul-le_self, mul-one}
 use Rattle.eli_base.specs.declared.algorithms.Auth.{Auth}
 use Rattle.eli_base.specs.declared.algorithms.Auth.TheVariants.{Off}
@@ -11,13 +11,7 @@ use Rattle.sealing.specs.Sectors.{units}
 pub units-off : (k : Keying) (size : ℕ) → k.auth ≡ Off → size ≡ k.sectorsize → size / 512 ≡ units k
 units-off k size off same = ap (λ (n : ℕ). n / 512) same ∙ sym (ap (λ (a : Auth). units_per_sector a k.sectorsize) off)
 
--- one of some logical sectors has its place among theirs
-pub sector_inside : (sector count units size i : ℕ) → (sector + count) * units ≤ size → i < count → (sector + i) * units + units ≤ size
-sector_inside sector count units size i all more =
-    let some : sector + i + 1 ≤ sector + count = omega arith in
-    omega (arith, mul-le-mul_right units some)
-
--- and its bytes have theirs among the bytes of them all
+-- the bytes of one of some logical sectors have their place among the bytes of them all
 pub bytes_inside : (len size i : ℕ) → i < len / size → i * size + size ≤ len
 bytes_inside len size i more =
     let some : i + 1 ≤ len / size = omega arith in
@@ -32,8 +26,3 @@ pub offset_small : (sector size units disk : ℕ) → size ≡ 512 * units → s
 offset_small sector size units disk same inside small =
     let at : sector * size ≡ sector * (512 * units) = ap (λ (s : ℕ). sector * s) same in
     omega (arith, at)
-
--- a request that doesn't pass the end has room on the disk, before the metadata
-pub request_inside : (sector count units size : ℕ) → sector + count ≤ (512 * size - 512) / (512 * units) → (sector + count) * units ≤ size
-request_inside sector count units size within =
-    omega (arith, mul-le-mul_right (512 * units) within, div-mul-le_self (512 * size - 512) (512 * units))

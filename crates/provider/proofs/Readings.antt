@@ -24,10 +24,6 @@ StandFrom-next None first j k now ys so gives len room = tt
 StandFrom-next (Some c) first j k now ys so gives len room =
     parts-put j k now ys len room ∙ (λ i. so i ++ gives i ∷ []) ∙ sym (standing-suc c first j) ∙ sym (ap (standing c first) (add-one j))
 
-pub StandFrom-start : (told : Option Content) (first : ℕ) → StandFrom told first 0 []
-StandFrom-start None first = tt
-StandFrom-start (Some c) first = refl
-
 -- one logical sector more
 sector_readings-suc : (k : Keying) (c : Content) (n count : ℕ) → sector_readings k c n (suc count) ≡ sector_readings k c n count ++ sector_reading k c (n + count) ∷ []
 sector_readings-suc k c n zero = ap (λ (m : ℕ). sector_reading k c m ∷ []) (sym (add-zero n))
@@ -60,16 +56,3 @@ ReadsFrom-next (Some c) k sector i size width now ys so gives len room =
     ∙ ap (λ (r : Result (List ℕ) ℕ). joined (sector_readings k c sector i ++ r ∷ [])) gives
     ∙ joined-push (sector_readings k c sector i) (take (i * size) now) ys so
     ∙ ap Ok (sym (take-put_mid (i * size) width now ys ((i + 1) * size) at room))
-
-pub ReadsFrom-start : (told : Option Content) (k : Keying) (sector : ℕ) → ReadsFrom told k sector 0 (Ok [])
-ReadsFrom-start None k sector = tt
-ReadsFrom-start (Some c) k sector = refl
-
--- the same where the bytes are written otherwise
-pub ReadsFrom-at : (told : Option Content) (k : Keying) (sector m n : ℕ) (xs ys : List ℕ) → m ≡ n → xs ≡ ys → ReadsFrom told k sector m (Ok xs) → ReadsFrom told k sector n (Ok ys)
-ReadsFrom-at None k sector m n xs ys same bytes so = tt
-ReadsFrom-at (Some c) k sector m n xs ys same bytes so = ap (λ (j : ℕ). joined (sector_readings k c sector j)) (sym same) ∙ so ∙ ap Ok bytes
-
-pub StandFrom-at : (told : Option Content) (first m n : ℕ) (xs ys : List (List ℕ)) → m ≡ n → xs ≡ ys → StandFrom told first m xs → StandFrom told first n ys
-StandFrom-at None first m n xs ys same sectors so = tt
-StandFrom-at (Some c) first m n xs ys same sectors so = sym sectors ∙ so ∙ ap (standing c first) same

@@ -12,7 +12,7 @@ use Rattle.provider.specs.declared.faults.ReadFault.{ReadFault}
 use Rattle.provider.specs.declared.faults.ReadFault.TheVariants as read
 use Rattle.provider.specs.declared.faults.WriteFault.{WriteFault}
 use Rattle.provider.specs.declared.faults.WriteFault.TheVariants as write
-use Rattle.provider.specs.Attached.{Attached, media, opened}
+use Rattle.provider.specs.Attached.{Attached, OpensAsNamed, media, opened}
 use Rattle.provider.specs.Reading.{ReadsAs}
 use Rattle.provider.specs.Writing.{data_writes}
 
@@ -39,13 +39,18 @@ pub record IsAttached {D : Type 0} (t : Target) (by : Means) (given : D) (p : At
   pub room : 1 ≤ target_media t
   pub disk : p.disk ≡ given
   pub opened : opened t.meta by.key by.named ≡ Some (record { bytes = p.keying.master }, p.slot)
+  pub opens : OpensAsNamed t.meta by.key by.named p.slot p.keying.master
   pub keying : p.keying ≡ keying_of t.params (record { bytes = p.keying.master })
   pub readonly : p.readonly ≡ (by.readonly || is_readonly t.meta)
+
+-- no slot that is asked for opens
+abbrev pub OpensToNone : Target → Means → Type 0
+OpensToNone t by = (s : ℕ) (master : List ℕ) → ¬ OpensAsNamed t.meta by.key by.named s master
 
 -- why none is: the disk has no whole logical sector, no slot that is asked for opens, or else there was no memory
 abbrev pub AttachFails : Target → Means → AttachFault → Type 0
 AttachFails t by (attach.TooSmall size) = (target_media t ≡ 0) × (size ≡ 512 * t.disk.size)
-AttachFails t by attach.WrongKey = (1 ≤ target_media t) × (opened t.meta by.key by.named ≡ None)
+AttachFails t by attach.WrongKey = (1 ≤ target_media t) × (opened t.meta by.key by.named ≡ None) × OpensToNone t by
 AttachFails t by attach.NoMemory = (1 ≤ target_media t) × IsSome (opened t.meta by.key by.named)
 
 -- the disk comes back with the fault

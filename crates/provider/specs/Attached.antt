@@ -5,7 +5,7 @@ use Rattle.eli_base.specs.declared.parameters.MasterKey.{MasterKey}
 use Rattle.eli_base.specs.Keying.{Keying}
 use Rattle.eli_base.specs.Units.{media_sectors}
 use Rattle.eli_metadata.specs.declared.metadata.Metadata.{Metadata}
-use Rattle.key_slots.specs.Slots.{numbered, unwrapped, unwrapped_any}
+use Rattle.key_slots.specs.Slots.{IsFirstToOpen, Opens, numbered, unwrapped, unwrapped_any}
 
 -- a disk, its keying, the slot of the metadata that gave the master key, and whether it is only read
 pub record Attached (D : Type 0) : Type 0 where
@@ -28,3 +28,8 @@ media k d = media_sectors k.auth k.sectorsize (512 * d.size)
 abbrev pub opened : Metadata → List ℕ → Option ℕ → Option (MasterKey × ℕ)
 opened m u None = unwrapped_any m u
 opened m u (Some slot) = numbered (unwrapped m u slot) slot
+
+-- slot s opens with the user key u to this master key, and it is the one that is named, or else the first that opens
+abbrev pub OpensAsNamed : Metadata → List ℕ → Option ℕ → ℕ → List ℕ → Type 0
+OpensAsNamed m u None s master = IsFirstToOpen m u s master
+OpensAsNamed m u (Some slot) s master = (s ≡ slot) × Opens m u s master

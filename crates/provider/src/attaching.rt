@@ -1,9 +1,9 @@
 // What is opened and reserved before a provider is attached.
-ghost use Rattle.std.specs.Prelude.{◌≡◌, ◌<◌, IfOk, vec_len};
+ghost use Rattle.std.specs.Prelude.{◌≡◌, ℕ, ◌<◌, ◌↔◌, List, IfOk, Some, vec_len};
 ghost use Rattle.std.specs.Option.{ForSome};
 ghost use Rattle.eli_base.specs.Keying.{keying_of};
 ghost use Rattle.key_slots.specs.Slots.{IsKeyBits};
-ghost use Rattle.provider.specs.Attached.{opened};
+ghost use Rattle.provider.specs.Attached.{OpensAsNamed, opened};
 
 use block_traits::NoMemory;
 use eli_base::{MasterKey, Params};
@@ -14,11 +14,12 @@ use std::alloc::Global;
 use user_key::UserKey;
 
 /// The master key, and the number of its slot, that a user key opens: of the named slot, or else of the first that
-/// opens.
+/// opens. None exactly where the named slot doesn't open, or, where none is named, neither slot does.
 pub fn opened(meta: &Metadata, key: &UserKey, named: Option<u8>) -> Option<(MasterKey, u8)>
     requires keylen { IsKeyBits meta.now.keylen }
     requires named { ForSome named (λ slot. slot < 2) }
-    ensures { result ≡ opened meta.now key.now.bytes named }
+    ensures answer { result ≡ opened meta.now key.now.bytes named }
+    ensures opens { (slot : ℕ) (master : List ℕ) → OpensAsNamed meta.now key.now.bytes named slot master ↔ (result ≡ Some (record { bytes = master }, slot)) }
 {
     let Some(slot) = named else {
         return unwrap_any(meta, key);

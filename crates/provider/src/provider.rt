@@ -154,8 +154,7 @@ impl<D: Disk> Provider<D> {
     /// size.
     ///
     /// `OutOfRange` comes exactly where the request passes the end, and then no call of the disk is made; `DeviceFault`
-    /// only where the device failed. Sectors are read in ascending order up to the first that fails. After a refusal
-    /// `into` is all zeros.
+    /// only where the device failed. After a refusal `into` is all zeros.
     pub fn read(&mut self, sector: u64, into: &mut [u8]) -> Result<(), ReadFault>
         requires some { 0 < length into.old }
         requires whole { length into.old % self.old.keying.sectorsize ≡ 0 }

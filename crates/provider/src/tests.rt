@@ -1,9 +1,9 @@
 // Providers over disks in memory.
 use crate::{Provider, ReadFault, WriteFault};
-use block_traits::{Disk, Event};
+use block_traits::{Disk, Event, MetaPlace};
 use crash_disk::{CallKind, FailAt, MemDisk};
 use eli_base::{Auth, MasterKey};
-use eli_metadata::{Metadata, check, size_gate, slot_gate};
+use eli_metadata::{Metadata, check, encode, read_metadata, size_gate, slot_gate};
 use key_slots::{put_slot, wrap};
 use sha2::{Digest, Sha256};
 use std::alloc::Global;
@@ -24,7 +24,7 @@ struct Row {
     digest: [u128; 2],
 }
 
-// Another implementation's answers, by tools/image_digests.py.
+// By a script of this repository (tools/image_digests.py) over Python's hmac, hashlib and cryptography.
 const ROWS: [Row; 6] = [
     Row {
         ealgo: AES_XTS,
@@ -222,6 +222,43 @@ fn second_read_fails(rt: HostRuntime) -> Result<(), Fail> {
     Ok(())
 }
 
+// Metadata that say read-only, over a disk whose third flush fails.
+#[test]
+fn stored_and_detached(rt: HostRuntime) -> Result<(), Fail> {
+    let alloc = rt.alloc();
+    let mut meta = metadata(AES_XTS, 4096, 9 * 512);
+    meta.flags = 0x20;
+    let mut disk = MemDisk::new(alloc, 9, 8)?;
+    disk.fail_calls(&[FailAt {
+        kind: CallKind::Flush,
+        nth: 3,
+        lands: false,
+    }])?;
+    let mut provider = attached(&rt, alloc, disk, &meta, false);
+    assert!(rt; provider.read_only() && provider.slot() == 1 && provider.master() == master());
+    assert_eq!(rt;
+        write(&rt, &mut provider, 0, &[7; 4096]),
+        Err(WriteFault::ReadOnly)
+    );
+    let mut sector = [0; 512];
+    encode(&meta, &mut sector);
+    assert!(rt; MetaPlace::sectors(&provider) == 9);
+    assert!(rt; provider.store(&sector).is_ok());
+    assert_eq!(rt; read_metadata(&mut provider), Ok(meta));
+    assert!(rt; provider.flush().is_ok());
+    let (disk, flushed) = provider.detach();
+    assert!(rt; flushed.is_err() && disk.faults() == 1);
+    let (disk, flushed) = attached(&rt, alloc, disk, &meta, false).detach();
+    assert!(rt; flushed.is_ok());
+    assert!(rt; disk.history().len() == 4 && are_writes_of(&disk.history()[..1], &[8]));
+    assert!(rt;
+        disk.history()[1..]
+            .iter()
+            .all(|event| matches!(event, Event::Flush))
+    );
+    Ok(())
+}
+
 // Byte i is (7 * i + i / 256) mod 256.
 fn fill(text: &mut [u8]) {
     for (i, byte) in text.iter_mut().enumerate() {
@@ -269,7 +306,7 @@ fn check_row(rt: &impl Abort, alloc: Global, row: &Row, plain: &[u8]) -> Result<
 }
 
 #[test]
-fn images_of_another_implementation(rt: HostRuntime) -> Result<(), Fail> {
+fn images_by_another_program(rt: HostRuntime) -> Result<(), Fail> {
     let alloc = rt.alloc();
     let mut plain = vec![in alloc; 0u8; 131_072]?;
     fill(&mut plain);

@@ -18,13 +18,20 @@ returns-in_default g c =
 
 pub returns-in_default-opened : goal.returns-in_default-opened
 returns-in_default-opened g c =
-    let is = checked c.args.meta.now c.args.params.now (g.D.Disk.state c.args.disk).size c.requires.checked c.requires.size in
-    (refl, (omega (arith, is.media, c.in-Ok.ensures.fault), sym c.opened.ensures ∙ c.in_default-opened.is))
+    let none = c.in_default-opened.is in
+    let is = checked c.args.meta.now c.args.params.now (g.D.Disk.state c.args.disk).size c.requires.checked c.requires.size in (
+      refl,
+      (
+        omega (arith, is.media, c.in-Ok.ensures.fault),
+        sym c.opened.ensures.answer ∙ none,
+        λ s master opens. let other = (c.opened.ensures.opens s master).0 opens in absurd cc,
+      ),
+    )
 
 pub returns-in_default-reserve : goal.returns-in_default-reserve
 returns-in_default-reserve g c =
     let is = checked c.args.meta.now c.args.params.now (g.D.Disk.state c.args.disk).size c.requires.checked c.requires.size in
-    (refl, (omega (arith, is.media, c.in-Ok.ensures.fault), subst IsSome (sym c.in-Some.is ∙ c.opened.ensures) refl))
+    (refl, (omega (arith, is.media, c.in-Ok.ensures.fault), subst IsSome (sym c.in-Some.is ∙ c.opened.ensures.answer) refl))
 
 pub returns : goal.returns
 returns g c =
@@ -35,7 +42,8 @@ returns g c =
     record {
       room = omega (arith, is.media, c.in-Ok.ensures.fault);
       disk = refl;
-      opened = opened_as _ c.in-Some.master c.in-Some.slot c.args.params.now k (sym c.opened.ensures ∙ c.in-Some.is) same;
+      opened = opened_as _ c.in-Some.master c.in-Some.slot c.args.params.now k (sym c.opened.ensures.answer ∙ c.in-Some.is) same;
+      opens = (c.opened.ensures.opens c.in-Some.slot k.master).1 (opened_as _ c.in-Some.master c.in-Some.slot c.args.params.now k c.in-Some.is same);
       keying = keyed_as c.in-Some.master c.args.params.now k same;
       readonly = elim c.if-readonly.branch [
         | then-readonly w ↦ w.result-is ∙ w.if-readonly.true ∙ sym (ap (λ (r : Bool). r || is_readonly m) w.if-readonly.true)

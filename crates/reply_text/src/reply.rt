@@ -128,21 +128,6 @@ fn write_number_fields<K: Sink>(refusal: &Refusal, output: &mut K) -> Result<(),
             count,
             media,
         } => write_numbers(&[sector, count, media], output),
-        Refusal::UnknownProvider
-        | Refusal::NotAttached
-        | Refusal::StillAttached
-        | Refusal::BadMagic
-        | Refusal::BadHash
-        | Refusal::NoValidKeys
-        | Refusal::WrongKey
-        | Refusal::NoKeyComponents
-        | Refusal::PassphraseNotSet
-        | Refusal::IterationsNeedOneKey
-        | Refusal::PassphraseNeeded
-        | Refusal::ReadOnly
-        | Refusal::DeviceFault
-        | Refusal::EntropyFault
-        | Refusal::NoMemory
-        | Refusal::KeyNumberNeeded => write_numbers(&[], output),
+        _ => write_numbers(&[], output),
     }
 }

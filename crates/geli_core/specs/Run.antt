@@ -1,5 +1,5 @@
 -- What a run does and prints, and the status with which it ends.
-use Rattle.std.specs.Prelude.{◌≡◌, ℕ, List, Option, Some, None, Bool, true, false, Result, Ok, Err, codes, length, nat_le, if◌then◌else◌}
+use Rattle.std.specs.Prelude.{◌≡◌, ◌⊎◌, ℕ, List, Option, Some, None, Bool, true, false, Result, Ok, Err, codes, length, nat_le, if◌then◌else◌}
 use Rattle.block_traits.specs.Streams.{SinkState, TookAll, TookPart}
 use Rattle.command_words.specs.Images.{line_of}
 use Rattle.command_words.specs.Reading.{reading}
@@ -68,13 +68,13 @@ abbrev pub Runs : List (List ℕ) → World → SinkState → Status → World �
 Runs words old sink NoMemory new after = Abandons old sink new after
 Runs words old sink status new after = RunsLine (line_of words) (command_in (line_of words)) old sink status new after
 
--- the status with which the run of a line ends: that of a reply where the line says a command, and else BadWords; or the sink
--- failed, or there was no memory
+-- the status with which the run of a line ends: Done or SomeRefused where the line says a command, and else BadWords; or the
+-- sink failed, or there was no memory
 abbrev pub EndsBy : Option Command → Status → Type 0
 EndsBy command WriteFault = Unit {0}
 EndsBy command NoMemory = Unit {0}
 EndsBy None status = status ≡ BadWords
-EndsBy (Some command) status = (reply : Reply) × (status ≡ status_of reply)
+EndsBy (Some command) status = (status ≡ Done) ⊎ (status ≡ SomeRefused)
 
 -- whether a command writes no disk
 abbrev pub only_reads : Command → Bool

@@ -69,7 +69,7 @@ pub fn run<K: Sink, C: Cabinet, E: Entropy, D: Disk>(
     let Some(command) = command_in(&line) else {
         return print_usage(output);
     };
-    let reply = shelf.serve(alloc, &line, &command, files, entropy);
+    let reply = shelf.serve(&line, &command, files, entropy);
     print_reply(&reply, output)
 }
 

@@ -12,7 +12,6 @@ use Rattle.block_traits.specs.declared.disk.Event.TheVariants.{Write, Flush}
 use Rattle.block_traits.proofs.Causes.{Rose-earlier}
 use Rattle.block_traits.proofs.Contents.{present_after-append}
 use Rattle.command_words.specs.declared.spans.KeyWords.{KeyWords}
-use Rattle.command_words.specs.declared.spans.Span.{Span}
 use Rattle.eli_base.specs.Units.{media_sectors, units_per_sector}
 use Rattle.eli_base.specs.declared.algorithms.Auth.{Auth}
 use Rattle.eli_base.specs.declared.parameters.MasterKey.{MasterKey}
@@ -38,49 +37,25 @@ use Rattle.user_key.specs.UserKey.{user_key}
 use Rattle.user_key.specs.declared.components.Components.{Components}
 use Rattle.user_key.specs.declared.components.UserKey.{UserKey}
 use Rattle.shelf.specs.Opening.{NamesSameKey, OpensOrFails}
-use Rattle.shelf.specs.Steps.{Admits, BacksUp, GoesOn, LoadsComponents, MakesProvider, Reads, Then, TriesKey, admitted, after_check, after_size, after_slot, or_refusal, or_wrong_key, tried}
-use Rattle.shelf.specs.Turn.{InitRow, TryRow}
+use Rattle.shelf.specs.Steps.{Admits, GoesOn, LoadsComponents, MakesProvider, Reads, Then, TriesKey, admitted, after_check, after_size, after_slot, or_refusal, or_wrong_key, tried}
+use Rattle.shelf.specs.Turn.{TryRow}
 use Rattle.shelf.specs.World.{Reach}
 
 -- ---- what `init` leaves
 
--- metadata of use for the components were written
-record Made (options : InitOptions) (parts : Components) (old new : DiskState) : Type 0 where
-  m : Metadata
+-- these metadata, which are of use for the components, were written
+record Made (options : InitOptions) (parts : Components) (m : Metadata) (old new : DiskState) : Type 0 where
   key : UserKey
   master : List ℕ
   usable : IsUsable options parts old.size m key master
   logs : Logs (init_events old m) old new
 
--- the same, for the components that the words name
-record MadeFor (options : InitOptions) (line : List ℕ) (fresh : KeyWords) (old new : Reach) : Type 0 where
-  parts : Components
-  told : IfSome old.cabinet.files (λ files. Ok parts ≡ components_of files line fresh)
-  made : Made options parts old.disk new.disk
-
-disk-BacksUp : (line : List ℕ) (backup : Option Span) (m : Metadata) (old new : Reach) → BacksUp line backup m old (Ok tt) new → new.disk ≡ old.disk
-disk-BacksUp line None m old new backs = ap (λ (r : Reach). r.disk) backs.1
-disk-BacksUp line (Some span) m old new backs = backs.disk
-
-Made-provider : (options : InitOptions) (parts : Components) (line : List ℕ) (backup : Option Span) (given : Result Metadata Refusal) (old middle new : Reach)
-    → MakesProvider options parts old given middle → GoesOn (λ m. BacksUp line backup m) given middle (Ok tt) new → Made options parts old.disk new.disk
-Made-provider options parts line backup (Err refusal) old middle new makes next = absurd (cc next.0)
-Made-provider options parts line backup (Ok m) old middle new makes next = record {
-  m = m;
+Made-provider : (options : InitOptions) (parts : Components) (m : Metadata) (old new : Reach) → MakesProvider options parts old (Ok m) new → Made options parts m old.disk new.disk
+Made-provider options parts m old new makes = record {
   key = makes.inits.makes.key;
   master = master_key_in makes.inits.makes.random;
   usable = makes.inits.makes.usable;
-  logs = rw (disk-BacksUp line backup m middle new next) makes.inits.logs;
-}
-
-MadeFor-parts : (options : InitOptions) (line : List ℕ) (fresh : KeyWords) (backup : Option Span) (given : Result Components Refusal) (old middle new : Reach)
-    → LoadsComponents line fresh old given middle → GoesOn (λ parts. Then (MakesProvider options parts) (λ m. BacksUp line backup m)) given middle (Ok tt) new
-    → MadeFor options line fresh old new
-MadeFor-parts options line fresh backup (Err refusal) old middle new loads next = absurd (cc next.0)
-MadeFor-parts options line fresh backup (Ok parts) old middle new loads next = record {
-  parts = parts;
-  told = loads.told;
-  made = subst (λ (d : DiskState). Made options parts d new.disk) loads.disk (Made-provider options parts line backup next.given middle next.middle new next.first next.next);
+  logs = makes.inits.logs;
 }
 
 -- ---- what the last sector holds then
@@ -268,21 +243,20 @@ OpensOrFails-read line words m s slot parts files old new answer holds admits to
           (subst (λ (g : Result Metadata Refusal). GoesOn Next g row.middle answer new) given row.next) failed.rose
     ]
 
-pub OpensOrFails-tried : (options : InitOptions) (line line' : List ℕ) (fresh words : KeyWords) (backup : Option Span) (slot : Option ℕ)
-    (before made start after : Reach) (answer : Result (Unit {0}) Refusal)
-    → InitRow line options fresh backup before (Ok tt) made → IsSome before.disk.content → start.disk.content ≡ made.disk.content
+pub OpensOrFails-tried : (options : InitOptions) (line line' : List ℕ) (fresh words : KeyWords) (slot : Option ℕ) (parts : Components) (m : Metadata)
+    (before loaded made start after : Reach) (answer : Result (Unit {0}) Refusal)
+    → LoadsComponents line fresh before (Ok parts) loaded → MakesProvider options parts loaded (Ok m) made
+    → IsSome before.disk.content → start.disk.content ≡ made.disk.content
     → NamesSameKey line fresh before.cabinet line' words start.cabinet → IfSome slot (λ named. named ≡ 0)
     → TryRow line' slot words start answer after → OpensOrFails start answer after
-OpensOrFails-tried options line line' fresh words backup slot before made start after answer row told same names first tries =
-    let was : MadeFor options line fresh before made = MadeFor-parts options line fresh backup row.given before row.middle made row.first row.next in
-    let parts : Components = was.parts in
-    let m : Metadata = was.made.m in
-    let usable : IsUsable options parts before.disk.size m was.made.key was.made.master = was.made.usable in
-    let size : start.disk.size ≡ before.disk.size = size-made before.disk made.disk start.disk (init_events before.disk m) was.made.logs told same in
+OpensOrFails-tried options line line' fresh words slot parts m before loaded made start after answer loads makes told same names first tries =
+    let was : Made options parts m before.disk made.disk = subst (λ (d : DiskState). Made options parts m d made.disk) loads.disk (Made-provider options parts m loaded made makes) in
+    let usable : IsUsable options parts before.disk.size m was.key was.master = was.usable in
+    let size : start.disk.size ≡ before.disk.size = size-made before.disk made.disk start.disk (init_events before.disk m) was.logs told same in
     let named : Ok parts ≡ components_of names.files line fresh =
-    subst (λ (o : Option Files). IfSome o (λ files. Ok parts ≡ components_of files line fresh)) names.told was.told in
+    subst (λ (o : Option Files). IfSome o (λ files. Ok parts ≡ components_of files line fresh)) names.told loads.told in
     OpensOrFails-read line' words m (settings_for options before.disk.size) slot parts names.files' start after answer
-    (Holds-made options parts before.disk made.disk start.disk m was.made.key was.made.master usable was.made.logs told same)
+    (Holds-made options parts before.disk made.disk start.disk m was.key was.master usable was.logs told same)
     (ap (λ (n : ℕ). admitted m n slot) size ∙ admitted-accepted options before.disk.size m slot usable.accepted first)
     names.told' (names.same ∙ sym named)
-    (tried-usable options parts before.disk.size m was.made.key was.made.master slot usable first) tries
+    (tried-usable options parts before.disk.size m was.key was.master slot usable first) tries

@@ -87,7 +87,6 @@ impl<D: Disk> Drawers<D> {
     /// its provider, and else what the drawer answers. The other drawers stay as they are.
     pub fn serve<C: Cabinet, E: Entropy>(
         &mut self,
-        alloc: Global,
         line: &[u8],
         command: &Command,
         files: &mut C,
@@ -105,6 +104,7 @@ impl<D: Disk> Drawers<D> {
         let Some(place) = find(&self.drawers, name) else {
             return Reply::Refused(Refusal::UnknownProvider);
         };
+        let alloc = *self.drawers.allocator();
         let drawer = self.drawers.remove(place);
         let (drawer, reply) = drawer.serve(alloc, line, command, files, entropy);
         put_back(&mut self.drawers, place, drawer);

@@ -1,10 +1,7 @@
-use Rattle.std.specs.Prelude.{ℕ, List, [], ◌∷◌, length, nat_le, if◌then◌else◌, Option, None, Some, Result, Ok, Err}
+use Rattle.std.specs.Prelude.{ℕ, List, [], ◌∷◌, Option, None, Some, option_and_then}
 use Rattle.std.specs.List.{join_with_byte}
-use Rattle.command_words.specs.declared.commands.Command.{Command}
-use Rattle.command_words.specs.declared.commands.Usage.{Usage}
-use Rattle.command_words.specs.declared.spans.Sep.TheVariants.{Zeros}
 use Rattle.command_words.specs.declared.spans.Span.{Span}
-use Rattle.command_words.specs.Reading.{reading}
+use Rattle.command_words.specs.Reading.{command_in}
 use Rattle.command_words.specs.Places.{provider_of, bytes_at}
 
 -- The line of some words, which stand between zero bytes.
@@ -16,13 +13,6 @@ abbrev pub name_at : List ℕ → Option Span → List (List ℕ)
 name_at line None = []
 name_at line (Some span) = bytes_at line span ∷ []
 
--- The image that a line names: the provider of its command, if it is one and has one.
-abbrev pub image_in : List ℕ → Result (Option Command) Usage → List (List ℕ)
-image_in line (Ok (Some command)) = name_at line (provider_of command)
-image_in line (Ok None) = []
-image_in line (Err usage) = []
-
--- The images that the words of one command name. A line of more than 300,000 bytes is no command.
+-- The images that the words of one command name: the provider of the command, if they are one and it has one.
 abbrev pub image_names : List (List ℕ) → List (List ℕ)
-image_names words =
-    if nat_le (length (line_of words)) 300000 then image_in (line_of words) (reading Zeros (line_of words)) else []
+image_names words = name_at (line_of words) (option_and_then provider_of (command_in (line_of words)))

@@ -1,4 +1,4 @@
-use Rattle.std.specs.Prelude.{ℕ, ◌+◌, List, [], ◌∷◌, length, map, Bool, true, false, not, ◌&&◌, ◌||◌, ◌==◌, is_some, if◌then◌else◌, Option, None, Some, Result, Ok, Err, slice_index_or}
+use Rattle.std.specs.Prelude.{ℕ, ◌+◌, List, [], ◌∷◌, length, map, Bool, true, false, not, ◌&&◌, ◌||◌, ◌==◌, nat_le, is_some, if◌then◌else◌, Option, None, Some, Result, Ok, Err, slice_index_or}
 use Rattle.std.specs.Str.{is_utf8}
 use Rattle.eli_base.specs.declared.Reason.{Reason}
 use Rattle.eli_base.specs.declared.Reason.TheVariants.{UnknownVerb, OperandCount, MissingOption, Exclusive, NotText}
@@ -100,3 +100,16 @@ by_words sep is_text (word ∷ behind) =
 -- What a line says: nothing, a command, or why it is none.
 abbrev pub reading : Sep → List ℕ → Result (Option Command) Usage
 reading sep line = by_words sep (is_utf8 line) (words sep line)
+
+-- The command that a line says, if it says one.
+abbrev pub said : Result (Option Command) Usage → Option Command
+said (Ok command) = command
+said (Err usage) = None
+
+-- The most bytes of a line.
+abbrev pub line_limit : ℕ
+line_limit = 300000
+
+-- The command of a line whose words stand between zero bytes. A line that is too long says none.
+abbrev pub command_in : List ℕ → Option Command
+command_in line = if nat_le (length line) line_limit then said (reading Zeros line) else None

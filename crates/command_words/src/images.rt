@@ -1,11 +1,11 @@
 ghost use Rattle.std.specs.Prelude.{◌≡◌, [], ◌∷◌, map, length, IfOk, string_bytes};
 ghost use Rattle.std.specs.Str.{IsUtf8};
-ghost use Rattle.command_words.specs.Images.{line_of, image_in, image_names};
+ghost use Rattle.command_words.specs.Images.{line_of, image_names};
 ghost use Rattle.command_words.specs.Places.{IsWithin, bytes_at, provider_of};
 
 use crate::commands::Command;
-use crate::lines::read_line;
-use crate::spans::{Sep, Span};
+use crate::lines::command_in;
+use crate::spans::Span;
 use block_traits::NoMemory;
 use std::alloc::{AllocError, Global};
 use std::marker::Model;
@@ -72,8 +72,7 @@ fn name_at(alloc: Global, line: &[u8], span: Span) -> Result<String, AllocError>
     requires text { IsUtf8 (bytes_at line.now span) }
     ensures { IfOk result (λ name. string_bytes name ≡ bytes_at line.now span) }
 {
-    let bytes = &line[span.start as usize..span.end as usize];
-    match str::from_utf8(bytes) {
+    match str::from_utf8(span.bytes_in(line)) {
         Ok(text) => String::from_str(alloc, text),
         Err(_) => unreachable!(),
     }
@@ -97,10 +96,7 @@ pub fn images_of(alloc: Global, words: &[String]) -> Result<ImageNames, NoMemory
     ensures { IfOk result (λ images. images ≡ image_names (map string_bytes words.now)) }
 {
     let line = joined(alloc, words)?;
-    if line.len() > 300_000 {
-        return Ok(ImageNames::of_none(alloc));
-    }
-    let Ok(Some(command)) = read_line(line.as_slice(), Sep::Zeros) else {
+    let Some(command) = command_in(line.as_slice()) else {
         return Ok(ImageNames::of_none(alloc));
     };
     match command.provider() {

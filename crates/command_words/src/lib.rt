@@ -15,7 +15,7 @@ mod values;
 
 pub use commands::{Command, Usage};
 pub use images::{ImageNames, images_of, joined};
-pub use lines::read_line;
+pub use lines::{command_in, read_line};
 pub use spans::{KeyWords, Sep, Span, SpanList};
 
 #[cfg(test)]

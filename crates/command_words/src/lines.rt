@@ -2,7 +2,7 @@ ghost use Rattle.std.specs.Prelude.{◌≡◌, ◌+◌, ◌≤◌, length, IfOk,
 ghost use Rattle.std.specs.Str.{is_utf8};
 ghost use Rattle.command_words.specs.Cursor.{left};
 ghost use Rattle.command_words.specs.Places.{CommandIsWithin, ProviderIsText};
-ghost use Rattle.command_words.specs.Reading.{reading, by_verb, is_comment, complaint, command_at, is_torn, lacks_option, excludes};
+ghost use Rattle.command_words.specs.Reading.{reading, by_verb, is_comment, complaint, command_at, command_in, is_torn, lacks_option, excludes, line_limit};
 
 use crate::commands::{Command, Usage};
 use crate::cursor::Words;
@@ -11,6 +11,9 @@ use crate::settings::Settings;
 use crate::spans::{KeyWords, Sep, Span};
 use crate::table::Verb;
 use eli_base::Reason;
+
+// The most bytes of a line.
+const LINE_LIMIT: usize = 300_000;
 
 // Whether a line that begins with this word is a comment.
 fn starts_comment(sep: Sep, word: &[u8]) -> bool
@@ -125,7 +128,7 @@ fn is_text(line: &[u8]) -> bool
 
 // What a line says.
 fn read(line: &[u8], sep: Sep) -> Result<Option<Command>, Usage>
-    requires { length line.now ≤ 300000 }
+    requires { length line.now ≤ line_limit }
     ensures { result ≡ reading sep line.now }
 {
     let Some((name, words)) = Words::new(line, sep).split_first() else {
@@ -153,7 +156,7 @@ fn read(line: &[u8], sep: Sep) -> Result<Option<Command>, Usage>
 /// Reads one line of at most 300,000 bytes: no command where the line has no word or, between blanks,
 /// is a comment; else a command, or what is wrong.
 pub fn read_line(line: &[u8], sep: Sep) -> Result<Option<Command>, Usage>
-    requires { length line.now ≤ 300000 }
+    requires { length line.now ≤ line_limit }
     ensures reading { result ≡ reading sep line.now }
 
     // The places of a command lie in the line.
@@ -163,4 +166,24 @@ pub fn read_line(line: &[u8], sep: Sep) -> Result<Option<Command>, Usage>
     ensures text { IfOk result (λ read. IfSome read (ProviderIsText line.now)) }
 {
     read(line, sep)
+}
+
+/// The command of a line whose words stand between zero bytes, if it says one. A line of more than 300,000 bytes says
+/// none.
+pub fn command_in(line: &[u8]) -> Option<Command>
+    ensures said { result ≡ command_in line.now }
+
+    // The places of the command lie in the line.
+    ensures places { IfSome result (CommandIsWithin (length line.now)) }
+
+    // The name of its provider is text.
+    ensures text { IfSome result (ProviderIsText line.now) }
+{
+    if line.len() > LINE_LIMIT {
+        return None;
+    }
+    match read_line(line, Sep::Zeros) {
+        Ok(said) => said,
+        Err(_) => None,
+    }
 }

@@ -22,6 +22,18 @@ pub struct Span {
     pub word: u32,
 }
 
+impl Span {
+    ghost use Rattle.command_words.specs.Places.{IsWithin, bytes_at};
+
+    /// The bytes of the value, of the line in which the span lies.
+    pub fn bytes_in(self, line: &[u8]) -> &[u8]
+        requires { IsWithin (length line.now) self }
+        ensures { result.now ≡ bytes_at line.now self }
+    {
+        &line[self.start as usize..self.end as usize]
+    }
+}
+
 /// The files of one option, in the order in which they were named: a list of at most 16 spans.
 #[derive(Debug, Drop)]
 pub struct SpanList {
@@ -65,7 +77,8 @@ impl SpanList {
 
     /// The spans in order.
     pub fn as_slice(&self) -> &[Span]
-        ensures { result.now ≡ self.now }
+        ensures spans { result.now ≡ self.now }
+        ensures bound { length result.now ≤ 16 }
     {
         &self.spans[..self.count]
     }

@@ -133,6 +133,14 @@ fn lines_of_the_table(rt: HostRuntime) -> Result<(), Fail> {
     Ok(())
 }
 
+fn long_name(alloc: Global, len: usize) -> Result<String, Fail> {
+    let mut name = String::new(alloc);
+    for _ in 0..len {
+        name.push('a')?;
+    }
+    Ok(name)
+}
+
 #[test]
 fn lines_that_are_no_text(rt: HostRuntime) -> Result<(), Fail> {
     let alloc = rt.alloc();
@@ -145,25 +153,53 @@ fn lines_that_are_no_text(rt: HostRuntime) -> Result<(), Fail> {
     assert_eq!(rt; read_line(b"dump\0\xff", Sep::Zeros).err(), not_text);
     assert!(&rt; matches!(read_line(b" # \xff", Sep::Blanks), Ok(None)));
     let mut long = String::from_str(alloc, "dump ")?;
-    for _ in 0..299_995 {
-        long.push('a')?;
-    }
+    long.push_str(long_name(alloc, 299_995)?.as_str())?;
     let shown = show(&rt, alloc, long.as_bytes(), Sep::Blanks)?;
     assert_eq!(rt; shown.len(), 300_004);
     Ok(())
 }
 
+// Whether the names are this one alone, or none.
+fn are_names(images: &ImageNames, wanted: Option<&str>) -> bool {
+    match (images.as_slice(), wanted) {
+        ([], None) => true,
+        ([name], Some(wanted)) => name.as_str() == wanted,
+        _ => false,
+    }
+}
+
 #[test]
 fn images_of_words(rt: HostRuntime) -> Result<(), Fail> {
     let alloc = rt.alloc();
-    let mut words = Vec::new(alloc);
-    for word in ["attach", "-C", "-k", "my key", "my image"] {
-        words.push(String::from_str(alloc, word)?)?;
+    // Bars stand between the words.
+    let cases = [
+        ("attach|-C|-k|my key|my image", Some("my image")),
+        ("attach|-C|-k|my key|my image|other", None),
+        ("script|a.img", None),
+        ("dump|a.img", Some("a.img")),
+        ("init|-K|k|a.img", Some("a.img")),
+    ];
+    for (text, wanted) in cases {
+        let mut words = Vec::new(alloc);
+        for word in text.split('|') {
+            words.push(String::from_str(alloc, word)?)?;
+        }
+        let images = images_of(alloc, words.as_slice())?;
+        assert!(&rt; are_names(&images, wanted), "{text}");
     }
-    let images = images_of(alloc, words.as_slice())?;
-    assert_eq!(rt; images.as_slice().len(), 1);
-    assert!(&rt; images.as_slice()[0].as_str() == "my image");
-    words.push(String::from_str(alloc, "other")?)?;
-    assert_eq!(rt; images_of(alloc, words.as_slice())?.as_slice().len(), 0);
+    assert!(&rt; are_names(&images_of(alloc, &[])?, None));
+    Ok(())
+}
+
+// The longest line has 300,000 bytes.
+#[test]
+fn images_of_long_lines(rt: HostRuntime) -> Result<(), Fail> {
+    let alloc = rt.alloc();
+    for (len, fits) in [(299_995, true), (299_996, false)] {
+        let words = [String::from_str(alloc, "dump")?, long_name(alloc, len)?];
+        let images = images_of(alloc, &words)?;
+        let name = words[1].as_str();
+        assert!(&rt; are_names(&images, if fits { Some(name) } else { None }));
+    }
     Ok(())
 }

@@ -1,6 +1,6 @@
-/// Lines and what they say, made by another implementation of the syntax. A row has the separator, the line, and
-/// the reply, each value as its text, the number of its word and its place. `~` stands for a zero byte, a grave
-/// accent for a tab, and `^` for a carriage return.
+/// Lines and what they say. Another implementation of the syntax, tools/word_table.py, gives the same rows. A row has
+/// the separator, the line, and the reply, each value as its text, the number of its word and its place. `~` stands for
+/// a zero byte, a grave accent for a tab, and `^` for a carriage return.
 pub const TABLE: &str = "B||none
 B|   |none
 B|`` `|none

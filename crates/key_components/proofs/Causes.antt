@@ -1,13 +1,10 @@
 -- Loads one after another.
-use Rattle.std.proofs.Common.{◌≤◌, refl, ◌∙◌, arith, inl, inr, Option, Some, None, IfSome}
+use Rattle.std.proofs.Common.{◌≤◌, ◌∙◌, arith, inl, inr, Option, Some, None, IfSome}
 use Rattle.block_traits.proofs.Causes.{Rose-earlier}
 use Rattle.block_traits.specs.Cabinet.{CabinetState}
 use Rattle.eli_base.specs.declared.refusals.Refusal.{Refusal}
 use Rattle.eli_base.specs.declared.refusals.Refusal.TheVariants.{CabinetFault, FileAbsent, FileTooLong, NoMemory}
 use Rattle.key_components.specs.Answers.{Loads, MayRefuse}
-
-pub Loads-nothing : (state : CabinetState) → Loads state state None
-Loads-nothing state = record { files = refl; faults = omega arith; misses = omega arith; cause = tt }
 
 MayRefuse-earlier : (old middle new : CabinetState) (refusal : Refusal) → old.faults ≤ middle.faults → old.misses ≤ middle.misses → MayRefuse middle new refusal → MayRefuse old new refusal
 MayRefuse-earlier old middle new (CabinetFault word) faults misses may = Rose-earlier old.faults middle.faults new.faults faults may
@@ -29,7 +26,3 @@ Loads-then {old} {middle} {new} refusal first second = record {
   misses = omega (arith, first.misses, second.misses);
   cause = cause-earlier old middle new refusal first.faults first.misses second.cause;
 }
-
--- after loads without a refusal there was no memory
-pub Loads-memory : {old new : CabinetState} → Loads old new None → Loads old new (Some NoMemory)
-Loads-memory loads = record { files = loads.files; faults = loads.faults; misses = loads.misses; cause = tt }

@@ -80,10 +80,6 @@ IsRefusal-weaker answer other refusal same is = same is
 abbrev pub TakenSo : Taking → Option Files → List ℕ → List Span → List ℕ → Type 0
 TakenSo taking told line spans bytes = IfSome told (λ files. Taken taking files line spans bytes)
 
-pub TakenSo-none : (taking : Taking) (told : Option Files) (line : List ℕ) → TakenSo taking told line [] []
-TakenSo-none taking None line = tt
-TakenSo-none taking (Some files) line = record { fault = refl; bytes = refl }
-
 -- the answer for the file of one span
 abbrev pub PieceIs : Taking → Option Files → List ℕ → ℕ → Span → Result (List ℕ) Refusal → Type 0
 PieceIs taking told line used span result =
@@ -114,17 +110,6 @@ PartIs-refused taking (Some files) line spans bytes span behind refusal taken is
     (λ same. ap (λ f. unless f (joined taking files line all))
     (sym (next_fault taking files line spans bytes span behind taken ∙ ap (λ f. option_or f (first_fault taking files line (length bytes + length value) behind)) (unless-err fault value refusal same))))
     is
-
-pub PartIs-done : (taking : Taking) (told : Option Files) (line : List ℕ) (spans : List Span) (bytes : List ℕ)
-    → TakenSo taking told line spans bytes → PartIs taking told line spans (Ok bytes)
-PartIs-done taking None line spans bytes taken = tt
-PartIs-done taking (Some files) line spans bytes taken =
-    ap Ok taken.bytes ∙ ap (λ f. unless f (joined taking files line spans)) (sym taken.fault)
-
--- a refusal of want of memory is an answer at any time
-pub PartIs-memory : (taking : Taking) (told : Option Files) (line : List ℕ) (spans : List Span) → PartIs taking told line spans (Err NoMemory)
-PartIs-memory taking None line spans = tt
-PartIs-memory taking (Some files) line spans = tt
 
 served : (taking : Taking) (told : Option Files) (line : List ℕ) (spans : List Span) (bytes : List ℕ)
     → TakenSo taking told line spans bytes → IfSome told (λ files. first_fault taking files line 0 spans ≡ None)

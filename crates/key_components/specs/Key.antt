@@ -1,5 +1,5 @@
 -- The components of a user key, by the files that the options name (geli(8), the options -J, -j, -K, -k, -P and -p).
-use Rattle.std.specs.Prelude.{◌≡◌, ◌≤◌, ℕ, ◌==◌, min, List, length, map, Option, Result, if◌then◌else◌}
+use Rattle.std.specs.Prelude.{◌≡◌, ◌≤◌, ℕ, ◌==◌, List, length, map, Option, Result, if◌then◌else◌}
 use Rattle.std.specs.Option.{option_or}
 use Rattle.block_traits.specs.Cabinet.{Files}
 use Rattle.command_words.specs.declared.spans.KeyWords.{KeyWords}
@@ -19,17 +19,17 @@ passphrase_of words passphrase = if words.without then Without else (if length w
 abbrev pub key_fault : Files → List ℕ → KeyWords → Option Refusal
 key_fault files line words = option_or (first_fault key_files files line 0 words.files) (first_fault passphrase_files files line 0 words.pass)
 
--- the components, or that refusal; a count of key files stands at the end of its type
+-- the components, or that refusal
 abbrev pub components_of : Files → List ℕ → KeyWords → Result Components Refusal
 components_of files line words = unless (key_fault files line words) (record {
-  keyfile_count = min (length words.files) 4294967295;
+  keyfile_count = length words.files;
   keyfiles = joined key_files files line words.files;
   passphrase = passphrase_of words (joined_passphrase (map (content files line) words.pass));
 })
 
 -- the components are of the kind that the words want, and within the limits
 pub record FitsWords (words : KeyWords) (parts : Components) : Type 0 where
-  pub count : parts.keyfile_count ≡ min (length words.files) 4294967295
+  pub count : parts.keyfile_count ≡ length words.files
   pub keyfiles : length parts.keyfiles ≤ file_limit
   pub passphrase : List ℕ
   pub short : length passphrase ≤ passphrase_limit

@@ -43,8 +43,7 @@ pub fn load_file<C: Cabinet>(
     ensures word { IfErr result (λ refusal. IfSome (word_of refusal) (λ word. span.word ≡ word)) }
     ensures loads { Loads (cabinet_of C.files C.faults C.misses files.old) (cabinet_of C.files C.faults C.misses files.new) (result_err result) }
 {
-    let name = &line[span.start as usize..span.end as usize];
-    match files.load(alloc, name, limit as u64) {
+    match files.load(alloc, span.bytes_in(line), limit as u64) {
         Ok(bytes) => Ok(bytes),
         Err(fault) => Err(refusal(span.word, fault)),
     }

@@ -1,6 +1,6 @@
 //! The components of a key.
 
-ghost use Rattle.std.specs.Prelude.{◌≡◌, length, min, IfOk, IfErr, IfSome};
+ghost use Rattle.std.specs.Prelude.{◌≡◌, ◌+◌, ◌≤◌, length, IfOk, IfErr, IfSome};
 ghost use Rattle.std.specs.Result.{result_err};
 ghost use Rattle.block_traits.specs.Cabinet.{cabinet_of};
 ghost use Rattle.command_words.specs.Places.{KeyIsWithin};
@@ -9,17 +9,10 @@ ghost use Rattle.key_components.specs.Key.{FitsWords, components_of, passphrase_
 
 use crate::parts::{Part, load_part};
 use block_traits::{ByteList, Cabinet};
-use command_words::{KeyWords, SpanList};
+use command_words::KeyWords;
 use eli_base::Refusal;
 use std::alloc::Global;
 use user_key::{Components, PassPart};
-
-// The number of the spans. A list has at most 16.
-fn count(spans: &SpanList) -> u32
-    ensures { result ≡ min (length spans.now) 4294967295 }
-{
-    u32::try_from(spans.as_slice().len()).unwrap_or(u32::MAX)
-}
 
 // What the options say of the passphrase, which their files make.
 fn pass_part(words: &KeyWords, passphrase: ByteList) -> PassPart
@@ -43,7 +36,7 @@ fn pass_part(words: &KeyWords, passphrase: ByteList) -> PassPart
 /// A refusal names the word of the file at which it arises: `CabinetFault` where the cabinet failed,
 /// `FileAbsent` where there is no such file, `FileTooLong` of 1,048,576 bytes where the key files up to
 /// this one have more, or a passphrase file alone, and of 1,024 bytes where the first lines up to that
-/// of this file have more. `NoMemory` may come at any load.
+/// of this file have more. `NoMemory` may come at any load. Where no file is named nothing is refused.
 pub fn load_components<C: Cabinet>(
     alloc: Global,
     line: &[u8],
@@ -61,13 +54,16 @@ pub fn load_components<C: Cabinet>(
     // A refusal names the word of a file that was reached.
     ensures reached { IfErr result (λ refusal. IfSome (word_of refusal) (IsReached (C.files files.old) line.now words.now)) }
 
+    // Where no file is named nothing is refused.
+    ensures named { IfErr result (λ _. 1 ≤ length words.now.files + length words.now.pass) }
+
     // Each refusal has its cause, and no file changes.
     ensures loads { Loads (cabinet_of C.files C.faults C.misses files.old) (cabinet_of C.files C.faults C.misses files.new) (result_err result) }
 {
     let keyfiles = load_part(alloc, line, Part::KeyFiles, words.files.as_slice(), files)?;
     let passphrase = load_part(alloc, line, Part::Passphrase, words.pass.as_slice(), files)?;
     Ok(Components {
-        keyfile_count: count(&words.files),
+        keyfile_count: words.files.as_slice().len() as u32,
         keyfiles,
         passphrase: pass_part(words, passphrase),
     })

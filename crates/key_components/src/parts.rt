@@ -89,6 +89,7 @@ pub fn load_part<C: Cabinet>(
         IsAnswer (unless (first_fault (taking_of part) told line.now 0 spans.now) (joined (taking_of part) told line.now spans.now)) result) }
     ensures within { IfOk result (λ bytes. length bytes ≤ limit_of part) }
     ensures at { IfErr result (λ refusal. IfSome (word_of refusal) (IsAt (taking_of part) (C.files files.old) line.now spans.now)) }
+    ensures named { IfErr result (λ _. 1 ≤ length spans.now) }
     ensures loads { Loads (cabinet_of C.files C.faults C.misses files.old) (cabinet_of C.files C.faults C.misses files.new) (result_err result) }
 {
     let mut joined = Vec::new(alloc);

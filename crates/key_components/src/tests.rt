@@ -135,6 +135,34 @@ fn limits_at_their_edges(rt: HostRuntime) -> Result<(), Fail> {
     Ok(())
 }
 
+// After a refusal no further file is loaded: the second load fails, and it is that of the next key.
+#[test]
+fn nothing_is_loaded_after_a_refusal(rt: HostRuntime) -> Result<(), Fail> {
+    let long = Refusal::FileTooLong {
+        word: 3,
+        limit: 1_048_576,
+    };
+    let cases = [
+        (
+            "attach -C -k absent -j 24 x",
+            Refusal::FileAbsent { word: 3 },
+        ),
+        (
+            "attach -C -k absent -k one x",
+            Refusal::FileAbsent { word: 3 },
+        ),
+        ("attach -C -k more -j 24 x", long),
+    ];
+    for (line, wanted) in cases {
+        let mut files = large_files(rt.alloc())?;
+        files.fail_calls(&[2])?;
+        assert_eq!(rt; refusal(rt.alloc(), line, &mut files)?, Some(wanted));
+        let next = refusal(rt.alloc(), "attach -C -k one x", &mut files)?;
+        assert_eq!(rt; next, Some(Refusal::CabinetFault { word: 3 }));
+    }
+    Ok(())
+}
+
 // Key files are loaded before passphrase files, and none after a refusal.
 #[test]
 fn each_call_fails_in_turn(rt: HostRuntime) -> Result<(), Fail> {

@@ -1,12 +1,10 @@
 -- What a run does and prints, and the status with which it ends.
-use Rattle.std.specs.Prelude.{◌≡◌, ◌⊎◌, ℕ, List, Option, Some, None, Bool, true, false, Result, Ok, Err, codes, length, nat_le, if◌then◌else◌}
+use Rattle.std.specs.Prelude.{◌≡◌, ◌⊎◌, ℕ, List, Option, Some, None, Bool, true, false, codes}
 use Rattle.block_traits.specs.Streams.{SinkState, TookAll, TookPart}
 use Rattle.command_words.specs.Images.{line_of}
-use Rattle.command_words.specs.Reading.{reading}
+use Rattle.command_words.specs.Reading.{command_in}
 use Rattle.command_words.specs.declared.commands.Command.{Command}
 use Rattle.command_words.specs.declared.commands.Command.TheVariants as commands
-use Rattle.command_words.specs.declared.commands.Usage.{Usage}
-use Rattle.command_words.specs.declared.spans.Sep.TheVariants.{Zeros}
 use Rattle.reply_text.specs.declared.Reply.{Reply}
 use Rattle.reply_text.specs.declared.Reply.TheVariants as replies
 use Rattle.reply_text.specs.Text.{reply_text}
@@ -17,19 +15,6 @@ use Rattle.geli_core.specs.declared.status.Status.TheVariants.{Done, SomeRefused
 
 abbrev pub usage_text : List ℕ
 usage_text = codes "usage: geli script IMAGE... or geli VERB ...\n"
-
--- the command that a line says, if it says one
-abbrev pub said : Result (Option Command) Usage → Option Command
-said (Ok command) = command
-said (Err usage) = None
-
--- the most bytes of a line
-abbrev pub line_limit : ℕ
-line_limit = 300000
-
--- the command of a line whose words stand between zero bytes. A line that is too long is none.
-abbrev pub command_in : List ℕ → Option Command
-command_in line = if nat_le (length line) line_limit then said (reading Zeros line) else None
 
 -- the status after a reply that was printed
 abbrev pub status_of : Reply → Status

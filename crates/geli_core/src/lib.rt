@@ -1,7 +1,6 @@
 //! The run of the program: what the words ask for is done, printed and answered by a status.
 #![tactic(auto)]
 
-mod command;
 mod status;
 mod top_call;
 

@@ -3,14 +3,14 @@ ghost use Rattle.std.specs.Prelude.{◌≡◌, ◌≢◌, IsTrue, map, string_by
 ghost use Rattle.block_traits.specs.Cabinet.{cabinet_of};
 ghost use Rattle.block_traits.specs.Streams.{entropy_of, sink_of};
 ghost use Rattle.command_words.specs.Images.{line_of};
+ghost use Rattle.command_words.specs.Reading.{command_in};
 ghost use Rattle.reply_text.specs.Text.{reply_text};
 ghost use Rattle.shelf.specs.World.{contents, drawers_of, world_of};
-ghost use Rattle.geli_core.specs.Run.{EndsBy, EndsWith, Runs, asks_no_write, command_in, status_of, usage_text};
+ghost use Rattle.geli_core.specs.Run.{EndsBy, EndsWith, Runs, asks_no_write, status_of, usage_text};
 
 use crate::Status;
-use crate::command::command_in;
 use block_traits::{Cabinet, Disk, Entropy, Sink, Source};
-use command_words::joined;
+use command_words::{command_in, joined};
 use reply_text::{Reply, write_reply, write_text};
 use shelf::{Drawers, Shelf};
 use std::alloc::Global;

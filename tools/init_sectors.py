@@ -3,7 +3,8 @@
 
 The random bytes are byte i = (i * 7 + 3) mod 256, first the salt (64 bytes), then the master key (128), then the filler
 of slot 1 (192). FILES has the key files and passphrase files. A row has the number of device sectors of the image, the
-words, and the SHA-256 digest of the 512 bytes that `init` puts in the last sector.
+words, and the SHA-256 digest of the 512 bytes that `init` puts in the last sector. After the rows come the length and
+the SHA-256 digest of what `dump` prints after the words of DUMPED.
 """
 import getopt
 import hashlib
@@ -42,6 +43,8 @@ ROWS = [
     (10, "init -P -K k -s 4096 -a HMAC/SHA256 a.img"),
     (2048, "init -K k -J p a.img"),
 ]
+
+DUMPED = "init -e AES-CBC -l 256 -a HMAC/SHA256 -s 8192 -R -P -K k a.img"
 
 
 def hmac512(key, message):
@@ -86,6 +89,16 @@ def sector(words, sectors):
     return meta + hashlib.md5(meta).digest() + b"\0"
 
 
+def dump_text(bytes):
+    version, flags, ealgo, keylen, aalgo, provsize, sectorsize, keys, iterations = struct.unpack("<IIHHHQIBi", bytes[16:47])
+    return "".join(line + "\n" for line in (
+        f"version: {version}", f"flags: 0x{flags:x}", f"ealgo: {ealgo}", f"keylen: {keylen}", f"aalgo: {aalgo}",
+        f"provsize: {provsize}", f"sectorsize: {sectorsize}", f"keys: 0x{keys:x}", f"iterations: {iterations}",
+        f"salt: {bytes[47:111].hex()}", f"mkeys: {bytes[111:495].hex()}", "ok"))
+
+
 if __name__ == "__main__":
     for sectors, words in ROWS:
         print(f'({sectors}, "{words}", "{hashlib.sha256(sector(words, sectors)).hexdigest()}"),')
+    dump = dump_text(sector(DUMPED, 2048)).encode()
+    print(f'dump: {len(dump)} bytes, "{hashlib.sha256(dump).hexdigest()}"')

@@ -212,10 +212,10 @@ pub(crate) fn hashed(sector: &Sector) -> Sector {
     anew
 }
 
-// The SHA-256 digest of a sector, in hexadecimal.
-pub(crate) fn digest_text(alloc: Global, sector: &Sector) -> Result<String, Fail> {
+// The SHA-256 digest of bytes, in hexadecimal.
+pub(crate) fn digest_text(alloc: Global, bytes: &[u8]) -> Result<String, Fail> {
     let mut text = String::new(alloc);
-    for byte in Sha256::digest(sector) {
+    for byte in Sha256::digest(bytes) {
         write!(text, "{byte:02x}")?;
     }
     Ok(text)

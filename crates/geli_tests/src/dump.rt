@@ -2,7 +2,7 @@
 use crate::common::{USAGE, World, disk_with, words};
 use block_traits::{Disk, NoMemory, Sector};
 use crash_disk::{CallKind, FailAt, MemCabinet, MemDisk, MemEntropy, MemSink, MemSource};
-use geli_core::{Shelf, Status, geli_main};
+use geli_core::{AddFault, Shelf, Status, geli_main};
 use std::alloc::Global;
 use std::test::Fail;
 
@@ -77,7 +77,7 @@ fn each_last_sector_has_its_reply(rt: HostRuntime) -> Result<(), Fail> {
         let mut output = MemSink::new(alloc, &[], &[], 2048)?;
         let ended = run_over(
             alloc,
-            disk_with(alloc, 2, &last)?,
+            disk_with(alloc, 2048, &last)?,
             "dump a.img",
             &mut output,
         )?;
@@ -150,6 +150,7 @@ fn each_form_of_the_words_has_its_answer(rt: HostRuntime) -> Result<(), Fail> {
     assert!(rt; are_bad_words(alloc, "dump -a.img")?);
     assert!(rt; are_bad_words(alloc, "dump a\0b")?);
     assert!(rt; are_bad_words(alloc, "Dump a.img")?);
+    assert!(rt; are_bad_words(alloc, "script")?);
     assert!(rt; are_bad_words(alloc, "script a.img")?);
     assert!(rt; is_unknown(alloc, "b.img")?);
     assert!(rt; is_unknown(alloc, "")?);
@@ -181,12 +182,12 @@ fn a_failing_sink_gets_a_part_of_the_text(rt: HostRuntime) -> Result<(), Fail> {
     let ended = run_over(alloc, disk, "dump a.img", &mut output)?;
     assert_eq!(rt; output.bytes(), whole.as_bytes());
     assert_eq!(rt; ended, Status::Done);
-    for call in 1..=34u64 {
-        let mut output = MemSink::new(alloc, &[], &[call], 2048)?;
+    assert_eq!(rt; whole.len(), 1031);
+    for (call, taken) in [(1, 0), (2, 1), (500, 499), (1031, 1030)] {
+        let mut output = MemSink::new(alloc, &slow, &[call], 2048)?;
         let disk = disk_with(alloc, 2, &metadata())?;
         let ended = run_over(alloc, disk, "dump a.img", &mut output)?;
-        assert!(rt; whole.as_bytes().starts_with(output.bytes()));
-        assert!(rt; output.bytes().len() < whole.len());
+        assert_eq!(rt; Some(output.bytes()), whole.as_bytes().get(..taken));
         assert_eq!(rt; ended, Status::WriteFault);
     }
     let mut output = MemSink::new(alloc, &[], &[1], 2048)?;
@@ -244,8 +245,11 @@ fn the_top_call_runs_over_a_boxed_disk(rt: HostRuntime) -> Result<(), Fail> {
     let mut shelf = Shelf::new(alloc)?;
     let disk: Box<dyn Disk> = Box::new(alloc, disk_with(alloc, 2, &metadata())?)?;
     assert!(rt; shelf.add("a.img", disk).is_ok());
-    let second: Box<dyn Disk> = Box::new(alloc, MemDisk::new(alloc, 2, 0)?)?;
-    assert!(rt; shelf.add("b.img", second).is_err());
+    let second: Box<dyn Disk> = Box::new(alloc, MemDisk::new(alloc, 3, 0)?)?;
+    match shelf.add("b.img", second) {
+        Err((back, AddFault::Full)) => assert_eq!(rt; back.sectors(), 3),
+        _ => return Err(Fail::from("not full")),
+    }
     let mut output = MemSink::new(alloc, &[], &[], 2048)?;
     let ended = geli_main(
         alloc,

@@ -2,7 +2,7 @@
 use crate::common::{World, blank, digest_text, made, play, random_bytes, stock, words};
 use block_traits::{Disk, Event, Sector};
 use crash_disk::{CallKind, FailAt, MemDisk, MemEntropy, MemSink, MemSource};
-use geli_core::{Shelf, geli_main};
+use geli_core::{Shelf, Status, geli_main};
 use std::alloc::Global;
 use std::test::Fail;
 
@@ -36,13 +36,17 @@ fn the_top_call_makes_a_provider_over_a_boxed_disk(rt: HostRuntime) -> Result<()
     assert!(rt; shelf.add("a.img", disk).is_ok());
     let mut files = stock(alloc)?;
     let mut entropy = MemEntropy::new(alloc, &random_bytes())?;
-    for (line, text) in [
-        ("init -K k -J p -i 1000 a.img", "ok\n"),
-        ("attach -C -k k -j p a.img", "ok\n"),
-        ("attach -C -k k -j q a.img", "error 15 WrongKey\n"),
+    for (line, text, status) in [
+        ("init -K k -J p -i 1000 a.img", "ok\n", Status::Done),
+        ("attach -C -k k -j p a.img", "ok\n", Status::Done),
+        (
+            "attach -C -k k -j q a.img",
+            "error 15 WrongKey\n",
+            Status::SomeRefused,
+        ),
     ] {
         let mut output = MemSink::new(alloc, &[], &[], 2048)?;
-        geli_main(
+        let ended = geli_main(
             alloc,
             &words(alloc, line)?,
             &mut MemSource::new(alloc, b"", &[], &[])?,
@@ -52,6 +56,7 @@ fn the_top_call_makes_a_provider_over_a_boxed_disk(rt: HostRuntime) -> Result<()
             &mut shelf,
         );
         assert_eq!(rt; output.bytes(), text.as_bytes());
+        assert_eq!(rt; ended, status);
     }
     let bytes = made(alloc, 2048, "init -K k -J p -i 1000 a.img")?;
     let events = [Event::Flush, Event::Write { n: 2047, bytes }, Event::Flush];
@@ -177,6 +182,25 @@ fn iterations_that_are_not_named(rt: HostRuntime) -> Result<(), Fail> {
     assert_eq!(rt;
         digest_text(alloc, &sector)?.as_str(),
         "b749875c0f369278f5377c210f39fde84ecf19d7f0638951074c3cf0cf1bd867"
+    );
+    Ok(())
+}
+
+// What is printed of metadata with other things than zeros: its length and SHA-256 digest by tools/init_sectors.py.
+#[test]
+fn what_is_made_is_dumped(rt: HostRuntime) -> Result<(), Fail> {
+    let alloc = rt.alloc();
+    let mut world = World::new(alloc, blank(alloc, 2048)?)?;
+    let line = "init -e AES-CBC -l 256 -a HMAC/SHA256 -s 8192 -R -P -K k a.img";
+    let told = world.tell(alloc, line)?;
+    assert_eq!(rt; told.as_str(), "ok, 0, Flush, Write 2047, Flush");
+    let mut output = MemSink::new(alloc, &[], &[], 2048)?;
+    let ended = world.run(alloc, "dump a.img", &mut output)?;
+    assert_eq!(rt; ended.number(), 0);
+    assert_eq!(rt; output.bytes().len(), 1029);
+    assert_eq!(rt;
+        digest_text(alloc, output.bytes())?.as_str(),
+        "0f05228dae63af0a6f9cbccc1ea1d8adbda8810b2742b7a0434224fd7d0ff49e"
     );
     Ok(())
 }

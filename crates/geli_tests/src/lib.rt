@@ -11,6 +11,8 @@ mod dump;
 #[cfg(test)]
 mod failures;
 #[cfg(test)]
+mod hashes;
+#[cfg(test)]
 mod init;
 #[cfg(test)]
 mod limits;

@@ -1,10 +1,10 @@
 -- A file as a disk.
-use Rattle.std.specs.Prelude.{◌≡◌, ◌≤◌, ◌<◌, ◌^◌, ◌/◌, ◌⊎◌, ℕ, List, Option, None, Some, Result, Ok, Err}
+use Rattle.std.specs.Prelude.{◌≡◌, ◌≤◌, ◌<◌, ◌^◌, ◌/◌, ℕ, List, Option, None, Some, Result, Ok, Err}
 use Rattle.std.specs.declared.fs.options.OpenOptions.{OpenOptions}
 use Rattle.std.specs.declared.io.Error.{Error}
 use Rattle.block_traits.specs.Disk.{DiskState, untold}
 use Rattle.geli_cli.specs.declared.file_disk.FileDisk.{FileDisk}
-use Rattle.geli_cli.specs.Opening.{IsSized, OpensImage}
+use Rattle.geli_cli.specs.Opening.{OpensImage}
 
 -- it tells no content
 abbrev pub state_of : {F : Type 0} → FileDisk F → DiskState
@@ -25,19 +25,24 @@ pub record IsDiskOf {F : Type 0} (file : F) (size : ℕ) (disk : FileDisk F) : T
   pub small : size < 2 ^ 53 → Holds file size disk
   pub large : 2 ^ 53 ≤ size → IsUnopened disk
 
--- the disk of a file whose end was sought
-pub record IsDiskOfFile {F : Type 0} (position : F → Option ℕ) (bytes : F → Option (List ℕ)) (file : F) (disk : FileDisk F) : Type 0 where
-  pub sized : F × ℕ
-  pub is_sized : IsSized position bytes file sized
-  pub holds : IsDiskOf sized.0 sized.1 disk
+-- the disk of an open file whose end is there; where the end isn't found, of none
+abbrev pub IsDiskTo : {F : Type 0} → F → Option ℕ → FileDisk F → Type 0
+IsDiskTo file None disk = IsUnopened disk
+IsDiskTo file (Some size) disk = IsDiskOf file size disk
 
--- the disk of what was opened; where the end of the file can't be found, of none
-abbrev pub IsDiskOfOpened : {F : Type 0} → (F → Option ℕ) → (F → Option (List ℕ)) → Result F Error → FileDisk F → Type 0
-IsDiskOfOpened position bytes (Err error) disk = IsUnopened disk
-IsDiskOfOpened position bytes (Ok file) disk = IsDiskOfFile position bytes file disk ⊎ IsUnopened disk
+-- the disk of an open file, by the end that was found
+pub record IsDiskOfFile {F : Type 0} (ends : F → Option ℕ → Type 0) (file : F) (disk : FileDisk F) : Type 0 where
+  pub end : Option ℕ
+  pub found : ends file end
+  pub holds : IsDiskTo file end disk
+
+-- the disk of what was opened
+abbrev pub IsDiskOfOpened : {F : Type 0} → (F → Option ℕ → Type 0) → Result F Error → FileDisk F → Type 0
+IsDiskOfOpened ends (Err error) disk = IsUnopened disk
+IsDiskOfOpened ends (Ok file) disk = IsDiskOfFile ends file disk
 
 -- the disk of the image that is opened under a name
-pub record OpensDisk {O F : Type 0} (answers : O → OpenOptions → List ℕ → Result F Error → Type 0) (position : F → Option ℕ) (bytes : F → Option (List ℕ)) (opener : O) (name : List ℕ) (disk : FileDisk F) : Type 0 where
+pub record OpensDisk {O F : Type 0} (answers : O → OpenOptions → List ℕ → Result F Error → Type 0) (ends : F → Option ℕ → Type 0) (opener : O) (name : List ℕ) (disk : FileDisk F) : Type 0 where
   pub opened : Result F Error
   pub image : OpensImage answers opener name opened
-  pub of_opened : IsDiskOfOpened position bytes opened disk
+  pub of_opened : IsDiskOfOpened ends opened disk

@@ -1,5 +1,5 @@
 -- What a cabinet answers, by what it finds under a name.
-use Rattle.std.specs.Prelude.{◌≡◌, ℕ, List, Option, Some, Result, Ok, Err, IfSome, IsErr, OnOk}
+use Rattle.std.specs.Prelude.{◌≡◌, ℕ, List, Bool, true, Option, Some, Result, Ok, Err, IfSome, IsErr, OnOk}
 use Rattle.std.specs.IoError.{error_kind}
 use Rattle.std.specs.Io.KnownBytes.{Appends}
 use Rattle.std.specs.Str.{IsUtf8}
@@ -23,10 +23,11 @@ abbrev pub ReadAnswers : Option (List ℕ) → ℕ → Result (List ℕ) LoadFau
 ReadAnswers known limit (Err load.Absent) = ⊥
 ReadAnswers known limit result = IfSome known (λ bytes. Answers (load_answer (Some bytes) limit) result)
 
--- the file took the bytes
-pub record Takes {F : Type 0} (contents : F → Option (List ℕ)) (file : F) (bytes : List ℕ) : Type 0 where
+-- the file took the bytes, and they were brought to the disk
+pub record Takes {F : Type 0} (contents : F → Option (List ℕ)) (syncs : F → Bool → Type 0) (file : F) (bytes : List ℕ) : Type 0 where
   pub written : F
   pub appended : Appends (contents file) (contents written) bytes
+  pub synced : syncs written true
 
 module _ {O F : Type 0} (answers : O → OpenOptions → List ℕ → Result F Error → Type 0) where
   module _ (remaining : F → Option (List ℕ)) where
@@ -46,10 +47,10 @@ module _ {O F : Type 0} (answers : O → OpenOptions → List ℕ → Result F E
       pub text : IsUtf8 name → LoadsFile opener name limit result
       pub no_text : (IsUtf8 name → ⊥) → result ≡ Err load.Absent
 
-  module _ {X E : Type 0} (contents : F → Option (List ℕ)) where
+  module _ {X E : Type 0} (contents : F → Option (List ℕ)) (syncs : F → Bool → Type 0) where
     -- what was opened took the bytes, where that is answered; a refusal is no Ok
     abbrev pub Stores : Result F Error → List ℕ → Result X E → Type 0
-    Stores (Ok file) bytes result = OnOk result (Takes contents file bytes)
+    Stores (Ok file) bytes result = OnOk result (Takes contents syncs file bytes)
     Stores (Err error) bytes result = IsErr result
 
     -- the file of this name is made, or what it has is cut off

@@ -1,5 +1,6 @@
 pub mod FileDisk
 pub mod Files
+pub mod ImageFile
 pub mod Opening
 pub mod Program
 pub mod RandomFile

@@ -1,6 +1,5 @@
--- How files are opened, and what is known of an open file.
-use Rattle.std.specs.Prelude.{◌≡◌, ℕ, List, length, true, IfSome, Option, Result, Ok, Err}
-use Rattle.std.specs.Io.KnownBytes.{Keeps}
+-- How files are opened.
+use Rattle.std.specs.Prelude.{◌≡◌, ℕ, List, true, Result, Ok, Err}
 use Rattle.std.specs.Fs.{new_options, with_create, with_read, with_truncate, with_write}
 use Rattle.std.specs.declared.fs.options.OpenOptions.{OpenOptions}
 use Rattle.std.specs.declared.io.Error.{Error}
@@ -33,8 +32,3 @@ module _ {O F : Type 0} (answers : O → OpenOptions → List ℕ → Result F E
     pub first : Result F Error
     pub answered : answers opener to_change name first
     pub next : OrReads name first opened
-
--- a file whose end was sought, with its length: where the file knows its position and its bytes they are these
-pub record IsSized {F : Type 0} (position : F → Option ℕ) (bytes : F → Option (List ℕ)) (file : F) (sized : F × ℕ) : Type 0 where
-  pub size : IfSome (position file) (λ at. IfSome (bytes file) (λ all. sized.1 ≡ length all))
-  pub bytes_kept : Keeps (bytes file) (bytes sized.0)

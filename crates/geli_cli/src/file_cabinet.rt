@@ -4,10 +4,11 @@ ghost use Rattle.std.specs.IoError.{error_kind};
 ghost use Rattle.block_traits.specs.Causes.{Rose};
 ghost use Rattle.geli_cli.specs.Files.{LoadsNamed, ReadAnswers, StoresNamed, fault_of};
 
+use crate::image_file::ImageFile;
 use crate::opener::Opener;
 use block_traits::{ByteList, Cabinet, LoadFault, StoreFault};
 use std::alloc::Global;
-use std::fs::{OpenFile, OpenOptions};
+use std::fs::OpenOptions;
 use std::io::{self, ErrorKind, Read, Write};
 
 /// Files as an opener finds them. It tells no content, and counts each failure, and each file that is absent
@@ -74,9 +75,9 @@ impl<O: Opener + Drop> Cabinet for FileCabinet<O> {
     }
 
     /// Besides what a cabinet does: a file is made or cut off under the name, and where it answers Ok the file has taken
-    /// the bytes. There is never want of memory. What was written is on the disk before the answer.
+    /// the bytes and they are synced. There is never want of memory.
     fn store(&mut self, _alloc: Global, name: &[u8], bytes: &[u8]) -> Result<(), StoreFault>
-        ensures named { StoresNamed O.answers O.File.contents self.old.opener name.now bytes.now result }
+        ensures named { StoresNamed O.answers O.File.contents O.File.syncs self.old.opener name.now bytes.now result }
         ensures memory { result ≢ Err StoreFault.NoMemory }
         ensures later { self.old.faults ≤ self.new.faults }
         ensures failed { IsErrOf result StoreFault.Failed → Rose self.old.faults self.new.faults }
@@ -90,7 +91,7 @@ impl<O: Opener + Drop> Cabinet for FileCabinet<O> {
         let Ok(mut file) = self.opener.open(&how, name) else {
             return Err(self.fail());
         };
-        if file.write_all(bytes).is_err() || file.sync_all().is_err() {
+        if file.write_all(bytes).is_err() || file.sync().is_err() {
             return Err(self.fail());
         }
         Ok(())

@@ -1,13 +1,12 @@
 // A file, or a device, as a disk.
-ghost use Rattle.std.specs.Prelude.{◌≡◌, ◌<◌, ◌≤◌, ◌^◌, ◌∷◌, [], IsErr, IsNone, OnErr, OnOk};
+ghost use Rattle.std.specs.Prelude.{◌≡◌, ◌<◌, ◌≤◌, ◌^◌, ◌*◌, ◌∷◌, [], IsErr, IsNone, MatchOption, OnErr, OnOk, is_ok};
 ghost use Rattle.block_traits.specs.Causes.{Rose};
 ghost use Rattle.block_traits.specs.Disk.{FailsIn, Gives, Logs};
+ghost use Rattle.geli_cli.specs.ImageFile.{read_bytes};
 
+use crate::image_file::ImageFile;
 use crate::opener::{Opener, open_image};
 use block_traits::{Disk, DiskFailed, Event, Sector};
-use std::fs::OpenFile;
-use std::io::{Seek, SeekFrom};
-use std::os::unix::fs::FileExt;
 
 /// The whole 512-byte pieces of a file, read and written where they stand. It tells no content, shows
 /// no events, and counts each failure.
@@ -27,15 +26,15 @@ impl<F: Drop> FileDisk<F> {
     /// write fails.
     pub fn open<O: Opener<File = F>>(opener: &mut O, name: &str) -> FileDisk<F>
     where
-        F: Seek + 'static,
-        ensures opens { OpensDisk O.answers F.stream_position F.stream_bytes opener.old name.now result }
+        F: ImageFile + 'static,
+        ensures opens { OpensDisk O.answers F.ends opener.old name.now result }
         ensures faults { result.faults ≡ 0 }
         ensures unopened { IsNone result.file → result.sectors ≡ 2 }
     {
-        let Ok(mut file) = open_image(opener, name) else {
+        let Ok(file) = open_image(opener, name) else {
             return FileDisk::unopened();
         };
-        match file.seek(SeekFrom::End(0)) {
+        match file.end() {
             Ok(length) => FileDisk::of_file(file, length),
             Err(_) => FileDisk::unopened(),
         }
@@ -70,6 +69,7 @@ impl<F: Drop> FileDisk<F> {
 
     // Counts a failure.
     fn fail(&mut self) -> DiskFailed
+        ensures file { self.new.file ≡ self.old.file }
         ensures sectors { self.new.sectors ≡ self.old.sectors }
         ensures later { self.old.faults ≤ self.new.faults }
         ensures rose { Rose self.old.faults self.new.faults }
@@ -79,8 +79,8 @@ impl<F: Drop> FileDisk<F> {
     }
 }
 
-/// A file that isn't opened is a disk whose every call fails.
-impl<F: FileExt + OpenFile + Drop> Disk for FileDisk<F> {
+/// Sector n stands at byte 512 * n of the file. A file that isn't opened is a disk whose every call fails.
+impl<F: ImageFile + Drop> Disk for FileDisk<F> {
     ghost use Rattle.geli_cli.specs.FileDisk.{state_of};
 
     ghost state = { state_of };
@@ -94,10 +94,11 @@ impl<F: FileExt + OpenFile + Drop> Disk for FileDisk<F> {
         ensures bytes { OnOk result (Gives (state_of self.old) n into.new) }
         ensures ok { OnOk result (Logs [] (state_of self.old) (state_of self.new)) }
         ensures err { OnErr result (FailsIn [] (state_of self.old) (state_of self.new)) }
-        ensures unopened { IsNone self.old.file → IsErr result }
+        ensures placed { MatchOption self.old.file (IsErr result) (λ file. F.reads file (512 * n) (read_bytes result into.new)) }
+        ensures kept { self.new.file ≡ self.old.file }
     {
         if let Some(file) = &self.file
-            && file.read_exact_at(into, 512 * n).is_ok()
+            && file.read_sector(512 * n, into).is_ok()
         {
             return Ok(());
         }
@@ -108,10 +109,11 @@ impl<F: FileExt + OpenFile + Drop> Disk for FileDisk<F> {
         requires { n < (state_of self.old).size }
         ensures ok { OnOk result (Logs (Event.Write n from.now ∷ []) (state_of self.old) (state_of self.new)) }
         ensures err { OnErr result (FailsIn (Event.Write n from.now ∷ []) (state_of self.old) (state_of self.new)) }
-        ensures unopened { IsNone self.old.file → IsErr result }
+        ensures placed { MatchOption self.old.file (IsErr result) (λ file. F.writes file (512 * n) from.now (is_ok result)) }
+        ensures kept { self.new.file ≡ self.old.file }
     {
         if let Some(file) = &self.file
-            && file.write_all_at(from, 512 * n).is_ok()
+            && file.write_sector(512 * n, from).is_ok()
         {
             return Ok(());
         }
@@ -121,10 +123,11 @@ impl<F: FileExt + OpenFile + Drop> Disk for FileDisk<F> {
     fn flush(&mut self) -> Result<(), DiskFailed>
         ensures ok { OnOk result (Logs (Event.Flush ∷ []) (state_of self.old) (state_of self.new)) }
         ensures err { OnErr result (FailsIn (Event.Flush ∷ []) (state_of self.old) (state_of self.new)) }
-        ensures unopened { IsNone self.old.file → IsErr result }
+        ensures synced { MatchOption self.old.file (IsErr result) (λ file. F.syncs file (is_ok result)) }
+        ensures kept { self.new.file ≡ self.old.file }
     {
         if let Some(file) = &self.file
-            && file.sync_data().is_ok()
+            && file.sync().is_ok()
         {
             return Ok(());
         }

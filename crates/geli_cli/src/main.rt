@@ -3,6 +3,7 @@
 
 mod file_cabinet;
 mod file_disk;
+mod image_file;
 mod opener;
 mod program;
 mod random_file;
@@ -16,6 +17,7 @@ use program::{run_words, words_of};
 use std::fs::File;
 use std::process::ExitCode;
 use std::{env, io};
+use streams::{InputSource, OutputSink};
 
 fn main(rt: HostRuntime) -> ExitCode {
     let alloc = rt.alloc();
@@ -27,7 +29,9 @@ fn main(rt: HostRuntime) -> ExitCode {
     let status = match (words_of(alloc, env::args(&rt)), files) {
         (Ok(words), Ok(files)) => {
             let opener = SystemFiles::new(files);
-            run_words(alloc, &words, opener, rt.reader(), io::writer(&rt))
+            let mut input = InputSource::new(rt.reader());
+            let mut output = OutputSink::new(io::writer(&rt));
+            run_words(alloc, &words, opener, &mut input, &mut output)
         }
         _ => Status::NoMemory,
     };

@@ -6,17 +6,17 @@ ghost use Rattle.std.specs.declared.io.Error.{Error};
 ghost use Rattle.block_traits.specs.Causes.{HasCause};
 ghost use Rattle.geli_cli.specs.Opening.{OpensImage};
 
-use std::fs::{File, OpenFile, OpenOptions};
-use std::io::{self, ErrorKind, Read, Seek, Write};
+use crate::image_file::ImageFile;
+use std::fs::{File, OpenOptions};
+use std::io::{self, ErrorKind, Read, Write};
 use std::os::fd::AsRawFd;
-use std::os::unix::fs::FileExt;
 use std::rt::Files;
 
 /// What opens files by their names. Each use of it is proved for every opener, so that what is opened, and how, can be
 /// said in a contract although nothing tells what the system answers.
 pub trait Opener {
     /// An open file.
-    type File: Read + Write + Seek + FileExt + OpenFile + Drop + 'static;
+    type File: Read + Write + ImageFile + Drop + 'static;
 
     /// Whether it may answer this to these options and this name.
     ghost answers: { Self → OpenOptions → List ℕ → Result Self.File Error → Type 0 };

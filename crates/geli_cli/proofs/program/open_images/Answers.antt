@@ -1,0 +1,12 @@
+use Rattle.std.proofs.Common.{◌≡◌, ◌+◌, take, sym, List, get_or, rules}
+use Rattle.std.specs.Prelude.{map, string_bytes}
+use Rattle.std.proofs.lemmas.List.{map_more}
+use Rattle.geli_cli.proofs.Images.{named_one_more}
+use Rattle.geli_cli.proofs.program.open_images.Goals as goal
+
+pub loop-name-preserved : goal.loop-name-preserved
+loop-name-preserved g c =
+    let here : get_or c.args.names.now c.loop-name.name-index c.name-item.result ≡ c.name-item.result = search (rules, c.name-item.is) in
+    let more = map_more (string_bytes) c.args.names.now c.loop-name.name-index c.name-item.result c.loop-name-test.true in
+    rw (more, here, c.in_ok-push.ensures.items)
+    (named_one_more g.O.Opener.answers g.O.File.ImageFile.ends _ _ _ _ c.loop-name.invariant (record { opener = c.loop-name.opener; opens = search (rules, c.open.ensures.opens, c.as_str.ensures.value) }))

@@ -4,9 +4,11 @@ use Rattle.std.proofs.lemmas.Nat.{xor_of_8}
 use Rattle.std.proofs.lemmas.List.{length-map, get_or-map, get_or_past, get_or_append_left, get_or-append_right, get_or-drop, get_or-take, length-take, length-take-le}
 use Rattle.std.proofs.lemmas.Simd.{length-zip2, get_or-zip2, length-chunk}
 use Rattle.std.proofs.lemmas.Bool.{cases_lt, cond_both}
+use Rattle.std.specs.Int.{byte_at}
 use Rattle.std.specs.Simd.Lanes.{chunk}
 use Rattle.aes_core.specs.Field.{power}
 use Rattle.aes_core.specs.Aes.{sbox, xor, word, rotated, sub_bytes, key_term, expanded, round_constant, key_words, rounds, key_schedule, round_key, shift_rows, after_rounds, encrypt, decrypt}
+use Rattle.aes_core.specs.Blocks.{block}
 use Rattle.aes_core.specs.Schedule.{IsKeyLength, AreBytes, IsKey, IsSchedule}
 use Rattle.aes_core.proofs.Inverse.{IsState, IsState-after_rounds, IsState-shift_rows, IsState-sub_bytes, IsState-xor, AreRoundKeys, get_or-small, sbox-lt, power-lt, deciphered-enciphered}
 use Rattle.aes_core.proofs.KeyWords.{length-expanded, length-key_term, length-rotated}
@@ -45,10 +47,14 @@ AreBytes-sub_bytes xs =
     let small = sbox-lt (get_or xs i 0) in
     omega (arith, e, small))
 
-AreBytes-none : AreBytes []
+pub byte_at-lt : (i n : ℕ) → byte_at i n < 256
+byte_at-lt zero n = omega arith
+byte_at-lt (suc i) n = omega arith
+
+pub AreBytes-none : AreBytes []
 AreBytes-none k = lit< tt
 
-AreBytes-cons : (x : ℕ) (xs : List ℕ) → x < 256 → AreBytes xs → AreBytes (x ∷ xs)
+pub AreBytes-cons : (x : ℕ) (xs : List ℕ) → x < 256 → AreBytes xs → AreBytes (x ∷ xs)
 AreBytes-cons x xs lt h zero = lt
 AreBytes-cons x xs lt h (suc k) = h k
 
@@ -113,6 +119,9 @@ round_keys key h r le =
       long = length-chunk (16 * r) 16 (key_schedule key) (omega arith);
       bytes = AreBytes-chunk (16 * r) 16 (key_schedule key) (AreBytes-expanded key nk n len one h.bytes);
     }
+
+pub IsState-block : (p : List ℕ) (j : ℕ) → AreBytes p → 16 * j + 16 ≤ length p → IsState (block p j)
+IsState-block p j small le = record { long = length-chunk (16 * j) 16 p le; bytes = AreBytes-chunk (16 * j) 16 p small }
 
 -- the inverse cipher takes back what the cipher did (FIPS 197, 5.3)
 pub decrypt-encrypt : (key b : List ℕ) → IsKey key → length b ≡ 16 → AreBytes b → decrypt key (encrypt key b) ≡ b

@@ -1,5 +1,5 @@
 -- What a sector holds now, and what it may hold if power fails.
-use Rattle.std.proofs.Common.{◌≡◌, ℕ, ◌<◌, ◌==◌, List, [], ◌∷◌, ◌++◌, length, get_or, refl, ap, ◌∙◌, arith, cond, true, false, Bool, All}
+use Rattle.std.proofs.Common.{◌≡◌, ℕ, ◌<◌, ◌==◌, List, [], ◌∷◌, ◌++◌, length, get_or, refl, ap, ◌∙◌, arith, cond, true, false, Bool, All, length-append}
 use Rattle.std.proofs.lemmas.List.Elements.{All-nil, All-cons, All-head, All-tail, All-push, All-get_or, All-append}
 use Rattle.block_traits.specs.declared.disk.Event.{Event}
 use Rattle.block_traits.specs.declared.disk.Event.TheVariants.{Write, Flush}
@@ -36,6 +36,16 @@ present_after-append (Flush ∷ events) more n bytes = present_after-append even
 
 pub kept_values-flush : (c : Content) (n : ℕ) → kept_values (with_events (Flush ∷ []) c) n ≡ present c n ∷ []
 kept_values-flush c n = kept_after-append c.history (Flush ∷ []) n (get_or c.base n [] ∷ []) ∙ ap (λ (value : List ℕ). value ∷ []) (last_of-kept_values c n)
+
+-- there is a value, also after a write that may be to this sector
+some-written : (here : Bool) (values : List (List ℕ)) (value : List ℕ) → 0 < length values → 0 < length (cond here (values ++ value ∷ []) values)
+some-written true values value some = omega (arith, length-append values (value ∷ []))
+some-written false values value some = some
+
+pub some-kept_after : (events : List Event) (n : ℕ) (values : List (List ℕ)) → 0 < length values → 0 < length (kept_after events n values)
+some-kept_after [] n values some = some
+some-kept_after (Write m value ∷ events) n values some = some-kept_after events n (cond (m == n) (values ++ value ∷ []) values) (some-written (m == n) values value some)
+some-kept_after (Flush ∷ events) n values some = some-kept_after events n (last_of values ∷ []) (omega arith)
 
 -- the values are sectors, and so is their last
 record AreSectors (values : List (List ℕ)) : Type 0 where

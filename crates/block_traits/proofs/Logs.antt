@@ -1,6 +1,6 @@
 -- Events that are logged one after another.
 use Rattle.std.proofs.Common.{◌≡◌, ◌+◌, List, [], ◌∷◌, ◌++◌, length, take, refl, ap, ◌∙◌, sym, append_assoc, append-nil, arith, Option, Some, None, length-append}
-use Rattle.std.proofs.Math.Seq.{take-append-add}
+use Rattle.std.proofs.Math.Seq.{take-append-add, take-nil}
 use Rattle.std.proofs.lemmas.List.{take-append-le}
 use Rattle.block_traits.specs.declared.disk.Event.{Event}
 use Rattle.block_traits.specs.Content.{Content, logged}
@@ -60,3 +60,20 @@ Continues-start events start = record { whole = λ new logs. logs; part = λ new
 -- the last event was logged
 pub Continues-end : (all : List Event) {middle start : DiskState} → Continues [] all middle start → Logs all start middle
 Continues-end all {middle} continues = continues.whole middle (Logs-nothing middle)
+
+-- some events, and then what is left
+pub Continues-then : (events left all : List Event) {middle start next : DiskState} → Continues (events ++ left) all middle start → Logs events middle next → Continues left all next start
+Continues-then events left all continues one = record {
+  whole = λ new logs. continues.whole new (Logs-then events left one logs);
+  part = λ new fails. continues.part new (FailsIn-then events left one fails);
+}
+
+pub FailsIn-part : (events left all : List Event) {middle start new : DiskState} → Continues (events ++ left) all middle start → FailsIn events middle new → FailsIn all start new
+FailsIn-part events left all {middle} {start} {new} continues fails = continues.part new (FailsIn-more events left fails)
+
+-- where nothing is logged the content stays
+pub content-Logs : (old new : DiskState) → Logs [] old new → new.content ≡ old.content
+content-Logs old new logs = logs.content ∙ logged-none old.content
+
+pub content-FailsIn : (old new : DiskState) → FailsIn [] old new → new.content ≡ old.content
+content-FailsIn old new fails = content-Logs old new (rw (take-nil fails.count) at fails.logs)

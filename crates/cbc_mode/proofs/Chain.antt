@@ -2,12 +2,11 @@
 use Rattle.std.proofs.Common.{◌≡◌, ℕ, zero, suc, ◌+◌, ◌*◌, ◌/◌, ◌%◌, ◌<◌, ◌≤◌, List, ◌++◌, length, take, drop, refl, sym, ap, ◌∙◌, arith, add-one}
 use Rattle.std.proofs.lemmas.List.{take_at}
 use Rattle.std.proofs.Math.Seq.{drop-append-add}
-use Rattle.std.proofs.lemmas.Simd.{length-chunk}
 use Rattle.aes_core.specs.Aes.{xor, encrypt, decrypt}
 use Rattle.aes_core.specs.Blocks.{block, blocks}
 use Rattle.aes_core.specs.Schedule.{AreBytes, IsKey}
 use Rattle.aes_core.proofs.Inverse.{IsState, IsState-xor, xor-xor}
-use Rattle.aes_core.proofs.KeyBytes.{AreBytes-chunk, IsState-encrypt, decrypt-encrypt}
+use Rattle.aes_core.proofs.KeyBytes.{IsState-block, IsState-encrypt, decrypt-encrypt}
 use Rattle.aes_core.proofs.BlockLists.{AreBlocks, length-blocks, block-blocks, blocks-same, blocks-block}
 use Rattle.cbc_mode.specs.Cbc.{chained, sealed, cbc_seal, opened, cbc_open}
 
@@ -33,9 +32,6 @@ block_before-more iv c j len =
 
 pub opened_at : (key iv c b before r : List ℕ) (j : ℕ) → before ≡ block (iv ++ c) j → b ≡ block c j → r ≡ xor (decrypt key b) before → r ≡ opened key iv c j
 opened_at key iv c b before r j e eb er = er ∙ (λ i. xor (decrypt key (eb i)) (e i))
-
-IsState-block : (p : List ℕ) (j : ℕ) → AreBytes p → 16 * j + 16 ≤ length p → IsState (block p j)
-IsState-block p j small le = record { long = length-chunk (16 * j) 16 p le; bytes = AreBytes-chunk (16 * j) 16 p small }
 
 IsState-chained : (key iv p : List ℕ) (j : ℕ) → IsKey key → IsState iv → AreBytes p → 16 * j ≤ length p → IsState (chained key iv p j)
 unfolding chained
@@ -81,3 +77,11 @@ cbc_open-cbc_seal key iv p hk len iv_bytes small whole =
     ap (λ (m : ℕ). blocks (opened key iv (blocks f n)) m) count
     ∙ blocks-same (opened key iv (blocks f n)) (block p) n (λ j lt. opened-sealed key iv p n j hk hiv small lp lt)
     ∙ blocks-block p n lp
+
+-- the cipher text is as long as the plain text
+pub length-cbc_seal : (key iv p : List ℕ) → IsKey key → IsState iv → AreBytes p → length p % 16 ≡ 0 → length (cbc_seal key iv p) ≡ length p
+length-cbc_seal key iv p hk hiv small whole =
+    let n : ℕ = length p / 16 in
+    let len : length p ≡ 16 * n = omega arith in
+    let are : AreBlocks (sealed key iv p) n = λ j lt. (IsState-chained key iv p (j + 1) hk hiv small (omega arith)).long in
+    length-blocks (sealed key iv p) n are ∙ sym len

@@ -1,29 +1,18 @@
 -- The image that the picks name.
-use Rattle.std.proofs.Common.{◌≡◌, ℕ, ◌+◌, ◌-◌, ◌<◌, ◌==◌, ◌||◌, List, [], ◌∷◌, ◌++◌, length, take, get_or, set, refl, ap, ◌∙◌, sym, subst, arith, suc, Some, length-append, length-set, cond, true, false, Bool, inl, inr, eq-eqb, All}
+use Rattle.std.proofs.Common.{◌≡◌, ℕ, ◌+◌, ◌-◌, ◌<◌, ◌==◌, ◌||◌, List, [], ◌∷◌, ◌++◌, length, take, get_or, set, refl, ap, ◌∙◌, sym, subst, arith, suc, Some, length-set, cond, true, false, Bool, inl, inr, eq-eqb, All}
 use Rattle.std.proofs.lemmas.List.{get_or-set_same, get_or-set_other, get_or_default, take_more}
 use Rattle.std.proofs.lemmas.List.Elements.{All-take}
 use Rattle.std.proofs.lemmas.Bool.{cond-true, cond-false, cases_eq, ne_eqb}
 use Rattle.std.proofs.lemmas.Option.{slice_get_within}
 use Rattle.std.specs.List.{slice_get}
-use Rattle.block_traits.specs.declared.disk.Event.{Event}
-use Rattle.block_traits.specs.declared.disk.Event.TheVariants.{Write, Flush}
-use Rattle.block_traits.specs.Content.{Content, IsContentOf, IsEventOf, IsSector, at_moment, kept_after, kept_values, last_of}
+use Rattle.block_traits.specs.Content.{Content, IsContentOf, IsEventOf, IsSector, at_moment, kept_values, last_of}
 use Rattle.block_traits.specs.Crash.{IsImage}
-use Rattle.block_traits.proofs.Contents.{last_of-kept_values}
+use Rattle.block_traits.proofs.Contents.{last_of-kept_values, some-kept_after}
 use Rattle.block_traits.proofs.Images.{IsTorn-image}
 use Rattle.crash_disk.specs.declared.survivor.Pick.{Pick}
 use Rattle.crash_disk.specs.Replay.{replayed}
 use Rattle.crash_disk.specs.Survivor.{AllGood, IsBad, IsGood, choice_of, is_picked, place_in}
 use Rattle.crash_disk.proofs.ReplayLemmas.{get_or-replayed, length-replayed}
-
-some-written : (here : Bool) (values : List (List ℕ)) (value : List ℕ) → 0 < length values → 0 < length (cond here (values ++ value ∷ []) values)
-some-written true values value some = omega (arith, length-append values (value ∷ []))
-some-written false values value some = some
-
-some-kept_after : (events : List Event) (n : ℕ) (values : List (List ℕ)) → 0 < length values → 0 < length (kept_after events n values)
-some-kept_after [] n values some = some
-some-kept_after (Write m value ∷ events) n values some = some-kept_after events n (cond (m == n) (values ++ value ∷ []) values) (some-written (m == n) values value some)
-some-kept_after (Flush ∷ events) n values some = some-kept_after events n (last_of values ∷ []) (omega arith)
 
 some-kept_values : (c : Content) (n : ℕ) → 0 < length (kept_values c n)
 some-kept_values c n = some-kept_after c.history n (get_or c.base n [] ∷ []) (omega arith)

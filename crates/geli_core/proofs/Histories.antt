@@ -1,10 +1,9 @@
 -- A command that only reads adds no event to any disk.
-use Rattle.std.proofs.Common.{◌≡◌, ℕ, ◌∙◌, ap, sym, List, [], ◌∷◌, take, Option, Some, None, MatchOption, IsTrue, refl, suc, zero, slice_get, Result, Ok, Err}
+use Rattle.std.proofs.Common.{◌≡◌, ℕ, ◌∙◌, ap, sym, List, [], ◌∷◌, Option, Some, None, MatchOption, IsTrue, refl, suc, zero, slice_get, Result, Ok, Err}
 use Rattle.std.proofs.Math.ListN.{set}
-use Rattle.block_traits.specs.declared.Event.{Event}
 use Rattle.block_traits.specs.Content.{Content}
-use Rattle.block_traits.specs.Disk.{DiskState, Logs, FailsIn}
-use Rattle.block_traits.proofs.Logs.{logged-none}
+use Rattle.block_traits.specs.Disk.{DiskState}
+use Rattle.block_traits.proofs.Logs.{content-Logs, content-FailsIn}
 use Rattle.command_words.specs.Places.{bytes_at}
 use Rattle.command_words.specs.declared.commands.Command.{Command}
 use Rattle.command_words.specs.declared.commands.Command.TheVariants as commands
@@ -23,16 +22,6 @@ use Rattle.geli_core.specs.Run.{only_reads}
 -- the disk's content is as it was
 abbrev KeepsContent : Reach → Reach → Type 0
 KeepsContent old new = new.disk.content ≡ old.disk.content
-
-take_nothing : (n : ℕ) → take n (let none : List Event = [] in none) ≡ []
-take_nothing zero = refl
-take_nothing (suc n) = refl
-
-content-Logs : (old new : DiskState) → Logs [] old new → new.content ≡ old.content
-content-Logs old new logs = logs.content ∙ logged-none old.content
-
-content-FailsIn : (old new : DiskState) → FailsIn [] old new → new.content ≡ old.content
-content-FailsIn old new fails = content-Logs old new (rw (take_nothing fails.count) at fails.logs)
 
 content-ReadsMetadata : (before : DiskState) (answer : Result Metadata ReadMetaFault) (after : DiskState) → ReadsMetadata before answer after → after.content ≡ before.content
 content-ReadsMetadata before (Ok meta) after reads = content-Logs before after reads.logs

@@ -1,12 +1,12 @@
 -- The metadata's sector holds what it held or the new metadata, whenever power fails.
-use Rattle.std.proofs.Common.{◌≡◌, ℕ, ◌+◌, ◌-◌, ◌<◌, ◌≤◌, ◌==◌, List, [], ◌∷◌, ◌++◌, length, take, get_or, refl, ap, subst, ◌∙◌, arith, cond, true, false, Bool, All, Contains, Option, Some, None, inl, inr, length-append}
+use Rattle.std.proofs.Common.{◌≡◌, ℕ, ◌+◌, ◌-◌, ◌<◌, ◌≤◌, ◌==◌, List, [], ◌∷◌, ◌++◌, length, take, get_or, refl, ap, subst, ◌∙◌, arith, cond, true, false, Bool, All, Contains, Option, Some, None, inl, inr}
 use Rattle.std.proofs.lemmas.List.Elements.{All-nil, All-cons, All-head, All-tail, All-push, All-take, All-contains_itself}
 use Rattle.std.proofs.Math.Seq.{take-append-add}
 use Rattle.block_traits.specs.declared.disk.Event.{Event}
 use Rattle.block_traits.specs.declared.disk.Event.TheVariants.{Write, Flush}
 use Rattle.block_traits.specs.Content.{Content, last_of, kept_after, kept_values, at_moment, with_events, logged}
 use Rattle.block_traits.specs.Disk.{DiskState, Logs, FailsIn, last_sector}
-use Rattle.block_traits.proofs.Contents.{last_of-push, kept_after-append}
+use Rattle.block_traits.proofs.Contents.{last_of-push, kept_after-append, some-kept_after}
 use Rattle.eli_metadata.specs.Format.{encoded}
 use Rattle.eli_metadata.specs.declared.Metadata.{Metadata}
 use Rattle.key_commands.specs.Init.{init_events}
@@ -16,16 +16,6 @@ use Rattle.key_commands.specs.Kept.{IsOldOr, KeepsOldOr}
 abbrev WritesOnly : List ℕ → Event → Type 0
 WritesOnly bytes (Write m new) = new ≡ bytes
 WritesOnly bytes Flush = Unit {0}
-
--- there is a value, also after a write that may be to this sector
-some-written : (here : Bool) (values : List (List ℕ)) (value : List ℕ) → 0 < length values → 0 < length (cond here (values ++ value ∷ []) values)
-some-written true values value some = omega (arith, length-append values (value ∷ []))
-some-written false values value some = some
-
-some-kept_after : (events : List Event) (n : ℕ) (values : List (List ℕ)) → 0 < length values → 0 < length (kept_after events n values)
-some-kept_after [] n values some = some
-some-kept_after (Write m value ∷ events) n values some = some-kept_after events n (cond (m == n) (values ++ value ∷ []) values) (some-written (m == n) values value some)
-some-kept_after (Flush ∷ events) n values some = some-kept_after events n (last_of values ∷ []) (omega arith)
 
 -- what holds of all values holds of the last
 All-last_of : (P : List ℕ → Type 0) (values : List (List ℕ)) → 0 < length values → All P values → P (last_of values)

@@ -2,4 +2,3 @@ pub mod Keeping
 pub mod Keys
 pub mod Making
 pub mod Usable
-pub mod Wrapping

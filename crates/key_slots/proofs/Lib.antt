@@ -2,3 +2,4 @@ pub mod Parts
 pub mod Texts
 pub mod First
 pub mod Changes
+pub mod Wrapped

@@ -3,21 +3,9 @@ use Rattle.std.proofs.Common.{◌≡◌, ℕ, suc, ◌+◌, ◌-◌, ◌*◌, �
 use Rattle.std.proofs.lemmas.List.{drop-drop}
 use Rattle.block_traits.specs.declared.disk.Event.{Event}
 use Rattle.block_traits.specs.declared.disk.Event.TheVariants.{Write}
-use Rattle.block_traits.specs.Disk.{DiskState, Logs, FailsIn, Continues}
-use Rattle.block_traits.proofs.Logs.{Logs-then, FailsIn-then, FailsIn-more}
 use Rattle.eli_base.specs.Keying.{Keying}
 use Rattle.sealing.specs.Parts.{parts}
 use Rattle.provider.specs.Writing.{writes_from, sector_writes, data_writes}
-
--- some events, and then what is left
-pub Continues-then : (events left all : List Event) {middle start next : DiskState} → Continues (events ++ left) all middle start → Logs events middle next → Continues left all next start
-Continues-then events left all continues one = record {
-  whole = λ new logs. continues.whole new (Logs-then events left one logs);
-  part = λ new fails. continues.part new (FailsIn-then events left one fails);
-}
-
-pub FailsIn-part : (events left all : List Event) {middle start new : DiskState} → Continues (events ++ left) all middle start → FailsIn events middle new → FailsIn all start new
-FailsIn-part events left all {middle} {start} {new} continues fails = continues.part new (FailsIn-more events left fails)
 
 -- the writes of the device sectors from the j-th of n on
 pub unit_writes : ℕ → ℕ → List ℕ → ℕ → List Event

@@ -1,5 +1,5 @@
 -- How rows are gone through.
-use Rattle.std.proofs.Common.{ℕ, List, IfOk, IfSome, Result, Ok, Err, refl}
+use Rattle.std.proofs.Common.{ℕ, ◌+◌, ◌≤◌, List, length, IfOk, IfSome, Result, Ok, Err, refl}
 use Rattle.std.specs.Prelude.{IfErr}
 use Rattle.std.specs.Result.{result_err}
 use Rattle.block_traits.specs.Cabinet.{CabinetState}
@@ -27,5 +27,6 @@ Then-goes_on First Next old middle value answer new first next = record { given 
 pub loaded : (line : List ℕ) (words : KeyWords) (disk : DiskState) (entropy : EntropyState) (old new : CabinetState) (answer : Result Components Refusal)
     → IfSome old.files (λ files. IsAnswer (components_of files line words) answer) → IfOk answer (FitsWords words)
     → IfErr answer (λ refusal. IfSome (word_of refusal) (IsReached old.files line words)) → Loads old new (result_err answer)
+    → IfErr answer (λ refusal. 1 ≤ length words.files + length words.pass)
     → LoadsComponents line words (record { disk = disk; cabinet = old; entropy = entropy }) answer (record { disk = disk; cabinet = new; entropy = entropy })
-loaded line words disk entropy old new answer told fits reached loads = record { told = told; fits = fits; reached = reached; loads = loads; disk = refl; entropy = refl }
+loaded line words disk entropy old new answer told fits reached loads named = record { told = told; fits = fits; reached = reached; loads = loads; named = named; disk = refl; entropy = refl }

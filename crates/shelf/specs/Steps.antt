@@ -1,5 +1,5 @@
 -- The steps of which commands consist. A step answers a value or a refusal, and may change what the command reaches.
-use Rattle.std.specs.Prelude.{◌≡◌, ℕ, ◌≤◌, List, Option, Some, None, IfOk, IfErr, IfSome, Result, Ok, Err, if◌then◌else◌, ◌==◌}
+use Rattle.std.specs.Prelude.{◌≡◌, ℕ, ◌+◌, ◌≤◌, List, length, Option, Some, None, IfOk, IfErr, IfSome, Result, Ok, Err, if◌then◌else◌, ◌==◌}
 use Rattle.std.specs.Result.{result_err}
 use Rattle.block_traits.specs.Cabinet.{CabinetState, stored}
 use Rattle.block_traits.specs.Causes.{Rose}
@@ -95,6 +95,7 @@ pub record LoadsComponents (line : List ℕ) (words : KeyWords) (old : Reach) (a
   pub fits : IfOk answer (FitsWords words)
   pub reached : IfErr answer (λ refusal. IfSome (word_of refusal) (IsReached old.cabinet.files line words))
   pub loads : Loads old.cabinet new.cabinet (result_err answer)
+  pub named : IfErr answer (λ refusal. 1 ≤ length words.files + length words.pass)
   pub disk : new.disk ≡ old.disk
   pub entropy : new.entropy ≡ old.entropy
 

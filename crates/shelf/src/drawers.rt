@@ -100,7 +100,7 @@ impl<D: Disk> Drawers<D> {
         let Some(prov) = command.provider() else {
             unreachable!();
         };
-        let name = &line[prov.start as usize..prov.end as usize];
+        let name = prov.bytes_in(line);
         let Some(place) = find(&self.drawers, name) else {
             return Reply::Refused(Refusal::UnknownProvider);
         };

@@ -50,7 +50,7 @@ fn back_up<C: Cabinet>(
     };
     let mut sector = [0; 512];
     encode(meta, &mut sector);
-    let name = &line[span.start as usize..span.end as usize];
+    let name = span.bytes_in(line);
     match files.store(alloc, name, &sector) {
         Ok(()) => Ok(()),
         Err(StoreFault::Failed) => Err(Refusal::CabinetFault { word: span.word }),

@@ -1,12 +1,11 @@
 -- The tweaks of a data unit, block by block, and that opening undoes sealing.
 use Rattle.std.proofs.Common.{◌≡◌, ℕ, zero, suc, ◌+◌, ◌*◌, ◌/◌, ◌%◌, ◌<◌, ◌≤◌, List, length, refl, sym, ap, ◌∙◌, arith, add-one, lit<}
-use Rattle.std.proofs.lemmas.Simd.{length-chunk}
-use Rattle.std.specs.Int.{w128, byte_at, bytes_low_first, to_le_bytes}
+use Rattle.std.specs.Int.{w128, bytes_low_first, to_le_bytes}
 use Rattle.aes_core.specs.Aes.{xor, encrypt, decrypt}
 use Rattle.aes_core.specs.Blocks.{block, blocks}
 use Rattle.aes_core.specs.Schedule.{AreBytes, IsKey}
 use Rattle.aes_core.proofs.Inverse.{IsState, IsState-xor, xor-xor}
-use Rattle.aes_core.proofs.KeyBytes.{AreBytes-chunk, IsState-encrypt, decrypt-encrypt}
+use Rattle.aes_core.proofs.KeyBytes.{IsState-block, IsState-encrypt, byte_at-lt, decrypt-encrypt}
 use Rattle.aes_core.proofs.BlockLists.{AreBlocks, length-blocks, block-blocks, blocks-same, blocks-block}
 use Rattle.xts_mode.specs.Xts.{doubled, tweak_at, first_tweak, masked, xts_seal, xts_open}
 
@@ -23,10 +22,6 @@ pub masked_at : (f : List ℕ → List ℕ) (p b r : List ℕ) (t now j : ℕ) �
     → r ≡ (let mask = to_le_bytes w128 now in xor (f (xor b mask)) mask) → r ≡ masked f t p j
 masked_at f p b r t now j et eb er = er ∙ (λ i. let mask = to_le_bytes w128 (et i) in xor (f (xor (eb i) mask)) mask)
 
-byte_at-lt : (i n : ℕ) → byte_at i n < 256
-byte_at-lt zero n = omega arith
-byte_at-lt (suc i) n = omega arith
-
 AreBytes-low_first : (i k n : ℕ) → AreBytes (bytes_low_first i k n)
 AreBytes-low_first i zero n m = lit< tt
 AreBytes-low_first i (suc k) n zero = byte_at-lt i n
@@ -34,9 +29,6 @@ AreBytes-low_first i (suc k) n (suc m) = AreBytes-low_first (suc i) k n m
 
 IsState-mask : (t : ℕ) → IsState (to_le_bytes w128 t)
 IsState-mask t = record { long = refl; bytes = AreBytes-low_first 0 16 t }
-
-IsState-block : (p : List ℕ) (j : ℕ) → AreBytes p → 16 * j + 16 ≤ length p → IsState (block p j)
-IsState-block p j small le = record { long = length-chunk (16 * j) 16 p le; bytes = AreBytes-chunk (16 * j) 16 p small }
 
 IsState-masked : (key p : List ℕ) (t j : ℕ) → IsKey key → AreBytes p → 16 * j + 16 ≤ length p → IsState (masked (encrypt key) t p j)
 IsState-masked key p t j hk small le =

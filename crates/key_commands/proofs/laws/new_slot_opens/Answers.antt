@@ -2,10 +2,10 @@ use Rattle.std.proofs.Common.{◌≡◌, length, drop, refl, arith, length-drop}
 use Rattle.std.proofs.lemmas.List.{length-take-le}
 use Rattle.aes_core.proofs.KeyBytes.{AreBytes-drop, AreBytes-take}
 use Rattle.key_slots.specs.Slots.{wrapped}
+use Rattle.key_slots.proofs.Wrapped.{IsSlotOf-wrapped, length-wrapped}
 use Rattle.key_commands.specs.NewMetadata.{new_metadata}
 use Rattle.key_commands.specs.Random.{master_key_in, filler_in}
 use Rattle.key_commands.proofs.Usable.{Opens-slot_0, OpensFirst-Opens}
-use Rattle.key_commands.proofs.Wrapping.{IsSlotOf-wrapped, length-wrapped}
 use Rattle.key_commands.proofs.laws.new_slot_opens.Goals as goal
 
 pub returns : goal.returns

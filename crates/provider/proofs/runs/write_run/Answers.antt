@@ -1,10 +1,10 @@
 use Rattle.std.proofs.Common.{rules, ◌≡◌, ◌+◌, ◌-◌, ◌*◌, ◌/◌, ◌≤◌, List, length, take, drop, subst, sym, ◌∙◌, arith}
 use Rattle.block_traits.specs.declared.disk.Event.{Event}
 use Rattle.block_traits.specs.Disk.{Continues}
-use Rattle.block_traits.proofs.Logs.{Continues-start, Continues-end}
+use Rattle.block_traits.proofs.Logs.{Continues-then, FailsIn-part, Continues-start, Continues-end}
 use Rattle.sealing.specs.Sectors.{units}
 use Rattle.provider.specs.Writing.{data_writes, sector_writes}
-use Rattle.provider.proofs.Events.{Continues-then, FailsIn-part, run_writes, run_writes-start, run_writes-at, run_writes-end}
+use Rattle.provider.proofs.Events.{run_writes, run_writes-start, run_writes-at, run_writes-end}
 use Rattle.provider.proofs.Ranges.{number_small, units-off}
 use Rattle.provider.proofs.runs.write_run.Goals as goal
 

@@ -2,10 +2,10 @@ use Rattle.std.proofs.Common.{rules, ◌+◌, ◌/◌, List, ℕ, [], ◌∷◌,
 use Rattle.block_traits.specs.declared.disk.Event.{Event}
 use Rattle.block_traits.specs.declared.disk.Event.TheVariants.{Write}
 use Rattle.block_traits.specs.Disk.{Continues}
-use Rattle.block_traits.proofs.Logs.{Continues-start, Continues-end}
+use Rattle.block_traits.proofs.Logs.{Continues-then, FailsIn-part, Continues-start, Continues-end}
 use Rattle.sealing.specs.Parts.{parts}
 use Rattle.provider.specs.Writing.{writes_from}
-use Rattle.provider.proofs.Events.{Continues-then, FailsIn-part, unit_writes, unit_writes-start, unit_writes-next, unit_writes-end}
+use Rattle.provider.proofs.Events.{unit_writes, unit_writes-start, unit_writes-next, unit_writes-end}
 use Rattle.provider.proofs.units.write_units.Goals as goal
 
 pub loop-j-init : goal.loop-j-init

@@ -26,7 +26,7 @@ returns-in_err-parts-clause-row g c =
     let e = c.in_err-parts.ensures in
     λ entropy. rw (p.1, p.2) (Then-goes_on _ _ _ _ _ _ _ (record { reads = c.in_ok-meta.ensures.reads; cabinet = refl; entropy = refl })
     (Then-goes_on _ _ _ _ _ _ _ (sym passed, refl)
-    (Then-refused _ _ _ _ _ (loaded _ _ _ _ _ _ _ e.answer e.fits e.reached e.loads))))
+    (Then-refused _ _ _ _ _ (loaded _ _ _ _ _ _ _ e.answer e.fits e.reached e.loads e.named))))
 
 pub returns-clause-row : goal.returns-clause-row
 returns-clause-row g c =
@@ -35,5 +35,5 @@ returns-clause-row g c =
     let e = c.in_ok-parts.ensures in
     λ entropy. Then-goes_on _ _ _ _ _ _ _ (record { reads = c.in_ok-meta.ensures.reads; cabinet = refl; entropy = refl })
     (Then-goes_on _ _ _ _ _ _ _ (sym passed, refl)
-    (Then-goes_on _ _ _ _ _ _ _ (loaded _ _ _ _ _ _ _ e.answer e.fits e.reached e.loads)
+    (Then-goes_on _ _ _ _ _ _ _ (loaded _ _ _ _ _ _ _ e.answer e.fits e.reached e.loads e.named)
     (c.try_components.ensures, refl)))

@@ -1,35 +1,18 @@
 -- What is wrapped is a slot, by the definitions alone.
-use Rattle.std.proofs.Common.{◌≡◌, ℕ, zero, suc, ◌+◌, ◌*◌, ◌/◌, ◌%◌, ◌<◌, ◌≤◌, inl, inr, List, [], ◌∷◌, length, take, refl, sym, ◌∙◌, arith, lit<, length-append}
+use Rattle.std.proofs.Common.{◌≡◌, ℕ, zero, suc, ◌/◌, inl, inr, List, [], ◌∷◌, length, take, refl, ◌∙◌, arith, length-append}
 use Rattle.std.proofs.lemmas.List.{length-take-le}
-use Rattle.std.proofs.lemmas.Simd.{length-chunk}
 use Rattle.std.specs.Int.{w64, to_be_bytes, byte_at, bytes_high_first}
 use Rattle.std.specs.Prelude.{slice_index}
-use Rattle.aes_core.specs.Aes.{xor}
-use Rattle.aes_core.specs.Blocks.{block}
 use Rattle.aes_core.specs.Schedule.{AreBytes, IsKey, IsKeyLength}
-use Rattle.aes_core.proofs.BlockLists.{AreBlocks, length-blocks}
-use Rattle.aes_core.proofs.Inverse.{IsState, IsState-xor}
-use Rattle.aes_core.proofs.KeyBytes.{AreBytes-append, AreBytes-chunk, AreBytes-take, AreBytes-zeros, IsState-encrypt}
-use Rattle.cbc_mode.specs.Cbc.{chained, sealed, cbc_seal}
-use Rattle.cbc_mode.proofs.Chain.{cbc_open-cbc_seal}
+use Rattle.aes_core.proofs.Inverse.{IsState}
+use Rattle.aes_core.proofs.KeyBytes.{AreBytes-append, AreBytes-cons, AreBytes-none, AreBytes-take, AreBytes-zeros, byte_at-lt}
+use Rattle.cbc_mode.proofs.Chain.{cbc_open-cbc_seal, length-cbc_seal}
 use Rattle.hmac_kdf.specs.Hmac.{hmac512}
 use Rattle.hmac_kdf.proofs.Lengths.{length-hmac512}
 use Rattle.sha2.specs.Sha512.{digest_bytes, sha512}
 use Rattle.key_slots.specs.Slots.{IsKeyBits, IsSlotOf, check_code, slot_text, wrapped, wrapping_key, zero_vector}
 
--- ---- each number of a code is a byte
-
-AreBytes-none : AreBytes []
-AreBytes-none k = lit< tt
-
-AreBytes-cons : (x : ℕ) (xs : List ℕ) → x < 256 → AreBytes xs → AreBytes (x ∷ xs)
-AreBytes-cons x xs lt h zero = lt
-AreBytes-cons x xs lt h (suc k) = h k
-
-byte_at-lt : (i n : ℕ) → byte_at i n < 256
-byte_at-lt zero n = omega arith
-byte_at-lt (suc i) n = omega arith
-
+-- each number of a code is a byte
 AreBytes-high_first : (k n : ℕ) → AreBytes (bytes_high_first k n)
 AreBytes-high_first zero n = AreBytes-none
 AreBytes-high_first (suc k) n = AreBytes-cons (byte_at k n) (bytes_high_first k n) (byte_at-lt k n) (AreBytes-high_first k n)
@@ -42,27 +25,6 @@ AreBytes-digest h (suc n) = AreBytes-append (digest_bytes h n) (to_be_bytes w64 
 AreBytes-hmac512 : (key message : List ℕ) → AreBytes (hmac512 key message)
 unfolding hmac512 sha512
 AreBytes-hmac512 key message = AreBytes-digest _ 8
-
--- ---- a text is as long as before when it is enciphered
-
-IsState-block : (p : List ℕ) (j : ℕ) → AreBytes p → 16 * j + 16 ≤ length p → IsState (block p j)
-IsState-block p j small le = record { long = length-chunk (16 * j) 16 p le; bytes = AreBytes-chunk (16 * j) 16 p small }
-
-IsState-chained : (key iv p : List ℕ) (j : ℕ) → IsKey key → IsState iv → AreBytes p → 16 * j ≤ length p → IsState (chained key iv p j)
-unfolding chained
-IsState-chained key iv p zero hk hiv small le = hiv
-IsState-chained key iv p (suc j) hk hiv small le =
-    IsState-encrypt key (xor (block p j) (chained key iv p j)) hk
-    (IsState-xor (block p j) (chained key iv p j) (IsState-block p j small (omega arith)) (IsState-chained key iv p j hk hiv small (omega arith)))
-
-length-cbc_seal : (key iv p : List ℕ) → IsKey key → IsState iv → AreBytes p → length p % 16 ≡ 0 → length (cbc_seal key iv p) ≡ length p
-length-cbc_seal key iv p hk hiv small whole =
-    let n : ℕ = length p / 16 in
-    let len : length p ≡ 16 * n = omega arith in
-    let are : AreBlocks (sealed key iv p) n = λ j lt. (IsState-chained key iv p (j + 1) hk hiv small (omega arith)).long in
-    length-blocks (sealed key iv p) n are ∙ sym len
-
--- ---- a slot
 
 IsState-zero_vector : IsState zero_vector
 IsState-zero_vector = record { long = refl; bytes = AreBytes-zeros 16 }

@@ -5,7 +5,7 @@ use Rattle.eli_base.specs.declared.Auth.TheVariants.{Off, Sha256}
 use Rattle.eli_base.specs.declared.Cipher.{Cipher}
 use Rattle.eli_base.specs.declared.Cipher.TheVariants.{AesCbc, AesXts}
 use Rattle.eli_base.specs.declared.Params.{Params}
-use Rattle.eli_base.specs.Algorithms.{allows_length}
+use Rattle.eli_base.specs.Algorithms.{allows_length, auth_number, cipher_number}
 use Rattle.eli_base.specs.SectorSize.{is_sector_size}
 use Rattle.eli_metadata.specs.declared.metadata.Metadata.{Metadata}
 use Rattle.eli_metadata.specs.declared.metadata.MetaFault.{MetaFault}
@@ -39,13 +39,13 @@ is_readonly m = not (are_clear m.flags 0x20)
 abbrev pub unsupported_flags : ℕ → ℕ
 unsupported_flags flags = bit_and flags 0xFFFFFC01
 
--- CRYPTO_AES_CBC is 11 and CRYPTO_AES_XTS 22
+-- the cipher of this number
 abbrev pub cipher_of : ℕ → Option Cipher
-cipher_of ealgo = if ealgo == 11 then Some AesCbc else (if ealgo == 22 then Some AesXts else None)
+cipher_of ealgo = if ealgo == cipher_number AesCbc then Some AesCbc else (if ealgo == cipher_number AesXts then Some AesXts else None)
 
--- CRYPTO_SHA2_256_HMAC is 18; without the flag AUTH the field isn't read
+-- the authentication of this number; without the flag AUTH the field isn't read
 abbrev pub auth_of : Metadata → Option Auth
-auth_of m = if is_authenticated m then (if m.aalgo == 18 then Some Sha256 else None) else Some Off
+auth_of m = if is_authenticated m then (if m.aalgo == auth_number Sha256 then Some Sha256 else None) else Some Off
 
 -- the refusals in their order, or the settings
 abbrev pub check_size : Metadata → Cipher → Auth → Result Settings MetaFault

@@ -12,12 +12,6 @@ const FLAG_RO: u32 = 0x20;
 // ONETIME, and the flags that g_eli.h doesn't name.
 const UNSUPPORTED_FLAGS: u32 = 0xFFFF_FC01;
 
-const AES_CBC: u16 = 11;
-
-const AES_XTS: u16 = 22;
-
-const HMAC_SHA256: u16 = 18;
-
 /// Whether the data of a provider with this metadata can be read and written, and how.
 ///
 /// In this order: `UnsupportedFlags`, with those of the mask 0xFFFFFC01 that are set;
@@ -66,10 +60,12 @@ pub fn check(meta: &Metadata) -> Result<Params, MetaFault>
 fn cipher(ealgo: u16) -> Option<Cipher>
     ensures { result ≡ cipher_of ealgo }
 {
-    match ealgo {
-        AES_CBC => Some(Cipher::AesCbc),
-        AES_XTS => Some(Cipher::AesXts),
-        _ => None,
+    if ealgo == Cipher::AesCbc.number() {
+        Some(Cipher::AesCbc)
+    } else if ealgo == Cipher::AesXts.number() {
+        Some(Cipher::AesXts)
+    } else {
+        None
     }
 }
 
@@ -79,7 +75,7 @@ fn auth(meta: &Metadata) -> Option<Auth>
     if meta.flags & FLAG_AUTH == 0 {
         return Some(Auth::Off);
     }
-    if meta.aalgo == HMAC_SHA256 {
+    if meta.aalgo == Auth::Sha256.number() {
         Some(Auth::Sha256)
     } else {
         None

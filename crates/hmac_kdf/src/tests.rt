@@ -1,5 +1,4 @@
 use crate::{Hmac256, Hmac512, pbkdf2_sha512};
-use std::alloc::{AllocError, Global};
 use std::test::Fail;
 
 // A key and a message, and the codes with SHA-256 and SHA-512 as hexadecimal text.
@@ -110,14 +109,6 @@ const KDF_CASES: [KdfCase; 6] = [
     },
 ];
 
-fn hex_of(alloc: Global, bytes: &[u8]) -> Result<String, AllocError> {
-    let mut text = String::new(alloc);
-    for byte in bytes {
-        write!(text, "{byte:02x}")?;
-    }
-    Ok(text)
-}
-
 // Each published code, with the message cut at every place.
 #[test]
 fn published_codes(rt: HostRuntime) -> Result<(), Fail> {
@@ -127,12 +118,12 @@ fn published_codes(rt: HostRuntime) -> Result<(), Fail> {
             let mut short = Hmac256::new(case.key);
             short.update(front);
             short.update(back);
-            let code = hex_of(rt.alloc(), &short.finish())?;
+            let code = hex::encode(rt.alloc(), &short.finish())?;
             assert_eq!(rt; code.as_str(), case.code256, "cut at {cut}");
             let mut long = Hmac512::new(case.key);
             long.update(front);
             long.update(back);
-            let code = hex_of(rt.alloc(), &long.finish())?;
+            let code = hex::encode(rt.alloc(), &long.finish())?;
             assert_eq!(rt; code.as_str(), case.code512, "cut at {cut}");
         }
     }
@@ -145,7 +136,7 @@ fn published_keys(rt: HostRuntime) -> Result<(), Fail> {
         assert!(rt; case.count > 0);
         let mut out = [0u8; 64];
         pbkdf2_sha512(case.password, case.salt, case.count, &mut out);
-        let derived = hex_of(rt.alloc(), &out)?;
+        let derived = hex::encode(rt.alloc(), &out)?;
         assert_eq!(rt; derived.as_str(), case.derived);
     }
     Ok(())

@@ -4,7 +4,6 @@ ghost use Rattle.key_slots.specs.Slots.{IsKeyBits};
 use crate::{clear_slot, put_slot, unwrap, unwrap_any, wrap};
 use eli_base::MasterKey;
 use eli_metadata::Metadata;
-use std::alloc::{AllocError, Global};
 use std::process::Abort;
 use std::test::Fail;
 use user_key::UserKey;
@@ -79,20 +78,12 @@ fn metadata(keylen: u16) -> Metadata
     }
 }
 
-fn hex_of(alloc: Global, bytes: &[u8]) -> Result<String, AllocError> {
-    let mut text = String::new(alloc);
-    for byte in bytes {
-        write!(text, "{byte:02x}")?;
-    }
-    Ok(text)
-}
-
 #[test]
 fn wrapped_slots(rt: HostRuntime) -> Result<(), Fail> {
     for case in &SLOT_CASES {
         let keylen = case.keylen;
         assert!(rt; keylen == 128 || keylen == 192 || keylen == 256);
-        let slot = hex_of(rt.alloc(), &wrap(&master_key(), &USER_KEY, keylen))?;
+        let slot = hex::encode(rt.alloc(), &wrap(&master_key(), &USER_KEY, keylen))?;
         assert_eq!(rt; slot.as_str(), case.slot);
     }
     Ok(())

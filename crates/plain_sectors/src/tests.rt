@@ -2,7 +2,7 @@ use crate::{open_plain, seal_plain};
 use eli_base::{Auth, Cipher, MasterKey, Params, sector_size_ok};
 use range_keys::KeyRing;
 use sha2::{Digest, Sha256};
-use std::alloc::{AllocError, Global};
+use std::alloc::Global;
 use std::process::Abort;
 use std::test::Fail;
 
@@ -82,14 +82,6 @@ fn fill(text: &mut [u8]) {
     }
 }
 
-fn hex_of(alloc: Global, bytes: &[u8]) -> Result<String, AllocError> {
-    let mut text = String::new(alloc);
-    for byte in bytes {
-        write!(text, "{byte:02x}")?;
-    }
-    Ok(text)
-}
-
 // A cipher, the bits of its key and the bytes of a logical sector.
 #[derive(Clone, Copy)]
 struct Combination {
@@ -145,7 +137,7 @@ fn check_row(
     for offset in [0, size, next_number - size, next_number, (1 << 53) - size] {
         check_at(rt, alloc, tried, offset, &plain, &mut digest)?;
     }
-    let digest = hex_of(alloc, &digest.finalize())?;
+    let digest = hex::encode(alloc, &digest.finalize())?;
     assert_eq!(rt;
         digest.as_str(),
         expected,
@@ -272,7 +264,7 @@ fn check_sector(rt: &impl Abort, alloc: Global, vector: &Vector) -> Result<(), F
     let offset = vector.number * u64::from(vector.sectorsize);
     let mut digest = Sha256::new();
     check_at(rt, alloc, &tried, offset, &plain, &mut digest)?;
-    let digest = hex_of(alloc, &digest.finalize())?;
+    let digest = hex::encode(alloc, &digest.finalize())?;
     assert_eq!(rt; digest.as_str(), vector.digest, "at {offset}");
     Ok(())
 }

@@ -94,14 +94,6 @@ const KEY_CASES: [KeyCase; 9] = [
     },
 ];
 
-fn hex_of(alloc: Global, bytes: &[u8]) -> Result<String, AllocError> {
-    let mut text = String::new(alloc);
-    for byte in bytes {
-        write!(text, "{byte:02x}")?;
-    }
-    Ok(text)
-}
-
 fn list_of(alloc: Global, bytes: &[u8]) -> Result<ByteList, AllocError> {
     Ok(ByteList::from_vec(Vec::from_slice(alloc, bytes)?))
 }
@@ -118,7 +110,7 @@ fn published_keys(rt: HostRuntime) -> Result<(), Fail> {
             },
         };
         let key = derive(&parts, &SALT, case.iterations)?;
-        let text = hex_of(rt.alloc(), &key.bytes)?;
+        let text = hex::encode(rt.alloc(), &key.bytes)?;
         assert_eq!(rt; text.as_str(), case.key);
     }
     Ok(())

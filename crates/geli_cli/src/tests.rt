@@ -62,6 +62,16 @@ fn a_file_is_a_disk(rt: HostRuntime) -> Result<(), Fail> {
     Ok(())
 }
 
+// The null device is open, and can't be synced: a flush that left the sync out would succeed.
+#[test]
+fn a_flush_asks_the_system_to_sync(rt: HostRuntime) -> Result<(), Fail> {
+    let mut files = SystemFiles::new(rt.clone()?);
+    let mut disk = FileDisk::open(&mut files, "/dev/null");
+    assert_eq!(rt; disk.sectors(), 0);
+    assert!(rt; disk.flush().is_err());
+    Ok(())
+}
+
 #[test]
 fn a_file_of_2_to_the_53_bytes_is_no_disk(rt: HostRuntime) -> Result<(), Fail> {
     let name = "large_file_test.img";

@@ -214,9 +214,5 @@ pub(crate) fn hashed(sector: &Sector) -> Sector {
 
 // The SHA-256 digest of bytes, in hexadecimal.
 pub(crate) fn digest_text(alloc: Global, bytes: &[u8]) -> Result<String, Fail> {
-    let mut text = String::new(alloc);
-    for byte in Sha256::digest(bytes) {
-        write!(text, "{byte:02x}")?;
-    }
-    Ok(text)
+    Ok(hex::encode(alloc, Sha256::digest(bytes))?)
 }

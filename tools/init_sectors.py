@@ -26,6 +26,8 @@ FILES = {
 
 CIPHERS = {"AES-CBC": 11, "AES-XTS": 22}
 
+AUTHENTICATIONS = {"": 0, "HMAC/SHA256": 18, "HMAC/SHA384": 19, "HMAC/SHA512": 20}
+
 ROWS = [
     (2048, "init -B b -K k -J p -i 10 a.img"),
     (2048, "init -B b -K k -J p -i 1000 a.img"),
@@ -41,6 +43,8 @@ ROWS = [
     (2, "init -P -K k a.img"),
     (9, "init -P -K k -s 4096 a.img"),
     (10, "init -P -K k -s 4096 -a HMAC/SHA256 a.img"),
+    (2048, "init -P -K k -a HMAC/SHA384 a.img"),
+    (11, "init -P -K k -s 4096 -a Hmac/Sha512 a.img"),
     (2048, "init -K k -J p a.img"),
 ]
 
@@ -83,7 +87,7 @@ def sector(words, sectors):
     flags = (0x10 if "-a" in last else 0) + (0 if "-R" in last else 0x200)
     head = struct.pack(
         "<16sIIHHHQIBi", b"GEOM::ELI", 7, flags, CIPHERS[last.get("-e", "AES-XTS").upper()], keylen,
-        18 if "-a" in last else 0, 512 * sectors, int(last.get("-s", 512)), 1, iterations)
+        AUTHENTICATIONS[last.get("-a", "").upper()], 512 * sectors, int(last.get("-s", 512)), 1, iterations)
     meta = head + SALT + wrapped(key, keylen) + FILLER
     assert len(meta) == 495
     return meta + hashlib.md5(meta).digest() + b"\0"

@@ -15,11 +15,37 @@ TABLE = Path(__file__).parent.parent / "crates/command_words/src/tests/table.rt"
 SIGNS = str.maketrans("~`^", "\0\t\r")
 BYTES = str.maketrans("\0\t\r", "~`^")
 
-# The options of a verb without a value, and those with one. Each verb has one operand, its provider.
-VERBS = {b"dump": ("v", ""), b"init": ("PRv", "aBeiJKls"), b"attach": ("Cprv", "jkn")}
-# The highest value of an option that is a number, and the names of one that is a name.
-HIGHEST = {"i": 2**31 - 1, "l": 2**16 - 1, "s": 2**32 - 1, "n": 2**8 - 1}
-NAMES = {"a": [b"HMAC/SHA256"], "e": [b"AES-XTS", b"AES-CBC"]}
+# The options of a verb without a value, those with one, and its operands.
+VERBS = {
+    b"init": ("PRv", "aBeiJKls", "prov"),
+    b"attach": ("Cprv", "jkn", "prov"),
+    b"detach": ("fv", "", "prov"),
+    b"setkey": ("pPv", "ijJkKn", "prov"),
+    b"delkey": ("afv", "n", "prov"),
+    b"kill": ("v", "", "prov"),
+    b"backup": ("v", "", "prov file"),
+    b"restore": ("fv", "", "file prov"),
+    b"resize": ("v", "s", "prov"),
+    b"dump": ("v", "", "prov"),
+    b"read": ("", "", "prov sector few"),
+    b"write": ("", "", "prov sector hex"),
+    b"flush": ("", "", "prov"),
+    b"list": ("", "", ""),
+    b"fill": ("", "", "prov seed sector many"),
+    b"sum": ("", "", "prov sector many"),
+    b"eject": ("", "", "prov"),
+}
+# The lowest and the highest value of an option or an operand that is a number, and the step from one to the next.
+BOUNDS = {
+    "i": (0, 2**31 - 1, 1), "l": (0, 2**16 - 1, 1), "s": (0, 2**32 - 1, 1), "n": (0, 2**8 - 1, 1),
+    "resize s": (1024, 2**53 - 512, 512),
+    "sector": (0, 2**63 - 1, 1), "few": (1, 256, 1), "many": (1, 2**63 - 1, 1), "seed": (0, 2**64 - 1, 1),
+}
+# The names that an option may have.
+NAMES = {"a": {b"HMAC/SHA256": "Sha256", b"HMAC/SHA384": "Sha384", b"HMAC/SHA512": "Sha512"},
+         "e": {b"AES-XTS": "AesXts", b"AES-CBC": "AesCbc"}}
+# Options that exclude each other, under one verb or under all.
+APART = [(None, "p", "j"), (None, "P", "J"), (b"init", "P", "i"), (b"delkey", "a", "n")]
 # Options that gather their files, at most 16.
 GATHERED = "jJkK"
 
@@ -43,11 +69,19 @@ def words(line, sep):
     return [Value(number, *word) for number, word in enumerate(found)]
 
 
-def fault(letter, text, before):
+def is_number(bounds, text):
+    low, high, step = bounds
+    return re.fullmatch(rb"[0-9]{1,20}", text) and low <= int(text) <= high and int(text) % step == 0
+
+
+def bounds_of(verb, letter):
+    return BOUNDS.get(f"{verb.decode()} {letter}") or BOUNDS.get(letter)
+
+
+def fault(verb, letter, text, before):
     """What is wrong with the value of an option, of which so many came before."""
-    if letter in HIGHEST:
-        good = re.fullmatch(rb"[0-9]{1,20}", text) and int(text) <= HIGHEST[letter]
-        return None if good else "BadNumber"
+    if bounds_of(verb, letter):
+        return None if is_number(bounds_of(verb, letter), text) else "BadNumber"
     if letter in NAMES:
         return None if text.upper() in NAMES[letter] else "BadName"
     if text == b"-":
@@ -55,7 +89,18 @@ def fault(letter, text, before):
     return "TooManyFiles" if letter in GATHERED and before == 16 else None
 
 
-def options(alone, valued, found):
+def operand_fault(kind, text):
+    """What is wrong with an operand."""
+    if kind in BOUNDS:
+        return None if is_number(BOUNDS[kind], text) else "BadNumber"
+    if kind == "file":
+        return "DashFile" if text == b"-" else None
+    if kind == "hex":
+        return None if len(text) <= 2**18 and re.fullmatch(rb"([0-9A-Fa-f]{2})+", text) else "BadHex"
+    return None
+
+
+def options(verb, alone, valued, found):
     """The values of each option that is given, and the operands behind the options."""
     given, at = {}, 1
     while at < len(found):
@@ -79,7 +124,7 @@ def options(alone, valued, found):
                 if at == len(found):
                     raise Usage(at, "MissingValue")
                 value = found[at]
-            wrong = fault(letter, value.text, len(values))
+            wrong = fault(verb, letter, value.text, len(values))
             if wrong:
                 raise Usage(value.number, wrong)
             values.append(value)
@@ -89,22 +134,27 @@ def options(alone, valued, found):
 
 
 def read(line, sep):
-    """The verb, the options and the provider of a line; None where it says nothing."""
+    """The verb, the options and the operands of a line; None where it says nothing."""
     found = words(line, sep)
     if not found or sep == "B" and found[0].text[:1] == b"#":
         return None
     verb = found[0].text
     if verb not in VERBS:
         raise Usage(0, "UnknownVerb")
-    given, operands = options(*VERBS[verb], found)
-    if len(operands) != 1:
+    alone, valued, kinds = VERBS[verb]
+    given, operands = options(verb, alone, valued, found)
+    if len(operands) != len(kinds.split()):
         raise Usage(len(found), "OperandCount")
-    if verb == b"attach" and "C" not in given:
+    if verb == b"resize" and "s" not in given:
         raise Usage(len(found), "MissingOption")
-    for without, other in ("pj", "PJ", "Pi"):
-        if without in given and other in given:
+    for own, one, other in APART:
+        if own in (None, verb) and one in given and other in given:
             raise Usage(len(found), "Exclusive")
-    return verb, given, operands[0]
+    for kind, operand in zip(kinds.split(), operands):
+        wrong = operand_fault(kind, operand.text)
+        if wrong:
+            raise Usage(operand.number, wrong)
+    return verb, given, dict(zip(kinds.split(), operands))
 
 
 def show_value(value):
@@ -116,20 +166,32 @@ def show_key(given, files, passphrases, without):
     return f" files[{shown[0]}] pass[{shown[1]}] without={str(without in given).lower()}"
 
 
-def show_command(verb, given, provider):
+def show_operands(operands):
+    """Places of names and of digits, and values of numbers, in the order of the line."""
+    return "".join(f" {int(value.text)}" if kind in BOUNDS else f" {show_value(value)}" for kind, value in operands.items())
+
+
+def show_command(verb, given, operands):
     # Of an option with one value the last one counts.
     last = {letter: values[-1].text for letter, values in given.items() if values}
-    number = {letter: int(last[letter]) for letter in HIGHEST if letter in last}
-    some = {letter: f"Some({number[letter]})" for letter in number}
-    start = f"{verb.decode()} {show_value(provider)}"
-    if verb == b"dump":
-        return start
+    some = {letter: f"Some({int(last[letter])})" if letter in last else None for letter in "in"}
+    is_given = {letter: str(letter in given).lower() for letter in "CRafr"}
+    start = verb.decode() + show_operands(operands)
     if verb == b"attach":
-        check, readonly = (str(letter in given).lower() for letter in "Cr")
-        return f"{start} check={check} readonly={readonly} slot={some.get('n')}" + show_key(given, "k", "j", "p")
-    cipher = "AesCbc" if last.get("e", b"").upper() == b"AES-CBC" else "AesXts"
-    auth = "Sha256" if "a" in given else "Off"
-    numbers = f"{number.get('l', 128)} {number.get('s', 512)} {some.get('i')}"
+        return f"{start} check={is_given['C']} readonly={is_given['r']} slot={some['n']}" + show_key(given, "k", "j", "p")
+    if verb == b"setkey":
+        return f"{start} {some['i']} slot={some['n']}" + show_key(given, "k", "j", "p") + " new" + show_key(given, "K", "J", "P")
+    if verb == b"delkey":
+        return f"{start} all={is_given['a']} force={is_given['f']} slot={some['n']}"
+    if verb == b"restore":
+        return f"{start} force={is_given['f']}"
+    if verb == b"resize":
+        return f"{start} {int(last['s'])}"
+    if verb != b"init":
+        return start
+    cipher = NAMES["e"][last.get("e", b"AES-XTS").upper()]
+    auth = NAMES["a"][last["a"].upper()] if "a" in last else "Off"
+    numbers = f"{int(last.get('l', 128))} {int(last.get('s', 512))} {some['i']}"
     backup = show_value(given["B"][-1]) if last.get("B", b"none") != b"none" else None
     grow = str("R" not in given).lower()
     return f"{start} {cipher} {auth} {numbers} grow={grow}" + show_key(given, "K", "J", "P") + f" backup={backup}"

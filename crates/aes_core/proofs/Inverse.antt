@@ -8,14 +8,10 @@ use Rattle.std.proofs.lemmas.Simd.{length-zip2, get_or-zip2}
 use Rattle.std.proofs.lemmas.Bool.{cases_lt}
 use Rattle.std.proofs.Common.{inl, inr, ◌⊎◌, lit<}
 use Rattle.std.specs.List.{range_with_len}
+pub use Rattle.aes_core.specs.State.{IsState}
 use Rattle.aes_core.specs.Field.{times_x, times_bits, times, power}
 use Rattle.aes_core.specs.Aes.{sbox, inverse_sbox, bytes_by, xor, sub_bytes, shift_rows, mix_columns, circulant_byte, inverse_sub_bytes, inverse_shift_rows, inverse_mix_columns, round_key, after_rounds, after_inverse_rounds, enciphered, deciphered}
 use Rattle.aes_core.proofs.Boxes.{agree_at}
-
--- a state: 16 bytes
-pub record IsState (s : List ℕ) : Type 0 where
-  pub long : length s ≡ 16
-  pub bytes : (k : ℕ) → get_or s k 0 < 256
 
 -- ---- bytes
 

@@ -2,8 +2,8 @@
 use Rattle.std.proofs.Common.{◌≡◌, ℕ, zero, suc, ◌+◌, ◌-◌, ◌*◌, ◌%◌, ◌≤◌, List, ◌++◌, length, take, replicate, sym, ap, subst, ◌∙◌, arith, length-append}
 use Rattle.std.proofs.lemmas.List.{take-append-le, take_all, length-take-le, length-replicate}
 use Rattle.aes_core.specs.Aes.{xor, sub_bytes, shift_rows, mix_columns, inverse_sub_bytes, inverse_shift_rows, inverse_mix_columns, key_words, rounds, key_schedule, expanded, key_term, word, after_rounds, after_inverse_rounds, enciphered, deciphered, encrypt, decrypt}
-use Rattle.aes_core.specs.Schedule.{AreBytes, IsSchedule, padded_schedule}
-use Rattle.aes_core.proofs.KeyBytes.{AreBytes-append, AreBytes-zeros, AreBytes-expanded}
+use Rattle.aes_core.specs.Schedule.{AreBytes, IsKey, IsSchedule, padded_schedule}
+use Rattle.aes_core.proofs.KeyBytes.{AreBytes-append, AreBytes-zeros, AreBytes-expanded, key_words-bounds}
 use Rattle.aes_core.proofs.KeyWords.{chunk-append, length-expanded}
 
 after_rounds-append : (w z b : List ℕ) (n : ℕ) → 16 * (n + 1) ≤ length w → after_rounds (w ++ z) b n ≡ after_rounds w b n
@@ -96,3 +96,18 @@ IsSchedule_new key keys nk len even low high small e =
       bytes = subst AreBytes (sym e) (AreBytes-append (key_schedule key) z (AreBytes-schedule key nk len low small) (AreBytes-zeros (240 - 16 * (nk + 7))));
       expanded = e ∙ ap (λ (k : ℕ). key_schedule key ++ replicate (240 - 16 * (k + 7)) 0) words ∙ ap padded_schedule (sym front);
     }
+
+-- the zeros behind the round keys change nothing
+pub enciphered-padded : (key b : List ℕ) → IsKey key → enciphered (padded_schedule key) (rounds key - 1) b ≡ encrypt key b
+unfolding encrypt padded_schedule
+enciphered-padded key b h =
+    let sizes = key_words-bounds key h.long in
+    let ls = length-key_schedule key (key_words key) sizes.0 sizes.1 in
+    enciphered-append (key_schedule key) (replicate (240 - 16 * (key_words key + 7)) 0) b (rounds key - 1) (omega (arith, ls))
+
+pub deciphered-padded : (key b : List ℕ) → IsKey key → deciphered (padded_schedule key) (rounds key - 1) b ≡ decrypt key b
+unfolding decrypt padded_schedule
+deciphered-padded key b h =
+    let sizes = key_words-bounds key h.long in
+    let ls = length-key_schedule key (key_words key) sizes.0 sizes.1 in
+    deciphered-append (key_schedule key) (replicate (240 - 16 * (key_words key + 7)) 0) b (rounds key - 1) (omega (arith, ls))

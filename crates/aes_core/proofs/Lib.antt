@@ -7,3 +7,4 @@ pub mod KeyBytes
 pub mod Inverse
 pub mod InPlace
 pub mod BlockLists
+pub mod ColumnLaws

@@ -2,15 +2,17 @@
 //!
 //! `specs/Field.antt` and `specs/Aes.antt` define the cipher by equations of its field, with no
 //! table. [`steps`] has these equations as code, byte by byte; its only tables are the S-box and
-//! its inverse.
+//! its inverse. Enciphering takes a round by its columns, from tables of them.
 #![tactic(auto)]
 
-ghost use Rattle.std.specs.Prelude.{◌≡◌, ℕ, ◌↔◌, List, length, IsSome, IfSome};
-ghost use Rattle.aes_core.specs.Aes.{encrypt, decrypt};
+ghost use Rattle.std.specs.Prelude.{◌≡◌, ◌≤◌, ℕ, ◌↔◌, List, length, IsSome, IfSome};
+ghost use Rattle.aes_core.specs.Aes.{rounds, encrypt, decrypt};
 ghost use Rattle.aes_core.specs.Schedule.{IsKeyLength};
 ghost use Rattle.aes_core.specs.Examples.{example_key, example_plain, example_128, example_192, example_256};
 
 pub mod blocks;
+mod column_tables;
+mod columns;
 mod expansion;
 mod rounds;
 mod sboxes;
@@ -45,7 +47,7 @@ impl Model for Schedule {
 }
 
 impl Schedule {
-    ghost use Rattle.aes_core.specs.Schedule.{IsKey};
+    ghost use Rattle.aes_core.specs.Schedule.{IsKey, padded_schedule};
 
     /// The schedule of a key, or None where the key doesn't have 16, 24 or 32 bytes.
     pub fn new(key: &[u8]) -> Option<Schedule>
@@ -75,6 +77,21 @@ impl Schedule {
         ensures { block.new ≡ decrypt self.now block.old }
     {
         *block = rounds::decipher(&self.keys, self.words + 5, *block);
+    }
+
+    /// The number of rounds (FIPS 197, 5).
+    pub fn rounds(&self) -> usize
+        ensures value { result ≡ rounds self.now }
+        ensures few { (10 ≤ result) × (result ≤ 14) }
+    {
+        self.words + 6
+    }
+
+    /// The round keys one after the other, with zeros behind them (FIPS 197, 5.2).
+    pub fn round_keys(&self) -> &[u8; 240]
+        ensures { result.now ≡ padded_schedule self.now }
+    {
+        &self.keys
     }
 
     /// A law: what a schedule was made from is a key, which has 16, 24 or 32 bytes.

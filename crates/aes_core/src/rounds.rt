@@ -4,8 +4,9 @@ ghost use Rattle.std.specs.Prelude.{◌≡◌, ℕ, ◌<◌};
 ghost use Rattle.aes_core.specs.Aes.{xor, round_key, enciphered, deciphered};
 
 use crate::blocks::{Block, block_at, xor};
+use crate::columns::mixed;
 use crate::steps::{
-    inverse_mix_columns, inverse_shift_rows, inverse_sub_bytes, mix_columns, shift_rows, sub_bytes,
+    inverse_mix_columns, inverse_shift_rows, inverse_sub_bytes, shift_rows, sub_bytes,
 };
 
 // AddRoundKey (FIPS 197, 5.1.4), of round key r.
@@ -23,7 +24,7 @@ pub fn encipher(keys: &[u8; 240], count: usize, block: Block) -> Block
 {
     let mut s = add_round_key(block, keys, 0);
     for n in 0..count {
-        s = add_round_key(mix_columns(shift_rows(sub_bytes(s))), keys, n + 1);
+        s = add_round_key(mixed(&s), keys, n + 1);
     }
     add_round_key(shift_rows(sub_bytes(s)), keys, count + 1)
 }

@@ -11,6 +11,7 @@ mod disk;
 mod faults;
 mod laws;
 mod meta_place;
+mod overwriting;
 mod streams;
 
 pub use byte_list::ByteList;
@@ -22,4 +23,5 @@ pub use laws::{
     last_kept_value_is_present, torn_image_is_altered,
 };
 pub use meta_place::{LastSector, MetaPlace, load_last, store_last};
+pub use overwriting::{overwrite, overwrite_last};
 pub use streams::{Entropy, EntropyFailed, Sink, SinkFailed, Source, SourceFailed};

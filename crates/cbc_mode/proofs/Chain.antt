@@ -30,8 +30,19 @@ block_before-more iv c j len =
     let at : 16 * (j + 1) ≡ length iv + 16 * j = omega arith in
     ap (take 16) (ap (λ (k : ℕ). drop k (iv ++ c)) at ∙ drop-append-add iv c (16 * j))
 
-pub opened_at : (key iv c b before r : List ℕ) (j : ℕ) → before ≡ block (iv ++ c) j → b ≡ block c j → r ≡ xor (decrypt key b) before → r ≡ opened key iv c j
-opened_at key iv c b before r j e eb er = er ∙ (λ i. xor (decrypt key (eb i)) (e i))
+-- block i of a part that begins with block j, where `before` is the block before it
+pub opened-part : (key iv p before part : List ℕ) (j i : ℕ) → length iv ≡ 16 → length before ≡ 16 → before ≡ block (iv ++ p) j → ((n : ℕ) → n ≤ i → block part n ≡ block p (j + n))
+    → opened key before part i ≡ opened key iv p (j + i)
+opened-part key iv p before part j zero len lb e same =
+    let here : j + zero ≡ j = omega arith in
+    let mask : block (before ++ part) 0 ≡ block (iv ++ p) (j + zero) = block_before-start before part lb ∙ e ∙ sym (ap (block (iv ++ p)) here) in
+    (λ k. xor (decrypt key (same 0 (omega arith) k)) (mask k))
+opened-part key iv p before part j (suc n) len lb e same =
+    let at : suc n ≡ n + 1 = omega arith in
+    let here : j + n + 1 ≡ j + suc n = omega arith in
+    let mask : block (before ++ part) (suc n) ≡ block (iv ++ p) (j + suc n) =
+    ap (block (before ++ part)) at ∙ block_before-more before part n lb ∙ same n (omega arith) ∙ sym (block_before-more iv p (j + n) len) ∙ ap (block (iv ++ p)) here in
+    (λ k. xor (decrypt key (same (suc n) (omega arith) k)) (mask k))
 
 IsState-chained : (key iv p : List ℕ) (j : ℕ) → IsKey key → IsState iv → AreBytes p → 16 * j ≤ length p → IsState (chained key iv p j)
 unfolding chained

@@ -1,14 +1,18 @@
 //! Cipher block chaining (NIST SP 800-38A, 6.2) over AES, in place, on whole blocks.
 #![tactic(auto)]
 
-ghost use Rattle.std.specs.Prelude.{◌≡◌, ℕ, ◌+◌, ◌*◌, ◌/◌, ◌%◌, List, length};
-ghost use Rattle.aes_core.specs.Aes.{xor, encrypt, decrypt};
+ghost use Rattle.std.specs.Prelude.{◌≡◌, ◌%◌, length};
+ghost use Rattle.aes_core.specs.Aes.{xor, encrypt};
 ghost use Rattle.aes_core.specs.Schedule.{IsKeyLength};
 ghost use Rattle.cbc_mode.specs.Cbc.{cbc_seal, cbc_open};
 ghost use Rattle.cbc_mode.specs.Examples.{example_key, example_iv, example_plain, example_cipher};
 
+mod groups;
+
 use aes_core::Schedule;
 use aes_core::blocks::{Block, block_at, xor};
+use aes_planes::SlicedSchedule;
+use groups::{open_group, open_rest};
 
 // The cipher text of one block, from the block of cipher text before it.
 fn sealed(k: &Schedule, plain: Block, before: Block) -> Block
@@ -17,15 +21,6 @@ fn sealed(k: &Schedule, plain: Block, before: Block) -> Block
     let mut out = xor(plain, before);
     k.encrypt_block(&mut out);
     out
-}
-
-// The plain text of one block, from the block of cipher text before it.
-fn opened(k: &Schedule, cipher: Block, before: Block) -> Block
-    ensures { result ≡ xor (decrypt k.now cipher) before }
-{
-    let mut out = cipher;
-    k.decrypt_block(&mut out);
-    xor(out, before)
 }
 
 /// Enciphers whole blocks in place, under this key and initial vector. `cbc_open` takes it back.
@@ -46,17 +41,27 @@ pub fn cbc_seal(k: &Schedule, iv: &[u8; 16], block: &mut [u8])
 }
 
 /// Deciphers whole blocks in place, under this key and initial vector.
+///
+/// It makes the bit planes of `k` each time; `cbc_open_sliced` takes them.
 pub fn cbc_open(k: &Schedule, iv: &[u8; 16], block: &mut [u8])
     requires { length block.old % 16 ≡ 0 }
     ensures { block.new ≡ cbc_open k.now iv.now block.old }
 {
+    cbc_open_sliced(&SlicedSchedule::new(k), iv, block);
+}
+
+/// As `cbc_open`, under planes of the key that were made before.
+pub fn cbc_open_sliced(k: &SlicedSchedule, iv: &[u8; 16], block: &mut [u8])
+    requires { length block.old % 16 ≡ 0 }
+    ensures { block.new ≡ cbc_open k.now iv.now block.old }
+{
     let mut before = *iv;
-    for j in 0..block.len() / 16 {
-        let cipher = block_at(block, j);
-        let plain = opened(k, cipher, before);
-        block[16 * j..16 * j + 16].copy_from_slice(&plain);
-        before = cipher;
+    let groups = block.len() / 128;
+    for g in 0..groups {
+        let last = open_group(k, &before, &mut block[128 * g..128 * g + 128]);
+        before = last;
     }
+    open_rest(k, &before, &mut block[128 * groups..]);
 }
 
 /// A law: whatever is sealed opens to what it was, under every key and initial vector.

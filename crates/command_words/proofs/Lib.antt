@@ -1,5 +1,8 @@
+mod BoundsLaws
+pub mod CutLaws
 mod JoinLaws
 mod NumberLaws
+mod OperandsLaws
 mod OptionsLaws
 mod PlacesLaws
 mod TextLaws

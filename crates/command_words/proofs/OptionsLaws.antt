@@ -7,15 +7,15 @@ use Rattle.command_words.specs.declared.commands.Usage.{Usage}
 use Rattle.command_words.specs.declared.settings.Settings.{Settings}
 use Rattle.command_words.specs.declared.table.Verb.{Verb}
 use Rattle.command_words.specs.declared.table.Switch.{Switch}
-use Rattle.command_words.specs.declared.table.Switch.TheVariants.{WithoutOld, WithoutFresh, FixedSize, OnlyCheck, ReadOnly, Verbose}
+use Rattle.command_words.specs.declared.table.Switch.TheVariants.{WithoutOld, WithoutFresh, FixedSize, OnlyCheck, ReadOnly, AllSlots, Force, Verbose}
 use Rattle.command_words.specs.declared.table.Valued.{Valued}
-use Rattle.command_words.specs.declared.table.Valued.TheVariants.{AuthName, CipherName, Iterations, KeyLength, SectorSize, Slot, Backup, OldFile, OldPass, FreshFile, FreshPass}
+use Rattle.command_words.specs.declared.table.Valued.TheVariants.{AuthName, CipherName, Iterations, KeyLength, SectorSize, OldSize, Slot, BackupFile, OldFile, OldPass, FreshFile, FreshPass}
 use Rattle.command_words.specs.declared.table.Letter.{Letter}
 use Rattle.command_words.specs.declared.table.Letter.TheVariants.{Alone, WithValue}
 use Rattle.command_words.specs.Words.{Word}
 use Rattle.command_words.specs.Table.{letter_of}
 use Rattle.command_words.specs.Values.{value_fault}
-use Rattle.command_words.specs.Options.{Item, Set, Given, Group, letters, with_letter, Kind, Ends, Letters, Operand, kind_of, Options, options, values, value_in, fault_of, first_fault, or_else, with_word}
+use Rattle.command_words.specs.Options.{Item, Set, Given, Group, letters, with_letter, Kind, Ends, Letters, Other, kind_of, Options, options, values, value_in, fault_of, first_fault, or_else, with_word}
 use Rattle.command_words.specs.Settings.{settings_of, last, is_set, sets}
 use Rattle.command_words.specs.Reading.{settled, by_options, unless_fault}
 use Rattle.command_words.specs.Pass.{given, after, checked, files_so_far, with_value, with_switch, taken_letter, taken_letters, taken_word, taken_options}
@@ -48,8 +48,9 @@ settings-push_value items CipherName word = simp (values-push, is_set-push, appe
 settings-push_value items Iterations word = simp (values-push, is_set-push, append-nil, last-push)
 settings-push_value items KeyLength word = simp (values-push, is_set-push, append-nil, last-push)
 settings-push_value items SectorSize word = simp (values-push, is_set-push, append-nil, last-push)
+settings-push_value items OldSize word = simp (values-push, is_set-push, append-nil, last-push)
 settings-push_value items Slot word = simp (values-push, is_set-push, append-nil, last-push)
-settings-push_value items Backup word = simp (values-push, is_set-push, append-nil, last-push)
+settings-push_value items BackupFile word = simp (values-push, is_set-push, append-nil, last-push)
 settings-push_value items OldFile word = simp (values-push, is_set-push, append-nil, map-append)
 settings-push_value items OldPass word = simp (values-push, is_set-push, append-nil, map-append)
 settings-push_value items FreshFile word = simp (values-push, is_set-push, append-nil, map-append)
@@ -62,6 +63,8 @@ settings-push_switch items WithoutFresh = simp (values-push, is_set-push, append
 settings-push_switch items FixedSize = simp (values-push, is_set-push, append-nil)
 settings-push_switch items OnlyCheck = simp (values-push, is_set-push, append-nil)
 settings-push_switch items ReadOnly = simp (values-push, is_set-push, append-nil)
+settings-push_switch items AllSlots = simp (values-push, is_set-push, append-nil)
+settings-push_switch items Force = simp (values-push, is_set-push, append-nil)
 settings-push_switch items Verbose = simp (values-push, is_set-push, append-nil)
 
 -- the fault of a value looks at the files so far alone
@@ -71,15 +74,16 @@ fault_by_count items CipherName bytes = refl
 fault_by_count items Iterations bytes = refl
 fault_by_count items KeyLength bytes = refl
 fault_by_count items SectorSize bytes = refl
+fault_by_count items OldSize bytes = refl
 fault_by_count items Slot bytes = refl
-fault_by_count items Backup bytes = refl
+fault_by_count items BackupFile bytes = refl
 fault_by_count items OldFile bytes = rw length-map
 fault_by_count items OldPass bytes = rw length-map
 fault_by_count items FreshFile bytes = rw length-map
 fault_by_count items FreshPass bytes = rw length-map
 
 -- the fault, or the value where there is none
-abbrev outcome : {A : Type 0} → Option Usage → A → Result A Usage
+abbrev pub outcome : {A : Type 0} → Option Usage → A → Result A Usage
 outcome (Some usage) value = Err usage
 outcome None value = Ok value
 
@@ -151,7 +155,7 @@ word_is (Letters bytes) verb word behind before next rest then =
     let group : Group = letters verb word.number (word.start + 1) bytes in
     rw (letters_are, first_fault-append, ← append_assoc before group.items (rest group.waiting).items)
     (goes_on (first_fault before group.items) _ _ _ _ (then group.waiting (before ++ group.items)))
-word_is Operand verb word behind before next rest then = rw append-nil
+word_is Other verb word behind before next rest then = rw append-nil
 
 options_are : (verb : Verb) (total : ℕ) (words : List Word) (waiting : Option Valued) (before : List Item) → taken_options verb total words (settings_of before) waiting ≡ options_outcome before (options verb total words waiting)
 options_are verb total [] None before = rw append-nil

@@ -1,8 +1,9 @@
 -- Words, values and spans stand in the line.
-use Rattle.std.proofs.Common.{◌≡◌, ℕ, suc, ◌+◌, ◌≤◌, List, [], ◌∷◌, ◌++◌, length, take, drop, map, refl, sym, ◌∙◌, ap, subst, arith, Bool, true, false, cond, Option, None, Some, Result, Ok, Err, IfOk, IfSome, ◌==◌, length-drop}
+use Rattle.std.proofs.Common.{◌≡◌, ℕ, suc, ◌+◌, ◌-◌, ◌≤◌, List, [], ◌∷◌, ◌++◌, length, take, drop, map, refl, sym, ◌∙◌, ap, subst, arith, Bool, true, false, cond, Option, None, Some, Result, Ok, Err, IfOk, IfSome, ◌==◌, length-drop}
 use Rattle.std.proofs.lemmas.List.{drop-drop}
 use Rattle.std.proofs.lemmas.List.Elements.{All-from_recursion}
 use Rattle.std.specs.Prelude.{All, codes, option_and_then}
+use Rattle.std.specs.Option.{option_map_or}
 use Rattle.std.specs.List.{slice_split, onto_first, AllByRecursion}
 use Rattle.std.specs.Str.{bytes_eq, is_utf8}
 use Rattle.eli_base.specs.declared.Reason.{Reason}
@@ -11,17 +12,21 @@ use Rattle.command_words.specs.declared.commands.Usage.{Usage}
 use Rattle.command_words.specs.declared.settings.Settings.{Settings}
 use Rattle.command_words.specs.declared.spans.Sep.{Sep}
 use Rattle.command_words.specs.declared.table.Verb.{Verb}
-use Rattle.command_words.specs.declared.table.Verb.TheVariants.{Dump, Init, Attach}
+use Rattle.command_words.specs.declared.operands.Operands.{Operands}
+use Rattle.command_words.specs.declared.table.Operand.{Operand}
+use Rattle.command_words.specs.declared.table.Operand.TheVariants.{Provider, File, Digits}
+use Rattle.command_words.specs.declared.table.Verb.TheVariants.{Init, Attach, Detach, Setkey, Delkey, Kill, Backup, Restore, Resize, Dump, Read, Write, Flush, List as ListVerb, Fill, Sum, Eject}
 use Rattle.command_words.specs.declared.table.Valued.{Valued}
-use Rattle.command_words.specs.declared.table.Valued.TheVariants.{Backup, OldFile, OldPass, FreshFile, FreshPass}
+use Rattle.command_words.specs.declared.table.Valued.TheVariants.{BackupFile, OldFile, OldPass, FreshFile, FreshPass}
 use Rattle.command_words.specs.declared.table.Letter.{Letter}
 use Rattle.command_words.specs.declared.table.Letter.TheVariants.{Alone, WithValue}
 use Rattle.command_words.specs.Words.{Word, words, placed, is_between, is_word}
-use Rattle.command_words.specs.Table.{letter_of, verb_named}
-use Rattle.command_words.specs.Options.{Item, Set, Given, Unknown, Missing, Group, letters, with_letter, Kind, Ends, Letters, Operand, kind_of, Options, options, onto, with_word, values, value_in, place, first_fault}
+use Rattle.command_words.specs.Table.{letter_of, verb_named, form_of}
+use Rattle.command_words.specs.Options.{Item, Set, Given, Unknown, Missing, Group, letters, with_letter, Kind, Ends, Letters, Other, kind_of, Options, options, onto, with_word, values, value_in, place, first_fault}
 use Rattle.command_words.specs.Settings.{settings_of, span_of, last, files_of, backup_of}
-use Rattle.command_words.specs.Reading.{reading, by_words, by_verb, unless_fault, settled, or_complaint, complaint, command_of, operand, is_comment, some_command}
-use Rattle.command_words.specs.Places.{IsWithin, CommandIsWithin}
+use Rattle.command_words.specs.Operands.{operands_of, operands_fault, operand_place, word_as, span_as, no_span}
+use Rattle.command_words.specs.Reading.{reading, by_words, by_verb, unless_fault, by_form, settled, or_complaint, complaint, command_at, is_comment, some_command}
+use Rattle.command_words.specs.Places.{IsWithin, CommandIsWithin, bytes_at}
 
 -- a word stands in the line
 abbrev pub Stands : List ℕ → Word → Type 0
@@ -124,10 +129,10 @@ letters_stand line verb number start (b ∷ bs) h =
 abbrev KindStands : List ℕ → ℕ → ℕ → Kind → Type 0
 KindStands line number start Ends = Unit {0}
 KindStands line number start (Letters bytes) = Stands line (record { number = number; start = start; bytes = bytes })
-KindStands line number start Operand = Unit {0}
+KindStands line number start Other = Unit {0}
 
 kind_choice : (line : List ℕ) (number start : ℕ) (bytes : List ℕ) (dash ends : Bool)
-    → Stands line (record { number = number; start = start; bytes = bytes }) → KindStands line number start (cond dash (cond ends Ends (Letters bytes)) Operand)
+    → Stands line (record { number = number; start = start; bytes = bytes }) → KindStands line number start (cond dash (cond ends Ends (Letters bytes)) Other)
 kind_choice line number start bytes true true h = tt
 kind_choice line number start bytes true false h = h
 kind_choice line number start bytes false ends h = tt
@@ -150,7 +155,7 @@ word_stands : (line : List ℕ) (kind : Kind) (verb : Verb) (word : Word) (behin
     → OptionsStand line (with_word kind verb word behind rest)
 word_stands line Ends verb word behind rest k h hs then = record { items = tt; operands = hs }
 word_stands line (Letters bytes) verb word behind rest k h hs then = onto_stands line _ _ (letters_stand line verb word.number (word.start + 1) bytes k) (then _)
-word_stands line Operand verb word behind rest k h hs then = record { items = tt; operands = (h, hs) }
+word_stands line Other verb word behind rest k h hs then = record { items = tt; operands = (h, hs) }
 
 pub options_stand : (line : List ℕ) (verb : Verb) (total : ℕ) (words : List Word) (waiting : Option Valued) → AllStand line words → OptionsStand line (options verb total words waiting)
 options_stand line verb total [] None h = record { items = tt; operands = tt }
@@ -181,6 +186,12 @@ values_stand : (line : List ℕ) (option : Valued) (items : List Item) → Items
 values_stand line option [] h = tt
 values_stand line option (item ∷ items) h = stand_append line _ _ (value_stands line option item h.0) (values_stand line option items h.1)
 
+-- the bytes of a word's span are the word
+pub bytes_of_span : (line : List ℕ) (word : Word) → Stands line word → bytes_at line (span_of word) ≡ word.bytes
+bytes_of_span line word h =
+    let len : word.start + length word.bytes - word.start ≡ length word.bytes = omega arith in
+    rw len h.1
+
 span_within : (line : List ℕ) (word : Word) → Stands line word → IsWithin (length line) (span_of word)
 span_within line word h = (omega arith, h.0)
 
@@ -200,26 +211,69 @@ backup_within line [] h = tt
 backup_within line (word ∷ []) h = backup_choice line (bytes_eq word.bytes (codes "none")) word h.0
 backup_within line (word ∷ next ∷ words) h = backup_within line (next ∷ words) h.1
 
-operand_within : (line : List ℕ) (operands : List Word) → AllStand line operands → IsWithin (length line) (operand operands 0)
-operand_within line [] h = (omega arith, omega arith)
-operand_within line (word ∷ words) h = span_within line word h.0
+-- what holds of all words holds of the one that stands as an operand
+found_choice : (P : Word → Type 0) (b : Bool) (word : Word) (rest : Option Word) → P word → IfSome rest P → IfSome (cond b (Some word) rest) P
+found_choice P true word rest h g = h
+found_choice P false word rest h g = g
 
-command_within : (line : List ℕ) (verb : Verb) (items : List Item) (operands : List Word) → ItemsStand line items → AllStand line operands → CommandIsWithin (length line) (command_of verb (settings_of items) operands)
-command_within line Dump items operands h g = operand_within line operands g
-command_within line Init items operands h g =
-    (operand_within line operands g, (files_within line FreshFile items h, files_within line FreshPass items h), backup_within line _ (values_stand line Backup items h))
-command_within line Attach items operands h g =
-    (operand_within line operands g, (files_within line OldFile items h, files_within line OldPass items h))
+pub word_keeps : (P : Word → Type 0) (wanted : Operand) (form : List Operand) (words : List Word) → AllByRecursion P words → IfSome (word_as wanted form words) P
+word_keeps P wanted [] words h = tt
+word_keeps P wanted (operand ∷ form) [] h = tt
+word_keeps P wanted (operand ∷ form) (word ∷ words) h =
+    found_choice P (operand_place wanted == operand_place operand) word (word_as wanted form words) h.0 (word_keeps P wanted form words h.1)
+
+found_within : (line : List ℕ) (found : Option Word) → IfSome found (Stands line) → IsWithin (length line) (option_map_or span_of found no_span)
+found_within line None h = (omega arith, omega arith)
+found_within line (Some word) h = span_within line word h
+
+operand_within : (line : List ℕ) (wanted : Operand) (form : List Operand) (words : List Word) → AllStand line words → IsWithin (length line) (span_as wanted form words)
+operand_within line wanted form words h = found_within line (word_as wanted form words) (word_keeps (Stands line) wanted form words h)
+
+command_within : (line : List ℕ) (verb : Verb) (items : List Item) (form : List Operand) (words : List Word) → ItemsStand line items → AllStand line words
+    → CommandIsWithin (length line) (command_at verb (settings_of items) (operands_of form words))
+command_within line Init items form words h g =
+    (operand_within line Provider form words g, (files_within line FreshFile items h, files_within line FreshPass items h), backup_within line _ (values_stand line BackupFile items h))
+command_within line Attach items form words h g =
+    (operand_within line Provider form words g, (files_within line OldFile items h, files_within line OldPass items h))
+command_within line Detach items form words h g = operand_within line Provider form words g
+command_within line Setkey items form words h g =
+    (operand_within line Provider form words g, (files_within line OldFile items h, files_within line OldPass items h), (files_within line FreshFile items h, files_within line FreshPass items h))
+command_within line Delkey items form words h g = operand_within line Provider form words g
+command_within line Kill items form words h g = operand_within line Provider form words g
+command_within line Backup items form words h g = (operand_within line Provider form words g, operand_within line File form words g)
+command_within line Restore items form words h g = (operand_within line File form words g, operand_within line Provider form words g)
+command_within line Resize items form words h g = operand_within line Provider form words g
+command_within line Dump items form words h g = operand_within line Provider form words g
+command_within line Read items form words h g = operand_within line Provider form words g
+command_within line Write items form words h g = (operand_within line Provider form words g, operand_within line Digits form words g)
+command_within line Flush items form words h g = operand_within line Provider form words g
+command_within line ListVerb items form words h g = tt
+command_within line Fill items form words h g = operand_within line Provider form words g
+command_within line Sum items form words h g = operand_within line Provider form words g
+command_within line Eject items form words h g = operand_within line Provider form words g
 
 -- what holds of a command holds of a result that may refuse it
 
-pub complaint_keeps : (Q : Command → Type 0) (complaint : Option Reason) (total : ℕ) (command : Command) → Q command → IfOk (or_complaint complaint total command) Q
-complaint_keeps Q None total command h = h
-complaint_keeps Q (Some reason) total command h = tt
+complaint_keeps : (Q : Command → Type 0) (complaint : Option Reason) (total : ℕ) (result : Result Command Usage) → (complaint ≡ None → IfOk result Q) → IfOk (or_complaint complaint total result) Q
+complaint_keeps Q None total result h = h refl
+complaint_keeps Q (Some reason) total result h = tt
 
-pub fault_keeps : (Q : Command → Type 0) (fault : Option Usage) (result : Result Command Usage) → IfOk result Q → IfOk (unless_fault fault result) Q
-fault_keeps Q None result h = h
+fault_keeps : (Q : Command → Type 0) (fault : Option Usage) (result : Result Command Usage) → (fault ≡ None → IfOk result Q) → IfOk (unless_fault fault result) Q
+fault_keeps Q None result h = h refl
 fault_keeps Q (Some usage) result h = tt
+
+form_keeps : (Q : Command → Type 0) (found : Option (List Operand)) (verb : Verb) (total : ℕ) (s : Settings) (words : List Word)
+    → ((form : List Operand) → found ≡ Some form → complaint verb s ≡ None → operands_fault form words ≡ None → Q (command_at verb s (operands_of form words)))
+    → IfOk (by_form found verb total s words) Q
+form_keeps Q None verb total s words h = tt
+form_keeps Q (Some form) verb total s words h =
+    complaint_keeps Q (complaint verb s) total _ (λ good. fault_keeps Q (operands_fault form words) _ (λ none. h form refl good none))
+
+-- where options and operands have no fault
+pub verb_keeps : (Q : Command → Type 0) (fault : Option Usage) (verb : Verb) (total : ℕ) (s : Settings) (words : List Word)
+    → (fault ≡ None → (form : List Operand) → form_of verb (length words) ≡ Some form → complaint verb s ≡ None → operands_fault form words ≡ None → Q (command_at verb s (operands_of form words)))
+    → IfOk (unless_fault fault (settled verb total s words)) Q
+verb_keeps Q fault verb total s words h = fault_keeps Q fault _ (λ none. form_keeps Q (form_of verb (length words)) verb total s words (h none))
 
 some_keeps : (Q : Command → Type 0) (result : Result Command Usage) → IfOk result Q → IfOk (some_command result) (λ read. IfSome read Q)
 some_keeps Q (Ok command) h = h
@@ -237,9 +291,8 @@ verb_within line (Some verb) total words h =
     let o : Options = options verb total words None in
     let stand : OptionsStand line o = options_stand line verb total words None h in
     let settings : Settings = settings_of o.items in
-    fault_keeps (CommandIsWithin (length line)) (first_fault [] o.items) (settled verb total settings o.operands)
-    (complaint_keeps (CommandIsWithin (length line)) (complaint verb settings (length o.operands)) total (command_of verb settings o.operands)
-    (command_within line verb o.items o.operands stand.items stand.operands))
+    verb_keeps (CommandIsWithin (length line)) (first_fault [] o.items) verb total settings o.operands
+    (λ _ form _ _ _. command_within line verb o.items form o.operands stand.items stand.operands)
 
 by_words_within : (line : List ℕ) (sep : Sep) (text : Bool) (words : List Word) → AllStand line words → IfOk (by_words sep text words) (λ read. IfSome read (CommandIsWithin (length line)))
 by_words_within line sep text [] h = tt

@@ -4,20 +4,24 @@ use Rattle.std.proofs.lemmas.Bool.Decides.{nat_tests}
 use Rattle.std.proofs.lemmas.List.{get_or-drop}
 use Rattle.std.proofs.lemmas.Str.{IsCharBoundary-before_ascii, IsCharBoundary-after_ascii, IsCharBoundary-from_take, IsUtf8-between, IsUtf8-from_is_utf8}
 use Rattle.std.specs.List.{slice_split, onto_first, AllByRecursion}
+use Rattle.std.specs.Option.{option_map_or}
 use Rattle.std.specs.Str.{IsUtf8, IsCharBoundary, is_utf8}
 use Rattle.command_words.specs.declared.settings.Settings.{Settings}
 use Rattle.command_words.specs.declared.spans.Sep.{Sep}
 use Rattle.command_words.specs.declared.spans.Sep.TheVariants.{Blanks, Zeros}
 use Rattle.command_words.specs.declared.table.Verb.{Verb}
-use Rattle.command_words.specs.declared.table.Verb.TheVariants.{Dump, Init, Attach}
+use Rattle.command_words.specs.declared.table.Verb.TheVariants.{Init, Attach, Detach, Setkey, Delkey, Kill, Backup, Restore, Resize, Dump, Read, Write, Flush, List as ListVerb, Fill, Sum, Eject}
+use Rattle.command_words.specs.declared.table.Operand.{Operand}
+use Rattle.command_words.specs.declared.table.Operand.TheVariants.{Provider}
 use Rattle.command_words.specs.declared.table.Valued.{Valued}
 use Rattle.command_words.specs.Words.{Word, words, placed, is_between, is_word}
 use Rattle.command_words.specs.Table.{verb_named}
-use Rattle.command_words.specs.Options.{Item, Kind, Ends, Letters, Operand, kind_of, Options, options, onto, with_word, first_fault}
+use Rattle.command_words.specs.Options.{Item, Kind, Ends, Letters, Other, kind_of, Options, options, onto, with_word, first_fault}
 use Rattle.command_words.specs.Settings.{settings_of, span_of}
-use Rattle.command_words.specs.Reading.{reading, by_words, by_verb, settled, complaint, command_of, operand, is_comment}
+use Rattle.command_words.specs.Operands.{operands_of, word_as, span_as, no_span}
+use Rattle.command_words.specs.Reading.{reading, by_words, by_verb, command_at, is_comment}
 use Rattle.command_words.specs.Places.{bytes_at, ProviderIsText}
-use Rattle.command_words.proofs.PlacesLaws.{Stands, AllStand, Parts, parts_stand, drop_one, below_end, words_stand, OptionsStand, options_stand, complaint_keeps, fault_keeps, text_keeps}
+use Rattle.command_words.proofs.PlacesLaws.{Stands, AllStand, Parts, parts_stand, drop_one, below_end, words_stand, OptionsStand, options_stand, word_keeps, verb_keeps, text_keeps, bytes_of_span}
 
 -- a test that passes bytes below 128 alone
 abbrev IsAsciiTest : (ℕ → Bool) → Type 0
@@ -113,7 +117,7 @@ word_text : (kind : Kind) (verb : Verb) (word : Word) (behind : List Word) (rest
     → IsUtf8 word.bytes → AllText behind → ((waiting : Option Valued) → AllText (rest waiting).operands) → AllText (with_word kind verb word behind rest).operands
 word_text Ends verb word behind rest h hs then = hs
 word_text (Letters bytes) verb word behind rest h hs then = then _
-word_text Operand verb word behind rest h hs then = (h, hs)
+word_text Other verb word behind rest h hs then = (h, hs)
 
 options_text : (verb : Verb) (total : ℕ) (words : List Word) (waiting : Option Valued) → AllText words → AllText (options verb total words waiting).operands
 options_text verb total [] None h = tt
@@ -122,20 +126,32 @@ options_text verb total (word ∷ behind) (Some option) h = options_text verb to
 options_text verb total (word ∷ behind) None h =
     word_text (kind_of word.bytes) verb word behind _ h.0 h.1 (λ waiting. options_text verb total behind waiting h.1)
 
--- the bytes of a word's span are the word
-bytes_of_span : (line : List ℕ) (word : Word) → Stands line word → bytes_at line (span_of word) ≡ word.bytes
-bytes_of_span line word h =
-    let len : word.start + length word.bytes - word.start ≡ length word.bytes = omega arith in
-    rw len h.1
+found_text : (line : List ℕ) (found : Option Word) → IfSome found (Stands line) → IfSome found (λ word. IsUtf8 word.bytes) → IsUtf8 (bytes_at line (option_map_or span_of found no_span))
+found_text line None h g = ([], (refl, refl))
+found_text line (Some word) h g = rw (bytes_of_span line word h) g
 
-operand_text : (line : List ℕ) (operands : List Word) → AllStand line operands → AllText operands → IsUtf8 (bytes_at line (operand operands 0))
-operand_text line [] h g = ([], (refl, refl))
-operand_text line (word ∷ words) h g = rw (bytes_of_span line word h.0) g.0
+operand_text : (line : List ℕ) (wanted : Operand) (form : List Operand) (words : List Word) → AllStand line words → AllText words → IsUtf8 (bytes_at line (span_as wanted form words))
+operand_text line wanted form words h g =
+    found_text line (word_as wanted form words) (word_keeps (Stands line) wanted form words h) (word_keeps (λ word. IsUtf8 word.bytes) wanted form words g)
 
-command_text : (line : List ℕ) (verb : Verb) (settings : Settings) (operands : List Word) → AllStand line operands → AllText operands → ProviderIsText line (command_of verb settings operands)
-command_text line Dump settings operands h g = operand_text line operands h g
-command_text line Init settings operands h g = operand_text line operands h g
-command_text line Attach settings operands h g = operand_text line operands h g
+command_text : (line : List ℕ) (verb : Verb) (settings : Settings) (form : List Operand) (words : List Word) → AllStand line words → AllText words → ProviderIsText line (command_at verb settings (operands_of form words))
+command_text line Init settings form words h g = operand_text line Provider form words h g
+command_text line Attach settings form words h g = operand_text line Provider form words h g
+command_text line Detach settings form words h g = operand_text line Provider form words h g
+command_text line Setkey settings form words h g = operand_text line Provider form words h g
+command_text line Delkey settings form words h g = operand_text line Provider form words h g
+command_text line Kill settings form words h g = operand_text line Provider form words h g
+command_text line Backup settings form words h g = operand_text line Provider form words h g
+command_text line Restore settings form words h g = operand_text line Provider form words h g
+command_text line Resize settings form words h g = operand_text line Provider form words h g
+command_text line Dump settings form words h g = operand_text line Provider form words h g
+command_text line Read settings form words h g = operand_text line Provider form words h g
+command_text line Write settings form words h g = operand_text line Provider form words h g
+command_text line Flush settings form words h g = operand_text line Provider form words h g
+command_text line ListVerb settings form words h g = tt
+command_text line Fill settings form words h g = operand_text line Provider form words h g
+command_text line Sum settings form words h g = operand_text line Provider form words h g
+command_text line Eject settings form words h g = operand_text line Provider form words h g
 
 verb_text : (line : List ℕ) (verb : Option Verb) (total : ℕ) (words : List Word) → AllStand line words → AllText words → IfOk (by_verb verb total words) (ProviderIsText line)
 verb_text line None total words h g = tt
@@ -143,9 +159,8 @@ verb_text line (Some verb) total words h g =
     let o : Options = options verb total words None in
     let stand : OptionsStand line o = options_stand line verb total words None h in
     let settings : Settings = settings_of o.items in
-    fault_keeps (ProviderIsText line) (first_fault [] o.items) (settled verb total settings o.operands)
-    (complaint_keeps (ProviderIsText line) (complaint verb settings (length o.operands)) total (command_of verb settings o.operands)
-    (command_text line verb settings o.operands stand.operands (options_text verb total words None g)))
+    verb_keeps (ProviderIsText line) (first_fault [] o.items) verb total settings o.operands
+    (λ _ form _ _ _. command_text line verb settings form o.operands stand.operands (options_text verb total words None g))
 
 by_words_text : (line : List ℕ) (sep : Sep) (text : Bool) (words : List Word) → AllStand line words → (text ≡ true → AllText words) → IfOk (by_words sep text words) (λ read. IfSome read (ProviderIsText line))
 by_words_text line sep text [] h g = tt

@@ -1,5 +1,6 @@
-use Rattle.std.specs.Prelude.{ℕ, List, [], ◌∷◌, Option, None, Some, option_and_then}
-use Rattle.std.specs.List.{join_with_byte}
+use Rattle.std.specs.Prelude.{ℕ, List, [], ◌∷◌, length, Bool, true, not, ◌&&◌, nat_le, if◌then◌else◌, Option, None, Some, option_and_then, codes}
+use Rattle.std.specs.List.{join_with_byte, list_any}
+use Rattle.std.specs.Str.{bytes_eq}
 use Rattle.command_words.specs.declared.spans.Span.{Span}
 use Rattle.command_words.specs.Reading.{command_in}
 use Rattle.command_words.specs.Places.{provider_of, bytes_at}
@@ -13,6 +14,25 @@ abbrev pub name_at : List ℕ → Option Span → List (List ℕ)
 name_at line None = []
 name_at line (Some span) = bytes_at line span ∷ []
 
--- The images that the words of one command name: the provider of the command, if they are one and it has one.
+-- Whether no name stands twice.
+abbrev pub all_differ : List (List ℕ) → Bool
+all_differ [] = true
+all_differ (name ∷ names) = not (list_any (bytes_eq name) names) && all_differ names
+
+-- Whether names may be those of a script's images: 1 to 16 different ones.
+abbrev pub are_images : List (List ℕ) → Bool
+are_images names = nat_le 1 (length names) && nat_le (length names) 16 && all_differ names
+
+-- The names behind `script`, where the words are that and names that a script's images may have.
+abbrev pub script_images : List (List ℕ) → Option (List (List ℕ))
+script_images [] = None
+script_images (word ∷ names) = if bytes_eq word (codes "script") && are_images names then Some names else None
+
+abbrev pub names_or : Option (List (List ℕ)) → List (List ℕ) → List (List ℕ)
+names_or (Some names) others = names
+names_or None others = others
+
+-- The images that words name: those of a script, or else the provider of the one command, if they are one and it has one.
 abbrev pub image_names : List (List ℕ) → List (List ℕ)
-image_names words = name_at (line_of words) (option_and_then provider_of (command_in (line_of words)))
+image_names words =
+    names_or (script_images words) (name_at (line_of words) (option_and_then provider_of (command_in (line_of words))))

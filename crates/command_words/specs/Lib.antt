@@ -4,7 +4,11 @@ pub mod Table
 pub mod Values
 pub mod Options
 pub mod Settings
+pub mod Operands
 pub mod Reading
 pub mod Pass
 pub mod Places
+pub mod Bounds
+pub mod Built
+pub mod Lines
 pub mod Images

@@ -6,7 +6,7 @@ use Rattle.command_words.specs.declared.commands.Usage.{Usage}
 use Rattle.command_words.specs.declared.table.Verb.{Verb}
 use Rattle.command_words.specs.declared.table.Switch.{Switch}
 use Rattle.command_words.specs.declared.table.Valued.{Valued}
-use Rattle.command_words.specs.declared.table.Valued.TheVariants.{AuthName, CipherName, Iterations, KeyLength, SectorSize, Slot, Backup, OldFile, OldPass, FreshFile, FreshPass}
+use Rattle.command_words.specs.declared.table.Valued.TheVariants.{AuthName, CipherName, Iterations, KeyLength, SectorSize, OldSize, Slot, BackupFile, OldFile, OldPass, FreshFile, FreshPass}
 use Rattle.command_words.specs.declared.table.Letter.{Letter}
 use Rattle.command_words.specs.declared.table.Letter.TheVariants.{Alone, WithValue}
 use Rattle.command_words.specs.Table.{letter_of}
@@ -39,17 +39,17 @@ abbrev pub letters : Verb → ℕ → ℕ → List ℕ → Group
 letters verb number start [] = record { items = []; waiting = None }
 letters verb number start (b ∷ bs) = with_letter (letter_of verb b) number (start + 1) bs (letters verb number (start + 1) bs)
 
--- What a word at the place of an option is: `--`, a group, which begins with `-` and has more bytes, or an operand.
+-- What a word at the place of an option is: `--`, a group, which begins with `-` and has more bytes, or the first operand.
 pub data Kind : Type 0 where
   Ends : Kind
   Letters : (rest : List ℕ) → Kind
-  Operand : Kind
+  Other : Kind
 
 abbrev pub kind_of : List ℕ → Kind
-kind_of [] = Operand
-kind_of (b ∷ []) = Operand
+kind_of [] = Other
+kind_of (b ∷ []) = Other
 kind_of (b ∷ c ∷ bs) =
-    if b == 45 then (if bytes_eq (c ∷ bs) (codes "-") then Ends else Letters (c ∷ bs)) else Operand
+    if b == 45 then (if bytes_eq (c ∷ bs) (codes "-") then Ends else Letters (c ∷ bs)) else Other
 
 -- The options at the front of some words, and the operands behind them.
 pub record Options : Type 0 where
@@ -63,7 +63,7 @@ abbrev pub with_word : Kind → Verb → Word → List Word → (Option Valued �
 with_word Ends verb word behind rest = record { items = []; operands = behind }
 with_word (Letters bytes) verb word behind rest =
     let group = letters verb word.number (word.start + 1) bytes in onto group.items (rest group.waiting)
-with_word Operand verb word behind rest = record { items = []; operands = word ∷ behind }
+with_word Other verb word behind rest = record { items = []; operands = word ∷ behind }
 
 -- The options of a verb among its words, where an option may wait for its value. The line has so many words.
 abbrev pub options : Verb → ℕ → List Word → Option Valued → Options
@@ -79,12 +79,13 @@ place CipherName = 1
 place Iterations = 2
 place KeyLength = 3
 place SectorSize = 4
-place Slot = 5
-place Backup = 6
-place OldFile = 7
-place OldPass = 8
-place FreshFile = 9
-place FreshPass = 10
+place OldSize = 5
+place Slot = 6
+place BackupFile = 7
+place OldFile = 8
+place OldPass = 9
+place FreshFile = 10
+place FreshPass = 11
 
 -- The values that an option was given, in order.
 abbrev pub value_in : Valued → Item → List Word

@@ -1,26 +1,30 @@
 use Rattle.std.specs.Prelude.{ℕ, ◌+◌, pos, List, [], ◌∷◌, ◌++◌, length, true, false, Option, None, Some, unwrap_or, Result, Ok, Err}
-use Rattle.eli_base.specs.declared.Auth.TheVariants.{Sha256}
+use Rattle.eli_base.specs.declared.Auth.TheVariants.{Off}
 use Rattle.eli_base.specs.declared.Cipher.TheVariants.{AesXts}
 use Rattle.eli_base.specs.declared.Reason.{Reason}
 use Rattle.eli_base.specs.declared.Reason.TheVariants.{UnknownOption, MissingValue}
 use Rattle.command_words.specs.declared.commands.Usage.{Usage}
 use Rattle.command_words.specs.declared.settings.Settings.{Settings}
+use Rattle.command_words.specs.declared.operands.Operands.{Operands}
 use Rattle.command_words.specs.declared.spans.Span.{Span}
 use Rattle.command_words.specs.declared.spans.KeyWords.{KeyWords}
 use Rattle.command_words.specs.declared.table.Verb.{Verb}
 use Rattle.command_words.specs.declared.table.Switch.{Switch}
-use Rattle.command_words.specs.declared.table.Switch.TheVariants.{WithoutOld, WithoutFresh, FixedSize, OnlyCheck, ReadOnly, Verbose}
+use Rattle.command_words.specs.declared.table.Switch.TheVariants.{WithoutOld, WithoutFresh, FixedSize, OnlyCheck, ReadOnly, AllSlots, Force, Verbose}
 use Rattle.command_words.specs.declared.table.Valued.{Valued}
-use Rattle.command_words.specs.declared.table.Valued.TheVariants.{AuthName, CipherName, Iterations, KeyLength, SectorSize, Slot, Backup, OldFile, OldPass, FreshFile, FreshPass}
+use Rattle.command_words.specs.declared.table.Valued.TheVariants.{AuthName, CipherName, Iterations, KeyLength, SectorSize, OldSize, Slot, BackupFile, OldFile, OldPass, FreshFile, FreshPass}
+use Rattle.command_words.specs.declared.table.Operand.{Operand}
+use Rattle.command_words.specs.declared.table.Operand.TheVariants.{Provider, File, Sector, FewSectors, ManySectors, Seed, Digits}
 use Rattle.command_words.specs.declared.table.Letter.{Letter}
 use Rattle.command_words.specs.declared.table.Letter.TheVariants.{Alone, WithValue}
 use Rattle.command_words.specs.declared.kinds.WordKind.{WordKind}
 use Rattle.command_words.specs.declared.kinds.WordKind.TheVariants as Here
 use Rattle.command_words.specs.Words.{Word}
 use Rattle.command_words.specs.Table.{letter_of}
-use Rattle.command_words.specs.Values.{decimal, cipher_named, value_fault}
-use Rattle.command_words.specs.Options.{Kind, Ends, Letters, Operand, kind_of}
+use Rattle.command_words.specs.Values.{decimal, auth_named, cipher_named, value_fault, operand_fault}
+use Rattle.command_words.specs.Options.{Kind, Ends, Letters, Other, kind_of}
 use Rattle.command_words.specs.Settings.{span_of, backup_of}
+use Rattle.command_words.specs.Operands.{no_span}
 
 -- What one pass over the words keeps. These speak of the private functions alone; what a line says is `reading`.
 
@@ -31,8 +35,9 @@ files_so_far s CipherName = []
 files_so_far s Iterations = []
 files_so_far s KeyLength = []
 files_so_far s SectorSize = []
+files_so_far s OldSize = []
 files_so_far s Slot = []
-files_so_far s Backup = []
+files_so_far s BackupFile = []
 files_so_far s OldFile = s.old_key.files
 files_so_far s OldPass = s.old_key.pass
 files_so_far s FreshFile = s.fresh_key.files
@@ -49,13 +54,14 @@ without_pass key = record { files = key.files; pass = key.pass; without = true }
 
 -- One more option with a value.
 abbrev pub with_value : Settings → Valued → Word → Settings
-with_value s AuthName word = record s { auth = Sha256 }
+with_value s AuthName word = record s { auth = unwrap_or (auth_named word.bytes) Off }
 with_value s CipherName word = record s { cipher = unwrap_or (cipher_named word.bytes) AesXts }
 with_value s Iterations word = record s { iterations = Some (pos (decimal word.bytes)) }
 with_value s KeyLength word = record s { keylen = decimal word.bytes }
 with_value s SectorSize word = record s { sectorsize = decimal word.bytes }
+with_value s OldSize word = record s { oldsize = Some (decimal word.bytes) }
 with_value s Slot word = record s { slot = Some (decimal word.bytes) }
-with_value s Backup word = record s { backup = backup_of word }
+with_value s BackupFile word = record s { backup = backup_of word }
 with_value s OldFile word = record s { old_key = with_file s.old_key word }
 with_value s OldPass word = record s { old_key = with_pass s.old_key word }
 with_value s FreshFile word = record s { fresh_key = with_file s.fresh_key word }
@@ -68,6 +74,8 @@ with_switch s WithoutFresh = record s { fresh_key = without_pass s.fresh_key }
 with_switch s FixedSize = record s { autoresize = false }
 with_switch s OnlyCheck = record s { only_check = true }
 with_switch s ReadOnly = record s { readonly = true }
+with_switch s AllSlots = record s { all = true }
+with_switch s Force = record s { force = true }
 with_switch s Verbose = s
 
 -- What a step leaves, or why the line is no command.
@@ -102,7 +110,7 @@ taken_letters verb number start (b ∷ bs) s = taken_letter (letter_of verb b) n
 abbrev pub taken_word : Kind → Verb → Word → List Word → Settings → (Settings → Option Valued → Result (Settings × List Word) Usage) → Result (Settings × List Word) Usage
 taken_word Ends verb word behind s next = Ok (s, behind)
 taken_word (Letters bytes) verb word behind s next = after (taken_letters verb word.number (word.start + 1) bytes s) (λ read. next read.0 read.1)
-taken_word Operand verb word behind s next = Ok (s, word ∷ behind)
+taken_word Other verb word behind s next = Ok (s, word ∷ behind)
 
 -- The options of a verb among its words; the line has so many.
 abbrev pub taken_options : Verb → ℕ → List Word → Settings → Option Valued → Result (Settings × List Word) Usage
@@ -115,4 +123,25 @@ taken_options verb total (word ∷ behind) s None = taken_word (kind_of word.byt
 abbrev pub kind_seen : WordKind → Kind
 kind_seen Here.Ends = Ends
 kind_seen (Here.Letters bytes) = Letters bytes.now
-kind_seen Here.Operand = Operand
+kind_seen Here.Other = Other
+
+-- One more operand.
+abbrev pub with_operand : Operands → Operand → Word → Operands
+with_operand o Provider word = record o { prov = span_of word }
+with_operand o File word = record o { file = span_of word }
+with_operand o Sector word = record o { sector = decimal word.bytes }
+with_operand o FewSectors word = record o { few = decimal word.bytes }
+with_operand o ManySectors word = record o { many = decimal word.bytes }
+with_operand o Seed word = record o { seed = decimal word.bytes }
+with_operand o Digits word = record o { digits = span_of word }
+
+-- The operands of a form among the words.
+abbrev pub taken_operands : List Operand → List Word → Operands → Result Operands Usage
+taken_operands [] words o = Ok o
+taken_operands (operand ∷ form) [] o = Ok o
+taken_operands (operand ∷ form) (word ∷ words) o =
+    after (checked (operand_fault operand word.bytes) word.number (with_operand o operand word)) (λ next. taken_operands form words next)
+
+-- The operands of a line that has a provider alone.
+abbrev pub provider_alone : Span → Operands
+provider_alone prov = record { prov = prov; file = no_span; digits = no_span; seed = 0; sector = 0; few = 0; many = 0 }

@@ -1,9 +1,10 @@
-use Rattle.std.specs.Prelude.{ℕ, ◌≤◌, List, All, IfSome, slice_range, Option, Some}
+use Rattle.std.specs.Prelude.{◌≡◌, ℕ, ◌+◌, ◌*◌, ◌%◌, ◌^◌, ◌<◌, ◌≤◌, List, All, IfSome, IsTrue, slice_range, Option, Some, None}
 use Rattle.std.specs.Str.{IsUtf8}
 use Rattle.command_words.specs.declared.commands.Command.{Command}
-use Rattle.command_words.specs.declared.commands.Command.TheVariants.{Dump, Init, Attach}
+use Rattle.command_words.specs.declared.commands.Command.TheVariants as commands
 use Rattle.command_words.specs.declared.spans.Span.{Span}
 use Rattle.command_words.specs.declared.spans.KeyWords.{KeyWords}
+use Rattle.command_words.specs.Values.{is_hexadecimal}
 
 -- Whether a span lies in a line of so many bytes.
 abbrev pub IsWithin : ℕ → Span → Type 0
@@ -15,16 +16,44 @@ KeyIsWithin len key = All (IsWithin len) key.files × All (IsWithin len) key.pas
 
 -- The spans of a command lie in the line.
 abbrev pub CommandIsWithin : ℕ → Command → Type 0
-CommandIsWithin len (Dump prov) = IsWithin len prov
-CommandIsWithin len (Init prov cipher auth keylen sectorsize iterations autoresize fresh backup) =
+CommandIsWithin len (commands.Init prov cipher auth keylen sectorsize iterations autoresize fresh backup) =
     IsWithin len prov × KeyIsWithin len fresh × IfSome backup (IsWithin len)
-CommandIsWithin len (Attach prov only_check readonly slot old) = IsWithin len prov × KeyIsWithin len old
+CommandIsWithin len (commands.Attach prov only_check readonly slot old) = IsWithin len prov × KeyIsWithin len old
+CommandIsWithin len (commands.Detach prov) = IsWithin len prov
+CommandIsWithin len (commands.Setkey prov iterations slot old fresh) = IsWithin len prov × KeyIsWithin len old × KeyIsWithin len fresh
+CommandIsWithin len (commands.Delkey prov all force slot) = IsWithin len prov
+CommandIsWithin len (commands.Kill prov) = IsWithin len prov
+CommandIsWithin len (commands.Backup prov file) = IsWithin len prov × IsWithin len file
+CommandIsWithin len (commands.Restore file prov force) = IsWithin len file × IsWithin len prov
+CommandIsWithin len (commands.Resize prov oldsize) = IsWithin len prov
+CommandIsWithin len (commands.Dump prov) = IsWithin len prov
+CommandIsWithin len (commands.Read prov sector count) = IsWithin len prov
+CommandIsWithin len (commands.Write prov sector hex) = IsWithin len prov × IsWithin len hex
+CommandIsWithin len (commands.Flush prov) = IsWithin len prov
+CommandIsWithin len commands.List = Unit {0}
+CommandIsWithin len (commands.Fill prov seed start count) = IsWithin len prov
+CommandIsWithin len (commands.Sum prov start count) = IsWithin len prov
+CommandIsWithin len (commands.Eject prov) = IsWithin len prov
 
 -- The provider that a command names, if it names one.
 abbrev pub provider_of : Command → Option Span
-provider_of (Dump prov) = Some prov
-provider_of (Init prov cipher auth keylen sectorsize iterations autoresize fresh backup) = Some prov
-provider_of (Attach prov only_check readonly slot old) = Some prov
+provider_of (commands.Init prov cipher auth keylen sectorsize iterations autoresize fresh backup) = Some prov
+provider_of (commands.Attach prov only_check readonly slot old) = Some prov
+provider_of (commands.Detach prov) = Some prov
+provider_of (commands.Setkey prov iterations slot old fresh) = Some prov
+provider_of (commands.Delkey prov all force slot) = Some prov
+provider_of (commands.Kill prov) = Some prov
+provider_of (commands.Backup prov file) = Some prov
+provider_of (commands.Restore file prov force) = Some prov
+provider_of (commands.Resize prov oldsize) = Some prov
+provider_of (commands.Dump prov) = Some prov
+provider_of (commands.Read prov sector count) = Some prov
+provider_of (commands.Write prov sector hex) = Some prov
+provider_of (commands.Flush prov) = Some prov
+provider_of commands.List = None
+provider_of (commands.Fill prov seed start count) = Some prov
+provider_of (commands.Sum prov start count) = Some prov
+provider_of (commands.Eject prov) = Some prov
 
 -- The bytes of a span.
 abbrev pub bytes_at : List ℕ → Span → List ℕ

@@ -1,27 +1,29 @@
-use Rattle.std.specs.Prelude.{ℕ, ◌+◌, List, [], ◌∷◌, length, map, Bool, true, false, not, ◌&&◌, ◌||◌, ◌==◌, nat_le, is_some, if◌then◌else◌, Option, None, Some, Result, Ok, Err, slice_index_or}
+use Rattle.std.specs.Prelude.{ℕ, ◌+◌, List, [], ◌∷◌, length, Bool, true, false, not, ◌&&◌, ◌||◌, ◌==◌, nat_le, is_some, if◌then◌else◌, Option, None, Some, unwrap_or, Result, Ok, Err}
 use Rattle.std.specs.Str.{is_utf8}
 use Rattle.eli_base.specs.declared.Reason.{Reason}
 use Rattle.eli_base.specs.declared.Reason.TheVariants.{UnknownVerb, OperandCount, MissingOption, Exclusive, NotText}
 use Rattle.command_words.specs.declared.commands.Command.{Command}
-use Rattle.command_words.specs.declared.commands.Command.TheVariants.{Dump as DumpCommand, Init as InitCommand, Attach as AttachCommand}
+use Rattle.command_words.specs.declared.commands.Command.TheVariants as commands
 use Rattle.command_words.specs.declared.commands.Usage.{Usage}
+use Rattle.command_words.specs.declared.operands.Operands.{Operands}
 use Rattle.command_words.specs.declared.spans.Sep.{Sep}
 use Rattle.command_words.specs.declared.spans.Sep.TheVariants.{Blanks, Zeros}
 use Rattle.command_words.specs.declared.spans.Span.{Span}
 use Rattle.command_words.specs.declared.spans.KeyWords.{KeyWords}
 use Rattle.command_words.specs.declared.settings.Settings.{Settings}
+use Rattle.command_words.specs.declared.table.Operand.{Operand}
 use Rattle.command_words.specs.declared.table.Verb.{Verb}
-use Rattle.command_words.specs.declared.table.Verb.TheVariants.{Dump, Init, Attach}
+use Rattle.command_words.specs.declared.table.Verb.TheVariants.{Init, Attach, Detach, Setkey, Delkey, Kill, Backup, Restore, Resize, Dump, Read, Write, Flush, List as ListVerb, Fill, Sum, Eject}
 use Rattle.command_words.specs.Words.{Word, words}
-use Rattle.command_words.specs.Table.{verb_named, operand_count}
+use Rattle.command_words.specs.Table.{verb_named, form_of}
 use Rattle.command_words.specs.Options.{Options, options, first_fault}
-use Rattle.command_words.specs.Settings.{span_of, settings_of}
+use Rattle.command_words.specs.Operands.{operands_fault, operands_of}
+use Rattle.command_words.specs.Settings.{settings_of}
 
--- Whether a verb lacks an option that it needs: without `-C` the attached provider would end with the command.
+-- Whether a verb lacks an option that it needs.
 abbrev pub lacks_option : Verb → Settings → Bool
-lacks_option Dump settings = false
-lacks_option Init settings = false
-lacks_option Attach settings = not settings.only_check
+lacks_option Resize settings = not (is_some settings.oldsize)
+lacks_option _ settings = false
 
 abbrev pub has_files : List Span → Bool
 has_files [] = false
@@ -31,46 +33,60 @@ has_files (span ∷ spans) = true
 abbrev pub is_torn : KeyWords → Bool
 is_torn key = key.without && has_files key.pass
 
+-- Whether two options that exclude each other under one verb alone are there: what `init` writes has no iterations
+-- without a passphrase, and `delkey` names all slots or one.
+abbrev pub excludes_own : Verb → Settings → Bool
+excludes_own Init settings = settings.fresh_key.without && is_some settings.iterations
+excludes_own Delkey settings = settings.all && is_some settings.slot
+excludes_own _ settings = false
+
 -- Whether two options of a verb exclude each other.
 abbrev pub excludes : Verb → Settings → Bool
-excludes Dump settings = is_torn settings.old_key || is_torn settings.fresh_key
-excludes Init settings = is_torn settings.old_key || is_torn settings.fresh_key || (settings.fresh_key.without && is_some settings.iterations)
-excludes Attach settings = is_torn settings.old_key || is_torn settings.fresh_key
+excludes verb settings = is_torn settings.old_key || is_torn settings.fresh_key || excludes_own verb settings
 
--- What is wrong when the options are read, in this order.
-abbrev pub complaint : Verb → Settings → ℕ → Option Reason
-complaint verb settings operands =
-    if not (operands == operand_count verb) then Some OperandCount
-    else (if lacks_option verb settings then Some MissingOption
-    else (if excludes verb settings then Some Exclusive else None))
+-- What is wrong with the options together, in this order.
+abbrev pub complaint : Verb → Settings → Option Reason
+complaint verb settings = if lacks_option verb settings then Some MissingOption else (if excludes verb settings then Some Exclusive else None)
 
--- The command of a verb for a provider.
-abbrev pub command_at : Verb → Settings → Span → Command
-command_at Dump settings prov = DumpCommand prov
-command_at Init settings prov =
-    InitCommand prov settings.cipher settings.auth settings.keylen settings.sectorsize settings.iterations settings.autoresize settings.fresh_key settings.backup
-command_at Attach settings prov = AttachCommand prov settings.only_check settings.readonly settings.slot settings.old_key
-
--- The operand of a place.
-abbrev pub operand : List Word → ℕ → Span
-operand operands n = slice_index_or (map span_of operands) n (record { start = 0; end = 0; word = 0 })
-
--- The command of a verb, whose operands are of the right number.
-abbrev pub command_of : Verb → Settings → List Word → Command
-command_of verb settings operands = command_at verb settings (operand operands 0)
-
--- The command, or what is wrong at the end of the words.
-abbrev pub or_complaint : Option Reason → ℕ → Command → Result Command Usage
-or_complaint (Some reason) total command = Err (record { word = total; reason = reason })
-or_complaint None total command = Ok command
-
-abbrev pub settled : Verb → ℕ → Settings → List Word → Result Command Usage
-settled verb total settings operands = or_complaint (complaint verb settings (length operands)) total (command_of verb settings operands)
+-- The command of a verb, by what its options and its operands come to.
+abbrev pub command_at : Verb → Settings → Operands → Command
+command_at Init s o = commands.Init o.prov s.cipher s.auth s.keylen s.sectorsize s.iterations s.autoresize s.fresh_key s.backup
+command_at Attach s o = commands.Attach o.prov s.only_check s.readonly s.slot s.old_key
+command_at Detach s o = commands.Detach o.prov
+command_at Setkey s o = commands.Setkey o.prov s.iterations s.slot s.old_key s.fresh_key
+command_at Delkey s o = commands.Delkey o.prov s.all s.force s.slot
+command_at Kill s o = commands.Kill o.prov
+command_at Backup s o = commands.Backup o.prov o.file
+command_at Restore s o = commands.Restore o.file o.prov s.force
+command_at Resize s o = commands.Resize o.prov (unwrap_or s.oldsize 0)
+command_at Dump s o = commands.Dump o.prov
+command_at Read s o = commands.Read o.prov o.sector o.few
+command_at Write s o = commands.Write o.prov o.sector o.digits
+command_at Flush s o = commands.Flush o.prov
+command_at ListVerb s o = commands.List
+command_at Fill s o = commands.Fill o.prov o.seed o.sector o.many
+command_at Sum s o = commands.Sum o.prov o.sector o.many
+command_at Eject s o = commands.Eject o.prov
 
 -- The fault, or what follows without one.
 abbrev pub unless_fault : Option Usage → Result Command Usage → Result Command Usage
 unless_fault (Some usage) result = Err usage
 unless_fault None result = result
+
+-- What follows, or what is wrong at the end of the words.
+abbrev pub or_complaint : Option Reason → ℕ → Result Command Usage → Result Command Usage
+or_complaint (Some reason) total result = Err (record { word = total; reason = reason })
+or_complaint None total result = result
+
+-- The command of a verb whose operands are of this form.
+abbrev pub by_form : Option (List Operand) → Verb → ℕ → Settings → List Word → Result Command Usage
+by_form None verb total settings words = Err (record { word = total; reason = OperandCount })
+by_form (Some form) verb total settings words =
+    or_complaint (complaint verb settings) total (unless_fault (operands_fault form words) (Ok (command_at verb settings (operands_of form words))))
+
+-- What follows the options: how many operands there are, the options together, and then the operands from left to right.
+abbrev pub settled : Verb → ℕ → Settings → List Word → Result Command Usage
+settled verb total settings words = by_form (form_of verb (length words)) verb total settings words
 
 abbrev pub by_options : Verb → ℕ → Options → Result Command Usage
 by_options verb total read = unless_fault (first_fault [] read.items) (settled verb total (settings_of read.items) read.operands)

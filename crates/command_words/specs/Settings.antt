@@ -2,16 +2,16 @@ use Rattle.std.specs.Prelude.{ℕ, ◌+◌, pos, List, [], ◌∷◌, length, ma
 use Rattle.std.specs.Option.{option_map_or}
 use Rattle.std.specs.List.{list_any}
 use Rattle.std.specs.Str.{bytes_eq}
-use Rattle.eli_base.specs.declared.Auth.TheVariants.{Off, Sha256}
+use Rattle.eli_base.specs.declared.Auth.TheVariants.{Off}
 use Rattle.eli_base.specs.declared.Cipher.TheVariants.{AesXts}
 use Rattle.command_words.specs.declared.spans.Span.{Span}
 use Rattle.command_words.specs.declared.settings.Settings.{Settings}
 use Rattle.command_words.specs.declared.table.Switch.{Switch}
-use Rattle.command_words.specs.declared.table.Switch.TheVariants.{WithoutOld, WithoutFresh, FixedSize, OnlyCheck, ReadOnly, Verbose}
+use Rattle.command_words.specs.declared.table.Switch.TheVariants.{WithoutOld, WithoutFresh, FixedSize, OnlyCheck, ReadOnly, AllSlots, Force, Verbose}
 use Rattle.command_words.specs.declared.table.Valued.{Valued}
-use Rattle.command_words.specs.declared.table.Valued.TheVariants.{AuthName, CipherName, Iterations, KeyLength, SectorSize, Slot, Backup, OldFile, OldPass, FreshFile, FreshPass}
+use Rattle.command_words.specs.declared.table.Valued.TheVariants.{AuthName, CipherName, Iterations, KeyLength, SectorSize, OldSize, Slot, BackupFile, OldFile, OldPass, FreshFile, FreshPass}
 use Rattle.command_words.specs.Words.{Word}
-use Rattle.command_words.specs.Values.{decimal, cipher_named}
+use Rattle.command_words.specs.Values.{decimal, auth_named, cipher_named}
 use Rattle.command_words.specs.Options.{Item, Set, Given, Unknown, Missing, values}
 
 -- The bytes of a value in the line.
@@ -34,7 +34,9 @@ switch_place WithoutFresh = 1
 switch_place FixedSize = 2
 switch_place OnlyCheck = 3
 switch_place ReadOnly = 4
-switch_place Verbose = 5
+switch_place AllSlots = 5
+switch_place Force = 6
+switch_place Verbose = 7
 
 abbrev pub sets : Switch → Item → Bool
 sets switch (Set given) = switch_place switch == switch_place given
@@ -57,16 +59,19 @@ files_of option items = map span_of (values option items)
 -- What options without a fault come to.
 abbrev pub settings_of : List Item → Settings
 settings_of items = record {
-  auth = option_map_or (λ word. Sha256) (last_value AuthName items) Off;
+  auth = unwrap_or (option_and_then (λ word. auth_named word.bytes) (last_value AuthName items)) Off;
   cipher = unwrap_or (option_and_then (λ word. cipher_named word.bytes) (last_value CipherName items)) AesXts;
   iterations = option_map (λ word. pos (decimal word.bytes)) (last_value Iterations items);
   keylen = option_map_or (λ word. decimal word.bytes) (last_value KeyLength items) 128;
   sectorsize = option_map_or (λ word. decimal word.bytes) (last_value SectorSize items) 512;
+  oldsize = option_map (λ word. decimal word.bytes) (last_value OldSize items);
   slot = option_map (λ word. decimal word.bytes) (last_value Slot items);
-  backup = option_and_then backup_of (last_value Backup items);
+  backup = option_and_then backup_of (last_value BackupFile items);
   autoresize = not (is_set FixedSize items);
   only_check = is_set OnlyCheck items;
   readonly = is_set ReadOnly items;
+  all = is_set AllSlots items;
+  force = is_set Force items;
   old_key = record { files = files_of OldFile items; pass = files_of OldPass items; without = is_set WithoutOld items };
   fresh_key = record { files = files_of FreshFile items; pass = files_of FreshPass items; without = is_set WithoutFresh items };
 }

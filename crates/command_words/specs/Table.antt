@@ -1,43 +1,90 @@
-use Rattle.std.specs.Prelude.{ℕ, List, [], ◌∷◌, Bool, ◌==◌, if◌then◌else◌, Option, None, Some, codes}
+use Rattle.std.specs.Prelude.{ℕ, List, [], ◌∷◌, length, Bool, ◌==◌, if◌then◌else◌, Option, None, Some, codes, map, option_map}
 use Rattle.std.specs.Str.{byte, bytes_eq}
 use Rattle.command_words.specs.declared.table.Verb.{Verb}
-use Rattle.command_words.specs.declared.table.Verb.TheVariants.{Dump, Init, Attach}
-use Rattle.command_words.specs.declared.table.Switch.TheVariants.{WithoutOld, WithoutFresh, FixedSize, OnlyCheck, ReadOnly, Verbose}
-use Rattle.command_words.specs.declared.table.Valued.TheVariants.{AuthName, CipherName, Iterations, KeyLength, SectorSize, Slot, Backup, OldFile, OldPass, FreshFile, FreshPass}
+use Rattle.command_words.specs.declared.table.Verb.TheVariants.{Init, Attach, Detach, Setkey, Delkey, Kill, Backup, Restore, Resize, Dump, Read, Write, Flush, List as ListVerb, Fill, Sum, Eject}
+use Rattle.command_words.specs.declared.table.Switch.{Switch}
+use Rattle.command_words.specs.declared.table.Switch.TheVariants.{WithoutOld, WithoutFresh, FixedSize, OnlyCheck, ReadOnly, AllSlots, Force, Verbose}
+use Rattle.command_words.specs.declared.table.Valued.{Valued}
+use Rattle.command_words.specs.declared.table.Valued.TheVariants.{AuthName, CipherName, Iterations, KeyLength, SectorSize, OldSize, Slot, BackupFile, OldFile, OldPass, FreshFile, FreshPass}
 use Rattle.command_words.specs.declared.table.Letter.{Letter}
 use Rattle.command_words.specs.declared.table.Letter.TheVariants.{Alone, WithValue}
+use Rattle.command_words.specs.declared.table.Operand.{Operand}
+use Rattle.command_words.specs.declared.table.Operand.TheVariants.{Provider, File, Sector, FewSectors, ManySectors, Seed, Digits}
+use Rattle.command_words.specs.declared.table.Row as Code
 
--- The verbs by their names: geli(8), SYNOPSIS, and `dump` of its own.
-abbrev pub verbs : List (List ℕ × Verb)
-verbs = (codes "dump", Dump) ∷ (codes "init", Init) ∷ (codes "attach", Attach) ∷ []
+-- A line of the table of verbs: the name, the letters without a value, the letters with a value, and the operands in
+-- order, in each form that the verb has; forms differ by how many operands they have.
+pub record Row : Type 0 where
+  pub name : List ℕ
+  pub alone : List (ℕ × Switch)
+  pub valued : List (ℕ × Valued)
+  pub forms : List (List Operand)
 
--- The options of a verb by their letters: geli(8), SYNOPSIS.
-abbrev pub options_of : Verb → List (ℕ × Letter)
-options_of Dump = (byte "v", Alone Verbose) ∷ []
-options_of Init =
-    (byte "P", Alone WithoutFresh) ∷ (byte "R", Alone FixedSize) ∷ (byte "v", Alone Verbose)
-    ∷ (byte "a", WithValue AuthName) ∷ (byte "B", WithValue Backup) ∷ (byte "e", WithValue CipherName)
-    ∷ (byte "i", WithValue Iterations) ∷ (byte "J", WithValue FreshPass) ∷ (byte "K", WithValue FreshFile)
-    ∷ (byte "l", WithValue KeyLength) ∷ (byte "s", WithValue SectorSize) ∷ []
-options_of Attach =
-    (byte "C", Alone OnlyCheck) ∷ (byte "p", Alone WithoutOld) ∷ (byte "r", Alone ReadOnly) ∷ (byte "v", Alone Verbose)
-    ∷ (byte "j", WithValue OldPass) ∷ (byte "k", WithValue OldFile) ∷ (byte "n", WithValue Slot) ∷ []
+abbrev pub row : List ℕ → List (ℕ × Switch) → List (ℕ × Valued) → List (List Operand) → Row
+row name alone valued forms = record { name = name; alone = alone; valued = valued; forms = forms }
 
--- How many operands a verb takes.
-abbrev pub operand_count : Verb → ℕ
-operand_count Dump = 1
-operand_count Init = 1
-operand_count Attach = 1
+-- The table of verbs: geli(8), SYNOPSIS; `dump` and those from `read` on are this program's own.
+abbrev pub row_of : Verb → Row
+row_of Init = row (codes "init")
+    ((byte "P", WithoutFresh) ∷ (byte "R", FixedSize) ∷ (byte "v", Verbose) ∷ [])
+    ((byte "a", AuthName) ∷ (byte "B", BackupFile) ∷ (byte "e", CipherName) ∷ (byte "i", Iterations) ∷ (byte "J", FreshPass) ∷ (byte "K", FreshFile) ∷ (byte "l", KeyLength) ∷ (byte "s", SectorSize) ∷ [])
+    ((Provider ∷ []) ∷ [])
+row_of Attach = row (codes "attach")
+    ((byte "C", OnlyCheck) ∷ (byte "p", WithoutOld) ∷ (byte "r", ReadOnly) ∷ (byte "v", Verbose) ∷ [])
+    ((byte "j", OldPass) ∷ (byte "k", OldFile) ∷ (byte "n", Slot) ∷ [])
+    ((Provider ∷ []) ∷ [])
+row_of Detach = row (codes "detach") ((byte "f", Force) ∷ (byte "v", Verbose) ∷ []) [] ((Provider ∷ []) ∷ [])
+row_of Setkey = row (codes "setkey")
+    ((byte "p", WithoutOld) ∷ (byte "P", WithoutFresh) ∷ (byte "v", Verbose) ∷ [])
+    ((byte "i", Iterations) ∷ (byte "j", OldPass) ∷ (byte "J", FreshPass) ∷ (byte "k", OldFile) ∷ (byte "K", FreshFile) ∷ (byte "n", Slot) ∷ [])
+    ((Provider ∷ []) ∷ [])
+row_of Delkey = row (codes "delkey") ((byte "a", AllSlots) ∷ (byte "f", Force) ∷ (byte "v", Verbose) ∷ []) ((byte "n", Slot) ∷ []) ((Provider ∷ []) ∷ [])
+row_of Kill = row (codes "kill") ((byte "v", Verbose) ∷ []) [] ((Provider ∷ []) ∷ [])
+row_of Backup = row (codes "backup") ((byte "v", Verbose) ∷ []) [] ((Provider ∷ File ∷ []) ∷ [])
+row_of Restore = row (codes "restore") ((byte "f", Force) ∷ (byte "v", Verbose) ∷ []) [] ((File ∷ Provider ∷ []) ∷ [])
+row_of Resize = row (codes "resize") ((byte "v", Verbose) ∷ []) ((byte "s", OldSize) ∷ []) ((Provider ∷ []) ∷ [])
+row_of Dump = row (codes "dump") ((byte "v", Verbose) ∷ []) [] ((Provider ∷ []) ∷ [])
+row_of Read = row (codes "read") [] [] ((Provider ∷ Sector ∷ FewSectors ∷ []) ∷ [])
+row_of Write = row (codes "write") [] [] ((Provider ∷ Sector ∷ Digits ∷ []) ∷ [])
+row_of Flush = row (codes "flush") [] [] ((Provider ∷ []) ∷ [])
+row_of ListVerb = row (codes "list") [] [] ([] ∷ [])
+row_of Fill = row (codes "fill") [] [] ((Provider ∷ Seed ∷ Sector ∷ ManySectors ∷ []) ∷ [])
+row_of Sum = row (codes "sum") [] [] ((Provider ∷ Sector ∷ ManySectors ∷ []) ∷ [])
+row_of Eject = row (codes "eject") [] [] ((Provider ∷ []) ∷ [])
 
--- What a table has under the first key that passes.
-abbrev pub entry : {K V : Type 0} → (K → Bool) → List (K × V) → Option V
-entry passes [] = None
-entry passes (e ∷ es) = if passes e.0 then Some e.1 else entry passes es
+-- All verbs.
+abbrev pub verbs : List Verb
+verbs = Init ∷ Attach ∷ Detach ∷ Setkey ∷ Delkey ∷ Kill ∷ Backup ∷ Restore ∷ Resize ∷ Dump ∷ Read ∷ Write ∷ Flush ∷ ListVerb ∷ Fill ∷ Sum ∷ Eject ∷ []
+
+abbrev pub named_among : List ℕ → List Verb → Option Verb
+named_among name [] = None
+named_among name (verb ∷ verbs) = if bytes_eq name (row_of verb).name then Some verb else named_among name verbs
 
 -- The verb of a name.
 abbrev pub verb_named : List ℕ → Option Verb
-verb_named word = entry (bytes_eq word) verbs
+verb_named name = named_among name verbs
+
+-- What a letter means among others.
+abbrev pub entry : {V : Type 0} → ℕ → List (ℕ × V) → Option V
+entry letter [] = None
+entry letter (e ∷ es) = if letter == e.0 then Some e.1 else entry letter es
+
+abbrev pub letter_or : Option Switch → Option Valued → Option Letter
+letter_or (Some switch) valued = Some (Alone switch)
+letter_or None valued = option_map WithValue valued
 
 -- What a letter means for a verb.
 abbrev pub letter_of : Verb → ℕ → Option Letter
-letter_of verb letter = entry (λ l. letter == l) (options_of verb)
+letter_of verb letter = letter_or (entry letter (row_of verb).alone) (entry letter (row_of verb).valued)
+
+abbrev pub of_length : ℕ → List (List Operand) → Option (List Operand)
+of_length count [] = None
+of_length count (form ∷ forms) = if length form == count then Some form else of_length count forms
+
+-- The operands of a verb where there are so many.
+abbrev pub form_of : Verb → ℕ → Option (List Operand)
+form_of verb count = of_length count (row_of verb).forms
+
+-- A line of the code's table.
+abbrev pub row_seen : Code.Row → Row
+row_seen r = row r.name.now r.alone.now r.valued.now (map (λ form. form.now) r.forms.now)

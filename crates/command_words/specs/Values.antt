@@ -1,15 +1,17 @@
-use Rattle.std.specs.Prelude.{ℕ, ◌+◌, ◌-◌, ◌*◌, ◌^◌, List, [], ◌∷◌, length, Bool, ◌&&◌, nat_le, if◌then◌else◌, Option, None, Some, is_some, codes}
+use Rattle.std.specs.Prelude.{ℕ, ◌+◌, ◌-◌, ◌*◌, ◌%◌, ◌^◌, List, [], ◌∷◌, length, Bool, ◌&&◌, ◌==◌, nat_le, if◌then◌else◌, Option, None, Some, is_some, codes}
 use Rattle.std.specs.List.{list_all}
-use Rattle.std.specs.Char.{is_ascii_digit}
+use Rattle.std.specs.Char.{is_ascii_digit, is_ascii_hexdigit}
 use Rattle.std.specs.Str.{bytes_eq, str_eq_ignore_ascii_case}
 use Rattle.eli_base.specs.declared.Auth.{Auth}
-use Rattle.eli_base.specs.declared.Auth.TheVariants.{Sha256}
+use Rattle.eli_base.specs.declared.Auth.TheVariants.{Sha256, Sha384, Sha512}
 use Rattle.eli_base.specs.declared.Cipher.{Cipher}
 use Rattle.eli_base.specs.declared.Cipher.TheVariants.{AesCbc, AesXts}
 use Rattle.eli_base.specs.declared.Reason.{Reason}
-use Rattle.eli_base.specs.declared.Reason.TheVariants.{BadNumber, BadName, DashFile, TooManyFiles}
+use Rattle.eli_base.specs.declared.Reason.TheVariants.{BadNumber, BadName, BadHex, DashFile, TooManyFiles}
 use Rattle.command_words.specs.declared.table.Valued.{Valued}
-use Rattle.command_words.specs.declared.table.Valued.TheVariants.{AuthName, CipherName, Iterations, KeyLength, SectorSize, Slot, Backup, OldFile, OldPass, FreshFile, FreshPass}
+use Rattle.command_words.specs.declared.table.Valued.TheVariants.{AuthName, CipherName, Iterations, KeyLength, SectorSize, OldSize, Slot, BackupFile, OldFile, OldPass, FreshFile, FreshPass}
+use Rattle.command_words.specs.declared.table.Operand.{Operand}
+use Rattle.command_words.specs.declared.table.Operand.TheVariants.{Provider, File, Sector, FewSectors, ManySectors, Seed, Digits}
 
 -- The value of decimal digits: each counts the power of ten of its place.
 abbrev pub decimal : List ℕ → ℕ
@@ -27,13 +29,24 @@ number_within low high bytes =
 
 -- The authentication of a name, in any case of ASCII letters.
 abbrev pub auth_named : List ℕ → Option Auth
-auth_named name = if str_eq_ignore_ascii_case name (codes "HMAC/SHA256") then Some Sha256 else None
+auth_named name =
+    if str_eq_ignore_ascii_case name (codes "HMAC/SHA256") then Some Sha256
+    else (if str_eq_ignore_ascii_case name (codes "HMAC/SHA384") then Some Sha384
+    else (if str_eq_ignore_ascii_case name (codes "HMAC/SHA512") then Some Sha512 else None))
 
 -- The cipher of a name, in any case of ASCII letters.
 abbrev pub cipher_named : List ℕ → Option Cipher
 cipher_named name =
     if str_eq_ignore_ascii_case name (codes "AES-XTS") then Some AesXts
     else (if str_eq_ignore_ascii_case name (codes "AES-CBC") then Some AesCbc else None)
+
+-- The size of an image before it grew: a multiple of 512 from two device sectors to below 2^53.
+abbrev pub old_size_named : List ℕ → Option ℕ
+old_size_named bytes = if decimal bytes % 512 == 0 then number_within 1024 9007199254740480 bytes else None
+
+-- Whether the bytes are hexadecimal: an even number of digits in either case, from 2 to 262,144.
+abbrev pub is_hexadecimal : List ℕ → Bool
+is_hexadecimal bytes = nat_le 2 (length bytes) && nat_le (length bytes) 262144 && (length bytes % 2 == 0) && list_all is_ascii_hexdigit bytes
 
 -- The fault of a value that must be there.
 abbrev pub unless : Bool → Reason → Option Reason
@@ -55,9 +68,20 @@ value_fault CipherName before bytes = unless (is_some (cipher_named bytes)) BadN
 value_fault Iterations before bytes = unless (is_some (number_within 0 2147483647 bytes)) BadNumber
 value_fault KeyLength before bytes = unless (is_some (number_within 0 65535 bytes)) BadNumber
 value_fault SectorSize before bytes = unless (is_some (number_within 0 4294967295 bytes)) BadNumber
+value_fault OldSize before bytes = unless (is_some (old_size_named bytes)) BadNumber
 value_fault Slot before bytes = unless (is_some (number_within 0 255 bytes)) BadNumber
-value_fault Backup before bytes = file_fault bytes
+value_fault BackupFile before bytes = file_fault bytes
 value_fault OldFile before bytes = files_fault before bytes
 value_fault OldPass before bytes = files_fault before bytes
 value_fault FreshFile before bytes = files_fault before bytes
 value_fault FreshPass before bytes = files_fault before bytes
+
+-- What is wrong with an operand.
+abbrev pub operand_fault : Operand → List ℕ → Option Reason
+operand_fault Provider bytes = None
+operand_fault File bytes = file_fault bytes
+operand_fault Sector bytes = unless (is_some (number_within 0 9223372036854775807 bytes)) BadNumber
+operand_fault FewSectors bytes = unless (is_some (number_within 1 256 bytes)) BadNumber
+operand_fault ManySectors bytes = unless (is_some (number_within 1 9223372036854775807 bytes)) BadNumber
+operand_fault Seed bytes = unless (is_some (number_within 0 18446744073709551615 bytes)) BadNumber
+operand_fault Digits bytes = unless (is_hexadecimal bytes) BadHex

@@ -1,6 +1,8 @@
-ghost use Rattle.std.specs.Prelude.{◌≡◌, [], ◌∷◌, map, length, IfOk, string_bytes};
+ghost use Rattle.std.specs.Prelude.{◌≡◌, [], ◌∷◌, map, length, IfOk, MatchOption, string_bytes};
+ghost use Rattle.std.specs.List.{list_any};
+ghost use Rattle.std.specs.Str.{bytes_eq};
 ghost use Rattle.std.specs.Str.{IsUtf8};
-ghost use Rattle.command_words.specs.Images.{line_of, image_names};
+ghost use Rattle.command_words.specs.Images.{line_of, image_names, all_differ, are_images, script_images};
 ghost use Rattle.command_words.specs.Places.{IsWithin, bytes_at, provider_of};
 
 use crate::commands::Command;
@@ -48,6 +50,16 @@ impl ImageNames {
         names.push(name)?;
         Ok(ImageNames { names })
     }
+
+    fn copied(alloc: Global, words: &[String]) -> Result<ImageNames, NoMemory>
+        ensures { IfOk result (λ images. images ≡ map string_bytes words.now) }
+    {
+        let mut names = Vec::new(alloc);
+        for word in words {
+            names.push(String::from_str(alloc, word.as_str())?)?;
+        }
+        Ok(ImageNames { names })
+    }
 }
 
 /// The line of some words, which stand between zero bytes.
@@ -84,17 +96,78 @@ impl Command {
         ensures { result ≡ provider_of self.now }
     {
         match self {
-            Command::Dump { prov } => Some(*prov),
-            Command::Init { prov, .. } => Some(*prov),
-            Command::Attach { prov, .. } => Some(*prov),
+            Command::Init { prov, .. }
+            | Command::Attach { prov, .. }
+            | Command::Detach { prov }
+            | Command::Setkey { prov, .. }
+            | Command::Delkey { prov, .. }
+            | Command::Kill { prov }
+            | Command::Backup { prov, .. }
+            | Command::Restore { prov, .. }
+            | Command::Resize { prov, .. }
+            | Command::Dump { prov }
+            | Command::Read { prov, .. }
+            | Command::Write { prov, .. }
+            | Command::Flush { prov }
+            | Command::Fill { prov, .. }
+            | Command::Sum { prov, .. }
+            | Command::Eject { prov } => Some(*prov),
+            Command::List => None,
         }
     }
 }
 
-/// The images that the words of one command name: its provider, if they are a command and it has one.
+// Whether the name is one of the names.
+fn occurs(name: &String, names: &[String]) -> bool
+    ensures { result ≡ list_any (bytes_eq (string_bytes name.now)) (map string_bytes names.now) }
+{
+    for other in names {
+        if name.as_bytes() == other.as_bytes() {
+            return true;
+        }
+    }
+    false
+}
+
+// Whether no name stands twice.
+fn all_differ(names: &[String]) -> bool
+    ensures { result ≡ all_differ (map string_bytes names.now) }
+{
+    let mut names = names;
+    'names: while let [name, others @ ..] = names {
+        if occurs(name, others) {
+            return false;
+        }
+        names = others;
+    }
+    true
+}
+
+// Whether names may be those of a script's images.
+fn are_images(names: &[String]) -> bool
+    ensures { result ≡ are_images (map string_bytes names.now) }
+{
+    !names.is_empty() && names.len() <= 16 && all_differ(names)
+}
+
+/// The names behind `script`, where the words are that and 1 to 16 different names.
+pub fn script_images(words: &[String]) -> Option<&[String]>
+    ensures { MatchOption result (script_images (map string_bytes words.now) ≡ None)
+        (λ names. script_images (map string_bytes words.now) ≡ Some (map string_bytes names.now)) }
+{
+    match words {
+        [word, names @ ..] if word.as_str() == "script" && are_images(names) => Some(names),
+        _ => None,
+    }
+}
+
+/// The images that words name: those of a script; or else, where they are one command, its provider, if it has one.
 pub fn images_of(alloc: Global, words: &[String]) -> Result<ImageNames, NoMemory>
     ensures { IfOk result (λ images. images ≡ image_names (map string_bytes words.now)) }
 {
+    if let Some(names) = script_images(words) {
+        return ImageNames::copied(alloc, names);
+    }
     let line = joined(alloc, words)?;
     let Some(command) = command_in(line.as_slice()) else {
         return Ok(ImageNames::of_none(alloc));

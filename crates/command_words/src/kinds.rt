@@ -9,7 +9,7 @@ pub enum WordKind<'a> {
     /// The letters of a group, behind its dash.
     Letters(&'a [u8]),
     /// The first operand.
-    Operand,
+    Other,
 }
 
 /// What these bytes are at the place of an option.
@@ -19,6 +19,6 @@ pub fn kind(bytes: &[u8]) -> WordKind<'_>
     match bytes {
         b"--" => WordKind::Ends,
         [b'-', letters @ ..] if !letters.is_empty() => WordKind::Letters(letters),
-        _ => WordKind::Operand,
+        _ => WordKind::Other,
     }
 }

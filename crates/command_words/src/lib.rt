@@ -4,9 +4,11 @@
 
 mod commands;
 mod cursor;
+mod cuts;
 mod images;
 mod kinds;
 mod lines;
+mod operands;
 mod pass;
 mod settings;
 mod spans;
@@ -14,8 +16,9 @@ mod table;
 mod values;
 
 pub use commands::{Command, Usage};
-pub use images::{ImageNames, images_of, joined};
-pub use lines::{command_in, read_line};
+pub use cuts::lines_are_cut;
+pub use images::{ImageNames, images_of, joined, script_images};
+pub use lines::{built_in, command_in, read_line};
 pub use spans::{KeyWords, Sep, Span, SpanList};
 
 #[cfg(test)]

@@ -1,11 +1,15 @@
-ghost use Rattle.std.specs.Prelude.{◌≡◌, ◌+◌, ◌≤◌, length, IfOk, IfSome};
+ghost use Rattle.std.specs.Prelude.{◌≡◌, ◌+◌, ◌≤◌, length, IfOk, IfSome, IsTrue};
 ghost use Rattle.std.specs.Str.{is_utf8};
 ghost use Rattle.command_words.specs.Cursor.{left};
+ghost use Rattle.command_words.specs.Pass.{provider_alone};
+ghost use Rattle.command_words.specs.Bounds.{IsBounded};
+ghost use Rattle.command_words.specs.Built.{built_in, is_built};
 ghost use Rattle.command_words.specs.Places.{CommandIsWithin, ProviderIsText};
-ghost use Rattle.command_words.specs.Reading.{reading, by_verb, is_comment, complaint, command_at, command_in, is_torn, lacks_option, excludes, line_limit};
+ghost use Rattle.command_words.specs.Reading.{reading, by_verb, settled, is_comment, complaint, command_at, command_in, is_torn, lacks_option, excludes_own, excludes, line_limit};
 
 use crate::commands::{Command, Usage};
 use crate::cursor::Words;
+use crate::operands::{Operands, take_operands};
 use crate::pass::take_options;
 use crate::settings::Settings;
 use crate::spans::{KeyWords, Sep, Span};
@@ -32,14 +36,24 @@ fn excludes_itself(key: &KeyWords) -> bool
     key.without && key.pass.len() > 0
 }
 
-// Whether the verb lacks an option. A provider that was attached by one command would end with it, so
-// `attach` needs `-C`.
+// Whether the verb lacks an option that it needs.
 fn lacks(verb: Verb, settings: &Settings) -> bool
     ensures { result ≡ lacks_option verb settings.now }
 {
     match verb {
-        Verb::Dump | Verb::Init => false,
-        Verb::Attach => !settings.only_check,
+        Verb::Resize => settings.oldsize.is_none(),
+        _ => false,
+    }
+}
+
+// Whether two options that exclude each other under this verb alone are there.
+fn excludes_own(verb: Verb, settings: &Settings) -> bool
+    ensures { result ≡ excludes_own verb settings.now }
+{
+    match verb {
+        Verb::Init => settings.fresh_key.without && settings.iterations.is_some(),
+        Verb::Delkey => settings.all && settings.slot.is_some(),
+        _ => false,
     }
 }
 
@@ -47,20 +61,15 @@ fn lacks(verb: Verb, settings: &Settings) -> bool
 fn excluded(verb: Verb, settings: &Settings) -> bool
     ensures { result ≡ excludes verb settings.now }
 {
-    let torn = excludes_itself(&settings.old_key) || excludes_itself(&settings.fresh_key);
-    match verb {
-        Verb::Dump | Verb::Attach => torn,
-        Verb::Init => torn || settings.fresh_key.without && settings.iterations.is_some(),
-    }
+    excludes_itself(&settings.old_key)
+        || excludes_itself(&settings.fresh_key)
+        || excludes_own(verb, settings)
 }
 
-// What is wrong when the options are read.
-fn complain(verb: Verb, settings: &Settings, operands: u32) -> Option<Reason>
-    ensures { result ≡ complaint verb settings.now operands }
+// What is wrong with the options together.
+fn complain(verb: Verb, settings: &Settings) -> Option<Reason>
+    ensures { result ≡ complaint verb settings.now }
 {
-    if operands != verb.operands() {
-        return Some(Reason::OperandCount);
-    }
     if lacks(verb, settings) {
         return Some(Reason::MissingOption);
     }
@@ -70,31 +79,127 @@ fn complain(verb: Verb, settings: &Settings, operands: u32) -> Option<Reason>
     None
 }
 
-// The command of a verb with these options.
-fn command(verb: Verb, settings: Settings, prov: Span) -> Command
-    ensures { result ≡ command_at verb settings prov }
+// The command of `init`.
+fn init(settings: Settings, prov: Span) -> Command
+    ensures { result ≡ command_at Verb.Init settings (provider_alone prov) }
 {
-    match verb {
-        Verb::Dump => Command::Dump { prov },
-        Verb::Init => Command::Init {
-            prov,
-            cipher: settings.cipher,
-            auth: settings.auth,
-            keylen: settings.keylen,
-            sectorsize: settings.sectorsize,
-            iterations: settings.iterations,
-            autoresize: settings.autoresize,
-            fresh: settings.fresh_key,
-            backup: settings.backup,
-        },
-        Verb::Attach => Command::Attach {
-            prov,
-            only_check: settings.only_check,
-            readonly: settings.readonly,
-            slot: settings.slot,
-            old: settings.old_key,
-        },
+    Command::Init {
+        prov,
+        cipher: settings.cipher,
+        auth: settings.auth,
+        keylen: settings.keylen,
+        sectorsize: settings.sectorsize,
+        iterations: settings.iterations,
+        autoresize: settings.autoresize,
+        fresh: settings.fresh_key,
+        backup: settings.backup,
     }
+}
+
+// The command of `attach`.
+fn attach(settings: Settings, prov: Span) -> Command
+    ensures { result ≡ command_at Verb.Attach settings (provider_alone prov) }
+{
+    Command::Attach {
+        prov,
+        only_check: settings.only_check,
+        readonly: settings.readonly,
+        slot: settings.slot,
+        old: settings.old_key,
+    }
+}
+
+// The command of `setkey`.
+fn setkey(settings: Settings, prov: Span) -> Command
+    ensures { result ≡ command_at Verb.Setkey settings (provider_alone prov) }
+{
+    Command::Setkey {
+        prov,
+        iterations: settings.iterations,
+        slot: settings.slot,
+        old: settings.old_key,
+        fresh: settings.fresh_key,
+    }
+}
+
+// The command of `delkey`.
+fn delkey(settings: &Settings, prov: Span) -> Command
+    ensures { result ≡ command_at Verb.Delkey settings.now (provider_alone prov) }
+{
+    Command::Delkey {
+        prov,
+        all: settings.all,
+        force: settings.force,
+        slot: settings.slot,
+    }
+}
+
+// The command of a verb with these options and operands.
+fn command(verb: Verb, settings: Settings, operands: Operands) -> Command
+    ensures { result ≡ command_at verb settings operands }
+{
+    let Operands {
+        prov,
+        file,
+        digits: hex,
+        seed,
+        sector,
+        few,
+        many: count,
+    } = operands;
+    let force = settings.force;
+    let oldsize = settings.oldsize.unwrap_or(0);
+    let start = sector;
+    match verb {
+        Verb::Init => init(settings, prov),
+        Verb::Attach => attach(settings, prov),
+        Verb::Detach => Command::Detach { prov },
+        Verb::Setkey => setkey(settings, prov),
+        Verb::Delkey => delkey(&settings, prov),
+        Verb::Kill => Command::Kill { prov },
+        Verb::Backup => Command::Backup { prov, file },
+        Verb::Restore => Command::Restore { file, prov, force },
+        Verb::Resize => Command::Resize { prov, oldsize },
+        Verb::Dump => Command::Dump { prov },
+        Verb::Read => Command::Read {
+            prov,
+            sector,
+            count: few,
+        },
+        Verb::Write => Command::Write { prov, sector, hex },
+        Verb::Flush => Command::Flush { prov },
+        Verb::List => Command::List,
+        Verb::Fill => Command::Fill {
+            prov,
+            seed,
+            start,
+            count,
+        },
+        Verb::Sum => Command::Sum { prov, start, count },
+        Verb::Eject => Command::Eject { prov },
+    }
+}
+
+// The command of the words behind the options of a verb.
+fn settle(verb: Verb, settings: Settings, words: Words) -> Result<Command, Usage>
+    ensures { result ≡ settled verb (words.entry.number + length (left words.entry)) settings (left words.entry) }
+{
+    let count = words.count();
+    let total = words.number() + count;
+    let Some(form) = verb.operands(count) else {
+        return Err(Usage {
+            word: total,
+            reason: Reason::OperandCount,
+        });
+    };
+    if let Some(reason) = complain(verb, &settings) {
+        return Err(Usage {
+            word: total,
+            reason,
+        });
+    }
+    let operands = take_operands(form, words)?;
+    Ok(command(verb, settings, operands))
 }
 
 // The command of the words behind a verb.
@@ -103,17 +208,7 @@ fn read_command(verb: Verb, words: Words) -> Result<Command, Usage>
     ensures { result ≡ by_verb (Some verb) (words.entry.number + length (left words.entry)) (left words.entry) }
 {
     let (settings, operands) = take_options(verb, words)?;
-    let count = operands.count();
-    if let Some(reason) = complain(verb, &settings, count) {
-        return Err(Usage {
-            word: operands.number() + count,
-            reason,
-        });
-    }
-    let Some((prov, _)) = operands.split_first() else {
-        unreachable!();
-    };
-    Ok(command(verb, settings, prov.span()))
+    settle(verb, settings, operands)
 }
 
 // Whether the bytes are UTF-8.
@@ -164,6 +259,9 @@ pub fn read_line(line: &[u8], sep: Sep) -> Result<Option<Command>, Usage>
 
     // The name of a provider is text.
     ensures text { IfOk result (λ read. IfSome read (ProviderIsText line.now)) }
+
+    // The numbers of a command lie within their bounds, and its digits are hexadecimal.
+    ensures bounds { IfOk result (λ read. IfSome read (IsBounded line.now)) }
 {
     read(line, sep)
 }
@@ -178,6 +276,9 @@ pub fn command_in(line: &[u8]) -> Option<Command>
 
     // The name of its provider is text.
     ensures text { IfSome result (ProviderIsText line.now) }
+
+    // Its numbers lie within their bounds, and its digits are hexadecimal.
+    ensures bounds { IfSome result (IsBounded line.now) }
 {
     if line.len() > LINE_LIMIT {
         return None;
@@ -186,4 +287,36 @@ pub fn command_in(line: &[u8]) -> Option<Command>
         Ok(said) => said,
         Err(_) => None,
     }
+}
+
+// Whether a command is served.
+fn is_built(command: &Command) -> bool
+    ensures { result ≡ is_built command.now }
+{
+    match command {
+        Command::Init { .. } | Command::Dump { .. } => true,
+        Command::Attach { only_check, .. } => *only_check,
+        _ => false,
+    }
+}
+
+/// The command of a line whose words stand between zero bytes, if it says one that the program serves yet: `init`, `dump`,
+/// or `attach` with `-C`.
+pub fn built_in(line: &[u8]) -> Option<Command>
+    ensures said { result ≡ built_in line.now }
+
+    // It is one of those.
+    ensures built { IfSome result (λ command. IsTrue (is_built command)) }
+
+    // The places of the command lie in the line.
+    ensures places { IfSome result (CommandIsWithin (length line.now)) }
+
+    // The name of its provider is text.
+    ensures text { IfSome result (ProviderIsText line.now) }
+{
+    let command = command_in(line)?;
+    if is_built(&command) {
+        return Some(command);
+    }
+    None
 }

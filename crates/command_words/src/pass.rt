@@ -90,7 +90,7 @@ pub fn take_options<'a>(verb: Verb, words: Words<'a>) -> Result<(Settings, Words
         }
         match kind(word.bytes) {
             WordKind::Ends => return Ok((settings, behind)),
-            WordKind::Operand => return Ok((settings, at)),
+            WordKind::Other => return Ok((settings, at)),
             WordKind::Letters(bytes) => {
                 let group = Piece {
                     bytes,

@@ -1,5 +1,5 @@
 ghost use Rattle.std.specs.Prelude.{◌≡◌, [], ◌++◌, ◌∷◌, length, false, MatchResult};
-ghost use Rattle.command_words.specs.Values.{value_fault, files_fault, file_fault, number_within};
+ghost use Rattle.command_words.specs.Values.{value_fault, files_fault, file_fault, number_within, old_size_named};
 ghost use Rattle.command_words.specs.Cursor.{seen};
 ghost use Rattle.command_words.specs.Settings.{span_of, backup_of};
 
@@ -17,11 +17,14 @@ pub struct Settings {
     pub iterations: Option<i32>,
     pub keylen: u16,
     pub sectorsize: u32,
+    pub oldsize: Option<u64>,
     pub slot: Option<u8>,
     pub backup: Option<Span>,
     pub autoresize: bool,
     pub only_check: bool,
     pub readonly: bool,
+    pub all: bool,
+    pub force: bool,
     pub old_key: KeyWords,
     pub fresh_key: KeyWords,
 }
@@ -47,8 +50,16 @@ fn number(value: Piece, high: u64) -> Result<u64, Reason>
     values::number(value.bytes, 0, high).ok_or(Reason::BadNumber)
 }
 
-// The place of a file, which is not named `-`.
-fn named_file(value: Piece) -> Result<Span, Reason>
+fn old_size(value: Piece) -> Result<u64, Reason>
+    ensures { MatchResult result
+        (λ size. old_size_named value.entry.bytes.now ≡ Some size)
+        (λ reason. (old_size_named value.entry.bytes.now ≡ None) × (reason ≡ Reason.BadNumber)) }
+{
+    values::old_size(value.bytes).ok_or(Reason::BadNumber)
+}
+
+/// The place of a file, which is not named `-`.
+pub fn named_file(value: Piece) -> Result<Span, Reason>
     ensures { MatchResult result
         (λ file. (file_fault value.entry.bytes.now ≡ None) × (file ≡ span_of (seen value.entry)))
         (λ reason. file_fault value.entry.bytes.now ≡ Some reason) }
@@ -113,11 +124,14 @@ impl Settings {
             iterations: None,
             keylen: 128,
             sectorsize: 512,
+            oldsize: None,
             slot: None,
             backup: None,
             autoresize: true,
             only_check: false,
             readonly: false,
+            all: false,
+            force: false,
             old_key: KeyWords::new(),
             fresh_key: KeyWords::new(),
         }
@@ -133,6 +147,8 @@ impl Settings {
             Switch::FixedSize => self.autoresize = false,
             Switch::OnlyCheck => self.only_check = true,
             Switch::ReadOnly => self.readonly = true,
+            Switch::AllSlots => self.all = true,
+            Switch::Force => self.force = true,
             Switch::Verbose => {}
         }
     }
@@ -149,8 +165,9 @@ impl Settings {
             Valued::Iterations => self.iterations = Some(number(value, 2_147_483_647)? as i32),
             Valued::KeyLength => self.keylen = number(value, 65_535)? as u16,
             Valued::SectorSize => self.sectorsize = number(value, 4_294_967_295)? as u32,
+            Valued::OldSize => self.oldsize = Some(old_size(value)?),
             Valued::Slot => self.slot = Some(number(value, 255)? as u8),
-            Valued::Backup => self.backup = backup(value)?,
+            Valued::BackupFile => self.backup = backup(value)?,
             Valued::OldFile => add_file(&mut self.old_key.files, value)?,
             Valued::OldPass => add_file(&mut self.old_key.pass, value)?,
             Valued::FreshFile => add_file(&mut self.fresh_key.files, value)?,

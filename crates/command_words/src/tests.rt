@@ -41,41 +41,46 @@ fn show_key(rt: &impl Abort, out: &mut String, line: &[u8], key: &KeyWords) -> R
     Ok(())
 }
 
-fn show_command(
+fn show_init(
+    rt: &impl Abort,
+    out: &mut String,
+    line: &[u8],
+    command: &Command,
+) -> Result<(), Fail> {
+    let Command::Init {
+        prov,
+        cipher,
+        auth,
+        keylen,
+        sectorsize,
+        iterations,
+        autoresize,
+        fresh,
+        backup,
+    } = command
+    else {
+        return Ok(());
+    };
+    show_span(rt, out, line, prov)?;
+    write!(
+        out,
+        " {cipher:?} {auth:?} {keylen} {sectorsize} {iterations:?} grow={autoresize}"
+    )?;
+    show_key(rt, out, line, fresh)?;
+    out.push_str(" backup=")?;
+    match backup {
+        Some(file) => show_span(rt, out, line, file),
+        None => Ok(out.push_str("None")?),
+    }
+}
+
+fn show_keys(
     rt: &impl Abort,
     out: &mut String,
     line: &[u8],
     command: &Command,
 ) -> Result<(), Fail> {
     match command {
-        Command::Dump { prov } => {
-            out.push_str("dump ")?;
-            show_span(rt, out, line, prov)
-        }
-        Command::Init {
-            prov,
-            cipher,
-            auth,
-            keylen,
-            sectorsize,
-            iterations,
-            autoresize,
-            fresh,
-            backup,
-        } => {
-            out.push_str("init ")?;
-            show_span(rt, out, line, prov)?;
-            write!(
-                out,
-                " {cipher:?} {auth:?} {keylen} {sectorsize} {iterations:?} grow={autoresize}"
-            )?;
-            show_key(rt, out, line, fresh)?;
-            out.push_str(" backup=")?;
-            match backup {
-                Some(file) => show_span(rt, out, line, file),
-                None => Ok(out.push_str("None")?),
-            }
-        }
         Command::Attach {
             prov,
             only_check,
@@ -83,12 +88,124 @@ fn show_command(
             slot,
             old,
         } => {
-            out.push_str("attach ")?;
             show_span(rt, out, line, prov)?;
             write!(out, " check={only_check} readonly={readonly} slot={slot:?}")?;
             show_key(rt, out, line, old)
         }
+        Command::Setkey {
+            prov,
+            iterations,
+            slot,
+            old,
+            fresh,
+        } => {
+            show_span(rt, out, line, prov)?;
+            write!(out, " {iterations:?} slot={slot:?}")?;
+            show_key(rt, out, line, old)?;
+            out.push_str(" new")?;
+            show_key(rt, out, line, fresh)
+        }
+        Command::Delkey {
+            prov,
+            all,
+            force,
+            slot,
+        } => {
+            show_span(rt, out, line, prov)?;
+            write!(out, " all={all} force={force} slot={slot:?}")?;
+            Ok(())
+        }
+        _ => show_init(rt, out, line, command),
     }
+}
+
+fn show_operands(
+    rt: &impl Abort,
+    out: &mut String,
+    line: &[u8],
+    command: &Command,
+) -> Result<(), Fail> {
+    match command {
+        Command::Detach { prov }
+        | Command::Kill { prov }
+        | Command::Dump { prov }
+        | Command::Flush { prov }
+        | Command::Eject { prov } => show_span(rt, out, line, prov),
+        Command::Backup { prov, file } => {
+            show_span(rt, out, line, prov)?;
+            out.push(' ')?;
+            show_span(rt, out, line, file)
+        }
+        Command::Restore { file, prov, force } => {
+            show_span(rt, out, line, file)?;
+            out.push(' ')?;
+            show_span(rt, out, line, prov)?;
+            Ok(write!(out, " force={force}")?)
+        }
+        Command::Resize { prov, oldsize } => {
+            show_span(rt, out, line, prov)?;
+            Ok(write!(out, " {oldsize}")?)
+        }
+        Command::Read {
+            prov,
+            sector,
+            count,
+        } => {
+            show_span(rt, out, line, prov)?;
+            Ok(write!(out, " {sector} {count}")?)
+        }
+        Command::Write { prov, sector, hex } => {
+            show_span(rt, out, line, prov)?;
+            write!(out, " {sector} ")?;
+            show_span(rt, out, line, hex)
+        }
+        Command::Fill {
+            prov,
+            seed,
+            start,
+            count,
+        } => {
+            show_span(rt, out, line, prov)?;
+            Ok(write!(out, " {seed} {start} {count}")?)
+        }
+        Command::Sum { prov, start, count } => {
+            show_span(rt, out, line, prov)?;
+            Ok(write!(out, " {start} {count}")?)
+        }
+        _ => show_keys(rt, out, line, command),
+    }
+}
+
+fn name_of(command: &Command) -> &'static str {
+    match command {
+        Command::Init { .. } => "init ",
+        Command::Attach { .. } => "attach ",
+        Command::Detach { .. } => "detach ",
+        Command::Setkey { .. } => "setkey ",
+        Command::Delkey { .. } => "delkey ",
+        Command::Kill { .. } => "kill ",
+        Command::Backup { .. } => "backup ",
+        Command::Restore { .. } => "restore ",
+        Command::Resize { .. } => "resize ",
+        Command::Dump { .. } => "dump ",
+        Command::Read { .. } => "read ",
+        Command::Write { .. } => "write ",
+        Command::Flush { .. } => "flush ",
+        Command::List => "list",
+        Command::Fill { .. } => "fill ",
+        Command::Sum { .. } => "sum ",
+        Command::Eject { .. } => "eject ",
+    }
+}
+
+fn show_command(
+    rt: &impl Abort,
+    out: &mut String,
+    line: &[u8],
+    command: &Command,
+) -> Result<(), Fail> {
+    out.push_str(name_of(command))?;
+    show_operands(rt, out, line, command)
 }
 
 fn show(rt: &impl Abort, alloc: Global, line: &[u8], sep: Sep) -> Result<String, Fail> {
@@ -129,7 +246,7 @@ fn lines_of_the_table(rt: HostRuntime) -> Result<(), Fail> {
         assert!(&rt; shown.as_bytes() == want.as_slice(), "{row} gives {shown}");
         count = count.saturating_add(1);
     }
-    assert_eq!(rt; count, 203);
+    assert_eq!(rt; count, 416);
     Ok(())
 }
 
@@ -159,47 +276,99 @@ fn lines_that_are_no_text(rt: HostRuntime) -> Result<(), Fail> {
     Ok(())
 }
 
-// Whether the names are this one alone, or none.
-fn are_names(images: &ImageNames, wanted: Option<&str>) -> bool {
-    match (images.as_slice(), wanted) {
-        ([], None) => true,
-        ([name], Some(wanted)) => name.as_str() == wanted,
-        _ => false,
+// The longest digits are 262,144.
+#[test]
+fn lines_with_many_digits(rt: HostRuntime) -> Result<(), Fail> {
+    let alloc = rt.alloc();
+    for (len, wanted) in [
+        (262_142, "write a.img@1+6 0 "),
+        (262_143, "usage 3 BadHex"),
+        (262_144, "write a.img@1+6 0 "),
+        (262_146, "usage 3 BadHex"),
+    ] {
+        let mut line = String::from_str(alloc, "write a.img 0 ")?;
+        line.push_str(long_name(alloc, len)?.as_str())?;
+        let shown = show(&rt, alloc, line.as_bytes(), Sep::Blanks)?;
+        assert!(&rt; shown.as_str().starts_with(wanted), "{len}");
     }
+    Ok(())
+}
+
+// The words of a text, between which bars stand.
+fn words_of(alloc: Global, text: &str) -> Result<Vec<String>, Fail> {
+    let mut words = Vec::new(alloc);
+    for word in text.split('|') {
+        words.push(String::from_str(alloc, word)?)?;
+    }
+    Ok(words)
+}
+
+// Whether the names are these, between which bars stand; a text without bytes has none.
+fn are_names(images: &ImageNames, wanted: &str) -> bool {
+    let mut count = 0usize;
+    for (name, wanted) in images.as_slice().iter().zip(wanted.split('|')) {
+        if name.as_str() != wanted {
+            return false;
+        }
+        count = count.saturating_add(1);
+    }
+    let all = if wanted.is_empty() {
+        0
+    } else {
+        wanted.split('|').count()
+    };
+    count == all && images.as_slice().len() == all
 }
 
 #[test]
 fn images_of_words(rt: HostRuntime) -> Result<(), Fail> {
     let alloc = rt.alloc();
-    // Bars stand between the words.
+    // Bars stand between the words, and between the names.
     let cases = [
-        ("attach|-C|-k|my key|my image", Some("my image")),
-        ("attach|-C|-k|my key|my image|other", None),
-        ("script|a.img", None),
-        ("dump|a.img", Some("a.img")),
-        ("init|-K|k|a.img", Some("a.img")),
+        ("attach|-C|-k|my key|my image", "my image"),
+        ("attach|-C|-k|my key|my image|other", ""),
+        ("dump|a.img", "a.img"),
+        ("init|-K|k|a.img", "a.img"),
+        ("restore|b|a.img", "a.img"),
+        ("backup|a.img|b", "a.img"),
+        ("fill|a.img|7|0|1", "a.img"),
+        ("fill|a.img|7|0|0", ""),
+        ("eject|a.img", "a.img"),
+        ("list", ""),
+        ("script", ""),
+        ("script|a.img", "a.img"),
+        ("script|b.img|a.img", "b.img|a.img"),
+        ("script|a.img|b.img|a.img", ""),
+        ("Script|a.img", ""),
+        ("script|--|-v", "--|-v"),
+        (
+            "script|1|2|3|4|5|6|7|8|9|10|11|12|13|14|15|16",
+            "1|2|3|4|5|6|7|8|9|10|11|12|13|14|15|16",
+        ),
+        ("script|1|2|3|4|5|6|7|8|9|10|11|12|13|14|15|16|17", ""),
     ];
     for (text, wanted) in cases {
-        let mut words = Vec::new(alloc);
-        for word in text.split('|') {
-            words.push(String::from_str(alloc, word)?)?;
-        }
+        let words = words_of(alloc, text)?;
         let images = images_of(alloc, words.as_slice())?;
         assert!(&rt; are_names(&images, wanted), "{text}");
     }
-    assert!(&rt; are_names(&images_of(alloc, &[])?, None));
+    assert!(&rt; are_names(&images_of(alloc, &[])?, ""));
     Ok(())
 }
 
-// The longest line has 300,000 bytes.
+// The longest line of one command has 300,000 bytes; the words of a script may have more.
 #[test]
 fn images_of_long_lines(rt: HostRuntime) -> Result<(), Fail> {
     let alloc = rt.alloc();
-    for (len, fits) in [(299_995, true), (299_996, false)] {
-        let words = [String::from_str(alloc, "dump")?, long_name(alloc, len)?];
+    for (verb, len, fits) in [
+        ("dump", 299_995, true),
+        ("dump", 299_996, false),
+        ("script", 300_001, true),
+    ] {
+        let words = [String::from_str(alloc, verb)?, long_name(alloc, len)?];
         let images = images_of(alloc, &words)?;
         let name = words[1].as_str();
-        assert!(&rt; are_names(&images, if fits { Some(name) } else { None }));
+        assert!(&rt; are_names(&images, if fits { name } else { "" }));
     }
     Ok(())
 }

@@ -1,8 +1,8 @@
 ghost use Rattle.std.specs.Prelude.{◌≡◌, ◌≤◌, ◌<◌, ◌+◌, ◌*◌, ◌^◌, MatchOption, IfSome};
-ghost use Rattle.std.specs.Char.{is_ascii_digit};
+ghost use Rattle.std.specs.Char.{is_ascii_digit, is_ascii_hexdigit};
 ghost use Rattle.std.specs.List.{list_all};
 ghost use Rattle.std.specs.Option.{SomeIff};
-ghost use Rattle.command_words.specs.Values.{decimal, is_numeral, number_within, auth_named, cipher_named};
+ghost use Rattle.command_words.specs.Values.{decimal, is_numeral, number_within, old_size_named, is_hexadecimal, auth_named, cipher_named};
 
 use eli_base::{Auth, Cipher};
 
@@ -57,12 +57,40 @@ pub fn number(bytes: &[u8], low: u64, high: u64) -> Option<u64>
     }
 }
 
+/// The size of an image before it grew: a multiple of 512 from two device sectors to below 2^53 bytes.
+pub fn old_size(bytes: &[u8]) -> Option<u64>
+    ensures { result ≡ old_size_named bytes.now }
+{
+    let size = number(bytes, 1024, 9_007_199_254_740_480)?;
+    if size % 512 == 0 { Some(size) } else { None }
+}
+
+fn all_hexadecimal(bytes: &[u8]) -> bool
+    ensures { result ≡ list_all is_ascii_hexdigit bytes.now }
+{
+    bytes.iter().all(|byte| byte.is_ascii_hexdigit())
+}
+
+/// Whether the bytes are hexadecimal: an even number of digits in either case, from 2 to 262,144.
+pub fn is_hexadecimal(bytes: &[u8]) -> bool
+    ensures { result ≡ is_hexadecimal bytes.now }
+{
+    let len = bytes.len();
+    2 <= len && len <= 262_144 && len % 2 == 0 && all_hexadecimal(bytes)
+}
+
 /// The authentication of this name, in any case of letters.
 pub fn auth(name: &[u8]) -> Option<Auth>
     ensures { result ≡ auth_named name.now }
 {
     if name.eq_ignore_ascii_case(b"HMAC/SHA256") {
         return Some(Auth::Sha256);
+    }
+    if name.eq_ignore_ascii_case(b"HMAC/SHA384") {
+        return Some(Auth::Sha384);
+    }
+    if name.eq_ignore_ascii_case(b"HMAC/SHA512") {
+        return Some(Auth::Sha512);
     }
     None
 }

@@ -1,17 +1,22 @@
 use Rattle.std.specs.Prelude.{ℕ, ◌+◌, ◌-◌, ◌*◌, ◌/◌}
 use Rattle.eli_base.specs.declared.algorithms.Auth.{Auth}
-use Rattle.eli_base.specs.declared.algorithms.Auth.TheVariants.{Off, Sha256}
+use Rattle.eli_base.specs.declared.algorithms.Auth.TheVariants.{Off, Sha256, Sha384, Sha512}
 
--- The plain bytes of a unit that isn't the last of its logical sector: a whole device sector, or with
--- authentication what is left of it beside a tag of 32 bytes. geli(8), "DATA AUTHENTICATION".
+-- The bytes of the tag with which each device sector begins: those of the code of HMAC with this hash (FIPS 180-4, figure 1),
+-- and none without authentication. geli(8), "DATA AUTHENTICATION".
+abbrev pub tag_bytes : Auth → ℕ
+tag_bytes Off = 0
+tag_bytes Sha256 = 32
+tag_bytes Sha384 = 48
+tag_bytes Sha512 = 64
+
+-- The plain bytes of a unit that isn't the last of its logical sector: what the tag leaves of a device sector.
 abbrev pub unit_bytes_of : Auth → ℕ
-unit_bytes_of Off = 512
-unit_bytes_of Sha256 = 480
+unit_bytes_of auth = 512 - tag_bytes auth
 
--- The device sectors of a logical sector of so many bytes.
+-- The device sectors of a logical sector of so many bytes, which are at least 1: its bytes divided by those of a unit, rounded up.
 abbrev pub units_per_sector : Auth → ℕ → ℕ
-units_per_sector Off sectorsize = sectorsize / 512
-units_per_sector Sha256 sectorsize = (sectorsize - 1) / 480 + 1
+units_per_sector auth sectorsize = (sectorsize - 1) / unit_bytes_of auth + 1
 
 -- The plain bytes of the last unit: the rest.
 abbrev pub last_unit_bytes : Auth → ℕ → ℕ

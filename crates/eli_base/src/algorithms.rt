@@ -1,5 +1,6 @@
-ghost use Rattle.std.specs.Prelude.{◌≡◌};
+ghost use Rattle.std.specs.Prelude.{◌≡◌, ◌-◌};
 ghost use Rattle.eli_base.specs.Algorithms.{allows_length, auth_number, cipher_number};
+ghost use Rattle.eli_base.specs.Units.{tag_bytes, unit_bytes_of};
 
 /// The cipher of a provider's data, geli(8) `-e`.
 #[derive(Clone, Copy, Debug, PartialEq, Eq)]
@@ -40,6 +41,10 @@ pub enum Auth {
     Off,
     /// HMAC/SHA256, number 18 in the metadata.
     Sha256,
+    /// HMAC/SHA384, number 19 in the metadata.
+    Sha384,
+    /// HMAC/SHA512, number 20 in the metadata.
+    Sha512,
 }
 
 impl Auth {
@@ -50,6 +55,27 @@ impl Auth {
         match self {
             Auth::Off => 0,
             Auth::Sha256 => 18,
+            Auth::Sha384 => 19,
+            Auth::Sha512 => 20,
         }
+    }
+
+    /// The bytes of the tag with which each device sector begins, 0 for none: as many as the code of the hash has.
+    pub fn tag_bytes(self) -> usize
+        ensures { result ≡ tag_bytes self }
+    {
+        match self {
+            Auth::Off => 0,
+            Auth::Sha256 => 32,
+            Auth::Sha384 => 48,
+            Auth::Sha512 => 64,
+        }
+    }
+
+    /// The bytes of a device sector that are left for data: 512, 480, 464 or 448.
+    pub fn data_bytes(self) -> usize
+        ensures { result ≡ unit_bytes_of self }
+    {
+        512 - self.tag_bytes()
     }
 }

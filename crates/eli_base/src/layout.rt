@@ -1,7 +1,6 @@
-ghost use Rattle.std.specs.Prelude.{◌≡◌, ◌+◌, ◌-◌, ◌*◌, ◌%◌, ◌^◌, ◌<◌, ◌≤◌, MatchResult, IfOk};
-ghost use Rattle.eli_base.specs.Units.{unit_bytes_of, units_per_sector, media_sectors};
+ghost use Rattle.std.specs.Prelude.{◌≡◌, ◌+◌, ◌-◌, ◌*◌, ◌/◌, ◌%◌, ◌^◌, ◌<◌, ◌≤◌, MatchResult, IfOk};
+ghost use Rattle.eli_base.specs.Units.{media_sectors};
 
-use crate::algorithms::Auth;
 use crate::parameters::Params;
 use thiserror::Error;
 
@@ -47,23 +46,12 @@ pub struct Geometry {
     pub ghost last_blocks: { last_bytes % 16 ≡ 0 },
 }
 
-fn unit_bytes(auth: Auth) -> u64
-    ensures { result ≡ unit_bytes_of auth }
+fn unit_count(sectorsize: u32, unit_bytes: u64) -> u64
+    requires sectorsize { 512 ≤ sectorsize }
+    requires unit_bytes { 1 ≤ unit_bytes }
+    ensures { result ≡ (sectorsize - 1) / unit_bytes + 1 }
 {
-    match auth {
-        Auth::Off => 512,
-        Auth::Sha256 => 480,
-    }
-}
-
-fn unit_count(auth: Auth, sectorsize: u32) -> u64
-    requires { 512 ≤ sectorsize }
-    ensures { result ≡ units_per_sector auth sectorsize }
-{
-    match auth {
-        Auth::Off => u64::from(sectorsize) / 512,
-        Auth::Sha256 => (u64::from(sectorsize) - 1) / 480 + 1,
-    }
+    (u64::from(sectorsize) - 1) / unit_bytes + 1
 }
 
 impl Geometry {
@@ -80,8 +68,8 @@ impl Geometry {
         // All units and the metadata fit the image.
         ensures room { IfOk result (λ geometry. 512 * (geometry.sectors * geometry.units) + 512 ≤ params.now.provsize) }
     {
-        let units = unit_count(params.auth, params.sectorsize);
-        let unit_bytes = unit_bytes(params.auth);
+        let unit_bytes = params.auth.data_bytes() as u64;
+        let units = unit_count(params.sectorsize, unit_bytes);
         let sectors = params.provsize.saturating_sub(512) / (512 * units);
         if sectors == 0 {
             return Err(GeoFault::TooSmall {

@@ -3,7 +3,7 @@ use std::test::Fail;
 
 /// Each line has the authentication, the sector size and the bytes of the image, and then the logical
 /// sectors, the units of one, and the plain bytes of a unit that isn't the last and of the last.
-const MEDIA: [(Auth, u32, u64, u64, u64, u64, u64); 14] = [
+const MEDIA: [(Auth, u32, u64, u64, u64, u64, u64); 32] = [
     (Auth::Off, 512, 1_024, 1, 1, 512, 512),
     (Auth::Off, 512, 1_535, 1, 1, 512, 512),
     (Auth::Off, 512, 1_048_576, 2_047, 1, 512, 512),
@@ -18,6 +18,24 @@ const MEDIA: [(Auth, u32, u64, u64, u64, u64, u64); 14] = [
     (Auth::Sha256, 16_384, 36_352, 2, 35, 480, 64),
     (Auth::Sha256, 32_768, 71_168, 2, 69, 480, 128),
     (Auth::Sha256, 65_536, 140_800, 2, 137, 480, 256),
+    (Auth::Sha384, 512, 2_560, 2, 2, 464, 48),
+    (Auth::Sha384, 1_024, 3_584, 2, 3, 464, 96),
+    (Auth::Sha384, 2_048, 5_632, 2, 5, 464, 192),
+    (Auth::Sha384, 4_096, 9_728, 2, 9, 464, 384),
+    (Auth::Sha384, 8_192, 18_944, 2, 18, 464, 304),
+    (Auth::Sha384, 16_384, 37_376, 2, 36, 464, 144),
+    (Auth::Sha384, 32_768, 73_216, 2, 71, 464, 288),
+    (Auth::Sha384, 65_536, 145_920, 2, 142, 464, 112),
+    (Auth::Sha384, 4_096, 1_048_576, 227, 9, 464, 384),
+    (Auth::Sha512, 512, 2_560, 2, 2, 448, 64),
+    (Auth::Sha512, 1_024, 3_584, 2, 3, 448, 128),
+    (Auth::Sha512, 2_048, 5_632, 2, 5, 448, 256),
+    (Auth::Sha512, 4_096, 10_752, 2, 10, 448, 64),
+    (Auth::Sha512, 8_192, 19_968, 2, 19, 448, 128),
+    (Auth::Sha512, 16_384, 38_400, 2, 37, 448, 256),
+    (Auth::Sha512, 32_768, 76_288, 2, 74, 448, 64),
+    (Auth::Sha512, 65_536, 151_040, 2, 147, 448, 128),
+    (Auth::Sha512, 4_096, 1_048_576, 204, 10, 448, 64),
 ];
 
 fn params(rt: &impl std::process::Abort, auth: Auth, sectorsize: u32, provsize: u64) -> Params {
@@ -68,5 +86,7 @@ fn units_and_numbers(rt: HostRuntime) -> Result<(), Fail> {
         }
     );
     assert_eq!(rt; Refusal::KeyNumberNeeded.number(), 37);
+    assert_eq!(rt; Auth::Sha384.number(), 19);
+    assert_eq!(rt; Auth::Sha512.tag_bytes(), 64);
     Ok(())
 }

@@ -12,7 +12,7 @@ use Rattle.byteorder.specs.Endian.{little_from}
 use Rattle.byteorder.specs.Numbers.{little_from-take, little_number-reads_back, length-bytes_low_first}
 use Rattle.md5.specs.Md5.{md5, digest_bytes}
 use Rattle.eli_metadata.specs.declared.metadata.Metadata.{Metadata}
-use Rattle.eli_metadata.specs.Format.{magic, bytes_at, number_at, number_bytes, signed_at, signed_bytes, fields, number_fields, field_bytes, encoded, metadata_in, IsInRange}
+use Rattle.eli_metadata.specs.Format.{magic, bytes_at, number_at, number_bytes, signed_at, signed_bytes, fields, number_fields, field_bytes, encoded, is_served, metadata_in, IsInRange}
 use Rattle.eli_metadata.proofs.Numbers.{AreBytes, number_bytes-number_at, number_at-fits}
 
 -- the next bytes, with those in front of them
@@ -159,24 +159,31 @@ length-field_bytes m salt slots = simp (length-append, length-number_bytes, leng
 same_bytes : (xs : List ℕ) → bytes_eq xs xs ≡ true
 same_bytes xs = (bytes_eq-Decides xs xs).1 refl
 
-version-fields : (b : List ℕ) → number_at b 16 4 ≡ (fields b).version
+-- the version by its place
+pub version-fields : (b : List ℕ) → number_at b 16 4 ≡ (fields b).version
 unfolding fields
 version-fields b = refl
 
--- a sector in which the fields of a record of version 7 stand, with their digest, is that record
-metadata_in-stands : (b : List ℕ) (m : Metadata) → Stands b m (md5 (field_bytes m) ++ 0 ∷ []) → take 495 b ≡ field_bytes m → m.version ≡ 7 → metadata_in b ≡ Ok m
-unfolding metadata_in
-metadata_in-stands b m s front version =
-    let versioned : number_at b 16 4 ≡ 7 = version-fields b ∙ ap (λ (r : Metadata). r.version) s.same ∙ version in
-    let hash : bytes_at b 495 16 ≡ md5 (field_bytes m) = here b 495 16 _ (0 ∷ []) (length-md5 (field_bytes m)) s.after in
-    rw (s.begins, same_bytes magic, versioned, front, hash, same_bytes (md5 (field_bytes m)), s.same) refl
+-- the flags by their place
+pub flags-fields : (b : List ℕ) → number_at b 20 4 ≡ (fields b).flags
+unfolding fields
+flags-fields b = refl
 
--- a record of version 7 is read back
-pub metadata_in-encoded : (m : Metadata) → IsInRange m → length m.salt ≡ 64 → length m.mkeys ≡ 384 → m.version ≡ 7 → metadata_in (encoded m) ≡ Ok m
+-- a sector in which the fields of a record of a version that is served stand, with their digest, is that record
+metadata_in-stands : (b : List ℕ) (m : Metadata) → Stands b m (md5 (field_bytes m) ++ 0 ∷ []) → take 495 b ≡ field_bytes m → is_served m.version m.flags ≡ true → metadata_in b ≡ Ok m
+unfolding metadata_in
+metadata_in-stands b m s front served =
+    let versioned : number_at b 16 4 ≡ m.version = version-fields b ∙ ap (λ (r : Metadata). r.version) s.same in
+    let flagged : number_at b 20 4 ≡ m.flags = flags-fields b ∙ ap (λ (r : Metadata). r.flags) s.same in
+    let hash : bytes_at b 495 16 ≡ md5 (field_bytes m) = here b 495 16 _ (0 ∷ []) (length-md5 (field_bytes m)) s.after in
+    rw (s.begins, same_bytes magic, versioned, flagged, served, front, hash, same_bytes (md5 (field_bytes m)), s.same) refl
+
+-- a record of a version that is served is read back
+pub metadata_in-encoded : (m : Metadata) → IsInRange m → length m.salt ≡ 64 → length m.mkeys ≡ 384 → is_served m.version m.flags ≡ true → metadata_in (encoded m) ≡ Ok m
 unfolding encoded
-metadata_in-encoded m range salt slots version =
+metadata_in-encoded m range salt slots served =
     let hash = md5 (field_bytes m) in
     let is : encoded m ≡ field_bytes m ++ (hash ++ 0 ∷ []) = append_assoc (field_bytes m) hash (0 ∷ []) in
     let front : take 495 (encoded m) ≡ field_bytes m =
     rw (is, ← length-field_bytes m salt slots) (take-append_seam (field_bytes m) (hash ++ 0 ∷ [])) in
-    metadata_in-stands (encoded m) m (stands (encoded m) m (hash ++ 0 ∷ []) range salt slots (is ∙ field_bytes-from m (hash ++ 0 ∷ []))) front version
+    metadata_in-stands (encoded m) m (stands (encoded m) m (hash ++ 0 ∷ []) range salt slots (is ∙ field_bytes-from m (hash ++ 0 ∷ []))) front served

@@ -1,7 +1,7 @@
 -- Which metadata a provider can be used by (g_eli.h, eli_metadata_decode and eli_metadata_crypto_supported; geli(8)).
 use Rattle.std.specs.Prelude.{ℕ, ◌*◌, ◌^◌, nat_lt, nat_le, bit_and, Bool, ◌==◌, if◌then◌else◌, not, Option, Some, None, Result, Ok, Err}
 use Rattle.eli_base.specs.declared.Auth.{Auth}
-use Rattle.eli_base.specs.declared.Auth.TheVariants.{Off, Sha256}
+use Rattle.eli_base.specs.declared.Auth.TheVariants.{Off, Sha256, Sha384, Sha512}
 use Rattle.eli_base.specs.declared.Cipher.{Cipher}
 use Rattle.eli_base.specs.declared.Cipher.TheVariants.{AesCbc, AesXts}
 use Rattle.eli_base.specs.declared.Params.{Params}
@@ -43,9 +43,15 @@ unsupported_flags flags = bit_and flags 0xFFFFFC01
 abbrev pub cipher_of : ℕ → Option Cipher
 cipher_of ealgo = if ealgo == cipher_number AesCbc then Some AesCbc else (if ealgo == cipher_number AesXts then Some AesXts else None)
 
--- the authentication of this number; without the flag AUTH the field isn't read
+-- the authentication of this number
+abbrev pub auth_numbered : ℕ → Option Auth
+auth_numbered aalgo =
+    if aalgo == auth_number Sha256 then Some Sha256
+    else (if aalgo == auth_number Sha384 then Some Sha384 else (if aalgo == auth_number Sha512 then Some Sha512 else None))
+
+-- the authentication of the data; without the flag AUTH the number isn't read
 abbrev pub auth_of : Metadata → Option Auth
-auth_of m = if is_authenticated m then (if m.aalgo == auth_number Sha256 then Some Sha256 else None) else Some Off
+auth_of m = if is_authenticated m then auth_numbered m.aalgo else Some Off
 
 -- the refusals in their order, or the settings
 abbrev pub check_size : Metadata → Cipher → Auth → Result Settings MetaFault

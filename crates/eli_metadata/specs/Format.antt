@@ -1,6 +1,6 @@
--- The metadata sector as a list of 512 bytes: g_eli.h, struct g_eli_metadata and eli_metadata_decode, version 7.
+-- The metadata sector as a list of 512 bytes: g_eli.h, struct g_eli_metadata and eli_metadata_decode, versions 5, 6 and 7.
 -- Numbers are little-endian, and the fields are packed.
-use Rattle.std.specs.Prelude.{ℕ, ◌<◌, ◌^◌, FitsSigned, ℤ, List, [], ◌∷◌, ◌++◌, take, drop, slice_index, ◌==◌, if◌then◌else◌, Result, Ok, Err}
+use Rattle.std.specs.Prelude.{ℕ, ◌<◌, ◌^◌, FitsSigned, ℤ, List, [], ◌∷◌, ◌++◌, take, drop, slice_index, bit_and, Bool, ◌==◌, ◌&&◌, ◌||◌, if◌then◌else◌, Result, Ok, Err}
 use Rattle.std.specs.Int.{w32, cast_signed, cast_unsigned}
 use Rattle.std.specs.Str.{bytes_eq}
 use Rattle.byteorder.specs.Endian.{little_number, little_bytes}
@@ -45,12 +45,16 @@ fields bytes = record {
 abbrev pub decode_hashed : List ℕ → Result Metadata MetaFault
 decode_hashed bytes = if bytes_eq (md5 (take 495 bytes)) (bytes_at bytes 495 16) then Ok (fields bytes) else Err BadHash
 
-abbrev pub decode_versioned : List ℕ → ℕ → Result Metadata MetaFault
-decode_versioned bytes version = if version == 7 then decode_hashed bytes else Err (BadVersion version)
+-- which versions are served: 7 and 6, and 5 without G_ELI_FLAG_AUTH
+abbrev pub is_served : ℕ → ℕ → Bool
+is_served version flags = version == 7 || version == 6 || (version == 5 && bit_and flags 0x10 == 0)
+
+abbrev pub decode_versioned : List ℕ → ℕ → ℕ → Result Metadata MetaFault
+decode_versioned bytes version flags = if is_served version flags then decode_hashed bytes else Err (BadVersion version)
 
 -- what the bytes of a sector are: a fault, or the record of the fields. Byte 511 isn't read.
 unfoldable pub metadata_in : List ℕ → Result Metadata MetaFault
-metadata_in bytes = if bytes_eq (take 16 bytes) magic then decode_versioned bytes (number_at bytes 16 4) else Err BadMagic
+metadata_in bytes = if bytes_eq (take 16 bytes) magic then decode_versioned bytes (number_at bytes 16 4) (number_at bytes 20 4) else Err BadMagic
 
 -- each field is a number of its type
 pub record IsInRange (m : Metadata) : Type 0 where

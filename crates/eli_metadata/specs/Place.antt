@@ -1,7 +1,9 @@
--- What a read of the metadata answers, and what it does to the disk.
-use Rattle.std.specs.Prelude.{◌≡◌, ℕ, ◌<◌, ◌≤◌, ◌*◌, List, [], length, Result, Ok, Err}
-use Rattle.block_traits.specs.Disk.{DiskState, FailsIn, Gives, Logs, last_sector}
-use Rattle.eli_metadata.specs.Format.{metadata_in}
+-- What a read of the metadata answers, and what a read and a change of them do to the disk.
+use Rattle.std.specs.Prelude.{◌≡◌, ℕ, ◌<◌, ◌≤◌, ◌*◌, List, [], ◌∷◌, length, Result, Ok, Err}
+use Rattle.block_traits.specs.Disk.{DiskState, FailsIn, Gives, Logs, last_sector, store_events}
+use Rattle.block_traits.specs.declared.Event.{Event}
+use Rattle.block_traits.specs.declared.Event.TheVariants.{Flush}
+use Rattle.eli_metadata.specs.Format.{encoded, metadata_in}
 use Rattle.eli_metadata.specs.declared.metadata.Metadata.{Metadata}
 use Rattle.eli_metadata.specs.declared.metadata.MetaFault.{MetaFault}
 use Rattle.eli_metadata.specs.declared.place.ReadMetaFault.{ReadMetaFault}
@@ -21,3 +23,11 @@ ReadsMetadata before (Ok m) after = ReadsLast before (Ok m) after
 ReadsMetadata before (Err (TooSmall size)) after = (before.size < 2) × (size ≡ 512 * before.size) × (after ≡ before)
 ReadsMetadata before (Err DeviceFault) after = (2 ≤ before.size) × FailsIn [] before after
 ReadsMetadata before (Err (Meta fault)) after = ReadsLast before (Err fault) after
+
+-- the value is the sector of the metadata
+abbrev pub IsSectorOf : Metadata → List ℕ → Type 0
+IsSectorOf m value = value ≡ encoded m
+
+-- the disk is flushed, the sector of the metadata is written, and the disk is flushed
+abbrev pub replace_events : DiskState → Metadata → List Event
+replace_events disk m = Flush ∷ store_events disk (encoded m)

@@ -1,31 +1,32 @@
 // Metadata as bytes, and bytes as metadata.
-ghost use Rattle.std.specs.Prelude.{◌≡◌, ◌++◌, ◌∷◌, [], IfOk, take, Ok};
+ghost use Rattle.std.specs.Prelude.{◌≡◌, ◌++◌, ◌∷◌, [], IfOk, IsTrue, take, Ok};
 ghost use Rattle.std.specs.Str.{bytes_eq};
 ghost use Rattle.md5.specs.Md5.{md5};
-ghost use Rattle.eli_metadata.specs.Format.{magic, bytes_at, fields, metadata_in, number_fields, field_bytes, encoded, IsInRange};
+ghost use Rattle.eli_metadata.specs.Format.{magic, bytes_at, fields, is_served, metadata_in, number_fields, field_bytes, encoded, IsInRange};
 
 use crate::bytes::{i32_at, put, put_i32, put_u16, put_u32, put_u64, u16_at, u32_at, u64_at};
+use crate::metadata::FLAG_AUTH;
 use crate::{MetaFault, Metadata};
 use block_traits::Sector;
 use md5::{Digest, Md5};
 
 const MAGIC: [u8; 16] = *b"GEOM::ELI\0\0\0\0\0\0\0";
 
-const VERSION: u32 = 7;
-
 /// Reads the metadata in a sector (g_eli.h, `eli_metadata_decode`).
 ///
-/// In this order: `BadMagic`, `BadVersion`, `BadHash`. Byte 511 isn't read.
+/// In this order: `BadMagic`; `BadVersion`, where the version isn't 5, 6 or 7, or it is 5 and the flag AUTH is set;
+/// `BadHash`. Byte 511 isn't read.
 #[tactic(auto, unfolding(crate::specs::Format::metadata_in))]
 pub fn decode(from: &Sector) -> Result<Metadata, MetaFault>
     ensures meaning { result ≡ metadata_in from.now }
     ensures again { IfOk result (λ m. encoded m ≡ take 511 from.now ++ 0 ∷ []) }
+    ensures version { IfOk result (λ m. IsTrue (is_served m.version m.flags)) }
 {
     if !has_magic(from) {
         return Err(MetaFault::BadMagic);
     }
     let version = u32_at(from, 16);
-    if version != VERSION {
+    if !is_served(version, u32_at(from, 20)) {
         return Err(MetaFault::BadVersion { found: version });
     }
     if !has_hash(from) {
@@ -39,6 +40,16 @@ fn has_magic(from: &Sector) -> bool
     ensures { result ≡ bytes_eq (take 16 from.now) magic }
 {
     &from[..16] == MAGIC.as_slice()
+}
+
+fn is_served(version: u32, flags: u32) -> bool
+    ensures { result ≡ is_served version flags }
+{
+    match version {
+        7 | 6 => true,
+        5 => flags & FLAG_AUTH == 0,
+        _ => false,
+    }
 }
 
 fn has_hash(from: &Sector) -> bool
@@ -73,7 +84,7 @@ fn read_fields(from: &Sector) -> Metadata
 /// Writes metadata into a sector: the fields, their MD5, and a zero byte.
 pub fn encode(meta: &Metadata, into: &mut Sector)
     ensures bytes { into.new ≡ encoded meta.now }
-    ensures again { meta.now.version ≡ 7 → metadata_in into.new ≡ Ok meta.now }
+    ensures again { IsTrue (is_served meta.now.version meta.now.flags) → metadata_in into.new ≡ Ok meta.now }
 {
     write_fields(meta, into);
     let digest = Md5::digest(&into[..495]);

@@ -2,10 +2,9 @@
 ghost use Rattle.std.specs.Prelude.{◌≡◌, ◌<◌, ◌^◌, MatchResult, Ok, Err};
 ghost use Rattle.eli_metadata.specs.Check.{supported, settings_of, size_matches, slot_matches, is_set, cipher_of, auth_of, is_readonly};
 
+use crate::metadata::FLAG_AUTH;
 use crate::{MetaFault, Metadata};
 use eli_base::{Auth, Cipher, Params, sector_size_ok};
-
-const FLAG_AUTH: u32 = 0x10;
 
 const FLAG_RO: u32 = 0x20;
 
@@ -77,6 +76,10 @@ fn auth(meta: &Metadata) -> Option<Auth>
     }
     if meta.aalgo == Auth::Sha256.number() {
         Some(Auth::Sha256)
+    } else if meta.aalgo == Auth::Sha384.number() {
+        Some(Auth::Sha384)
+    } else if meta.aalgo == Auth::Sha512.number() {
+        Some(Auth::Sha512)
     } else {
         None
     }

@@ -1,4 +1,4 @@
-//! The metadata sector of a GELI provider (g_eli.h, version 7): reading, writing and checking it.
+//! The metadata sector of a GELI provider (g_eli.h, versions 5, 6 and 7): reading, writing and checking it.
 #![tactic(auto)]
 
 mod bytes;
@@ -10,4 +10,4 @@ mod place;
 pub use codec::{decode, encode};
 pub use gates::{check, size_gate, slot_gate};
 pub use metadata::{MetaFault, Metadata};
-pub use place::{ReadMetaFault, read_metadata};
+pub use place::{ReadMetaFault, read_metadata, replace_metadata};

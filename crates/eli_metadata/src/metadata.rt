@@ -5,10 +5,13 @@ ghost use Rattle.std.specs.Prelude.{◌≡◌};
 use eli_base::Refusal;
 use thiserror::Error;
 
+/// The flag `G_ELI_FLAG_AUTH`: the data is authenticated.
+pub(crate) const FLAG_AUTH: u32 = 0x10;
+
 /// The fields of the metadata sector, by their names in `struct g_eli_metadata` (g_eli.h).
 #[derive(Clone, Copy, Debug, PartialEq, Eq)]
 pub struct Metadata {
-    /// The version of the format.
+    /// The version of the format: 5, 6 or 7.
     pub version: u32,
     /// The flags `G_ELI_FLAG_*`.
     pub flags: u32,
@@ -16,7 +19,8 @@ pub struct Metadata {
     pub ealgo: u16,
     /// The length of the data key in bits.
     pub keylen: u16,
-    /// The algorithm of authentication, `CRYPTO_*`: 18 is HMAC/SHA256.
+    /// The algorithm of authentication, `CRYPTO_*`: 18 is HMAC/SHA256, 19 HMAC/SHA384 and
+    /// 20 HMAC/SHA512.
     pub aalgo: u16,
     /// The provider's size in bytes.
     pub provsize: u64,

@@ -1,10 +1,12 @@
 // The metadata at the end of a disk.
-ghost use Rattle.std.specs.Prelude.{◌≡◌};
-ghost use Rattle.eli_metadata.specs.Place.{ReadsMetadata};
+ghost use Rattle.std.specs.Prelude.{◌≡◌, ◌<◌, Ok, IsTrue, OnOk, OnErr};
+ghost use Rattle.block_traits.specs.Disk.{FailsIn, Logs};
+ghost use Rattle.eli_metadata.specs.Format.{encoded, is_served, metadata_in};
+ghost use Rattle.eli_metadata.specs.Place.{ReadsMetadata, replace_events};
 ghost use Rattle.eli_metadata.specs.Refusals.{read_refusal_of};
 
-use crate::{MetaFault, Metadata, decode};
-use block_traits::MetaPlace;
+use crate::{MetaFault, Metadata, decode, encode};
+use block_traits::{Disk, DiskFailed, MetaPlace, store_last};
 use eli_base::Refusal;
 use thiserror::Error;
 
@@ -53,4 +55,20 @@ pub fn read_metadata<P: MetaPlace>(place: &mut P) -> Result<Metadata, ReadMetaFa
         return Err(ReadMetaFault::DeviceFault);
     }
     decode(&bytes).map_err(ReadMetaFault::Meta)
+}
+
+/// Puts metadata in the place of what the last sector has: what was written before lasts first, and the
+/// metadata last when it is done. Where it fails, the first of the three events were done, and no others.
+///
+/// The sector that is written is read as the metadata, if they are of a version that is read.
+pub fn replace_metadata<D: Disk>(disk: &mut D, meta: &Metadata) -> Result<(), DiskFailed>
+    requires { 0 < (D.state disk.old).size }
+    ensures read { IsTrue (is_served meta.now.version meta.now.flags) → metadata_in (encoded meta.now) ≡ Ok meta.now }
+    ensures ok { OnOk result (Logs (replace_events (D.state disk.old) meta.now) (D.state disk.old) (D.state disk.new)) }
+    ensures err { OnErr result (FailsIn (replace_events (D.state disk.old) meta.now) (D.state disk.old) (D.state disk.new)) }
+{
+    let mut sector = [0; 512];
+    encode(meta, &mut sector);
+    disk.flush()?;
+    store_last(disk, &sector)
 }

@@ -1,8 +1,8 @@
 // The run of the program over what the system gives: its arguments, what opens its files, and its streams.
 ghost use Rattle.std.specs.Prelude.{◌≡◌, IfOk, map, string_bytes};
 ghost use Rattle.block_traits.specs.Causes.{Rose};
+ghost use Rattle.command_words.specs.Built.{built_in};
 ghost use Rattle.command_words.specs.Images.{line_of};
-ghost use Rattle.command_words.specs.Reading.{command_in};
 ghost use Rattle.geli_cli.specs.Program.{AreDisksNamed, HasWords};
 ghost use Rattle.geli_core.specs.Run.{EndsBy};
 
@@ -55,7 +55,7 @@ pub fn run_words<O: Opener<File = File> + Drop, R: Read + Drop, W: Write + Drop>
     input: &mut InputSource<R>,
     output: &mut OutputSink<W>,
 ) -> Status
-    ensures ends { EndsBy (command_in (line_of (map string_bytes words.now))) result }
+    ensures ends { EndsBy (built_in (line_of (map string_bytes words.now))) result }
     ensures cause { result ≡ Status.WriteFault → Rose output.old.faults output.new.faults }
 {
     match try_words(alloc, words, opener, input, output) {
@@ -71,7 +71,7 @@ fn try_words<O: Opener<File = File> + Drop, R: Read + Drop, W: Write + Drop>(
     input: &mut InputSource<R>,
     output: &mut OutputSink<W>,
 ) -> Result<Status, NoMemory>
-    ensures ends { IfOk result (EndsBy (command_in (line_of (map string_bytes words.now)))) }
+    ensures ends { IfOk result (EndsBy (built_in (line_of (map string_bytes words.now)))) }
     ensures cause { IfOk result (λ status. status ≡ Status.WriteFault → Rose output.old.faults output.new.faults) }
 {
     let mut shelf = Shelf::new(alloc)?;

@@ -1,5 +1,5 @@
 -- The status after a text was printed is that of its line.
-use Rattle.std.proofs.Common.{◌≡◌, ◌⊎◌, None, Some, inl, inr}
+use Rattle.std.proofs.Common.{◌≡◌, ◌⊎◌, [], None, Some, inl, inr}
 use Rattle.block_traits.specs.Streams.{SinkState}
 use Rattle.command_words.specs.declared.commands.Command.{Command}
 use Rattle.geli_core.specs.Run.{EndsBy, EndsWith, status_of, usage_text}
@@ -21,12 +21,11 @@ ends_declined old ScriptTooLong new h = h.0
 
 -- the status after a reply is one of two
 status_of-either : (reply : Reply) (status : Status) → status ≡ status_of reply → (status ≡ Done) ⊎ (status ≡ SomeRefused)
-status_of-either replies.Done status is = inl is
-status_of-either (replies.Dump meta) status is = inl is
 status_of-either (replies.Refused refusal) status is = inr is
+status_of-either _ status is = inl is
 
 pub ends_served : (command : Command) (reply : Reply) (old : SinkState) (status : Status) (new : SinkState)
-    → EndsWith (reply_text reply) (status_of reply) old status new → EndsBy (Some command) status
+    → EndsWith (reply_text reply []) (status_of reply) old status new → EndsBy (Some command) status
 ends_served command reply old WriteFault new h = tt
 ends_served command reply old NoMemory new h = tt
 ends_served command reply old Done new h = status_of-either reply Done h.0

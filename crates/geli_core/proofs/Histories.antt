@@ -55,6 +55,7 @@ content-served : (line : List ℕ) (command : Command) (old : Reach) (reply : Re
 content-served line (commands.Dump prov) old reply new reads serves = content-read old serves.answer new serves.row
 content-served line (commands.Init prov cipher auth keylen sectorsize iterations autoresize fresh backup) old reply new reads serves = absurd cc
 content-served line (commands.Attach prov only_check readonly slot words) old reply new reads serves = content-tried line slot words old serves.answer new serves.row
+content-served line _ old reply new reads serves = absurd serves
 
 -- the contents where one drawer changed and its content did not
 contents-set : (old : List DrawerState) (place : ℕ) (before after : DrawerState) → slice_get old place ≡ Some before → after.disk.content ≡ before.disk.content → contents (set old place after) ≡ contents old
@@ -78,3 +79,4 @@ contents_after_reading line (commands.Dump prov) old reply new reads turn = cont
 contents_after_reading line (commands.Init prov cipher auth keylen sectorsize iterations autoresize fresh backup) old reply new reads turn = absurd cc
 contents_after_reading line (commands.Attach prov only_check readonly slot words) old reply new reads turn =
     contents-at line (commands.Attach prov only_check readonly slot words) old reply new (place_of (bytes_at line prov) old.drawers) reads turn
+contents_after_reading line _ old reply new reads turn = absurd cc

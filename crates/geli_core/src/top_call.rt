@@ -1,16 +1,16 @@
 // The run: the words are read, the command is served, and the reply is printed.
-ghost use Rattle.std.specs.Prelude.{◌≡◌, ◌≢◌, IsTrue, map, string_bytes};
+ghost use Rattle.std.specs.Prelude.{◌≡◌, ◌≢◌, [], IsTrue, map, string_bytes};
 ghost use Rattle.block_traits.specs.Cabinet.{cabinet_of};
 ghost use Rattle.block_traits.specs.Streams.{entropy_of, sink_of};
+ghost use Rattle.command_words.specs.Built.{built_in};
 ghost use Rattle.command_words.specs.Images.{line_of};
-ghost use Rattle.command_words.specs.Reading.{command_in};
-ghost use Rattle.reply_text.specs.Text.{reply_text};
+ghost use Rattle.reply_text.specs.Text.{HasPayload, reply_text};
 ghost use Rattle.shelf.specs.World.{contents, drawers_of, world_of};
 ghost use Rattle.geli_core.specs.Run.{EndsBy, EndsWith, Runs, asks_no_write, status_of, usage_text};
 
 use crate::Status;
 use block_traits::{Cabinet, Disk, Entropy, Sink, Source};
-use command_words::{command_in, joined};
+use command_words::{built_in, joined};
 use reply_text::{Reply, write_reply, write_text};
 use shelf::{Drawers, Shelf};
 use std::alloc::Global;
@@ -36,9 +36,9 @@ pub fn geli_main<S: Source, K: Sink, C: Cabinet, E: Entropy>(
         (sink_of K.taken K.faults output.old) result
         (world_of (⟦<Box<dyn Disk> as Disk>⟧).state shelf.new (cabinet_of C.files C.faults C.misses files.new) (entropy_of E.left E.faults entropy.new))
         (sink_of K.taken K.faults output.new) }
-    ensures histories { IsTrue (asks_no_write (command_in (line_of (map string_bytes words.now)))) →
+    ensures histories { IsTrue (asks_no_write (built_in (line_of (map string_bytes words.now)))) →
         contents (drawers_of (⟦<Box<dyn Disk> as Disk>⟧).state shelf.new) ≡ contents (drawers_of (⟦<Box<dyn Disk> as Disk>⟧).state shelf.old) }
-    ensures ends { EndsBy (command_in (line_of (map string_bytes words.now))) result }
+    ensures ends { EndsBy (built_in (line_of (map string_bytes words.now))) result }
     ensures input { _input.new ≡ _input.old }
 {
     run(alloc, words, output, files, entropy, shelf)
@@ -59,14 +59,14 @@ pub fn run<K: Sink, C: Cabinet, E: Entropy, D: Disk>(
         (sink_of K.taken K.faults output.old) result
         (world_of D.state shelf.new (cabinet_of C.files C.faults C.misses files.new) (entropy_of E.left E.faults entropy.new))
         (sink_of K.taken K.faults output.new) }
-    ensures histories { IsTrue (asks_no_write (command_in (line_of (map string_bytes words.now)))) →
+    ensures histories { IsTrue (asks_no_write (built_in (line_of (map string_bytes words.now)))) →
         contents (drawers_of D.state shelf.new) ≡ contents (drawers_of D.state shelf.old) }
-    ensures ends { EndsBy (command_in (line_of (map string_bytes words.now))) result }
+    ensures ends { EndsBy (built_in (line_of (map string_bytes words.now))) result }
 {
     let Ok(line) = joined(alloc, words) else {
         return Status::NoMemory;
     };
-    let Some(command) = command_in(&line) else {
+    let Some(command) = built_in(&line) else {
         return print_usage(output);
     };
     let reply = shelf.serve(&line, &command, files, entropy);
@@ -74,10 +74,11 @@ pub fn run<K: Sink, C: Cabinet, E: Entropy, D: Disk>(
 }
 
 fn print_reply<K: Sink>(reply: &Reply, output: &mut K) -> Status
-    ensures printed { EndsWith (reply_text reply.now) (status_of reply.now) (sink_of K.taken K.faults output.old) result (sink_of K.taken K.faults output.new) }
+    requires { HasPayload reply.now [] }
+    ensures printed { EndsWith (reply_text reply.now []) (status_of reply.now) (sink_of K.taken K.faults output.old) result (sink_of K.taken K.faults output.new) }
     ensures memory { result ≢ Status.NoMemory }
 {
-    match write_reply(reply, output) {
+    match write_reply(reply, &[], output) {
         Ok(()) => status_of(reply),
         Err(_) => Status::WriteFault,
     }
@@ -98,6 +99,6 @@ fn status_of(reply: &Reply) -> Status
 {
     match reply {
         Reply::Refused(_) => Status::SomeRefused,
-        Reply::Done | Reply::Dump(_) => Status::Done,
+        _ => Status::Done,
     }
 }

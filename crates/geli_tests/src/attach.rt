@@ -20,7 +20,7 @@ fn with_bytes(sector: &Sector, place: usize, bytes: &[u8]) -> Sector {
 // A place in the metadata, the bytes that are put there, and what an attempt with the right key tells.
 // The fields: flags at 20, the cipher at 24, the key length at 26, the authentication at 28, the size at 30,
 // the sector size at 38, the set slots at 42, the iterations at 43.
-const CHANGES: [(usize, &[u8], &str); 26] = [
+const CHANGES: [(usize, &[u8], &str); 27] = [
     (20, b"\x01", "error 13 UnsupportedFlags 1, 1"),
     (20, b"\x01\0\0\0\x15", "error 13 UnsupportedFlags 1, 1"),
     (
@@ -42,6 +42,11 @@ const CHANGES: [(usize, &[u8], &str); 26] = [
         "error 10 UnsupportedAuth 17, 1",
     ),
     (20, b"\x10\0\0\0", "error 10 UnsupportedAuth 0, 1"),
+    (
+        20,
+        b"\x10\0\0\0\x16\0\x80\0\x15",
+        "error 10 UnsupportedAuth 21, 1",
+    ),
     (
         20,
         b"\x10\x02\0\0\x16\0\x80\0\x11\0\0\0\x10\0\0\0\0\0\0\0\x02",

@@ -1,5 +1,5 @@
 // `geli dump IMAGE`: each reply, each form of the words, each failing call of the sink.
-use crate::common::{USAGE, World, disk_with, words};
+use crate::common::{USAGE, World, disk_with, hashed, words};
 use block_traits::{Disk, NoMemory, Sector};
 use crash_disk::{CallKind, FailAt, MemCabinet, MemDisk, MemEntropy, MemSink, MemSource};
 use geli_core::{AddFault, Shelf, Status, geli_main};
@@ -27,11 +27,12 @@ pub(crate) fn metadata() -> Sector {
     sector
 }
 
-// The lines of that metadata.
-fn dump_text(alloc: Global) -> Result<String, NoMemory> {
-    let mut text = String::from_str(
-        alloc,
-        "version: 7\nflags: 0x200\nealgo: 22\nkeylen: 128\naalgo: 0\nprovsize: 1048576\nsectorsize: 4096\nkeys: 0x1\niterations: 1000\nsalt: ",
+// The lines of that metadata, which has this version.
+fn dump_text(alloc: Global, version: &str) -> Result<String, NoMemory> {
+    let mut text = String::from_str(alloc, "version: ")?;
+    text.push_str(version)?;
+    text.push_str(
+        "\nflags: 0x200\nealgo: 22\nkeylen: 128\naalgo: 0\nprovsize: 1048576\nsectorsize: 4096\nkeys: 0x1\niterations: 1000\nsalt: ",
     )?;
     for _ in 0..16 {
         text.push_str("00000000")?;
@@ -57,7 +58,7 @@ fn run_over(
 #[test]
 fn each_last_sector_has_its_reply(rt: HostRuntime) -> Result<(), Fail> {
     let alloc = rt.alloc();
-    let whole = dump_text(alloc)?;
+    let whole = dump_text(alloc, "7")?;
     let changes = [
         (511, 0xff, whole.as_str(), Status::Done),
         (47, 0x01, "error 7 BadHash\n", Status::SomeRefused),
@@ -83,6 +84,30 @@ fn each_last_sector_has_its_reply(rt: HostRuntime) -> Result<(), Fail> {
         )?;
         assert_eq!(rt; output.bytes(), text.as_bytes());
         assert_eq!(rt; ended, status);
+    }
+    Ok(())
+}
+
+// The version and the lowest byte of the flags, and the reply where the MD5 is made anew.
+#[test]
+fn older_versions_are_dumped(rt: HostRuntime) -> Result<(), Fail> {
+    let alloc = rt.alloc();
+    let sixth = dump_text(alloc, "6")?;
+    let fifth = dump_text(alloc, "5")?;
+    let changes = [
+        (6, 0x00, sixth.as_str()),
+        (5, 0x00, fifth.as_str()),
+        (5, 0x10, "error 6 BadVersion 5\n"),
+        (4, 0x00, "error 6 BadVersion 4\n"),
+    ];
+    for (version, flags, text) in changes {
+        let mut last = metadata();
+        last[16] = version;
+        last[20] = flags;
+        let mut output = MemSink::new(alloc, &[], &[], 2048)?;
+        let disk = disk_with(alloc, 2048, &hashed(&last))?;
+        run_over(alloc, disk, "dump a.img", &mut output)?;
+        assert_eq!(rt; output.bytes(), text.as_bytes(), "version {version}");
     }
     Ok(())
 }
@@ -175,7 +200,7 @@ fn the_longest_name_is_a_name(rt: HostRuntime) -> Result<(), Fail> {
 #[test]
 fn a_failing_sink_gets_a_part_of_the_text(rt: HostRuntime) -> Result<(), Fail> {
     let alloc = rt.alloc();
-    let whole = dump_text(alloc)?;
+    let whole = dump_text(alloc, "7")?;
     let slow = [1; 1100];
     let mut output = MemSink::new(alloc, &slow, &[], 2048)?;
     let disk = disk_with(alloc, 2, &metadata())?;
@@ -260,7 +285,7 @@ fn the_top_call_runs_over_a_boxed_disk(rt: HostRuntime) -> Result<(), Fail> {
         &mut MemEntropy::new(alloc, b"")?,
         &mut shelf,
     );
-    assert_eq!(rt; output.bytes(), dump_text(alloc)?.as_bytes());
+    assert_eq!(rt; output.bytes(), dump_text(alloc, "7")?.as_bytes());
     assert_eq!(rt; ended.number(), 0);
     assert_eq!(rt; shelf.events("a.img"), Some([].as_slice()));
     assert_eq!(rt; shelf.events("b.img"), None);

@@ -66,7 +66,7 @@ fn the_top_call_makes_a_provider_over_a_boxed_disk(rt: HostRuntime) -> Result<()
 
 // The sectors of an image, the words that make a provider of it, those that try its key, and the SHA-256
 // digest of the last sector, by tools/init_sectors.py.
-const MADE: [(u32, &str, &str, &str); 14] = [
+const MADE: [(u32, &str, &str, &str); 16] = [
     (
         2048,
         "init -B b -K k -J p -i 10 a.img",
@@ -151,6 +151,18 @@ const MADE: [(u32, &str, &str, &str); 14] = [
         "attach -C -p -k k a.img",
         "e2b06f1d55c371c0376d3d051f34110ceaf887252db0e312e776a2fca0503ff5",
     ),
+    (
+        2048,
+        "init -P -K k -a HMAC/SHA384 a.img",
+        "attach -C -p -k k a.img",
+        "8e1df92de4517c17d1279ab426e2fefb941cf563b67098d95d7eaef1a8683e33",
+    ),
+    (
+        11,
+        "init -P -K k -s 4096 -a Hmac/Sha512 a.img",
+        "attach -C -p -k k a.img",
+        "725f0637feb67755e15a4231eb741a35d2ad2c2c10e083377e698721cfa12e7f",
+    ),
 ];
 
 // The digest of the sector that is written, where the words that try its key are served.
@@ -231,7 +243,7 @@ fn all_files_of_a_key_count_in_order(rt: HostRuntime) -> Result<(), Fail> {
 }
 
 // The sectors of an image, and lines that are refused. Of several causes the first in the order of the command counts.
-const REFUSED: [(u32, &str); 6] = [
+const REFUSED: [(u32, &str); 7] = [
     (
         2048,
         "\
@@ -251,6 +263,7 @@ init -J none -K other a.img > error 27 FileAbsent 4, 1
 init -K none -K other -J p a.img > error 27 FileAbsent 2, 1
 init -PKnone a.img > error 27 FileAbsent 1, 1
 init -e NULL -K k -J p a.img > usage: geli script IMAGE... or geli VERB ..., 2
+init -a HMAC/SHA1 -K k -J p a.img > usage: geli script IMAGE... or geli VERB ..., 2
 init -P -J p -K k a.img > usage: geli script IMAGE... or geli VERB ..., 2
 init -P -i 10 -K k a.img > usage: geli script IMAGE... or geli VERB ..., 2
 ",
@@ -258,6 +271,10 @@ init -P -i 10 -K k a.img > usage: geli script IMAGE... or geli VERB ..., 2
     (
         9,
         "init -s 4096 -a HMAC/SHA256 -K k -J p a.img > error 35 TooSmall 4608, 1",
+    ),
+    (
+        10,
+        "init -s 4096 -a HMAC/SHA512 -K k -J p a.img > error 35 TooSmall 5120, 1",
     ),
     (
         8,

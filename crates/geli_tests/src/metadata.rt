@@ -183,11 +183,12 @@ fn number_of(sector: &Sector) -> u8 {
 
 // The ranges of bits, by their ends, whose change alone is refused with this number: worked out apart
 // from the program, in python3.
-const AS_THEY_STAND: [(usize, u8); 4] = [(128, 5), (160, 6), (4088, 7), (4096, 0)];
+const AS_THEY_STAND: [(usize, u8); 5] = [(128, 5), (130, 7), (160, 6), (4088, 7), (4096, 0)];
 
 // The same where the MD5 is made anew behind the change.
-const HASHED_ANEW: [(usize, u8); 16] = [
+const HASHED_ANEW: [(usize, u8); 17] = [
     (128, 5),
+    (130, 0),
     (160, 6),
     (161, 13),
     (164, 0),

@@ -1,7 +1,7 @@
--- HMAC (RFC 2104) over SHA-256 and SHA-512 (FIPS 180-4), on whole lists of bytes.
+-- HMAC (RFC 2104) over SHA-256, SHA-384 and SHA-512 (FIPS 180-4), on whole lists of bytes.
 use Rattle.std.specs.Prelude.{ℕ, ◌-◌, List, ◌++◌, length, map, replicate, bit_xor, nat_le, if◌then◌else◌}
 use Rattle.sha2.specs.Sha256.{sha256}
-use Rattle.sha2.specs.Sha512.{sha512}
+use Rattle.sha2.specs.Sha512.{sha384, sha512}
 
 -- bytes and as many zeros behind them as a block of this size wants
 abbrev pub filled_block : ℕ → List ℕ → List ℕ
@@ -23,6 +23,10 @@ hmac hash size key message =
 -- HMAC with SHA-256, of a key and a message
 unfoldable pub hmac256 : List ℕ → List ℕ → List ℕ
 hmac256 key message = hmac sha256 64 key message
+
+-- HMAC with SHA-384, of a key and a message
+unfoldable pub hmac384 : List ℕ → List ℕ → List ℕ
+hmac384 key message = hmac sha384 128 key message
 
 -- HMAC with SHA-512, of a key and a message
 unfoldable pub hmac512 : List ℕ → List ℕ → List ℕ

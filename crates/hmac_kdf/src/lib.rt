@@ -1,4 +1,4 @@
-//! HMAC (RFC 2104) over SHA-256 and SHA-512, and PBKDF2 (RFC 8018) over HMAC-SHA-512.
+//! HMAC (RFC 2104) over SHA-256, SHA-384 and SHA-512, and PBKDF2 (RFC 8018) over HMAC-SHA-512.
 //!
 //! A hasher is made with a key, takes its message in pieces, and ends with the code. No call takes memory.
 #![tactic(auto)]
@@ -6,10 +6,12 @@
 mod block;
 mod kdf;
 mod mac256;
+mod mac384;
 mod mac512;
 #[cfg(test)]
 mod tests;
 
 pub use kdf::pbkdf2_sha512;
 pub use mac256::Hmac256;
+pub use mac384::Hmac384;
 pub use mac512::Hmac512;

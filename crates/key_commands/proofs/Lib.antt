@@ -1,4 +1,5 @@
-pub mod Keeping
+pub mod Changing
 pub mod Keys
 pub mod Making
+pub mod Passes
 pub mod Usable

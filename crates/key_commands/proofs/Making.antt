@@ -1,11 +1,11 @@
 -- What `init` did, from what its parts did.
-use Rattle.std.proofs.Common.{◌≡◌, ℕ, ◌<◌, ◌^◌, length, drop, ap, None, Ok, Err, arith, length-drop}
+use Rattle.std.proofs.Common.{◌≡◌, ℕ, ◌<◌, ◌^◌, length, drop, true, ap, None, Ok, Err, arith, length-drop}
 use Rattle.std.proofs.lemmas.List.{length-take-le}
 use Rattle.block_traits.specs.Disk.{DiskState}
 use Rattle.block_traits.specs.Streams.{EntropyState}
 use Rattle.eli_base.specs.declared.Refusal.{Refusal}
 use Rattle.eli_base.specs.declared.Refusal.TheVariants.{EntropyFault, DeviceFault}
-use Rattle.eli_metadata.specs.Format.{encoded, metadata_in}
+use Rattle.eli_metadata.specs.Format.{encoded, is_served, metadata_in}
 use Rattle.eli_metadata.specs.declared.Metadata.{Metadata}
 use Rattle.key_commands.specs.Init.{Inits, MakesMetadata, RefusesInit}
 use Rattle.key_commands.specs.NewMetadata.{metadata_of}
@@ -24,7 +24,7 @@ use Rattle.user_key.specs.declared.UserKey.{UserKey}
 pub makes : (options : InitOptions) (parts : Components) (sectors : ℕ) (random : RandomParts) (key : UserKey) (m : Metadata) (old new : EntropyState)
     → early_refusal options parts sectors ≡ None → Draws random old new → user_key parts random.salt options.iterations ≡ Ok key
     → m ≡ metadata_of options sectors random.salt (wrapped random.master.bytes key.bytes options.keylen) random.filler
-    → sectors < 2 ^ 44 → (m.version ≡ 7 → metadata_in (encoded m) ≡ Ok m) → Opens m key.bytes 0 random.master.bytes
+    → sectors < 2 ^ 44 → (is_served m.version m.flags ≡ true → metadata_in (encoded m) ≡ Ok m) → Opens m key.bytes 0 random.master.bytes
     → MakesMetadata options parts sectors old m new
 makes options parts sectors random key m old new served draws derived is small read opens =
     let held = IsServed-early_refusal options parts sectors served in
@@ -39,7 +39,7 @@ makes options parts sectors random key m old new served draws derived is small r
       derived = rw (← draws.salt) derived;
       metadata = rw (← draws.salt, ← draws.master, ← draws.filler) is;
       usable = record {
-        read = read (ap (λ (n : Metadata). n.version) is);
+        read = read (ap (λ (n : Metadata). is_served n.version n.flags) is);
         accepted = rw is (IsAccepted-metadata_of options sectors random.salt (wrapped random.master.bytes key.bytes options.keylen) random.filler held.allowed held.sized small);
         room = held.room;
         derived = rw is derived;

@@ -6,7 +6,7 @@ use Rattle.eli_base.specs.Algorithms.{allows_length}
 use Rattle.eli_base.specs.SectorSize.{is_sector_size}
 use Rattle.eli_base.specs.Units.{media_sectors}
 use Rattle.eli_base.specs.declared.Auth.{Auth}
-use Rattle.eli_base.specs.declared.Auth.TheVariants.{Off, Sha256}
+use Rattle.eli_base.specs.declared.Auth.TheVariants.{Off, Sha256, Sha384, Sha512}
 use Rattle.eli_base.specs.declared.Cipher.{Cipher}
 use Rattle.eli_base.specs.declared.Cipher.TheVariants.{AesCbc, AesXts}
 use Rattle.eli_base.specs.declared.MasterKey.{MasterKey}
@@ -44,6 +44,14 @@ settings AesCbc Sha256 false keylen sectorsize sectors iterations salt slot0 slo
     three_hold (allows_length AesCbc keylen) (is_sector_size sectorsize) (nat_lt (512 * sectors) (2 ^ 53)) _ _ _ _ a b c
 settings AesCbc Sha256 true keylen sectorsize sectors iterations salt slot0 slot1 a b c =
     three_hold (allows_length AesCbc keylen) (is_sector_size sectorsize) (nat_lt (512 * sectors) (2 ^ 53)) _ _ _ _ a b c
+settings AesCbc Sha384 false keylen sectorsize sectors iterations salt slot0 slot1 a b c =
+    three_hold (allows_length AesCbc keylen) (is_sector_size sectorsize) (nat_lt (512 * sectors) (2 ^ 53)) _ _ _ _ a b c
+settings AesCbc Sha384 true keylen sectorsize sectors iterations salt slot0 slot1 a b c =
+    three_hold (allows_length AesCbc keylen) (is_sector_size sectorsize) (nat_lt (512 * sectors) (2 ^ 53)) _ _ _ _ a b c
+settings AesCbc Sha512 false keylen sectorsize sectors iterations salt slot0 slot1 a b c =
+    three_hold (allows_length AesCbc keylen) (is_sector_size sectorsize) (nat_lt (512 * sectors) (2 ^ 53)) _ _ _ _ a b c
+settings AesCbc Sha512 true keylen sectorsize sectors iterations salt slot0 slot1 a b c =
+    three_hold (allows_length AesCbc keylen) (is_sector_size sectorsize) (nat_lt (512 * sectors) (2 ^ 53)) _ _ _ _ a b c
 settings AesXts Off false keylen sectorsize sectors iterations salt slot0 slot1 a b c =
     three_hold (allows_length AesXts keylen) (is_sector_size sectorsize) (nat_lt (512 * sectors) (2 ^ 53)) _ _ _ _ a b c
 settings AesXts Off true keylen sectorsize sectors iterations salt slot0 slot1 a b c =
@@ -51,6 +59,14 @@ settings AesXts Off true keylen sectorsize sectors iterations salt slot0 slot1 a
 settings AesXts Sha256 false keylen sectorsize sectors iterations salt slot0 slot1 a b c =
     three_hold (allows_length AesXts keylen) (is_sector_size sectorsize) (nat_lt (512 * sectors) (2 ^ 53)) _ _ _ _ a b c
 settings AesXts Sha256 true keylen sectorsize sectors iterations salt slot0 slot1 a b c =
+    three_hold (allows_length AesXts keylen) (is_sector_size sectorsize) (nat_lt (512 * sectors) (2 ^ 53)) _ _ _ _ a b c
+settings AesXts Sha384 false keylen sectorsize sectors iterations salt slot0 slot1 a b c =
+    three_hold (allows_length AesXts keylen) (is_sector_size sectorsize) (nat_lt (512 * sectors) (2 ^ 53)) _ _ _ _ a b c
+settings AesXts Sha384 true keylen sectorsize sectors iterations salt slot0 slot1 a b c =
+    three_hold (allows_length AesXts keylen) (is_sector_size sectorsize) (nat_lt (512 * sectors) (2 ^ 53)) _ _ _ _ a b c
+settings AesXts Sha512 false keylen sectorsize sectors iterations salt slot0 slot1 a b c =
+    three_hold (allows_length AesXts keylen) (is_sector_size sectorsize) (nat_lt (512 * sectors) (2 ^ 53)) _ _ _ _ a b c
+settings AesXts Sha512 true keylen sectorsize sectors iterations salt slot0 slot1 a b c =
     three_hold (allows_length AesXts keylen) (is_sector_size sectorsize) (nat_lt (512 * sectors) (2 ^ 53)) _ _ _ _ a b c
 
 same_number : (n : ℕ) (x p : Result (Unit {0}) MetaFault) → cond (n == n) x p ≡ x

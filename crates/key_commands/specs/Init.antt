@@ -1,26 +1,26 @@
 -- What `init` answers, and what it does to the disk and the entropy (geli(8), init).
-use Rattle.std.specs.Prelude.{◌≡◌, ℕ, List, ◌∷◌, length, None, Some, Result, Ok, Err}
-use Rattle.block_traits.specs.Disk.{DiskState, FailsIn, Logs, last_sector, store_events}
+use Rattle.std.specs.Prelude.{◌≡◌, ℕ, List, length, None, Some, Result, Ok, Err}
+use Rattle.block_traits.specs.Disk.{DiskState, FailsIn, Logs, last_sector}
+use Rattle.block_traits.specs.Moments.{KeepsOldOr}
 use Rattle.block_traits.specs.Streams.{EntropyState, Takes, TakesNone}
 use Rattle.block_traits.specs.declared.Event.{Event}
-use Rattle.block_traits.specs.declared.Event.TheVariants.{Flush}
 use Rattle.eli_base.specs.declared.Refusal.{Refusal}
 use Rattle.eli_base.specs.declared.Refusal.TheVariants.{EntropyFault, DeviceFault}
 use Rattle.eli_metadata.specs.Format.{encoded}
+use Rattle.eli_metadata.specs.Place.{IsSectorOf, replace_events}
 use Rattle.eli_metadata.specs.declared.Metadata.{Metadata}
 use Rattle.user_key.specs.UserKey.{user_key}
 use Rattle.user_key.specs.declared.Components.{Components}
 use Rattle.user_key.specs.declared.UserKey.{UserKey}
 use Rattle.key_commands.specs.declared.options.InitOptions.{InitOptions}
-use Rattle.key_commands.specs.Kept.{KeepsOldOr}
 use Rattle.key_commands.specs.NewMetadata.{new_metadata}
 use Rattle.key_commands.specs.Options.{early_refusal}
 use Rattle.key_commands.specs.Random.{random_size, salt_in, master_key_in}
 use Rattle.key_commands.specs.Usable.{IsUsable}
 
--- the disk is flushed, the sector of the metadata is written, and the disk is flushed
+-- the metadata in the last sector are replaced
 abbrev pub init_events : DiskState → Metadata → List Event
-init_events disk m = Flush ∷ store_events disk (encoded m)
+init_events disk m = replace_events disk m
 
 -- nothing is refused, the random bytes are taken, and the metadata are those that are made of them, which are of use: the
 -- user key of these components opens them to the master key among the random bytes
@@ -38,14 +38,14 @@ pub record MakesMetadata (options : InitOptions) (parts : Components) (sectors :
 pub record Writes (options : InitOptions) (parts : Components) (disk : DiskState) (entropy : EntropyState) (m : Metadata) (disk' : DiskState) (entropy' : EntropyState) : Type 0 where
   pub makes : MakesMetadata options parts disk.size entropy m entropy'
   pub logs : Logs (init_events disk m) disk disk'
-  pub kept : KeepsOldOr (encoded m) (last_sector disk) disk.content disk'.content
+  pub kept : KeepsOldOr (IsSectorOf m) (last_sector disk) disk.content disk'.content
 
 -- the metadata were made, and the disk failed after a part of the events
 pub record WritesPart (options : InitOptions) (parts : Components) (disk : DiskState) (entropy : EntropyState) (disk' : DiskState) (entropy' : EntropyState) : Type 0 where
   pub m : Metadata
   pub makes : MakesMetadata options parts disk.size entropy m entropy'
   pub fails : FailsIn (init_events disk m) disk disk'
-  pub kept : KeepsOldOr (encoded m) (last_sector disk) disk.content disk'.content
+  pub kept : KeepsOldOr (IsSectorOf m) (last_sector disk) disk.content disk'.content
 
 -- there were no random bytes, and the disk is as it was
 pub record HasNoRandom (options : InitOptions) (parts : Components) (disk : DiskState) (entropy : EntropyState) (disk' : DiskState) (entropy' : EntropyState) : Type 0 where

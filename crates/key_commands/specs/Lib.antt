@@ -1,6 +1,9 @@
+pub mod DeleteKeys
 pub mod Init
-pub mod Kept
+pub mod NewKey
 pub mod NewMetadata
 pub mod Options
+pub mod Overwriting
 pub mod Random
+pub mod SetKey
 pub mod Usable

@@ -2,7 +2,7 @@
 use Rattle.std.specs.Prelude.{ℕ, ◌+◌, ◌*◌, List, ◌++◌, Bool, true, false}
 use Rattle.eli_base.specs.Algorithms.{auth_number, cipher_number}
 use Rattle.eli_base.specs.declared.Auth.{Auth}
-use Rattle.eli_base.specs.declared.Auth.TheVariants.{Off, Sha256}
+use Rattle.eli_base.specs.declared.Auth.TheVariants.{Off}
 use Rattle.eli_metadata.specs.declared.Metadata.{Metadata}
 use Rattle.key_slots.specs.Slots.{wrapped}
 use Rattle.key_commands.specs.declared.options.InitOptions.{InitOptions}
@@ -11,7 +11,7 @@ use Rattle.key_commands.specs.Random.{salt_in, master_key_in, filler_in}
 -- G_ELI_FLAG_AUTH
 abbrev pub auth_flag : Auth → ℕ
 auth_flag Off = 0
-auth_flag Sha256 = 0x10
+auth_flag _ = 0x10
 
 -- G_ELI_FLAG_AUTORESIZE
 abbrev pub autoresize_flag : Bool → ℕ

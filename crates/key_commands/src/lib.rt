@@ -1,15 +1,28 @@
 //! The commands that change the keys of a GELI provider in its metadata (geli(8)).
 //!
-//! `init` makes a new provider of a disk. No call takes memory.
+//! `init` makes a new provider of a disk, `setkey` puts a new key into a slot, and `delkey` takes keys out. No
+//! call takes memory.
 #![tactic(auto)]
 
+mod delete_keys;
+#[cfg(test)]
+mod key_tests;
 mod laws;
 mod options;
+mod overwriting;
 mod provider;
 mod random;
+mod set_key;
+mod storing;
 #[cfg(test)]
 mod tests;
 
-pub use laws::{new_metadata_are_accepted, new_slot_opens};
+pub use delete_keys::delkey;
+pub use laws::{
+    cleared_slot_opens_no_more, iterations_stay_for_the_other_key, new_metadata_are_accepted,
+    new_slot_opens, other_key_is_made_again,
+};
 pub use options::InitOptions;
+pub use overwriting::Which;
 pub use provider::init;
+pub use set_key::setkey;

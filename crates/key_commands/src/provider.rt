@@ -1,18 +1,16 @@
 //! A new provider.
 
-ghost use Rattle.std.specs.Prelude.{◌≡◌, ◌<◌, ◌≤◌, ◌^◌, ◌+◌, ◌++◌, Ok, OnOk, OnErr, length, take};
-ghost use Rattle.block_traits.specs.Disk.{FailsIn, Logs};
+ghost use Rattle.std.specs.Prelude.{◌≡◌, ◌<◌, ◌≤◌, ◌^◌, ◌+◌, ◌++◌, length, take};
 ghost use Rattle.block_traits.specs.Streams.{entropy_of};
-ghost use Rattle.eli_metadata.specs.Format.{encoded, metadata_in};
-ghost use Rattle.key_commands.specs.Init.{Inits, init_events};
+ghost use Rattle.key_commands.specs.Init.{Inits};
 ghost use Rattle.key_commands.specs.NewMetadata.{auth_flag, autoresize_flag, metadata_of};
 ghost use Rattle.key_slots.specs.Slots.{IsKeyBits, Opens, wrapped};
 
 use crate::options::{InitOptions, VERSION, check};
 use crate::random::{RandomParts, draw};
-use block_traits::{Disk, DiskFailed, Entropy, store_last};
+use block_traits::{Disk, Entropy};
 use eli_base::{Auth, Refusal};
-use eli_metadata::{Metadata, encode};
+use eli_metadata::{Metadata, replace_metadata};
 use key_slots::wrap;
 use user_key::{Components, UserKey, derive};
 
@@ -21,7 +19,7 @@ fn flags(options: &InitOptions) -> u32
 {
     let auth = match options.auth {
         Auth::Off => 0,
-        Auth::Sha256 => 0x10,
+        Auth::Sha256 | Auth::Sha384 | Auth::Sha512 => 0x10,
     };
     let autoresize = if options.autoresize { 0x200 } else { 0 };
     auth + autoresize
@@ -65,19 +63,6 @@ fn metadata_of(options: &InitOptions, sectors: u64, random: &RandomParts, key: &
     }
 }
 
-// Puts metadata in the place of what the last sector has. What was written before lasts first.
-fn replace_last<D: Disk>(disk: &mut D, meta: &Metadata) -> Result<(), DiskFailed>
-    requires { 0 < (D.state disk.old).size }
-    ensures read { meta.now.version ≡ 7 → metadata_in (encoded meta.now) ≡ Ok meta.now }
-    ensures ok { OnOk result (Logs (init_events (D.state disk.old) meta.now) (D.state disk.old) (D.state disk.new)) }
-    ensures err { OnErr result (FailsIn (init_events (D.state disk.old) meta.now) (D.state disk.old) (D.state disk.new)) }
-{
-    let mut sector = [0; 512];
-    encode(meta, &mut sector);
-    disk.flush()?;
-    store_last(disk, &sector)
-}
-
 /// Makes a new provider of a disk: its last sector gets new metadata, with a new master key that the user
 /// key of these components opens in slot 0. Answers the metadata.
 ///
@@ -108,7 +93,7 @@ pub fn init<D: Disk, E: Entropy>(
         unreachable!();
     };
     let meta = metadata_of(options, sectors, &random, &key);
-    match replace_last(disk, &meta) {
+    match replace_metadata(disk, &meta) {
         Ok(()) => Ok(meta),
         Err(_) => Err(Refusal::DeviceFault),
     }

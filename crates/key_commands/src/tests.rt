@@ -25,7 +25,7 @@ struct SectorCase {
 
 // With the key file 0x00 to 0x3f, by Python's hashlib, hmac and cryptography; the SHA-256 of the first is that of
 // another implementation of GELI.
-const SECTOR_CASES: [SectorCase; 2] = [
+const SECTOR_CASES: [SectorCase; 3] = [
     SectorCase {
         options: OPTIONS,
         passphrase: Some(b"abc"),
@@ -63,6 +63,28 @@ const SECTOR_CASES: [SectorCase; 2] = [
             555555555555555555555555555555555555555555555555555555555555555555555555555555555555555555555555\
             555555555555555555555555555555d5d685c0d60b11efabd3d37fc5bff11100",
     },
+    SectorCase {
+        options: InitOptions {
+            cipher: Cipher::AesCbc,
+            auth: Auth::Sha512,
+            keylen: 192,
+            sectorsize: 4096,
+            iterations: -1,
+            autoresize: false,
+        },
+        passphrase: None,
+        sector: "47454f4d3a3a454c490000000000000007000000100000000b00c000140000001000000000000010000001ffffffff80\
+            8182838485868788898a8b8c8d8e8f909192939495969798999a9b9c9d9e9fa0a1a2a3a4a5a6a7a8a9aaabacadaeafb0\
+            b1b2b3b4b5b6b7b8b9babbbcbdbebf7517b915616df8b7514e057cf5a2500c4139bc65fdf639b9df4eaee5a62bf5c8a2\
+            480229ee0835700879142f6ba9c3380ac48c0cd0caf45d687d06c09cce8cde9ffc9f583296a3b75e3360328f30c1e632\
+            297fd0b61b691b6718fa6cf88070d9554df8045b73a2765a9f6909dd262c6d3a0bac8c27cd7fbd16221bf1793f0d8dbb\
+            7b6eecfbce29786c201d003d1423b533f9086f38a96373a28fbe9ab9fdf859b025529ba86d9008d3e7a9ff633034e134\
+            2906aba700b1ae764e4431989a4caf555555555555555555555555555555555555555555555555555555555555555555\
+            555555555555555555555555555555555555555555555555555555555555555555555555555555555555555555555555\
+            555555555555555555555555555555555555555555555555555555555555555555555555555555555555555555555555\
+            555555555555555555555555555555555555555555555555555555555555555555555555555555555555555555555555\
+            555555555555555555555555555555ec258ea0399f0e25b1d2c625c3c5abc200",
+    },
 ];
 
 // The salt 0x80 to 0xbf, the master key 0x00 to 0x7f and filler of 0x55.
@@ -79,7 +101,7 @@ fn random_bytes() -> [u8; 384] {
 }
 
 // The key file 0x00 to 0x3f, and this passphrase.
-fn components(alloc: Global, passphrase: Option<&[u8]>) -> Result<Components, AllocError> {
+pub fn components(alloc: Global, passphrase: Option<&[u8]>) -> Result<Components, AllocError> {
     let mut keyfile = [0; 64];
     for (i, byte) in keyfile.iter_mut().enumerate() {
         *byte = (i % 64) as u8;

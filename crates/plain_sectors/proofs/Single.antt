@@ -9,13 +9,13 @@ use Rattle.eli_base.specs.Algorithms.{allows_length}
 use Rattle.eli_base.specs.Keying.{Keying}
 use Rattle.aes_core.specs.Schedule.{IsKeyLength}
 use Rattle.hmac_kdf.proofs.Lengths.{length-hmac512}
-use Rattle.range_keys.specs.Keys.{base_key, range_key, first_key, second_key, tweak}
+use Rattle.range_keys.specs.Keys.{range_key, first_key, second_key, tweak}
 use Rattle.sealing.specs.Parts.{parts}
 use Rattle.sealing.specs.Runs.{sealed_by, opened_by}
 use Rattle.sealing.specs.Sectors.{units, seal, reading}
 use Rattle.sealing.proofs.Plain.{units_fill, seal-plain, reading-plain}
+use Rattle.sealing.proofs.Runs.{length-xts_seal, length-xts_open}
 use Rattle.xts_mode.specs.Xts.{xts_seal, xts_open}
-use Rattle.plain_sectors.proofs.Lengths.{length-xts_seal, length-xts_open}
 
 -- a keying with AES-XTS, no authentication, and sectors of 512 bytes
 pub record IsSingle (k : Keying) : Type 0 where
@@ -30,7 +30,7 @@ bits_of_xts keylen h = grind (arith, common_steps)
 first_key_long : (k : Keying) (offset : ℕ) → IsSingle k → IsKeyLength (length (first_key k offset))
 first_key_long k offset single =
     let allowed : IsTrue (allows_length AesXts k.keylen) = let P : Cipher → Type 0 = λ c. IsTrue (allows_length c k.keylen) in subst P single.xts single.allowed in
-    let range : length (range_key k offset) ≡ 64 = length-hmac512 (base_key k.auth k.master) _ in
+    let range : length (range_key k offset) ≡ 64 = length-hmac512 _ _ in
     elim (bits_of_xts k.keylen allowed) [
       | inl e ↦ inl (length-take-le (k.keylen / 8) (range_key k offset) (omega arith) ∙ omega arith)
       | inr e ↦ inr (inr (length-take-le (k.keylen / 8) (range_key k offset) (omega arith) ∙ omega arith))
@@ -46,7 +46,7 @@ reads_alone k number sector single len =
     let size = single.size in
     let run = ap (λ (c : Cipher). opened_by c k offset sector) single.xts in
     let long = length-xts_open (first_key k offset) (second_key k offset) (tweak offset) sector (first_key_long k offset single) (omega arith) in
-    reading-plain k number offset (sector ∷ []) sector _ single.off (omega arith) (at_place k number single) (append-nil sector) run (omega arith)
+    reading-plain k number offset (sector ∷ []) sector _ single.off (omega arith) (omega arith) (at_place k number single) (append-nil sector) run (omega arith)
 
 pub sealed_alone : (k : Keying) (number : ℕ) (sector : List ℕ) → IsSingle k → length sector ≡ 512
     → seal k number sector ≡ xts_seal (first_key k (number * 512)) (second_key k (number * 512)) (tweak (number * 512)) sector ∷ []
@@ -54,7 +54,7 @@ sealed_alone k number sector single len =
     let offset : ℕ = number * 512 in
     let size = single.size in
     let run = ap (λ (c : Cipher). sealed_by c k offset sector) single.xts in
-    let fill = units_fill k single.off (omega arith) in
+    let fill = units_fill k single.off (omega arith) (omega arith) in
     let one : units k ≡ 1 = omega arith in
     let cipher_text : List ℕ = xts_seal (first_key k offset) (second_key k offset) (tweak offset) sector in
     let long = length-xts_seal (first_key k offset) (second_key k offset) (tweak offset) sector (first_key_long k offset single) (omega arith) in

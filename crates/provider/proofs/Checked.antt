@@ -1,9 +1,12 @@
 -- What is known of metadata that were checked, and let through by the gates.
-use Rattle.std.proofs.Common.{◌≡◌, ℕ, ◌*◌, ◌==◌, Bool, true, false, cond, Option, Some, None, Result, Ok, Err, refl, sym, ap, ◌∙◌, nat_lt, ◌^◌}
+use Rattle.std.proofs.Common.{◌≡◌, ℕ, ◌*◌, ◌==◌, Bool, true, false, cond, Option, Some, None, Result, Ok, Err, IsTrue, arith, refl, sym, ap, ◌∙◌, nat_lt, ◌^◌}
 use Rattle.std.proofs.lemmas.Bool.{eqb-true}
+use Rattle.std.proofs.lemmas.Grind.{common_steps}
 use Rattle.eli_base.specs.declared.algorithms.Auth.{Auth}
 use Rattle.eli_base.specs.declared.algorithms.Cipher.{Cipher}
+use Rattle.eli_base.specs.declared.algorithms.Cipher.TheVariants.{AesCbc, AesXts}
 use Rattle.eli_base.specs.Algorithms.{allows_length}
+use Rattle.key_slots.specs.Slots.{IsKeyBits}
 use Rattle.eli_base.specs.declared.parameters.MasterKey.{MasterKey}
 use Rattle.eli_base.specs.declared.parameters.Params.{Params}
 use Rattle.eli_base.specs.Keying.{Keying, keying_of}
@@ -13,6 +16,11 @@ use Rattle.eli_metadata.specs.Check.{Settings, settings_of, supported, check_cip
 use Rattle.eli_metadata.specs.declared.metadata.Metadata.{Metadata}
 use Rattle.eli_metadata.specs.declared.metadata.MetaFault.{MetaFault}
 use Rattle.eli_metadata.specs.declared.metadata.MetaFault.TheVariants.{BadSize}
+
+-- a key of a length that a cipher allows has the bits of one that slots are wrapped with
+pub bits_allowed : (cipher : Cipher) (bits : ℕ) → IsTrue (allows_length cipher bits) → IsKeyBits bits
+bits_allowed AesCbc bits allowed = grind (arith, common_steps)
+bits_allowed AesXts bits allowed = grind (arith, common_steps)
 
 -- what the settings that were checked have of the metadata
 pub record IsSaid (m : Metadata) (s : Settings) : Type 0 where

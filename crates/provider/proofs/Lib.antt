@@ -1,6 +1,8 @@
 pub mod Cuts
 pub mod Ranges
 pub mod Readings
+pub mod UnitLists
+pub mod FirstFaults
 pub mod Events
 pub mod Checked
 pub mod Sealed

@@ -1,5 +1,5 @@
 -- Where logical sectors stand on the disk.
-use Rattle.std.proofs.Common.{◌≡◌, ℕ, ◌+◌, ◌*◌, ◌/◌, ◌^◌, ◌<◌, ◌≤◌, sym, ap, ◌∙◌, arith}
+use Rattle.std.proofs.Common.{◌≡◌, ℕ, ◌+◌, ◌-◌, ◌*◌, ◌/◌, ◌%◌, ◌^◌, ◌<◌, ◌≤◌, sym, ap, ◌∙◌, arith}
 use Rattle.std.proofs.Math.Nat.{mul-le-mul_right, mul-le-mul_left, div-mul-le_self, mul-one}
 use Rattle.eli_base.specs.declared.algorithms.Auth.{Auth}
 use Rattle.eli_base.specs.declared.algorithms.Auth.TheVariants.{Off}
@@ -8,8 +8,10 @@ use Rattle.eli_base.specs.Units.{units_per_sector}
 use Rattle.sealing.specs.Sectors.{units}
 
 -- how many device sectors stand in so many bytes of one logical sector
-pub units-off : (k : Keying) (size : ℕ) → k.auth ≡ Off → size ≡ k.sectorsize → size / 512 ≡ units k
-units-off k size off same = ap (λ (n : ℕ). n / 512) same ∙ sym (ap (λ (a : Auth). units_per_sector a k.sectorsize) off)
+pub units-off : (k : Keying) (size : ℕ) → k.auth ≡ Off → size ≡ k.sectorsize → 0 < size → k.sectorsize % 512 ≡ 0 → size / 512 ≡ units k
+units-off k size off same some whole =
+    let counted : size / 512 ≡ (k.sectorsize - 1) / 512 + 1 = omega arith in
+    counted ∙ sym (ap (λ (a : Auth). units_per_sector a k.sectorsize) off)
 
 -- the bytes of one of some logical sectors have their place among the bytes of them all
 pub bytes_inside : (len size i : ℕ) → i < len / size → i * size + size ≤ len

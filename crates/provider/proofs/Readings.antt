@@ -33,11 +33,11 @@ sector_readings-suc k c n (suc count) =
     ∙ ap (λ (m : ℕ). sector_readings k c (n + 1) count ++ sector_reading k c m ∷ []) at)
 
 -- the bytes behind the first ones
-before-ok : (front : List ℕ) (r : Result (List ℕ) ℕ) (all : List ℕ) → before front r ≡ Ok all → (rest : List ℕ) × (r ≡ Ok rest) × (front ++ rest ≡ all)
+pub before-ok : (front : List ℕ) (r : Result (List ℕ) ℕ) (all : List ℕ) → before front r ≡ Ok all → (rest : List ℕ) × (r ≡ Ok rest) × (front ++ rest ≡ all)
 before-ok front (Ok rest) all h = (rest, refl, cc)
 before-ok front (Err offset) all h = absurd cc
 
-joined-push : (readings : List (Result (List ℕ) ℕ)) (all last : List ℕ) → joined readings ≡ Ok all → joined (readings ++ Ok last ∷ []) ≡ Ok (all ++ last)
+pub joined-push : (readings : List (Result (List ℕ) ℕ)) (all last : List ℕ) → joined readings ≡ Ok all → joined (readings ++ Ok last ∷ []) ≡ Ok (all ++ last)
 joined-push [] all last h = let none : [] ≡ all = cc in ap Ok (append-nil last ∙ ap (λ (l : List ℕ). l ++ last) none)
 joined-push (Ok front ∷ readings) all last h =
     let parts = before-ok front (joined readings) all h in

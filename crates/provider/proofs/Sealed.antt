@@ -1,5 +1,5 @@
 -- One logical sector without authentication, at its place on the disk.
-use Rattle.std.proofs.Common.{◌≡◌, ℕ, ◌*◌, ◌/◌, ◌<◌, List, length, sym, ap, ◌∙◌, Option, Some, None, Ok, IfSome}
+use Rattle.std.proofs.Common.{◌≡◌, ℕ, ◌*◌, ◌/◌, ◌%◌, ◌<◌, List, length, sym, ap, ◌∙◌, Option, Some, None, Ok, IfSome}
 use Rattle.std.proofs.Math.Nat.{mul-div_cancel}
 use Rattle.block_traits.specs.Content.{Content}
 use Rattle.eli_base.specs.declared.algorithms.Auth.TheVariants.{Off}
@@ -15,24 +15,24 @@ number_at : (sector size : ℕ) (k : Keying) → size ≡ k.sectorsize → 0 < s
 number_at sector size k same some = ap (λ (s : ℕ). sector * size / s) (sym same) ∙ mul-div_cancel sector some
 
 -- what is written are the writes of the sector
-pub sector_writes-is : (k : Keying) (sector size : ℕ) (bytes plain block : List ℕ) → k.auth ≡ Off → size ≡ k.sectorsize → 0 < size → plain ≡ bytes
+pub sector_writes-is : (k : Keying) (sector size : ℕ) (bytes plain block : List ℕ) → k.auth ≡ Off → size ≡ k.sectorsize → 0 < size → k.sectorsize % 512 ≡ 0 → plain ≡ bytes
     → seal k (sector * size / k.sectorsize) plain ≡ device_sectors k block → length block ≡ size
     → writes_from (sector * (size / 512)) (parts 512 (length block / 512) block) ≡ sector_writes k sector bytes
-sector_writes-is k sector size bytes plain block off same some is sealed long =
-    let count : size / 512 ≡ units k = units-off k size off same in
+sector_writes-is k sector size bytes plain block off same some whole is sealed long =
+    let count : size / 512 ≡ units k = units-off k size off same some whole in
     let all : length block / 512 ≡ units k = ap (λ (n : ℕ). n / 512) long ∙ count in
     let out : parts 512 (length block / 512) block ≡ seal k sector bytes =
     ap (λ (n : ℕ). parts 512 n block) all ∙ sym sealed ∙ (λ i. seal k (number_at sector size k same some i) (is i)) in
     λ i. writes_from (sector * count i) (out i)
 
 -- what is read is the reading of the sector
-pub sector_reading-is : (told : Option Content) (k : Keying) (sector size : ℕ) (sealed block : List ℕ) → k.auth ≡ Off → size ≡ k.sectorsize → 0 < size
+pub sector_reading-is : (told : Option Content) (k : Keying) (sector size : ℕ) (sealed block : List ℕ) → k.auth ≡ Off → size ≡ k.sectorsize → 0 < size → k.sectorsize % 512 ≡ 0
     → StandFrom told (sector * (size / 512)) (size / 512) (parts 512 (size / 512) sealed)
     → reading k (sector * size / k.sectorsize) (device_sectors k sealed) ≡ Ok block
     → IfSome told (λ c. sector_reading k c sector ≡ Ok block)
-sector_reading-is None k sector size sealed block off same some stand opened = tt
-sector_reading-is (Some c) k sector size sealed block off same some stand opened =
-    let count : size / 512 ≡ units k = units-off k size off same in
+sector_reading-is None k sector size sealed block off same some whole stand opened = tt
+sector_reading-is (Some c) k sector size sealed block off same some whole stand opened =
+    let count : size / 512 ≡ units k = units-off k size off same some whole in
     let there : standing c (sector * units k) (units k) ≡ device_sectors k sealed =
     (λ i. standing c (sector * sym count i) (sym count i)) ∙ sym stand ∙ ap (λ (n : ℕ). parts 512 n sealed) count in
     (λ i. reading k (sym (number_at sector size k same some) i) (there i)) ∙ opened

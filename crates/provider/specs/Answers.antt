@@ -90,17 +90,24 @@ pub record IsRead (k : Keying) (r : Request) (bytes : List ℕ) (old new : DiskS
   pub logs : Logs [] old new
   pub reads : ReadsAs old k r.sector r.count (Ok bytes)
 
+-- a unit has another tag than its cipher text: nothing was logged, and it is the first of the request that has, at this
+-- byte offset of the device
+pub record FindsFault (k : Keying) (r : Request) (offset : ℕ) (old new : DiskState) : Type 0 where
+  pub in_range : IsInRange r
+  pub logs : Logs [] old new
+  pub reads : ReadsAs old k r.sector r.count (Err offset)
+
 -- a device call failed: nothing was logged
 pub record FailsRead (r : Request) (old new : DiskState) : Type 0 where
   pub in_range : IsInRange r
   pub fails : FailsIn [] old new
 
--- what a read answers, where there is no authentication, and so no tag that may differ
+-- what a read answers
 abbrev pub ReadAnswers : {D : Type 0} → (D → DiskState) → Request → List ℕ → Attached D → Attached D → Result (Unit {0}) ReadFault → Type 0
 ReadAnswers state r bytes old new (Ok done) = IsRead old.keying r bytes (state old.disk) (state new.disk)
 ReadAnswers state r bytes old new (Err (read.OutOfRange sector count media)) = PassesEnd r sector count media × (new ≡ old)
 ReadAnswers state r bytes old new (Err read.DeviceFault) = FailsRead r (state old.disk) (state new.disk)
-ReadAnswers state r bytes old new (Err (read.Integrity offset)) = ⊥
+ReadAnswers state r bytes old new (Err (read.Integrity offset)) = FindsFault old.keying r offset (state old.disk) (state new.disk)
 
 -- the request was served: exactly the writes of the sealed sectors were logged
 pub record IsWritten (k : Keying) (r : Request) (bytes : List ℕ) (old new : DiskState) : Type 0 where

@@ -1,12 +1,13 @@
 //! An attached GELI provider over any disk: what is written is sealed sector by sector, and what is read is
 //! opened (geli(8); g_eli.c).
 //!
-//! There is no authentication yet. No call after `attach` takes memory.
+//! Data may be authenticated or not. No call after `attach` takes memory.
 #![tactic(auto)]
 
 mod attaching;
 mod faults;
 mod laws;
+mod pieces;
 mod provider;
 mod runs;
 #[cfg(test)]

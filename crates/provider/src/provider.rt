@@ -1,7 +1,6 @@
 // A disk that is read and written under a keying.
 ghost use Rattle.std.specs.Prelude.{◌≡◌, ℕ, ◌+◌, ◌*◌, ◌/◌, ◌%◌, ◌<◌, ◌≤◌, ◌↔◌, ◌∷◌, [], List, IsTrue, OnOk, OnErr, length, replicate};
 ghost use Rattle.block_traits.specs.Disk.{DiskState, FailsIn, Logs};
-ghost use Rattle.eli_base.specs.declared.algorithms.Auth.TheVariants.{Off};
 ghost use Rattle.eli_base.specs.Units.{media_sectors};
 ghost use Rattle.eli_metadata.specs.Check.{settings_of, size_matches, slot_matches, supported};
 ghost use Rattle.provider.specs.Answers.{AttachAnswers, Means, ReadAnswers, Target, WriteAnswers, request};
@@ -12,7 +11,7 @@ use crate::attaching::{opened, reserve};
 use crate::runs::{read_run, write_run};
 use crate::{AttachFault, ReadFault, WriteFault};
 use block_traits::{Disk, DiskFailed, Event, MetaPlace, Sector, load_last, store_last};
-use eli_base::{Geometry, MasterKey, Params};
+use eli_base::{Auth, Geometry, MasterKey, Params};
 use eli_metadata::Metadata;
 use range_keys::KeyRing;
 use std::alloc::Global;
@@ -20,11 +19,11 @@ use std::marker::Model;
 use user_key::UserKey;
 
 // The logical sectors that a disk has room for, beside the metadata.
-fn media_on<D: Disk>(disk: &D, sectorsize: u32) -> u64
+fn media_on<D: Disk>(disk: &D, auth: Auth, sectorsize: u32) -> u64
     requires { 512 ≤ sectorsize }
-    ensures { result ≡ media_sectors Off sectorsize (512 * (D.state disk.now).size) }
+    ensures { result ≡ media_sectors auth sectorsize (512 * (D.state disk.now).size) }
 {
-    let units = u64::from(sectorsize) / 512;
+    let units = (u64::from(sectorsize) - 1) / auth.data_bytes() as u64 + 1;
     (512 * disk.sectors()).saturating_sub(512) / (512 * units)
 }
 
@@ -53,7 +52,6 @@ pub struct Provider<D: Drop> {
 
 impl<D: Drop> Model for Provider<D> {
     ghost use Rattle.std.specs.Prelude.{◌≡◌, vec_len};
-    ghost use Rattle.eli_base.specs.declared.algorithms.Auth.TheVariants.{Off};
     ghost use Rattle.eli_base.specs.Keying.{keying_of};
     ghost use Rattle.provider.specs.Attached.{Attached};
 
@@ -61,15 +59,14 @@ impl<D: Drop> Model for Provider<D> {
 
     ghost view = { λ p. record { disk = p.disk; keying = p.ring.keying; slot = p.slot; readonly = p.readonly } };
 
-    ghost invariant = { λ p. (p.ring.keying ≡ keying_of p.params p.master) × (p.params.auth ≡ Off) × (vec_len p.buffer ≡ p.params.sectorsize) };
+    ghost invariant = { λ p. (p.ring.keying ≡ keying_of p.params p.master) × (vec_len p.buffer ≡ p.params.sectorsize) };
 }
 
 impl<D: Disk> Provider<D> {
     /// Attaches the provider on this disk, whose metadata are `meta`: with the master key of the slot that is named, or
     /// else of the first slot that `key` opens. It is only read where `readonly` or the metadata say so.
     ///
-    /// `params` are those that `check` gave of the metadata, and both gates let this disk and this slot through. There is
-    /// no authentication yet.
+    /// `params` are those that `check` gave of the metadata, and both gates let this disk and this slot through.
     ///
     /// The disk comes back with the fault. In this order: `TooSmall`, exactly where the disk has no whole logical sector;
     /// `WrongKey`, exactly where no slot that is asked for opens; `NoMemory`. No call of the disk is made. The memory of
@@ -86,7 +83,6 @@ impl<D: Disk> Provider<D> {
         requires checked { supported meta.now ≡ Ok (settings_of params.now) }
         requires size { size_matches meta.now (D.state disk).size ≡ Ok tt }
         requires slot { slot_matches meta.now slot ≡ Ok tt }
-        requires off { params.now.auth ≡ Off }
         ensures { let target : Target = record { meta = meta.now; params = params.now; disk = D.state disk } in
             let means : Means = record { key = key.now.bytes; named = slot; readonly = readonly } in
             AttachAnswers target means disk result }
@@ -126,7 +122,7 @@ impl<D: Disk> Provider<D> {
     pub fn sectors(&self) -> u64
         ensures { result ≡ media self.now.keying (D.state self.now.disk) }
     {
-        media_on(&self.disk, self.params.sectorsize)
+        media_on(&self.disk, self.params.auth, self.params.sectorsize)
     }
 
     /// The number of the slot that gave the master key.
@@ -153,8 +149,9 @@ impl<D: Disk> Provider<D> {
     /// Reads logical sectors from number `sector` on into `into`, whose length is a positive multiple of the sector
     /// size.
     ///
-    /// `OutOfRange` comes exactly where the request passes the end, and then no call of the disk is made; `DeviceFault`
-    /// only where the device failed. After a refusal `into` is all zeros.
+    /// `OutOfRange` comes exactly where the request passes the end, and then no call of the disk is made. Then, sector by
+    /// sector and unit by unit, `DeviceFault` comes only where the device failed, and `Integrity` exactly where a unit's
+    /// tag isn't that of its cipher text, at the unit's byte offset on the device. After a refusal `into` is all zeros.
     pub fn read(&mut self, sector: u64, into: &mut [u8]) -> Result<(), ReadFault>
         requires some { 0 < length into.old }
         requires whole { length into.old % self.old.keying.sectorsize ≡ 0 }
@@ -186,10 +183,7 @@ impl<D: Disk> Provider<D> {
                 media,
             });
         }
-        if read_run(&mut self.ring, &mut self.disk, sector, size, into).is_err() {
-            return Err(ReadFault::DeviceFault);
-        }
-        Ok(())
+        read_run(&mut self.ring, &mut self.disk, sector, size, into)
     }
 
     /// Writes logical sectors from number `sector` on, whose plain bytes are `from`; its length is a positive multiple of

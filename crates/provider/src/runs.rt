@@ -1,18 +1,22 @@
-// Logical sectors one after the other, opened and sealed.
+// Logical sectors one after the other, opened and sealed, with authentication and without.
 ghost use Rattle.std.specs.Prelude.{◌≡◌, ℕ, ◌+◌, ◌*◌, ◌/◌, ◌%◌, ◌≤◌, [], OnOk, OnErr, IfSome, length};
 ghost use Rattle.block_traits.specs.Disk.{DiskState, FailsIn, Logs};
 ghost use Rattle.eli_base.specs.declared.algorithms.Auth.TheVariants.{Off};
 ghost use Rattle.sealing.specs.Sectors.{units};
-ghost use Rattle.provider.specs.Reading.{ReadsAs, sector_reading};
+ghost use Rattle.provider.specs.Reading.{sector_reading};
+ghost use Rattle.provider.specs.Reads.{RunAnswers, SectorAnswers};
 ghost use Rattle.provider.specs.Writing.{data_writes, sector_writes};
 
+use crate::ReadFault;
+use crate::pieces::{read_pieces, write_pieces};
 use crate::units::{read_units, write_units};
 use block_traits::{Disk, DiskFailed};
+use eli_base::Auth;
 use plain_sectors::{open_plain, seal_plain};
 use range_keys::KeyRing;
 
-// Reads one logical sector.
-fn read_sector<D: Disk>(
+// Reads one logical sector without authentication.
+fn read_whole<D: Disk>(
     ring: &mut KeyRing,
     disk: &mut D,
     sector: u64,
@@ -33,6 +37,27 @@ fn read_sector<D: Disk>(
     Ok(())
 }
 
+// Reads one logical sector.
+fn read_sector<D: Disk>(
+    ring: &mut KeyRing,
+    disk: &mut D,
+    sector: u64,
+    block: &mut [u8],
+) -> Result<(), ReadFault>
+    requires size { length block.old ≡ ring.old.keying.sectorsize }
+    requires inside { sector * units ring.old.keying + units ring.old.keying ≤ (D.state disk.old).size }
+    ensures answer { SectorAnswers ring.old.keying sector (D.state disk.old) (D.state disk.new) block.new result }
+    ensures keying { ring.new.keying ≡ ring.old.keying }
+{
+    if ring.auth() != Auth::Off {
+        return read_pieces(ring, disk, sector, block);
+    }
+    match read_whole(ring, disk, sector, block) {
+        Ok(()) => Ok(()),
+        Err(_) => Err(ReadFault::DeviceFault),
+    }
+}
+
 // Reads logical sectors of `size` bytes, the first of number `sector`.
 pub fn read_run<D: Disk>(
     ring: &mut KeyRing,
@@ -40,26 +65,26 @@ pub fn read_run<D: Disk>(
     sector: u64,
     size: usize,
     into: &mut [u8],
-) -> Result<(), DiskFailed>
-    requires off { ring.old.keying.auth ≡ Off }
+) -> Result<(), ReadFault>
     requires size { size ≡ ring.old.keying.sectorsize }
     requires whole { length into.old % size ≡ 0 }
     requires inside { (sector + length into.old / size) * units ring.old.keying ≤ (D.state disk.old).size }
-    ensures reads { OnOk result (ReadsAs (D.state disk.old) ring.old.keying sector (length into.old / size) (Ok into.new)) }
-    ensures ok { OnOk result (Logs [] (D.state disk.old) (D.state disk.new)) }
-    ensures err { OnErr result (FailsIn [] (D.state disk.old) (D.state disk.new)) }
+    ensures answer { RunAnswers ring.old.keying sector (length into.old / size) (D.state disk.old) (D.state disk.new) into.new result }
     ensures keying { ring.new.keying ≡ ring.old.keying }
 {
     ring.is_of_a_keying();
     for i in 0..into.len() / size {
         let block = &mut into[i * size..i * size + size];
-        read_sector(ring, disk, sector + i as u64, block)?;
+        match read_sector(ring, disk, sector + i as u64, block) {
+            Ok(()) => {}
+            Err(fault) => return Err(fault),
+        }
     }
     Ok(())
 }
 
-// Writes one logical sector, which is sealed in `buffer`.
-fn write_sector<D: Disk>(
+// Writes one logical sector without authentication, which is sealed in `buffer`.
+fn write_whole<D: Disk>(
     ring: &mut KeyRing,
     disk: &mut D,
     sector: u64,
@@ -81,6 +106,27 @@ fn write_sector<D: Disk>(
     write_units(disk, sector * (size / 512), buffer)
 }
 
+// Writes one logical sector. Without authentication it is sealed in `buffer`, which has its size.
+fn write_sector<D: Disk>(
+    ring: &mut KeyRing,
+    disk: &mut D,
+    sector: u64,
+    from: &[u8],
+    buffer: &mut [u8],
+) -> Result<(), DiskFailed>
+    requires size { length from.now ≡ ring.old.keying.sectorsize }
+    requires buffer { length buffer.old ≡ length from.now }
+    requires inside { sector * units ring.old.keying + units ring.old.keying ≤ (D.state disk.old).size }
+    ensures ok { OnOk result (Logs (sector_writes ring.old.keying sector from.now) (D.state disk.old) (D.state disk.new)) }
+    ensures err { OnErr result (FailsIn (sector_writes ring.old.keying sector from.now) (D.state disk.old) (D.state disk.new)) }
+    ensures keying { ring.new.keying ≡ ring.old.keying }
+{
+    if ring.auth() != Auth::Off {
+        return write_pieces(ring, disk, sector, from);
+    }
+    write_whole(ring, disk, sector, from, buffer)
+}
+
 // Writes logical sectors in ascending order, each of the size of `buffer`, in which it is sealed.
 pub fn write_run<D: Disk>(
     ring: &mut KeyRing,
@@ -89,7 +135,6 @@ pub fn write_run<D: Disk>(
     from: &[u8],
     buffer: &mut [u8],
 ) -> Result<(), DiskFailed>
-    requires off { ring.old.keying.auth ≡ Off }
     requires buffer { length buffer.old ≡ ring.old.keying.sectorsize }
     requires whole { length from.now % length buffer.old ≡ 0 }
     requires inside { (sector + length from.now / length buffer.old) * units ring.old.keying ≤ (D.state disk.old).size }

@@ -2,7 +2,7 @@
 use crate::{Provider, ReadFault, WriteFault};
 use block_traits::{Disk, Event, MetaPlace};
 use crash_disk::{CallKind, FailAt, MemDisk};
-use eli_base::{Auth, MasterKey};
+use eli_base::MasterKey;
 use eli_metadata::{Metadata, check, encode, read_metadata, size_gate, slot_gate};
 use key_slots::{put_slot, wrap};
 use sha2::{Digest, Sha256};
@@ -112,7 +112,7 @@ fn attached(
     readonly: bool,
 ) -> Provider<MemDisk> {
     let params = check(meta).expect(rt, "the metadata are good");
-    assert!(rt; params.auth == Auth::Off && disk.sectors() < 1 << 44);
+    assert!(rt; disk.sectors() < 1 << 44);
     size_gate(meta, disk.sectors()).expect(rt, "the size is the disk's");
     slot_gate(meta, None).expect(rt, "a slot is set");
     Provider::attach(alloc, disk, meta, &params, &KEY, None, readonly)
@@ -314,6 +314,161 @@ fn images_by_another_program(rt: HostRuntime) -> Result<(), Fail> {
         let len = 2 * row.sectorsize as usize;
         assert!(rt; len <= plain.len());
         check_row(&rt, alloc, row, &plain[..len])?;
+    }
+    Ok(())
+}
+
+// The number of an authentication and of a cipher, the bytes of a logical sector, its device sectors, and the digest of an
+// image of three logical sectors, of which the second and the third are written, as tools/tagged_images.py prints it.
+const TAGGED: [(u16, u16, u32, u64, &str); 12] = [
+    (
+        18,
+        AES_XTS,
+        512,
+        2,
+        "5ddd82cd9797aca9ab0674d37f761c4daffea5394fabd4eec5cfd93d3ebdfa15",
+    ),
+    (
+        18,
+        AES_XTS,
+        4096,
+        9,
+        "324c6132498322b59bdf27f9f9c66541529786362b882c4f82a2025d4fca9a3b",
+    ),
+    (
+        18,
+        AES_CBC,
+        512,
+        2,
+        "954e67dff40ee45131c2e4aa98bd87128fc97d3ef3e4f6a4a22bfa5f3b9f1d8b",
+    ),
+    (
+        18,
+        AES_CBC,
+        4096,
+        9,
+        "fdf79c169ee03363c06c636010e7c272f54e874a8fb63965a77ba5c1bc99e620",
+    ),
+    (
+        19,
+        AES_XTS,
+        512,
+        2,
+        "cf721f1d50c7975c1095069de33f7a32140412c470a1f330011ac746ae5d2d39",
+    ),
+    (
+        19,
+        AES_XTS,
+        4096,
+        9,
+        "8f62f2578bb09bd60c091f1e970b7fb6e700fb543ce662f78d12e3f7260bb5b3",
+    ),
+    (
+        19,
+        AES_CBC,
+        512,
+        2,
+        "a03c4ac5b01baf89ba2729b90465e16269c1d88fba321667f11bd50dc5ff0eaa",
+    ),
+    (
+        19,
+        AES_CBC,
+        4096,
+        9,
+        "25c15263d59c916d14e09485286404ee86806c97cf5078565e16498e6f9967e7",
+    ),
+    (
+        20,
+        AES_XTS,
+        512,
+        2,
+        "00f991e936d25b10dd7d595cf10f1f66976e11202c926e05f143b347b8502d3e",
+    ),
+    (
+        20,
+        AES_XTS,
+        4096,
+        10,
+        "42a8c45c23e395686b14c13456c13a97de6e973c4efae4adb7c3ba465f4d2307",
+    ),
+    (
+        20,
+        AES_CBC,
+        512,
+        2,
+        "b9ecb4a65bcae22d04ae2cf3f68bf059183d94aa1d7211470aa15c58b29536f2",
+    ),
+    (
+        20,
+        AES_CBC,
+        4096,
+        10,
+        "bdf77c25f8287125d600e60df279bd60b48fcc63fe7728a663a617ad330659aa",
+    ),
+];
+
+// Metadata with this authentication.
+fn tagged(aalgo: u16, ealgo: u16, sectorsize: u32, provsize: u64) -> Metadata {
+    let mut meta = metadata(ealgo, sectorsize, provsize);
+    meta.flags = 0x10;
+    meta.aalgo = aalgo;
+    meta
+}
+
+#[test]
+fn tagged_images_by_another_program(rt: HostRuntime) -> Result<(), Fail> {
+    let alloc = rt.alloc();
+    let mut plain = vec![in alloc; 0u8; 8192]?;
+    fill(&mut plain);
+    for (aalgo, ealgo, sectorsize, units, expected) in TAGGED {
+        let len = 2 * sectorsize as usize;
+        assert!(rt; len <= plain.len() && units < 1000);
+        let meta = tagged(aalgo, ealgo, sectorsize, 512 * (3 * units + 1));
+        let disk = MemDisk::new(alloc, 3 * units + 1, 3 * units)?;
+        let mut provider = attached(&rt, alloc, disk, &meta, false);
+        assert_eq!(rt; provider.sectors(), 3);
+        assert_eq!(rt; write(&rt, &mut provider, 1, &plain[..len]), Ok(()));
+        let mut disk = provider.withdraw();
+        let digest = hex::encode(alloc, digest_of(&rt, &mut disk, 3 * units))?;
+        assert_eq!(rt; digest.as_str(), expected, "{aalgo} {ealgo} {sectorsize}");
+        let mut provider = attached(&rt, alloc, disk, &meta, true);
+        let mut into = vec![in alloc; 0u8; len]?;
+        assert_eq!(rt; read(&rt, &mut provider, 1, &mut into), Ok(()));
+        assert!(rt; into.as_slice() == &plain[..len]);
+    }
+    Ok(())
+}
+
+// A fresh disk of 2,048 device sectors with sectors of 4,096 bytes: how many it has, and the device sectors of the last.
+#[test]
+fn fresh_tagged_disks(rt: HostRuntime) -> Result<(), Fail> {
+    let alloc = rt.alloc();
+    for (aalgo, sectors, first, units) in [
+        (18, 227, 2034, 9),
+        (19, 227, 2034, 9),
+        (20, 204, 2030, 10),
+    ] {
+        let meta = tagged(aalgo, AES_XTS, 4096, 1_048_576);
+        let disk = MemDisk::new(alloc, 2048, 16)?;
+        let mut provider = attached(&rt, alloc, disk, &meta, false);
+        assert_eq!(rt; provider.sectors(), sectors);
+        let mut into = [9; 4096];
+        assert_eq!(rt;
+            read(&rt, &mut provider, 0, &mut into),
+            Err(ReadFault::Integrity { offset: 0 })
+        );
+        assert!(rt; into == [0; 4096]);
+        assert_eq!(rt; write(&rt, &mut provider, sectors - 1, &[7; 4096]), Ok(()));
+        let mut two = [9; 8192];
+        assert_eq!(rt;
+            read(&rt, &mut provider, sectors - 2, &mut two),
+            Err(ReadFault::Integrity {
+                offset: 512 * (first - units)
+            })
+        );
+        let disk = provider.withdraw();
+        assert!(rt; disk.history().len() as u64 == units);
+        assert!(rt; matches!(disk.history().first(), Some(Event::Write { n, .. }) if *n == first));
     }
     Ok(())
 }

@@ -1,10 +1,10 @@
 -- The keys under which the data of a GELI provider is enciphered, each by the byte offset on the device of what is
 -- enciphered (g_eli.h, g_eli_key.c, g_eli_key_cache.c and g_eli_crypto.c; geli(8)).
-use Rattle.std.specs.Prelude.{ℕ, ◌/◌, ◌^◌, List, [], ◌∷◌, ◌++◌, take, drop, codes}
+use Rattle.std.specs.Prelude.{ℕ, ◌/◌, ◌^◌, List, [], ◌∷◌, ◌++◌, take, drop, codes, nat_lt, if◌then◌else◌}
 use Rattle.std.specs.Int.{w64, to_le_bytes}
 use Rattle.sha2.specs.Sha256.{sha256}
 use Rattle.eli_base.specs.declared.algorithms.Auth.{Auth}
-use Rattle.eli_base.specs.declared.algorithms.Auth.TheVariants.{Off, Sha256}
+use Rattle.eli_base.specs.declared.algorithms.Auth.TheVariants.{Off}
 use Rattle.eli_base.specs.declared.algorithms.Cipher.{Cipher}
 use Rattle.eli_base.specs.declared.algorithms.Cipher.TheVariants.{AesCbc, AesXts}
 use Rattle.eli_base.specs.Keying.{Keying}
@@ -24,10 +24,14 @@ iv_key master = take 64 master
 abbrev pub data_key : List ℕ → List ℕ
 data_key master = drop 64 master
 
--- the key of which range keys are made
+-- the base key: Data-Key, or with authentication a code under it
 abbrev pub base_key : Auth → List ℕ → List ℕ
 base_key Off master = data_key master
-base_key Sha256 master = hmac512 (data_key master) (0x10 ∷ [])
+base_key _ master = hmac512 (data_key master) (0x10 ∷ [])
+
+-- the key of which range keys are made: the base key, and IV-Key where the metadata's version is below 7
+abbrev pub range_base : ℕ → Auth → List ℕ → List ℕ
+range_base version auth master = if nat_lt version 7 then iv_key master else base_key auth master
 
 -- the authentication key, of which tag keys are made
 abbrev pub auth_key : List ℕ → List ℕ
@@ -38,7 +42,7 @@ auth_key master = hmac512 (data_key master) (0x11 ∷ [])
 -- the block size by which offsets are numbered: the logical sector, or with authentication the device sector
 abbrev pub numbered_block : Auth → ℕ → ℕ
 numbered_block Off sectorsize = sectorsize
-numbered_block Sha256 sectorsize = 512
+numbered_block _ sectorsize = 512
 
 -- the key number of an offset: there is one range key for every 2 ^ 20 blocks
 abbrev pub key_number : Keying → ℕ → ℕ
@@ -46,7 +50,7 @@ key_number k offset = offset / 2 ^ 20 / numbered_block k.auth k.sectorsize
 
 -- the range key of an offset: 64 bytes
 abbrev pub range_key : Keying → ℕ → List ℕ
-range_key k offset = hmac512 (base_key k.auth k.master) (codes "ekey" ++ le64 (key_number k offset))
+range_key k offset = hmac512 (range_base k.version k.auth k.master) (codes "ekey" ++ le64 (key_number k offset))
 
 -- the bytes of a key of so many bits
 abbrev pub key_bytes : ℕ → ℕ

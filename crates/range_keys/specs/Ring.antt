@@ -5,7 +5,9 @@ use Rattle.eli_base.specs.Keying.{Keying}
 use Rattle.eli_base.specs.SectorSize.{is_sector_size}
 use Rattle.eli_base.specs.declared.parameters.MasterKey.{MasterKey}
 use Rattle.eli_base.specs.declared.parameters.Params.{Params}
-use Rattle.range_keys.specs.Keys.{base_key, auth_key}
+use Rattle.range_keys.specs.Keys.{range_base, iv_key, auth_key}
+use Rattle.sha2.specs.Hashers.{Holds256}
+use Rattle.sha2.specs.declared.Sha256.{Sha256}
 
 -- a ring, which gives the keys of one keying
 pub record Ring : Type 0 where
@@ -19,7 +21,9 @@ pub record IsKeying (k : Keying) : Type 0 where
   pub at_most : k.sectorsize ≤ 65536
   pub whole : k.sectorsize % 512 ≡ 0
 
--- these are the keys that are made once of this master key, under these parameters
-pub record IsRing (params : Params) (master : MasterKey) (ranges tags : List ℕ) : Type 0 where
-  pub base : ranges ≡ base_key params.auth master.bytes
-  pub auth : tags ≡ auth_key master.bytes
+-- this is the key of which range keys are made, of this master key under these parameters, and these hashers hold the bytes with
+-- which whatever initial vectors and tag keys are hashed of begins
+pub record IsRing (params : Params) (master : MasterKey) (base : List ℕ) (of_vectors of_tags : Sha256) : Type 0 where
+  pub ranges : base ≡ range_base params.version params.auth master.bytes
+  pub vectors : Holds256 of_vectors (iv_key master.bytes)
+  pub tags : Holds256 of_tags (auth_key master.bytes)

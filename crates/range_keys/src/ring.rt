@@ -5,10 +5,11 @@ ghost use Rattle.eli_base.specs.Keying.{keying_of};
 ghost use Rattle.range_keys.specs.Keys.{first_part, second_part, numbered_block, first_key, second_key, iv, tag_key};
 ghost use Rattle.range_keys.specs.Ring.{IsKeying};
 
-use crate::derivation::{auth_key, base_key, digest_at, range_key};
+use crate::derivation::{auth_key, digest_at, iv_key, range_base, range_key};
 use aes_core::Schedule;
 use block_traits::NoMemory;
 use eli_base::{Auth, Cipher, MasterKey, Params};
+use sha2::{Digest, Sha256};
 use std::alloc::Global;
 use std::marker::Model;
 
@@ -42,7 +43,7 @@ fn numbered_block(params: &Params) -> u64
 {
     match params.auth {
         Auth::Off => u64::from(params.sectorsize),
-        Auth::Sha256 => 512,
+        Auth::Sha256 | Auth::Sha384 | Auth::Sha512 => 512,
     }
 }
 
@@ -53,9 +54,12 @@ fn numbered_block(params: &Params) -> u64
 pub struct KeyRing {
     params: Params,
     master: MasterKey,
-    // The two keys that are made of the master key once.
-    base_key: [u8; 64],
-    auth_key: [u8; 64],
+    // The key of which range keys are made.
+    range_base: [u8; 64],
+    // What initial vectors and the keys of tags are hashed of begins with 64 bytes that are the same at every offset, a
+    // whole block of SHA-256. These hold them, so that they are hashed once.
+    vectors: Sha256,
+    tags: Sha256,
 }
 
 impl Model for KeyRing {
@@ -66,7 +70,7 @@ impl Model for KeyRing {
 
     ghost view = { λ ring. record { keying = keying_of ring.params ring.master } };
 
-    ghost invariant = { λ ring. IsRing ring.params ring.master ring.base_key ring.auth_key };
+    ghost invariant = { λ ring. IsRing ring.params ring.master ring.range_base ring.vectors ring.tags };
 }
 
 impl KeyRing {
@@ -77,8 +81,9 @@ impl KeyRing {
         Ok(KeyRing {
             params: *params,
             master: *master,
-            base_key: base_key(params.auth, master),
-            auth_key: auth_key(master),
+            range_base: range_base(params.version, params.auth, master),
+            vectors: Sha256::new_with_prefix(iv_key(master)),
+            tags: Sha256::new_with_prefix(auth_key(master)),
         })
     }
 
@@ -89,7 +94,7 @@ impl KeyRing {
         ensures keying { self.new.keying ≡ self.old.keying }
     {
         let number = (offset >> 20) / numbered_block(&self.params);
-        let range = range_key(&self.base_key, number);
+        let range = range_key(&self.range_base, number);
         expanded(self.params.cipher, self.params.keylen, &range)
     }
 
@@ -97,7 +102,7 @@ impl KeyRing {
     pub fn iv_at(&self, offset: u64) -> [u8; 16]
         ensures { result ≡ iv self.now.keying offset }
     {
-        let digest = digest_at(&self.master.bytes[..64], offset);
+        let digest = digest_at(&self.vectors, offset);
         let mut vector = [0u8; 16];
         vector.copy_from_slice(&digest[..16]);
         vector
@@ -108,7 +113,7 @@ impl KeyRing {
         requires { self.now.keying.auth ≢ Auth.Off }
         ensures { result ≡ tag_key self.now.keying offset }
     {
-        digest_at(&self.auth_key, offset)
+        digest_at(&self.tags, offset)
     }
 
     /// The cipher of the provider's data.

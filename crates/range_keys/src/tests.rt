@@ -47,9 +47,31 @@ const TAGGED_1_BACK: [u128; 2] = [
     0x4f7b35b668bc67c63b06dd2f75c2424d,
 ];
 
+// Those of metadata below version 7, whatever the authentication: by Python's hmac of IV-Key.
+const OLD_0_FRONT: [u128; 2] = [
+    0x013f5e8a32eb1c2faf41c3c8ed6e7215,
+    0xf65636379c36428e8198e1b1b0d7b869,
+];
+
+const OLD_0_BACK: [u128; 2] = [
+    0x20f39f073fc2bfd3b609252031283195,
+    0x6a8f6d7a8f653dd84075993eb9a65818,
+];
+
+const OLD_1_FRONT: [u128; 2] = [
+    0x0289a5dad44bfff8c7604fb45cdf853b,
+    0xb0b44f929c6d7a6566b2c7a3e0bf59aa,
+];
+
+const OLD_1_BACK: [u128; 2] = [
+    0x0b173d3700aaffa8a9b3b139338280b9,
+    0xba8e018f70ef2303be93e17d6d8a80eb,
+];
+
 // Where the keys of AES with 256 bits are asked for, and which they are.
 #[derive(Drop)]
 struct Place {
+    version: u32,
     auth: Auth,
     cipher: Cipher,
     sectorsize: u32,
@@ -60,6 +82,7 @@ struct Place {
 
 const PLACES: [Place; 6] = [
     Place {
+        version: 7,
         auth: Auth::Off,
         cipher: Cipher::AesXts,
         sectorsize: 512,
@@ -68,6 +91,7 @@ const PLACES: [Place; 6] = [
         second: PLAIN_0_BACK,
     },
     Place {
+        version: 7,
         auth: Auth::Off,
         cipher: Cipher::AesXts,
         sectorsize: 512,
@@ -76,6 +100,7 @@ const PLACES: [Place; 6] = [
         second: PLAIN_0_BACK,
     },
     Place {
+        version: 7,
         auth: Auth::Off,
         cipher: Cipher::AesXts,
         sectorsize: 512,
@@ -84,6 +109,7 @@ const PLACES: [Place; 6] = [
         second: PLAIN_1_BACK,
     },
     Place {
+        version: 7,
         auth: Auth::Off,
         cipher: Cipher::AesXts,
         sectorsize: 4096,
@@ -92,6 +118,7 @@ const PLACES: [Place; 6] = [
         second: PLAIN_0_BACK,
     },
     Place {
+        version: 7,
         auth: Auth::Off,
         cipher: Cipher::AesXts,
         sectorsize: 4096,
@@ -100,6 +127,7 @@ const PLACES: [Place; 6] = [
         second: PLAIN_1_BACK,
     },
     Place {
+        version: 7,
         auth: Auth::Off,
         cipher: Cipher::AesCbc,
         sectorsize: 512,
@@ -133,7 +161,15 @@ fn expected(key: [u128; 2]) -> Result<[u8; 16], Fail> {
 
 fn check_place(rt: &impl Abort, alloc: Global, place: &Place) -> Result<(), Fail> {
     assert!(rt; place.cipher.allows(256) && sector_size_ok(place.sectorsize));
-    let params = Params::new(7, place.auth, place.cipher, 256, place.sectorsize, 0, false);
+    let params = Params::new(
+        place.version,
+        place.auth,
+        place.cipher,
+        256,
+        place.sectorsize,
+        0,
+        false,
+    );
     let mut ring = KeyRing::new(alloc, &master(), &params)?;
     let keys = ring.key_at(place.offset);
     assert_eq!(rt;
@@ -159,18 +195,50 @@ fn range_keys_by_offset(rt: HostRuntime) -> Result<(), Fail> {
     Ok(())
 }
 
+const AUTHENTICATIONS: [Auth; 3] = [Auth::Sha256, Auth::Sha384, Auth::Sha512];
+
 // With authentication offsets are numbered by device sectors, whatever the logical sector: number 1 begins at 2^29.
 #[test]
 fn numbers_with_authentication(rt: HostRuntime) -> Result<(), Fail> {
-    for sectorsize in [512, 1024, 2048, 4096, 8192, 16384, 32768, 65536] {
+    for auth in AUTHENTICATIONS {
+        for sectorsize in [512, 1024, 2048, 4096, 8192, 16384, 32768, 65536] {
+            for (offset, first, second) in [
+                (536870400, TAGGED_0_FRONT, TAGGED_0_BACK),
+                (536870912, TAGGED_1_FRONT, TAGGED_1_BACK),
+            ] {
+                let place = Place {
+                    version: 7,
+                    auth,
+                    cipher: Cipher::AesXts,
+                    sectorsize,
+                    offset,
+                    first,
+                    second,
+                };
+                check_place(&rt, rt.alloc(), &place)?;
+            }
+        }
+    }
+    Ok(())
+}
+
+#[test]
+fn range_keys_of_older_versions(rt: HostRuntime) -> Result<(), Fail> {
+    for (version, auth) in [
+        (5, Auth::Off),
+        (6, Auth::Off),
+        (6, Auth::Sha256),
+        (6, Auth::Sha512),
+    ] {
         for (offset, first, second) in [
-            (536870400, TAGGED_0_FRONT, TAGGED_0_BACK),
-            (536870912, TAGGED_1_FRONT, TAGGED_1_BACK),
+            (0, OLD_0_FRONT, OLD_0_BACK),
+            (536870912, OLD_1_FRONT, OLD_1_BACK),
         ] {
             let place = Place {
-                auth: Auth::Sha256,
+                version,
+                auth,
                 cipher: Cipher::AesXts,
-                sectorsize,
+                sectorsize: 512,
                 offset,
                 first,
                 second,
@@ -209,7 +277,7 @@ const VECTORS: [Vector; 2] = [
 ];
 
 fn check_vector(rt: &impl Abort, ring: &KeyRing, vector: &Vector) {
-    assert!(rt; ring.auth() == Auth::Sha256);
+    assert!(rt; ring.auth() != Auth::Off);
     let tag_key = ring.tag_key_at(vector.offset);
     let mut expected = [0u8; 32];
     expected[..16].copy_from_slice(&vector.tag_key[0].to_be_bytes());
@@ -221,11 +289,13 @@ fn check_vector(rt: &impl Abort, ring: &KeyRing, vector: &Vector) {
 #[test]
 fn vectors_and_tag_keys(rt: HostRuntime) -> Result<(), Fail> {
     assert!(rt; Cipher::AesCbc.allows(192) && sector_size_ok(4096));
-    let params = Params::new(7, Auth::Sha256, Cipher::AesCbc, 192, 4096, 0, false);
-    let ring = KeyRing::new(rt.alloc(), &master(), &params)?;
-    assert!(rt; ring.cipher() == Cipher::AesCbc);
-    for vector in &VECTORS {
-        check_vector(&rt, &ring, vector);
+    for auth in AUTHENTICATIONS {
+        let params = Params::new(7, auth, Cipher::AesCbc, 192, 4096, 0, false);
+        let ring = KeyRing::new(rt.alloc(), &master(), &params)?;
+        assert!(rt; ring.cipher() == Cipher::AesCbc);
+        for vector in &VECTORS {
+            check_vector(&rt, &ring, vector);
+        }
     }
     Ok(())
 }

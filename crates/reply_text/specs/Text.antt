@@ -1,5 +1,5 @@
 -- The text of each reply.
-use Rattle.std.specs.Prelude.{ℕ, List, [], ◌∷◌, ◌++◌, map, codes}
+use Rattle.std.specs.Prelude.{ℕ, ◌≤◌, List, [], ◌∷◌, ◌++◌, length, take, map, if◌then◌else◌, codes}
 use Rattle.std.specs.List.{concat}
 use Rattle.std.specs.Fmt.{decimal, signed_decimal, digits}
 use Rattle.std.specs.Prelude.{false}
@@ -11,7 +11,8 @@ use Rattle.eli_base.specs.declared.Refusal.TheVariants as refusals
 use Rattle.eli_base.specs.Refusal.{number_of}
 use Rattle.eli_metadata.specs.declared.Metadata.{Metadata}
 use Rattle.reply_text.specs.declared.reply.Reply.{Reply}
-use Rattle.reply_text.specs.declared.reply.Reply.TheVariants.{Done, Dump, Refused}
+use Rattle.reply_text.specs.declared.reply.Reply.TheVariants.{Done, Payload, Digest, Rows, Dump, Refused}
+use Rattle.reply_text.specs.declared.rows.Row.{Row}
 
 -- a label, a value and a newline
 unfoldable pub line : List ℕ → List ℕ → List ℕ
@@ -144,7 +145,35 @@ key_lines m =
 abbrev pub dump_text : Metadata → List ℕ
 dump_text m = format_lines m ++ size_lines m ++ key_lines m ++ codes "ok\n"
 
-abbrev pub reply_text : Reply → List ℕ
-reply_text Done = codes "ok\n"
-reply_text (Dump meta) = dump_text meta
-reply_text (Refused refusal) = refusal_text refusal
+-- `ok `, bytes in lower-case hexadecimal, and a newline
+abbrev pub bytes_text : List ℕ → List ℕ
+bytes_text bytes = codes "ok " ++ encode_lower bytes ++ (10 ∷ [])
+
+-- what a drawer is: idle, or attached with the bytes of a logical sector and how many of them it has
+abbrev pub row_state : Row → List ℕ
+row_state row = if row.attached then codes " attached" ++ number_fields (row.sectorsize ∷ row.sectors ∷ []) else codes " idle"
+
+-- the name, the state and a newline
+abbrev pub row_text : Row → List ℕ
+row_text row = row.name ++ row_state row ++ (10 ∷ [])
+
+unfoldable pub row_lines : List Row → List ℕ
+row_lines rows = concat (map row_text rows)
+
+-- a line for each drawer, and `ok`
+abbrev pub list_text : List Row → List ℕ
+list_text rows = row_lines rows ++ codes "ok\n"
+
+-- whether the payload has the bytes of a reply
+abbrev pub HasPayload : Reply → List ℕ → Type 0
+HasPayload (Payload count) payload = count ≤ length payload
+HasPayload _ payload = Unit {0}
+
+-- the text of a reply, whose bytes are the first ones of the payload
+abbrev pub reply_text : Reply → List ℕ → List ℕ
+reply_text Done payload = codes "ok\n"
+reply_text (Payload count) payload = bytes_text (take count payload)
+reply_text (Digest digest) payload = bytes_text digest
+reply_text (Rows rows) payload = list_text rows
+reply_text (Dump meta) payload = dump_text meta
+reply_text (Refused refusal) payload = refusal_text refusal

@@ -1,11 +1,17 @@
 //! Replies and their texts: what the program prints for each command.
 #![tactic(auto)]
 
+mod bytes;
 mod dump;
 mod hexadecimal;
 mod names;
 mod print;
 mod reply;
+mod rows;
 
 pub use print::{WriteEnd, write_text};
 pub use reply::{Reply, write_reply};
+pub use rows::{Row, RowList};
+
+#[cfg(test)]
+mod tests;

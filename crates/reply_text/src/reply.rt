@@ -2,12 +2,14 @@
 ghost use Rattle.std.specs.Prelude.{◌≡◌};
 ghost use Rattle.block_traits.specs.Streams.{sink_of};
 ghost use Rattle.reply_text.specs.Output.{Prints};
-ghost use Rattle.reply_text.specs.Text.{reply_text, refusal_text, refusal_numbers, number_fields, reason_field, refusal_head, field};
+ghost use Rattle.reply_text.specs.Text.{HasPayload, reply_text, list_text, refusal_text, refusal_numbers, number_fields, reason_field, refusal_head, field};
 ghost use Rattle.std.specs.Fmt.{decimal};
 
+use crate::bytes::write_ok_bytes;
 use crate::dump::write_dump;
 use crate::names::{reason_name, refusal_name};
 use crate::print::write_pieces;
+use crate::rows::{Row, RowList, write_rows};
 use crate::{WriteEnd, write_text};
 use block_traits::Sink;
 use eli_base::Refusal;
@@ -15,10 +17,19 @@ use eli_metadata::Metadata;
 use itoa::Buffer;
 
 /// The answer to one command.
-#[derive(Clone, Copy, Debug, PartialEq, Eq)]
+#[derive(Debug, Drop)]
 pub enum Reply {
     /// It was done.
     Done,
+    /// It was done, and its answer is bytes: the first ones of the payload, so many.
+    Payload {
+        /// How many bytes.
+        length: u32,
+    },
+    /// A digest of bytes.
+    Digest([u8; 32]),
+    /// The drawers.
+    Rows(RowList),
     /// The metadata that was read.
     Dump(Metadata),
     /// It was refused.
@@ -27,14 +38,26 @@ pub enum Reply {
 
 /// Prints a reply. `WriteEnd` comes only where the sink's count of faults rose, and the sink then took
 /// the first bytes of the reply's text and no others. Takes no memory.
-pub fn write_reply<K: Sink>(reply: &Reply, output: &mut K) -> Result<(), WriteEnd>
-    ensures { Prints (reply_text reply.now) (sink_of K.taken K.faults output.old) result (sink_of K.taken K.faults output.new) }
+pub fn write_reply<K: Sink>(reply: &Reply, payload: &[u8], output: &mut K) -> Result<(), WriteEnd>
+    requires { HasPayload reply.now payload.now }
+    ensures { Prints (reply_text reply.now payload.now) (sink_of K.taken K.faults output.old) result (sink_of K.taken K.faults output.new) }
 {
     match reply {
         Reply::Done => write_text(b"ok\n", output),
+        Reply::Payload { length } => write_ok_bytes(&payload[..*length as usize], output),
+        Reply::Digest(digest) => write_ok_bytes(digest, output),
+        Reply::Rows(rows) => write_list(rows.as_slice(), output),
         Reply::Dump(meta) => write_dump(meta, output),
         Reply::Refused(refusal) => write_refusal(refusal, output),
     }
+}
+
+// The drawers and `ok`.
+fn write_list<K: Sink>(rows: &[Row], output: &mut K) -> Result<(), WriteEnd>
+    ensures { Prints (list_text rows.now) (sink_of K.taken K.faults output.old) result (sink_of K.taken K.faults output.new) }
+{
+    write_rows(rows, output)?;
+    write_text(b"ok\n", output)
 }
 
 fn write_refusal<K: Sink>(refusal: &Refusal, output: &mut K) -> Result<(), WriteEnd>
@@ -85,7 +108,7 @@ fn write_number_field<K: Sink>(number: u64, output: &mut K) -> Result<(), WriteE
     write_field(digits.format(number).as_bytes(), output)
 }
 
-fn write_numbers<K: Sink>(numbers: &[u64], output: &mut K) -> Result<(), WriteEnd>
+pub(crate) fn write_numbers<K: Sink>(numbers: &[u64], output: &mut K) -> Result<(), WriteEnd>
     ensures { Prints (number_fields numbers.now) (sink_of K.taken K.faults output.old) result (sink_of K.taken K.faults output.new) }
 {
     for number in numbers {

@@ -1,2 +1,6 @@
 pub mod PartLists
 pub mod Plain
+pub mod Keys
+pub mod Runs
+pub mod Pieces
+pub mod Sectors

@@ -1,18 +1,38 @@
 -- A list in parts is the list again, and so are parts that are read one after the other.
-use Rattle.std.proofs.Common.{◌≡◌, ℕ, zero, suc, ◌+◌, ◌*◌, List, [], ◌∷◌, ◌++◌, length, take, take-add, drop, map, Ok, refl, sym, ap, ◌∙◌, arith}
-use Rattle.std.proofs.lemmas.List.{take_all}
+use Rattle.std.proofs.Common.{◌≡◌, ℕ, zero, suc, ◌+◌, ◌*◌, ◌<◌, ◌≤◌, List, [], ◌∷◌, ◌++◌, length, get_or, take, take-add, drop, map, Ok, refl, sym, ap, ◌∙◌, arith}
+use Rattle.std.proofs.lemmas.List.{take_all, drop-drop, length-take-le, length-drop}
 use Rattle.std.specs.List.{concat}
 use Rattle.sealing.specs.Parts.{parts}
 use Rattle.sealing.specs.Sectors.{before, joined}
 
-concat-front : (n : ℕ) (bytes : List ℕ) → concat (parts 512 n bytes) ≡ take (512 * n) bytes
-concat-front zero bytes = refl
-concat-front (suc n) bytes =
-    let more : 512 + 512 * n ≡ 512 * suc n = omega arith in
-    ap (λ (l : List ℕ). take 512 bytes ++ l) (concat-front n (drop 512 bytes)) ∙ sym (take-add 512 (512 * n) bytes) ∙ ap (λ (m : ℕ). take m bytes) more
+-- part j of a list, where each part has so many bytes
+abbrev pub part : ℕ → ℕ → List ℕ → List ℕ
+part size j bytes = take size (drop (size * j) bytes)
 
-pub concat-parts : (n : ℕ) (bytes : List ℕ) → length bytes ≡ 512 * n → concat (parts 512 n bytes) ≡ bytes
-concat-parts n bytes len = concat-front n bytes ∙ take_all (512 * n) bytes (omega arith)
+pub length-parts : (size n : ℕ) (bytes : List ℕ) → length (parts size n bytes) ≡ n
+length-parts size zero bytes = refl
+length-parts size (suc n) bytes = ap suc (length-parts size n (drop size bytes))
+
+pub get_or-parts : (size n j : ℕ) (bytes : List ℕ) → j < n → get_or (parts size n bytes) j [] ≡ part size j bytes
+get_or-parts size zero j bytes lt = absurd (omega arith)
+get_or-parts size (suc n) zero bytes lt = let none : 0 ≡ size * 0 = omega arith in ap (λ (m : ℕ). take size (drop m bytes)) none
+get_or-parts size (suc n) (suc j) bytes lt =
+    let more : size + size * j ≡ size * suc j = omega arith in
+    get_or-parts size n j (drop size bytes) (omega arith)
+    ∙ ap (take size) (drop-drop (size * j) size bytes ∙ ap (λ (m : ℕ). drop m bytes) more)
+
+pub length-part : (size j : ℕ) (bytes : List ℕ) → size * j + size ≤ length bytes → length (part size j bytes) ≡ size
+length-part size j bytes fits = length-take-le size (drop (size * j) bytes) (omega (arith, length-drop (size * j) bytes))
+
+-- parts that reach to the end are the list again
+concat-front : (size n : ℕ) (bytes : List ℕ) → concat (parts size n bytes) ≡ take (size * n) bytes
+concat-front size zero bytes = let none : size * 0 ≡ 0 = omega arith in sym (ap (λ (m : ℕ). take m bytes) none)
+concat-front size (suc n) bytes =
+    let more : size + size * n ≡ size * suc n = omega arith in
+    ap (λ (l : List ℕ). take size bytes ++ l) (concat-front size n (drop size bytes)) ∙ sym (take-add size (size * n) bytes) ∙ ap (λ (m : ℕ). take m bytes) more
+
+pub concat-parts : (size n : ℕ) (bytes : List ℕ) → length bytes ≤ size * n → concat (parts size n bytes) ≡ bytes
+concat-parts size n bytes reach = concat-front size n bytes ∙ take_all (size * n) bytes reach
 
 -- units without a fault read as their bytes
 pub joined-ok : (units : List (List ℕ)) → joined (map Ok units) ≡ Ok (concat units)

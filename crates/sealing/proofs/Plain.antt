@@ -1,5 +1,5 @@
 -- Sealing and opening where there is no authentication.
-use Rattle.std.proofs.Common.{◌≡◌, ℕ, ◌*◌, ◌/◌, ◌%◌, List, length, Ok, sym, ap, ◌∙◌, arith, mul_comm}
+use Rattle.std.proofs.Common.{◌≡◌, ℕ, ◌+◌, ◌-◌, ◌*◌, ◌/◌, ◌%◌, ◌≤◌, List, length, Ok, sym, ap, ◌∙◌, arith, mul_comm}
 use Rattle.std.proofs.Math.Nat.{div-add-mod}
 use Rattle.std.specs.List.{concat}
 use Rattle.eli_base.specs.declared.algorithms.Auth.{Auth}
@@ -15,12 +15,16 @@ pub at_sector : (offset size : ℕ) → offset % size ≡ 0 → offset / size * 
 at_sector offset size even = mul_comm (offset / size) size ∙ omega (arith, div-add-mod offset size, even)
 
 -- the device sectors of a logical sector have its size
-pub units_fill : (k : Keying) → k.auth ≡ Off → k.sectorsize % 512 ≡ 0 → 512 * units k ≡ k.sectorsize
-units_fill k off whole = let n : units k ≡ k.sectorsize / 512 = ap (λ (a : Auth). units_per_sector a k.sectorsize) off in omega arith
+pub units_fill : (k : Keying) → k.auth ≡ Off → 512 ≤ k.sectorsize → k.sectorsize % 512 ≡ 0 → 512 * units k ≡ k.sectorsize
+units_fill k off low whole =
+    let n : units k ≡ (k.sectorsize - 1) / 512 + 1 = ap (λ (a : Auth). units_per_sector a k.sectorsize) off in
+    let size : 512 * ((k.sectorsize - 1) / 512 + 1) ≡ k.sectorsize = omega arith in
+    ap (λ (m : ℕ). 512 * m) n ∙ size
 
 -- bytes of a logical sector in its device sectors, one behind the other, are these bytes
-pub concat-device_sectors : (k : Keying) (bytes : List ℕ) → k.auth ≡ Off → k.sectorsize % 512 ≡ 0 → length bytes ≡ k.sectorsize → concat (device_sectors k bytes) ≡ bytes
-concat-device_sectors k bytes off whole len = concat-parts (units k) bytes (len ∙ sym (units_fill k off whole))
+pub concat-device_sectors : (k : Keying) (bytes : List ℕ) → k.auth ≡ Off → 512 ≤ k.sectorsize → k.sectorsize % 512 ≡ 0 → length bytes ≡ k.sectorsize
+    → concat (device_sectors k bytes) ≡ bytes
+concat-device_sectors k bytes off low whole len = let fill = units_fill k off low whole in concat-parts 512 (units k) bytes (omega (arith, fill, len))
 
 -- a sector is sealed as one run
 pub seal-plain : (k : Keying) (sector offset : ℕ) (bytes : List ℕ) → k.auth ≡ Off → sector * k.sectorsize ≡ offset → seal k sector bytes ≡ device_sectors k (sealed_run k offset bytes)
@@ -28,11 +32,11 @@ seal-plain k sector offset bytes off at =
     ap (λ (a : Auth). sealed_with a k sector bytes) off ∙ ap (λ (o : ℕ). device_sectors k (sealed_run k o bytes)) at
 
 -- and read as one
-pub reading-plain : (k : Keying) (sector offset : ℕ) (sectors : List (List ℕ)) (bytes plain : List ℕ) → k.auth ≡ Off → k.sectorsize % 512 ≡ 0 → sector * k.sectorsize ≡ offset
+pub reading-plain : (k : Keying) (sector offset : ℕ) (sectors : List (List ℕ)) (bytes plain : List ℕ) → k.auth ≡ Off → 512 ≤ k.sectorsize → k.sectorsize % 512 ≡ 0 → sector * k.sectorsize ≡ offset
     → concat sectors ≡ bytes → opened_run k offset bytes ≡ plain → length plain ≡ k.sectorsize → reading k sector sectors ≡ Ok plain
-reading-plain k sector offset sectors bytes plain off whole at whole_bytes is len =
+reading-plain k sector offset sectors bytes plain off low whole at whole_bytes is len =
     ap (λ (a : Auth). joined (opened_with a k sector sectors)) off
     ∙ joined-ok (device_sectors k (opened_run k (sector * k.sectorsize) (concat sectors)))
     ∙ (λ i. Ok (concat (device_sectors k (opened_run k (at i) (whole_bytes i)))))
     ∙ ap (λ (p : List ℕ). Ok (concat (device_sectors k p))) is
-    ∙ ap Ok (concat-device_sectors k plain off whole len)
+    ∙ ap Ok (concat-device_sectors k plain off low whole len)

@@ -1,34 +1,44 @@
--- An authenticated device sector: a tag of 32 bytes, cipher text, and zeros (geli(8), "DATA AUTHENTICATION";
--- g_eli_integrity.c). Each stands under the keys of its own byte offset.
-use Rattle.std.specs.Prelude.{ℕ, ◌-◌, List, ◌++◌, length, take, drop, replicate, Result, Ok, Err, if◌then◌else◌}
+-- An authenticated device sector: a tag, cipher text, and zeros (geli(8), "DATA AUTHENTICATION"; g_eli_integrity.c).
+-- Each stands under the keys of its own byte offset.
+use Rattle.std.specs.Prelude.{ℕ, ◌-◌, List, [], ◌++◌, length, take, drop, replicate, Result, Ok, Err, if◌then◌else◌}
 use Rattle.std.specs.Str.{bytes_eq}
+use Rattle.eli_base.specs.declared.algorithms.Auth.{Auth}
+use Rattle.eli_base.specs.declared.algorithms.Auth.TheVariants.{Off, Sha256, Sha384, Sha512}
 use Rattle.eli_base.specs.Keying.{Keying}
-use Rattle.hmac_kdf.specs.Hmac.{hmac256}
+use Rattle.eli_base.specs.Units.{tag_bytes, unit_bytes_of}
+use Rattle.hmac_kdf.specs.Hmac.{hmac256, hmac384, hmac512}
 use Rattle.range_keys.specs.Keys.{tag_key}
 use Rattle.sealing.specs.Runs.{sealed_run, opened_run}
 
+-- the code of a key and a message by which data is authenticated, and none without authentication
+abbrev pub hmac_of : Auth → List ℕ → List ℕ → List ℕ
+hmac_of Off key message = []
+hmac_of Sha256 key message = hmac256 key message
+hmac_of Sha384 key message = hmac384 key message
+hmac_of Sha512 key message = hmac512 key message
+
 -- the tag of cipher text
 abbrev pub tag_of : Keying → ℕ → List ℕ → List ℕ
-tag_of k offset cipher_text = hmac256 (tag_key k offset) cipher_text
+tag_of k offset cipher_text = hmac_of k.auth (tag_key k offset) cipher_text
 
 -- the device sector with this cipher text
 abbrev pub tagged : Keying → ℕ → List ℕ → List ℕ
-tagged k offset cipher_text = tag_of k offset cipher_text ++ cipher_text ++ replicate (480 - length cipher_text) 0
+tagged k offset cipher_text = tag_of k offset cipher_text ++ cipher_text ++ replicate (unit_bytes_of k.auth - length cipher_text) 0
 
 -- the device sector of a unit's plain bytes
 abbrev pub sealed_piece : Keying → ℕ → List ℕ → List ℕ
 sealed_piece k offset plain = tagged k offset (sealed_run k offset plain)
 
 -- the tag that a device sector has
-abbrev pub kept_tag : List ℕ → List ℕ
-kept_tag sector = take 32 sector
+abbrev pub kept_tag : Keying → List ℕ → List ℕ
+kept_tag k sector = take (tag_bytes k.auth) sector
 
 -- the cipher text of so many bytes that a device sector has; what is behind it isn't looked at
-abbrev pub cipher_text_in : ℕ → List ℕ → List ℕ
-cipher_text_in size sector = take size (drop 32 sector)
+abbrev pub cipher_text_in : Keying → ℕ → List ℕ → List ℕ
+cipher_text_in k size sector = take size (drop (tag_bytes k.auth) sector)
 
 -- the plain bytes of a unit of this size, or where the tag isn't that of its cipher text, a fault at its byte offset
 abbrev pub opened_piece : Keying → ℕ → ℕ → List ℕ → Result (List ℕ) ℕ
 opened_piece k offset size sector =
-    (if bytes_eq (kept_tag sector) (tag_of k offset (cipher_text_in size sector)) then Ok (opened_run k offset (cipher_text_in size sector))
+    (if bytes_eq (kept_tag k sector) (tag_of k offset (cipher_text_in k size sector)) then Ok (opened_run k offset (cipher_text_in k size sector))
     else Err offset)

@@ -1,9 +1,9 @@
 -- A logical sector as the device sectors that it stands in, and back (geli(8); g_eli_privacy.c, g_eli_integrity.c).
 -- Its units are the parts that stand in one device sector each.
-use Rattle.std.specs.Prelude.{ℕ, ◌+◌, ◌-◌, ◌*◌, List, [], ◌∷◌, ◌++◌, map, min, Result, Ok, Err}
+use Rattle.std.specs.Prelude.{ℕ, ◌+◌, ◌-◌, ◌*◌, ◌%◌, List, [], ◌∷◌, ◌++◌, map, min, Result, Ok, Err}
 use Rattle.std.specs.List.{concat}
 use Rattle.eli_base.specs.declared.algorithms.Auth.{Auth}
-use Rattle.eli_base.specs.declared.algorithms.Auth.TheVariants.{Off, Sha256}
+use Rattle.eli_base.specs.declared.algorithms.Auth.TheVariants.{Off}
 use Rattle.eli_base.specs.Keying.{Keying}
 use Rattle.eli_base.specs.Units.{units_per_sector, unit_bytes_of}
 use Rattle.sealing.specs.Parts.{parts}
@@ -37,7 +37,7 @@ sealed_pieces k offset (unit ∷ units) = sealed_piece k offset unit ∷ sealed_
 -- each unit is a run of its own, with a tag
 abbrev pub sealed_with : Auth → Keying → ℕ → List ℕ → List (List ℕ)
 sealed_with Off k sector bytes = device_sectors k (sealed_run k (sector * k.sectorsize) bytes)
-sealed_with Sha256 k sector bytes = sealed_pieces k (first_piece k sector) (units_in k bytes)
+sealed_with _ k sector bytes = sealed_pieces k (first_piece k sector) (units_in k bytes)
 
 -- the device sectors of a logical sector with these bytes
 abbrev pub seal : Keying → ℕ → List ℕ → List (List ℕ)
@@ -48,11 +48,12 @@ seal k sector bytes = sealed_with k.auth k sector bytes
 -- device sectors with authenticated units, the first at this byte offset, where so many plain bytes are left
 abbrev pub opened_pieces : Keying → ℕ → ℕ → List (List ℕ) → List (Result (List ℕ) ℕ)
 opened_pieces k offset left [] = []
-opened_pieces k offset left (sector ∷ sectors) = opened_piece k offset (min 480 left) sector ∷ opened_pieces k (offset + 512) (left - 480) sectors
+opened_pieces k offset left (sector ∷ sectors) =
+    opened_piece k offset (min (unit_bytes_of k.auth) left) sector ∷ opened_pieces k (offset + 512) (left - unit_bytes_of k.auth) sectors
 
 abbrev pub opened_with : Auth → Keying → ℕ → List (List ℕ) → List (Result (List ℕ) ℕ)
 opened_with Off k sector sectors = map Ok (parts 512 (units k) (opened_run k (sector * k.sectorsize) (concat sectors)))
-opened_with Sha256 k sector sectors = opened_pieces k (first_piece k sector) k.sectorsize sectors
+opened_with _ k sector sectors = opened_pieces k (first_piece k sector) k.sectorsize sectors
 
 -- what the units of a logical sector read as, from its device sectors: each its bytes, or a fault at its byte offset
 abbrev pub unit_readings : Keying → ℕ → List (List ℕ) → List (Result (List ℕ) ℕ)
@@ -72,3 +73,13 @@ joined (Err offset ∷ units) = Err offset
 -- what a logical sector reads as, from its device sectors
 abbrev pub reading : Keying → ℕ → List (List ℕ) → Result (List ℕ) ℕ
 reading k sector sectors = joined (unit_readings k sector sectors)
+
+-- ---- one device sector alone, with authentication
+
+-- the plain bytes of the piece in device sector n: those of a unit, or what is left in the last of a logical sector
+abbrev pub piece_size : Keying → ℕ → ℕ
+piece_size k n = min (unit_bytes_of k.auth) (k.sectorsize - unit_bytes_of k.auth * (n % units k))
+
+-- what it reads as there
+abbrev pub piece_reading : Keying → ℕ → List ℕ → Result (List ℕ) ℕ
+piece_reading k n sector = opened_piece k (512 * n) (piece_size k n) sector

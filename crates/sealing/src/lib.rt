@@ -1,15 +1,19 @@
 //! Sealing and opening: how the plain bytes of a logical sector of a GELI provider become device sectors, and
 //! what device sectors read as (geli(8)).
 //!
-//! The definitions stand in `specs/Sectors.antt`, for providers with authentication and without. The two calls
-//! encipher and decipher one run of cipher blocks at a byte offset, in place.
+//! The definitions stand in `specs/Sectors.antt`, for providers with each authentication and without. The two calls
+//! encipher and decipher one run of cipher blocks at a byte offset, in place. The laws have empty bodies: their
+//! contracts hold of every keying.
 #![tactic(auto)]
 
 ghost use Rattle.std.specs.Prelude.{◌≡◌, ◌%◌, length};
 ghost use Rattle.sealing.specs.Runs.{sealed_run, opened_run};
 
+mod laws;
+
 use cbc_mode::{cbc_open, cbc_seal};
 use eli_base::Cipher;
+pub use laws::{opening_undoes_sealing, sealed_sectors_are_whole, tagged_units_are_read_alone};
 use range_keys::KeyRing;
 use xts_mode::{xts_open, xts_seal};
 

@@ -1,3 +1,4 @@
 pub mod Opening
 pub mod Places
 pub mod Rows
+pub mod Serving

@@ -57,13 +57,14 @@ pub record Replies {A : Type 0} (reply_to : Result A Refusal → Reply) (Row : R
   pub row : Row old answer new
   pub replied : reply ≡ reply_to answer
 
--- the row of a command. Every `attach` that is read has `-C`.
+-- the row of a command. Every `attach` that is served has `-C`; commands that aren't built have no row.
 abbrev pub Serves : List ℕ → Command → Reach → Reply → Reach → Type 0
 Serves line (Dump prov) old reply new = Replies dump_or DumpRow old reply new
 Serves line (Init prov cipher auth keylen sectorsize iterations autoresize fresh backup) old reply new =
     let options : InitOptions = record { cipher = cipher; auth = auth; keylen = keylen; sectorsize = sectorsize; iterations = iterations_of fresh iterations; autoresize = autoresize } in
     Replies done_or (InitRow line options fresh backup) old reply new
 Serves line (Attach prov only_check readonly slot words) old reply new = Replies done_or (TryRow line slot words) old reply new
+Serves line _ old reply new = ⊥
 
 -- ---- the turn
 

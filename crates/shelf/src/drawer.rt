@@ -1,10 +1,12 @@
 // A named disk.
 ghost use Rattle.block_traits.specs.Cabinet.{cabinet_of};
 ghost use Rattle.block_traits.specs.Streams.{entropy_of};
+ghost use Rattle.command_words.specs.Built.{is_built};
 ghost use Rattle.command_words.specs.Places.{CommandIsWithin};
+ghost use Rattle.reply_text.specs.Text.{HasPayload};
 ghost use Rattle.shelf.specs.Turn.{Serves, done_or, dump_or};
 ghost use Rattle.shelf.specs.World.{reach_of};
-ghost use Rattle.std.specs.Prelude.{◌≡◌, length};
+ghost use Rattle.std.specs.Prelude.{◌≡◌, [], length, IsTrue};
 
 use crate::making::{init, iterations_of};
 use crate::reading::read_last;
@@ -37,11 +39,13 @@ impl<D: Disk> Drawer<D> {
         files: &mut C,
         entropy: &mut E,
     ) -> (Drawer<D>, Reply)
-        requires { CommandIsWithin (length line.now) command.now }
+        requires within { CommandIsWithin (length line.now) command.now }
+        requires built { IsTrue (is_built command.now) }
         ensures name { result.0.name ≡ self.name }
         ensures serves { Serves line.now command.now
             (reach_of (D.state self.disk) (cabinet_of C.files C.faults C.misses files.old) (entropy_of E.left E.faults entropy.old)) result.1
             (reach_of (D.state result.0.disk) (cabinet_of C.files C.faults C.misses files.new) (entropy_of E.left E.faults entropy.new)) }
+        ensures payload { HasPayload result.1 [] }
     {
         let mut place = LastSector::new(self.disk);
         let reply = serve(alloc, &mut place, line, command, files, entropy);
@@ -62,10 +66,12 @@ fn serve<D: Disk, C: Cabinet, E: Entropy>(
     files: &mut C,
     entropy: &mut E,
 ) -> Reply
-    requires { CommandIsWithin (length line.now) command.now }
-    ensures { Serves line.now command.now
+    requires within { CommandIsWithin (length line.now) command.now }
+    requires built { IsTrue (is_built command.now) }
+    ensures serves { Serves line.now command.now
         (reach_of (D.state place.old.disk) (cabinet_of C.files C.faults C.misses files.old) (entropy_of E.left E.faults entropy.old)) result
         (reach_of (D.state place.new.disk) (cabinet_of C.files C.faults C.misses files.new) (entropy_of E.left E.faults entropy.new)) }
+    ensures payload { HasPayload result [] }
 {
     match command {
         Command::Dump { .. } => dump_or(read_last(place)),
@@ -94,11 +100,13 @@ fn serve<D: Disk, C: Cabinet, E: Entropy>(
         Command::Attach { slot, old, .. } => {
             done_or(try_key(alloc, place, line, *slot, old, files))
         }
+        _ => unreachable!(),
     }
 }
 
 fn done_or(answer: Result<(), Refusal>) -> Reply
-    ensures { result ≡ done_or answer }
+    ensures reply { result ≡ done_or answer }
+    ensures payload { HasPayload result [] }
 {
     match answer {
         Ok(()) => Reply::Done,
@@ -107,7 +115,8 @@ fn done_or(answer: Result<(), Refusal>) -> Reply
 }
 
 fn dump_or(answer: Result<Metadata, Refusal>) -> Reply
-    ensures { result ≡ dump_or answer }
+    ensures reply { result ≡ dump_or answer }
+    ensures payload { HasPayload result [] }
 {
     match answer {
         Ok(meta) => Reply::Dump(meta),

@@ -1,9 +1,11 @@
 // The drawers in order of adding.
-ghost use Rattle.std.specs.Prelude.{◌≡◌, ◌<◌, ◌≤◌, ◌∷◌, ◌++◌, [], IfOk, IfSome, MatchResult, length, option_copied, vec_capacity, vec_len};
+ghost use Rattle.std.specs.Prelude.{◌≡◌, ◌<◌, ◌≤◌, ◌∷◌, ◌++◌, [], IfOk, IfSome, IsTrue, MatchResult, length, option_copied, vec_capacity, vec_len};
 ghost use Rattle.std.specs.List.{insert};
 ghost use Rattle.block_traits.specs.Cabinet.{cabinet_of};
 ghost use Rattle.block_traits.specs.Streams.{entropy_of};
+ghost use Rattle.command_words.specs.Built.{is_built};
 ghost use Rattle.command_words.specs.Places.{CommandIsWithin};
+ghost use Rattle.reply_text.specs.Text.{HasPayload};
 ghost use Rattle.shelf.specs.Adding.{Adds, RefusesToAdd};
 ghost use Rattle.shelf.specs.Turn.{Shows, Turn};
 ghost use Rattle.shelf.specs.World.{drawers_of, place_of, world_of};
@@ -85,6 +87,7 @@ impl<D: Disk> Drawers<D> {
 
     /// Serves a command, whose places are those of the line: `UnknownProvider` exactly where no drawer has the name of
     /// its provider, and else what the drawer answers. The other drawers stay as they are.
+    #[tactic(auto, using(crate::proofs::Serving::built_names_a_provider))]
     pub fn serve<C: Cabinet, E: Entropy>(
         &mut self,
         line: &[u8],
@@ -92,10 +95,12 @@ impl<D: Disk> Drawers<D> {
         files: &mut C,
         entropy: &mut E,
     ) -> Reply
-        requires { CommandIsWithin (length line.now) command.now }
-        ensures { Turn line.now command.now
+        requires within { CommandIsWithin (length line.now) command.now }
+        requires built { IsTrue (is_built command.now) }
+        ensures turn { Turn line.now command.now
             (world_of D.state self.old (cabinet_of C.files C.faults C.misses files.old) (entropy_of E.left E.faults entropy.old)) result
             (world_of D.state self.new (cabinet_of C.files C.faults C.misses files.new) (entropy_of E.left E.faults entropy.new)) }
+        ensures payload { HasPayload result [] }
     {
         let Some(prov) = command.provider() else {
             unreachable!();

@@ -1,1 +1,3 @@
 pub mod Tweaks
+pub mod Halves
+pub mod GroupLaws

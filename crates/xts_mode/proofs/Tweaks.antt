@@ -17,10 +17,21 @@ pub tweak_step : (t now next j : ℕ) → now ≡ tweak_at t j → next ≡ doub
 unfolding tweak_at
 tweak_step t now next j e en = en ∙ ap doubled e ∙ sym (ap (tweak_at t) (add-one j))
 
--- the block that the code masks is the definition's
-pub masked_at : (f : List ℕ → List ℕ) (p b r : List ℕ) (t now j : ℕ) → now ≡ tweak_at t j → b ≡ block p j
-    → r ≡ (let mask = to_le_bytes w128 now in xor (f (xor b mask)) mask) → r ≡ masked f t p j
-masked_at f p b r t now j et eb er = er ∙ (λ i. let mask = to_le_bytes w128 (et i) in xor (f (xor (eb i) mask)) mask)
+-- the tweak i blocks after block j
+pub tweak_at-add : (t j i : ℕ) → tweak_at (tweak_at t j) i ≡ tweak_at t (j + i)
+unfolding tweak_at
+tweak_at-add t j zero =
+    let same : j + zero ≡ j = omega arith in
+    sym (ap (tweak_at t) same)
+tweak_at-add t j (suc i) =
+    let more : j + suc i ≡ suc (j + i) = omega arith in
+    ap doubled (tweak_at-add t j i) ∙ sym (ap (tweak_at t) more)
+
+-- block i of a part that begins with block j
+pub masked-part : (f : List ℕ → List ℕ) (p part : List ℕ) (t now j i : ℕ) → now ≡ tweak_at t j → block part i ≡ block p (j + i) → masked f now part i ≡ masked f t p (j + i)
+masked-part f p part t now j i et eb =
+    let e : tweak_at now i ≡ tweak_at t (j + i) = ap (λ (x : ℕ). tweak_at x i) et ∙ tweak_at-add t j i in
+    (λ k. let mask = to_le_bytes w128 (e k) in xor (f (xor (eb k) mask)) mask)
 
 AreBytes-low_first : (i k n : ℕ) → AreBytes (bytes_low_first i k n)
 AreBytes-low_first i zero n m = lit< tt

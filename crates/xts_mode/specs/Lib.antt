@@ -1,2 +1,3 @@
 pub mod Xts
+pub mod Halves
 pub mod Examples

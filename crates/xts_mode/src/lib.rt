@@ -1,82 +1,69 @@
 //! XTS (IEEE 1619) over AES, in place, on whole blocks: there is no ciphertext stealing.
 #![tactic(auto)]
 
-ghost use Rattle.std.specs.Prelude.{◌≡◌, ℕ, ◌+◌, ◌*◌, ◌/◌, ◌%◌, List, length};
-ghost use Rattle.std.specs.Int.{w128, to_le_bytes};
-ghost use Rattle.aes_core.specs.Aes.{xor, encrypt, decrypt};
+ghost use Rattle.std.specs.Prelude.{◌≡◌, ◌%◌, length};
 ghost use Rattle.aes_core.specs.Schedule.{IsKeyLength};
-ghost use Rattle.xts_mode.specs.Xts.{doubled, first_tweak, xts_seal, xts_open};
+ghost use Rattle.xts_mode.specs.Xts.{xts_seal, xts_open};
 ghost use Rattle.xts_mode.specs.Examples.{example_key1, example_key2, example_unit, example_plain, example_cipher};
 
+mod doubling;
+mod groups;
+
 use aes_core::Schedule;
-use aes_core::blocks::{Block, block_at, xor};
-
-// A tweak times x (IEEE 1619, 5.2).
-fn doubled(t: u128) -> u128
-    ensures { result ≡ doubled t }
-{
-    t.wrapping_mul(2) ^ (t >> 127).wrapping_mul(0x87)
-}
-
-// The tweak of the first block of a data unit (IEEE 1619, 5.1 and 5.3.1).
-fn first_tweak(k2: &Schedule, unit: u64) -> u128
-    ensures { result ≡ first_tweak k2.now unit }
-{
-    let mut block = [0u8; 16];
-    block[..8].copy_from_slice(&unit.to_le_bytes());
-    k2.encrypt_block(&mut block);
-    u128::from_le_bytes(block)
-}
-
-// The cipher text of one block under this tweak.
-fn sealed(k1: &Schedule, plain: Block, tweak: u128) -> Block
-    ensures { let mask = to_le_bytes w128 tweak in result ≡ xor (encrypt k1.now (xor plain mask)) mask }
-{
-    let mask = tweak.to_le_bytes();
-    let mut out = xor(plain, mask);
-    k1.encrypt_block(&mut out);
-    xor(out, mask)
-}
-
-// The plain text of one block under this tweak.
-fn opened(k1: &Schedule, cipher: Block, tweak: u128) -> Block
-    ensures { let mask = to_le_bytes w128 tweak in result ≡ xor (decrypt k1.now (xor cipher mask)) mask }
-{
-    let mask = tweak.to_le_bytes();
-    let mut out = xor(cipher, mask);
-    k1.decrypt_block(&mut out);
-    xor(out, mask)
-}
+use aes_planes::SlicedSchedule;
+use doubling::{first_tweak, halves};
+use groups::{open_group, open_rest, seal_group, seal_rest};
 
 /// Enciphers the whole blocks of one data unit in place (IEEE 1619, 5.3): `k1` is the key of the
 /// data, `k2` that of the tweak, and `tweak` the number of the data unit. `xts_open` takes it back.
+///
+/// It makes the bit planes of `k1` each time; `xts_seal_sliced` takes them.
 pub fn xts_seal(k1: &Schedule, k2: &Schedule, tweak: u64, block: &mut [u8])
     requires { length block.old % 16 ≡ 0 }
     ensures sealed { block.new ≡ xts_seal k1.now k2.now tweak block.old }
     ensures taken_back { xts_open k1.now k2.now tweak block.new ≡ block.old }
 {
-    let mut t = first_tweak(k2, tweak);
-    for j in 0..block.len() / 16 {
-        let cipher = sealed(k1, block_at(block, j), t);
-        block[16 * j..16 * j + 16].copy_from_slice(&cipher);
-        t = doubled(t);
+    xts_seal_sliced(&SlicedSchedule::new(k1), k2, tweak, block);
+}
+
+/// As `xts_seal`, under planes of the data's key that were made before.
+pub fn xts_seal_sliced(k1: &SlicedSchedule, k2: &Schedule, tweak: u64, block: &mut [u8])
+    requires { length block.old % 16 ≡ 0 }
+    ensures sealed { block.new ≡ xts_seal k1.now k2.now tweak block.old }
+    ensures taken_back { xts_open k1.now k2.now tweak block.new ≡ block.old }
+{
+    let mut t = halves(first_tweak(k2, tweak));
+    let groups = block.len() / 128;
+    for g in 0..groups {
+        t = seal_group(k1, t, &mut block[128 * g..128 * g + 128]);
     }
+    seal_rest(k1, t, &mut block[128 * groups..]);
     // Opening takes it back since the schedule is that of a key.
     k1.is_of_a_key();
 }
 
 /// Deciphers the whole blocks of one data unit in place (IEEE 1619, 5.4): `k1` is the key of the
 /// data, `k2` that of the tweak, and `tweak` the number of the data unit.
+///
+/// It makes the bit planes of `k1` each time; `xts_open_sliced` takes them.
 pub fn xts_open(k1: &Schedule, k2: &Schedule, tweak: u64, block: &mut [u8])
     requires { length block.old % 16 ≡ 0 }
     ensures { block.new ≡ xts_open k1.now k2.now tweak block.old }
 {
-    let mut now = first_tweak(k2, tweak);
-    for j in 0..block.len() / 16 {
-        let plain = opened(k1, block_at(block, j), now);
-        block[16 * j..16 * j + 16].copy_from_slice(&plain);
-        now = doubled(now);
+    xts_open_sliced(&SlicedSchedule::new(k1), k2, tweak, block);
+}
+
+/// As `xts_open`, under planes of the data's key that were made before.
+pub fn xts_open_sliced(k1: &SlicedSchedule, k2: &Schedule, tweak: u64, block: &mut [u8])
+    requires { length block.old % 16 ≡ 0 }
+    ensures { block.new ≡ xts_open k1.now k2.now tweak block.old }
+{
+    let mut t = halves(first_tweak(k2, tweak));
+    let groups = block.len() / 128;
+    for g in 0..groups {
+        t = open_group(k1, t, &mut block[128 * g..128 * g + 128]);
     }
+    open_rest(k1, t, &mut block[128 * groups..]);
 }
 
 /// A law: whatever is sealed opens to what it was, under every two keys and every tweak.

@@ -1,4 +1,4 @@
-use Rattle.std.proofs.Common.{◌∙◌, sym}
+use Rattle.std.proofs.Common.{◌∙◌, refl, sym}
 use Rattle.aes_core.proofs.Turns.{after_rounds_start, after_rounds_step}
 use Rattle.aes_core.proofs.rounds.encipher.Goals as goal
 
@@ -7,5 +7,5 @@ loop-n-init c = c.add_round_key-s.ensures ∙ sym (after_rounds_start c.args.key
 
 pub loop-n-preserved : goal.loop-n-preserved
 loop-n-preserved c =
-    after_rounds_step c.args.keys.now c.args.block _ _ _ _ _ c.loop-n.n c.loop-n.invariant c.sub_bytes.ensures c.shift_rows.ensures c.mix_columns.ensures
+    after_rounds_step c.args.keys.now c.args.block _ _ _ _ _ c.loop-n.n c.loop-n.invariant refl refl c.mixed.ensures
     c.add_round_key-s-in-loop-n.ensures

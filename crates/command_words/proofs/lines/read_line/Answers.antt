@@ -1,3 +1,4 @@
+use Rattle.command_words.proofs.BoundsLaws.{reading_bounded}
 use Rattle.command_words.proofs.PlacesLaws.{reading_within}
 use Rattle.command_words.proofs.TextLaws.{reading_text}
 use Rattle.command_words.proofs.lines.read_line.Goals as goal
@@ -7,3 +8,6 @@ returns-clause-places c = rw c.read.ensures (reading_within c.args.sep c.args.li
 
 pub returns-clause-text : goal.returns-clause-text
 returns-clause-text c = rw c.read.ensures (reading_text c.args.sep c.args.line.now)
+
+pub returns-clause-bounds : goal.returns-clause-bounds
+returns-clause-bounds c = rw c.read.ensures (reading_bounded c.args.sep c.args.line.now)

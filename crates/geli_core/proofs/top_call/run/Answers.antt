@@ -17,4 +17,4 @@ returns-clause-histories g c =
       cabinet = cabinet_of g.C.Cabinet.files g.C.Cabinet.faults g.C.Cabinet.misses c.serve-reply.new.files;
       entropy = entropy_of g.E.Entropy.left g.E.Entropy.faults c.serve-reply.new.entropy;
     } in
-    λ reads. contents_after_reading c.deref-2.result.now c.in-Some.command old c.serve-reply.result new (rw (← said) at reads) c.serve-reply.ensures
+    λ reads. contents_after_reading c.deref-2.result.now c.in-Some.command old c.serve-reply.result new (rw (← said) at reads) c.serve-reply.ensures.turn

@@ -4,9 +4,9 @@ use Rattle.std.specs.Int.{w32}
 use Rattle.std.proofs.lemmas.Int.{to_z-of_z}
 use Rattle.std.proofs.lemmas.Result.{err_from_is_err_and}
 use Rattle.block_traits.specs.Streams.{entropy_of}
+use Rattle.eli_metadata.proofs.Replaced.{KeepsOldOr-replace, KeepsOldOr-replace_part}
 use Rattle.key_commands.specs.Init.{MakesMetadata}
 use Rattle.key_commands.specs.Options.{early_refusal}
-use Rattle.key_commands.proofs.Keeping.{KeepsOldOr-init, KeepsOldOr-part}
 use Rattle.key_commands.proofs.Making.{Inits-refused, makes}
 use Rattle.key_commands.proofs.provider.init.Goals as goal
 
@@ -20,8 +20,8 @@ returns-in_err-check g c =
 pub metadata_of-meta-requires-clause-small : goal.metadata_of-meta-requires-clause-small
 metadata_of-meta-requires-clause-small g c = rw c.sectors-sectors.ensures (g.D.Disk.state c.args.disk.now).well_formed.bound
 
-pub returns-in-Ok-replace_last : goal.returns-in-Ok-replace_last
-returns-in-Ok-replace_last g c =
+pub returns-in-Ok-replace_metadata : goal.returns-in-Ok-replace_metadata
+returns-in-Ok-replace_metadata g c =
     let m = c.metadata_of-meta.result in
     let z = c.args.options.now.iterations in
     let range : FitsSigned w32 z = search rules in
@@ -31,9 +31,9 @@ returns-in-Ok-replace_last g c =
     let P : ℕ → Type 0 =
     λ n. MakesMetadata c.args.options.now c.args.parts.now n (entropy_of g.E.Entropy.left g.E.Entropy.faults c.args.entropy.now) m (entropy_of g.E.Entropy.left g.E.Entropy.faults c.draw.new.entropy) in
     let made = makes c.args.options.now c.args.parts.now c.sectors-sectors.result c.in-Ok.random c.in-Ok-derive.key m _ _
-    c.in_ok-check.ensures.ok c.in-Ok.ensures.ok derived c.metadata_of-meta.ensures.fields small c.replace_last.ensures.read c.metadata_of-meta.ensures.opens in
-    let logs = c.in-Ok-replace_last.ensures.ok in
-    record { makes = subst P c.sectors-sectors.ensures made; logs = logs; kept = KeepsOldOr-init _ _ _ logs }
+    c.in_ok-check.ensures.ok c.in-Ok.ensures.ok derived c.metadata_of-meta.ensures.fields small c.replace_metadata.ensures.read c.metadata_of-meta.ensures.opens in
+    let logs = c.in-Ok-replace_metadata.ensures.ok in
+    record { makes = subst P c.sectors-sectors.ensures made; logs = logs; kept = KeepsOldOr-replace _ _ _ logs }
 
 pub returns-in-Err : goal.returns-in-Err
 returns-in-Err g c =
@@ -46,6 +46,6 @@ returns-in-Err g c =
     let P : ℕ → Type 0 =
     λ n. MakesMetadata c.args.options.now c.args.parts.now n (entropy_of g.E.Entropy.left g.E.Entropy.faults c.args.entropy.now) m (entropy_of g.E.Entropy.left g.E.Entropy.faults c.draw.new.entropy) in
     let made = makes c.args.options.now c.args.parts.now c.sectors-sectors.result c.in-Ok.random c.in-Ok-derive.key m _ _
-    c.in_ok-check.ensures.ok c.in-Ok.ensures.ok derived c.metadata_of-meta.ensures.fields small c.replace_last.ensures.read c.metadata_of-meta.ensures.opens in
+    c.in_ok-check.ensures.ok c.in-Ok.ensures.ok derived c.metadata_of-meta.ensures.fields small c.replace_metadata.ensures.read c.metadata_of-meta.ensures.opens in
     let fails = c.in-Err.ensures.err in
-    record { m = m; makes = subst P c.sectors-sectors.ensures made; fails = fails; kept = KeepsOldOr-part _ _ _ fails }
+    record { m = m; makes = subst P c.sectors-sectors.ensures made; fails = fails; kept = KeepsOldOr-replace_part _ _ _ fails }

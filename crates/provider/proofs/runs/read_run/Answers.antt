@@ -1,10 +1,12 @@
-use Rattle.std.proofs.Common.{◌≡◌, ◌+◌, ◌*◌, ◌/◌, ◌≤◌, [], length, subst, ◌∙◌, arith, Option, Ok, IfSome}
+use Rattle.std.proofs.Common.{◌≡◌, ◌+◌, ◌-◌, ◌*◌, ◌/◌, ◌≤◌, [], length, take, subst, ◌∙◌, arith, Option, Ok, IfSome}
+use borrow.Rule.Slice.PartMut.{put_mid}
 use Rattle.block_traits.specs.Content.{Content}
 use Rattle.block_traits.proofs.Logs.{Logs-then, logged-none}
 use Rattle.eli_base.specs.Keying.{Keying}
 use Rattle.sealing.specs.Sectors.{units}
 use Rattle.provider.specs.Reading.{sector_reading}
-use Rattle.provider.proofs.Ranges.{bytes_inside, number_small, units-off}
+use Rattle.provider.proofs.Ranges.{bytes_inside, number_small}
+use Rattle.provider.proofs.FirstFaults.{run_fault}
 use Rattle.provider.proofs.Readings.{ReadsFrom-next}
 use Rattle.provider.proofs.runs.read_run.Goals as goal
 
@@ -17,13 +19,13 @@ loop-i-preserved g c =
     let block = c.read_sector.new.block in
     let P : Keying → Type 0 = λ now. IfSome (g.D.Disk.state c.loop-i.disk).content (λ (told : Content). sector_reading now told here ≡ Ok block) in
     let Q : Option Content → Type 0 = λ told. IfSome told (λ (content : Content). sector_reading k content here ≡ Ok block) in
-    let gives = subst Q (before.logs.content ∙ logged-none start.content) (subst P before.keying c.in_ok-read_sector.ensures.reads) in
+    let gives = subst Q (before.logs.content ∙ logged-none start.content) (subst P before.keying c.in-Ok.ensures.answer.reads) in
     let inside = bytes_inside (length c.args.into.now) c.args.size c.loop-i.i c.loop-i-test.true in
     let room : c.loop-i.i * c.args.size ≤ length c.loop-i.into = omega (arith, inside) in
     let len : length block ≡ c.args.size = omega (arith, inside) in
     record {
-      keying = c.in_ok-read_sector.ensures.keying ∙ before.keying;
-      logs = Logs-then [] [] before.logs c.in_ok-read_sector.ensures.ok;
+      keying = c.in-Ok.ensures.keying ∙ before.keying;
+      logs = Logs-then [] [] before.logs c.in-Ok.ensures.answer.logs;
       reads = ReadsFrom-next start.content k c.args.sector c.loop-i.i c.args.size _ c.loop-i.into block before.reads gives len room;
     }
 
@@ -32,5 +34,15 @@ overflow_add-sector g c =
     let d = g.D.Disk.state c.args.disk.now in
     let k = c.args.ring.now.keying in
     let size = c.args.size in
-    let some : 1 ≤ units k = omega (arith, units-off k size c.requires.off c.requires.size, c.is_of_a_keying.ensures.at_least) in
+    let some : 1 ≤ units k = omega arith in
     omega (arith, number_small (c.args.sector + length c.args.into.now / size) (units k) d.size some c.requires.inside, d.well_formed.bound, c.loop-i-test.true)
+
+pub returns-in-Err-clause-answer : goal.returns-in-Err-clause-answer
+returns-in-Err-clause-answer g c =
+    let state = g.D.Disk.state in
+    let k = c.args.ring.now.keying in
+    let i = c.loop-i.i in
+    let size = c.args.size in
+    run_fault c.in-Err.fault (state c.args.disk.now) (state c.loop-i.disk) (state c.read_sector.new.disk) k c.loop-i.ring.keying c.args.sector (length c.args.into.now / size) i
+    (take (i * size) c.loop-i.into) c.read_sector.new.block (put_mid (i * size) (i * size + size - i * size) c.loop-i.into c.read_sector.new.block)
+    c.loop-i.invariant.keying c.loop-i.invariant.logs c.loop-i-test.true c.loop-i.invariant.reads c.in-Err.ensures.answer

@@ -5,7 +5,7 @@ use Rattle.block_traits.proofs.Logs.{Continues-then, FailsIn-part, Continues-sta
 use Rattle.sealing.specs.Sectors.{units}
 use Rattle.provider.specs.Writing.{data_writes, sector_writes}
 use Rattle.provider.proofs.Events.{run_writes, run_writes-start, run_writes-at, run_writes-end}
-use Rattle.provider.proofs.Ranges.{number_small, units-off}
+use Rattle.provider.proofs.Ranges.{number_small}
 use Rattle.provider.proofs.runs.write_run.Goals as goal
 
 pub loop-i-init : goal.loop-i-init
@@ -77,5 +77,5 @@ overflow_add-sector g c =
     let d = g.D.Disk.state c.args.disk.now in
     let k = c.args.ring.now.keying in
     let size = length c.args.buffer.now in
-    let some : 1 ≤ units k = omega (arith, units-off k size c.requires.off c.requires.buffer, c.is_of_a_keying.ensures.at_least) in
+    let some : 1 ≤ units k = omega arith in
     omega (arith, number_small (c.args.sector + length c.args.from.now / size) (units k) d.size some c.requires.inside, d.well_formed.bound, c.loop-i-test.true)

@@ -1,14 +1,14 @@
-use Rattle.std.proofs.Common.{rules, ◌||◌, Bool, IsSome, refl, subst, sym, ap, ◌∙◌, arith}
+use Rattle.std.proofs.Common.{◌||◌, Bool, IsSome, refl, subst, sym, ap, ◌∙◌, arith}
 use Rattle.eli_metadata.specs.Check.{is_readonly}
 use Rattle.key_slots.specs.Slots.{IsKeyBits}
-use Rattle.provider.proofs.Checked.{checked, keyed_as, opened_as}
+use Rattle.provider.proofs.Checked.{bits_allowed, checked, keyed_as, opened_as}
 use Rattle.provider.proofs.provider.Provider.attach.Goals as goal
 use Rattle.provider.proofs.provider.Provider.attach.Goals.{then-readonly, else-readonly}
 
 pub opened-requires-clause-keylen : goal.opened-requires-clause-keylen
 opened-requires-clause-keylen g c =
     let is = checked c.args.meta.now c.args.params.now (g.D.Disk.state c.args.disk).size c.requires.checked c.requires.size in
-    let bits : IsKeyBits c.args.params.now.keylen = search rules in
+    let bits : IsKeyBits c.args.params.now.keylen = bits_allowed c.args.params.now.cipher c.args.params.now.keylen c.args.params.now.allowed in
     subst IsKeyBits (sym is.keylen) bits
 
 pub returns-in_default : goal.returns-in_default

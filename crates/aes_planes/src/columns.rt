@@ -1,0 +1,119 @@
+//! MixColumns and InvMixColumns (FIPS 197, 5.1.3 and 5.3.3) on bit planes, by rows.
+
+ghost use Rattle.std.specs.Prelude.{◌≡◌, ◌<◌, ℕ, length, map};
+ghost use Rattle.aes_core.specs.Aes.{inverse_mix_columns};
+ghost use Rattle.aes_planes.specs.Blocks.{AreStates, block_at};
+ghost use Rattle.aes_planes.specs.Planes.{planes_of, rows, next_row, opposite_row, mixed_rows, quadrupled_planes, AreLong};
+
+use crate::vectors::{Planes, summed};
+use std::simd::prelude::*;
+
+const NEXT: [usize; 16] = [4, 5, 6, 7, 8, 9, 10, 11, 12, 13, 14, 15, 0, 1, 2, 3];
+
+const OPPOSITE: [usize; 16] = [8, 9, 10, 11, 12, 13, 14, 15, 0, 1, 2, 3, 4, 5, 6, 7];
+
+#[inline(always)]
+fn next(v: u8x16) -> u8x16
+    requires { length v ≡ 16 }
+    ensures value { result ≡ next_row v }
+    ensures long { length result ≡ 16 }
+{
+    v.swizzle(NEXT)
+}
+
+#[inline(always)]
+fn opposite(v: u8x16) -> u8x16
+    requires { length v ≡ 16 }
+    ensures { result ≡ opposite_row v }
+{
+    v.swizzle(OPPOSITE)
+}
+
+/// MixColumns by rows.
+#[inline(always)]
+pub fn mix_columns(q: Planes) -> Planes
+    requires { AreLong q }
+    ensures { planes_of result ≡ mixed_rows q }
+{
+    let n0 = next(q.b0);
+    let s0 = q.b0 ^ n0;
+    let o0 = n0 ^ opposite(s0);
+    let n1 = next(q.b1);
+    let s1 = q.b1 ^ n1;
+    let o1 = n1 ^ opposite(s1);
+    let n2 = next(q.b2);
+    let s2 = q.b2 ^ n2;
+    let o2 = n2 ^ opposite(s2);
+    let n3 = next(q.b3);
+    let s3 = q.b3 ^ n3;
+    let o3 = n3 ^ opposite(s3);
+    let n4 = next(q.b4);
+    let s4 = q.b4 ^ n4;
+    let o4 = n4 ^ opposite(s4);
+    let n5 = next(q.b5);
+    let s5 = q.b5 ^ n5;
+    let o5 = n5 ^ opposite(s5);
+    let n6 = next(q.b6);
+    let s6 = q.b6 ^ n6;
+    let o6 = n6 ^ opposite(s6);
+    let n7 = next(q.b7);
+    let s7 = q.b7 ^ n7;
+    let o7 = n7 ^ opposite(s7);
+    Planes {
+        b7: o7 ^ s6,
+        b6: o6 ^ s5,
+        b5: o5 ^ s4,
+        b4: o4 ^ s3 ^ s7,
+        b3: o3 ^ s2 ^ s7,
+        b2: o2 ^ s1,
+        b1: o1 ^ s0 ^ s7,
+        b0: o0 ^ s7,
+    }
+}
+
+// The bytes in the rows opposite.
+#[inline(always)]
+fn opposites(q: Planes) -> Planes
+    requires { AreLong q }
+    ensures { planes_of result ≡ map opposite_row (planes_of q) }
+{
+    Planes {
+        b7: opposite(q.b7),
+        b6: opposite(q.b6),
+        b5: opposite(q.b5),
+        b4: opposite(q.b4),
+        b3: opposite(q.b3),
+        b2: opposite(q.b2),
+        b1: opposite(q.b1),
+        b0: opposite(q.b0),
+    }
+}
+
+// Each byte times x squared.
+#[inline(always)]
+fn quadrupled(q: Planes) -> Planes
+    ensures { planes_of result ≡ quadrupled_planes q }
+{
+    let both = q.b6 ^ q.b7;
+    Planes {
+        b7: q.b5,
+        b6: q.b4,
+        b5: q.b3 ^ q.b7,
+        b4: q.b2 ^ both,
+        b3: q.b1 ^ q.b6,
+        b2: q.b0 ^ q.b7,
+        b1: both,
+        b0: q.b6,
+    }
+}
+
+/// InvMixColumns by rows.
+#[inline(always)]
+pub fn inverse_mix_columns(q: Planes) -> Planes
+    requires { AreStates q }
+    ensures states { AreStates result }
+    ensures blocks { (j : ℕ) → j < 8 → block_at (planes_of result) j ≡ rows (inverse_mix_columns (rows (block_at (planes_of q) j))) }
+{
+    let u = quadrupled(summed(q, opposites(q)));
+    mix_columns(summed(q, u))
+}

@@ -1,0 +1,110 @@
+//! AES (FIPS 197) of eight blocks at a time, by the planes of their bits.
+//!
+//! Plane `i` holds bit `i` of all 128 bytes of the eight blocks: bit `j` of its lane `p` is that of byte `p` of block `j`.
+//! The S-box is then a circuit of gates on whole planes, with no table, and the same gates run whatever the bytes are.
+//! `aes_core` has the definitions, and `SlicedSchedule` says that the eight blocks are enciphered by them.
+#![tactic(auto)]
+
+ghost use Rattle.std.specs.Prelude.{◌≡◌, ◌<◌, ℕ};
+ghost use Rattle.aes_core.specs.Aes.{encrypt, decrypt};
+
+mod columns;
+mod groups;
+mod round_keys;
+mod rounds;
+mod rows;
+mod sboxes;
+mod transposition;
+mod vectors;
+
+use aes_core::Schedule;
+pub use groups::{loaded, store};
+use round_keys::{KeyPlanes, schedule_planes};
+use rounds::{decipher, encipher};
+use std::marker::Model;
+pub use vectors::{Planes, summed};
+
+/// A key schedule with the bit planes of its round keys, which are made once. It is 2 KB large, and no copy of it is
+/// made by itself.
+///
+/// Contracts see the bytes of the key.
+#[derive(Clone, Drop)]
+pub struct SlicedSchedule {
+    schedule: Schedule,
+    planes: [KeyPlanes; 15],
+}
+
+impl Model for SlicedSchedule {
+    ghost use Rattle.std.specs.Prelude.{ℕ, ◌-◌, List};
+    ghost use Rattle.aes_core.specs.Aes.{rounds};
+    ghost use Rattle.aes_core.specs.Schedule.{padded_schedule};
+    ghost use Rattle.aes_planes.specs.Blocks.{AreKeys};
+
+    ghost Value = { List ℕ };
+
+    ghost view = { λ s. s.schedule };
+
+    ghost invariant = { λ s. AreKeys (padded_schedule s.schedule) (rounds s.schedule - 1) s.planes };
+}
+
+impl SlicedSchedule {
+    ghost use Rattle.aes_core.specs.Schedule.{IsKey};
+    ghost use Rattle.aes_planes.specs.Blocks.{AreStates, vector_at};
+
+    /// The planes of this schedule's round keys.
+    pub fn new(schedule: &Schedule) -> SlicedSchedule
+        ensures { result ≡ schedule.now }
+    {
+        SlicedSchedule {
+            schedule: *schedule,
+            planes: schedule_planes(schedule.round_keys(), schedule.rounds() - 1),
+        }
+    }
+
+    /// The schedule that it was made of, for single blocks.
+    pub fn schedule(&self) -> &Schedule
+        ensures { result.now ≡ self.now }
+    {
+        &self.schedule
+    }
+
+    /// Eight blocks enciphered, one in each vector (FIPS 197, 5.1).
+    #[inline(always)]
+    pub fn encrypted(&self, q: Planes) -> Planes
+        requires { AreStates q }
+        ensures { (j : ℕ) → j < 8 → vector_at result j ≡ encrypt self.now (vector_at q j) }
+    {
+        self.schedule.is_of_a_key();
+        encipher(
+            self.schedule.round_keys(),
+            &self.planes,
+            self.schedule.rounds() - 2,
+            q,
+        )
+    }
+
+    /// Eight blocks deciphered, one in each vector (FIPS 197, 5.3).
+    #[inline(always)]
+    pub fn decrypted(&self, q: Planes) -> Planes
+        requires { AreStates q }
+        ensures { (j : ℕ) → j < 8 → vector_at result j ≡ decrypt self.now (vector_at q j) }
+    {
+        self.schedule.is_of_a_key();
+        decipher(
+            self.schedule.round_keys(),
+            &self.planes,
+            self.schedule.rounds() - 1,
+            q,
+        )
+    }
+
+    /// A law: what a schedule was made from is a key, which has 16, 24 or 32 bytes.
+    pub fn is_of_a_key(&self)
+        ensures { IsKey self.now }
+    {
+        self.schedule.is_of_a_key();
+    }
+}
+
+#[cfg(test)]
+mod tests;

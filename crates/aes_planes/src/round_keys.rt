@@ -1,0 +1,159 @@
+//! The bit planes of round keys, and AddRoundKey (FIPS 197, 5.1.4).
+//!
+//! Each round key but the first has the constant of the S-box in each byte, since the circuits leave it out. The
+//! inverse cipher adds the same keys before the inverse S-box, whose circuit takes a byte with the constant.
+
+ghost use Rattle.std.specs.Prelude.{◌≡◌, ◌<◌};
+ghost use Rattle.aes_core.specs.Aes.{round_key};
+ghost use Rattle.aes_core.specs.State.{IsState};
+ghost use Rattle.aes_planes.specs.Blocks.{AreKeys, AreOf, added, plane_of, key_at};
+ghost use Rattle.aes_planes.specs.Planes.{planes_of, rows, turned};
+
+use crate::rows::in_rows;
+use crate::transposition::transposed;
+use crate::vectors::Planes;
+use std::simd::prelude::*;
+
+/// The planes of a round key as numbers, which stand aligned in memory, so that they are added with no load.
+#[derive(Clone, Copy)]
+pub struct KeyPlanes {
+    pub b7: u128,
+    pub b6: u128,
+    pub b5: u128,
+    pub b4: u128,
+    pub b3: u128,
+    pub b2: u128,
+    pub b1: u128,
+    pub b0: u128,
+}
+
+// A plane of a round key.
+#[inline(always)]
+fn plane(k: u128) -> u8x16
+    ensures { result ≡ plane_of k }
+{
+    u64x2::from_array([(k & 0xffff_ffff_ffff_ffff) as u64, (k >> 64) as u64]).to_le_bytes()
+}
+
+/// AddRoundKey.
+#[inline(always)]
+pub fn add_round_key(q: Planes, k: &KeyPlanes) -> Planes
+    ensures { planes_of result ≡ added q (key_at k.now) }
+{
+    Planes {
+        b7: q.b7 ^ plane(k.b7),
+        b6: q.b6 ^ plane(k.b6),
+        b5: q.b5 ^ plane(k.b5),
+        b4: q.b4 ^ plane(k.b4),
+        b3: q.b3 ^ plane(k.b3),
+        b2: q.b2 ^ plane(k.b2),
+        b1: q.b1 ^ plane(k.b1),
+        b0: q.b0 ^ plane(k.b0),
+    }
+}
+
+// The number whose bytes a vector has, the lowest first.
+#[inline(always)]
+fn number(v: u8x16) -> u128
+    requires { IsState v }
+    ensures { plane_of result ≡ v }
+{
+    let [low, high] = u64x2::from_le_bytes(v).to_array();
+    u128::from(high) * 0x1_0000_0000_0000_0000 + u128::from(low)
+}
+
+// The planes of eight blocks that are all this one.
+fn key_planes(v: u8x16) -> KeyPlanes
+    requires { IsState v }
+    ensures { AreOf v (key_at result) }
+{
+    let q = transposed(Planes {
+        b7: v,
+        b6: v,
+        b5: v,
+        b4: v,
+        b3: v,
+        b2: v,
+        b1: v,
+        b0: v,
+    });
+    KeyPlanes {
+        b7: number(q.b7),
+        b6: number(q.b6),
+        b5: number(q.b5),
+        b4: number(q.b4),
+        b3: number(q.b3),
+        b2: number(q.b2),
+        b1: number(q.b1),
+        b0: number(q.b0),
+    }
+}
+
+// A vector with the constant of the S-box added to each byte.
+#[inline(always)]
+fn with_constant(v: u8x16) -> u8x16
+    requires { IsState v }
+    ensures value { result ≡ turned v }
+    ensures state { IsState result }
+{
+    v ^ u8x16::splat(0x63)
+}
+
+/// The planes of the first round key.
+fn first_key(k: [u8; 16]) -> KeyPlanes
+    requires { IsState k }
+    ensures { AreOf k (key_at result) }
+{
+    key_planes(u8x16::from_array(k))
+}
+
+/// The planes of a round key between.
+fn middle_key(k: [u8; 16]) -> KeyPlanes
+    requires { IsState k }
+    ensures { AreOf (rows (turned k)) (key_at result) }
+{
+    key_planes(in_rows(with_constant(u8x16::from_array(k))))
+}
+
+/// The planes of the last round key.
+fn last_key(k: [u8; 16]) -> KeyPlanes
+    requires { IsState k }
+    ensures { AreOf (turned k) (key_at result) }
+{
+    key_planes(with_constant(u8x16::from_array(k)))
+}
+
+// Round key r of a schedule.
+fn round_key_of(round_keys: &[u8; 240], r: usize) -> [u8; 16]
+    requires { r < 15 }
+    ensures value { result ≡ round_key round_keys.now r }
+    ensures state { IsState result }
+{
+    let mut out = [0u8; 16];
+    out.copy_from_slice(&round_keys[16 * r..16 * r + 16]);
+    out
+}
+
+/// The planes of all round keys of a schedule, with `count` rounds before the last.
+pub fn schedule_planes(round_keys: &[u8; 240], count: usize) -> [KeyPlanes; 15]
+    requires { count < 14 }
+    ensures { AreKeys round_keys.now count result }
+{
+    let none = KeyPlanes {
+        b7: 0,
+        b6: 0,
+        b5: 0,
+        b4: 0,
+        b3: 0,
+        b2: 0,
+        b1: 0,
+        b0: 0,
+    };
+    let mut keys = [none; 15];
+    keys[0] = first_key(round_key_of(round_keys, 0));
+    for r in 0..count {
+        keys[r + 1] = middle_key(round_key_of(round_keys, r + 1));
+    }
+    keys[count + 1] = last_key(round_key_of(round_keys, count + 1));
+    keys
+}

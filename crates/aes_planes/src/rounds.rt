@@ -1,0 +1,48 @@
+//! The cipher and its inverse on eight blocks (FIPS 197, 5.1 and 5.3), under the planes of the round keys.
+
+ghost use Rattle.std.specs.Prelude.{◌≡◌, ◌<◌, ◌+◌, ℕ};
+ghost use Rattle.aes_core.specs.Aes.{enciphered, deciphered};
+ghost use Rattle.aes_planes.specs.Blocks.{AreStates, AreKeys, vector_at};
+
+use crate::columns::{inverse_mix_columns, mix_columns};
+use crate::round_keys::{KeyPlanes, add_round_key};
+use crate::rows::{
+    by_columns, first_shift, first_unshift, last_shift, middle_shift, middle_unshift,
+};
+use crate::sboxes::{inverse_sub_bytes, sub_bytes};
+use crate::transposition::transposed;
+use crate::vectors::Planes;
+
+/// Enciphers eight blocks, one in each vector, with `count` rounds between the first and the last two.
+#[inline(always)]
+pub fn encipher(round_keys: &[u8; 240], keys: &[KeyPlanes; 15], count: usize, q: Planes) -> Planes
+    requires few { count < 13 }
+    requires states { AreStates q }
+    requires keys { AreKeys round_keys.now (count + 1) keys.now }
+    ensures { (j : ℕ) → j < 8 → vector_at result j ≡ enciphered round_keys.now (count + 1) (vector_at q j) }
+{
+    let mut s = sub_bytes(first_shift(add_round_key(transposed(q), &keys[0])));
+    for n in 0..count {
+        s = sub_bytes(middle_shift(add_round_key(mix_columns(s), &keys[n + 1])));
+    }
+    s = sub_bytes(last_shift(add_round_key(mix_columns(s), &keys[count + 1])));
+    transposed(add_round_key(s, &keys[count + 1 + 1]))
+}
+
+/// Deciphers eight blocks, one in each vector, with `count` rounds before the last.
+#[inline(always)]
+pub fn decipher(round_keys: &[u8; 240], keys: &[KeyPlanes; 15], count: usize, q: Planes) -> Planes
+    requires few { count < 14 }
+    requires states { AreStates q }
+    requires keys { AreKeys round_keys.now count keys.now }
+    ensures { (j : ℕ) → j < 8 → vector_at result j ≡ deciphered round_keys.now count (vector_at q j) }
+{
+    let mut s = first_unshift(add_round_key(transposed(q), &keys[count + 1]));
+    for n in 0..count {
+        s = middle_unshift(inverse_mix_columns(add_round_key(
+            inverse_sub_bytes(s),
+            &keys[count - n],
+        )));
+    }
+    transposed(add_round_key(by_columns(inverse_sub_bytes(s)), &keys[0]))
+}

@@ -1,0 +1,178 @@
+//! ShiftRows and InvShiftRows (FIPS 197, 5.1.2 and 5.3.1) on each plane.
+//!
+//! Between the first round and the last one a state stands by its rows, lane 4r + c for row r of column c, where the
+//! next row of MixColumns is one turn of all lanes. The change of order is part of the first and of the last shift.
+
+ghost use Rattle.std.specs.Prelude.{◌≡◌, length, map};
+ghost use Rattle.aes_planes.specs.Planes.{planes_of, shift_in, shift_between, shift_out, unshift_in, unshift_between, rows, AreLong};
+
+use crate::vectors::Planes;
+use std::simd::prelude::*;
+
+const SHIFT_IN: [usize; 16] = [0, 4, 8, 12, 5, 9, 13, 1, 10, 14, 2, 6, 15, 3, 7, 11];
+
+const SHIFT_BETWEEN: [usize; 16] = [0, 1, 2, 3, 5, 6, 7, 4, 10, 11, 8, 9, 15, 12, 13, 14];
+
+const SHIFT_OUT: [usize; 16] = [0, 5, 10, 15, 1, 6, 11, 12, 2, 7, 8, 13, 3, 4, 9, 14];
+
+const UNSHIFT_IN: [usize; 16] = [0, 4, 8, 12, 13, 1, 5, 9, 10, 14, 2, 6, 7, 11, 15, 3];
+
+const UNSHIFT_BETWEEN: [usize; 16] = [0, 1, 2, 3, 7, 4, 5, 6, 10, 11, 8, 9, 13, 14, 15, 12];
+
+const ROWS: [usize; 16] = [0, 4, 8, 12, 1, 5, 9, 13, 2, 6, 10, 14, 3, 7, 11, 15];
+
+#[inline(always)]
+fn moved_in(v: u8x16) -> u8x16
+    requires { length v ≡ 16 }
+    ensures { result ≡ shift_in v }
+{
+    v.swizzle(SHIFT_IN)
+}
+
+#[inline(always)]
+fn moved_between(v: u8x16) -> u8x16
+    requires { length v ≡ 16 }
+    ensures { result ≡ shift_between v }
+{
+    v.swizzle(SHIFT_BETWEEN)
+}
+
+#[inline(always)]
+fn moved_out(v: u8x16) -> u8x16
+    requires { length v ≡ 16 }
+    ensures { result ≡ shift_out v }
+{
+    v.swizzle(SHIFT_OUT)
+}
+
+#[inline(always)]
+fn unmoved_in(v: u8x16) -> u8x16
+    requires { length v ≡ 16 }
+    ensures { result ≡ unshift_in v }
+{
+    v.swizzle(UNSHIFT_IN)
+}
+
+#[inline(always)]
+fn unmoved_between(v: u8x16) -> u8x16
+    requires { length v ≡ 16 }
+    ensures { result ≡ unshift_between v }
+{
+    v.swizzle(UNSHIFT_BETWEEN)
+}
+
+#[inline(always)]
+pub fn in_rows(v: u8x16) -> u8x16
+    requires { length v ≡ 16 }
+    ensures { result ≡ rows v }
+{
+    v.swizzle(ROWS)
+}
+
+// ShiftRows, from columns to rows.
+#[inline(always)]
+pub fn first_shift(q: Planes) -> Planes
+    requires { AreLong q }
+    ensures { planes_of result ≡ map shift_in (planes_of q) }
+{
+    Planes {
+        b7: moved_in(q.b7),
+        b6: moved_in(q.b6),
+        b5: moved_in(q.b5),
+        b4: moved_in(q.b4),
+        b3: moved_in(q.b3),
+        b2: moved_in(q.b2),
+        b1: moved_in(q.b1),
+        b0: moved_in(q.b0),
+    }
+}
+
+// ShiftRows by rows.
+#[inline(always)]
+pub fn middle_shift(q: Planes) -> Planes
+    requires { AreLong q }
+    ensures { planes_of result ≡ map shift_between (planes_of q) }
+{
+    Planes {
+        b7: moved_between(q.b7),
+        b6: moved_between(q.b6),
+        b5: moved_between(q.b5),
+        b4: moved_between(q.b4),
+        b3: moved_between(q.b3),
+        b2: moved_between(q.b2),
+        b1: moved_between(q.b1),
+        b0: moved_between(q.b0),
+    }
+}
+
+// ShiftRows, from rows to columns.
+#[inline(always)]
+pub fn last_shift(q: Planes) -> Planes
+    requires { AreLong q }
+    ensures { planes_of result ≡ map shift_out (planes_of q) }
+{
+    Planes {
+        b7: moved_out(q.b7),
+        b6: moved_out(q.b6),
+        b5: moved_out(q.b5),
+        b4: moved_out(q.b4),
+        b3: moved_out(q.b3),
+        b2: moved_out(q.b2),
+        b1: moved_out(q.b1),
+        b0: moved_out(q.b0),
+    }
+}
+
+// InvShiftRows, from columns to rows.
+#[inline(always)]
+pub fn first_unshift(q: Planes) -> Planes
+    requires { AreLong q }
+    ensures { planes_of result ≡ map unshift_in (planes_of q) }
+{
+    Planes {
+        b7: unmoved_in(q.b7),
+        b6: unmoved_in(q.b6),
+        b5: unmoved_in(q.b5),
+        b4: unmoved_in(q.b4),
+        b3: unmoved_in(q.b3),
+        b2: unmoved_in(q.b2),
+        b1: unmoved_in(q.b1),
+        b0: unmoved_in(q.b0),
+    }
+}
+
+// InvShiftRows by rows.
+#[inline(always)]
+pub fn middle_unshift(q: Planes) -> Planes
+    requires { AreLong q }
+    ensures { planes_of result ≡ map unshift_between (planes_of q) }
+{
+    Planes {
+        b7: unmoved_between(q.b7),
+        b6: unmoved_between(q.b6),
+        b5: unmoved_between(q.b5),
+        b4: unmoved_between(q.b4),
+        b3: unmoved_between(q.b3),
+        b2: unmoved_between(q.b2),
+        b1: unmoved_between(q.b1),
+        b0: unmoved_between(q.b0),
+    }
+}
+
+// From rows to columns.
+#[inline(always)]
+pub fn by_columns(q: Planes) -> Planes
+    requires { AreLong q }
+    ensures { planes_of result ≡ map rows (planes_of q) }
+{
+    Planes {
+        b7: in_rows(q.b7),
+        b6: in_rows(q.b6),
+        b5: in_rows(q.b5),
+        b4: in_rows(q.b4),
+        b3: in_rows(q.b3),
+        b2: in_rows(q.b2),
+        b1: in_rows(q.b1),
+        b0: in_rows(q.b0),
+    }
+}

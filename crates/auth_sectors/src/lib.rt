@@ -1,0 +1,88 @@
+//! Device sectors of a GELI provider with authentication (geli(8), "DATA AUTHENTICATION"; g_eli_integrity.c).
+//!
+//! A piece is the part of a logical sector that stands in one device sector: a tag, the cipher text of the piece's plain
+//! bytes, and zeros, all under the keys of the device sector's own byte offset. No call takes memory.
+#![tactic(auto)]
+
+ghost use Rattle.std.specs.Prelude.{◌≡◌, ◌≢◌, ◌≤◌, ◌%◌, Ok, Err, MatchResult, length, replicate};
+ghost use Rattle.eli_base.specs.Units.{unit_bytes_of};
+ghost use Rattle.sealing.specs.Pieces.{opened_piece, sealed_piece};
+ghost use Rattle.auth_sectors.specs.Tags.{Tells};
+
+mod tags;
+#[cfg(test)]
+mod tests;
+
+use block_traits::Sector;
+use eli_base::Auth;
+use range_keys::KeyRing;
+use sealing::{open_run, seal_run};
+use tags::{is_same, padded, tag_of};
+
+/// That the tag in a device sector isn't that of its cipher text. Of both the first `length` bytes are the tag, and the
+/// rest is zeros.
+#[derive(Clone, Copy, Debug, PartialEq, Eq)]
+pub struct Mismatch {
+    /// How many bytes a tag has.
+    pub length: u8,
+    /// The tag that the device sector has.
+    pub kept: [u8; 64],
+    /// The tag of the cipher text.
+    pub computed: [u8; 64],
+}
+
+/// Seals the plain bytes of a piece into its device sector, which stands at this byte offset of the device.
+pub fn seal_piece(ring: &mut KeyRing, offset: u64, plain: &[u8], out: &mut Sector)
+    requires on { ring.old.keying.auth ≢ Auth.Off }
+    requires at_least { 16 ≤ length plain.now }
+    requires at_most { length plain.now ≤ unit_bytes_of ring.old.keying.auth }
+    requires blocks { length plain.now % 16 ≡ 0 }
+    ensures sealed { out.new ≡ sealed_piece ring.old.keying offset plain.now }
+    ensures keying { ring.new.keying ≡ ring.old.keying }
+{
+    let size = ring.auth().tag_bytes();
+    let (tag, rest) = out.split_at_mut(size);
+    let (text, zeros) = rest.split_at_mut(plain.len());
+    text.copy_from_slice(plain);
+    seal_run(ring, offset, text);
+    let code = tag_of(ring, offset, text);
+    tag.copy_from_slice(&code[..size]);
+    zeros.fill(0);
+}
+
+/// Opens a piece of as many plain bytes as `out` has, from its device sector, which stands at this byte offset of the
+/// device. What is behind the cipher text isn't looked at.
+///
+/// A mismatch is answered exactly where the tag differs, and `out` is then all zeros.
+pub fn open_piece(
+    ring: &mut KeyRing,
+    offset: u64,
+    from: &Sector,
+    out: &mut [u8],
+) -> Result<(), Mismatch>
+    requires on { ring.old.keying.auth ≢ Auth.Off }
+    requires at_least { 16 ≤ length out.old }
+    requires at_most { length out.old ≤ unit_bytes_of ring.old.keying.auth }
+    requires blocks { length out.old % 16 ≡ 0 }
+    ensures opened { let answer = opened_piece ring.old.keying offset (length out.old) from.now in
+        MatchResult result (λ _. answer ≡ Ok out.new) (λ mismatch. answer ≡ Err offset) }
+    ensures mismatch { MatchResult result (λ _. Unit {0})
+        (λ mismatch. (out.new ≡ replicate (length out.old) 0) × Tells ring.old.keying offset (length out.old) from.now mismatch) }
+    ensures keying { ring.new.keying ≡ ring.old.keying }
+{
+    let size = ring.auth().tag_bytes();
+    let text = &from[size..size + out.len()];
+    let kept = padded(&from[..size]);
+    let computed = tag_of(ring, offset, text);
+    if !is_same(&kept, &computed) {
+        out.fill(0);
+        return Err(Mismatch {
+            length: size as u8,
+            kept,
+            computed,
+        });
+    }
+    out.copy_from_slice(text);
+    open_run(ring, offset, out);
+    Ok(())
+}

@@ -1,0 +1,204 @@
+use crate::{Mismatch, open_piece, seal_piece};
+use eli_base::{Auth, Cipher, MasterKey, Params, sector_size_ok};
+use range_keys::KeyRing;
+use sha2::{Digest, Sha256};
+use std::alloc::Global;
+use std::process::Abort;
+use std::test::Fail;
+
+/// Each line has an authentication, a cipher, the bits of its key, and the digest of the device sectors of some pieces, as
+/// tools/piece_digests.py prints it.
+const DIGESTS: [(Auth, Cipher, u16, &str); 15] = [
+    (
+        Auth::Sha256,
+        Cipher::AesXts,
+        128,
+        "423c927f8cc9d8b7d9a3a670987ff3478e095a0af3a6560bec51498f0c83fe67",
+    ),
+    (
+        Auth::Sha256,
+        Cipher::AesXts,
+        256,
+        "5ca7f7bb9047ac3466599def3e0b2714ecfdc39a3864c7c6e8bfe1f6b93abdef",
+    ),
+    (
+        Auth::Sha256,
+        Cipher::AesCbc,
+        128,
+        "9a59632c741bbd3317695782c01f6d5ca078e61bd1ed715afb9d3c6ee8b0d224",
+    ),
+    (
+        Auth::Sha256,
+        Cipher::AesCbc,
+        192,
+        "beffe464bb7e28feee0b662e3a55bc7f67a6ef2e30409f9e432fbcac3b331fb9",
+    ),
+    (
+        Auth::Sha256,
+        Cipher::AesCbc,
+        256,
+        "e1f2875d8c98fec064a465303ef3633c894548f77e93d3f2ecdae4d7d530b168",
+    ),
+    (
+        Auth::Sha384,
+        Cipher::AesXts,
+        128,
+        "8a99993937ffb94789b383c923120b4b9bbc91e6ea48a9d0bbcfd907edffe585",
+    ),
+    (
+        Auth::Sha384,
+        Cipher::AesXts,
+        256,
+        "697aa54ccb8e27bc8d9454a85a88c9321902fbf6b953f4af655a9ddff0340a57",
+    ),
+    (
+        Auth::Sha384,
+        Cipher::AesCbc,
+        128,
+        "b77c6115a68f54fe74a1e53c13972598d1c6ba2b4a733c8b100cbe2c388835b8",
+    ),
+    (
+        Auth::Sha384,
+        Cipher::AesCbc,
+        192,
+        "5718ffb43cc2b21e4260711e31ab62e79c0388e9c7a7e67ea08f521994a6ed5a",
+    ),
+    (
+        Auth::Sha384,
+        Cipher::AesCbc,
+        256,
+        "46c5551e97bb79069efcb70c52a44ce4ded8c44dec21bf55898901daebdeef36",
+    ),
+    (
+        Auth::Sha512,
+        Cipher::AesXts,
+        128,
+        "08af14c4df6b4af1050ed9daa3354412381724e44cff308482927660c29f5021",
+    ),
+    (
+        Auth::Sha512,
+        Cipher::AesXts,
+        256,
+        "a375ee540c367ac9263560ea7298e0ab673983498668e1dbeb71470ea13aeb0e",
+    ),
+    (
+        Auth::Sha512,
+        Cipher::AesCbc,
+        128,
+        "913d270614c840260ba6740f476bb9ccab2ab51a6496aa902668c49a1059d5a6",
+    ),
+    (
+        Auth::Sha512,
+        Cipher::AesCbc,
+        192,
+        "77e05b8370b55bb63a453a99c00ca987a4d9ebcd2504af3e2603d5ec4dd99d8c",
+    ),
+    (
+        Auth::Sha512,
+        Cipher::AesCbc,
+        256,
+        "be54ecbbc387bcdded7a7b4f121d766dced799a08c8d745350d1bbcbc2a491da",
+    ),
+];
+
+const OFFSETS: [u64; 5] = [0, 512, 4_608, 536_870_400, 536_870_912];
+
+fn ring_of(
+    rt: &impl Abort,
+    alloc: Global,
+    auth: Auth,
+    cipher: Cipher,
+    keylen: u16,
+) -> Result<KeyRing, Fail> {
+    let mut bytes = [0u8; 128];
+    for (i, byte) in bytes.iter_mut().enumerate() {
+        *byte = (i % 128) as u8;
+    }
+    assert!(rt; cipher.allows(keylen) && sector_size_ok(4_096));
+    let params = Params::new(7, auth, cipher, keylen, 4_096, 0, false);
+    Ok(KeyRing::new(alloc, &MasterKey { bytes }, &params)?)
+}
+
+// The plain bytes of a piece of `length` bytes at this offset.
+fn plain_bytes(offset: u64) -> [u8; 480] {
+    let mut plain = [0u8; 480];
+    for (i, byte) in plain.iter_mut().enumerate() {
+        *byte = ((7 * (i as u64 % 480) + offset / 512 % 256) % 256) as u8;
+    }
+    plain
+}
+
+// Seals a piece and opens it again.
+fn sealed(
+    rt: &impl Abort,
+    ring: &mut KeyRing,
+    offset: u64,
+    length: usize,
+) -> Result<[u8; 512], Fail> {
+    let bytes = plain_bytes(offset);
+    assert!(rt; ring.auth() != Auth::Off && 16 <= length && length <= 480);
+    assert!(rt; length <= ring.auth().data_bytes() && length % 16 == 0);
+    let mut sector = [0xff; 512];
+    seal_piece(ring, offset, &bytes[..length], &mut sector);
+    let mut opened = [0u8; 480];
+    assert!(rt; ring.auth() != Auth::Off && length <= ring.auth().data_bytes());
+    assert!(rt; open_piece(ring, offset, &sector, &mut opened[..length]).is_ok());
+    assert_eq!(rt; &opened[..length], &bytes[..length]);
+    Ok(sector)
+}
+
+#[test]
+fn sealed_pieces(rt: HostRuntime) -> Result<(), Fail> {
+    for (auth, cipher, keylen, expected) in DIGESTS {
+        let mut ring = ring_of(&rt, rt.alloc(), auth, cipher, keylen)?;
+        let mut digest = Sha256::new();
+        for offset in OFFSETS {
+            for length in [16, 32, auth.data_bytes()] {
+                digest.update(&sealed(&rt, &mut ring, offset, length)?);
+            }
+        }
+        let digest = hex::encode(rt.alloc(), digest.finalize())?;
+        assert_eq!(rt; digest.as_str(), expected, "{auth:?} {cipher:?} {keylen}");
+    }
+    Ok(())
+}
+
+// A piece of 32 bytes with one bit of one byte turned: where that byte lies behind the cipher text it isn't looked at.
+#[test]
+fn turned_bits(rt: HostRuntime) -> Result<(), Fail> {
+    for auth in [Auth::Sha256, Auth::Sha384, Auth::Sha512] {
+        let mut ring = ring_of(&rt, rt.alloc(), auth, Cipher::AesXts, 128)?;
+        let sector = sealed(&rt, &mut ring, 512, 32)?;
+        let size = auth.tag_bytes();
+        for (place, is_looked_at) in [
+            (0, true),
+            (size - 1, true),
+            (size, true),
+            (size + 31, true),
+            (size + 32, false),
+            (511, false),
+        ] {
+            let mut turned = sector;
+            assert!(rt; place < 512);
+            turned[place] ^= 0x10;
+            let mut out = [0xff; 32];
+            assert!(rt; ring.auth() != Auth::Off && 32 <= ring.auth().data_bytes());
+            let answer = open_piece(&mut ring, 512, &turned, &mut out);
+            assert_eq!(rt; answer.is_err(), is_looked_at, "{auth:?} at {place}");
+            if let Err(
+                Mismatch {
+                    length,
+                    kept,
+                    computed,
+                },
+            ) = answer
+            {
+                assert_eq!(rt; usize::from(length), size);
+                assert_eq!(rt; &kept[..size], &turned[..size]);
+                assert_ne!(rt; kept, computed);
+                assert_eq!(rt; out, [0; 32]);
+            }
+        }
+    }
+    Ok(())
+}

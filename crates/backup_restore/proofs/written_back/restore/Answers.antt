@@ -1,0 +1,41 @@
+use Rattle.std.proofs.Common.{ℕ, sym, subst}
+use Rattle.block_traits.specs.Disk.{FailsIn, Logs}
+use Rattle.eli_metadata.specs.Place.{replace_events}
+use Rattle.eli_metadata.proofs.Replaced.{KeepsOldOr-replace, KeepsOldOr-replace_part}
+use Rattle.backup_restore.specs.Restoring.{GivesMetadata, restored}
+use Rattle.backup_restore.proofs.written_back.restore.Goals as goal
+
+pub returns-in-Ok : goal.returns-in-Ok
+returns-in-Ok g c =
+    let disk = g.D.Disk.state c.args.disk.now in
+    let after = g.D.Disk.state c.replace_metadata.new.disk in
+    let m = c.in_ok-meta.meta in
+    let gives : GivesMetadata c.args.bytes.now c.args.force c.sectors-sectors.result m = record {
+      served = sym {b = restored c.args.bytes.now c.args.force c.sectors-sectors.result} c.in_ok-meta.ensures.answer;
+      again = c.replace_metadata.ensures.read c.in_ok-meta.ensures.version;
+      plain = c.in_ok-meta.ensures.plain;
+    } in
+    let logs : Logs (replace_events disk m) disk after = c.in-Ok.ensures.ok in
+    record {
+      gives = subst (λ (n : ℕ). GivesMetadata c.args.bytes.now c.args.force n m) c.sectors-sectors.ensures gives;
+      logs = logs;
+      kept = KeepsOldOr-replace disk after m logs;
+    }
+
+pub returns-in-Err : goal.returns-in-Err
+returns-in-Err g c =
+    let disk = g.D.Disk.state c.args.disk.now in
+    let after = g.D.Disk.state c.replace_metadata.new.disk in
+    let m = c.in_ok-meta.meta in
+    let gives : GivesMetadata c.args.bytes.now c.args.force c.sectors-sectors.result m = record {
+      served = sym {b = restored c.args.bytes.now c.args.force c.sectors-sectors.result} c.in_ok-meta.ensures.answer;
+      again = c.replace_metadata.ensures.read c.in_ok-meta.ensures.version;
+      plain = c.in_ok-meta.ensures.plain;
+    } in
+    let fails : FailsIn (replace_events disk m) disk after = c.in-Err.ensures.err in
+    record {
+      m = m;
+      gives = subst (λ (n : ℕ). GivesMetadata c.args.bytes.now c.args.force n m) c.sectors-sectors.ensures gives;
+      fails = fails;
+      kept = KeepsOldOr-replace_part disk after m fails;
+    }

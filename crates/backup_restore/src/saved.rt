@@ -1,0 +1,30 @@
+//! A backup of the metadata.
+
+ghost use Rattle.std.specs.Prelude.{◌≡◌};
+ghost use Rattle.backup_restore.specs.Saving.{Saves};
+
+use block_traits::{MetaPlace, Sector};
+use eli_base::Refusal;
+use eli_metadata::decode;
+
+/// Reads the last device sector into `out`, as it is, if it has metadata (geli(8), backup). No event is made.
+///
+/// In this order it is refused as `TooSmall` (in bytes), exactly where there are fewer than two device
+/// sectors, and then no call is made and `out` stays; as `DeviceFault`, only where the count of faults rose,
+/// and then `out` may hold any bytes; as `decode` refuses the bytes that are in `out` then.
+pub fn backup<P: MetaPlace>(place: &mut P, out: &mut Sector) -> Result<(), Refusal>
+    ensures saves { Saves (P.state place.old) out.old result out.new (P.state place.new) }
+    ensures rest { P.rest place.new ≡ P.rest place.old }
+{
+    let sectors = place.sectors();
+    if sectors < 2 {
+        return Err(Refusal::TooSmall {
+            size: 512 * sectors,
+        });
+    }
+    if place.load(out).is_err() {
+        return Err(Refusal::DeviceFault);
+    }
+    decode(out)?;
+    Ok(())
+}

@@ -1,0 +1,71 @@
+//! Metadata that are put back from a backup.
+
+ghost use Rattle.std.specs.Prelude.{◌≡◌, ◌<◌, ◌≤◌, ◌^◌, IsTrue, IfOk, OnOk, length};
+ghost use Rattle.std.specs.Bool.{IsFalse};
+ghost use Rattle.eli_metadata.specs.Format.{encoded, is_served};
+ghost use Rattle.backup_restore.specs.Restoring.{Restores, backed_up_sector, restored};
+
+use block_traits::{Disk, Sector};
+use eli_base::Refusal;
+use eli_metadata::{Metadata, decode, replace_metadata, size_gate};
+
+// The first 511 bytes of a backup, and a zero byte.
+fn sector_of(bytes: &[u8]) -> Sector
+    requires { 511 ≤ length bytes.now }
+    ensures { result ≡ backed_up_sector bytes.now }
+{
+    let mut sector = [0; 512];
+    sector[..511].copy_from_slice(&bytes[..511]);
+    sector
+}
+
+// The metadata that a backup gives an image of so many device sectors, or its refusal.
+fn check(bytes: &[u8], force: bool, sectors: u64) -> Result<Metadata, Refusal>
+    requires { sectors < 2 ^ 44 }
+    ensures answer { result ≡ restored bytes.now force sectors }
+    ensures version { IfOk result (λ m. IsTrue (is_served m.version m.flags)) }
+    ensures room { OnOk result (2 ≤ sectors) }
+    ensures plain { IfOk result (λ m. IsFalse force → encoded m ≡ backed_up_sector bytes.now) }
+{
+    if sectors < 2 {
+        return Err(Refusal::TooSmall {
+            size: 512 * sectors,
+        });
+    }
+    if bytes.len() < 511 {
+        return Err(Refusal::BackupTooShort {
+            length: bytes.len() as u64,
+        });
+    }
+    let meta = decode(&sector_of(bytes))?;
+    if force {
+        return Ok(Metadata {
+            provsize: 512 * sectors,
+            ..meta
+        });
+    }
+    size_gate(&meta, sectors)?;
+    Ok(meta)
+}
+
+/// Puts the metadata of a backup into the last sector of a disk: the first 511 bytes of the backup and a
+/// zero byte. Forced, the size in them becomes the image's, with a new MD5 (geli(8), restore). Answers the
+/// metadata, which are read again. They keep their version.
+///
+/// Whenever power fails, the last sector holds what it might hold before or the new metadata.
+///
+/// In this order it is refused as `TooSmall` (in bytes), exactly where there are fewer than two device
+/// sectors; as `BackupTooShort` (in bytes), exactly where the backup has fewer than 511 bytes; as `decode`
+/// refuses its first 511; as `BadSize` (in bytes), exactly where the size in the metadata isn't the
+/// image's, unless forced; and then nothing was done; as `DeviceFault`, only where the disk failed, and then
+/// the first of the events were done, and no others.
+pub fn restore<D: Disk>(disk: &mut D, bytes: &[u8], force: bool) -> Result<Metadata, Refusal>
+    ensures { Restores bytes.now force (D.state disk.old) result (D.state disk.new) }
+{
+    let sectors = disk.sectors();
+    let meta = check(bytes, force, sectors)?;
+    match replace_metadata(disk, &meta) {
+        Ok(()) => Ok(meta),
+        Err(_) => Err(Refusal::DeviceFault),
+    }
+}

@@ -1,0 +1,22 @@
+use Rattle.std.specs.Prelude.{◌≡◌, ℕ, ◌%◌, ◌≤◌, List, IsTrue}
+use Rattle.command_words.specs.declared.commands.Command.{Command}
+use Rattle.command_words.specs.declared.commands.Command.TheVariants as commands
+use Rattle.command_words.specs.Values.{is_hexadecimal}
+use Rattle.command_words.specs.Places.{bytes_at}
+
+-- What numbers of sectors keep: the first sector, and how many there are, at most so many.
+abbrev pub AreSectors : ℕ → ℕ → ℕ → Type 0
+AreSectors most first count = (first ≤ 9223372036854775807) × (1 ≤ count) × (count ≤ most)
+
+-- What a size of an image before it grew keeps.
+abbrev pub IsOldSize : ℕ → Type 0
+IsOldSize size = (1024 ≤ size) × (size ≤ 9007199254740480) × (size % 512 ≡ 0)
+
+-- The numbers of a command lie within their bounds, and its digits are hexadecimal.
+abbrev pub IsBounded : List ℕ → Command → Type 0
+IsBounded line (commands.Resize prov oldsize) = IsOldSize oldsize
+IsBounded line (commands.Read prov sector count) = AreSectors 256 sector count
+IsBounded line (commands.Write prov sector hex) = (sector ≤ 9223372036854775807) × IsTrue (is_hexadecimal (bytes_at line hex))
+IsBounded line (commands.Fill prov seed start count) = AreSectors 9223372036854775807 start count
+IsBounded line (commands.Sum prov start count) = AreSectors 9223372036854775807 start count
+IsBounded line _ = Unit {0}

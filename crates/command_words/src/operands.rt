@@ -1,0 +1,110 @@
+ghost use Rattle.std.specs.Prelude.{◌≡◌, [], MatchResult};
+ghost use Rattle.command_words.specs.Cursor.{seen, left};
+ghost use Rattle.command_words.specs.Values.{operand_fault, number_within};
+ghost use Rattle.command_words.specs.Pass.{with_operand, taken_operands};
+ghost use Rattle.command_words.specs.Operands.{operands_of};
+ghost use Rattle.command_words.specs.Settings.{span_of};
+
+use crate::commands::Usage;
+use crate::cursor::{Piece, Words};
+use crate::settings::named_file;
+use crate::spans::Span;
+use crate::table::Operand;
+use crate::values;
+use eli_base::Reason;
+
+/// What the operands of a line say.
+#[derive(Clone, Copy)]
+pub struct Operands {
+    pub prov: Span,
+    pub file: Span,
+    pub digits: Span,
+    pub seed: u64,
+    pub sector: u64,
+    pub few: u32,
+    pub many: u64,
+}
+
+fn number(value: Piece, low: u64, high: u64) -> Result<u64, Reason>
+    ensures { MatchResult result
+        (λ number. number_within low high value.entry.bytes.now ≡ Some number)
+        (λ reason. (number_within low high value.entry.bytes.now ≡ None) × (reason ≡ Reason.BadNumber)) }
+{
+    values::number(value.bytes, low, high).ok_or(Reason::BadNumber)
+}
+
+fn hexadecimal(value: Piece) -> Result<Span, Reason>
+    ensures { MatchResult result
+        (λ digits. (operand_fault Operand.Digits value.entry.bytes.now ≡ None) × (digits ≡ span_of (seen value.entry)))
+        (λ reason. operand_fault Operand.Digits value.entry.bytes.now ≡ Some reason) }
+{
+    if !values::is_hexadecimal(value.bytes) {
+        return Err(Reason::BadHex);
+    }
+    Ok(value.span())
+}
+
+impl Operands {
+    // What no operand says.
+    fn new() -> Operands
+        ensures { result ≡ operands_of [] [] }
+    {
+        let none = Span {
+            start: 0,
+            end: 0,
+            word: 0,
+        };
+        Operands {
+            prov: none,
+            file: none,
+            digits: none,
+            seed: 0,
+            sector: 0,
+            few: 0,
+            many: 0,
+        }
+    }
+
+    // Takes an operand, or says what is wrong with it.
+    fn put(&mut self, operand: Operand, word: Piece) -> Result<(), Reason>
+        ensures { MatchResult result
+            (λ _. (operand_fault operand word.entry.bytes.now ≡ None) × (self.new ≡ with_operand self.old operand (seen word.entry)))
+            (λ reason. operand_fault operand word.entry.bytes.now ≡ Some reason) }
+    {
+        match operand {
+            Operand::Provider => self.prov = word.span(),
+            Operand::File => self.file = named_file(word)?,
+            Operand::Sector => self.sector = number(word, 0, 9_223_372_036_854_775_807)?,
+            Operand::FewSectors => self.few = number(word, 1, 256)? as u32,
+            Operand::ManySectors => self.many = number(word, 1, 9_223_372_036_854_775_807)?,
+            Operand::Seed => self.seed = number(word, 0, 18_446_744_073_709_551_615)?,
+            Operand::Digits => self.digits = hexadecimal(word)?,
+        }
+        Ok(())
+    }
+}
+
+/// Takes the operands of a form from the words.
+pub fn take_operands(form: &[Operand], words: Words) -> Result<Operands, Usage>
+    ensures { MatchResult result
+        (λ operands. taken_operands form.now (left words.entry) (operands_of [] []) ≡ Ok operands)
+        (λ usage. taken_operands form.now (left words.entry) (operands_of [] []) ≡ Err usage) }
+{
+    let mut operands = Operands::new();
+    let mut form = form;
+    let mut at = words;
+    'operands: while let [operand, others @ ..] = form {
+        let Some((word, behind)) = at.split_first() else {
+            return Ok(operands);
+        };
+        if let Err(reason) = operands.put(*operand, word) {
+            return Err(Usage {
+                word: word.number,
+                reason,
+            });
+        }
+        form = others;
+        at = behind;
+    }
+    Ok(operands)
+}

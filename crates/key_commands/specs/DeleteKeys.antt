@@ -1,0 +1,72 @@
+-- What `delkey` answers, and what it does to the disk and the entropy (geli(8), delkey).
+use Rattle.std.specs.Prelude.{◌≡◌, ℕ, ◌<◌, Bool, List, length, replicate, None, Some, Result, Ok, Err}
+use Rattle.block_traits.specs.Disk.{DiskState, FailsIn, Logs, last_sector}
+use Rattle.block_traits.specs.Moments.{AtEachMoment, HoldsOnceFlushed, KeepsAlone, KeepsOldOr}
+use Rattle.block_traits.specs.Overwriting.{zeros}
+use Rattle.block_traits.specs.Streams.{EntropyState, Takes, TakesNone}
+use Rattle.eli_base.specs.declared.Refusal.{Refusal}
+use Rattle.eli_base.specs.declared.Refusal.TheVariants.{EntropyFault, DeviceFault}
+use Rattle.eli_metadata.specs.Format.{encoded}
+use Rattle.eli_metadata.specs.declared.Metadata.{Metadata}
+use Rattle.key_slots.specs.Slots.{slot_bytes}
+use Rattle.key_commands.specs.NewKey.{KeepsSlot}
+use Rattle.key_commands.specs.Overwriting.{HasNoKey, Names, deletion_refusal, filler_size, named_size, pass_events, without_keys}
+use Rattle.key_commands.specs.declared.overwriting.Which.{Which}
+
+-- what is asked for: the metadata as they were read, the slots that are named, and whether the last key may go
+pub record Deletion : Type 0 where
+  pub meta : Metadata
+  pub which : Which
+  pub force : Bool
+
+-- nothing is refused, and the random bytes are taken in one piece
+pub record DrawsFiller (asked : Deletion) (old : EntropyState) (random : List ℕ) (new : EntropyState) : Type 0 where
+  pub served : deletion_refusal asked.meta asked.which asked.force ≡ None
+  pub size : length random ≡ filler_size asked.which
+  pub taken : Takes random old new
+
+-- at each moment each value that the last sector may hold is one from before or has the named slots clear, and from the first
+-- flush on it is one of the latter
+pub record Overwrites (asked : Deletion) (disk disk' : DiskState) : Type 0 where
+  pub kept : KeepsOldOr (HasNoKey asked.meta asked.which) (last_sector disk) disk.content disk'.content
+  pub flushed : AtEachMoment (HoldsOnceFlushed (HasNoKey asked.meta asked.which) (last_sector disk)) disk.content disk'.content
+
+-- these are the metadata with zeros in the named slots, and the other slot is kept
+pub record IsWithout (asked : Deletion) (m : Metadata) : Type 0 where
+  pub metadata : m ≡ without_keys asked.meta asked.which (zeros (named_size asked.which))
+  pub named : (s : ℕ) → Names asked.which s → slot_bytes m s ≡ replicate 192 0
+  pub other : (s : ℕ) → s < 2 → ¬ Names asked.which s → KeepsSlot asked.meta m s
+
+-- all six passes were made, and the last sector then holds the metadata with zeros alone
+pub record Deletes (asked : Deletion) (disk : DiskState) (entropy : EntropyState) (m : Metadata) (disk' : DiskState) (entropy' : EntropyState) : Type 0 where
+  pub without : IsWithout asked m
+  pub random : List ℕ
+  pub draws : DrawsFiller asked entropy random entropy'
+  pub logs : Logs (pass_events disk asked.meta asked.which random) disk disk'
+  pub overwrites : Overwrites asked disk disk'
+  pub alone : KeepsAlone (encoded m) (last_sector disk) disk'.content
+
+-- the disk failed after a part of the events
+pub record DeletesPart (asked : Deletion) (disk : DiskState) (entropy : EntropyState) (disk' : DiskState) (entropy' : EntropyState) : Type 0 where
+  pub random : List ℕ
+  pub draws : DrawsFiller asked entropy random entropy'
+  pub fails : FailsIn (pass_events disk asked.meta asked.which random) disk disk'
+  pub overwrites : Overwrites asked disk disk'
+
+-- there were no random bytes, and the disk is as it was
+pub record HasNoFiller (asked : Deletion) (disk : DiskState) (entropy : EntropyState) (disk' : DiskState) (entropy' : EntropyState) : Type 0 where
+  pub served : deletion_refusal asked.meta asked.which asked.force ≡ None
+  pub none : TakesNone entropy entropy'
+  pub unchanged : disk' ≡ disk
+
+-- it is refused, and nothing was done
+pub record RefusesDeletion (asked : Deletion) (disk : DiskState) (entropy : EntropyState) (refusal : Refusal) (disk' : DiskState) (entropy' : EntropyState) : Type 0 where
+  pub cause : deletion_refusal asked.meta asked.which asked.force ≡ Some refusal
+  pub disk_unchanged : disk' ≡ disk
+  pub entropy_unchanged : entropy' ≡ entropy
+
+abbrev pub DeletesKeys : Deletion → DiskState → EntropyState → Result Metadata Refusal → DiskState → EntropyState → Type 0
+DeletesKeys asked disk entropy (Ok m) disk' entropy' = Deletes asked disk entropy m disk' entropy'
+DeletesKeys asked disk entropy (Err DeviceFault) disk' entropy' = DeletesPart asked disk entropy disk' entropy'
+DeletesKeys asked disk entropy (Err EntropyFault) disk' entropy' = HasNoFiller asked disk entropy disk' entropy'
+DeletesKeys asked disk entropy (Err refusal) disk' entropy' = RefusesDeletion asked disk entropy refusal disk' entropy'

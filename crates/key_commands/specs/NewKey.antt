@@ -1,0 +1,82 @@
+-- A new key in a slot of the metadata, which wraps the master key that is there (geli(8), setkey).
+use Rattle.std.specs.Prelude.{◌≡◌, ◌≢◌, ℕ, ◌^◌, ◌<◌, ℤ, pos, ◌==◌, ◌&&◌, not, bit_and, Bool, IsTrue, is_some, List, Option, Some, None, Result, Ok, if◌then◌else◌}
+use Rattle.std.specs.Int.{is_negative}
+use Rattle.eli_base.specs.declared.Refusal.{Refusal}
+use Rattle.eli_base.specs.declared.Refusal.TheVariants.{IterationsNeedOneKey}
+use Rattle.eli_metadata.specs.Check.{is_set, size_matches, slot_matches, supported}
+use Rattle.eli_metadata.specs.declared.Metadata.{Metadata}
+use Rattle.key_slots.specs.Slots.{Opens, SameSlot, with_slot, wrapped}
+use Rattle.user_key.specs.UserKey.{user_key}
+use Rattle.user_key.specs.declared.Components.{Components}
+use Rattle.user_key.specs.declared.KeyFault.{KeyFault}
+use Rattle.user_key.specs.declared.PassPart.{PassPart}
+use Rattle.user_key.specs.declared.PassPart.TheVariants.{Without, Missing, Given}
+use Rattle.user_key.specs.declared.UserKey.{UserKey}
+use Rattle.key_commands.specs.Options.{key_refusal}
+
+-- what is asked for: the metadata as they were read, the master key, the slot that is to have it, the iterations where they
+-- are given, and the components of the new user key
+pub record KeyChange : Type 0 where
+  pub meta : Metadata
+  pub master : List ℕ
+  pub slot : ℕ
+  pub iterations : Option ℤ
+  pub parts : Components
+
+-- the iterations, by those that are given, the passphrase, and those that were kept: a passphrase where none was set up
+-- brings 100,000
+abbrev pub new_iterations : Option ℤ → PassPart → ℤ → ℤ
+new_iterations (Some count) passphrase kept = count
+new_iterations None Without kept = kept
+new_iterations None Missing kept = kept
+new_iterations None (Given passphrase) kept = if is_negative kept then pos 100000 else kept
+
+abbrev pub iterations_of : KeyChange → ℤ
+iterations_of asked = new_iterations asked.iterations asked.parts.passphrase asked.meta.iterations
+
+-- the user key that the new components make under the new iterations, or why they make none
+abbrev pub new_user_key : KeyChange → Result UserKey KeyFault
+new_user_key asked = user_key asked.parts asked.meta.salt (iterations_of asked)
+
+-- whether this slot holds a key and the other one doesn't
+abbrev pub is_only_key : Metadata → ℕ → Bool
+is_only_key m slot = bit_and m.keys 3 == 2 ^ slot
+
+-- the first refusal that holds: iterations may be given only where the one key that is set is replaced, since the other key
+-- was made by those that are kept
+abbrev pub change_refusal : KeyChange → Option Refusal
+change_refusal asked =
+    (if is_some asked.iterations && not (is_only_key asked.meta asked.slot) then Some IterationsNeedOneKey
+    else key_refusal (new_user_key asked))
+
+-- the metadata with the new iterations, and the master key wrapped by the user key u in the slot
+abbrev pub with_key : KeyChange → List ℕ → Metadata
+with_key asked u =
+    let m = asked.meta in
+    with_slot (record m { iterations = iterations_of asked }) asked.slot (wrapped asked.master u m.keylen)
+
+-- what new metadata keep of slot s: its bytes and its bit, what each user key opens it to, and, where it holds a key, the user
+-- key that components make
+pub record KeepsSlot (old new : Metadata) (s : ℕ) : Type 0 where
+  pub same : SameSlot old new s
+  pub opens : (u master : List ℕ) → Opens old u s master → Opens new u s master
+  pub derives : IsTrue (is_set old s) → (parts : Components) (key : UserKey) → user_key parts old.salt old.iterations ≡ Ok key
+      → user_key parts new.salt new.iterations ≡ Ok key
+
+-- the check and the gate of sizes answer of the new metadata what they answer of the old ones, and slot s holds a key
+pub record IsAcceptedAs (old new : Metadata) (s : ℕ) : Type 0 where
+  pub settings : supported new ≡ supported old
+  pub size : (sectors : ℕ) → size_matches new sectors ≡ size_matches old sectors
+  pub any_slot : slot_matches new None ≡ Ok tt
+  pub slot : slot_matches new (Some s) ≡ Ok tt
+
+-- nothing is refused, and these are the new metadata: they are accepted, the slot opens to the master key with the user key that the components
+-- make under their salt and iterations, and the other slot is kept
+pub record MakesKey (asked : KeyChange) (m : Metadata) : Type 0 where
+  pub served : change_refusal asked ≡ None
+  pub key : UserKey
+  pub derived : user_key asked.parts m.salt m.iterations ≡ Ok key
+  pub metadata : m ≡ with_key asked key.bytes
+  pub accepted : IsAcceptedAs asked.meta m asked.slot
+  pub opens : Opens m key.bytes asked.slot asked.master
+  pub other : (s : ℕ) → s < 2 → s ≢ asked.slot → KeepsSlot asked.meta m s

@@ -1,0 +1,73 @@
+-- Slots of the metadata that are cleared and overwritten (geli(8), delkey).
+use Rattle.std.specs.Prelude.{◌≡◌, ℕ, ◌*◌, ◌<◌, ◌&&◌, not, nat_lt, bit_and, Bool, IsTrue, false, List, length, map, Option, Some, None, Ok, if◌then◌else◌}
+use Rattle.block_traits.specs.Disk.{DiskState, last_sector}
+use Rattle.block_traits.specs.Overwriting.{overwrite_events, passes_of}
+use Rattle.block_traits.specs.declared.Event.{Event}
+use Rattle.eli_base.specs.declared.Refusal.{Refusal}
+use Rattle.eli_base.specs.declared.Refusal.TheVariants.{KeyNumberOutOfRange, KeyNotSet, LastKey}
+use Rattle.eli_metadata.specs.Check.{is_set}
+use Rattle.eli_metadata.specs.Format.{IsInRange, encoded, is_served, metadata_in}
+use Rattle.eli_metadata.specs.declared.Metadata.{Metadata}
+use Rattle.key_slots.specs.Slots.{without_slot}
+use Rattle.key_commands.specs.NewKey.{is_only_key}
+use Rattle.key_commands.specs.declared.overwriting.Which.{Which}
+use Rattle.key_commands.specs.declared.overwriting.Which.TheVariants as slots
+
+-- the first refusal that holds: one slot that is named exists, holds a key, and isn't the only one that does
+abbrev pub deletion_refusal : Metadata → Which → Bool → Option Refusal
+deletion_refusal m slots.All force = None
+deletion_refusal m (slots.One slot) force =
+    (if nat_lt 1 slot then Some (KeyNumberOutOfRange slot)
+    else (if not (is_set m slot) then Some (KeyNotSet slot)
+    else (if not force && is_only_key m slot then Some (LastKey slot)
+    else None)))
+
+-- the slots that are named exist
+abbrev pub IsThere : Which → Type 0
+IsThere slots.All = Unit {0}
+IsThere (slots.One slot) = slot < 2
+
+-- each field fits its type
+pub record IsWhole (m : Metadata) : Type 0 where
+  pub range : IsInRange m
+  pub salt : length m.salt ≡ 64
+  pub mkeys : length m.mkeys ≡ 384
+
+-- slot s is named
+abbrev pub Names : Which → ℕ → Type 0
+Names slots.All s = s < 2
+Names (slots.One slot) s = s ≡ slot
+
+-- the bytes of the named slots
+abbrev pub named_size : Which → ℕ
+named_size slots.All = 384
+named_size (slots.One slot) = 192
+
+-- the metadata with these bytes in the named slots, which are then clear
+abbrev pub without_keys : Metadata → Which → List ℕ → Metadata
+without_keys m slots.All bytes = record m { keys = bit_and m.keys 252; mkeys = bytes }
+without_keys m (slots.One slot) bytes = without_slot m slot bytes
+
+-- the random bytes of all passes: there are six, and the last one has none
+abbrev pub filler_size : Which → ℕ
+filler_size which = 5 * named_size which
+
+-- the sector of the metadata with these bytes in the named slots
+abbrev pub sector_without : Metadata → Which → List ℕ → List ℕ
+sector_without m which bytes = encoded (without_keys m which bytes)
+
+-- the sectors of the six passes, in order: with the pieces of random bytes, and at last with zeros
+unfoldable pub pass_sectors : Metadata → Which → List ℕ → List (List ℕ)
+pass_sectors m which random = map (sector_without m which) (passes_of (named_size which) random)
+
+-- the last sector is written over in six passes
+abbrev pub pass_events : DiskState → Metadata → Which → List ℕ → List Event
+pass_events disk m which random = overwrite_events (last_sector disk) (pass_sectors m which random)
+
+-- the value is the sector of the metadata with other bytes in the named slots, which are clear
+pub record HasNoKey (m : Metadata) (which : Which) (value : List ℕ) : Type 0 where
+  pub bytes : List ℕ
+  pub size : length bytes ≡ named_size which
+  pub sector : value ≡ encoded (without_keys m which bytes)
+  pub read : IsTrue (is_served m.version m.flags) → metadata_in value ≡ Ok (without_keys m which bytes)
+  pub clear : (s : ℕ) → Names which s → is_set (without_keys m which bytes) s ≡ false

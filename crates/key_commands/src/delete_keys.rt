@@ -1,0 +1,47 @@
+//! Keys that are taken out of the metadata.
+
+ghost use Rattle.std.specs.Prelude.{◌≡◌, ◌<◌};
+ghost use Rattle.block_traits.specs.Streams.{entropy_of};
+ghost use Rattle.key_commands.specs.DeleteKeys.{DeletesKeys, Deletion};
+
+use crate::overwriting::{Which, cleared, deletion_refusal, filler_size, pass_sectors};
+use block_traits::{Entropy, MetaPlace, overwrite_last};
+use eli_base::Refusal;
+use eli_metadata::Metadata;
+
+/// Takes the keys of the named slots out of the metadata: clears their bits, and overwrites them, five times with
+/// random bytes and then with zeros (geli(8), `delkey`). Answers the metadata that are then in force.
+///
+/// `meta` are the metadata as they stand. Each pass stores them. From the first flush on the last sector holds
+/// none in which a named slot is set. The other slot stays.
+///
+/// In this order it is refused as `KeyNumberOutOfRange`, `KeyNotSet` or, unless `force`, as `LastKey` (one slot
+/// is named, and the other holds no key), and then nothing was done; as `EntropyFault`, only where the entropy
+/// failed, and then the disk is as it was; as `DeviceFault`, only where the disk failed. `All` is served also
+/// where no slot holds a key. The random bytes are taken in one call, before the first event of the disk.
+pub fn delkey<P: MetaPlace, E: Entropy>(
+    place: &mut P,
+    meta: &Metadata,
+    which: Which,
+    force: bool,
+    entropy: &mut E,
+) -> Result<Metadata, Refusal>
+    requires { 0 < (P.state place.old).size }
+    ensures deletes { let asked : Deletion = record { meta = meta.now; which = which; force = force } in
+        DeletesKeys asked (P.state place.old) (entropy_of E.left E.faults entropy.old)
+        result (P.state place.new) (entropy_of E.left E.faults entropy.new) }
+    ensures rest { P.rest place.new ≡ P.rest place.old }
+{
+    if let Some(refusal) = deletion_refusal(meta, which, force) {
+        return Err(refusal);
+    }
+    let mut buffer = [0; 1920];
+    let random = &mut buffer[..filler_size(which)];
+    if entropy.fill(random).is_err() {
+        return Err(Refusal::EntropyFault);
+    }
+    match overwrite_last(place, &pass_sectors(meta, which, random)) {
+        Ok(()) => Ok(cleared(meta, which)),
+        Err(_) => Err(Refusal::DeviceFault),
+    }
+}

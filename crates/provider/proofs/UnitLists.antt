@@ -1,0 +1,201 @@
+-- Logical sectors with authentication, piece by piece.
+use Rattle.std.proofs.Common.{◌≡◌, ◌≢◌, ℕ, zero, suc, ◌+◌, ◌-◌, ◌*◌, ◌/◌, ◌%◌, ◌<◌, ◌≤◌, min, List, [], ◌∷◌, ◌++◌, length, get_or, take, drop, Option, Some, None, IfSome, Result, Ok, Err, OnErr, subst, refl, sym, ap, ◌∙◌, arith, add-one}
+use Rattle.std.proofs.Math.Seq.{take-suc, drop-cons}
+use Rattle.std.proofs.lemmas.List.{take_all, take_min, drop_all, length-take-le, length-drop, take-append-drop}
+use Rattle.std.proofs.lemmas.Slice.{take-put_mid}
+use borrow.Rule.Slice.PartMut.{put_mid}
+use Rattle.block_traits.specs.Content.{Content, present}
+use Rattle.block_traits.specs.Disk.{DiskState, FailsIn, Logs}
+use Rattle.block_traits.proofs.Logs.{FailsIn-then, Logs-then, logged-none}
+use Rattle.block_traits.specs.declared.disk.Event.{Event}
+use Rattle.block_traits.specs.declared.disk.Event.TheVariants.{Write}
+use Rattle.eli_base.specs.declared.algorithms.Auth.{Auth}
+use Rattle.eli_base.specs.declared.algorithms.Auth.TheVariants.{Off, Sha256, Sha384, Sha512}
+use Rattle.eli_base.specs.Keying.{Keying}
+use Rattle.eli_base.specs.Units.{unit_bytes_of, units_per_sector}
+use Rattle.eli_base.proofs.Units.{units_reach}
+use Rattle.sealing.specs.Pieces.{opened_piece, sealed_piece}
+use Rattle.sealing.specs.Sectors.{before, joined, seal, unit_readings, units}
+use Rattle.sealing.proofs.PartLists.{part}
+use Rattle.sealing.proofs.Pieces.{sealed_unit-tagged, unit_reading-tagged, length-unit_readings-tagged}
+use Rattle.sealing.proofs.Sectors.{length-seal}
+use Rattle.provider.specs.Reading.{standing, sector_reading}
+use Rattle.provider.specs.Writing.{writes_from}
+use Rattle.provider.specs.Reads.{PieceAnswers, SectorAnswers}
+use Rattle.provider.specs.declared.faults.ReadFault.{ReadFault}
+use Rattle.provider.specs.declared.faults.ReadFault.TheVariants.{OutOfRange, DeviceFault, Integrity}
+use Rattle.provider.proofs.Readings.{before-ok, joined-push}
+
+-- ---- where a unit stands among the bytes of its logical sector
+
+-- unit j has the bytes from start to end
+pub record IsUnit (auth : Auth) (size j start end : ℕ) : Type 0 where
+  pub starts : start ≡ unit_bytes_of auth * j
+  pub at_least : 16 ≤ end - start
+  pub at_most : end - start ≤ unit_bytes_of auth
+  pub blocks : (end - start) % 16 ≡ 0
+  pub order : start ≤ end
+  pub within : end ≤ size
+  pub bytes : end - start ≡ min (unit_bytes_of auth) (size - unit_bytes_of auth * j)
+  pub next : end ≡ min (unit_bytes_of auth * (j + 1)) size
+
+pub is_unit : (auth : Auth) (size j start end : ℕ) → 512 ≤ size → size % 512 ≡ 0 → j < units_per_sector auth size → start ≡ min (unit_bytes_of auth * j) size
+    → end ≡ min size (start + unit_bytes_of auth) → IsUnit auth size j start end
+is_unit Off size j start end low whole lt s e =
+    record { starts = omega arith; at_least = omega arith; at_most = omega arith; blocks = omega arith; order = omega arith; within = omega arith; bytes = omega arith; next = omega arith }
+is_unit Sha256 size j start end low whole lt s e =
+    record { starts = omega arith; at_least = omega arith; at_most = omega arith; blocks = omega arith; order = omega arith; within = omega arith; bytes = omega arith; next = omega arith }
+is_unit Sha384 size j start end low whole lt s e =
+    record { starts = omega arith; at_least = omega arith; at_most = omega arith; blocks = omega arith; order = omega arith; within = omega arith; bytes = omega arith; next = omega arith }
+is_unit Sha512 size j start end low whole lt s e =
+    record { starts = omega arith; at_least = omega arith; at_most = omega arith; blocks = omega arith; order = omega arith; within = omega arith; bytes = omega arith; next = omega arith }
+
+pub length-between : (start end : ℕ) (bytes : List ℕ) → start ≤ end → end ≤ length bytes → length (take (end - start) (drop start bytes)) ≡ end - start
+length-between start end bytes order within = length-take-le (end - start) (drop start bytes) (omega (arith, length-drop start bytes))
+
+pub none_yet : (width size : ℕ) → 0 ≡ min (width * 0) size
+none_yet width size = omega arith
+
+-- ---- reading
+
+get_or-standing : (c : Content) (n count j : ℕ) → j < count → get_or (standing c n count) j [] ≡ present c (n + j)
+get_or-standing c n zero j lt = absurd (omega arith)
+get_or-standing c n (suc count) zero lt = let at : n ≡ n + 0 = omega arith in ap (present c) at
+get_or-standing c n (suc count) (suc j) lt = let at : n + 1 + j ≡ n + suc j = omega arith in get_or-standing c (n + 1) count j (omega arith) ∙ ap (present c) at
+
+length-standing : (c : Content) (n count : ℕ) → length (standing c n count) ≡ count
+length-standing c n zero = refl
+length-standing c n (suc count) = ap suc (length-standing c (n + 1) count)
+
+-- what the units of a logical sector read as now
+abbrev pub units_now : Keying → Content → ℕ → List (Result (List ℕ) ℕ)
+units_now k c sector = unit_readings k sector (standing c (sector * units k) (units k))
+
+pub length-units_now : (k : Keying) (c : Content) (sector : ℕ) → k.auth ≢ Off → length (units_now k c sector) ≡ units k
+length-units_now k c sector on =
+    length-unit_readings-tagged k sector (standing c (sector * units k) (units k)) on ∙ length-standing c (sector * units k) (units k)
+
+-- each is that of a piece
+pub unit_now : (k : Keying) (c : Content) (sector j n size : ℕ) → k.auth ≢ Off → j < units k → n ≡ sector * units k + j
+    → size ≡ min (unit_bytes_of k.auth) (k.sectorsize - unit_bytes_of k.auth * j) → get_or (units_now k c sector) j (Ok []) ≡ opened_piece k (512 * n) size (present c n)
+unit_now k c sector j n size on lt at bytes =
+    let offset : 512 * (sector * units k) + 512 * j ≡ 512 * n = omega arith in
+    unit_reading-tagged k sector j (standing c (sector * units k) (units k)) on (rw (length-standing c (sector * units k) (units k)) lt)
+    ∙ (λ i. opened_piece k (offset i) (sym bytes i) ((get_or-standing c (sector * units k) (units k) j lt ∙ ap (present c) (sym at)) i))
+
+pub joined-more : (readings : List (Result (List ℕ) ℕ)) (j : ℕ) (front piece : List ℕ) → j < length readings → joined (take j readings) ≡ Ok front
+    → get_or readings j (Ok []) ≡ Ok piece → joined (take (suc j) readings) ≡ Ok (front ++ piece)
+joined-more readings j front piece lt so here =
+    ap joined (take-suc readings j (Ok []) lt) ∙ ap (λ (r : Result (List ℕ) ℕ). joined (take j readings ++ r ∷ [])) here ∙ joined-push (take j readings) front piece so
+
+-- the first fault is that of all
+joined-faulty : (readings more : List (Result (List ℕ) ℕ)) (front : List ℕ) (offset : ℕ) → joined readings ≡ Ok front → joined (readings ++ Err offset ∷ more) ≡ Err offset
+joined-faulty [] more front offset so = refl
+joined-faulty (Ok bytes ∷ readings) more front offset so =
+    let rest = before-ok bytes (joined readings) front so in ap (before bytes) (joined-faulty readings more rest.0 offset rest.1)
+joined-faulty (Err other ∷ readings) more front offset so = absurd (cc so)
+
+pub joined-fault : (readings : List (Result (List ℕ) ℕ)) (j : ℕ) (front : List ℕ) (offset : ℕ) → j < length readings → joined (take j readings) ≡ Ok front
+    → get_or readings j (Ok []) ≡ Err offset → joined readings ≡ Err offset
+joined-fault readings j front offset lt so here =
+    ap joined (sym (take-append-drop j readings))
+    ∙ ap (λ (l : List (Result (List ℕ) ℕ)). joined (take j readings ++ l)) (drop-cons readings j (Ok []) lt)
+    ∙ ap (λ (r : Result (List ℕ) ℕ). joined (take j readings ++ r ∷ drop (suc j) readings)) here
+    ∙ joined-faulty (take j readings) (drop (suc j) readings) front offset so
+
+-- one unit more was read into its place
+pub joined-next : (readings : List (Result (List ℕ) ℕ)) (j start end : ℕ) (block piece : List ℕ) → j < length readings → joined (take j readings) ≡ Ok (take start block)
+    → get_or readings j (Ok []) ≡ Ok piece → end ≡ start + length piece → start ≤ length block
+    → joined (take (j + 1) readings) ≡ Ok (take end (put_mid start (end - start) block piece))
+joined-next readings j start end block piece lt so here long room =
+    ap (λ (n : ℕ). joined (take n readings)) (add-one j)
+    ∙ joined-more readings j (take start block) piece lt so here
+    ∙ ap Ok (sym (take-put_mid start (end - start) block piece end long room))
+
+-- ---- what reading a piece adds to what was read before, where the content is told
+
+pub read_next : (told now_told : Option Content) (k now : Keying) (sector j n size start end : ℕ) (block piece : List ℕ) → k.auth ≢ Off → now ≡ k → now_told ≡ told → j < units k
+    → n ≡ sector * units k + j → size ≡ end - start → IsUnit k.auth k.sectorsize j start end → length block ≡ k.sectorsize → length piece ≡ end - start
+    → IfSome told (λ (c : Content). joined (take j (units_now k c sector)) ≡ Ok (take start block))
+    → IfSome now_told (λ (c : Content). opened_piece now (512 * n) size (present c n) ≡ Ok piece)
+    → IfSome told (λ (c : Content). joined (take (j + 1) (units_now k c sector)) ≡ Ok (take end (put_mid start (end - start) block piece)))
+read_next None now_told k now sector j n size start end block piece on same there lt at count unit long len so gives = tt
+read_next (Some c) now_told k now sector j n size start end block piece on same there lt at count unit long len so gives =
+    let P : Option Content → Type 0 = λ told. IfSome told (λ (c : Content). opened_piece now (512 * n) size (present c n) ≡ Ok piece) in
+    let here : opened_piece now (512 * n) size (present c n) ≡ Ok piece = subst P there gives in
+    let order = unit.order in
+    let within = unit.within in
+    joined-next (units_now k c sector) j start end block piece (rw (length-units_now k c sector on) lt) so
+    (unit_now k c sector j n size on lt at (count ∙ unit.bytes) ∙ ap (λ (h : Keying). opened_piece h (512 * n) size (present c n)) (sym same) ∙ here)
+    (omega arith) (omega arith)
+
+read_faulty : (told now_told : Option Content) (k now : Keying) (sector j n size start end offset : ℕ) (block : List ℕ) → k.auth ≢ Off → now ≡ k → now_told ≡ told → j < units k
+    → n ≡ sector * units k + j → size ≡ end - start → IsUnit k.auth k.sectorsize j start end
+    → IfSome told (λ (c : Content). joined (take j (units_now k c sector)) ≡ Ok (take start block))
+    → IfSome now_told (λ (c : Content). opened_piece now (512 * n) size (present c n) ≡ Err offset)
+    → IfSome told (λ (c : Content). sector_reading k c sector ≡ Err offset)
+read_faulty None now_told k now sector j n size start end offset block on same there lt at count unit so gives = tt
+read_faulty (Some c) now_told k now sector j n size start end offset block on same there lt at count unit so gives =
+    let P : Option Content → Type 0 = λ told. IfSome told (λ (c : Content). opened_piece now (512 * n) size (present c n) ≡ Err offset) in
+    let here : opened_piece now (512 * n) size (present c n) ≡ Err offset = subst P there gives in
+    joined-fault (units_now k c sector) j (take start block) offset (rw (length-units_now k c sector on) lt) so
+    (unit_now k c sector j n size on lt at (count ∙ unit.bytes) ∙ ap (λ (h : Keying). opened_piece h (512 * n) size (present c n)) (sym same) ∙ here)
+
+pub fault_next : (fault : ReadFault) (first middle last : DiskState) (k now : Keying) (sector j n size start end : ℕ) (block piece bytes : List ℕ) → k.auth ≢ Off → now ≡ k → Logs [] first middle
+    → j < units k → n ≡ sector * units k + j → size ≡ end - start → IsUnit k.auth k.sectorsize j start end
+    → IfSome first.content (λ (c : Content). joined (take j (units_now k c sector)) ≡ Ok (take start block))
+    → PieceAnswers now n size middle last piece (Err fault) → SectorAnswers k sector first last bytes (Err fault)
+fault_next (OutOfRange a b m) first middle last k now sector j n size start end block piece bytes on same logs lt at count unit so gives = absurd gives
+fault_next DeviceFault first middle last k now sector j n size start end block piece bytes on same logs lt at count unit so gives = FailsIn-then [] [] logs gives
+fault_next (Integrity offset) first middle last k now sector j n size start end block piece bytes on same logs lt at count unit so gives = record {
+  logs = Logs-then [] [] logs gives.logs;
+  reads = read_faulty first.content middle.content k now sector j n size start end offset block on same (logs.content ∙ logged-none first.content) lt at count unit so gives.reads;
+}
+
+pub read_all : (told : Option Content) (k : Keying) (sector j start : ℕ) (block : List ℕ) → k.auth ≢ Off → j ≡ units k → start ≡ min (unit_bytes_of k.auth * j) k.sectorsize
+    → length block ≡ k.sectorsize → IfSome told (λ (c : Content). joined (take j (units_now k c sector)) ≡ Ok (take start block))
+    → IfSome told (λ (c : Content). sector_reading k c sector ≡ Ok block)
+read_all None k sector j start block on all end long so = tt
+read_all (Some c) k sector j start block on all end long so =
+    let count : length (units_now k c sector) ≤ j = rw (length-units_now k c sector on, all) (omega arith) in
+    let reach = units_reach k.auth k.sectorsize in
+    let most : unit_bytes_of k.auth * j ≡ unit_bytes_of k.auth * units k = ap (λ (m : ℕ). unit_bytes_of k.auth * m) all in
+    let whole : length block ≤ start = omega (arith, reach, most) in
+    ap joined (sym (take_all j (units_now k c sector) count)) ∙ so ∙ ap Ok (take_all start block whole)
+
+-- ---- writing
+
+pub on_err_so : {A E : Type 0} (P : Type 0) (r : Result A E) → P → OnErr r P
+on_err_so P (Ok x) p = tt
+on_err_so P (Err e) p = p
+
+-- the writes of the device sectors from unit j on
+pub piece_writes : Keying → ℕ → List ℕ → ℕ → List Event
+piece_writes k sector bytes j = writes_from (sector * units k + j) (drop j (seal k sector bytes))
+
+pub piece_writes-start : (k : Keying) (sector : ℕ) (bytes : List ℕ) → piece_writes k sector bytes 0 ≡ writes_from (sector * units k) (seal k sector bytes)
+unfolding piece_writes
+piece_writes-start k sector bytes = let at : sector * units k + 0 ≡ sector * units k = omega arith in ap (λ (n : ℕ). writes_from n (seal k sector bytes)) at
+
+pub piece_writes-next : (k : Keying) (sector : ℕ) (bytes : List ℕ) (j n start size : ℕ) → k.auth ≢ Off → length bytes ≡ k.sectorsize → j < units k → n ≡ sector * units k + j
+    → start ≡ unit_bytes_of k.auth * j → size ≡ min (unit_bytes_of k.auth) (k.sectorsize - unit_bytes_of k.auth * j)
+    → piece_writes k sector bytes j ≡ Write n (sealed_piece k (512 * n) (take size (drop start bytes))) ∷ piece_writes k sector bytes (j + 1)
+unfolding piece_writes
+piece_writes-next k sector bytes j n start size on long lt at starts count =
+    let d : ℕ = unit_bytes_of k.auth in
+    let offset : 512 * (sector * units k) + 512 * j ≡ 512 * n = omega arith in
+    let after : sector * units k + j + 1 ≡ sector * units k + (j + 1) = omega arith in
+    let cut : part d j bytes ≡ take size (drop start bytes) =
+    sym (take_min d (drop (d * j) bytes))
+    ∙ ap (λ (m : ℕ). take (min d m) (drop (d * j) bytes)) (length-drop (d * j) bytes ∙ ap (λ (m : ℕ). m - d * j) long)
+    ∙ (λ i. take (sym count i) (drop (sym starts i) bytes)) in
+    let here : get_or (seal k sector bytes) j [] ≡ sealed_piece k (512 * n) (take size (drop start bytes)) =
+    sealed_unit-tagged k sector j bytes on lt ∙ (λ i. sealed_piece k (offset i) (cut i)) in
+    ap (writes_from (sector * units k + j)) (drop-cons (seal k sector bytes) j [] (rw (length-seal k sector bytes) lt))
+    ∙ (λ i. Write (sym at i) (here i) ∷ writes_from (after i) (drop (sym (add-one j) i) (seal k sector bytes)))
+
+pub piece_writes-end : (k : Keying) (sector : ℕ) (bytes : List ℕ) (j : ℕ) → units k ≤ j → piece_writes k sector bytes j ≡ []
+unfolding piece_writes
+piece_writes-end k sector bytes j none =
+    let long = length-seal k sector bytes in
+    ap (writes_from (sector * units k + j)) (drop_all j (seal k sector bytes) (omega arith))

@@ -1,0 +1,17 @@
+use Rattle.std.proofs.Common.{◌≡◌, ◌*◌, length, min}
+use Rattle.block_traits.specs.Disk.{Continues}
+use Rattle.eli_base.specs.Units.{unit_bytes_of}
+use Rattle.provider.specs.Writing.{sector_writes}
+use Rattle.provider.proofs.UnitLists.{piece_writes}
+use Rattle.provider.proofs.pieces.write_pieces.Given as goal
+
+abbrev pub invariant-loop-j : goal.invariant-loop-j
+invariant-loop-j g l =
+    let state = g.D.Disk.state in
+    let k = l.initial.ring.keying in
+    record {
+      keying : l.ring.keying ≡ k;
+      size : (state l.disk).size ≡ (state l.initial.disk).size;
+      start : l.start ≡ min (unit_bytes_of k.auth * l.j) (length l.from);
+      events : Continues (piece_writes k l.sector l.from l.j) (sector_writes k l.sector l.from) (state l.disk) (state l.initial.disk);
+    }

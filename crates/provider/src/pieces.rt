@@ -1,0 +1,109 @@
+// Logical sectors with authentication, piece by piece.
+ghost use Rattle.std.specs.Prelude.{◌≡◌, ◌≢◌, ◌+◌, ◌*◌, ◌<◌, ◌≤◌, ◌%◌, min, OnOk, OnErr, length};
+ghost use Rattle.block_traits.specs.Disk.{FailsIn, Logs};
+ghost use Rattle.eli_base.specs.declared.algorithms.Auth.TheVariants.{Off};
+ghost use Rattle.eli_base.specs.Units.{unit_bytes_of};
+ghost use Rattle.sealing.specs.Sectors.{units};
+ghost use Rattle.provider.specs.Reads.{PieceAnswers, SectorAnswers};
+ghost use Rattle.provider.specs.Writing.{sector_writes};
+
+use crate::ReadFault;
+use auth_sectors::{open_piece, seal_piece};
+use block_traits::{Disk, DiskFailed, Sector};
+use range_keys::KeyRing;
+
+// Where the unit ends that begins at `start`, in a logical sector of so many bytes.
+fn unit_end(size: usize, start: usize, width: usize) -> usize
+    requires { start ≤ size }
+    ensures { result ≡ min size (start + width) }
+{
+    if size - start < width {
+        size
+    } else {
+        start + width
+    }
+}
+
+// Reads the piece in device sector `n`.
+fn read_piece<D: Disk>(
+    ring: &mut KeyRing,
+    disk: &mut D,
+    n: u64,
+    piece: &mut [u8],
+) -> Result<(), ReadFault>
+    requires on { ring.old.keying.auth ≢ Off }
+    requires at_least { 16 ≤ length piece.old }
+    requires at_most { length piece.old ≤ unit_bytes_of ring.old.keying.auth }
+    requires blocks { length piece.old % 16 ≡ 0 }
+    requires inside { n < (D.state disk.old).size }
+    ensures answer { PieceAnswers ring.old.keying n (length piece.old) (D.state disk.old) (D.state disk.new) piece.new result }
+    ensures keying { ring.new.keying ≡ ring.old.keying }
+{
+    let mut sector: Sector = [0; 512];
+    if disk.read(n, &mut sector).is_err() {
+        return Err(ReadFault::DeviceFault);
+    }
+    let offset = 512 * n;
+    match open_piece(ring, offset, &sector, piece) {
+        Ok(()) => Ok(()),
+        Err(_) => Err(ReadFault::Integrity { offset }),
+    }
+}
+
+/// Reads one logical sector.
+pub fn read_pieces<D: Disk>(
+    ring: &mut KeyRing,
+    disk: &mut D,
+    sector: u64,
+    block: &mut [u8],
+) -> Result<(), ReadFault>
+    requires on { ring.old.keying.auth ≢ Off }
+    requires size { length block.old ≡ ring.old.keying.sectorsize }
+    requires inside { sector * units ring.old.keying + units ring.old.keying ≤ (D.state disk.old).size }
+    ensures answer { SectorAnswers ring.old.keying sector (D.state disk.old) (D.state disk.new) block.new result }
+    ensures keying { ring.new.keying ≡ ring.old.keying }
+{
+    ring.is_of_a_keying();
+    let width = ring.auth().data_bytes();
+    let count = (block.len() - 1) / width + 1;
+    let first = sector * count as u64;
+    let mut start = 0;
+    for j in 0..count {
+        let end = unit_end(block.len(), start, width);
+        match read_piece(ring, disk, first + j as u64, &mut block[start..end]) {
+            Ok(()) => start = end,
+            Err(fault) => return Err(fault),
+        }
+    }
+    Ok(())
+}
+
+/// Writes one logical sector.
+pub fn write_pieces<D: Disk>(
+    ring: &mut KeyRing,
+    disk: &mut D,
+    sector: u64,
+    from: &[u8],
+) -> Result<(), DiskFailed>
+    requires on { ring.old.keying.auth ≢ Off }
+    requires size { length from.now ≡ ring.old.keying.sectorsize }
+    requires inside { sector * units ring.old.keying + units ring.old.keying ≤ (D.state disk.old).size }
+    ensures ok { OnOk result (Logs (sector_writes ring.old.keying sector from.now) (D.state disk.old) (D.state disk.new)) }
+    ensures err { OnErr result (FailsIn (sector_writes ring.old.keying sector from.now) (D.state disk.old) (D.state disk.new)) }
+    ensures keying { ring.new.keying ≡ ring.old.keying }
+{
+    ring.is_of_a_keying();
+    let width = ring.auth().data_bytes();
+    let count = (from.len() - 1) / width + 1;
+    let first = sector * count as u64;
+    let mut start = 0;
+    for j in 0..count {
+        let end = unit_end(from.len(), start, width);
+        let n = first + j as u64;
+        let mut piece: Sector = [0; 512];
+        seal_piece(ring, 512 * n, &from[start..end], &mut piece);
+        disk.write(n, &piece)?;
+        start = end;
+    }
+    Ok(())
+}

@@ -1,0 +1,13 @@
+pub mod Cells
+pub mod PartLists
+pub mod Local
+pub mod Matching
+pub mod Sectors
+pub mod Plain
+pub mod Pieces
+pub mod Readings
+pub mod Forged
+pub mod Survivors
+pub mod Ever
+pub mod Settled
+pub mod Writes

@@ -1,0 +1,83 @@
+// The drawers, one on each line.
+ghost use Rattle.std.specs.Prelude.{◌≡◌, ◌++◌, codes, ◌∷◌, [], map};
+ghost use Rattle.std.specs.List.{concat};
+ghost use Rattle.block_traits.specs.Streams.{sink_of};
+ghost use Rattle.reply_text.specs.Output.{Prints};
+ghost use Rattle.reply_text.specs.Text.{row_text, row_state, row_lines, number_fields};
+
+use crate::reply::write_numbers;
+use crate::{WriteEnd, write_text};
+use block_traits::{ByteList, Sink};
+use std::marker::Model;
+
+/// A drawer in a list of them.
+#[derive(Debug, Drop)]
+pub struct Row {
+    /// The drawer's name.
+    pub name: ByteList,
+    /// Whether it is attached.
+    pub attached: bool,
+    /// The bytes of a logical sector; 0 where it is idle.
+    pub sectorsize: u32,
+    /// The number of logical sectors; 0 where it is idle.
+    pub sectors: u64,
+}
+
+/// Drawers in the order in which they were added.
+#[derive(Debug, Drop)]
+pub struct RowList {
+    rows: Vec<Row>,
+}
+
+impl Model for RowList {
+    ghost use Rattle.std.specs.Prelude.{List};
+    ghost use Rattle.reply_text.specs.declared.rows.Row.{Row};
+
+    ghost Value = { List Row };
+
+    ghost view = { λ list. list.rows.items };
+}
+
+impl RowList {
+    /// The list of these rows. Takes no memory.
+    pub fn from_vec(rows: Vec<Row>) -> RowList
+        ensures { result ≡ rows.items }
+    {
+        RowList { rows }
+    }
+
+    /// The rows in order.
+    pub fn as_slice(&self) -> &[Row]
+        ensures { result.now ≡ self.now }
+    {
+        self.rows.as_slice()
+    }
+}
+
+pub(crate) fn write_rows<K: Sink>(rows: &[Row], output: &mut K) -> Result<(), WriteEnd>
+    ensures { Prints (row_lines rows.now) (sink_of K.taken K.faults output.old) result (sink_of K.taken K.faults output.new) }
+{
+    for row in rows {
+        write_row(row, output)?;
+    }
+    Ok(())
+}
+
+// A line with the name and the state.
+fn write_row<K: Sink>(row: &Row, output: &mut K) -> Result<(), WriteEnd>
+    ensures { Prints (row_text row.now) (sink_of K.taken K.faults output.old) result (sink_of K.taken K.faults output.new) }
+{
+    write_text(row.name.as_slice(), output)?;
+    write_state(row, output)?;
+    write_text(b"\n", output)
+}
+
+fn write_state<K: Sink>(row: &Row, output: &mut K) -> Result<(), WriteEnd>
+    ensures { Prints (row_state row.now) (sink_of K.taken K.faults output.old) result (sink_of K.taken K.faults output.new) }
+{
+    if !row.attached {
+        return write_text(b" idle", output);
+    }
+    write_text(b" attached", output)?;
+    write_numbers(&[row.sectorsize.into(), row.sectors], output)
+}

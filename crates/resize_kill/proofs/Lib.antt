@@ -1,0 +1,2 @@
+pub mod Destroyed
+pub mod Moved

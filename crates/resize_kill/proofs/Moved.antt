@@ -1,0 +1,168 @@
+-- That metadata which move are never lost.
+use Rattle.std.proofs.Common.{◌≡◌, ◌≢◌, ℕ, zero, suc, ◌+◌, ◌*◌, ◌/◌, ◌-◌, ◌<◌, ◌≤◌, ◌==◌, List, [], ◌∷◌, ◌++◌, length, take, get_or, refl, ap, sym, subst, ◌∙◌, arith, cond, true, false, Bool, All, Ok, Option, None, Some, inl, inr, Contains, ne_eqb}
+use Rattle.std.proofs.lemmas.Bool.{eq-eqb}
+use Rattle.std.proofs.Math.Seq.{take-length}
+use Rattle.std.proofs.lemmas.List.Elements.{All-nil, All-cons, All-take, All-contains}
+use Rattle.block_traits.specs.Content.{Content, IsContentOf, last_of, logged, present, kept_after, kept_values, with_events}
+use Rattle.block_traits.specs.Disk.{DiskState, FailsIn, FitsSize, Gives, GivesFrom, Logs, last_sector}
+use Rattle.block_traits.specs.Moments.{AtEachMoment, HoldsOldOr, WaitsForFlush}
+use Rattle.block_traits.specs.Overwriting.{overwrite_events}
+use Rattle.block_traits.specs.Streams.{EntropyState}
+use Rattle.block_traits.specs.declared.Event.{Event}
+use Rattle.block_traits.specs.declared.Event.TheVariants.{Write, Flush}
+use Rattle.block_traits.proofs.Contents.{last_of-push, last_of-kept_values}
+use Rattle.block_traits.proofs.Images.{held_at_end, held_when_settled}
+use Rattle.block_traits.proofs.Keeping.{AllHold, AllHold-one, AllHold-kept_after, AtEachMoment-part, HoldsOldOr-more, WaitsForFlush-more, WritesHere, flushed-more, kept_values-more}
+use Rattle.block_traits.proofs.Logs.{FailsIn-then, Logs-then}
+use Rattle.block_traits.proofs.Overwritten.{WritesHere-overwrite}
+use Rattle.eli_metadata.specs.Format.{encoded, metadata_in}
+use Rattle.eli_metadata.specs.Place.{IsSectorOf, replace_events}
+use Rattle.eli_metadata.specs.declared.Metadata.{Metadata}
+use Rattle.resize_kill.specs.Resizing.{FindsMetadata, HoldsOneOf, KeepsOneOf, Moves, MovesPart, Prepares, grown, move_events, old_place, size_refusal}
+use Rattle.resize_kill.specs.Trash.{TakesTrash, trash_sectors}
+
+-- the events of a move
+abbrev moving : ℕ → List ℕ → ℕ → List (List ℕ) → List Event
+moving last new place values = Flush ∷ Write last new ∷ Flush ∷ overwrite_events place values
+
+no_flush : Contains {X = Event} [] Flush → ⊥
+no_flush found = All-contains (λ (event : Event). ⊥) [] Flush (All-nil (λ (event : Event). ⊥)) found
+
+-- a write elsewhere changes nothing here
+written_elsewhere : (m n : ℕ) (values : List (List ℕ)) (value : List ℕ) → m ≢ n → cond (m == n) (values ++ value ∷ []) values ≡ values
+written_elsewhere m n values value other = ap (λ (b : Bool). cond b (values ++ value ∷ []) values) (ne_eqb m n other)
+
+-- until the new sector is flushed the old place is settled
+settled_1 : (c : Content) (place : ℕ) → kept_values (with_events (Flush ∷ []) c) place ≡ present c place ∷ []
+settled_1 c place = kept_values-more c (Flush ∷ []) place ∙ ap (λ (value : List ℕ). value ∷ []) (last_of-kept_values c place)
+
+settled_2 : (c : Content) (last place : ℕ) (new : List ℕ) → last ≢ place → kept_values (with_events (Flush ∷ Write last new ∷ []) c) place ≡ present c place ∷ []
+settled_2 c last place new other =
+    kept_values-more c (Flush ∷ Write last new ∷ []) place ∙ written_elsewhere last place (last_of (kept_values c place) ∷ []) new other ∙ ap (λ (value : List ℕ). value ∷ []) (last_of-kept_values c place)
+
+-- from then on the last sector has the new sector alone
+renewed : (c : Content) (last place : ℕ) (new : List ℕ) (values : List (List ℕ)) (k : ℕ) → last ≢ place
+    → All (λ (value : List ℕ). value ≡ new) (kept_values (with_events (Flush ∷ Write last new ∷ Flush ∷ take k (overwrite_events place values)) c) last)
+renewed c last place new values k other =
+    let P : List ℕ → Type 0 = λ value. value ≡ new in
+    let rest : List Event = take k (overwrite_events place values) in
+    let first : List (List ℕ) = last_of (kept_values c last) ∷ [] in
+    let here : (last == last) ≡ true = eq-eqb last last refl in
+    let is : last_of (cond (last == last) (first ++ new ∷ []) first) ≡ new =
+    ap (λ (b : Bool). last_of (cond b (first ++ new ∷ []) first)) here ∙ last_of-push first new in
+    let elsewhere : All (WritesHere P last) (overwrite_events place values) = WritesHere-overwrite P last place values (λ same. absurd (other (sym same))) in
+    rw (kept_values-more c (Flush ∷ Write last new ∷ Flush ∷ rest) last)
+    (AllHold-kept_after rest P last (last_of (cond (last == last) (first ++ new ∷ []) first) ∷ []) (All-take (WritesHere P last) k (overwrite_events place values) elsewhere)
+    (AllHold-one P _ is)).all
+
+HoldsOneOf-more : (last : ℕ) (new : Metadata) (place : ℕ) (old : Metadata) (values : List (List ℕ)) (c : Content) (k : ℕ) → last + 1 ≡ length c.base → place < last
+    → metadata_in (present c place) ≡ Ok old → HoldsOneOf last new place old c (with_events (take k (moving last (encoded new) place values)) c)
+HoldsOneOf-more last new place old values c zero end below was flushed image unaltered =
+    absurd (no_flush (flushed-more c [] flushed))
+HoldsOneOf-more last new place old values c (suc zero) end below was flushed image unaltered =
+    let now = with_events (Flush ∷ []) c in
+    inr (ap metadata_in (held_when_settled now image place (present c place) (omega arith) (settled_1 c place) unaltered) ∙ was)
+HoldsOneOf-more last new place old values c (suc (suc zero)) end below was flushed image unaltered =
+    let now = with_events (Flush ∷ Write last (encoded new) ∷ []) c in
+    let other : last ≢ place = omega arith in
+    inr (ap metadata_in (held_when_settled now image place (present c place) (omega arith) (settled_2 c last place (encoded new) other) unaltered) ∙ was)
+HoldsOneOf-more last new place old values c (suc (suc (suc k))) end below was flushed image unaltered =
+    let now = with_events (Flush ∷ Write last (encoded new) ∷ Flush ∷ take k (overwrite_events place values)) c in
+    let other : last ≢ place = omega arith in
+    inl (held_at_end (λ (value : List ℕ). value ≡ encoded new) now image last end (renewed c last place (encoded new) values k other) unaltered)
+
+-- of an image that grew by a device sector or more the old place is a data sector
+old_place_below : (sectors oldsize : ℕ) → oldsize < 512 * sectors → 1024 ≤ oldsize → old_place oldsize + 1 < sectors
+old_place_below sectors oldsize small least = omega arith
+
+-- the new place has the new sector alone written
+only_new : (last place : ℕ) (new : List ℕ) (values : List (List ℕ)) → place < last → All (WritesHere (λ value. value ≡ new) last) (moving last new place values)
+only_new last place new values below =
+    let P : List ℕ → Type 0 = λ value. value ≡ new in
+    let Q = WritesHere P last in
+    let elsewhere : All Q (overwrite_events place values) = WritesHere-overwrite P last place values (λ same. absurd (omega arith)) in
+    All-cons Q Flush (Write last new ∷ Flush ∷ overwrite_events place values) tt
+    (All-cons Q (Write last new) (Flush ∷ overwrite_events place values) (λ here. refl) (All-cons Q Flush (overwrite_events place values) tt elsewhere))
+
+-- what was read of a told disk is what stands there, and its last sector is that of its content
+record IsTold (disk : DiskState) (place : ℕ) (bytes : List ℕ) (c : Content) : Type 0 where
+  stands : bytes ≡ present c place
+  end : last_sector disk + 1 ≡ length c.base
+
+told : (disk : DiskState) (place : ℕ) (bytes : List ℕ) (c : Content) → Gives disk place bytes → 1 ≤ disk.size → disk.content ≡ Some c → IsTold disk place bytes c
+told disk place bytes c gives some is =
+    let stands : bytes ≡ present c place = subst (λ (o : Option Content). GivesFrom o place bytes) is gives in
+    let fits : IsContentOf disk.size c = subst (λ (o : Option Content). FitsSize disk.size o) is disk.well_formed.fits in
+    record { stands = stands; end = omega (arith, fits.sectors) }
+
+keeps-waits : (disk disk' : DiskState) (events : List Event) (k : ℕ) → disk'.content ≡ logged (take k (Flush ∷ events)) disk.content → AtEachMoment WaitsForFlush disk.content disk'.content
+keeps-waits disk disk' events k e = AtEachMoment-part WaitsForFlush (Flush ∷ events) k disk.content disk'.content (λ c j is. WaitsForFlush-more events c j) e
+
+KeepsOneOf-part : (disk disk' : DiskState) (old : Metadata) (oldsize : ℕ) (bytes random : List ℕ) (k : ℕ) → oldsize < 512 * disk.size → 1024 ≤ oldsize → Gives disk (old_place oldsize) bytes → metadata_in bytes ≡ Ok old
+    → disk'.content ≡ logged (take k (move_events disk (old_place oldsize) (grown old disk.size) random)) disk.content → KeepsOneOf (grown old disk.size) (old_place oldsize) old disk disk'
+KeepsOneOf-part disk disk' old oldsize bytes random k small least gives found e =
+    let new = grown old disk.size in
+    let place = old_place oldsize in
+    let last = last_sector disk in
+    let values = trash_sectors random in
+    let inside : place + 1 < disk.size = old_place_below disk.size oldsize small least in
+    let below : place < last = omega arith in
+    record {
+      waits = keeps-waits disk disk' (Write last (encoded new) ∷ Flush ∷ overwrite_events place values) k e;
+      last = AtEachMoment-part (HoldsOldOr (IsSectorOf new) last) (moving last (encoded new) place values) k disk.content disk'.content
+          (λ c j is. HoldsOldOr-more (IsSectorOf new) last (moving last (encoded new) place values) (only_new last place (encoded new) values below) c j) e;
+      one = AtEachMoment-part (HoldsOneOf last new place old) (moving last (encoded new) place values) k disk.content disk'.content
+          (λ c j is. let t = told disk place bytes c gives (omega arith) is in HoldsOneOf-more last new place old values c j t.end below (ap metadata_in (sym t.stands) ∙ found)) e;
+    }
+
+-- where a read is all that came before, the events of a move are those by the disk as it was
+events_before : (place : ℕ) (new : Metadata) (random : List ℕ) (disk middle : DiskState) → middle.size ≡ disk.size → move_events middle place new random ≡ move_events disk place new random
+events_before place new random disk middle same =
+    ap (λ (n : ℕ). Flush ∷ Write (n - 1) (encoded new) ∷ Flush ∷ overwrite_events place (trash_sectors random)) same
+
+prepared : (oldsize : ℕ) (disk middle : DiskState) (entropy entropy' : EntropyState) (old : Metadata) (random : List ℕ) → size_refusal disk.size oldsize ≡ None → FindsMetadata (old_place oldsize) oldsize disk old middle
+    → TakesTrash random entropy entropy' → metadata_in (encoded (grown old disk.size)) ≡ Ok (grown old disk.size) → Prepares oldsize disk entropy old random entropy'
+prepared oldsize disk middle entropy entropy' old random sizes found takes again = record {
+  sizes = sizes;
+  bytes = found.finds.bytes;
+  whole = found.finds.whole;
+  told = found.finds.told;
+  found = sym found.finds.answered;
+  size = found.size;
+  takes = takes;
+  again = again;
+}
+
+-- what the parts of a move did is what it did
+pub moves : (oldsize : ℕ) (disk middle disk' : DiskState) (entropy entropy' : EntropyState) (old : Metadata) (random : List ℕ) → size_refusal disk.size oldsize ≡ None → oldsize < 512 * disk.size → 1024 ≤ oldsize
+    → FindsMetadata (old_place oldsize) oldsize disk old middle → TakesTrash random entropy entropy' → metadata_in (encoded (grown old disk.size)) ≡ Ok (grown old disk.size)
+    → Logs (move_events middle (old_place oldsize) (grown old disk.size) random) middle disk' → Moves oldsize disk entropy disk' entropy'
+moves oldsize disk middle disk' entropy entropy' old random sizes small least found takes again logs =
+    let events = move_events disk (old_place oldsize) (grown old disk.size) random in
+    let P : List Event → Type 0 = λ es. Logs es middle disk' in
+    let whole : Logs events disk disk' =
+    Logs-then [] events found.finds.logs (subst P (events_before (old_place oldsize) (grown old disk.size) random disk middle found.finds.logs.size) logs) in
+    record {
+      old = old;
+      random = random;
+      prepares = prepared oldsize disk middle entropy entropy' old random sizes found takes again;
+      logs = whole;
+      keeps = KeepsOneOf-part disk disk' old oldsize found.finds.bytes random (length events) small least found.finds.told (sym found.finds.answered)
+          (whole.content ∙ ap (λ (es : List Event). logged es disk.content) (sym (take-length events)));
+    }
+
+pub moves_part : (oldsize : ℕ) (disk middle disk' : DiskState) (entropy entropy' : EntropyState) (old : Metadata) (random : List ℕ) → size_refusal disk.size oldsize ≡ None → oldsize < 512 * disk.size → 1024 ≤ oldsize
+    → FindsMetadata (old_place oldsize) oldsize disk old middle → TakesTrash random entropy entropy' → metadata_in (encoded (grown old disk.size)) ≡ Ok (grown old disk.size)
+    → FailsIn (move_events middle (old_place oldsize) (grown old disk.size) random) middle disk' → MovesPart oldsize disk entropy disk' entropy'
+moves_part oldsize disk middle disk' entropy entropy' old random sizes small least found takes again fails =
+    let events = move_events disk (old_place oldsize) (grown old disk.size) random in
+    let P : List Event → Type 0 = λ es. FailsIn es middle disk' in
+    let part : FailsIn events disk disk' =
+    FailsIn-then [] events found.finds.logs (subst P (events_before (old_place oldsize) (grown old disk.size) random disk middle found.finds.logs.size) fails) in
+    record {
+      old = old;
+      random = random;
+      prepares = prepared oldsize disk middle entropy entropy' old random sizes found takes again;
+      fails = part;
+      keeps = KeepsOneOf-part disk disk' old oldsize found.finds.bytes random part.count small least found.finds.told (sym found.finds.answered) part.logs.content;
+    }

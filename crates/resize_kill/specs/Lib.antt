@@ -1,0 +1,3 @@
+pub mod Killing
+pub mod Resizing
+pub mod Trash

@@ -1,0 +1,21 @@
+-- What a place of metadata is written over with, so that no pass is metadata.
+use Rattle.std.specs.Prelude.{◌≡◌, ℕ, List, ◌++◌, length, map}
+use Rattle.block_traits.specs.Overwriting.{zeros, passes_of}
+use Rattle.block_traits.specs.Streams.{EntropyState, Takes}
+
+-- five times 496 bytes
+abbrev pub random_size : ℕ
+random_size = 2480
+
+-- a sector with zeros in place of the magic, and these bytes behind them
+abbrev pub without_magic : List ℕ → List ℕ
+without_magic rest = zeros 16 ++ rest
+
+-- the sectors of the six passes, in order: behind the zeros the pieces of random bytes, and at last zeros alone
+unfoldable pub trash_sectors : List ℕ → List (List ℕ)
+trash_sectors random = map without_magic (passes_of 496 random)
+
+-- these are the random bytes of the passes, which were taken in one piece
+pub record TakesTrash (random : List ℕ) (old new : EntropyState) : Type 0 where
+  pub size : length random ≡ random_size
+  pub taken : Takes random old new

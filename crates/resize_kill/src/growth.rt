@@ -1,0 +1,111 @@
+//! A provider whose image has grown.
+
+ghost use Rattle.std.specs.Prelude.{◌≡◌, ◌<◌, ◌≤◌, ◌^◌, ◌*◌, ◌%◌, ◌+◌, Ok, None, Some, IsTrue, IfOk, IfErr, OnOk, OnErr};
+ghost use Rattle.block_traits.specs.Disk.{FailsIn, Logs};
+ghost use Rattle.block_traits.specs.Streams.{entropy_of};
+ghost use Rattle.eli_metadata.specs.Format.{encoded, is_served, metadata_in};
+ghost use Rattle.resize_kill.specs.Resizing.{FindsOld, Resizes, move_events, size_refusal};
+
+use crate::trash::{destroy, draw};
+use block_traits::{Disk, DiskFailed, Entropy};
+use eli_base::Refusal;
+use eli_metadata::{Metadata, decode, replace_metadata};
+
+// Refuses an image of so many device sectors, and an old size that isn't below its own.
+fn check_sizes(sectors: u64, oldsize: u64) -> Result<(), Refusal>
+    requires { sectors < 2 ^ 44 }
+    ensures ok { OnOk result (size_refusal sectors oldsize ≡ None) }
+    ensures err { IfErr result (λ refusal. size_refusal sectors oldsize ≡ Some refusal) }
+    ensures grown { OnOk result (oldsize < 512 * sectors) }
+{
+    let size = 512 * sectors;
+    if sectors < 2 {
+        return Err(Refusal::TooSmall { size });
+    }
+    if size <= oldsize {
+        return Err(Refusal::NotGrown {
+            size,
+            given: oldsize,
+        });
+    }
+    Ok(())
+}
+
+// The metadata that a sector has, if they are those of a provider of the old size.
+fn find_old<D: Disk>(disk: &mut D, place: u64, oldsize: u64) -> Result<Metadata, Refusal>
+    requires { place < (D.state disk.old).size }
+    ensures finds { FindsOld place oldsize (D.state disk.old) result (D.state disk.new) }
+    ensures version { IfOk result (λ m. IsTrue (is_served m.version m.flags)) }
+{
+    let mut bytes = [0; 512];
+    if disk.read(place, &mut bytes).is_err() {
+        return Err(Refusal::DeviceFault);
+    }
+    let meta = decode(&bytes)?;
+    if meta.provsize != oldsize {
+        return Err(Refusal::OldSizeMismatch {
+            kept: meta.provsize,
+            given: oldsize,
+        });
+    }
+    Ok(meta)
+}
+
+// Puts metadata into the last sector, and then destroys what the old place has.
+fn move_metadata<D: Disk>(
+    disk: &mut D,
+    place: u64,
+    meta: &Metadata,
+    random: &[u8; 2480],
+) -> Result<(), DiskFailed>
+    requires { place < (D.state disk.old).size }
+    ensures read { IsTrue (is_served meta.now.version meta.now.flags) → metadata_in (encoded meta.now) ≡ Ok meta.now }
+    ensures ok { OnOk result (Logs (move_events (D.state disk.old) place meta.now random.now) (D.state disk.old) (D.state disk.new)) }
+    ensures err { OnErr result (FailsIn (move_events (D.state disk.old) place meta.now random.now) (D.state disk.old) (D.state disk.new)) }
+{
+    replace_metadata(disk, meta)?;
+    destroy(disk, place, random)
+}
+
+/// Moves the metadata of a provider whose image has grown from so many bytes, `oldsize`, to the last
+/// sector as it now is, with the image's size in them, and destroys those in the old place: six times it is
+/// written and flushed, five times with random bytes and once with zeros, and the first sixteen bytes are
+/// zeros each time (geli(8), resize). The metadata keep their version and all else but the size.
+///
+/// Until the first flush landed every sector holds what it might hold before, whenever power fails. From
+/// then on the last sector holds the new metadata or the old place the old ones, in each image that a crash
+/// leaves and nobody alters.
+///
+/// In this order it is refused as `TooSmall` (in bytes: fewer than two device sectors), or as `NotGrown`,
+/// exactly where the old size isn't below the image's, in bytes, and then nothing was done; as
+/// `DeviceFault`, only where the read failed; as `decode` refuses what the old place has; as
+/// `OldSizeMismatch`, exactly where its metadata are of another size, in bytes; as `EntropyFault`, only where
+/// the entropy failed, and then the disk has no event; as `DeviceFault`, only where the disk failed, and then
+/// the first of the events were done, and no others. The random bytes are taken in one call, before the
+/// first event of the disk.
+pub fn resize<D: Disk, E: Entropy>(
+    disk: &mut D,
+    oldsize: u64,
+    entropy: &mut E,
+) -> Result<(), Refusal>
+    requires whole { oldsize % 512 ≡ 0 }
+    requires least { 1024 ≤ oldsize }
+    ensures { Resizes oldsize (D.state disk.old) (entropy_of E.left E.faults entropy.old)
+        result (D.state disk.new) (entropy_of E.left E.faults entropy.new) }
+{
+    let sectors = disk.sectors();
+    check_sizes(sectors, oldsize)?;
+    let place = oldsize / 512 - 1;
+    let old = find_old(disk, place, oldsize)?;
+    let Ok(random) = draw(entropy) else {
+        return Err(Refusal::EntropyFault);
+    };
+    let meta = Metadata {
+        provsize: 512 * sectors,
+        ..old
+    };
+    match move_metadata(disk, place, &meta, &random) {
+        Ok(()) => Ok(()),
+        Err(_) => Err(Refusal::DeviceFault),
+    }
+}

@@ -1,0 +1,5 @@
+use Rattle.xts_mode.proofs.Halves.{doubled_list}
+use Rattle.xts_mode.proofs.doubling.doubled.Goals as goal
+
+pub returns-clause-value : goal.returns-clause-value
+returns-clause-value c = doubled_list c.args.t c.fits-t.0 c.fits-t.1

@@ -2,38 +2,41 @@
 """The table of the test of provider, by python3's hmac, hashlib and `cryptography`.
 
 The master key is the bytes 0 to 127: IV-Key, then Data-Key. The plain text is byte i = (7 * i + i / 256) mod 256. A row
-has the SHA-256 digest of the image's data sectors: three logical sectors, the first of zeros, and the plain text sealed
-to the other two under a data key of 128 bits.
+has the numbers of an authentication and of a cipher, the bits of a data key, and for each sector size from 512 to 65,536
+the first eight bytes of the SHA-256 digest of the image's data sectors: two logical sectors, the first of zeros, and
+the plain text sealed to the second.
 """
 import hashlib
-import hmac
-from cryptography.hazmat.primitives.ciphers import Cipher, algorithms, modes
 
-MASTER = bytes(range(128))
-IV_KEY, DATA_KEY = MASTER[:64], MASTER[64:]
+from piece_digests import CIPHERS, DATA_KEY, TAGS, piece, sealed
 
-
-def le64(number):
-    return number.to_bytes(8, "little")
+NUMBERS = {"AesXts": "AES_XTS", "AesCbc": "AES_CBC"}
 
 
-def sealed(ealgo, offset, text):
-    key = hmac.digest(DATA_KEY, b"ekey" + le64((offset >> 20) // len(text)), "sha512")
-    if ealgo == 22:
-        step = Cipher(algorithms.AES(key[:32]), modes.XTS(le64(offset) + bytes(8))).encryptor()
-    else:
-        iv = hashlib.sha256(IV_KEY + le64(offset)).digest()[:16]
-        step = Cipher(algorithms.AES(key[:16]), modes.CBC(iv)).encryptor()
-    return step.update(text) + step.finalize()
+def plain_sector(cipher, bits, sector, block):
+    offset = sector * len(block)
+    return sealed(DATA_KEY, cipher, bits, (offset >> 20) // len(block), offset, block)
 
 
-def image(ealgo, size):
-    text = bytes((7 * i + i // 256) % 256 for i in range(2 * size))
-    return bytes(size) + b"".join(sealed(ealgo, k * size, text[(k - 1) * size:k * size]) for k in (1, 2))
+def tagged_sector(auth, cipher, bits, sector, block):
+    data = 512 - TAGS[auth]
+    units = (len(block) - 1) // data + 1
+    return b"".join(piece(auth, cipher, bits, 512 * (sector * units + j), block[data * j: data * (j + 1)])
+                    for j in range(units))
+
+
+def digest(auth, cipher, bits, size):
+    block = bytes((7 * i + i // 256) % 256 for i in range(size))
+    out = tagged_sector(auth, cipher, bits, 1, block) if auth else plain_sector(cipher, bits, 1, block)
+    return hashlib.sha256(bytes(len(out)) + out).hexdigest()
+
+
+def main():
+    for number, auth in enumerate((None, *TAGS), 17):
+        for cipher, bits in CIPHERS:
+            digests = ", ".join("0x" + digest(auth, cipher, bits, 512 << i)[:16] for i in range(8))
+            print(f"    ({number if auth else 0}, {NUMBERS[cipher]}, {bits}, [{digests}]),")
 
 
 if __name__ == "__main__":
-    for ealgo in (22, 11):
-        for size in (512, 4096, 65536):
-            digest = hashlib.sha256(image(ealgo, size)).hexdigest()
-            print(f"(0x{ealgo:02x}, {size}, [0x{digest[:32]}, 0x{digest[32:]}]),")
+    main()

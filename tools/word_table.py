@@ -1,8 +1,9 @@
 #!/usr/bin/env python3
-"""The table of the test of command_words, by another reader of the syntax.
+"""The tables of the tests of command_words, by another reader of the syntax.
 
-Each row of the table has the separator, a line, and what the line says. This takes the lines from the table, reads them
-itself, and prints the rows that come of it. It ends with status 1 where they aren't the table's.
+A row of the first table has the separator, a line, and what the line says; one of the second has the words of a command
+line and the images that they name. This takes lines and words from the tables, reads them itself, and prints the rows
+that come of it. It ends with status 1 where they aren't the tables'.
 """
 import re
 import sys
@@ -11,9 +12,8 @@ from pathlib import Path
 
 TABLE = Path(__file__).parent.parent / "crates/command_words/src/tests/table.rt"
 
-# Bytes that the table writes by other signs.
-SIGNS = str.maketrans("~`^", "\0\t\r")
-BYTES = str.maketrans("\0\t\r", "~`^")
+# Bytes that the tables write by other signs.
+SIGNS = {b"~": b"\0", b"`": b"\t", b"^": b"\r", b"!": b"\xff", b"%": b"\xc3", b"{": b"a" * 262140, b"}": b"a" * 37855}
 
 # The options of a verb without a value, those with one, and its operands.
 VERBS = {
@@ -133,11 +133,21 @@ def options(verb, alone, valued, found):
     return given, found[at:]
 
 
+def is_text(line):
+    try:
+        line.decode()
+    except UnicodeDecodeError:
+        return False
+    return True
+
+
 def read(line, sep):
     """The verb, the options and the operands of a line; None where it says nothing."""
     found = words(line, sep)
     if not found or sep == "B" and found[0].text[:1] == b"#":
         return None
+    if not is_text(line):
+        raise Usage(0, "NotText")
     verb = found[0].text
     if verb not in VERBS:
         raise Usage(0, "UnknownVerb")
@@ -158,43 +168,59 @@ def read(line, sep):
 
 
 def show_value(value):
-    return f"{value.text.decode()}@{value.number}+{value.start}"
+    return f"{value.number}@{value.start}..{value.start + len(value.text)}"
 
 
 def show_key(given, files, passphrases, without):
-    shown = [" ".join(map(show_value, given.get(letter, []))) for letter in (files, passphrases)]
-    return f" files[{shown[0]}] pass[{shown[1]}] without={str(without in given).lower()}"
+    shown = [", ".join(map(show_value, given.get(letter, []))) for letter in (files, passphrases)]
+    return f"KeyWords {{ files: [{shown[0]}], pass: [{shown[1]}], without: {str(without in given).lower()} }}"
 
 
-def show_operands(operands):
-    """Places of names and of digits, and values of numbers, in the order of the line."""
-    return "".join(f" {int(value.text)}" if kind in BOUNDS else f" {show_value(value)}" for kind, value in operands.items())
+# The fields of a command, in order: operands, and options by their letters.
+FIELDS = {
+    b"init": "prov cipher=e auth=a keylen=l sectorsize=s iterations=i autoresize=R fresh=KJP backup=B",
+    b"attach": "prov only_check=C readonly=r slot=n old=kjp",
+    b"setkey": "prov iterations=i slot=n old=kjp fresh=KJP",
+    b"delkey": "prov all=a force=f slot=n",
+    b"restore": "file prov force=f",
+    b"resize": "prov oldsize=s",
+    b"read": "prov sector count=few",
+    b"fill": "prov seed start=sector count=many",
+    b"sum": "prov start=sector count=many",
+}
+
+
+def show_option(verb, given, last, letter):
+    """What an option comes to, or what stands for it where it isn't given. The last value counts."""
+    if len(letter) == 3:
+        return show_key(given, *letter)
+    if letter in VERBS[verb][0]:
+        return str((letter in given) != (letter == "R")).lower()
+    if letter in "in":
+        return f"Some({int(last[letter])})" if letter in last else "None"
+    if letter in "ls":
+        return str(int(last.get(letter, {"l": 128, "s": 512}[letter])))
+    if letter == "B":
+        return f"Some({show_value(given[letter][-1])})" if last.get(letter, b"none") != b"none" else "None"
+    if letter == "a" and letter not in last:
+        return "Off"
+    return NAMES[letter][last.get(letter, b"AES-XTS").upper()]
 
 
 def show_command(verb, given, operands):
-    # Of an option with one value the last one counts.
     last = {letter: values[-1].text for letter, values in given.items() if values}
-    some = {letter: f"Some({int(last[letter])})" if letter in last else None for letter in "in"}
-    is_given = {letter: str(letter in given).lower() for letter in "CRafr"}
-    start = verb.decode() + show_operands(operands)
-    if verb == b"attach":
-        return f"{start} check={is_given['C']} readonly={is_given['r']} slot={some['n']}" + show_key(given, "k", "j", "p")
-    if verb == b"setkey":
-        return f"{start} {some['i']} slot={some['n']}" + show_key(given, "k", "j", "p") + " new" + show_key(given, "K", "J", "P")
-    if verb == b"delkey":
-        return f"{start} all={is_given['a']} force={is_given['f']} slot={some['n']}"
-    if verb == b"restore":
-        return f"{start} force={is_given['f']}"
-    if verb == b"resize":
-        return f"{start} {int(last['s'])}"
-    if verb != b"init":
-        return start
-    cipher = NAMES["e"][last.get("e", b"AES-XTS").upper()]
-    auth = NAMES["a"][last["a"].upper()] if "a" in last else "Off"
-    numbers = f"{int(last.get('l', 128))} {int(last.get('s', 512))} {some['i']}"
-    backup = show_value(given["B"][-1]) if last.get("B", b"none") != b"none" else None
-    grow = str("R" not in given).lower()
-    return f"{start} {cipher} {auth} {numbers} grow={grow}" + show_key(given, "K", "J", "P") + f" backup={backup}"
+    fields = []
+    for field in FIELDS.get(verb, VERBS[verb][2]).split():
+        name, _, place = field.partition("=")
+        operand = operands.get(place or name)
+        if operand is None:
+            shown = show_option(verb, given, last, place)
+        elif (place or name) in BOUNDS:
+            shown = int(operand.text)
+        else:
+            shown = show_value(operand)
+        fields.append(f"{name}: {shown}")
+    return verb.decode().title() + (" { " + ", ".join(fields) + " }" if fields else "")
 
 
 def reply(line, sep):
@@ -205,13 +231,40 @@ def reply(line, sep):
     return show_command(*said) if said else "none"
 
 
-def row(sep, line):
-    text = line.translate(SIGNS)
-    return f"{sep}|{line}|{reply(text.encode(), sep).translate(BYTES)}"
+def images(words):
+    """The images that the words of a command line name."""
+    if words[0] == b"script" and 1 <= len(words[1:]) == len(set(words[1:])) <= 16:
+        return words[1:]
+    line = b"\0".join(words)
+    try:
+        said = len(line) <= 300000 and read(line, "Z")
+    except Usage:
+        return []
+    return [said[2]["prov"].text] if said and "prov" in said[2] else []
+
+
+def plain(text):
+    return b"".join(SIGNS.get(bytes([byte]), bytes([byte])) for byte in text.encode())
+
+
+def line_row(row):
+    sep, line, _ = row.split("|", 2)
+    return f"{sep}|{line}|{reply(plain(line), sep)}"
+
+
+def image_row(row):
+    words = row.partition("||")[0]
+    signs = {plain(word): word for word in words.split("|")}
+    shown = ", ".join(f'"{signs[name]}"' for name in images([plain(word) for word in words.split("|")]))
+    return f"{words}||[{shown}]"
 
 
 if __name__ == "__main__":
-    table = TABLE.read_text(encoding="utf-8").split('"')[1].splitlines()
-    rows = [row(*before.split("|", 2)[:2]) for before in table]
-    print("\n".join(rows))
-    sys.exit(rows != table)
+    tables = TABLE.read_text(encoding="utf-8").split('r#"')[1:]
+    wrong = False
+    for table, make in zip(tables, (line_row, image_row)):
+        before = table.split('"#')[0].splitlines()
+        rows = [make(row) for row in before]
+        print("\n".join(rows))
+        wrong |= rows != before
+    sys.exit(wrong)

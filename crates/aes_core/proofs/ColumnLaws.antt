@@ -1,14 +1,17 @@
--- Each entry of the tables of columns, a column from four of them, and a round by columns.
-use Rattle.std.proofs.Common.{◌≡◌, ℕ, suc, ◌^◌, ◌+◌, ◌*◌, ◌<◌, ◌/◌, ◌%◌, List, [], ◌∷◌, length, map, get_or, bit_xor, refl, sym, ap, subst, ◌∙◌, arith, lit<}
+-- Each entry of the tables of columns, a column from four of them, and a round by columns, both ways.
+use Rattle.std.proofs.Common.{◌≡◌, ℕ, zero, suc, ◌^◌, ◌+◌, ◌-◌, ◌*◌, ◌<◌, ◌/◌, ◌%◌, List, [], ◌∷◌, length, map, get_or, bit_xor, refl, sym, ap, subst, ◌∙◌, arith, lit<}
 use Rattle.std.proofs.lemmas.Nat.{xor_block, xor_of_8}
 use Rattle.std.specs.List.{range_with_len}
 use Rattle.std.specs.Simd.Lanes.{digits_l, number_l}
 use Rattle.aes_core.specs.Field.{times, power}
-use Rattle.aes_core.specs.Aes.{sbox, bytes_by, sub_bytes, shift_rows, mix_columns}
+use Rattle.std.proofs.lemmas.Simd.{get_or-zip2, get_or-chunk}
+use Rattle.aes_core.specs.Aes.{sbox, inverse_affine, inverse_sbox, after_inverse_rounds, bytes_by, xor, sub_bytes, shift_rows, mix_columns, inverse_sub_bytes, inverse_shift_rows, inverse_mix_columns, circulant_byte, round_key}
 use Rattle.aes_core.proofs.Boxes.{agree_at}
-use Rattle.aes_core.proofs.Inverse.{by_index, times-lt, sum4, sum4-rotated, IsState-mix_columns}
-use Rattle.aes_core.specs.Columns.{word_of, mixed_word}
+use Rattle.aes_core.specs.State.{IsState}
+use Rattle.aes_core.proofs.Inverse.{by_index, times-lt, power-lt, sum4, sum4-rotated, IsState-mix_columns, IsState-bytes_by, IsState-xor}
+use Rattle.aes_core.specs.Columns.{word_of, word_at, words_of, mixed_word, unmixed_word}
 use Rattle.aes_core.specs.declared.column_tables.TheConstants.{ROW_0, ROW_1, ROW_2, ROW_3}
+use Rattle.aes_core.specs.declared.inverse_column_tables.TheConstants.{INVERSE_ROW_0, INVERSE_ROW_1, INVERSE_ROW_2, INVERSE_ROW_3}
 
 entries0 : map (λ x. get_or ROW_0 x 0) (range_with_len 0 256) ≡ map (λ x. word_of (times 2 (sbox x)) (times 1 (sbox x)) (times 1 (sbox x)) (times 3 (sbox x))) (range_with_len 0 256)
 unfolding sbox power times
@@ -70,6 +73,57 @@ column_is a b c d la lb lc ld =
     ((sym (sum4-rotated (times 1 w) (times 1 x) (times 2 y) (times 3 z)) ∙ sym (sum4-rotated (times 1 x) (times 2 y) (times 3 z) (times 1 w))) i)
     (sum4-rotated (times 2 z) (times 3 w) (times 1 x) (times 1 y) i))
 
+-- ---- the inverse
+
+inverse_entries0 : map (λ x. get_or INVERSE_ROW_0 x 0) (range_with_len 0 256) ≡ map (λ x. word_of (times 14 x) (times 9 x) (times 13 x) (times 11 x)) (range_with_len 0 256)
+unfolding times
+inverse_entries0 = refl
+
+inverse_entry0 : (x : ℕ) → x < 256 → get_or INVERSE_ROW_0 x 0 ≡ word_of (times 14 x) (times 9 x) (times 13 x) (times 11 x)
+inverse_entry0 x lt = agree_at (λ x. get_or INVERSE_ROW_0 x 0) (λ x. word_of (times 14 x) (times 9 x) (times 13 x) (times 11 x)) 256 x inverse_entries0 lt
+
+inverse_entries1 : map (λ x. get_or INVERSE_ROW_1 x 0) (range_with_len 0 256) ≡ map (λ x. word_of (times 11 x) (times 14 x) (times 9 x) (times 13 x)) (range_with_len 0 256)
+unfolding times
+inverse_entries1 = refl
+
+inverse_entry1 : (x : ℕ) → x < 256 → get_or INVERSE_ROW_1 x 0 ≡ word_of (times 11 x) (times 14 x) (times 9 x) (times 13 x)
+inverse_entry1 x lt = agree_at (λ x. get_or INVERSE_ROW_1 x 0) (λ x. word_of (times 11 x) (times 14 x) (times 9 x) (times 13 x)) 256 x inverse_entries1 lt
+
+inverse_entries2 : map (λ x. get_or INVERSE_ROW_2 x 0) (range_with_len 0 256) ≡ map (λ x. word_of (times 13 x) (times 11 x) (times 14 x) (times 9 x)) (range_with_len 0 256)
+unfolding times
+inverse_entries2 = refl
+
+inverse_entry2 : (x : ℕ) → x < 256 → get_or INVERSE_ROW_2 x 0 ≡ word_of (times 13 x) (times 11 x) (times 14 x) (times 9 x)
+inverse_entry2 x lt = agree_at (λ x. get_or INVERSE_ROW_2 x 0) (λ x. word_of (times 13 x) (times 11 x) (times 14 x) (times 9 x)) 256 x inverse_entries2 lt
+
+inverse_entries3 : map (λ x. get_or INVERSE_ROW_3 x 0) (range_with_len 0 256) ≡ map (λ x. word_of (times 9 x) (times 13 x) (times 11 x) (times 14 x)) (range_with_len 0 256)
+unfolding times
+inverse_entries3 = refl
+
+inverse_entry3 : (x : ℕ) → x < 256 → get_or INVERSE_ROW_3 x 0 ≡ word_of (times 9 x) (times 13 x) (times 11 x) (times 14 x)
+inverse_entry3 x lt = agree_at (λ x. get_or INVERSE_ROW_3 x 0) (λ x. word_of (times 9 x) (times 13 x) (times 11 x) (times 14 x)) 256 x inverse_entries3 lt
+
+-- the sum of the four entries
+pub unmixed_is : (a b c d : ℕ) → a < 256 → b < 256 → c < 256 → d < 256
+    → bit_xor (bit_xor (bit_xor (get_or INVERSE_ROW_0 a 0) (get_or INVERSE_ROW_1 b 0)) (get_or INVERSE_ROW_2 c 0)) (get_or INVERSE_ROW_3 d 0) ≡ unmixed_word a b c d
+unmixed_is w x y z lw lx ly lz =
+    let t : (k s : ℕ) → k < 256 → times k s < 256 = λ k s lt. times-lt k s lt in
+    let n14 : 14 < 256 = lit< tt in let n9 : 9 < 256 = lit< tt in let n13 : 13 < 256 = lit< tt in let n11 : 11 < 256 = lit< tt in
+    let s2 : (p q : ℕ) → p < 256 → q < 256 → bit_xor p q < 256 = xor_of_8 in
+    let ab = word_of-xor (times 14 w) (times 9 w) (times 13 w) (times 11 w) (times 11 x) (times 14 x) (times 9 x) (times 13 x)
+    (t 14 w n14) (t 9 w n9) (t 13 w n13) (t 11 x n11) (t 14 x n14) (t 9 x n9) in
+    let abc = word_of-xor (bit_xor (times 14 w) (times 11 x)) (bit_xor (times 9 w) (times 14 x)) (bit_xor (times 13 w) (times 9 x)) (bit_xor (times 11 w) (times 13 x)) (times 13 y) (times 11 y) (times 14 y) (times 9 y)
+    (s2 _ _ (t 14 w n14) (t 11 x n11)) (s2 _ _ (t 9 w n9) (t 14 x n14)) (s2 _ _ (t 13 w n13) (t 9 x n9)) (t 13 y n13) (t 11 y n11) (t 14 y n14) in
+    let abcd = word_of-xor (bit_xor (bit_xor (times 14 w) (times 11 x)) (times 13 y)) (bit_xor (bit_xor (times 9 w) (times 14 x)) (times 11 y)) (bit_xor (bit_xor (times 13 w) (times 9 x)) (times 14 y)) (bit_xor (bit_xor (times 11 w) (times 13 x)) (times 9 y)) (times 9 z) (times 13 z) (times 11 z) (times 14 z)
+    (s2 _ _ (s2 _ _ (t 14 w n14) (t 11 x n11)) (t 13 y n13)) (s2 _ _ (s2 _ _ (t 9 w n9) (t 14 x n14)) (t 11 y n11)) (s2 _ _ (s2 _ _ (t 13 w n13) (t 9 x n9)) (t 14 y n14)) (t 9 z n9) (t 13 z n13) (t 11 z n11) in
+    (λ i. bit_xor (bit_xor (bit_xor (inverse_entry0 w lw i) (inverse_entry1 x lx i)) (inverse_entry2 y ly i)) (inverse_entry3 z lz i))
+    ∙ ap (λ (k : ℕ). bit_xor (bit_xor k (word_of (times 13 y) (times 11 y) (times 14 y) (times 9 y))) (word_of (times 9 z) (times 13 z) (times 11 z) (times 14 z))) ab
+    ∙ ap (λ (k : ℕ). bit_xor k (word_of (times 9 z) (times 13 z) (times 11 z) (times 14 z))) abc ∙ abcd
+    ∙ (λ i. word_of (sum4 (times 14 w) (times 11 x) (times 13 y) (times 9 z))
+    (sym (sum4-rotated (times 9 w) (times 14 x) (times 11 y) (times 13 z)) i)
+    ((sym (sum4-rotated (times 13 w) (times 9 x) (times 14 y) (times 11 z)) ∙ sym (sum4-rotated (times 9 x) (times 14 y) (times 11 z) (times 13 w))) i)
+    (sum4-rotated (times 14 z) (times 11 w) (times 13 x) (times 9 y) i))
+
 -- ---- the bytes of four words
 
 digits_number : (xs : List ℕ) → ((k : ℕ) → get_or xs k 0 < 256) → digits_l (2 ^ 8) (length xs) (number_l (2 ^ 8) xs) ≡ xs
@@ -90,14 +144,185 @@ bytes_of_words xs len small =
     let whole : number_l (2 ^ 32) (word_of (b 0) (b 1) (b 2) (b 3) ∷ word_of (b 4) (b 5) (b 6) (b 7) ∷ word_of (b 8) (b 9) (b 10) (b 11) ∷ word_of (b 12) (b 13) (b 14) (b 15) ∷ []) ≡ number_l (2 ^ 8) ys = omega arith in
     ap (digits_l (2 ^ 8) 16) whole ∙ digits_number ys (subst (λ (l : List ℕ). (k : ℕ) → get_or l k 0 < 256) e small) ∙ sym e
 
+-- ---- a state by its words
+
+-- the state of four words
+pub state_is : (w s : List ℕ) → IsState s → w ≡ words_of s → digits_l (2 ^ 8) 16 (number_l (2 ^ 32) w) ≡ s
+state_is w s state e = ap (λ (l : List ℕ). digits_l (2 ^ 8) 16 (number_l (2 ^ 32) l)) e ∙ bytes_of_words s state.long state.bytes
+
+-- the bytes of a word
+byte_0 : (a b c d : ℕ) → a < 256 → word_of a b c d % 256 ≡ a
+byte_0 a b c d la = omega arith
+
+byte_1 : (a b c d : ℕ) → a < 256 → b < 256 → word_of a b c d / 2 ^ 8 % 256 ≡ b
+byte_1 a b c d la lb = omega arith
+
+byte_2 : (a b c d : ℕ) → a < 256 → b < 256 → c < 256 → word_of a b c d / 2 ^ 16 % 256 ≡ c
+byte_2 a b c d la lb lc = omega arith
+
+byte_3 : (a b c d : ℕ) → a < 256 → b < 256 → c < 256 → word_of a b c d / 2 ^ 24 ≡ d
+byte_3 a b c d la lb lc = omega arith
+
+-- the word of a sum
+word_at-xor : (x y : List ℕ) (i : ℕ) → IsState x → IsState y → i + 3 < 16 → word_at (xor x y) i ≡ bit_xor (word_at x i) (word_at y i)
+word_at-xor x y i hx hy lt =
+    let lx = hx.long in
+    let ly = hy.long in
+    let at : (k : ℕ) → k < 16 → get_or (xor x y) k 0 ≡ bit_xor (get_or x k 0) (get_or y k 0) = λ k small. get_or-zip2 bit_xor x y k 0 0 0 (omega arith) (omega arith) in
+    let e0 = at i (omega arith) in
+    let e1 = at (i + 1) (omega arith) in
+    let e2 = at (i + 2) (omega arith) in
+    let e3 = at (i + 3) lt in
+    (λ j. word_of (e0 j) (e1 j) (e2 j) (e3 j))
+    ∙ sym (word_of-xor (get_or x i 0) (get_or x (i + 1) 0) (get_or x (i + 2) 0) (get_or x (i + 3) 0) (get_or y i 0) (get_or y (i + 1) 0) (get_or y (i + 2) 0) (get_or y (i + 3) 0)
+    (hx.bytes i) (hx.bytes (i + 1)) (hx.bytes (i + 2)) (hy.bytes i) (hy.bytes (i + 1)) (hy.bytes (i + 2)))
+
+-- the words of a round key stand in the schedule
+pub word_at-round_key : (keys : List ℕ) (r i : ℕ) → i + 3 < 16 → word_at (round_key keys r) i ≡ word_at keys (16 * r + i)
+word_at-round_key keys r i lt =
+    let at : (k : ℕ) → k < 16 → get_or (round_key keys r) k 0 ≡ get_or keys (16 * r + k) 0 = λ k small. get_or-chunk (16 * r) 16 keys k 0 small in
+    let e0 = at i (omega arith) in
+    let p1 : 16 * r + (i + 1) ≡ 16 * r + i + 1 = omega arith in
+    let p2 : 16 * r + (i + 2) ≡ 16 * r + i + 2 = omega arith in
+    let p3 : 16 * r + (i + 3) ≡ 16 * r + i + 3 = omega arith in
+    let e1 = at (i + 1) (omega arith) ∙ ap (λ k. get_or keys k 0) p1 in
+    let e2 = at (i + 2) (omega arith) ∙ ap (λ k. get_or keys k 0) p2 in
+    let e3 = at (i + 3) lt ∙ ap (λ k. get_or keys k 0) p3 in
+    (λ j. word_of (e0 j) (e1 j) (e2 j) (e3 j))
+
 -- ---- a round
 
--- the four columns of a state after SubBytes, ShiftRows and MixColumns
-pub columns_are : (s w : List ℕ) → length s ≡ 16 → (let b : ℕ → ℕ = λ k. sbox (get_or s k 0) in
-    w ≡ mixed_word (b 0) (b 5) (b 10) (b 15) ∷ mixed_word (b 4) (b 9) (b 14) (b 3) ∷ mixed_word (b 8) (b 13) (b 2) (b 7) ∷ mixed_word (b 12) (b 1) (b 6) (b 11) ∷ []) → digits_l (2 ^ 8) 16 (number_l (2 ^ 32) w) ≡ mix_columns (shift_rows (sub_bytes s))
-columns_are s w len e =
+-- a column of which row 0 stands at place i, row 1 at the one behind j, and so on
+mixed_at : (s : List ℕ) (i j k l : ℕ) → IsState s
+    → mixed_word (sbox (word_at s i % 256)) (sbox (word_at s j / 2 ^ 8 % 256)) (sbox (word_at s k / 2 ^ 16 % 256)) (sbox (word_at s l / 2 ^ 24))
+    ≡ mixed_word (sbox (get_or s i 0)) (sbox (get_or s (j + 1) 0)) (sbox (get_or s (k + 2) 0)) (sbox (get_or s (l + 3) 0))
+mixed_at s i j k l h =
+    let g : ℕ → ℕ = λ n. get_or s n 0 in
+    let e0 = byte_0 (g i) (g (i + 1)) (g (i + 2)) (g (i + 3)) (h.bytes i) in
+    let e1 = byte_1 (g j) (g (j + 1)) (g (j + 2)) (g (j + 3)) (h.bytes j) (h.bytes (j + 1)) in
+    let e2 = byte_2 (g k) (g (k + 1)) (g (k + 2)) (g (k + 3)) (h.bytes k) (h.bytes (k + 1)) (h.bytes (k + 2)) in
+    let e3 = byte_3 (g l) (g (l + 1)) (g (l + 2)) (g (l + 3)) (h.bytes l) (h.bytes (l + 1)) (h.bytes (l + 2)) in
+    (λ n. mixed_word (sbox (e0 n)) (sbox (e1 n)) (sbox (e2 n)) (sbox (e3 n)))
+
+-- the words after MixColumns
+mixed_words : (s : List ℕ) → length s ≡ 16 → (let b : ℕ → ℕ = λ k. sbox (get_or s k 0) in
+    mixed_word (b 0) (b 5) (b 10) (b 15) ∷ mixed_word (b 4) (b 9) (b 14) (b 3) ∷ mixed_word (b 8) (b 13) (b 2) (b 7) ∷ mixed_word (b 12) (b 1) (b 6) (b 11) ∷ [] ≡ words_of (mix_columns (shift_rows (sub_bytes s))))
+mixed_words s len =
     let f : ℕ → ℕ = λ k. get_or s k 0 in
-    let r : List ℕ = mix_columns (shift_rows (sub_bytes (bytes_by 16 f))) in
-    let state = IsState-mix_columns (shift_rows (sub_bytes (bytes_by 16 f))) in
-    ap (λ (l : List ℕ). digits_l (2 ^ 8) 16 (number_l (2 ^ 32) l)) e ∙ bytes_of_words r state.long state.bytes
-    ∙ ap (λ (l : List ℕ). mix_columns (shift_rows (sub_bytes l))) (sym (by_index s len))
+    let e : words_of (mix_columns (shift_rows (sub_bytes s))) ≡ words_of (mix_columns (shift_rows (sub_bytes (bytes_by 16 f)))) = ap (λ (l : List ℕ). words_of (mix_columns (shift_rows (sub_bytes l)))) (by_index s len) in
+    sym e
+
+-- the words of a state after a round, from those before it
+pub round_is : (w s keys : List ℕ) (r m0 m1 m2 m3 k0 k1 k2 k3 : ℕ) → IsState s → IsState (round_key keys r) → w ≡ words_of s
+    → m0 ≡ mixed_word (sbox (get_or w 0 0 % 256)) (sbox (get_or w 1 0 / 2 ^ 8 % 256)) (sbox (get_or w 2 0 / 2 ^ 16 % 256)) (sbox (get_or w 3 0 / 2 ^ 24))
+    → m1 ≡ mixed_word (sbox (get_or w 1 0 % 256)) (sbox (get_or w 2 0 / 2 ^ 8 % 256)) (sbox (get_or w 3 0 / 2 ^ 16 % 256)) (sbox (get_or w 0 0 / 2 ^ 24))
+    → m2 ≡ mixed_word (sbox (get_or w 2 0 % 256)) (sbox (get_or w 3 0 / 2 ^ 8 % 256)) (sbox (get_or w 0 0 / 2 ^ 16 % 256)) (sbox (get_or w 1 0 / 2 ^ 24))
+    → m3 ≡ mixed_word (sbox (get_or w 3 0 % 256)) (sbox (get_or w 0 0 / 2 ^ 8 % 256)) (sbox (get_or w 1 0 / 2 ^ 16 % 256)) (sbox (get_or w 2 0 / 2 ^ 24))
+    → k0 ≡ word_at keys (16 * r) → k1 ≡ word_at keys (16 * r + 4) → k2 ≡ word_at keys (16 * r + 8) → k3 ≡ word_at keys (16 * r + 12)
+    → bit_xor m0 k0 ∷ bit_xor m1 k1 ∷ bit_xor m2 k2 ∷ bit_xor m3 k3 ∷ [] ≡ words_of (xor (mix_columns (shift_rows (sub_bytes s))) (round_key keys r))
+round_is w s keys r m0 m1 m2 m3 k0 k1 k2 k3 h hk e em0 em1 em2 em3 ek0 ek1 ek2 ek3 =
+    let m : List ℕ = mix_columns (shift_rows (sub_bytes s)) in
+    let k : List ℕ = round_key keys r in
+    let hm : IsState m = IsState-mix_columns (shift_rows (sub_bytes s)) in
+    let at : (p : ℕ) → get_or w p 0 ≡ get_or (words_of s) p 0 = λ p. ap (λ (l : List ℕ). get_or l p 0) e in
+    let c0 = em0 ∙ (λ i. mixed_word (sbox (at 0 i % 256)) (sbox (at 1 i / 2 ^ 8 % 256)) (sbox (at 2 i / 2 ^ 16 % 256)) (sbox (at 3 i / 2 ^ 24))) ∙ mixed_at s 0 4 8 12 h in
+    let c1 = em1 ∙ (λ i. mixed_word (sbox (at 1 i % 256)) (sbox (at 2 i / 2 ^ 8 % 256)) (sbox (at 3 i / 2 ^ 16 % 256)) (sbox (at 0 i / 2 ^ 24))) ∙ mixed_at s 4 8 12 0 h in
+    let c2 = em2 ∙ (λ i. mixed_word (sbox (at 2 i % 256)) (sbox (at 3 i / 2 ^ 8 % 256)) (sbox (at 0 i / 2 ^ 16 % 256)) (sbox (at 1 i / 2 ^ 24))) ∙ mixed_at s 8 12 0 4 h in
+    let c3 = em3 ∙ (λ i. mixed_word (sbox (at 3 i % 256)) (sbox (at 0 i / 2 ^ 8 % 256)) (sbox (at 1 i / 2 ^ 16 % 256)) (sbox (at 2 i / 2 ^ 24))) ∙ mixed_at s 12 0 4 8 h in
+    let ms : m0 ∷ m1 ∷ m2 ∷ m3 ∷ [] ≡ words_of m = (λ i. c0 i ∷ c1 i ∷ c2 i ∷ c3 i ∷ []) ∙ mixed_words s h.long in
+    let none : 16 * r + 0 ≡ 16 * r = omega arith in
+    let r0 = ek0 ∙ ap (word_at keys) (sym none) ∙ sym (word_at-round_key keys r 0 (lit< tt)) in
+    let r1 = ek1 ∙ sym (word_at-round_key keys r 4 (lit< tt)) in
+    let r2 = ek2 ∙ sym (word_at-round_key keys r 8 (lit< tt)) in
+    let r3 = ek3 ∙ sym (word_at-round_key keys r 12 (lit< tt)) in
+    let of : (p : ℕ) → get_or (m0 ∷ m1 ∷ m2 ∷ m3 ∷ []) p 0 ≡ get_or (words_of m) p 0 = λ p. ap (λ (l : List ℕ). get_or l p 0) ms in
+    (λ i. bit_xor (of 0 i) (r0 i) ∷ bit_xor (of 1 i) (r1 i) ∷ bit_xor (of 2 i) (r2 i) ∷ bit_xor (of 3 i) (r3 i) ∷ [])
+    ∙ sym (λ i. word_at-xor m k 0 hm hk (lit< tt) i ∷ word_at-xor m k 4 hm hk (lit< tt) i ∷ word_at-xor m k 8 hm hk (lit< tt) i ∷ word_at-xor m k 12 hm hk (lit< tt) i ∷ [])
+
+-- ---- an inverse round
+
+inverse_sbox-lt : (b : ℕ) → inverse_sbox b < 256
+unfolding inverse_sbox
+inverse_sbox-lt b = power-lt (inverse_affine b) 254 (omega arith)
+
+-- a column of which row 0 stood at place i, row 1 at the one behind j, and so on, with the key from place p on
+unmixed_at : (s key : List ℕ) (i j k l p u x : ℕ) → IsState s → IsState key
+    → u ≡ word_of (inverse_sbox (word_at s i % 256)) (inverse_sbox (word_at s j / 2 ^ 8 % 256)) (inverse_sbox (word_at s k / 2 ^ 16 % 256)) (inverse_sbox (word_at s l / 2 ^ 24))
+    → x ≡ word_at key p
+    → (let y : ℕ = bit_xor u x in unmixed_word (y % 256) (y / 2 ^ 8 % 256) (y / 2 ^ 16 % 256) (y / 2 ^ 24))
+    ≡ unmixed_word (bit_xor (inverse_sbox (get_or s i 0)) (get_or key p 0)) (bit_xor (inverse_sbox (get_or s (j + 1) 0)) (get_or key (p + 1) 0)) (bit_xor (inverse_sbox (get_or s (k + 2) 0)) (get_or key (p + 2) 0)) (bit_xor (inverse_sbox (get_or s (l + 3) 0)) (get_or key (p + 3) 0))
+unmixed_at s key i j k l p u x h hk eu ex =
+    let g : ℕ → ℕ = λ n. get_or s n 0 in
+    let b : ℕ → ℕ = λ n. get_or key n 0 in
+    let e0 = byte_0 (g i) (g (i + 1)) (g (i + 2)) (g (i + 3)) (h.bytes i) in
+    let e1 = byte_1 (g j) (g (j + 1)) (g (j + 2)) (g (j + 3)) (h.bytes j) (h.bytes (j + 1)) in
+    let e2 = byte_2 (g k) (g (k + 1)) (g (k + 2)) (g (k + 3)) (h.bytes k) (h.bytes (k + 1)) (h.bytes (k + 2)) in
+    let e3 = byte_3 (g l) (g (l + 1)) (g (l + 2)) (g (l + 3)) (h.bytes l) (h.bytes (l + 1)) (h.bytes (l + 2)) in
+    let t0 : ℕ = inverse_sbox (g i) in
+    let t1 : ℕ = inverse_sbox (g (j + 1)) in
+    let t2 : ℕ = inverse_sbox (g (k + 2)) in
+    let t3 : ℕ = inverse_sbox (g (l + 3)) in
+    let l0 = inverse_sbox-lt (g i) in
+    let l1 = inverse_sbox-lt (g (j + 1)) in
+    let l2 = inverse_sbox-lt (g (k + 2)) in
+    let y0 : ℕ = bit_xor t0 (b p) in
+    let y1 : ℕ = bit_xor t1 (b (p + 1)) in
+    let y2 : ℕ = bit_xor t2 (b (p + 2)) in
+    let y3 : ℕ = bit_xor t3 (b (p + 3)) in
+    let m0 = xor_of_8 t0 (b p) l0 (hk.bytes p) in
+    let m1 = xor_of_8 t1 (b (p + 1)) l1 (hk.bytes (p + 1)) in
+    let m2 = xor_of_8 t2 (b (p + 2)) l2 (hk.bytes (p + 2)) in
+    let sub : u ≡ word_of t0 t1 t2 t3 = eu ∙ (λ n. word_of (inverse_sbox (e0 n)) (inverse_sbox (e1 n)) (inverse_sbox (e2 n)) (inverse_sbox (e3 n))) in
+    let y : bit_xor u x ≡ word_of y0 y1 y2 y3 = (λ n. bit_xor (sub n) (ex n)) ∙ word_of-xor t0 t1 t2 t3 (b p) (b (p + 1)) (b (p + 2)) (b (p + 3)) l0 l1 l2 (hk.bytes p) (hk.bytes (p + 1)) (hk.bytes (p + 2)) in
+    ap (λ (z : ℕ). unmixed_word (z % 256) (z / 2 ^ 8 % 256) (z / 2 ^ 16 % 256) (z / 2 ^ 24)) y
+    ∙ (λ n. unmixed_word (byte_0 y0 y1 y2 y3 m0 n) (byte_1 y0 y1 y2 y3 m0 m1 n) (byte_2 y0 y1 y2 y3 m0 m1 m2 n) (byte_3 y0 y1 y2 y3 m0 m1 m2 n))
+
+-- the words after InvMixColumns
+unmixed_words : (s key : List ℕ) → length key ≡ 16 → (let x : ℕ → ℕ → ℕ = λ a n. bit_xor (inverse_sbox (get_or s a 0)) (get_or key n 0) in
+    unmixed_word (x 0 0) (x 13 1) (x 10 2) (x 7 3) ∷ unmixed_word (x 4 4) (x 1 5) (x 14 6) (x 11 7) ∷ unmixed_word (x 8 8) (x 5 9) (x 2 10) (x 15 11) ∷ unmixed_word (x 12 12) (x 9 13) (x 6 14) (x 3 15) ∷ []
+    ≡ words_of (inverse_mix_columns (xor (inverse_sub_bytes (inverse_shift_rows s)) key)))
+unmixed_words s key len = sym (ap (λ (l : List ℕ). words_of (inverse_mix_columns (xor (inverse_sub_bytes (inverse_shift_rows s)) l))) (by_index key len))
+
+-- the words of a state after an inverse round, from those before it
+pub inverse_round_is : (w s keys : List ℕ) (r m0 m1 m2 m3 u0 u1 u2 u3 k0 k1 k2 k3 : ℕ) → IsState s → IsState (round_key keys r) → w ≡ words_of s
+    → (let of : ℕ → ℕ = λ y. unmixed_word (y % 256) (y / 2 ^ 8 % 256) (y / 2 ^ 16 % 256) (y / 2 ^ 24) in
+    m0 ≡ of (bit_xor u0 k0) → m1 ≡ of (bit_xor u1 k1) → m2 ≡ of (bit_xor u2 k2) → m3 ≡ of (bit_xor u3 k3)
+    → u0 ≡ word_of (inverse_sbox (get_or w 0 0 % 256)) (inverse_sbox (get_or w 3 0 / 2 ^ 8 % 256)) (inverse_sbox (get_or w 2 0 / 2 ^ 16 % 256)) (inverse_sbox (get_or w 1 0 / 2 ^ 24))
+    → u1 ≡ word_of (inverse_sbox (get_or w 1 0 % 256)) (inverse_sbox (get_or w 0 0 / 2 ^ 8 % 256)) (inverse_sbox (get_or w 3 0 / 2 ^ 16 % 256)) (inverse_sbox (get_or w 2 0 / 2 ^ 24))
+    → u2 ≡ word_of (inverse_sbox (get_or w 2 0 % 256)) (inverse_sbox (get_or w 1 0 / 2 ^ 8 % 256)) (inverse_sbox (get_or w 0 0 / 2 ^ 16 % 256)) (inverse_sbox (get_or w 3 0 / 2 ^ 24))
+    → u3 ≡ word_of (inverse_sbox (get_or w 3 0 % 256)) (inverse_sbox (get_or w 2 0 / 2 ^ 8 % 256)) (inverse_sbox (get_or w 1 0 / 2 ^ 16 % 256)) (inverse_sbox (get_or w 0 0 / 2 ^ 24))
+    → k0 ≡ word_at keys (16 * r) → k1 ≡ word_at keys (16 * r + 4) → k2 ≡ word_at keys (16 * r + 8) → k3 ≡ word_at keys (16 * r + 12)
+    → m0 ∷ m1 ∷ m2 ∷ m3 ∷ [] ≡ words_of (inverse_mix_columns (xor (inverse_sub_bytes (inverse_shift_rows s)) (round_key keys r))))
+inverse_round_is w s keys r m0 m1 m2 m3 u0 u1 u2 u3 k0 k1 k2 k3 h hk e em0 em1 em2 em3 eu0 eu1 eu2 eu3 ek0 ek1 ek2 ek3 =
+    let key : List ℕ = round_key keys r in
+    let at : (p : ℕ) → get_or w p 0 ≡ get_or (words_of s) p 0 = λ p. ap (λ (l : List ℕ). get_or l p 0) e in
+    let none : 16 * r + 0 ≡ 16 * r = omega arith in
+    let r0 = ek0 ∙ ap (word_at keys) (sym none) ∙ sym (word_at-round_key keys r 0 (lit< tt)) in
+    let r1 = ek1 ∙ sym (word_at-round_key keys r 4 (lit< tt)) in
+    let r2 = ek2 ∙ sym (word_at-round_key keys r 8 (lit< tt)) in
+    let r3 = ek3 ∙ sym (word_at-round_key keys r 12 (lit< tt)) in
+    let c0 = eu0 ∙ (λ i. word_of (inverse_sbox (at 0 i % 256)) (inverse_sbox (at 3 i / 2 ^ 8 % 256)) (inverse_sbox (at 2 i / 2 ^ 16 % 256)) (inverse_sbox (at 1 i / 2 ^ 24))) in
+    let c1 = eu1 ∙ (λ i. word_of (inverse_sbox (at 1 i % 256)) (inverse_sbox (at 0 i / 2 ^ 8 % 256)) (inverse_sbox (at 3 i / 2 ^ 16 % 256)) (inverse_sbox (at 2 i / 2 ^ 24))) in
+    let c2 = eu2 ∙ (λ i. word_of (inverse_sbox (at 2 i % 256)) (inverse_sbox (at 1 i / 2 ^ 8 % 256)) (inverse_sbox (at 0 i / 2 ^ 16 % 256)) (inverse_sbox (at 3 i / 2 ^ 24))) in
+    let c3 = eu3 ∙ (λ i. word_of (inverse_sbox (at 3 i % 256)) (inverse_sbox (at 2 i / 2 ^ 8 % 256)) (inverse_sbox (at 1 i / 2 ^ 16 % 256)) (inverse_sbox (at 0 i / 2 ^ 24))) in
+    let d0 = em0 ∙ unmixed_at s key 0 12 8 4 0 u0 k0 h hk c0 r0 in
+    let d1 = em1 ∙ unmixed_at s key 4 0 12 8 4 u1 k1 h hk c1 r1 in
+    let d2 = em2 ∙ unmixed_at s key 8 4 0 12 8 u2 k2 h hk c2 r2 in
+    let d3 = em3 ∙ unmixed_at s key 12 8 4 0 12 u3 k3 h hk c3 r3 in
+    (λ i. d0 i ∷ d1 i ∷ d2 i ∷ d3 i ∷ []) ∙ unmixed_words s key hk.long
+
+IsState-inverse_mix_columns : (s : List ℕ) → IsState (inverse_mix_columns s)
+IsState-inverse_mix_columns s = IsState-bytes_by (circulant_byte (14 ∷ 11 ∷ 13 ∷ 9 ∷ []) s) (λ k.
+    let g : ℕ → ℕ = λ i. get_or s (k / 4 * 4 + (k + i) % 4) 0 in
+    let a = times-lt 14 (g 0) (lit< tt) in
+    let b = times-lt 11 (g 1) (lit< tt) in
+    let c = times-lt 13 (g 2) (lit< tt) in
+    let d = times-lt 9 (g 3) (lit< tt) in
+    let ab = xor_of_8 (times 14 (g 0)) (times 11 (g 1)) a b in
+    let abc = xor_of_8 (bit_xor (times 14 (g 0)) (times 11 (g 1))) (times 13 (g 2)) ab c in
+    xor_of_8 (bit_xor (bit_xor (times 14 (g 0)) (times 11 (g 1))) (times 13 (g 2))) (times 9 (g 3)) abc d)
+
+pub IsState-after_inverse_rounds : (w b : List ℕ) (m n : ℕ) → IsState b → IsState (round_key w (m + 1)) → IsState (after_inverse_rounds w m b n)
+unfolding after_inverse_rounds
+IsState-after_inverse_rounds w b m zero hb hk = IsState-xor b (round_key w (m + 1)) hb hk
+IsState-after_inverse_rounds w b m (suc n) hb hk = IsState-inverse_mix_columns (xor (inverse_sub_bytes (inverse_shift_rows (after_inverse_rounds w m b n))) (round_key w (m - n)))

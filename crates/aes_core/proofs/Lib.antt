@@ -8,3 +8,4 @@ pub mod Inverse
 pub mod InPlace
 pub mod BlockLists
 pub mod ColumnLaws
+pub mod Lengths

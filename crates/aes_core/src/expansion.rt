@@ -4,7 +4,8 @@ ghost use Rattle.std.specs.Prelude.{◌≡◌, ℕ, ◌+◌, ◌-◌, ◌*◌, �
 ghost use Rattle.aes_core.specs.Field.{power};
 ghost use Rattle.aes_core.specs.Aes.{xor, sub_bytes, word, rotated, key_term, key_schedule};
 
-use crate::steps::{sbox, times_x};
+use crate::sboxes::sbox;
+use crate::steps::times_x;
 
 // Four bytes of the schedule.
 type Word = [u8; 4];

@@ -1,8 +1,8 @@
 //! AES (FIPS 197) of one block of 16 bytes, under keys of 16, 24 and 32 bytes.
 //!
 //! `specs/Field.antt` and `specs/Aes.antt` define the cipher by equations of its field, with no
-//! table. [`steps`] has these equations as code, byte by byte; its only tables are the S-box and
-//! its inverse. Enciphering takes a round by its columns, from tables of them.
+//! table. [`steps`] has these equations as code, byte by byte. A `Schedule` takes a round by its
+//! four columns, from tables of the S-boxes and of the products of MixColumns and its inverse.
 #![tactic(auto)]
 
 ghost use Rattle.std.specs.Prelude.{◌≡◌, ◌≤◌, ℕ, ◌↔◌, List, length, IsSome, IfSome};
@@ -14,10 +14,13 @@ pub mod blocks;
 mod column_tables;
 mod columns;
 mod expansion;
+mod inverse_column_tables;
+mod laws;
 mod rounds;
 mod sboxes;
 pub mod steps;
 
+pub use laws::ciphers_give_blocks;
 use std::marker::Model;
 
 /// A key of 16, 24 or 32 bytes, expanded into its round keys (FIPS 197, 5.2).
@@ -69,14 +72,14 @@ impl Schedule {
         ensures enciphered { block.new ≡ encrypt self.now block.old }
         ensures taken_back { decrypt self.now block.new ≡ block.old }
     {
-        *block = rounds::encipher(&self.keys, self.words + 5, *block);
+        *block = rounds::encipher(&self.keys, self.words + 5, block);
     }
 
     /// Deciphers a block in place (FIPS 197, 5.3).
     pub fn decrypt_block(&self, block: &mut [u8; 16])
         ensures { block.new ≡ decrypt self.now block.old }
     {
-        *block = rounds::decipher(&self.keys, self.words + 5, *block);
+        *block = rounds::decipher(&self.keys, self.words + 5, block);
     }
 
     /// The number of rounds (FIPS 197, 5).

@@ -1,46 +1,57 @@
-//! The cipher and its inverse under the round keys (FIPS 197, 5.1 and 5.3).
+//! The cipher and its inverse under the round keys (FIPS 197, 5.1 and 5.3), by tables.
 
 ghost use Rattle.std.specs.Prelude.{◌≡◌, ℕ, ◌<◌};
-ghost use Rattle.aes_core.specs.Aes.{xor, round_key, enciphered, deciphered};
+ghost use Rattle.aes_core.specs.Aes.{enciphered, deciphered, sub_bytes, inverse_sub_bytes};
 
-use crate::blocks::{Block, block_at, xor};
-use crate::columns::mixed;
-use crate::steps::{
-    inverse_mix_columns, inverse_shift_rows, inverse_sub_bytes, shift_rows, sub_bytes,
-};
+use crate::blocks::Block;
+use crate::columns::{after_inverse_round, after_round, columns_of, state_of};
+use crate::sboxes::{inverse_sbox, sbox};
+use crate::steps::{add_round_key, inverse_shift_rows, shift_rows};
 
-// AddRoundKey (FIPS 197, 5.1.4), of round key r.
-fn add_round_key(s: Block, keys: &[u8; 240], r: usize) -> Block
-    requires { r < 15 }
-    ensures { result ≡ xor s (round_key keys.now r) }
+// SubBytes (FIPS 197, 5.1.1).
+fn substituted(s: Block) -> Block
+    ensures { result ≡ sub_bytes s }
 {
-    xor(s, block_at(keys, r))
+    let mut out = [0u8; 16];
+    for i in 0..16 {
+        out[i] = sbox(s[i]);
+    }
+    out
 }
 
-// The cipher under the round keys, with `count` rounds before the last (FIPS 197, 5.1).
-pub fn encipher(keys: &[u8; 240], count: usize, block: Block) -> Block
-    requires { count < 14 }
-    ensures { result ≡ enciphered keys.now count block }
+// InvSubBytes (FIPS 197, 5.3.2).
+fn unsubstituted(s: Block) -> Block
+    ensures { result ≡ inverse_sub_bytes s }
 {
-    let mut s = add_round_key(block, keys, 0);
-    for n in 0..count {
-        s = add_round_key(mixed(&s), keys, n + 1);
+    let mut out = [0u8; 16];
+    for i in 0..16 {
+        out[i] = inverse_sbox(s[i]);
     }
-    add_round_key(shift_rows(sub_bytes(s)), keys, count + 1)
+    out
 }
 
-// The inverse cipher under the round keys, with `count` rounds before the last (FIPS 197, 5.3).
-pub fn decipher(keys: &[u8; 240], count: usize, block: Block) -> Block
+/// The cipher under the round keys, with `count` rounds before the last (FIPS 197, 5.1).
+pub fn encipher(keys: &[u8; 240], count: usize, block: &Block) -> Block
     requires { count < 14 }
-    ensures { result ≡ deciphered keys.now count block }
+    ensures { result ≡ enciphered keys.now count block.now }
 {
-    let mut s = add_round_key(block, keys, count + 1);
+    let mut w = columns_of(&add_round_key(*block, keys, 0));
     for n in 0..count {
-        s = inverse_mix_columns(add_round_key(
-            inverse_sub_bytes(inverse_shift_rows(s)),
-            keys,
-            count - n,
-        ));
+        let next = after_round(w, keys, n + 1);
+        w = next;
     }
-    add_round_key(inverse_sub_bytes(inverse_shift_rows(s)), keys, 0)
+    add_round_key(shift_rows(substituted(state_of(w))), keys, count + 1)
+}
+
+/// The inverse cipher under the round keys, with `count` rounds before the last (FIPS 197, 5.3).
+pub fn decipher(keys: &[u8; 240], count: usize, block: &Block) -> Block
+    requires { count < 14 }
+    ensures { result ≡ deciphered keys.now count block.now }
+{
+    let mut w = columns_of(&add_round_key(*block, keys, count + 1));
+    for n in 0..count {
+        let next = after_inverse_round(w, keys, count - n);
+        w = next;
+    }
+    add_round_key(unsubstituted(inverse_shift_rows(state_of(w))), keys, 0)
 }

@@ -1,13 +1,14 @@
-//! The field of AES and the steps of its rounds (FIPS 197, 4 and 5), byte by byte.
+//! AES by the equations of its field and of its steps (FIPS 197, 4 and 5), byte by byte and with no table.
 //!
-//! A state is a block: row r of column c is byte r + 4 * c (FIPS 197, 3.4).
+//! It is the plain program of the definitions, and slow: a byte of SubBytes costs 254 products. `Schedule` enciphers by
+//! tables, which are proved from the same equations. A state is a block: row r of column c is byte r + 4 * c (FIPS 197,
+//! 3.4).
 
-ghost use Rattle.std.specs.Prelude.{◌≡◌, ℕ, bit_xor, List};
-ghost use Rattle.aes_core.specs.Field.{times_x, times};
-ghost use Rattle.aes_core.specs.Aes.{sbox, inverse_sbox, sub_bytes, shift_rows, mix_columns, inverse_sub_bytes, inverse_shift_rows, inverse_mix_columns};
+ghost use Rattle.std.specs.Prelude.{◌≡◌, ◌<◌, ℕ, bit_xor, List};
+ghost use Rattle.aes_core.specs.Field.{times_x, times, inverse};
+ghost use Rattle.aes_core.specs.Aes.{affine, inverse_affine, sbox, inverse_sbox, sub_bytes, shift_rows, mix_columns, inverse_sub_bytes, inverse_shift_rows, inverse_mix_columns, xor, round_key, enciphered, deciphered};
 
-use crate::blocks::Block;
-use crate::sboxes::{INVERSE_SBOX, SBOX};
+use crate::blocks::{Block, block_at, xor};
 
 /// A byte times x, in the field (FIPS 197, 4.2).
 pub fn times_x(a: u8) -> u8
@@ -37,18 +38,43 @@ pub fn times(a: u8, b: u8) -> u8
     sum
 }
 
+/// The inverse of a byte in the field, which is its power 254, and 0 for 0 (FIPS 197, 4.2).
+pub fn inverse(a: u8) -> u8
+    ensures { result ≡ inverse a }
+{
+    let mut power = 1u8;
+    for n in 0u32..254 {
+        power = times(a, power);
+    }
+    power
+}
+
+// The affine map of the S-box (FIPS 197, 5.1.1): each bit the sum of five bits and of one of 0x63.
+fn affine(b: u8) -> u8
+    ensures { result ≡ affine b }
+{
+    b ^ b.rotate_left(1) ^ b.rotate_left(2) ^ b.rotate_left(3) ^ b.rotate_left(4) ^ 0x63
+}
+
+// The map that undoes it (FIPS 197, 5.3.2).
+fn inverse_affine(b: u8) -> u8
+    ensures { result ≡ inverse_affine b }
+{
+    b.rotate_left(1) ^ b.rotate_left(3) ^ b.rotate_left(6) ^ 0x05
+}
+
 /// The S-box (FIPS 197, 5.1.1).
 pub fn sbox(b: u8) -> u8
     ensures { result ≡ sbox b }
 {
-    SBOX[b as usize]
+    affine(inverse(b))
 }
 
 /// The inverse S-box (FIPS 197, 5.3.2).
 pub fn inverse_sbox(b: u8) -> u8
     ensures { result ≡ inverse_sbox b }
 {
-    INVERSE_SBOX[b as usize]
+    inverse(inverse_affine(b))
 }
 
 /// SubBytes (FIPS 197, 5.1.1).
@@ -139,4 +165,40 @@ pub fn inverse_mix_columns(s: Block) -> Block
         );
     }
     out
+}
+
+/// AddRoundKey (FIPS 197, 5.1.4), of round key r.
+pub fn add_round_key(s: Block, keys: &[u8; 240], r: usize) -> Block
+    requires { r < 15 }
+    ensures { result ≡ xor s (round_key keys.now r) }
+{
+    xor(s, block_at(keys, r))
+}
+
+/// The cipher under the round keys, with `count` rounds before the last (FIPS 197, 5.1).
+pub fn encipher(keys: &[u8; 240], count: usize, block: Block) -> Block
+    requires { count < 14 }
+    ensures { result ≡ enciphered keys.now count block }
+{
+    let mut s = add_round_key(block, keys, 0);
+    for n in 0..count {
+        s = add_round_key(mix_columns(shift_rows(sub_bytes(s))), keys, n + 1);
+    }
+    add_round_key(shift_rows(sub_bytes(s)), keys, count + 1)
+}
+
+/// The inverse cipher under the round keys, with `count` rounds before the last (FIPS 197, 5.3).
+pub fn decipher(keys: &[u8; 240], count: usize, block: Block) -> Block
+    requires { count < 14 }
+    ensures { result ≡ deciphered keys.now count block }
+{
+    let mut s = add_round_key(block, keys, count + 1);
+    for n in 0..count {
+        s = inverse_mix_columns(add_round_key(
+            inverse_sub_bytes(inverse_shift_rows(s)),
+            keys,
+            count - n,
+        ));
+    }
+    add_round_key(inverse_sub_bytes(inverse_shift_rows(s)), keys, 0)
 }

@@ -1,4 +1,5 @@
 use crate::Schedule;
+use crate::steps::{decipher, encipher};
 use std::test::Fail;
 
 // The bytes of a key of up to 32 bytes, given by its halves.
@@ -9,7 +10,7 @@ fn key_of(first: u128, second: u128) -> [u8; 32] {
     key
 }
 
-// FIPS 197, appendix C.
+// FIPS 197, appendix C, by the tables and by the plain program of the equations.
 #[test]
 fn vectors_of_the_standard(rt: HostRuntime) -> Result<(), Fail> {
     let key = key_of(
@@ -29,6 +30,19 @@ fn vectors_of_the_standard(rt: HostRuntime) -> Result<(), Fail> {
         assert_eq!(rt; u128::from_be_bytes(block), cipher, "{length}");
         schedule.decrypt_block(&mut block);
         assert_eq!(rt; u128::from_be_bytes(block), plain, "{length}");
+        let (keys, count) = (schedule.round_keys(), schedule.rounds() - 1);
+        let enciphered = encipher(keys, count, plain.to_be_bytes());
+        assert_eq!(rt;
+            enciphered,
+            cipher.to_be_bytes(),
+            "{length} by the equations"
+        );
+        let deciphered = decipher(keys, count, cipher.to_be_bytes());
+        assert_eq!(rt;
+            deciphered,
+            plain.to_be_bytes(),
+            "{length} back by the equations"
+        );
     }
     assert!(rt; Schedule::new(&key[..20]).is_none());
     Ok(())

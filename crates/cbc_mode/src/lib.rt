@@ -8,11 +8,13 @@ ghost use Rattle.cbc_mode.specs.Cbc.{cbc_seal, cbc_open};
 ghost use Rattle.cbc_mode.specs.Examples.{example_key, example_iv, example_plain, example_cipher};
 
 mod groups;
+mod laws;
 
 use aes_core::Schedule;
 use aes_core::blocks::{Block, block_at, xor};
 use aes_planes::SlicedSchedule;
 use groups::{open_group, open_rest};
+pub use laws::{cbc_keeps_lengths, cbc_opens_block_by_block};
 
 // The cipher text of one block, from the block of cipher text before it.
 fn sealed(k: &Schedule, plain: Block, before: Block) -> Block

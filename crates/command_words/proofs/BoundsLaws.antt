@@ -1,5 +1,5 @@
 -- The numbers of a command lie within their bounds, and its digits are hexadecimal.
-use Rattle.std.proofs.Common.{◌≡◌, ℕ, ◌+◌, ◌%◌, ◌≤◌, List, [], ◌∷◌, ◌++◌, length, refl, sym, subst, arith, Bool, true, false, cond, not, ◌&&◌, Option, None, Some, IfOk, IfSome, ◌==◌, nat_le}
+use Rattle.std.proofs.Common.{◌≡◌, ℕ, ◌+◌, ◌%◌, ◌≤◌, List, [], ◌∷◌, ◌++◌, length, refl, subst, arith, Bool, true, false, cond, not, ◌&&◌, Option, None, Some, IfOk, IfSome, ◌==◌, nat_le}
 use Rattle.std.proofs.lemmas.Bool.Decides.{nat_tests}
 use Rattle.std.specs.Prelude.{option_map, unwrap_or, is_some, IsTrue}
 use Rattle.std.specs.List.{AllByRecursion}
@@ -7,24 +7,23 @@ use Rattle.std.specs.Str.{is_utf8}
 use Rattle.eli_base.specs.declared.Reason.{Reason}
 use Rattle.eli_base.specs.declared.Reason.TheVariants.{BadNumber, BadHex, MissingOption}
 use Rattle.command_words.specs.declared.commands.Usage.{Usage}
-use Rattle.command_words.specs.declared.settings.Settings.{Settings}
 use Rattle.command_words.specs.declared.spans.Sep.{Sep}
 use Rattle.command_words.specs.declared.table.Verb.{Verb}
-use Rattle.command_words.specs.declared.table.Verb.TheVariants.{Init, Attach, Detach, Setkey, Delkey, Kill, Backup, Restore, Resize, Dump, Read, Write, Flush, List as ListVerb, Fill, Sum, Eject}
+use Rattle.command_words.specs.declared.table.Verb.TheVariants.{Resize, Read, Write, Fill, Sum}
 use Rattle.command_words.specs.declared.table.Valued.{Valued}
 use Rattle.command_words.specs.declared.table.Valued.TheVariants.{OldSize}
 use Rattle.command_words.specs.declared.table.Operand.{Operand}
 use Rattle.command_words.specs.declared.table.Operand.TheVariants.{Provider, Sector, FewSectors, ManySectors, Seed, Digits}
 use Rattle.command_words.specs.Words.{Word, words}
 use Rattle.command_words.specs.Table.{verb_named, form_of}
-use Rattle.command_words.specs.Values.{decimal, is_numeral, number_within, old_size_named, is_hexadecimal, value_fault}
+use Rattle.command_words.specs.Values.{decimal, is_numeral, number_within, is_hexadecimal, value_fault}
 use Rattle.command_words.specs.Options.{Item, Set, Given, Unknown, Missing, Options, options, values, value_in, fault_of, first_fault, or_else}
-use Rattle.command_words.specs.Settings.{settings_of, last, last_value, span_of}
+use Rattle.command_words.specs.Settings.{settings_of, last, last_value}
 use Rattle.command_words.specs.Operands.{operands_of, operands_fault, number_as, span_as}
 use Rattle.command_words.specs.Reading.{reading, by_words, by_verb, complaint, command_at, is_comment}
 use Rattle.command_words.specs.Places.{bytes_at}
 use Rattle.command_words.specs.Bounds.{IsBounded, AreSectors, IsOldSize}
-use Rattle.command_words.proofs.PlacesLaws.{Stands, AllStand, words_stand, OptionsStand, options_stand, verb_keeps, text_keeps, bytes_of_span}
+use Rattle.command_words.proofs.PlacesLaws.{AllStand, words_stand, OptionsStand, options_stand, verb_keeps, text_keeps, bytes_of_span}
 
 and_parts : (a b : Bool) → (a && b) ≡ true → (a ≡ true) × (b ≡ true)
 and_parts true b h = (refl, h)

@@ -1,5 +1,5 @@
 -- One pass over the operands gives what they say.
-use Rattle.std.proofs.Common.{◌≡◌, ℕ, List, [], ◌∷◌, length, refl, sym, ◌∙◌, ap, subst, Bool, true, false, cond, Option, None, Some, Result, Ok, Err}
+use Rattle.std.proofs.Common.{◌≡◌, ℕ, List, [], ◌∷◌, length, refl, ◌∙◌, ap, subst, Bool, true, false, cond, Option, None, Some, Result, Ok}
 use Rattle.std.specs.Prelude.{option_map}
 use Rattle.eli_base.specs.declared.Reason.{Reason}
 use Rattle.command_words.specs.declared.commands.Command.{Command}

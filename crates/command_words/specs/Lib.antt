@@ -9,6 +9,5 @@ pub mod Reading
 pub mod Pass
 pub mod Places
 pub mod Bounds
-pub mod Built
 pub mod Lines
 pub mod Images

@@ -18,7 +18,7 @@ mod values;
 pub use commands::{Command, Usage};
 pub use cuts::lines_are_cut;
 pub use images::{ImageNames, images_of, joined, script_images};
-pub use lines::{built_in, command_in, read_line};
+pub use lines::{command_in, read_line};
 pub use spans::{KeyWords, Sep, Span, SpanList};
 
 #[cfg(test)]

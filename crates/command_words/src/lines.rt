@@ -1,9 +1,8 @@
-ghost use Rattle.std.specs.Prelude.{◌≡◌, ◌+◌, ◌≤◌, length, IfOk, IfSome, IsTrue};
+ghost use Rattle.std.specs.Prelude.{◌≡◌, ◌+◌, ◌≤◌, length, IfOk, IfSome};
 ghost use Rattle.std.specs.Str.{is_utf8};
 ghost use Rattle.command_words.specs.Cursor.{left};
 ghost use Rattle.command_words.specs.Pass.{provider_alone};
 ghost use Rattle.command_words.specs.Bounds.{IsBounded};
-ghost use Rattle.command_words.specs.Built.{built_in, is_built};
 ghost use Rattle.command_words.specs.Places.{CommandIsWithin, ProviderIsText};
 ghost use Rattle.command_words.specs.Reading.{reading, by_verb, settled, is_comment, complaint, command_at, command_in, is_torn, lacks_option, excludes_own, excludes, line_limit};
 
@@ -287,36 +286,4 @@ pub fn command_in(line: &[u8]) -> Option<Command>
         Ok(said) => said,
         Err(_) => None,
     }
-}
-
-// Whether a command is served.
-fn is_built(command: &Command) -> bool
-    ensures { result ≡ is_built command.now }
-{
-    match command {
-        Command::Init { .. } | Command::Dump { .. } => true,
-        Command::Attach { only_check, .. } => *only_check,
-        _ => false,
-    }
-}
-
-/// The command of a line whose words stand between zero bytes, if it says one that the program serves yet: `init`, `dump`,
-/// or `attach` with `-C`.
-pub fn built_in(line: &[u8]) -> Option<Command>
-    ensures said { result ≡ built_in line.now }
-
-    // It is one of those.
-    ensures built { IfSome result (λ command. IsTrue (is_built command)) }
-
-    // The places of the command lie in the line.
-    ensures places { IfSome result (CommandIsWithin (length line.now)) }
-
-    // The name of its provider is text.
-    ensures text { IfSome result (ProviderIsText line.now) }
-{
-    let command = command_in(line)?;
-    if is_built(&command) {
-        return Some(command);
-    }
-    None
 }

@@ -1,5 +1,5 @@
-ghost use Rattle.std.specs.Prelude.{◌≡◌, [], ◌++◌, ◌∷◌, length, false, MatchResult};
-ghost use Rattle.command_words.specs.Values.{value_fault, files_fault, file_fault, number_within, old_size_named};
+ghost use Rattle.std.specs.Prelude.{◌≡◌, [], ◌++◌, ◌∷◌, length, false, pos, Ok, Err, Some, None, MatchResult};
+ghost use Rattle.command_words.specs.Values.{decimal, value_fault, files_fault, file_fault, number_within, old_size_named};
 ghost use Rattle.command_words.specs.Cursor.{seen};
 ghost use Rattle.command_words.specs.Settings.{span_of, backup_of};
 
@@ -50,12 +50,55 @@ fn number(value: Piece, high: u64) -> Result<u64, Reason>
     values::number(value.bytes, 0, high).ok_or(Reason::BadNumber)
 }
 
-fn old_size(value: Piece) -> Result<u64, Reason>
+fn iterations(value: Piece) -> Result<Option<i32>, Reason>
     ensures { MatchResult result
-        (λ size. old_size_named value.entry.bytes.now ≡ Some size)
-        (λ reason. (old_size_named value.entry.bytes.now ≡ None) × (reason ≡ Reason.BadNumber)) }
+        (λ number. (value_fault Valued.Iterations 0 value.entry.bytes.now ≡ None) × (number ≡ Some (pos (decimal value.entry.bytes.now))))
+        (λ reason. value_fault Valued.Iterations 0 value.entry.bytes.now ≡ Some reason) }
 {
-    values::old_size(value.bytes).ok_or(Reason::BadNumber)
+    Ok(Some(number(value, 2_147_483_647)? as i32))
+}
+
+fn key_length(value: Piece) -> Result<u16, Reason>
+    ensures { MatchResult result
+        (λ number. (value_fault Valued.KeyLength 0 value.entry.bytes.now ≡ None) × (number ≡ decimal value.entry.bytes.now))
+        (λ reason. value_fault Valued.KeyLength 0 value.entry.bytes.now ≡ Some reason) }
+{
+    Ok(number(value, 65_535)? as u16)
+}
+
+fn sector_size(value: Piece) -> Result<u32, Reason>
+    ensures { MatchResult result
+        (λ number. (value_fault Valued.SectorSize 0 value.entry.bytes.now ≡ None) × (number ≡ decimal value.entry.bytes.now))
+        (λ reason. value_fault Valued.SectorSize 0 value.entry.bytes.now ≡ Some reason) }
+{
+    Ok(number(value, 4_294_967_295)? as u32)
+}
+
+fn slot(value: Piece) -> Result<Option<u8>, Reason>
+    ensures { MatchResult result
+        (λ number. (value_fault Valued.Slot 0 value.entry.bytes.now ≡ None) × (number ≡ Some (decimal value.entry.bytes.now)))
+        (λ reason. value_fault Valued.Slot 0 value.entry.bytes.now ≡ Some reason) }
+{
+    Ok(Some(number(value, 255)? as u8))
+}
+
+fn old_size(value: Piece) -> Result<Option<u64>, Reason>
+    ensures { MatchResult result
+        (λ size. (value_fault Valued.OldSize 0 value.entry.bytes.now ≡ None) × (size ≡ Some (decimal value.entry.bytes.now)))
+        (λ reason. value_fault Valued.OldSize 0 value.entry.bytes.now ≡ Some reason) }
+{
+    match values::old_size(value.bytes) {
+        Some(size) => Ok(Some(size)),
+        None => Err(Reason::BadNumber),
+    }
+}
+
+// Puts what was read in its place.
+fn keep<T: Copy>(place: &mut T, read: Result<T, Reason>) -> Result<(), Reason>
+    ensures { MatchResult result (λ _. read ≡ Ok place.new) (λ reason. (read ≡ Err reason) × (place.new ≡ place.old)) }
+{
+    *place = read?;
+    Ok(())
 }
 
 /// The place of a file, which is not named `-`.
@@ -160,19 +203,24 @@ impl Settings {
             (λ reason. value_fault option (length (files_so_far self.old option)) value.entry.bytes.now ≡ Some reason) }
     {
         match option {
-            Valued::AuthName => self.auth = values::auth(value.bytes).ok_or(Reason::BadName)?,
-            Valued::CipherName => self.cipher = values::cipher(value.bytes).ok_or(Reason::BadName)?,
-            Valued::Iterations => self.iterations = Some(number(value, 2_147_483_647)? as i32),
-            Valued::KeyLength => self.keylen = number(value, 65_535)? as u16,
-            Valued::SectorSize => self.sectorsize = number(value, 4_294_967_295)? as u32,
-            Valued::OldSize => self.oldsize = Some(old_size(value)?),
-            Valued::Slot => self.slot = Some(number(value, 255)? as u8),
-            Valued::BackupFile => self.backup = backup(value)?,
-            Valued::OldFile => add_file(&mut self.old_key.files, value)?,
-            Valued::OldPass => add_file(&mut self.old_key.pass, value)?,
-            Valued::FreshFile => add_file(&mut self.fresh_key.files, value)?,
-            Valued::FreshPass => add_file(&mut self.fresh_key.pass, value)?,
+            Valued::AuthName => keep(
+                &mut self.auth,
+                values::auth(value.bytes).ok_or(Reason::BadName),
+            ),
+            Valued::CipherName => keep(
+                &mut self.cipher,
+                values::cipher(value.bytes).ok_or(Reason::BadName),
+            ),
+            Valued::Iterations => keep(&mut self.iterations, iterations(value)),
+            Valued::KeyLength => keep(&mut self.keylen, key_length(value)),
+            Valued::SectorSize => keep(&mut self.sectorsize, sector_size(value)),
+            Valued::OldSize => keep(&mut self.oldsize, old_size(value)),
+            Valued::Slot => keep(&mut self.slot, slot(value)),
+            Valued::BackupFile => keep(&mut self.backup, backup(value)),
+            Valued::OldFile => add_file(&mut self.old_key.files, value),
+            Valued::OldPass => add_file(&mut self.old_key.pass, value),
+            Valued::FreshFile => add_file(&mut self.fresh_key.files, value),
+            Valued::FreshPass => add_file(&mut self.fresh_key.pass, value),
         }
-        Ok(())
     }
 }

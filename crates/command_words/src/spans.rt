@@ -1,5 +1,6 @@
 ghost use Rattle.std.specs.Prelude.{◌≡◌, ◌<◌, ◌≤◌, [], ◌∷◌, ◌++◌, length};
 
+use std::fmt::{self, Debug, Formatter, Write};
 use std::marker::Model;
 
 /// What stands between the words of a line.
@@ -12,7 +13,7 @@ pub enum Sep {
 }
 
 /// The bytes of a value, by their places in the line: those from `start` to before `end`.
-#[derive(Clone, Copy, Debug, PartialEq, Eq)]
+#[derive(Clone, Copy, PartialEq, Eq)]
 pub struct Span {
     /// The place of the first byte.
     pub start: u32,
@@ -34,8 +35,16 @@ impl Span {
     }
 }
 
+/// The word and the places, as `2@7..12`.
+impl Debug for Span {
+    fn fmt<W: Write>(&self, f: &mut Formatter<W>) -> fmt::Result {
+        let Span { start, end, word } = *self;
+        write!(f, "{word}@{start}..{end}")
+    }
+}
+
 /// The files of one option, in the order in which they were named: a list of at most 16 spans.
-#[derive(Debug, Drop)]
+#[derive(Drop)]
 pub struct SpanList {
     spans: [Span; 16],
     count: usize,
@@ -90,6 +99,13 @@ impl SpanList {
     {
         self.spans[self.count] = span;
         self.count += 1;
+    }
+}
+
+/// The spans of the list.
+impl Debug for SpanList {
+    fn fmt<W: Write>(&self, f: &mut Formatter<W>) -> fmt::Result {
+        self.as_slice().fmt(f)
     }
 }
 

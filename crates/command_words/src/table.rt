@@ -132,25 +132,168 @@ const VERBS: [Verb; 17] = [
     Verb::Eject,
 ];
 
-// A line of the table.
-fn line(
-    name: &'static [u8],
-    alone: &'static [(u8, Switch)],
-    valued: &'static [(u8, Valued)],
-    forms: &'static [&'static [Operand]],
-) -> Row
-    ensures name { result.name.now ≡ name.now }
-    ensures alone { result.alone.now ≡ alone.now }
-    ensures valued { result.valued.now ≡ valued.now }
-    ensures forms { result.forms.now ≡ forms.now }
-{
-    Row {
-        name,
-        alone,
-        valued,
-        forms,
-    }
-}
+// The table of verbs, a line for each.
+
+static INIT: Row = Row {
+    name: b"init",
+    alone: &[
+        (b'P', Switch::WithoutFresh),
+        (b'R', Switch::FixedSize),
+        (b'v', Switch::Verbose),
+    ],
+    valued: &[
+        (b'a', Valued::AuthName),
+        (b'B', Valued::BackupFile),
+        (b'e', Valued::CipherName),
+        (b'i', Valued::Iterations),
+        (b'J', Valued::FreshPass),
+        (b'K', Valued::FreshFile),
+        (b'l', Valued::KeyLength),
+        (b's', Valued::SectorSize),
+    ],
+    forms: &[&[Operand::Provider]],
+};
+
+static ATTACH: Row = Row {
+    name: b"attach",
+    alone: &[
+        (b'C', Switch::OnlyCheck),
+        (b'p', Switch::WithoutOld),
+        (b'r', Switch::ReadOnly),
+        (b'v', Switch::Verbose),
+    ],
+    valued: &[
+        (b'j', Valued::OldPass),
+        (b'k', Valued::OldFile),
+        (b'n', Valued::Slot),
+    ],
+    forms: &[&[Operand::Provider]],
+};
+
+static DETACH: Row = Row {
+    name: b"detach",
+    alone: &[(b'f', Switch::Force), (b'v', Switch::Verbose)],
+    valued: &[],
+    forms: &[&[Operand::Provider]],
+};
+
+static SETKEY: Row = Row {
+    name: b"setkey",
+    alone: &[
+        (b'p', Switch::WithoutOld),
+        (b'P', Switch::WithoutFresh),
+        (b'v', Switch::Verbose),
+    ],
+    valued: &[
+        (b'i', Valued::Iterations),
+        (b'j', Valued::OldPass),
+        (b'J', Valued::FreshPass),
+        (b'k', Valued::OldFile),
+        (b'K', Valued::FreshFile),
+        (b'n', Valued::Slot),
+    ],
+    forms: &[&[Operand::Provider]],
+};
+
+static DELKEY: Row = Row {
+    name: b"delkey",
+    alone: &[
+        (b'a', Switch::AllSlots),
+        (b'f', Switch::Force),
+        (b'v', Switch::Verbose),
+    ],
+    valued: &[(b'n', Valued::Slot)],
+    forms: &[&[Operand::Provider]],
+};
+
+static KILL: Row = Row {
+    name: b"kill",
+    alone: &[(b'v', Switch::Verbose)],
+    valued: &[],
+    forms: &[&[Operand::Provider]],
+};
+
+static BACKUP: Row = Row {
+    name: b"backup",
+    alone: &[(b'v', Switch::Verbose)],
+    valued: &[],
+    forms: &[&[Operand::Provider, Operand::File]],
+};
+
+static RESTORE: Row = Row {
+    name: b"restore",
+    alone: &[(b'f', Switch::Force), (b'v', Switch::Verbose)],
+    valued: &[],
+    forms: &[&[Operand::File, Operand::Provider]],
+};
+
+static RESIZE: Row = Row {
+    name: b"resize",
+    alone: &[(b'v', Switch::Verbose)],
+    valued: &[(b's', Valued::OldSize)],
+    forms: &[&[Operand::Provider]],
+};
+
+static DUMP: Row = Row {
+    name: b"dump",
+    alone: &[(b'v', Switch::Verbose)],
+    valued: &[],
+    forms: &[&[Operand::Provider]],
+};
+
+static READ: Row = Row {
+    name: b"read",
+    alone: &[],
+    valued: &[],
+    forms: &[&[Operand::Provider, Operand::Sector, Operand::FewSectors]],
+};
+
+static WRITE: Row = Row {
+    name: b"write",
+    alone: &[],
+    valued: &[],
+    forms: &[&[Operand::Provider, Operand::Sector, Operand::Digits]],
+};
+
+static FLUSH: Row = Row {
+    name: b"flush",
+    alone: &[],
+    valued: &[],
+    forms: &[&[Operand::Provider]],
+};
+
+static LIST: Row = Row {
+    name: b"list",
+    alone: &[],
+    valued: &[],
+    forms: &[&[]],
+};
+
+static FILL: Row = Row {
+    name: b"fill",
+    alone: &[],
+    valued: &[],
+    forms: &[&[
+        Operand::Provider,
+        Operand::Seed,
+        Operand::Sector,
+        Operand::ManySectors,
+    ]],
+};
+
+static SUM: Row = Row {
+    name: b"sum",
+    alone: &[],
+    valued: &[],
+    forms: &[&[Operand::Provider, Operand::Sector, Operand::ManySectors]],
+};
+
+static EJECT: Row = Row {
+    name: b"eject",
+    alone: &[],
+    valued: &[],
+    forms: &[&[Operand::Provider]],
+};
 
 // What a letter means among others.
 fn entry<V: Copy>(letters: &[(u8, V)], letter: u8) -> Option<V>
@@ -178,139 +321,27 @@ fn named_among(name: &[u8], verbs: &[Verb]) -> Option<Verb>
 
 impl Verb {
     // The line of the verb.
-    fn row(self) -> Row
-        ensures { row_seen result ≡ row_of self }
+    fn row(self) -> &'static Row
+        ensures { row_seen result.now ≡ row_of self }
     {
         match self {
-            Verb::Init => line(
-                b"init",
-                &[
-                    (b'P', Switch::WithoutFresh),
-                    (b'R', Switch::FixedSize),
-                    (b'v', Switch::Verbose),
-                ],
-                &[
-                    (b'a', Valued::AuthName),
-                    (b'B', Valued::BackupFile),
-                    (b'e', Valued::CipherName),
-                    (b'i', Valued::Iterations),
-                    (b'J', Valued::FreshPass),
-                    (b'K', Valued::FreshFile),
-                    (b'l', Valued::KeyLength),
-                    (b's', Valued::SectorSize),
-                ],
-                &[&[Operand::Provider]],
-            ),
-            Verb::Attach => line(
-                b"attach",
-                &[
-                    (b'C', Switch::OnlyCheck),
-                    (b'p', Switch::WithoutOld),
-                    (b'r', Switch::ReadOnly),
-                    (b'v', Switch::Verbose),
-                ],
-                &[
-                    (b'j', Valued::OldPass),
-                    (b'k', Valued::OldFile),
-                    (b'n', Valued::Slot),
-                ],
-                &[&[Operand::Provider]],
-            ),
-            Verb::Detach => line(
-                b"detach",
-                &[(b'f', Switch::Force), (b'v', Switch::Verbose)],
-                &[],
-                &[&[Operand::Provider]],
-            ),
-            Verb::Setkey => line(
-                b"setkey",
-                &[
-                    (b'p', Switch::WithoutOld),
-                    (b'P', Switch::WithoutFresh),
-                    (b'v', Switch::Verbose),
-                ],
-                &[
-                    (b'i', Valued::Iterations),
-                    (b'j', Valued::OldPass),
-                    (b'J', Valued::FreshPass),
-                    (b'k', Valued::OldFile),
-                    (b'K', Valued::FreshFile),
-                    (b'n', Valued::Slot),
-                ],
-                &[&[Operand::Provider]],
-            ),
-            Verb::Delkey => line(
-                b"delkey",
-                &[
-                    (b'a', Switch::AllSlots),
-                    (b'f', Switch::Force),
-                    (b'v', Switch::Verbose),
-                ],
-                &[(b'n', Valued::Slot)],
-                &[&[Operand::Provider]],
-            ),
-            Verb::Kill => line(
-                b"kill",
-                &[(b'v', Switch::Verbose)],
-                &[],
-                &[&[Operand::Provider]],
-            ),
-            Verb::Backup => line(
-                b"backup",
-                &[(b'v', Switch::Verbose)],
-                &[],
-                &[&[Operand::Provider, Operand::File]],
-            ),
-            Verb::Restore => line(
-                b"restore",
-                &[(b'f', Switch::Force), (b'v', Switch::Verbose)],
-                &[],
-                &[&[Operand::File, Operand::Provider]],
-            ),
-            Verb::Resize => line(
-                b"resize",
-                &[(b'v', Switch::Verbose)],
-                &[(b's', Valued::OldSize)],
-                &[&[Operand::Provider]],
-            ),
-            Verb::Dump => line(
-                b"dump",
-                &[(b'v', Switch::Verbose)],
-                &[],
-                &[&[Operand::Provider]],
-            ),
-            Verb::Read => line(
-                b"read",
-                &[],
-                &[],
-                &[&[Operand::Provider, Operand::Sector, Operand::FewSectors]],
-            ),
-            Verb::Write => line(
-                b"write",
-                &[],
-                &[],
-                &[&[Operand::Provider, Operand::Sector, Operand::Digits]],
-            ),
-            Verb::Flush => line(b"flush", &[], &[], &[&[Operand::Provider]]),
-            Verb::List => line(b"list", &[], &[], &[&[]]),
-            Verb::Fill => line(
-                b"fill",
-                &[],
-                &[],
-                &[&[
-                    Operand::Provider,
-                    Operand::Seed,
-                    Operand::Sector,
-                    Operand::ManySectors,
-                ]],
-            ),
-            Verb::Sum => line(
-                b"sum",
-                &[],
-                &[],
-                &[&[Operand::Provider, Operand::Sector, Operand::ManySectors]],
-            ),
-            Verb::Eject => line(b"eject", &[], &[], &[&[Operand::Provider]]),
+            Verb::Init => &INIT,
+            Verb::Attach => &ATTACH,
+            Verb::Detach => &DETACH,
+            Verb::Setkey => &SETKEY,
+            Verb::Delkey => &DELKEY,
+            Verb::Kill => &KILL,
+            Verb::Backup => &BACKUP,
+            Verb::Restore => &RESTORE,
+            Verb::Resize => &RESIZE,
+            Verb::Dump => &DUMP,
+            Verb::Read => &READ,
+            Verb::Write => &WRITE,
+            Verb::Flush => &FLUSH,
+            Verb::List => &LIST,
+            Verb::Fill => &FILL,
+            Verb::Sum => &SUM,
+            Verb::Eject => &EJECT,
         }
     }
 

@@ -1,5 +1,6 @@
-ghost use Rattle.std.specs.Prelude.{◌≡◌, ◌+◌, ◌-◌, ◌*◌, ◌/◌, ◌%◌, ◌^◌, ◌<◌, ◌≤◌, MatchResult, IfOk};
-ghost use Rattle.eli_base.specs.Units.{media_sectors};
+ghost use Rattle.std.specs.Prelude.{◌≡◌, ℕ, ◌+◌, ◌-◌, ◌*◌, ◌/◌, ◌%◌, ◌^◌, ◌<◌, ◌≤◌, MatchResult, IfOk};
+ghost use Rattle.eli_base.specs.declared.algorithms.Auth.TheVariants.{Off};
+ghost use Rattle.eli_base.specs.Units.{last_unit_bytes, media_sectors, units_per_sector};
 
 use crate::parameters::Params;
 use thiserror::Error;
@@ -98,3 +99,9 @@ impl Geometry {
         }
     }
 }
+
+/// A law: without authentication a logical sector takes a device sector for each 512 bytes, and fills each of them.
+pub fn units_without_authentication()
+    ensures units { (size : ℕ) → 512 ≤ size → size % 512 ≡ 0 → units_per_sector Off size ≡ size / 512 }
+    ensures last { (size : ℕ) → 512 ≤ size → size % 512 ≡ 0 → last_unit_bytes Off size ≡ 512 }
+{}

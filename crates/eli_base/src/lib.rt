@@ -10,7 +10,7 @@ mod parameters;
 mod refusals;
 
 pub use algorithms::{Auth, Cipher};
-pub use layout::{GeoFault, Geometry, UnitSpan};
+pub use layout::{GeoFault, Geometry, UnitSpan, units_without_authentication};
 pub use parameters::{MasterKey, Params, sector_size_ok};
 pub use refusals::{Reason, Refusal};
 

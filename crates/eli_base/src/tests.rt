@@ -75,7 +75,7 @@ fn images_without_a_sector(rt: HostRuntime) -> Result<(), Fail> {
 }
 
 #[test]
-fn units_and_numbers(rt: HostRuntime) -> Result<(), Fail> {
+fn units_of_a_sector(rt: HostRuntime) -> Result<(), Fail> {
     let geometry = Geometry::of(&params(&rt, Auth::Sha256, 4_096, 1_048_576))?;
     assert!(rt; 226 < geometry.sectors);
     assert_eq!(rt;
@@ -86,7 +86,23 @@ fn units_and_numbers(rt: HostRuntime) -> Result<(), Fail> {
         }
     );
     assert_eq!(rt; Refusal::KeyNumberNeeded.number(), 37);
-    assert_eq!(rt; Auth::Sha384.number(), 19);
-    assert_eq!(rt; Auth::Sha512.tag_bytes(), 64);
     Ok(())
+}
+
+/// Each line has an authentication, its number in cryptodev.h, and of each device sector the bytes of the tag and those that
+/// are left.
+const AUTHENTICATIONS: [(Auth, u16, usize, usize); 4] = [
+    (Auth::Off, 0, 0, 512),
+    (Auth::Sha256, 18, 32, 480),
+    (Auth::Sha384, 19, 48, 464),
+    (Auth::Sha512, 20, 64, 448),
+];
+
+#[test]
+fn numbers_and_tags(rt: HostRuntime) {
+    for (auth, number, tag_bytes, data_bytes) in AUTHENTICATIONS {
+        assert_eq!(rt; auth.number(), number, "number of {auth:?}");
+        assert_eq!(rt; auth.tag_bytes(), tag_bytes, "tag of {auth:?}");
+        assert_eq!(rt; auth.data_bytes(), data_bytes, "data of {auth:?}");
+    }
 }

@@ -1,5 +1,5 @@
 -- That the last sector holds what it held or the new metadata, whenever power fails.
-use Rattle.std.proofs.Common.{◌≡◌, ℕ, List, [], ◌∷◌, length, refl, arith, All}
+use Rattle.std.proofs.Common.{[], ◌∷◌, refl, arith, All}
 use Rattle.std.proofs.lemmas.List.Elements.{All-nil, All-cons}
 use Rattle.block_traits.specs.Disk.{DiskState, FailsIn, Logs, last_sector, store_events}
 use Rattle.block_traits.specs.Moments.{HoldsOldOr, KeepsAlone, KeepsOldOr}

@@ -43,7 +43,7 @@ pub enum MetaFault {
     /// The first sixteen bytes aren't the magic.
     #[error("no GELI metadata")]
     BadMagic,
-    /// The version isn't 7.
+    /// The version isn't 5, 6 or 7, or it is 5 and the data is authenticated.
     #[error("version {found} of the metadata isn't supported")]
     BadVersion { found: u32 },
     /// The MD5 of the fields differs from the one beside them.
@@ -58,7 +58,7 @@ pub enum MetaFault {
     /// The cipher doesn't allow the length of the key.
     #[error("a key of {found} bits isn't supported")]
     BadKeyLength { found: u16 },
-    /// The provider is authenticated, and not by HMAC/SHA256.
+    /// The data is authenticated, and not by HMAC/SHA256, HMAC/SHA384 or HMAC/SHA512.
     #[error("authentication {found} isn't supported")]
     UnsupportedAuth { found: u16 },
     /// The size of a logical sector isn't a power of two from 512 to 65,536.

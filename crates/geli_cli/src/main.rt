@@ -1,23 +1,16 @@
 //! The program `geli`: the disks, streams, files and random bytes of the system are handed to the run.
 #![tactic(auto)]
 
-mod file_cabinet;
-mod file_disk;
-mod image_file;
-mod opener;
 mod program;
-mod random_file;
-mod streams;
 #[cfg(test)]
 mod tests;
 
+use file_edge::{InputSource, OutputSink, SystemFiles};
 use geli_core::Status;
-use opener::SystemFiles;
-use program::{run_words, words_of};
+use program::{exit_code, run_words, words_of};
 use std::fs::File;
 use std::process::ExitCode;
 use std::{env, io};
-use streams::{InputSource, OutputSink};
 
 fn main(rt: HostRuntime) -> ExitCode {
     let alloc = rt.alloc();
@@ -35,5 +28,5 @@ fn main(rt: HostRuntime) -> ExitCode {
         }
         _ => Status::NoMemory,
     };
-    ExitCode::from(status.number())
+    exit_code(status)
 }

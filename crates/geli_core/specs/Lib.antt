@@ -1,2 +1,10 @@
+pub mod Asked
+pub mod Complete
+pub mod Histories
+pub mod Laws
+pub mod Lines
 pub mod Run
+pub mod Script
+pub mod Served
+pub mod Source
 pub mod Status

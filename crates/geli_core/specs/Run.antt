@@ -1,73 +1,107 @@
--- What a run does and prints, and the status with which it ends.
-use Rattle.std.specs.Prelude.{◌≡◌, ◌⊎◌, ℕ, List, [], Option, Some, None, Bool, true, false, codes}
+-- What lines do and answer, one after another, and what is printed.
+use Rattle.std.specs.Prelude.{◌++◌, ◌≡◌, ℕ, List, [], ◌∷◌, replicate, Option, Some, None, Bool, true, false, Result, Ok, Err}
+use Rattle.std.specs.List.{flat_map, list_any}
 use Rattle.block_traits.specs.Streams.{SinkState, TookAll, TookPart}
-use Rattle.command_words.specs.Images.{line_of}
-use Rattle.command_words.specs.Built.{built_in}
 use Rattle.command_words.specs.declared.commands.Command.{Command}
-use Rattle.command_words.specs.declared.commands.Command.TheVariants as commands
-use Rattle.reply_text.specs.declared.Reply.{Reply}
-use Rattle.reply_text.specs.declared.Reply.TheVariants as replies
-use Rattle.reply_text.specs.Text.{reply_text}
-use Rattle.shelf.specs.World.{World}
+use Rattle.command_words.specs.declared.commands.Usage.{Usage}
+use Rattle.command_words.specs.declared.spans.Sep.{Sep}
+use Rattle.eli_base.specs.declared.Refusal.TheVariants as refusals
+use Rattle.shelf.specs.Answer.{Answer}
+use Rattle.shelf.specs.Answer as answers
+use Rattle.shelf.specs.Answer.{answer_text}
+use Rattle.reply_text.specs.declared.WriteEnd.{WriteEnd}
+use Rattle.shelf.specs.Closing.{ClosesWorld}
 use Rattle.shelf.specs.Turn.{Turn}
-use Rattle.geli_core.specs.declared.status.Status.{Status}
-use Rattle.geli_core.specs.declared.status.Status.TheVariants.{Done, SomeRefused, BadWords, WriteFault, NoMemory}
+use Rattle.shelf.specs.World.{World}
+use Rattle.geli_core.specs.Asked.{asked_by}
+use Rattle.geli_core.specs.declared.serving.LineEnd.{LineEnd}
+use Rattle.geli_core.specs.declared.serving.LineEnd.TheVariants.{Silent, Accepted, Refused}
 
-abbrev pub usage_text : List ℕ
-usage_text = codes "usage: geli script IMAGE... or geli VERB ...\n"
+-- ---- one line
 
--- the status after a reply that was printed
-abbrev pub status_of : Reply → Status
-status_of (replies.Refused refusal) = SomeRefused
-status_of _ = Done
+-- what a line says is done and answered: nothing where it says nothing, the refusal of its words, or the turn of its command
+abbrev pub ServesReading : Result (Option Command) Usage → List ℕ → World → Option Answer → World → Type 0
+ServesReading (Ok None) line old answer new = (answer ≡ None) × (new ≡ old)
+ServesReading (Err usage) line old answer new = (answer ≡ Some (answers.Refused (refusals.Usage usage.word usage.reason))) × (new ≡ old)
+ServesReading (Ok (Some command)) line old None new = ⊥
+ServesReading (Ok (Some command)) line old (Some answer) new = Turn line command old answer new
 
--- a text was printed whole, and this status is answered; or the sink failed after a part of it
-abbrev pub EndsWith : List ℕ → Status → SinkState → Status → SinkState → Type 0
-EndsWith text printed old WriteFault new = TookPart text old new
-EndsWith text printed old status new = (status ≡ printed) × TookAll text old new
+abbrev pub ServesLine : Sep → List ℕ → World → Option Answer → World → Type 0
+ServesLine sep line old answer new = ServesReading (asked_by sep line) line old answer new
 
--- the one command was served, and its reply printed
-pub record Serves (line : List ℕ) (command : Command) (old : World) (sink : SinkState) (status : Status) (new : World) (after : SinkState) : Type 0 where
-  pub reply : Reply
-  pub turn : Turn line command old reply new
-  pub printed : EndsWith (reply_text reply []) (status_of reply) sink status after
+-- the text of what was answered to a line
+abbrev pub text_of : Option Answer → List ℕ
+text_of None = []
+text_of (Some answer) = answer_text answer
 
--- the words asked for nothing: the usage line is printed, and the world is as it was
-pub record Declines (old : World) (sink : SinkState) (status : Status) (new : World) (after : SinkState) : Type 0 where
-  pub unchanged : new ≡ old
-  pub printed : EndsWith usage_text BadWords sink status after
+-- how a line ends
+abbrev pub end_of : Option Answer → LineEnd
+end_of None = Silent
+end_of (Some (answers.Refused refusal)) = Refused
+end_of (Some answer) = Accepted
 
--- there was no memory for the line: nothing was printed, and the world is as it was
-pub record Abandons (old : World) (sink : SinkState) (new : World) (after : SinkState) : Type 0 where
-  pub unchanged : new ≡ old
-  pub unprinted : after ≡ sink
+-- whether a refusal was printed
+abbrev pub is_refusal : LineEnd → Bool
+is_refusal Silent = false
+is_refusal Accepted = false
+is_refusal Refused = true
 
--- the run of a line, which says a command or none
-abbrev pub RunsLine : List ℕ → Option Command → World → SinkState → Status → World → SinkState → Type 0
-RunsLine line None old sink status new after = Declines old sink status new after
-RunsLine line (Some command) old sink status new after = Serves line command old sink status new after
+-- it was printed; or the sink failed, after a part of it
+abbrev pub PrintsAnswer : Option Answer → SinkState → Result LineEnd WriteEnd → SinkState → Type 0
+PrintsAnswer answer old (Ok end) new = (end ≡ end_of answer) × TookAll (text_of answer) old new
+PrintsAnswer answer old (Err failed) new = TookPart (text_of answer) old new
 
--- the run of the words of the command line
-abbrev pub Runs : List (List ℕ) → World → SinkState → Status → World → SinkState → Type 0
-Runs words old sink NoMemory new after = Abandons old sink new after
-Runs words old sink status new after = RunsLine (line_of words) (built_in (line_of words)) old sink status new after
+-- a line was served, and then its answer was printed
+pub record ServesAndPrints (sep : Sep) (line : List ℕ) (old : World) (sink : SinkState) (result : Result LineEnd WriteEnd) (new : World) (after : SinkState) : Type 0 where
+  pub answer : Option Answer
+  pub serves : ServesLine sep line old answer new
+  pub prints : PrintsAnswer answer sink result after
 
--- the status with which the run of a line ends: Done or SomeRefused where the line says a command, and else BadWords; or the
--- sink failed, or there was no memory
-abbrev pub EndsBy : Option Command → Status → Type 0
-EndsBy command WriteFault = Unit {0}
-EndsBy command NoMemory = Unit {0}
-EndsBy None status = status ≡ BadWords
-EndsBy (Some command) status = (status ≡ Done) ⊎ (status ≡ SomeRefused)
+-- ---- lines
 
--- whether a command writes no disk; of commands that aren't served nothing is said
-abbrev pub only_reads : Command → Bool
-only_reads (commands.Dump prov) = true
-only_reads (commands.Init prov cipher auth keylen sectorsize iterations autoresize fresh backup) = false
-only_reads (commands.Attach prov only_check readonly slot old) = true
-only_reads _ = false
+-- the lines are served one after another, with these answers
+abbrev pub Run : Sep → World → List (List ℕ) → List (Option Answer) → World → Type 0
+Run sep old [] [] new = new ≡ old
+Run sep old (line ∷ lines) (answer ∷ answers) new = (middle : World) × ServesLine sep line old answer middle × Run sep middle lines answers new
+Run sep old [] (answer ∷ answers) new = ⊥
+Run sep old (line ∷ lines) [] new = ⊥
 
--- whether the words ask for no write of a disk
-abbrev pub asks_no_write : Option Command → Bool
-asks_no_write None = true
-asks_no_write (Some command) = only_reads command
+-- the text of some answers
+abbrev pub answers_text : List (Option Answer) → List ℕ
+answers_text answers = flat_map text_of answers
+
+-- all answers but the last were printed, and the sink failed in the last
+pub record FailsInLast (answers : List (Option Answer)) (old new : SinkState) : Type 0 where
+  pub printed : List (Option Answer)
+  pub last : Option Answer
+  pub are : answers ≡ printed ++ last ∷ []
+  pub middle : SinkState
+  pub before : TookAll (answers_text printed) old middle
+  pub part : TookPart (text_of last) middle new
+
+-- whether something was refused
+abbrev pub refuses : Option Answer → Bool
+refuses None = false
+refuses (Some (answers.Refused refusal)) = true
+refuses (Some answer) = false
+
+abbrev pub any_refused : List (Option Answer) → Bool
+any_refused answers = list_any refuses answers
+
+-- ---- the end of a run
+
+-- a refusal for each flush that failed
+abbrev pub closing_answers : ℕ → List (Option Answer)
+closing_answers failed = replicate failed (Some (answers.Refused refusals.DeviceFault))
+
+-- all answers were printed, and the sink failed in the refusals of the closing
+pub record FailsInClosing (answers : List (Option Answer)) (failed : ℕ) (old new : SinkState) : Type 0 where
+  pub middle : SinkState
+  pub before : TookAll (answers_text answers) old middle
+  pub part : TookPart (answers_text (closing_answers failed)) middle new
+
+-- the lines were served, each of them short enough, and then the drawers were closed
+pub record RunsAndCloses (sep : Sep) (old : World) (lines : List (List ℕ)) (answers : List (Option Answer)) (failed : ℕ) (new : World) : Type 0 where
+  pub middle : World
+  pub run : Run sep old lines answers middle
+  pub closes : ClosesWorld middle failed new

@@ -1,13 +1,11 @@
 // What whole runs over memory share: the objects that a run is given, its words, and what it leaves.
 use block_traits::{Disk, Event, Sector};
-use crash_disk::{MemCabinet, MemDisk, MemEntropy, MemSink};
+use crash_disk::{MemCabinet, MemDisk, MemEntropy, MemSink, MemSource};
 use geli_core::{Drawers, Status, run};
 use md5::{Digest, Md5};
 use sha2::{Digest as _, Sha256};
 use std::alloc::Global;
 use std::test::Fail;
-
-pub(crate) const USAGE: &str = "usage: geli script IMAGE... or geli VERB ...\n";
 
 /// What runs are given beside their words and their output, and how many events of the disk were told.
 #[derive(Drop)]
@@ -44,6 +42,7 @@ impl World {
         Ok(run(
             alloc,
             &words,
+            &mut MemSource::new(alloc, b"", &[], &[])?,
             output,
             &mut self.files,
             &mut self.entropy,

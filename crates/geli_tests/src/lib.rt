@@ -3,8 +3,6 @@
 #![tactic(auto)]
 
 #[cfg(test)]
-mod attach;
-#[cfg(test)]
 mod common;
 #[cfg(test)]
 mod dump;
@@ -12,9 +10,5 @@ mod dump;
 mod failures;
 #[cfg(test)]
 mod hashes;
-#[cfg(test)]
-mod init;
-#[cfg(test)]
-mod limits;
 #[cfg(test)]
 mod metadata;

@@ -1,3 +1,4 @@
 pub mod Blocks
 pub mod Iterates
 pub mod Lengths
+pub mod Bytes

@@ -1,3 +1,4 @@
 pub mod Hmac
 pub mod Pbkdf2
 pub mod Hashers
+pub mod Bytes

@@ -5,6 +5,7 @@
 
 mod block;
 mod kdf;
+mod laws;
 mod mac256;
 mod mac384;
 mod mac512;
@@ -12,6 +13,7 @@ mod mac512;
 mod tests;
 
 pub use kdf::pbkdf2_sha512;
+pub use laws::{codes_are_bytes, derived_keys_are_bytes, digests_are_bytes};
 pub use mac256::Hmac256;
 pub use mac384::Hmac384;
 pub use mac512::Hmac512;

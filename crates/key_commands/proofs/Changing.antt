@@ -14,7 +14,8 @@ use Rattle.eli_metadata.specs.Check.{are_clear, check_auth, check_cipher, auth_o
 use Rattle.eli_metadata.specs.declared.Metadata.{Metadata}
 use Rattle.eli_metadata.specs.declared.MetaFault.{MetaFault}
 use Rattle.eli_metadata.specs.declared.MetaFault.TheVariants.{NoValidKeys}
-use Rattle.key_slots.specs.Slots.{IsKeyBits, Opens, SameSlot, deciphered, slot_bytes, with_slot, wrapped}
+use Rattle.key_slots.specs.Slots.{IsKeyBits, Opens, SameSlot, with_slot, wrapped}
+use Rattle.key_slots.proofs.Changes.{OpensAsBefore-same}
 use Rattle.user_key.specs.UserKey.{user_key}
 use Rattle.user_key.specs.declared.Components.{Components}
 use Rattle.user_key.specs.declared.KeyFault.{KeyFault}
@@ -143,12 +144,7 @@ pub KeepsSlot-same : (old new : Metadata) (s : ℕ) → SameSlot old new s → n
     → KeepsSlot old new s
 KeepsSlot-same old new s same keylen derives = record {
   same = same;
-  opens = λ u master held. record {
-    set = same.set ∙ held.set;
-    slot = record {
-      text = ap (λ (bytes : List ℕ). deciphered bytes u new.keylen) same.bytes ∙ ap (deciphered (slot_bytes old s) u) keylen ∙ held.slot.text;
-    };
-  };
+  opens = OpensAsBefore-same old new s same keylen;
   derives = derives;
 }
 

@@ -1,5 +1,5 @@
 -- The passes that overwrite slots, and what they leave.
-use Rattle.std.proofs.Common.{◌≡◌, ◌≢◌, ◌==◌, ℕ, zero, suc, ◌+◌, ◌*◌, ◌<◌, refl, sym, ap, subst, ◌∙◌, arith, false, not, bit_and, All, List, length, take, replicate, length-append, length-drop}
+use Rattle.std.proofs.Common.{◌≡◌, ◌≢◌, ◌==◌, ℕ, zero, suc, ◌+◌, ◌*◌, ◌<◌, refl, sym, ap, subst, ◌∙◌, arith, false, not, bit_and, IsTrue, Ok, All, List, length, take, replicate, length-append, length-drop}
 use Rattle.std.proofs.lemmas.List.{length-take-le, length-replicate}
 use Rattle.std.proofs.lemmas.List.Elements.{All-map, All-weaker}
 use Rattle.std.proofs.lemmas.Nat.{and_assoc, and_comm}
@@ -9,7 +9,7 @@ use Rattle.block_traits.specs.Moments.{KeepsAlone}
 use Rattle.block_traits.specs.Overwriting.{passes_of, zeros}
 use Rattle.block_traits.proofs.Overwritten.{KeepsAlone-overwrite, KeepsOldOr-overwrite, KeepsOldOr-overwrite_part, flushed-overwrite, flushed-overwrite_part, length-passes_of}
 use Rattle.eli_metadata.specs.Check.{is_set}
-use Rattle.eli_metadata.specs.Format.{encoded, is_served}
+use Rattle.eli_metadata.specs.Format.{encoded, is_served, metadata_in}
 use Rattle.eli_metadata.specs.declared.Metadata.{Metadata}
 use Rattle.eli_metadata.proofs.Laws.{metadata_in-encoded}
 use Rattle.key_slots.specs.Slots.{SameSlot, slot_bytes, with_slot_bytes, without_slot}
@@ -75,16 +75,20 @@ is_served-without : (m : Metadata) (which : Which) (bytes : List ℕ) → is_ser
 is_served-without m slots.All bytes = refl
 is_served-without m (slots.One slot) bytes = refl
 
-HasNoKey-without : (m : Metadata) (which : Which) (bytes : List ℕ) → IsThere which → IsWhole m → length bytes ≡ named_size which → HasNoKey m which (sector_without m which bytes)
-HasNoKey-without m which bytes there whole size =
+read-without : (m : Metadata) (which : Which) (bytes : List ℕ) → IsThere which → IsWhole m → length bytes ≡ named_size which
+    → IsTrue (is_served m.version m.flags) → metadata_in (encoded (without_keys m which bytes)) ≡ Ok (without_keys m which bytes)
+read-without m which bytes there whole size served =
     let new : IsWhole (without_keys m which bytes) = IsWhole-without m which bytes there whole size in
-    record {
-      bytes = bytes;
-      size = size;
-      sector = refl;
-      read = λ served. metadata_in-encoded (without_keys m which bytes) new.range new.salt new.mkeys (is_served-without m which bytes ∙ served);
-      clear = λ s named. is_set-without m which bytes s there named;
-    }
+    metadata_in-encoded (without_keys m which bytes) new.range new.salt new.mkeys (is_served-without m which bytes ∙ served)
+
+HasNoKey-without : (m : Metadata) (which : Which) (bytes : List ℕ) → IsThere which → IsWhole m → length bytes ≡ named_size which → HasNoKey m which (sector_without m which bytes)
+HasNoKey-without m which bytes there whole size = record {
+  bytes = bytes;
+  size = size;
+  sector = refl;
+  read = read-without m which bytes there whole size;
+  clear = λ s named. is_set-without m which bytes s there named;
+}
 
 -- ---- the metadata that are left
 
@@ -114,11 +118,16 @@ slot_bytes-zeros m (slots.One slot) s there whole named = rw named (bytes_same m
 
 pub IsWithout-zeros : (asked : Deletion) (m : Metadata) → IsThere asked.which → IsWhole asked.meta → m ≡ without_keys asked.meta asked.which (zeros (named_size asked.which)) → IsWithout asked m
 unfolding zeros
-IsWithout-zeros asked m there whole is = rw is (record {
-  metadata = refl;
-  named = λ s named. slot_bytes-zeros asked.meta asked.which s there whole named;
-  other = λ s ls other. KeepsSlot-without asked.meta asked.which (zeros (named_size asked.which)) s there whole (length-replicate {A = ℕ} (named_size asked.which) 0) ls other;
-})
+IsWithout-zeros asked m there whole is =
+    let last : List ℕ = zeros (named_size asked.which) in
+    let size : length last ≡ named_size asked.which = length-replicate {A = ℕ} (named_size asked.which) 0 in
+    rw is (record {
+      metadata = refl;
+      read = λ served. read-without asked.meta asked.which last there whole size (sym (is_served-without asked.meta asked.which last) ∙ served);
+      clear = λ s named. is_set-without asked.meta asked.which last s there named;
+      named = λ s named. slot_bytes-zeros asked.meta asked.which s there whole named;
+      other = λ s ls other. KeepsSlot-without asked.meta asked.which last s there whole size ls other;
+    })
 
 -- ---- the sectors of the passes
 

@@ -1,12 +1,13 @@
 -- What `delkey` answers, and what it does to the disk and the entropy (geli(8), delkey).
-use Rattle.std.specs.Prelude.{◌≡◌, ℕ, ◌<◌, Bool, List, length, replicate, None, Some, Result, Ok, Err}
+use Rattle.std.specs.Prelude.{◌≡◌, ℕ, ◌<◌, Bool, IsTrue, false, List, length, replicate, None, Some, Result, Ok, Err}
 use Rattle.block_traits.specs.Disk.{DiskState, FailsIn, Logs, last_sector}
 use Rattle.block_traits.specs.Moments.{AtEachMoment, HoldsOnceFlushed, KeepsAlone, KeepsOldOr}
 use Rattle.block_traits.specs.Overwriting.{zeros}
 use Rattle.block_traits.specs.Streams.{EntropyState, Takes, TakesNone}
 use Rattle.eli_base.specs.declared.Refusal.{Refusal}
 use Rattle.eli_base.specs.declared.Refusal.TheVariants.{EntropyFault, DeviceFault}
-use Rattle.eli_metadata.specs.Format.{encoded}
+use Rattle.eli_metadata.specs.Check.{is_set}
+use Rattle.eli_metadata.specs.Format.{encoded, is_served, metadata_in}
 use Rattle.eli_metadata.specs.declared.Metadata.{Metadata}
 use Rattle.key_slots.specs.Slots.{slot_bytes}
 use Rattle.key_commands.specs.NewKey.{KeepsSlot}
@@ -31,9 +32,11 @@ pub record Overwrites (asked : Deletion) (disk disk' : DiskState) : Type 0 where
   pub kept : KeepsOldOr (HasNoKey asked.meta asked.which) (last_sector disk) disk.content disk'.content
   pub flushed : AtEachMoment (HoldsOnceFlushed (HasNoKey asked.meta asked.which) (last_sector disk)) disk.content disk'.content
 
--- these are the metadata with zeros in the named slots, and the other slot is kept
+-- these are the metadata with zeros in the named slots, which are clear; they are read again, and the other slot is kept
 pub record IsWithout (asked : Deletion) (m : Metadata) : Type 0 where
   pub metadata : m ≡ without_keys asked.meta asked.which (zeros (named_size asked.which))
+  pub read : IsTrue (is_served m.version m.flags) → metadata_in (encoded m) ≡ Ok m
+  pub clear : (s : ℕ) → Names asked.which s → is_set m s ≡ false
   pub named : (s : ℕ) → Names asked.which s → slot_bytes m s ≡ replicate 192 0
   pub other : (s : ℕ) → s < 2 → ¬ Names asked.which s → KeepsSlot asked.meta m s
 

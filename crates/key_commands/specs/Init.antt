@@ -6,7 +6,6 @@ use Rattle.block_traits.specs.Streams.{EntropyState, Takes, TakesNone}
 use Rattle.block_traits.specs.declared.Event.{Event}
 use Rattle.eli_base.specs.declared.Refusal.{Refusal}
 use Rattle.eli_base.specs.declared.Refusal.TheVariants.{EntropyFault, DeviceFault}
-use Rattle.eli_metadata.specs.Format.{encoded}
 use Rattle.eli_metadata.specs.Place.{IsSectorOf, replace_events}
 use Rattle.eli_metadata.specs.declared.Metadata.{Metadata}
 use Rattle.user_key.specs.UserKey.{user_key}

@@ -5,7 +5,7 @@ use Rattle.eli_base.specs.declared.Refusal.{Refusal}
 use Rattle.eli_base.specs.declared.Refusal.TheVariants.{IterationsNeedOneKey}
 use Rattle.eli_metadata.specs.Check.{is_set, size_matches, slot_matches, supported}
 use Rattle.eli_metadata.specs.declared.Metadata.{Metadata}
-use Rattle.key_slots.specs.Slots.{Opens, SameSlot, with_slot, wrapped}
+use Rattle.key_slots.specs.Slots.{Opens, OpensAsBefore, SameSlot, with_slot, wrapped}
 use Rattle.user_key.specs.UserKey.{user_key}
 use Rattle.user_key.specs.declared.Components.{Components}
 use Rattle.user_key.specs.declared.KeyFault.{KeyFault}
@@ -59,7 +59,7 @@ with_key asked u =
 -- key that components make
 pub record KeepsSlot (old new : Metadata) (s : ℕ) : Type 0 where
   pub same : SameSlot old new s
-  pub opens : (u master : List ℕ) → Opens old u s master → Opens new u s master
+  pub opens : OpensAsBefore old new s
   pub derives : IsTrue (is_set old s) → (parts : Components) (key : UserKey) → user_key parts old.salt old.iterations ≡ Ok key
       → user_key parts new.salt new.iterations ≡ Ok key
 

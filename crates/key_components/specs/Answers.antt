@@ -7,6 +7,7 @@ use Rattle.block_traits.specs.declared.cabinet.LoadFault.TheVariants as load
 use Rattle.command_words.specs.declared.spans.Span.{Span}
 use Rattle.command_words.specs.declared.spans.KeyWords.{KeyWords}
 use Rattle.eli_base.specs.declared.refusals.Refusal.{Refusal}
+use Rattle.eli_base.specs.declared.refusals.Refusal.TheVariants as refusals
 use Rattle.eli_base.specs.declared.refusals.Refusal.TheVariants.{CabinetFault, FileAbsent, FileTooLong, NoMemory}
 use Rattle.key_components.specs.Files.{Taking, file_limit, first_fault, key_files, passphrase_files, passphrase_limit}
 
@@ -30,7 +31,7 @@ refused word (Err fault) = Err (refusal_of word fault)
 abbrev pub file_answer : ℕ → ℕ → Option (List ℕ) → Result (List ℕ) Refusal
 file_answer word limit file = refused word (load_answer file limit)
 
--- it is refused so, or the cabinet failed, or there was no memory
+-- it is refused so, or the cabinet failed, or there was no memory; every other refusal is the answer
 abbrev pub IsRefusal : {T : Type 0} → Result T Refusal → Refusal → Type 0
 IsRefusal answer (CabinetFault word) = Unit {0}
 IsRefusal answer NoMemory = Unit {0}
@@ -41,12 +42,45 @@ abbrev pub IsAnswer : {T : Type 0} → Result T Refusal → Result T Refusal →
 IsAnswer answer (Ok value) = Ok value ≡ answer
 IsAnswer answer (Err refusal) = IsRefusal answer refusal
 
--- the number of the word that a refusal names
+-- The number of the word that the refusal of a file names. Each refusal stands here, so that a later one is decided on.
 abbrev pub word_of : Refusal → Option ℕ
-word_of (CabinetFault word) = Some word
-word_of (FileAbsent word) = Some word
-word_of (FileTooLong word limit) = Some word
-word_of refusal = None
+word_of (refusals.Usage word reason) = None
+word_of refusals.UnknownProvider = None
+word_of refusals.NotAttached = None
+word_of refusals.StillAttached = None
+word_of refusals.BadMagic = None
+word_of (refusals.BadVersion found) = None
+word_of refusals.BadHash = None
+word_of (refusals.BadSize kept found) = None
+word_of (refusals.UnsupportedCipher found) = None
+word_of (refusals.UnsupportedAuth found) = None
+word_of (refusals.BadKeyLength found) = None
+word_of (refusals.BadSectorSize found) = None
+word_of (refusals.UnsupportedFlags mask) = None
+word_of refusals.NoValidKeys = None
+word_of refusals.WrongKey = None
+word_of refusals.NoKeyComponents = None
+word_of refusals.PassphraseNotSet = None
+word_of (refusals.KeyNumberOutOfRange given) = None
+word_of (refusals.KeyNotSet slot) = None
+word_of (refusals.LastKey slot) = None
+word_of refusals.IterationsNeedOneKey = None
+word_of refusals.PassphraseNeeded = None
+word_of (refusals.OutOfRange sector count media) = None
+word_of refusals.ReadOnly = None
+word_of (refusals.Integrity offset) = None
+word_of refusals.DeviceFault = None
+word_of (refusals.FileAbsent word) = Some word
+word_of (refusals.CabinetFault word) = Some word
+word_of refusals.EntropyFault = None
+word_of (refusals.FileTooLong word limit) = Some word
+word_of (refusals.BackupTooShort length) = None
+word_of (refusals.OldSizeMismatch kept given) = None
+word_of refusals.NoMemory = None
+word_of (refusals.NotGrown size given) = None
+word_of (refusals.TooSmall size) = None
+word_of (refusals.BadLength given sectorsize) = None
+word_of refusals.KeyNumberNeeded = None
 
 -- The word is that of a file, and the files before it are without fault, where that is told.
 pub record IsAt (taking : Taking) (told : Option Files) (line : List ℕ) (spans : List Span) (word : ℕ) : Type 0 where

@@ -2,7 +2,8 @@
 use Rattle.std.proofs.Common.{◌≡◌, ◌≢◌, ℕ, zero, suc, ◌*◌, ◌-◌, ◌%◌, ◌^◌, ◌<◌, List, ◌++◌, length, take, drop, true, not, nat_eq, bit_and, bit_or, refl, sym, ap, ◌∙◌, arith, append_assoc, length-take}
 use Rattle.std.proofs.lemmas.Nat.Bits.{and_pow, bit_at_set_same, bit_at_set_other, bit_at_clear_other}
 use Rattle.std.specs.Int.{w8}
-use Rattle.key_slots.specs.Slots.{with_slot_bytes}
+use Rattle.eli_metadata.specs.declared.metadata.Metadata.{Metadata}
+use Rattle.key_slots.specs.Slots.{OpensAsBefore, SameSlot, deciphered, slot_bytes, with_slot_bytes}
 use Rattle.key_slots.proofs.Parts.{take_front, drop_front}
 
 pub set_same : (keys s : ℕ) → s < 2 → not (nat_eq (bit_and (bit_or keys (1 * 2 ^ s % 256)) (2 ^ s)) 0) ≡ true
@@ -45,3 +46,12 @@ bytes_other mkeys bytes (suc zero) zero lm lb lt ls ne =
 bytes_other mkeys bytes (suc zero) (suc zero) lm lb lt ls ne = absurd (ne refl)
 bytes_other mkeys bytes (suc (suc slot)) s lm lb lt ls ne = absurd (omega arith)
 bytes_other mkeys bytes slot (suc (suc s)) lm lb lt ls ne = absurd (omega arith)
+
+-- a slot with the same bytes and bit opens as before
+pub OpensAsBefore-same : (old new : Metadata) (s : ℕ) → SameSlot old new s → new.keylen ≡ old.keylen → OpensAsBefore old new s
+OpensAsBefore-same old new s same keylen u master =
+    let text : deciphered (slot_bytes new s) u new.keylen ≡ deciphered (slot_bytes old s) u old.keylen =
+    ap (λ (bytes : List ℕ). deciphered bytes u new.keylen) same.bytes ∙ ap (deciphered (slot_bytes old s) u) keylen in (
+      λ held. record { set = same.set ∙ held.set; slot = record { text = text ∙ held.slot.text } },
+      λ held. record { set = sym same.set ∙ held.set; slot = record { text = sym text ∙ held.slot.text } },
+    )

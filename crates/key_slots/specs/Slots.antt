@@ -1,5 +1,5 @@
 -- The two slots of the metadata, each with the master key wrapped by a user key (g_eli.h, md_mkeys and md_keys; g_eli_key.c).
-use Rattle.std.specs.Prelude.{◌≡◌, ℕ, ◌+◌, ◌-◌, ◌*◌, ◌/◌, ◌^◌, ◌<◌, ◌⊎◌, Bool, IsTrue, List, [], ◌∷◌, ◌++◌, take, drop, replicate, bit_and, bit_or, Option, Some, None, if◌then◌else◌}
+use Rattle.std.specs.Prelude.{◌≡◌, ℕ, ◌+◌, ◌-◌, ◌*◌, ◌/◌, ◌^◌, ◌<◌, ◌⊎◌, ◌↔◌, Bool, IsTrue, List, [], ◌∷◌, ◌++◌, take, drop, replicate, bit_and, bit_or, Option, Some, None, if◌then◌else◌}
 use Rattle.std.specs.Option.{option_or}
 use Rattle.std.specs.Str.{bytes_eq}
 use Rattle.cbc_mode.specs.Cbc.{cbc_seal, cbc_open}
@@ -97,3 +97,7 @@ without_slot m s bytes = record m { keys = bit_and m.keys (255 - 2 ^ s); mkeys =
 pub record SameSlot (old new : Metadata) (s : ℕ) : Type 0 where
   pub set : is_set new s ≡ is_set old s
   pub bytes : slot_bytes new s ≡ slot_bytes old s
+
+-- each user key opens slot s to the same master key as before, or to none as before
+abbrev pub OpensAsBefore : Metadata → Metadata → ℕ → Type 0
+OpensAsBefore old new s = (u master : List ℕ) → Opens old u s master ↔ Opens new u s master

@@ -82,9 +82,10 @@ fn fill(text: &mut [u8]) {
     }
 }
 
-// A cipher, the bits of its key and the bytes of a logical sector.
+// The version of the metadata, a cipher, the bits of its key and the bytes of a logical sector.
 #[derive(Clone, Copy)]
 struct Combination {
+    version: u32,
     cipher: Cipher,
     keylen: u16,
     sectorsize: u32,
@@ -100,12 +101,13 @@ fn check_at(
     digest: &mut Sha256,
 ) -> Result<(), Fail> {
     let Combination {
+        version,
         cipher,
         keylen,
         sectorsize,
     } = *tried;
     assert!(rt; cipher.allows(keylen) && sector_size_ok(sectorsize));
-    let params = Params::new(7, Auth::Off, cipher, keylen, sectorsize, 0, false);
+    let params = Params::new(version, Auth::Off, cipher, keylen, sectorsize, 0, false);
     let mut ring = KeyRing::new(alloc, &master(), &params)?;
     let mut block = plain.to_vec(alloc)?;
     assert!(rt; block.len() == sectorsize as usize);
@@ -156,6 +158,7 @@ fn check_table(
 ) -> Result<(), Fail> {
     for (&sectorsize, expected) in SECTOR_SIZES.iter().zip(digests) {
         let tried = Combination {
+            version: 7,
             cipher,
             keylen,
             sectorsize,
@@ -166,32 +169,22 @@ fn check_table(
 }
 
 #[test]
-fn xts_128_by_sector_size(rt: HostRuntime) -> Result<(), Fail> {
-    check_table(&rt, rt.alloc(), Cipher::AesXts, 128, &XTS_128)
-}
-
-#[test]
-fn xts_256_by_sector_size(rt: HostRuntime) -> Result<(), Fail> {
-    check_table(&rt, rt.alloc(), Cipher::AesXts, 256, &XTS_256)
-}
-
-#[test]
-fn cbc_128_by_sector_size(rt: HostRuntime) -> Result<(), Fail> {
-    check_table(&rt, rt.alloc(), Cipher::AesCbc, 128, &CBC_128)
-}
-
-#[test]
-fn cbc_192_by_sector_size(rt: HostRuntime) -> Result<(), Fail> {
-    check_table(&rt, rt.alloc(), Cipher::AesCbc, 192, &CBC_192)
-}
-
-#[test]
-fn cbc_256_by_sector_size(rt: HostRuntime) -> Result<(), Fail> {
-    check_table(&rt, rt.alloc(), Cipher::AesCbc, 256, &CBC_256)
+fn sectors_by_cipher_and_size(rt: HostRuntime) -> Result<(), Fail> {
+    for (cipher, keylen, digests) in &[
+        (Cipher::AesXts, 128, XTS_128),
+        (Cipher::AesXts, 256, XTS_256),
+        (Cipher::AesCbc, 128, CBC_128),
+        (Cipher::AesCbc, 192, CBC_192),
+        (Cipher::AesCbc, 256, CBC_256),
+    ] {
+        check_table(&rt, rt.alloc(), *cipher, *keylen, digests)?;
+    }
+    Ok(())
 }
 
 // A logical sector by its number, and the digest of what the plain text is sealed to there.
 struct Vector {
+    version: u32,
     cipher: Cipher,
     keylen: u16,
     sectorsize: u32,
@@ -200,8 +193,9 @@ struct Vector {
 }
 
 // By another implementation of the rules of geli(8), under the same master key, of the same plain text.
-const VECTORS: [Vector; 7] = [
+const VECTORS: [Vector; 9] = [
     Vector {
+        version: 7,
         cipher: Cipher::AesXts,
         keylen: 128,
         sectorsize: 512,
@@ -209,6 +203,7 @@ const VECTORS: [Vector; 7] = [
         digest: "9d3978f2727de1046ec2eab4ec585b3ec5a0309fb153bc9a6f32ff8d9254e880",
     },
     Vector {
+        version: 7,
         cipher: Cipher::AesXts,
         keylen: 128,
         sectorsize: 512,
@@ -216,6 +211,7 @@ const VECTORS: [Vector; 7] = [
         digest: "bbe3cf0f3c830ac1a16a713929f64dac41e714c933b06dc601c77572d6df4cb8",
     },
     Vector {
+        version: 7,
         cipher: Cipher::AesXts,
         keylen: 256,
         sectorsize: 4096,
@@ -223,6 +219,7 @@ const VECTORS: [Vector; 7] = [
         digest: "a068a884c5305e9bca09f10c29c6e3e18472c21ba3b87212154c9d6bbc0e8a80",
     },
     Vector {
+        version: 7,
         cipher: Cipher::AesXts,
         keylen: 128,
         sectorsize: 512,
@@ -230,6 +227,7 @@ const VECTORS: [Vector; 7] = [
         digest: "0ab4218955ca3aba69ee804622a0dd752ed9c1e35ec9a16d0b1f9c79b37659ba",
     },
     Vector {
+        version: 7,
         cipher: Cipher::AesCbc,
         keylen: 128,
         sectorsize: 512,
@@ -237,6 +235,7 @@ const VECTORS: [Vector; 7] = [
         digest: "5ae95eaf4528f24767187b429d90962e757e61b86d39b4aa1785edb52a52159d",
     },
     Vector {
+        version: 7,
         cipher: Cipher::AesCbc,
         keylen: 192,
         sectorsize: 4096,
@@ -244,16 +243,34 @@ const VECTORS: [Vector; 7] = [
         digest: "051d8bf8ed56f649d9118048847c1826e16e34b4945c1004e37b1b8712b70d2f",
     },
     Vector {
+        version: 7,
         cipher: Cipher::AesCbc,
         keylen: 256,
         sectorsize: 65536,
         number: 1,
         digest: "1690783119d6cf60dfe80cef4217f35d0ffcc5afb192b93bc1c0cff634b061d1",
     },
+    Vector {
+        version: 6,
+        cipher: Cipher::AesXts,
+        keylen: 128,
+        sectorsize: 512,
+        number: 3,
+        digest: "0332fc9773132d8b1a72b35cba4771f9e1c2f35ae19b89e7add49984d37acbbc",
+    },
+    Vector {
+        version: 5,
+        cipher: Cipher::AesCbc,
+        keylen: 128,
+        sectorsize: 512,
+        number: 3,
+        digest: "19dbb1d949c9f7fefeb434e19d3b600356147cf3672c98daa23bd61542f21f20",
+    },
 ];
 
 fn check_sector(rt: &impl Abort, alloc: Global, vector: &Vector) -> Result<(), Fail> {
     let tried = Combination {
+        version: vector.version,
         cipher: vector.cipher,
         keylen: vector.keylen,
         sectorsize: vector.sectorsize,
@@ -265,7 +282,12 @@ fn check_sector(rt: &impl Abort, alloc: Global, vector: &Vector) -> Result<(), F
     let mut digest = Sha256::new();
     check_at(rt, alloc, &tried, offset, &plain, &mut digest)?;
     let digest = hex::encode(alloc, &digest.finalize())?;
-    assert_eq!(rt; digest.as_str(), vector.digest, "at {offset}");
+    assert_eq!(rt;
+        digest.as_str(),
+        vector.digest,
+        "version {}, at {offset}",
+        vector.version
+    );
     Ok(())
 }
 

@@ -1,10 +1,10 @@
 -- Where logical sectors stand on the disk.
-use Rattle.std.proofs.Common.{◌≡◌, ℕ, ◌+◌, ◌-◌, ◌*◌, ◌/◌, ◌%◌, ◌^◌, ◌<◌, ◌≤◌, sym, ap, ◌∙◌, arith}
+use Rattle.std.proofs.Common.{◌≡◌, ◌↔◌, ℕ, ◌+◌, ◌-◌, ◌*◌, ◌/◌, ◌%◌, ◌^◌, ◌<◌, ◌≤◌, Bool, true, false, IsTrue, sym, ap, ◌∙◌, arith}
 use Rattle.std.proofs.Math.Nat.{mul-le-mul_right, mul-le-mul_left, div-mul-le_self, mul-one}
 use Rattle.eli_base.specs.declared.algorithms.Auth.{Auth}
 use Rattle.eli_base.specs.declared.algorithms.Auth.TheVariants.{Off}
 use Rattle.eli_base.specs.Keying.{Keying}
-use Rattle.eli_base.specs.Units.{units_per_sector}
+use Rattle.eli_base.specs.Units.{media_sectors, units_per_sector}
 use Rattle.sealing.specs.Sectors.{units}
 
 -- how many device sectors stand in so many bytes of one logical sector
@@ -28,3 +28,18 @@ pub offset_small : (sector size units disk : ℕ) → size ≡ 512 * units → s
 offset_small sector size units disk same inside small =
     let at : sector * size ≡ sector * (512 * units) = ap (λ (s : ℕ). sector * s) same in
     omega (arith, at)
+
+not_below : (m n : ℕ) → ¬ (m < n) → n ≤ m
+not_below m n none = omega arith
+
+-- a request that doesn't pass the end lies within the disk
+pub request_inside : (k : Keying) (sector count media size : ℕ) (passes : Bool) → media ≡ media_sectors k.auth k.sectorsize (512 * size) → (IsTrue passes ↔ (media < sector + count))
+    → passes ≡ false → (sector + count) * units k ≤ size
+request_inside k sector count media size true is iff none = absurd cc
+request_inside k sector count media size false is iff none =
+    let all : ℕ = 512 * size - 512 in
+    let bytes : ℕ = 512 * units k in
+    let fits : sector + count ≤ media = not_below media (sector + count) (λ more. let wrong = iff.1 more in absurd cc) in
+    let within : (sector + count) * bytes ≤ media * bytes = mul-le-mul_right bytes fits in
+    let whole : media * bytes ≤ all = rw is (div-mul-le_self all bytes) in
+    omega (arith, within, whole)

@@ -1,5 +1,5 @@
 -- Logical sectors with authentication, piece by piece.
-use Rattle.std.proofs.Common.{◌≡◌, ◌≢◌, ℕ, zero, suc, ◌+◌, ◌-◌, ◌*◌, ◌/◌, ◌%◌, ◌<◌, ◌≤◌, min, List, [], ◌∷◌, ◌++◌, length, get_or, take, drop, Option, Some, None, IfSome, Result, Ok, Err, OnErr, subst, refl, sym, ap, ◌∙◌, arith, add-one}
+use Rattle.std.proofs.Common.{◌≡◌, ◌≢◌, ℕ, zero, suc, ◌+◌, ◌-◌, ◌*◌, ◌/◌, ◌%◌, ◌<◌, ◌≤◌, min, List, [], ◌∷◌, ◌++◌, length, get_or, take, drop, Option, Some, None, IfSome, Result, Ok, Err, IsOk, OnErr, subst, refl, sym, ap, ◌∙◌, arith, add-one}
 use Rattle.std.proofs.Math.Seq.{take-suc, drop-cons}
 use Rattle.std.proofs.lemmas.List.{take_all, take_min, drop_all, length-take-le, length-drop, take-append-drop}
 use Rattle.std.proofs.lemmas.Slice.{take-put_mid}
@@ -15,13 +15,13 @@ use Rattle.eli_base.specs.Keying.{Keying}
 use Rattle.eli_base.specs.Units.{unit_bytes_of, units_per_sector}
 use Rattle.eli_base.proofs.Units.{units_reach}
 use Rattle.sealing.specs.Pieces.{opened_piece, sealed_piece}
-use Rattle.sealing.specs.Sectors.{before, joined, seal, unit_readings, units}
+use Rattle.sealing.specs.Sectors.{before, joined, seal, units}
 use Rattle.sealing.proofs.PartLists.{part}
 use Rattle.sealing.proofs.Pieces.{sealed_unit-tagged, unit_reading-tagged, length-unit_readings-tagged}
 use Rattle.sealing.proofs.Sectors.{length-seal}
-use Rattle.provider.specs.Reading.{standing, sector_reading}
+use Rattle.provider.specs.Reading.{standing, sector_reading, units_read}
 use Rattle.provider.specs.Writing.{writes_from}
-use Rattle.provider.specs.Reads.{PieceAnswers, SectorAnswers}
+use Rattle.provider.specs.Reads.{AreAccepted, PieceAnswers, SectorAnswers}
 use Rattle.provider.specs.declared.faults.ReadFault.{ReadFault}
 use Rattle.provider.specs.declared.faults.ReadFault.TheVariants.{OutOfRange, DeviceFault, Integrity}
 use Rattle.provider.proofs.Readings.{before-ok, joined-push}
@@ -67,17 +67,13 @@ length-standing : (c : Content) (n count : ℕ) → length (standing c n count) 
 length-standing c n zero = refl
 length-standing c n (suc count) = ap suc (length-standing c (n + 1) count)
 
--- what the units of a logical sector read as now
-abbrev pub units_now : Keying → Content → ℕ → List (Result (List ℕ) ℕ)
-units_now k c sector = unit_readings k sector (standing c (sector * units k) (units k))
-
-pub length-units_now : (k : Keying) (c : Content) (sector : ℕ) → k.auth ≢ Off → length (units_now k c sector) ≡ units k
-length-units_now k c sector on =
+pub length-units_read : (k : Keying) (c : Content) (sector : ℕ) → k.auth ≢ Off → length (units_read k c sector) ≡ units k
+length-units_read k c sector on =
     length-unit_readings-tagged k sector (standing c (sector * units k) (units k)) on ∙ length-standing c (sector * units k) (units k)
 
 -- each is that of a piece
 pub unit_now : (k : Keying) (c : Content) (sector j n size : ℕ) → k.auth ≢ Off → j < units k → n ≡ sector * units k + j
-    → size ≡ min (unit_bytes_of k.auth) (k.sectorsize - unit_bytes_of k.auth * j) → get_or (units_now k c sector) j (Ok []) ≡ opened_piece k (512 * n) size (present c n)
+    → size ≡ min (unit_bytes_of k.auth) (k.sectorsize - unit_bytes_of k.auth * j) → get_or (units_read k c sector) j (Ok []) ≡ opened_piece k (512 * n) size (present c n)
 unit_now k c sector j n size on lt at bytes =
     let offset : 512 * (sector * units k) + 512 * j ≡ 512 * n = omega arith in
     unit_reading-tagged k sector j (standing c (sector * units k) (units k)) on (rw (length-standing c (sector * units k) (units k)) lt)
@@ -116,52 +112,67 @@ joined-next readings j start end block piece lt so here long room =
 
 pub read_next : (told now_told : Option Content) (k now : Keying) (sector j n size start end : ℕ) (block piece : List ℕ) → k.auth ≢ Off → now ≡ k → now_told ≡ told → j < units k
     → n ≡ sector * units k + j → size ≡ end - start → IsUnit k.auth k.sectorsize j start end → length block ≡ k.sectorsize → length piece ≡ end - start
-    → IfSome told (λ (c : Content). joined (take j (units_now k c sector)) ≡ Ok (take start block))
+    → IfSome told (λ (c : Content). joined (take j (units_read k c sector)) ≡ Ok (take start block))
     → IfSome now_told (λ (c : Content). opened_piece now (512 * n) size (present c n) ≡ Ok piece)
-    → IfSome told (λ (c : Content). joined (take (j + 1) (units_now k c sector)) ≡ Ok (take end (put_mid start (end - start) block piece)))
+    → IfSome told (λ (c : Content). joined (take (j + 1) (units_read k c sector)) ≡ Ok (take end (put_mid start (end - start) block piece)))
 read_next None now_told k now sector j n size start end block piece on same there lt at count unit long len so gives = tt
 read_next (Some c) now_told k now sector j n size start end block piece on same there lt at count unit long len so gives =
     let P : Option Content → Type 0 = λ told. IfSome told (λ (c : Content). opened_piece now (512 * n) size (present c n) ≡ Ok piece) in
     let here : opened_piece now (512 * n) size (present c n) ≡ Ok piece = subst P there gives in
     let order = unit.order in
     let within = unit.within in
-    joined-next (units_now k c sector) j start end block piece (rw (length-units_now k c sector on) lt) so
+    joined-next (units_read k c sector) j start end block piece (rw (length-units_read k c sector on) lt) so
     (unit_now k c sector j n size on lt at (count ∙ unit.bytes) ∙ ap (λ (h : Keying). opened_piece h (512 * n) size (present c n)) (sym same) ∙ here)
     (omega arith) (omega arith)
 
 read_faulty : (told now_told : Option Content) (k now : Keying) (sector j n size start end offset : ℕ) (block : List ℕ) → k.auth ≢ Off → now ≡ k → now_told ≡ told → j < units k
     → n ≡ sector * units k + j → size ≡ end - start → IsUnit k.auth k.sectorsize j start end
-    → IfSome told (λ (c : Content). joined (take j (units_now k c sector)) ≡ Ok (take start block))
+    → IfSome told (λ (c : Content). joined (take j (units_read k c sector)) ≡ Ok (take start block))
     → IfSome now_told (λ (c : Content). opened_piece now (512 * n) size (present c n) ≡ Err offset)
     → IfSome told (λ (c : Content). sector_reading k c sector ≡ Err offset)
 read_faulty None now_told k now sector j n size start end offset block on same there lt at count unit so gives = tt
 read_faulty (Some c) now_told k now sector j n size start end offset block on same there lt at count unit so gives =
     let P : Option Content → Type 0 = λ told. IfSome told (λ (c : Content). opened_piece now (512 * n) size (present c n) ≡ Err offset) in
     let here : opened_piece now (512 * n) size (present c n) ≡ Err offset = subst P there gives in
-    joined-fault (units_now k c sector) j (take start block) offset (rw (length-units_now k c sector on) lt) so
+    joined-fault (units_read k c sector) j (take start block) offset (rw (length-units_read k c sector on) lt) so
     (unit_now k c sector j n size on lt at (count ∙ unit.bytes) ∙ ap (λ (h : Keying). opened_piece h (512 * n) size (present c n)) (sym same) ∙ here)
+
+-- units that were joined are accepted
+pub accepted_so : (told : Option Content) (k : Keying) (sector j : ℕ) (front : List ℕ) → IfSome told (λ (c : Content). joined (take j (units_read k c sector)) ≡ Ok front)
+    → IfSome told (λ (c : Content). AreAccepted k c sector j)
+accepted_so None k sector j front so = tt
+accepted_so (Some c) k sector j front so = let P : Result (List ℕ) ℕ → Type 0 = λ r. IsOk r in subst P (sym so) refl
 
 pub fault_next : (fault : ReadFault) (first middle last : DiskState) (k now : Keying) (sector j n size start end : ℕ) (block piece bytes : List ℕ) → k.auth ≢ Off → now ≡ k → Logs [] first middle
     → j < units k → n ≡ sector * units k + j → size ≡ end - start → IsUnit k.auth k.sectorsize j start end
-    → IfSome first.content (λ (c : Content). joined (take j (units_now k c sector)) ≡ Ok (take start block))
+    → IfSome first.content (λ (c : Content). joined (take j (units_read k c sector)) ≡ Ok (take start block))
     → PieceAnswers now n size middle last piece (Err fault) → SectorAnswers k sector first last bytes (Err fault)
 fault_next (OutOfRange a b m) first middle last k now sector j n size start end block piece bytes on same logs lt at count unit so gives = absurd gives
-fault_next DeviceFault first middle last k now sector j n size start end block piece bytes on same logs lt at count unit so gives = FailsIn-then [] [] logs gives
+fault_next DeviceFault first middle last k now sector j n size start end block piece bytes on same logs lt at count unit so gives = record {
+  unit = j;
+  within = lt;
+  accepted = accepted_so first.content k sector j (take start block) so;
+  fails = FailsIn-then [] [] logs gives;
+}
 fault_next (Integrity offset) first middle last k now sector j n size start end block piece bytes on same logs lt at count unit so gives = record {
-  logs = Logs-then [] [] logs gives.logs;
-  reads = read_faulty first.content middle.content k now sector j n size start end offset block on same (logs.content ∙ logged-none first.content) lt at count unit so gives.reads;
+  tagged = on;
+  unit = j;
+  within = lt;
+  place = gives.0 ∙ ap (λ (m : ℕ). 512 * m) at;
+  logs = Logs-then [] [] logs gives.1.logs;
+  reads = read_faulty first.content middle.content k now sector j n size start end offset block on same (logs.content ∙ logged-none first.content) lt at count unit so gives.1.reads;
 }
 
 pub read_all : (told : Option Content) (k : Keying) (sector j start : ℕ) (block : List ℕ) → k.auth ≢ Off → j ≡ units k → start ≡ min (unit_bytes_of k.auth * j) k.sectorsize
-    → length block ≡ k.sectorsize → IfSome told (λ (c : Content). joined (take j (units_now k c sector)) ≡ Ok (take start block))
+    → length block ≡ k.sectorsize → IfSome told (λ (c : Content). joined (take j (units_read k c sector)) ≡ Ok (take start block))
     → IfSome told (λ (c : Content). sector_reading k c sector ≡ Ok block)
 read_all None k sector j start block on all end long so = tt
 read_all (Some c) k sector j start block on all end long so =
-    let count : length (units_now k c sector) ≤ j = rw (length-units_now k c sector on, all) (omega arith) in
+    let count : length (units_read k c sector) ≤ j = rw (length-units_read k c sector on, all) (omega arith) in
     let reach = units_reach k.auth k.sectorsize in
     let most : unit_bytes_of k.auth * j ≡ unit_bytes_of k.auth * units k = ap (λ (m : ℕ). unit_bytes_of k.auth * m) all in
     let whole : length block ≤ start = omega (arith, reach, most) in
-    ap joined (sym (take_all j (units_now k c sector) count)) ∙ so ∙ ap Ok (take_all start block whole)
+    ap joined (sym (take_all j (units_read k c sector) count)) ∙ so ∙ ap Ok (take_all start block whole)
 
 -- ---- writing
 

@@ -14,6 +14,7 @@ use Rattle.provider.specs.declared.faults.WriteFault.{WriteFault}
 use Rattle.provider.specs.declared.faults.WriteFault.TheVariants as write
 use Rattle.provider.specs.Attached.{Attached, OpensAsNamed, media, opened}
 use Rattle.provider.specs.Reading.{ReadsAs}
+use Rattle.provider.specs.Reads.{RunFails, RunFault}
 use Rattle.provider.specs.Writing.{data_writes}
 
 -- ---- attaching
@@ -94,19 +95,18 @@ pub record IsRead (k : Keying) (r : Request) (bytes : List ℕ) (old new : DiskS
 -- byte offset of the device
 pub record FindsFault (k : Keying) (r : Request) (offset : ℕ) (old new : DiskState) : Type 0 where
   pub in_range : IsInRange r
-  pub logs : Logs [] old new
-  pub reads : ReadsAs old k r.sector r.count (Err offset)
+  pub finds : RunFault k r.sector r.count offset old new
 
--- a device call failed: nothing was logged
-pub record FailsRead (r : Request) (old new : DiskState) : Type 0 where
+-- a device call failed: nothing was logged, and every unit of the request before the one that was to be read was accepted
+pub record FailsRead (k : Keying) (r : Request) (old new : DiskState) : Type 0 where
   pub in_range : IsInRange r
-  pub fails : FailsIn [] old new
+  pub fails : RunFails k r.sector r.count old new
 
 -- what a read answers
 abbrev pub ReadAnswers : {D : Type 0} → (D → DiskState) → Request → List ℕ → Attached D → Attached D → Result (Unit {0}) ReadFault → Type 0
 ReadAnswers state r bytes old new (Ok done) = IsRead old.keying r bytes (state old.disk) (state new.disk)
 ReadAnswers state r bytes old new (Err (read.OutOfRange sector count media)) = PassesEnd r sector count media × (new ≡ old)
-ReadAnswers state r bytes old new (Err read.DeviceFault) = FailsRead r (state old.disk) (state new.disk)
+ReadAnswers state r bytes old new (Err read.DeviceFault) = FailsRead old.keying r (state old.disk) (state new.disk)
 ReadAnswers state r bytes old new (Err (read.Integrity offset)) = FindsFault old.keying r offset (state old.disk) (state new.disk)
 
 -- the request was served: exactly the writes of the sealed sectors were logged

@@ -1,6 +1,8 @@
 -- An attached provider: a disk whose data are read and written under a keying (geli(8), "attach").
 use Rattle.std.specs.Prelude.{◌≡◌, ℕ, ◌*◌, Bool, List, Option, Some, None}
 use Rattle.block_traits.specs.Disk.{DiskState}
+use Rattle.eli_base.specs.declared.algorithms.Auth.{Auth}
+use Rattle.eli_base.specs.declared.algorithms.Auth.TheVariants.{Off}
 use Rattle.eli_base.specs.declared.parameters.MasterKey.{MasterKey}
 use Rattle.eli_base.specs.Keying.{Keying}
 use Rattle.eli_base.specs.Units.{media_sectors}
@@ -23,6 +25,12 @@ pub record IsKept {D : Type 0} (old new : Attached D) : Type 0 where
 -- the logical sectors that a disk has room for under a keying
 abbrev pub media : Keying → DiskState → ℕ
 media k d = media_sectors k.auth k.sectorsize (512 * d.size)
+
+-- the bytes of the buffer that a provider keeps: a logical sector without authentication, where a whole one is sealed in place,
+-- and none with it, where one device sector is sealed after the other
+abbrev pub buffer_bytes : Auth → ℕ → ℕ
+buffer_bytes Off sectorsize = sectorsize
+buffer_bytes _ sectorsize = 0
 
 -- the master key, and the number of its slot, that the user key u opens: of the named slot, or else of the first that opens
 abbrev pub opened : Metadata → List ℕ → Option ℕ → Option (MasterKey × ℕ)

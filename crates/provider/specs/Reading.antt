@@ -3,7 +3,7 @@ use Rattle.std.specs.Prelude.{◌≡◌, ℕ, zero, suc, ◌+◌, ◌*◌, List,
 use Rattle.block_traits.specs.Content.{Content, present}
 use Rattle.block_traits.specs.Disk.{DiskState}
 use Rattle.eli_base.specs.Keying.{Keying}
-use Rattle.sealing.specs.Sectors.{joined, reading, units}
+use Rattle.sealing.specs.Sectors.{joined, reading, unit_readings, units}
 
 -- so many device sectors from number n on, as they stand now
 abbrev pub standing : Content → ℕ → ℕ → List (List ℕ)
@@ -14,6 +14,10 @@ standing c n (suc count) = present c n ∷ standing c (n + 1) count
 abbrev pub StandFrom : Option Content → ℕ → ℕ → List (List ℕ) → Type 0
 StandFrom None n count sectors = Unit {0}
 StandFrom (Some c) n count sectors = sectors ≡ standing c n count
+
+-- what each unit of a logical sector reads as now
+abbrev pub units_read : Keying → Content → ℕ → List (Result (List ℕ) ℕ)
+units_read k c sector = unit_readings k sector (standing c (sector * units k) (units k))
 
 -- what a logical sector reads as now
 abbrev pub sector_reading : Keying → Content → ℕ → Result (List ℕ) ℕ

@@ -1,12 +1,16 @@
--- What reading a piece, a logical sector, or some of them came to, each answer with its cause.
-use Rattle.std.specs.Prelude.{◌≡◌, ℕ, ◌*◌, List, [], Result, Ok, Err, IfSome}
+-- What reading a piece, a logical sector, or some of them came to, each answer with its cause. Units are read in order, and each
+-- is looked at before the next one is read: so a fault is that of the first unit that has one, and where a call of the disk
+-- failed, every unit before the one that was to be read was accepted.
+use Rattle.std.specs.Prelude.{◌≡◌, ◌≢◌, ℕ, ◌+◌, ◌*◌, ◌<◌, List, [], take, Result, Ok, Err, IfSome, IsOk}
 use Rattle.block_traits.specs.Content.{Content, present}
 use Rattle.block_traits.specs.Disk.{DiskState, FailsIn, Logs}
+use Rattle.eli_base.specs.declared.algorithms.Auth.TheVariants.{Off}
 use Rattle.eli_base.specs.Keying.{Keying}
 use Rattle.sealing.specs.Pieces.{opened_piece}
+use Rattle.sealing.specs.Sectors.{joined, units}
 use Rattle.provider.specs.declared.faults.ReadFault.{ReadFault}
 use Rattle.provider.specs.declared.faults.ReadFault.TheVariants.{OutOfRange, DeviceFault, Integrity}
-use Rattle.provider.specs.Reading.{ReadsAs, sector_reading}
+use Rattle.provider.specs.Reading.{ReadsAs, data_reading, sector_reading, units_read}
 
 -- nothing was logged, and this holds of the content where it is told
 pub record ReadSo (old new : DiskState) (fact : Content → Type 0) : Type 0 where
@@ -16,20 +20,66 @@ pub record ReadSo (old new : DiskState) (fact : Content → Type 0) : Type 0 whe
 -- what reading a piece of so many plain bytes in device sector n answers
 abbrev pub PieceAnswers : Keying → ℕ → ℕ → DiskState → DiskState → List ℕ → Result (Unit {0}) ReadFault → Type 0
 PieceAnswers k n size old new bytes (Ok done) = ReadSo old new (λ c. opened_piece k (512 * n) size (present c n) ≡ Ok bytes)
-PieceAnswers k n size old new bytes (Err (Integrity offset)) = ReadSo old new (λ c. opened_piece k (512 * n) size (present c n) ≡ Err offset)
+PieceAnswers k n size old new bytes (Err (Integrity offset)) = (offset ≡ 512 * n) × ReadSo old new (λ c. opened_piece k (512 * n) size (present c n) ≡ Err offset)
 PieceAnswers k n size old new bytes (Err DeviceFault) = FailsIn [] old new
 PieceAnswers k n size old new bytes (Err (OutOfRange sector count media)) = ⊥
+
+-- ---- one logical sector
+
+-- the first units of a logical sector are accepted: none of them has a fault
+abbrev pub AreAccepted : Keying → Content → ℕ → ℕ → Type 0
+AreAccepted k c sector count = IsOk (joined (take count (units_read k c sector)))
+
+-- there is authentication, this unit is the first of the logical sector whose tag differs, and nothing was logged
+pub record SectorFault (k : Keying) (sector offset : ℕ) (old new : DiskState) : Type 0 where
+  pub tagged : k.auth ≢ Off
+  pub unit : ℕ
+  pub within : unit < units k
+  pub place : offset ≡ 512 * (sector * units k + unit)
+  pub logs : Logs [] old new
+  pub reads : IfSome old.content (λ c. sector_reading k c sector ≡ Err offset)
+
+-- the device failed where this unit was to be read, all units before it were accepted, and nothing was logged
+pub record SectorFails (k : Keying) (sector : ℕ) (old new : DiskState) : Type 0 where
+  pub unit : ℕ
+  pub within : unit < units k
+  pub accepted : IfSome old.content (λ c. AreAccepted k c sector unit)
+  pub fails : FailsIn [] old new
 
 -- what reading a logical sector answers
 abbrev pub SectorAnswers : Keying → ℕ → DiskState → DiskState → List ℕ → Result (Unit {0}) ReadFault → Type 0
 SectorAnswers k sector old new bytes (Ok done) = ReadSo old new (λ c. sector_reading k c sector ≡ Ok bytes)
-SectorAnswers k sector old new bytes (Err (Integrity offset)) = ReadSo old new (λ c. sector_reading k c sector ≡ Err offset)
-SectorAnswers k sector old new bytes (Err DeviceFault) = FailsIn [] old new
+SectorAnswers k sector old new bytes (Err (Integrity offset)) = SectorFault k sector offset old new
+SectorAnswers k sector old new bytes (Err DeviceFault) = SectorFails k sector old new
 SectorAnswers k sector old new bytes (Err (OutOfRange first count media)) = ⊥
+
+-- ---- some logical sectors
+
+-- there is authentication, a unit of the logical sector behind so many is the first of them all whose tag differs, at this byte offset
+-- of the device, and nothing was logged
+pub record RunFault (k : Keying) (sector count offset : ℕ) (old new : DiskState) : Type 0 where
+  pub tagged : k.auth ≢ Off
+  pub passed : ℕ
+  pub unit : ℕ
+  pub more : passed < count
+  pub within : unit < units k
+  pub place : offset ≡ 512 * ((sector + passed) * units k + unit)
+  pub logs : Logs [] old new
+  pub reads : ReadsAs old k sector count (Err offset)
+
+-- the device failed where a unit of the logical sector behind so many was to be read, all units before it were accepted, and
+-- nothing was logged
+pub record RunFails (k : Keying) (sector count : ℕ) (old new : DiskState) : Type 0 where
+  pub passed : ℕ
+  pub unit : ℕ
+  pub more : passed < count
+  pub within : unit < units k
+  pub accepted : IfSome old.content (λ c. IsOk (data_reading k c sector passed) × AreAccepted k c (sector + passed) unit)
+  pub fails : FailsIn [] old new
 
 -- what reading so many logical sectors answers: the bytes of all, or the first fault among them
 abbrev pub RunAnswers : Keying → ℕ → ℕ → DiskState → DiskState → List ℕ → Result (Unit {0}) ReadFault → Type 0
 RunAnswers k sector count old new bytes (Ok done) = Logs [] old new × ReadsAs old k sector count (Ok bytes)
-RunAnswers k sector count old new bytes (Err (Integrity offset)) = Logs [] old new × ReadsAs old k sector count (Err offset)
-RunAnswers k sector count old new bytes (Err DeviceFault) = FailsIn [] old new
+RunAnswers k sector count old new bytes (Err (Integrity offset)) = RunFault k sector count offset old new
+RunAnswers k sector count old new bytes (Err DeviceFault) = RunFails k sector count old new
 RunAnswers k sector count old new bytes (Err (OutOfRange first asked media)) = ⊥

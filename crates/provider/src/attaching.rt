@@ -3,10 +3,10 @@ ghost use Rattle.std.specs.Prelude.{◌≡◌, ℕ, ◌<◌, ◌↔◌, List, If
 ghost use Rattle.std.specs.Option.{ForSome};
 ghost use Rattle.eli_base.specs.Keying.{keying_of};
 ghost use Rattle.key_slots.specs.Slots.{IsKeyBits};
-ghost use Rattle.provider.specs.Attached.{OpensAsNamed, opened};
+ghost use Rattle.provider.specs.Attached.{OpensAsNamed, buffer_bytes, opened};
 
 use block_traits::NoMemory;
-use eli_base::{MasterKey, Params};
+use eli_base::{Auth, MasterKey, Params};
 use eli_metadata::Metadata;
 use key_slots::{unwrap, unwrap_any};
 use range_keys::KeyRing;
@@ -28,16 +28,26 @@ pub fn opened(meta: &Metadata, key: &UserKey, named: Option<u8>) -> Option<(Mast
     Some((master, slot))
 }
 
-/// The memory that a provider keeps: its keys, and a buffer for one logical sector.
+// The bytes of the buffer that a provider keeps.
+fn buffer_bytes(auth: Auth, sectorsize: u32) -> usize
+    ensures { result ≡ buffer_bytes auth sectorsize }
+{
+    match auth {
+        Auth::Off => sectorsize as usize,
+        Auth::Sha256 | Auth::Sha384 | Auth::Sha512 => 0,
+    }
+}
+
+/// The memory that a provider keeps: its keys, and without authentication a buffer for one logical sector.
 pub fn reserve(
     alloc: Global,
     master: &MasterKey,
     params: &Params,
 ) -> Result<(KeyRing, Vec<u8>), NoMemory>
     ensures keying { IfOk result (λ kept. kept.0.keying ≡ keying_of params.now master.now) }
-    ensures buffer { IfOk result (λ kept. vec_len kept.1 ≡ params.now.sectorsize) }
+    ensures buffer { IfOk result (λ kept. vec_len kept.1 ≡ buffer_bytes params.now.auth params.now.sectorsize) }
 {
     let ring = KeyRing::new(alloc, master, params)?;
-    let buffer = vec![in alloc; 0; params.sectorsize as usize]?;
+    let buffer = vec![in alloc; 0; buffer_bytes(params.auth, params.sectorsize)]?;
     Ok((ring, buffer))
 }

@@ -6,6 +6,7 @@ ghost use Rattle.eli_metadata.specs.Check.{settings_of, size_matches, slot_match
 ghost use Rattle.provider.specs.Answers.{AttachAnswers, Means, ReadAnswers, Target, WriteAnswers, request};
 ghost use Rattle.provider.specs.Attached.{IsKept, media};
 ghost use Rattle.provider.specs.Rest.{rest_of};
+ghost use Rattle.range_keys.specs.Ring.{IsKeying};
 
 use crate::attaching::{opened, reserve};
 use crate::runs::{read_run, write_run};
@@ -46,20 +47,20 @@ pub struct Provider<D: Drop> {
     master: MasterKey,
     slot: u8,
     readonly: bool,
-    // One logical sector is sealed here.
+    // Without authentication one logical sector is sealed here.
     buffer: Vec<u8>,
 }
 
 impl<D: Drop> Model for Provider<D> {
     ghost use Rattle.std.specs.Prelude.{◌≡◌, vec_len};
     ghost use Rattle.eli_base.specs.Keying.{keying_of};
-    ghost use Rattle.provider.specs.Attached.{Attached};
+    ghost use Rattle.provider.specs.Attached.{Attached, buffer_bytes};
 
     ghost Value = { Attached D };
 
     ghost view = { λ p. record { disk = p.disk; keying = p.ring.keying; slot = p.slot; readonly = p.readonly } };
 
-    ghost invariant = { λ p. (p.ring.keying ≡ keying_of p.params p.master) × (vec_len p.buffer ≡ p.params.sectorsize) };
+    ghost invariant = { λ p. (p.ring.keying ≡ keying_of p.params p.master) × (vec_len p.buffer ≡ buffer_bytes p.params.auth p.params.sectorsize) };
 }
 
 impl<D: Disk> Provider<D> {
@@ -70,7 +71,7 @@ impl<D: Disk> Provider<D> {
     ///
     /// The disk comes back with the fault. In this order: `TooSmall`, exactly where the disk has no whole logical sector;
     /// `WrongKey`, exactly where no slot that is asked for opens; `NoMemory`. No call of the disk is made. The memory of
-    /// all later calls is reserved here.
+    /// all later calls is reserved here: the keys, and without authentication a buffer of one logical sector.
     pub fn attach(
         alloc: Global,
         disk: D,
@@ -139,6 +140,13 @@ impl<D: Disk> Provider<D> {
         self.readonly
     }
 
+    /// A law: the keying is one that a provider may have.
+    pub fn is_of_a_keying(&self)
+        ensures { IsKeying self.now.keying }
+    {
+        self.ring.is_of_a_keying();
+    }
+
     /// The master key.
     pub fn master(&self) -> MasterKey
         ensures { result.bytes ≡ self.now.keying.master }
@@ -149,9 +157,10 @@ impl<D: Disk> Provider<D> {
     /// Reads logical sectors from number `sector` on into `into`, whose length is a positive multiple of the sector
     /// size.
     ///
-    /// `OutOfRange` comes exactly where the request passes the end, and then no call of the disk is made. Then, sector by
-    /// sector and unit by unit, `DeviceFault` comes only where the device failed, and `Integrity` exactly where a unit's
-    /// tag isn't that of its cipher text, at the unit's byte offset on the device. After a refusal `into` is all zeros.
+    /// `OutOfRange` comes exactly where the request passes the end, and then no call of the disk is made. Then each unit is read
+    /// and opened before the next one is read, and the first fault ends the request: `DeviceFault` comes only where the device
+    /// failed and all units before were accepted, and `Integrity` exactly where a unit is the first whose tag isn't that of its
+    /// cipher text, at the unit's byte offset on the device. After a refusal `into` is all zeros.
     pub fn read(&mut self, sector: u64, into: &mut [u8]) -> Result<(), ReadFault>
         requires some { 0 < length into.old }
         requires whole { length into.old % self.old.keying.sectorsize ≡ 0 }
@@ -202,7 +211,8 @@ impl<D: Disk> Provider<D> {
             return Err(WriteFault::ReadOnly);
         }
         let media = self.sectors();
-        let count = (from.len() / self.params.sectorsize as usize) as u64;
+        let size = self.params.sectorsize as usize;
+        let count = (from.len() / size) as u64;
         if passes_end(sector, count, media) {
             return Err(WriteFault::OutOfRange {
                 sector,
@@ -211,7 +221,7 @@ impl<D: Disk> Provider<D> {
             });
         }
         let buffer = &mut self.buffer;
-        if write_run(&mut self.ring, &mut self.disk, sector, from, buffer).is_err() {
+        if write_run(&mut self.ring, &mut self.disk, sector, size, from, buffer).is_err() {
             return Err(WriteFault::DeviceFault);
         }
         Ok(())

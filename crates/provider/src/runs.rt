@@ -115,7 +115,7 @@ fn write_sector<D: Disk>(
     buffer: &mut [u8],
 ) -> Result<(), DiskFailed>
     requires size { length from.now ≡ ring.old.keying.sectorsize }
-    requires buffer { length buffer.old ≡ length from.now }
+    requires buffer { ring.old.keying.auth ≡ Off → length buffer.old ≡ length from.now }
     requires inside { sector * units ring.old.keying + units ring.old.keying ≤ (D.state disk.old).size }
     ensures ok { OnOk result (Logs (sector_writes ring.old.keying sector from.now) (D.state disk.old) (D.state disk.new)) }
     ensures err { OnErr result (FailsIn (sector_writes ring.old.keying sector from.now) (D.state disk.old) (D.state disk.new)) }
@@ -127,23 +127,25 @@ fn write_sector<D: Disk>(
     write_whole(ring, disk, sector, from, buffer)
 }
 
-// Writes logical sectors in ascending order, each of the size of `buffer`, in which it is sealed.
+// Writes logical sectors of `size` bytes in ascending order, the first to number `sector`. Without authentication each is sealed
+// in `buffer`, which then has its size.
 pub fn write_run<D: Disk>(
     ring: &mut KeyRing,
     disk: &mut D,
     sector: u64,
+    size: usize,
     from: &[u8],
     buffer: &mut [u8],
 ) -> Result<(), DiskFailed>
-    requires buffer { length buffer.old ≡ ring.old.keying.sectorsize }
-    requires whole { length from.now % length buffer.old ≡ 0 }
-    requires inside { (sector + length from.now / length buffer.old) * units ring.old.keying ≤ (D.state disk.old).size }
-    ensures ok { OnOk result (Logs (data_writes ring.old.keying sector (length from.now / length buffer.old) from.now) (D.state disk.old) (D.state disk.new)) }
-    ensures err { OnErr result (FailsIn (data_writes ring.old.keying sector (length from.now / length buffer.old) from.now) (D.state disk.old) (D.state disk.new)) }
+    requires size { size ≡ ring.old.keying.sectorsize }
+    requires buffer { ring.old.keying.auth ≡ Off → length buffer.old ≡ size }
+    requires whole { length from.now % size ≡ 0 }
+    requires inside { (sector + length from.now / size) * units ring.old.keying ≤ (D.state disk.old).size }
+    ensures ok { OnOk result (Logs (data_writes ring.old.keying sector (length from.now / size) from.now) (D.state disk.old) (D.state disk.new)) }
+    ensures err { OnErr result (FailsIn (data_writes ring.old.keying sector (length from.now / size) from.now) (D.state disk.old) (D.state disk.new)) }
     ensures keying { ring.new.keying ≡ ring.old.keying }
 {
     ring.is_of_a_keying();
-    let size = buffer.len();
     for i in 0..from.len() / size {
         let plain = &from[i * size..i * size + size];
         write_sector(ring, disk, sector + i as u64, plain, buffer)?;

@@ -48,9 +48,13 @@ numbered_block _ sectorsize = 512
 abbrev pub key_number : Keying → ℕ → ℕ
 key_number k offset = offset / 2 ^ 20 / numbered_block k.auth k.sectorsize
 
--- the range key of an offset: 64 bytes
+-- the range key of a number, made of this range base: 64 bytes
+abbrev pub numbered_key : List ℕ → ℕ → List ℕ
+numbered_key base number = hmac512 base (codes "ekey" ++ le64 number)
+
+-- the range key of an offset: that of its number
 abbrev pub range_key : Keying → ℕ → List ℕ
-range_key k offset = hmac512 (range_base k.version k.auth k.master) (codes "ekey" ++ le64 (key_number k offset))
+range_key k offset = numbered_key (range_base k.version k.auth k.master) (key_number k offset)
 
 -- the bytes of a key of so many bits
 abbrev pub key_bytes : ℕ → ℕ

@@ -1,2 +1,5 @@
 pub mod Keys
+pub mod Kept
+pub mod Lending
+pub mod Numbers
 pub mod Ring

@@ -8,11 +8,14 @@ ghost use Rattle.std.specs.Prelude.{◌≡◌, [], ◌∷◌, ◌++◌, codes};
 ghost use Rattle.range_keys.specs.Keys.{le64};
 
 mod derivation;
+mod expanded;
+mod kept;
 mod ring;
 #[cfg(test)]
 mod tests;
 
-pub use ring::{KeyRing, RangeKey};
+pub use expanded::RangeKey;
+pub use ring::KeyRing;
 
 /// The definitions give these bytes: the byte offset 4608, least significant byte first, and the message whose code is
 /// range key 1.

@@ -1,41 +1,22 @@
 // The ring of a provider's keys.
-ghost use Rattle.std.specs.Prelude.{◌≡◌, ◌≢◌, IsTrue, IfOk};
-ghost use Rattle.eli_base.specs.Algorithms.{allows_length};
+ghost use Rattle.std.specs.Prelude.{◌≡◌, ◌≢◌, ◌↔◌, ◌/◌, ◌^◌, ◌≤◌, [], IsTrue, IfOk, Contains, length, nat_eq};
+ghost use Rattle.std.specs.List.{IsDistinct};
+ghost use Rattle.std.specs.Borrow.{sem};
 ghost use Rattle.eli_base.specs.Keying.{keying_of};
-ghost use Rattle.range_keys.specs.Keys.{first_part, second_part, numbered_block, first_key, second_key, iv, tag_key};
+ghost use Rattle.range_keys.specs.Keys.{numbered_block, key_number, first_key, second_key, iv, tag_key};
+ghost use Rattle.range_keys.specs.Numbers.{room};
 ghost use Rattle.range_keys.specs.Ring.{IsKeying};
 
-use crate::derivation::{auth_key, digest_at, iv_key, range_base, range_key};
-use aes_core::Schedule;
+use crate::derivation::{auth_key, digest_at, iv_key, range_base};
+use crate::expanded::RangeKey;
+use crate::kept::KeptKeys;
 use block_traits::NoMemory;
 use eli_base::{Auth, Cipher, MasterKey, Params};
+use lru::LruCache;
 use sha2::{Digest, Sha256};
 use std::alloc::Global;
 use std::marker::Model;
-
-/// The expanded keys of a range. AES-XTS has two; of AES-CBC both are the one key.
-#[derive(Clone, Copy)]
-pub struct RangeKey {
-    /// K1 of XTS, the key of the data.
-    pub first: Schedule,
-    /// K2 of XTS, the key of the tweak.
-    pub second: Schedule,
-}
-
-// The keys in the bytes of a range key.
-fn expanded(cipher: Cipher, keylen: u16, range: &[u8; 64]) -> RangeKey
-    requires { IsTrue (allows_length cipher keylen) }
-    ensures first { result.first ≡ first_part keylen range.now }
-    ensures second { result.second ≡ second_part cipher keylen range.now }
-{
-    let size = usize::from(keylen / 8);
-    let first = Schedule::new(&range[..size]).unwrap();
-    let second = match cipher {
-        Cipher::AesXts => Schedule::new(&range[size..2 * size]).unwrap(),
-        Cipher::AesCbc => first,
-    };
-    RangeKey { first, second }
-}
+use std::num::NonZeroUsize;
 
 // The block size by which offsets are numbered, in bytes.
 fn numbered_block(params: &Params) -> u64
@@ -49,13 +30,16 @@ fn numbered_block(params: &Params) -> u64
 
 /// The keys of one provider, by byte offset on the device.
 ///
-/// Contracts see the keying that it was made for, which no call changes.
+/// Contracts see the keying that it was made for, which no call changes, and the numbers of the range keys that it keeps,
+/// the most recently used first.
 #[derive(Drop)]
 pub struct KeyRing {
     params: Params,
     master: MasterKey,
     // The key of which range keys are made.
     range_base: [u8; 64],
+    // The range keys that were asked for last.
+    keys: KeptKeys,
     // What initial vectors and the keys of tags are hashed of begins with 64 bytes that are the same at every offset, a
     // whole block of SHA-256. These hold them, so that they are hashed once.
     vectors: Sha256,
@@ -64,38 +48,73 @@ pub struct KeyRing {
 
 impl Model for KeyRing {
     ghost use Rattle.eli_base.specs.Keying.{keying_of};
+    ghost use Rattle.std.specs.Map.{keys_of};
     ghost use Rattle.range_keys.specs.Ring.{Ring, IsRing};
 
     ghost Value = { Ring };
 
-    ghost view = { λ ring. record { keying = keying_of ring.params ring.master } };
+    ghost view = { λ ring. record { keying = keying_of ring.params ring.master; numbers = keys_of ring.keys.cache.entries } };
 
-    ghost invariant = { λ ring. IsRing ring.params ring.master ring.range_base ring.vectors ring.tags };
+    ghost invariant = { λ ring. IsRing ring.params ring.master ring.range_base ring.keys.cache ring.vectors ring.tags };
+}
+
+// How many range keys a ring keeps.
+const ROOM: usize = 16;
+
+// The number of the range key of an offset.
+fn key_number(params: &Params, offset: u64) -> u64
+    ensures { result ≡ offset / 2 ^ 20 / numbered_block params.now.auth params.now.sectorsize }
+{
+    (offset >> 20) / numbered_block(params)
 }
 
 impl KeyRing {
-    /// The ring of a provider with these parameters and this master key.
-    pub fn new(_alloc: Global, master: &MasterKey, params: &Params) -> Result<KeyRing, NoMemory>
-        ensures { IfOk result (λ ring. ring.keying ≡ keying_of params.now master.now) }
+    ghost use Rattle.range_keys.specs.Lending.{LendsKeyAt};
+
+    /// The ring of a provider with these parameters and this master key, which keeps no range key yet.
+    pub fn new(alloc: Global, master: &MasterKey, params: &Params) -> Result<KeyRing, NoMemory>
+        ensures keying { IfOk result (λ ring. ring.keying ≡ keying_of params.now master.now) }
+        ensures numbers { IfOk result (λ ring. ring.numbers ≡ []) }
     {
         Ok(KeyRing {
             params: *params,
             master: *master,
             range_base: range_base(params.version, params.auth, master),
+            keys: KeptKeys {
+                cache: LruCache::new(alloc, NonZeroUsize::new(ROOM).unwrap())?,
+                unkept: None,
+            },
             vectors: Sha256::new_with_prefix(iv_key(master)),
             tags: Sha256::new_with_prefix(auth_key(master)),
         })
     }
 
-    /// The expanded keys of the range in which this byte offset lies.
-    pub fn key_at(&mut self, offset: u64) -> RangeKey
-        ensures first { result.first ≡ first_key self.old.keying offset }
-        ensures second { result.second ≡ second_key self.old.keying offset }
-        ensures keying { self.new.keying ≡ self.old.keying }
+    /// Lends the expanded keys of the range in which this byte offset lies. The last sixteen that were asked for are
+    /// kept, where there is memory for them; another is made anew.
+    pub fn key_at(&mut self, offset: u64) -> &RangeKey
+        ensures* after { sem 𝓛 (LendsKeyAt self.entry offset) }
+        ensures first { result.now.first ≡ first_key self.old.keying offset }
+        ensures second { result.now.second ≡ second_key self.old.keying offset }
     {
-        let number = (offset >> 20) / numbered_block(&self.params);
-        let range = range_key(&self.range_base, number);
-        expanded(self.params.cipher, self.params.keylen, &range)
+        let number = key_number(&self.params, offset);
+        let (cipher, keylen) = (self.params.cipher, self.params.keylen);
+        let is_kept = self.keys.bring(cipher, keylen, &self.range_base, number);
+        self.keys.lent(is_kept)
+    }
+
+    /// Whether the range key of this byte offset is kept, so that `key_at` makes nothing.
+    pub fn keeps(&self, offset: u64) -> bool
+        ensures { IsTrue result ↔ Contains self.now.numbers (key_number self.now.keying offset) }
+    {
+        self.keys.cache.contains(&key_number(&self.params, offset))
+    }
+
+    /// A law: no number is kept twice, and at most sixteen are kept.
+    pub fn keeps_few(&self)
+        ensures few { length self.now.numbers ≤ room }
+        ensures each_once { IsDistinct nat_eq self.now.numbers }
+    {
+        self.keys.cache.len();
     }
 
     /// The initial vector of AES-CBC at this byte offset.

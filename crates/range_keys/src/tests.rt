@@ -173,7 +173,7 @@ fn check_place(rt: &impl Abort, alloc: Global, place: &Place) -> Result<(), Fail
     let mut ring = KeyRing::new(alloc, &master(), &params)?;
     let keys = ring.key_at(place.offset);
     assert_eq!(rt;
-        enciphered(&keys.first),
+        enciphered(keys.first.schedule()),
         expected(place.first)?,
         "first at {}",
         place.offset
@@ -296,6 +296,38 @@ fn vectors_and_tag_keys(rt: HostRuntime) -> Result<(), Fail> {
         for vector in &VECTORS {
             check_vector(&rt, &ring, vector);
         }
+    }
+    Ok(())
+}
+
+// The kept range keys of the master key above, with logical sectors of 512 bytes: each number begins 2^29 bytes behind
+// the one before it.
+#[test]
+fn sixteen_range_keys_are_kept(rt: HostRuntime) -> Result<(), Fail> {
+    assert!(rt; Cipher::AesXts.allows(256) && sector_size_ok(512));
+    let params = Params::new(7, Auth::Off, Cipher::AesXts, 256, 512, 0, false);
+    let mut ring = KeyRing::new(rt.alloc(), &master(), &params)?;
+    for number in 0..17u64 {
+        assert!(rt; !ring.keeps(number << 29), "{number}");
+        let key = enciphered(ring.key_at(number << 29).first.schedule());
+        if number == 0 {
+            assert_eq!(rt; key, expected(PLAIN_0_FRONT)?);
+        }
+    }
+    for number in 0..17u64 {
+        assert!(rt; ring.keeps(number << 29) == (number > 0), "{number}");
+    }
+    let key = ring.key_at(0);
+    assert_eq!(rt; enciphered(key.first.schedule()), expected(PLAIN_0_FRONT)?);
+    assert_eq!(rt; enciphered(&key.second), expected(PLAIN_0_BACK)?);
+    for (number, kept) in [(0, true), (1, false), (2, true), (16, true)] {
+        assert!(rt; ring.keeps(number << 29) == kept, "{number} in the end");
+    }
+    // A number in the list comes to the front: number 2 isn't the next to be dropped, but number 3.
+    ring.key_at(2 << 29);
+    ring.key_at(1 << 29);
+    for (number, kept) in [(1, true), (2, true), (3, false), (4, true)] {
+        assert!(rt; ring.keeps(number << 29) == kept, "{number} after number 2");
     }
     Ok(())
 }

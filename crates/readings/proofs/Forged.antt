@@ -103,6 +103,7 @@ new_or_collision k n bytes ever forged = elim (found (HasTagOf k n bytes) (has_t
       inr (record {
         member = w;
         is_in = some.1;
+        accepted = some.2.accepted;
         differ = λ same. forged.new w some.1 (record { accepted = some.2.accepted; cipher_text = same });
         same_tag = sym (accepted_tag k n (device_bytes w) some.2.accepted) ∙ some.2.tag ∙ accepted_tag k n bytes forged.accepted;
       })

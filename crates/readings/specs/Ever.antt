@@ -55,6 +55,7 @@ pub record HasNewTag (k : Keying) (n : ℕ) (bytes : List ℕ) (ever : List Writ
 pub record CollidesWithOneOf (k : Keying) (n : ℕ) (bytes : List ℕ) (ever : List Writing) : Type 0 where
   pub member : Writing
   pub is_in : Contains ever member
+  pub accepted : IsTrue (is_accepted k n (device_bytes member))
   pub differ : cipher_text_at k n (device_bytes member) ≢ cipher_text_at k n bytes
   pub same_tag : tag_of k (512 * n) (cipher_text_at k n (device_bytes member)) ≡ tag_of k (512 * n) (cipher_text_at k n bytes)
 

@@ -71,3 +71,7 @@ concat-split text pieces n =
 pub concat-more : {X : Type 0} (text : X → List ℕ) (pieces : List X) (n : ℕ) (d : X) → n < length pieces → concat (map text (take (n + 1) pieces)) ≡ concat (map text (take n pieces)) ++ text (get_or pieces n d)
 concat-more text pieces n d inside =
     rw (take_more pieces n d inside, map-append, concat-append, append-nil) refl
+
+-- nothing is to be printed
+pub prints_nothing : (s : SinkState) → Prints [] s (Ok tt) s
+prints_nothing s = TookAll-nothing s

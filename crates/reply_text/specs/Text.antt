@@ -73,31 +73,6 @@ refusal_name (refusals.TooSmall size) = codes "TooSmall"
 refusal_name (refusals.BadLength given sectorsize) = codes "BadLength"
 refusal_name refusals.KeyNumberNeeded = codes "KeyNumberNeeded"
 
--- the numbers that a refusal carries, in order
-abbrev pub refusal_numbers : Refusal → List ℕ
-refusal_numbers (refusals.Usage word reason) = word ∷ []
-refusal_numbers (refusals.BadVersion found) = found ∷ []
-refusal_numbers (refusals.BadSize kept found) = kept ∷ found ∷ []
-refusal_numbers (refusals.UnsupportedCipher found) = found ∷ []
-refusal_numbers (refusals.UnsupportedAuth found) = found ∷ []
-refusal_numbers (refusals.BadKeyLength found) = found ∷ []
-refusal_numbers (refusals.BadSectorSize found) = found ∷ []
-refusal_numbers (refusals.UnsupportedFlags mask) = mask ∷ []
-refusal_numbers (refusals.KeyNumberOutOfRange given) = given ∷ []
-refusal_numbers (refusals.KeyNotSet slot) = slot ∷ []
-refusal_numbers (refusals.LastKey slot) = slot ∷ []
-refusal_numbers (refusals.OutOfRange sector count media) = sector ∷ count ∷ media ∷ []
-refusal_numbers (refusals.Integrity offset) = offset ∷ []
-refusal_numbers (refusals.FileAbsent word) = word ∷ []
-refusal_numbers (refusals.CabinetFault word) = word ∷ []
-refusal_numbers (refusals.FileTooLong word limit) = word ∷ limit ∷ []
-refusal_numbers (refusals.BackupTooShort length) = length ∷ []
-refusal_numbers (refusals.OldSizeMismatch kept given) = kept ∷ given ∷ []
-refusal_numbers (refusals.NotGrown size given) = size ∷ given ∷ []
-refusal_numbers (refusals.TooSmall size) = size ∷ []
-refusal_numbers (refusals.BadLength given sectorsize) = given ∷ sectorsize ∷ []
-refusal_numbers refusal = []
-
 -- a field after a space
 unfoldable pub field : List ℕ → List ℕ
 field text = 32 ∷ text
@@ -105,10 +80,45 @@ field text = 32 ∷ text
 unfoldable pub number_fields : List ℕ → List ℕ
 number_fields numbers = concat (map (λ number. field (decimal number)) numbers)
 
--- the reason behind the number of the word
-abbrev pub reason_field : Refusal → List ℕ
-reason_field (refusals.Usage word reason) = field (reason_name reason)
-reason_field refusal = []
+-- the fields of a refusal in order: the numbers that it carries, and of `Usage` the reason behind its number
+abbrev pub refusal_fields : Refusal → List ℕ
+refusal_fields (refusals.Usage word reason) = number_fields (word ∷ []) ++ field (reason_name reason)
+refusal_fields refusals.UnknownProvider = []
+refusal_fields refusals.NotAttached = []
+refusal_fields refusals.StillAttached = []
+refusal_fields refusals.BadMagic = []
+refusal_fields (refusals.BadVersion found) = number_fields (found ∷ [])
+refusal_fields refusals.BadHash = []
+refusal_fields (refusals.BadSize kept found) = number_fields (kept ∷ found ∷ [])
+refusal_fields (refusals.UnsupportedCipher found) = number_fields (found ∷ [])
+refusal_fields (refusals.UnsupportedAuth found) = number_fields (found ∷ [])
+refusal_fields (refusals.BadKeyLength found) = number_fields (found ∷ [])
+refusal_fields (refusals.BadSectorSize found) = number_fields (found ∷ [])
+refusal_fields (refusals.UnsupportedFlags mask) = number_fields (mask ∷ [])
+refusal_fields refusals.NoValidKeys = []
+refusal_fields refusals.WrongKey = []
+refusal_fields refusals.NoKeyComponents = []
+refusal_fields refusals.PassphraseNotSet = []
+refusal_fields (refusals.KeyNumberOutOfRange given) = number_fields (given ∷ [])
+refusal_fields (refusals.KeyNotSet slot) = number_fields (slot ∷ [])
+refusal_fields (refusals.LastKey slot) = number_fields (slot ∷ [])
+refusal_fields refusals.IterationsNeedOneKey = []
+refusal_fields refusals.PassphraseNeeded = []
+refusal_fields (refusals.OutOfRange sector count media) = number_fields (sector ∷ count ∷ media ∷ [])
+refusal_fields refusals.ReadOnly = []
+refusal_fields (refusals.Integrity offset) = number_fields (offset ∷ [])
+refusal_fields refusals.DeviceFault = []
+refusal_fields (refusals.FileAbsent word) = number_fields (word ∷ [])
+refusal_fields (refusals.CabinetFault word) = number_fields (word ∷ [])
+refusal_fields refusals.EntropyFault = []
+refusal_fields (refusals.FileTooLong word limit) = number_fields (word ∷ limit ∷ [])
+refusal_fields (refusals.BackupTooShort length) = number_fields (length ∷ [])
+refusal_fields (refusals.OldSizeMismatch kept given) = number_fields (kept ∷ given ∷ [])
+refusal_fields refusals.NoMemory = []
+refusal_fields (refusals.NotGrown size given) = number_fields (size ∷ given ∷ [])
+refusal_fields (refusals.TooSmall size) = number_fields (size ∷ [])
+refusal_fields (refusals.BadLength given sectorsize) = number_fields (given ∷ sectorsize ∷ [])
+refusal_fields refusals.KeyNumberNeeded = []
 
 -- `error `, the number and the name
 abbrev pub refusal_head : Refusal → List ℕ
@@ -116,7 +126,7 @@ refusal_head r = codes "error " ++ decimal (number_of r) ++ field (refusal_name 
 
 -- the head, the fields and a newline
 abbrev pub refusal_text : Refusal → List ℕ
-refusal_text r = refusal_head r ++ number_fields (refusal_numbers r) ++ reason_field r ++ (10 ∷ [])
+refusal_text r = refusal_head r ++ refusal_fields r ++ (10 ∷ [])
 
 -- the version, the flags, and the algorithms
 abbrev pub format_lines : Metadata → List ℕ

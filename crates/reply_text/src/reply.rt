@@ -1,8 +1,8 @@
 // What is answered to a command, and how it is printed.
-ghost use Rattle.std.specs.Prelude.{◌≡◌};
+ghost use Rattle.std.specs.Prelude.{◌≡◌, ◌++◌, ◌∷◌, []};
 ghost use Rattle.block_traits.specs.Streams.{sink_of};
 ghost use Rattle.reply_text.specs.Output.{Prints};
-ghost use Rattle.reply_text.specs.Text.{HasPayload, reply_text, list_text, refusal_text, refusal_numbers, number_fields, reason_field, refusal_head, field};
+ghost use Rattle.reply_text.specs.Text.{HasPayload, reply_text, list_text, refusal_text, refusal_fields, number_fields, reason_name, refusal_head, field};
 ghost use Rattle.std.specs.Fmt.{decimal};
 
 use crate::bytes::write_ok_bytes;
@@ -12,7 +12,7 @@ use crate::print::write_pieces;
 use crate::rows::{Row, RowList, write_rows};
 use crate::{WriteEnd, write_text};
 use block_traits::Sink;
-use eli_base::Refusal;
+use eli_base::{Reason, Refusal};
 use eli_metadata::Metadata;
 use itoa::Buffer;
 
@@ -64,8 +64,7 @@ fn write_refusal<K: Sink>(refusal: &Refusal, output: &mut K) -> Result<(), Write
     ensures { Prints (refusal_text refusal.now) (sink_of K.taken K.faults output.old) result (sink_of K.taken K.faults output.new) }
 {
     write_head(refusal, output)?;
-    write_number_fields(refusal, output)?;
-    write_reason_field(refusal, output)?;
+    write_fields(refusal, output)?;
     write_text(b"\n", output)
 }
 
@@ -76,15 +75,6 @@ fn write_head<K: Sink>(refusal: &Refusal, output: &mut K) -> Result<(), WriteEnd
     write_text(b"error ", output)?;
     write_number(refusal.number(), output)?;
     write_field(refusal_name(refusal), output)
-}
-
-fn write_reason_field<K: Sink>(refusal: &Refusal, output: &mut K) -> Result<(), WriteEnd>
-    ensures { Prints (reason_field refusal.now) (sink_of K.taken K.faults output.old) result (sink_of K.taken K.faults output.new) }
-{
-    match refusal {
-        Refusal::Usage { reason, .. } => write_field(reason_name(*reason), output),
-        _ => write_pieces(&[], output),
-    }
 }
 
 // A space and a text.
@@ -117,32 +107,39 @@ pub(crate) fn write_numbers<K: Sink>(numbers: &[u64], output: &mut K) -> Result<
     Ok(())
 }
 
-// The numbers that a refusal carries.
-fn write_number_fields<K: Sink>(refusal: &Refusal, output: &mut K) -> Result<(), WriteEnd>
-    ensures { Prints (number_fields (refusal_numbers refusal.now)) (sink_of K.taken K.faults output.old) result (sink_of K.taken K.faults output.new) }
+// The number of a word and the reason.
+fn write_usage<K: Sink>(word: u32, reason: Reason, output: &mut K) -> Result<(), WriteEnd>
+    ensures { Prints (number_fields (word ∷ []) ++ field (reason_name reason)) (sink_of K.taken K.faults output.old) result (sink_of K.taken K.faults output.new) }
+{
+    write_numbers(&[word.into()], output)?;
+    write_field(reason_name(reason), output)
+}
+
+// The fields of a refusal: a refusal without one stands here too, so that none is forgotten.
+#[tactic(auto, using(crate::proofs::Printing::prints_nothing))]
+fn write_fields<K: Sink>(refusal: &Refusal, output: &mut K) -> Result<(), WriteEnd>
+    ensures { Prints (refusal_fields refusal.now) (sink_of K.taken K.faults output.old) result (sink_of K.taken K.faults output.new) }
 {
     match *refusal {
-        Refusal::Usage { word, .. }
-        | Refusal::FileAbsent { word }
-        | Refusal::CabinetFault { word } => write_numbers(&[word.into()], output),
+        Refusal::Usage { word, reason } => write_usage(word, reason, output),
+        Refusal::KeyNumberOutOfRange { given: number }
+        | Refusal::KeyNotSet { slot: number }
+        | Refusal::LastKey { slot: number } => write_numbers(&[number.into()], output),
         Refusal::UnsupportedCipher { found }
         | Refusal::UnsupportedAuth { found }
         | Refusal::BadKeyLength { found } => write_numbers(&[found.into()], output),
-        Refusal::BadVersion { found } | Refusal::BadSectorSize { found } => {
-            write_numbers(&[found.into()], output)
-        }
-        Refusal::UnsupportedFlags { mask } => write_numbers(&[mask.into()], output),
-        Refusal::KeyNumberOutOfRange { given } => write_numbers(&[given.into()], output),
-        Refusal::KeyNotSet { slot } | Refusal::LastKey { slot } => {
-            write_numbers(&[slot.into()], output)
-        }
-        Refusal::Integrity { offset } => write_numbers(&[offset], output),
-        Refusal::BackupTooShort { length } => write_numbers(&[length], output),
-        Refusal::TooSmall { size } => write_numbers(&[size], output),
+        Refusal::BadVersion { found: number }
+        | Refusal::BadSectorSize { found: number }
+        | Refusal::UnsupportedFlags { mask: number }
+        | Refusal::FileAbsent { word: number }
+        | Refusal::CabinetFault { word: number } => write_numbers(&[number.into()], output),
+        Refusal::Integrity { offset: number }
+        | Refusal::BackupTooShort { length: number }
+        | Refusal::TooSmall { size: number } => write_numbers(&[number], output),
         Refusal::BadSize { kept, found } => write_numbers(&[kept, found], output),
-        Refusal::FileTooLong { word, limit } => write_numbers(&[word.into(), limit], output),
         Refusal::OldSizeMismatch { kept, given } => write_numbers(&[kept, given], output),
         Refusal::NotGrown { size, given } => write_numbers(&[size, given], output),
+        Refusal::FileTooLong { word, limit } => write_numbers(&[word.into(), limit], output),
         Refusal::BadLength { given, sectorsize } => {
             write_numbers(&[given, sectorsize.into()], output)
         }
@@ -151,6 +148,21 @@ fn write_number_fields<K: Sink>(refusal: &Refusal, output: &mut K) -> Result<(),
             count,
             media,
         } => write_numbers(&[sector, count, media], output),
-        _ => write_numbers(&[], output),
+        Refusal::UnknownProvider
+        | Refusal::NotAttached
+        | Refusal::StillAttached
+        | Refusal::BadMagic
+        | Refusal::BadHash
+        | Refusal::NoValidKeys
+        | Refusal::WrongKey
+        | Refusal::NoKeyComponents
+        | Refusal::PassphraseNotSet
+        | Refusal::IterationsNeedOneKey
+        | Refusal::PassphraseNeeded
+        | Refusal::ReadOnly
+        | Refusal::DeviceFault
+        | Refusal::EntropyFault
+        | Refusal::NoMemory
+        | Refusal::KeyNumberNeeded => Ok(()),
     }
 }

@@ -88,144 +88,203 @@ fn drawers(rt: HostRuntime) -> Result<(), Fail> {
     Ok(())
 }
 
+// Each refusal with its fields, and each reason.
+static REFUSALS: [(Refusal, &str); 48] = [
+    (
+        Refusal::Usage {
+            word: 7,
+            reason: Reason::UnknownVerb,
+        },
+        "error 1 Usage 7 UnknownVerb\n",
+    ),
+    (
+        Refusal::Usage {
+            word: 7,
+            reason: Reason::UnknownOption,
+        },
+        "error 1 Usage 7 UnknownOption\n",
+    ),
+    (
+        Refusal::Usage {
+            word: 7,
+            reason: Reason::MissingValue,
+        },
+        "error 1 Usage 7 MissingValue\n",
+    ),
+    (
+        Refusal::Usage {
+            word: 7,
+            reason: Reason::BadNumber,
+        },
+        "error 1 Usage 7 BadNumber\n",
+    ),
+    (
+        Refusal::Usage {
+            word: 7,
+            reason: Reason::BadName,
+        },
+        "error 1 Usage 7 BadName\n",
+    ),
+    (
+        Refusal::Usage {
+            word: 7,
+            reason: Reason::DashFile,
+        },
+        "error 1 Usage 7 DashFile\n",
+    ),
+    (
+        Refusal::Usage {
+            word: 7,
+            reason: Reason::TooManyFiles,
+        },
+        "error 1 Usage 7 TooManyFiles\n",
+    ),
+    (
+        Refusal::Usage {
+            word: 7,
+            reason: Reason::OperandCount,
+        },
+        "error 1 Usage 7 OperandCount\n",
+    ),
+    (
+        Refusal::Usage {
+            word: 7,
+            reason: Reason::MissingOption,
+        },
+        "error 1 Usage 7 MissingOption\n",
+    ),
+    (
+        Refusal::Usage {
+            word: 7,
+            reason: Reason::Exclusive,
+        },
+        "error 1 Usage 7 Exclusive\n",
+    ),
+    (
+        Refusal::Usage {
+            word: 7,
+            reason: Reason::BadHex,
+        },
+        "error 1 Usage 7 BadHex\n",
+    ),
+    (
+        Refusal::Usage {
+            word: 7,
+            reason: Reason::NotText,
+        },
+        "error 1 Usage 7 NotText\n",
+    ),
+    (Refusal::UnknownProvider, "error 2 UnknownProvider\n"),
+    (Refusal::NotAttached, "error 3 NotAttached\n"),
+    (Refusal::StillAttached, "error 4 StillAttached\n"),
+    (Refusal::BadMagic, "error 5 BadMagic\n"),
+    (Refusal::BadVersion { found: 8 }, "error 6 BadVersion 8\n"),
+    (Refusal::BadHash, "error 7 BadHash\n"),
+    (
+        Refusal::BadSize {
+            kept: 1_048_576,
+            found: 2_097_152,
+        },
+        "error 8 BadSize 1048576 2097152\n",
+    ),
+    (
+        Refusal::UnsupportedCipher { found: 21 },
+        "error 9 UnsupportedCipher 21\n",
+    ),
+    (
+        Refusal::UnsupportedAuth { found: 17 },
+        "error 10 UnsupportedAuth 17\n",
+    ),
+    (
+        Refusal::BadKeyLength { found: 192 },
+        "error 11 BadKeyLength 192\n",
+    ),
+    (
+        Refusal::BadSectorSize { found: 1000 },
+        "error 12 BadSectorSize 1000\n",
+    ),
+    (
+        Refusal::UnsupportedFlags { mask: 1 },
+        "error 13 UnsupportedFlags 1\n",
+    ),
+    (Refusal::NoValidKeys, "error 14 NoValidKeys\n"),
+    (Refusal::WrongKey, "error 15 WrongKey\n"),
+    (Refusal::NoKeyComponents, "error 16 NoKeyComponents\n"),
+    (Refusal::PassphraseNotSet, "error 17 PassphraseNotSet\n"),
+    (
+        Refusal::KeyNumberOutOfRange { given: 2 },
+        "error 18 KeyNumberOutOfRange 2\n",
+    ),
+    (Refusal::KeyNotSet { slot: 1 }, "error 19 KeyNotSet 1\n"),
+    (Refusal::LastKey { slot: 0 }, "error 20 LastKey 0\n"),
+    (
+        Refusal::IterationsNeedOneKey,
+        "error 21 IterationsNeedOneKey\n",
+    ),
+    (Refusal::PassphraseNeeded, "error 22 PassphraseNeeded\n"),
+    (
+        Refusal::OutOfRange {
+            sector: 255,
+            count: 1,
+            media: 254,
+        },
+        "error 23 OutOfRange 255 1 254\n",
+    ),
+    (Refusal::ReadOnly, "error 24 ReadOnly\n"),
+    (
+        Refusal::Integrity { offset: 2048 },
+        "error 25 Integrity 2048\n",
+    ),
+    (Refusal::DeviceFault, "error 26 DeviceFault\n"),
+    (Refusal::FileAbsent { word: 2 }, "error 27 FileAbsent 2\n"),
+    (
+        Refusal::CabinetFault { word: 4 },
+        "error 28 CabinetFault 4\n",
+    ),
+    (Refusal::EntropyFault, "error 29 EntropyFault\n"),
+    (
+        Refusal::FileTooLong {
+            word: 3,
+            limit: 1024,
+        },
+        "error 30 FileTooLong 3 1024\n",
+    ),
+    (
+        Refusal::BackupTooShort { length: 510 },
+        "error 31 BackupTooShort 510\n",
+    ),
+    (
+        Refusal::OldSizeMismatch {
+            kept: 1_048_576,
+            given: 1_049_088,
+        },
+        "error 32 OldSizeMismatch 1048576 1049088\n",
+    ),
+    (Refusal::NoMemory, "error 33 NoMemory\n"),
+    (
+        Refusal::NotGrown {
+            size: 2_097_152,
+            given: 2_097_153,
+        },
+        "error 34 NotGrown 2097152 2097153\n",
+    ),
+    (Refusal::TooSmall { size: 512 }, "error 35 TooSmall 512\n"),
+    (
+        Refusal::BadLength {
+            given: 18_446_744_073_709_551_615,
+            sectorsize: 4096,
+        },
+        "error 36 BadLength 18446744073709551615 4096\n",
+    ),
+    (Refusal::KeyNumberNeeded, "error 37 KeyNumberNeeded\n"),
+];
+
 #[test]
 fn refusals(rt: HostRuntime) -> Result<(), Fail> {
     let alloc = rt.alloc();
-    let cases = [
-        (Refusal::UnknownProvider, "error 2 UnknownProvider\n"),
-        (Refusal::NotAttached, "error 3 NotAttached\n"),
-        (Refusal::StillAttached, "error 4 StillAttached\n"),
-        (Refusal::BadMagic, "error 5 BadMagic\n"),
-        (Refusal::BadVersion { found: 8 }, "error 6 BadVersion 8\n"),
-        (Refusal::BadHash, "error 7 BadHash\n"),
-        (
-            Refusal::BadSize {
-                kept: 1_048_576,
-                found: 2_097_152,
-            },
-            "error 8 BadSize 1048576 2097152\n",
-        ),
-        (
-            Refusal::UnsupportedCipher { found: 21 },
-            "error 9 UnsupportedCipher 21\n",
-        ),
-        (
-            Refusal::UnsupportedAuth { found: 17 },
-            "error 10 UnsupportedAuth 17\n",
-        ),
-        (
-            Refusal::BadKeyLength { found: 192 },
-            "error 11 BadKeyLength 192\n",
-        ),
-        (
-            Refusal::BadSectorSize { found: 1000 },
-            "error 12 BadSectorSize 1000\n",
-        ),
-        (
-            Refusal::UnsupportedFlags { mask: 1 },
-            "error 13 UnsupportedFlags 1\n",
-        ),
-        (Refusal::NoValidKeys, "error 14 NoValidKeys\n"),
-        (Refusal::WrongKey, "error 15 WrongKey\n"),
-        (Refusal::NoKeyComponents, "error 16 NoKeyComponents\n"),
-        (Refusal::PassphraseNotSet, "error 17 PassphraseNotSet\n"),
-        (
-            Refusal::KeyNumberOutOfRange { given: 2 },
-            "error 18 KeyNumberOutOfRange 2\n",
-        ),
-        (Refusal::KeyNotSet { slot: 1 }, "error 19 KeyNotSet 1\n"),
-        (Refusal::LastKey { slot: 0 }, "error 20 LastKey 0\n"),
-        (
-            Refusal::IterationsNeedOneKey,
-            "error 21 IterationsNeedOneKey\n",
-        ),
-        (Refusal::PassphraseNeeded, "error 22 PassphraseNeeded\n"),
-        (
-            Refusal::OutOfRange {
-                sector: 255,
-                count: 1,
-                media: 254,
-            },
-            "error 23 OutOfRange 255 1 254\n",
-        ),
-        (Refusal::ReadOnly, "error 24 ReadOnly\n"),
-        (
-            Refusal::Integrity { offset: 2048 },
-            "error 25 Integrity 2048\n",
-        ),
-        (Refusal::DeviceFault, "error 26 DeviceFault\n"),
-        (Refusal::FileAbsent { word: 2 }, "error 27 FileAbsent 2\n"),
-        (
-            Refusal::CabinetFault { word: 4 },
-            "error 28 CabinetFault 4\n",
-        ),
-        (Refusal::EntropyFault, "error 29 EntropyFault\n"),
-        (
-            Refusal::FileTooLong {
-                word: 3,
-                limit: 1024,
-            },
-            "error 30 FileTooLong 3 1024\n",
-        ),
-        (
-            Refusal::BackupTooShort { length: 510 },
-            "error 31 BackupTooShort 510\n",
-        ),
-        (
-            Refusal::OldSizeMismatch {
-                kept: 1_048_576,
-                given: 1_049_088,
-            },
-            "error 32 OldSizeMismatch 1048576 1049088\n",
-        ),
-        (Refusal::NoMemory, "error 33 NoMemory\n"),
-        (
-            Refusal::NotGrown {
-                size: 2_097_152,
-                given: 2_097_153,
-            },
-            "error 34 NotGrown 2097152 2097153\n",
-        ),
-        (Refusal::TooSmall { size: 512 }, "error 35 TooSmall 512\n"),
-        (
-            Refusal::BadLength {
-                given: 18_446_744_073_709_551_615,
-                sectorsize: 4096,
-            },
-            "error 36 BadLength 18446744073709551615 4096\n",
-        ),
-        (Refusal::KeyNumberNeeded, "error 37 KeyNumberNeeded\n"),
-    ];
-    for (refusal, text) in cases {
+    for (refusal, text) in &REFUSALS {
         assert!(&rt;
-            prints(alloc, &Reply::Refused(refusal), &[], text)?,
-            "{text}"
-        );
-    }
-    Ok(())
-}
-
-#[test]
-fn reasons(rt: HostRuntime) -> Result<(), Fail> {
-    let alloc = rt.alloc();
-    let cases = [
-        (Reason::UnknownVerb, "error 1 Usage 7 UnknownVerb\n"),
-        (Reason::UnknownOption, "error 1 Usage 7 UnknownOption\n"),
-        (Reason::MissingValue, "error 1 Usage 7 MissingValue\n"),
-        (Reason::BadNumber, "error 1 Usage 7 BadNumber\n"),
-        (Reason::BadName, "error 1 Usage 7 BadName\n"),
-        (Reason::DashFile, "error 1 Usage 7 DashFile\n"),
-        (Reason::TooManyFiles, "error 1 Usage 7 TooManyFiles\n"),
-        (Reason::OperandCount, "error 1 Usage 7 OperandCount\n"),
-        (Reason::MissingOption, "error 1 Usage 7 MissingOption\n"),
-        (Reason::Exclusive, "error 1 Usage 7 Exclusive\n"),
-        (Reason::BadHex, "error 1 Usage 7 BadHex\n"),
-        (Reason::NotText, "error 1 Usage 7 NotText\n"),
-    ];
-    for (reason, text) in cases {
-        let refusal = Refusal::Usage { word: 7, reason };
-        assert!(&rt;
-            prints(alloc, &Reply::Refused(refusal), &[], text)?,
+            prints(alloc, &Reply::Refused(*refusal), &[], text)?,
             "{text}"
         );
     }

@@ -1,6 +1,6 @@
 -- That no pass leaves metadata.
-use Rattle.std.proofs.Common.{◌≡◌, ℕ, List, [], ◌∷◌, ◌++◌, length, take, map, refl, arith, Err, All, Some, Contains}
-use Rattle.std.proofs.lemmas.List.Elements.{All-nil, All-cons, All-map, All-from_get_or}
+use Rattle.std.proofs.Common.{ℕ, List, [], refl, All}
+use Rattle.std.proofs.lemmas.List.Elements.{All-map, All-from_get_or}
 use Rattle.block_traits.specs.Disk.{DiskState, FailsIn, Logs, last_sector}
 use Rattle.block_traits.specs.Moments.{AtEachMoment}
 use Rattle.block_traits.specs.Overwriting.{zeros, passes_of}

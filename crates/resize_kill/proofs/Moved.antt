@@ -1,9 +1,9 @@
 -- That metadata which move are never lost.
-use Rattle.std.proofs.Common.{◌≡◌, ◌≢◌, ℕ, zero, suc, ◌+◌, ◌*◌, ◌/◌, ◌-◌, ◌<◌, ◌≤◌, ◌==◌, List, [], ◌∷◌, ◌++◌, length, take, get_or, refl, ap, sym, subst, ◌∙◌, arith, cond, true, false, Bool, All, Ok, Option, None, Some, inl, inr, Contains, ne_eqb}
+use Rattle.std.proofs.Common.{◌≡◌, ◌≢◌, ℕ, zero, suc, ◌+◌, ◌*◌, ◌-◌, ◌<◌, ◌≤◌, ◌==◌, List, [], ◌∷◌, ◌++◌, length, take, refl, ap, sym, subst, ◌∙◌, arith, cond, true, Bool, All, Ok, Option, None, Some, inl, inr, Contains, ne_eqb}
 use Rattle.std.proofs.lemmas.Bool.{eq-eqb}
 use Rattle.std.proofs.Math.Seq.{take-length}
 use Rattle.std.proofs.lemmas.List.Elements.{All-nil, All-cons, All-take, All-contains}
-use Rattle.block_traits.specs.Content.{Content, IsContentOf, last_of, logged, present, kept_after, kept_values, with_events}
+use Rattle.block_traits.specs.Content.{Content, IsContentOf, last_of, logged, present, kept_values, with_events}
 use Rattle.block_traits.specs.Disk.{DiskState, FailsIn, FitsSize, Gives, GivesFrom, Logs, last_sector}
 use Rattle.block_traits.specs.Moments.{AtEachMoment, HoldsOldOr, WaitsForFlush}
 use Rattle.block_traits.specs.Overwriting.{overwrite_events}
@@ -12,11 +12,11 @@ use Rattle.block_traits.specs.declared.Event.{Event}
 use Rattle.block_traits.specs.declared.Event.TheVariants.{Write, Flush}
 use Rattle.block_traits.proofs.Contents.{last_of-push, last_of-kept_values}
 use Rattle.block_traits.proofs.Images.{held_at_end, held_when_settled}
-use Rattle.block_traits.proofs.Keeping.{AllHold, AllHold-one, AllHold-kept_after, AtEachMoment-part, HoldsOldOr-more, WaitsForFlush-more, WritesHere, flushed-more, kept_values-more}
+use Rattle.block_traits.proofs.Keeping.{AllHold-one, AllHold-kept_after, AtEachMoment-part, HoldsOldOr-more, WaitsForFlush-more, WritesHere, flushed-more, kept_values-more}
 use Rattle.block_traits.proofs.Logs.{FailsIn-then, Logs-then}
 use Rattle.block_traits.proofs.Overwritten.{WritesHere-overwrite}
 use Rattle.eli_metadata.specs.Format.{encoded, metadata_in}
-use Rattle.eli_metadata.specs.Place.{IsSectorOf, replace_events}
+use Rattle.eli_metadata.specs.Place.{IsSectorOf}
 use Rattle.eli_metadata.specs.declared.Metadata.{Metadata}
 use Rattle.resize_kill.specs.Resizing.{FindsMetadata, HoldsOneOf, KeepsOneOf, Moves, MovesPart, Prepares, grown, move_events, old_place, size_refusal}
 use Rattle.resize_kill.specs.Trash.{TakesTrash, trash_sectors}

@@ -9,7 +9,6 @@ use Rattle.block_traits.specs.declared.Event.{Event}
 use Rattle.eli_base.specs.declared.Refusal.{Refusal}
 use Rattle.eli_base.specs.declared.Refusal.TheVariants.{EntropyFault, DeviceFault, TooSmall}
 use Rattle.eli_metadata.specs.Format.{metadata_in}
-use Rattle.eli_metadata.specs.declared.MetaFault.{MetaFault}
 use Rattle.eli_metadata.specs.declared.MetaFault.TheVariants.{BadMagic}
 use Rattle.resize_kill.specs.Trash.{TakesTrash, trash_sectors}
 

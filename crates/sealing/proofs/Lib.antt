@@ -4,3 +4,4 @@ pub mod Keys
 pub mod Runs
 pub mod Pieces
 pub mod Sectors
+pub mod Single

@@ -3,11 +3,8 @@ use Rattle.std.proofs.Common.{◌≡◌, ℕ, zero, suc, ◌+◌, ◌*◌, ◌<�
 use Rattle.std.proofs.lemmas.List.{take_all, drop-drop, length-take-le, length-drop}
 use Rattle.std.specs.List.{concat}
 use Rattle.sealing.specs.Parts.{parts}
+pub use Rattle.sealing.specs.Parts.{part}
 use Rattle.sealing.specs.Sectors.{before, joined}
-
--- part j of a list, where each part has so many bytes
-abbrev pub part : ℕ → ℕ → List ℕ → List ℕ
-part size j bytes = take size (drop (size * j) bytes)
 
 pub length-parts : (size n : ℕ) (bytes : List ℕ) → length (parts size n bytes) ≡ n
 length-parts size zero bytes = refl

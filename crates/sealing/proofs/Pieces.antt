@@ -1,7 +1,9 @@
 -- Sealing and opening where there is authentication: each device sector is a piece of its own.
-use Rattle.std.proofs.Common.{◌≡◌, ◌≢◌, ℕ, zero, suc, ◌+◌, ◌-◌, ◌*◌, ◌%◌, ◌<◌, ◌≤◌, min, List, [], ◌∷◌, ◌++◌, length, get_or, take, drop, replicate, cond, true, Result, Ok, Err, bytes_eq, refl, sym, ap, ◌∙◌, arith, append_assoc, length-append}
+use Rattle.std.proofs.Common.{◌≡◌, ◌≢◌, ℕ, ◌+◌, ◌-◌, ◌*◌, ◌%◌, ◌<◌, ◌≤◌, min, List, [], ◌++◌, length, map, get_or, take, drop, replicate, cond, true, Result, Ok, Err, bytes_eq, refl, sym, ap, ◌∙◌, arith, append_assoc, length-append}
 use Rattle.std.proofs.lemmas.Bool.{cond-true}
 use Rattle.std.proofs.lemmas.List.{length-replicate, take_at, drop_at}
+use Rattle.std.proofs.lemmas.List.FromFn.{get_or-map-range_with_len, length-map-range_with_len}
+use Rattle.std.specs.List.{range_with_len}
 use Rattle.std.proofs.lemmas.Nat.{mod-mul-add}
 use Rattle.std.proofs.lemmas.Slice.Eq.{bytes_eq-Decides}
 use Rattle.aes_core.specs.Schedule.{AreBytes}
@@ -14,10 +16,10 @@ use Rattle.range_keys.specs.Keys.{tag_key}
 use Rattle.range_keys.specs.Ring.{IsKeying}
 use Rattle.sealing.specs.Runs.{sealed_run, opened_run}
 use Rattle.sealing.specs.Pieces.{tag_of, tagged, sealed_piece, kept_tag, cipher_text_in, opened_piece}
-use Rattle.sealing.specs.Sectors.{units, units_in, first_piece, seal, sealed_with, sealed_pieces, opened_with, opened_pieces, unit_readings, piece_size, piece_reading}
+use Rattle.sealing.specs.Sectors.{units, unit_place, unit_size, sealed_unit, seal, sealed_with, unit_reading, opened_with, unit_readings, piece_reading}
 use Rattle.sealing.proofs.Keys.{length-hmac_of}
 use Rattle.sealing.proofs.Runs.{length-sealed_run, opened-sealed_run}
-use Rattle.sealing.proofs.PartLists.{part, length-parts, get_or-parts}
+use Rattle.sealing.specs.Parts.{part}
 
 -- ---- one piece
 
@@ -67,88 +69,60 @@ opened_piece-sealed k offset size plain is small whole len =
     opened_piece-good k offset size (sealed_piece k offset plain) cipher_text (kept_tag-tagged k offset cipher_text) (cipher_text_in-tagged k offset size cipher_text (long ∙ len))
     ∙ ap Ok (opened-sealed_run k offset plain is small whole)
 
--- ---- the pieces of a logical sector, one after the other
+-- ---- a logical sector with authentication is its pieces, by their numbers
 
-pub length-sealed_pieces : (k : Keying) (offset : ℕ) (pieces : List (List ℕ)) → length (sealed_pieces k offset pieces) ≡ length pieces
-length-sealed_pieces k offset [] = refl
-length-sealed_pieces k offset (piece ∷ pieces) = ap suc (length-sealed_pieces k (offset + 512) pieces)
-
-get_or-sealed_pieces : (k : Keying) (offset j : ℕ) (pieces : List (List ℕ)) → j < length pieces → get_or (sealed_pieces k offset pieces) j [] ≡ sealed_piece k (offset + 512 * j) (get_or pieces j [])
-get_or-sealed_pieces k offset j [] lt = absurd (omega arith)
-get_or-sealed_pieces k offset zero (piece ∷ pieces) lt = let at : offset ≡ offset + 512 * 0 = omega arith in ap (λ (o : ℕ). sealed_piece k o piece) at
-get_or-sealed_pieces k offset (suc j) (piece ∷ pieces) lt =
-    let at : offset + 512 + 512 * j ≡ offset + 512 * suc j = omega arith in
-    get_or-sealed_pieces k (offset + 512) j pieces (omega arith) ∙ ap (λ (o : ℕ). sealed_piece k o (get_or pieces j [])) at
-
-pub length-opened_pieces : (k : Keying) (offset left : ℕ) (sectors : List (List ℕ)) → length (opened_pieces k offset left sectors) ≡ length sectors
-length-opened_pieces k offset left [] = refl
-length-opened_pieces k offset left (sector ∷ sectors) = ap suc (length-opened_pieces k (offset + 512) (left - unit_bytes_of k.auth) sectors)
-
--- what is left behind one unit more
-less_none : (size left : ℕ) → left ≡ left - size * 0
-less_none size left = omega arith
-
-less_one : (size left j : ℕ) → left - size - size * j ≡ left - size * suc j
-less_one size left j = omega arith
-
-get_or-opened_pieces : (k : Keying) (offset left j : ℕ) (sectors : List (List ℕ)) → j < length sectors
-    → get_or (opened_pieces k offset left sectors) j (Ok []) ≡ opened_piece k (offset + 512 * j) (min (unit_bytes_of k.auth) (left - unit_bytes_of k.auth * j)) (get_or sectors j [])
-get_or-opened_pieces k offset left j [] lt = absurd (omega arith)
-get_or-opened_pieces k offset left zero (sector ∷ sectors) lt =
-    let at : offset ≡ offset + 512 * 0 = omega arith in
-    λ i. opened_piece k (at i) (min (unit_bytes_of k.auth) (less_none (unit_bytes_of k.auth) left i)) sector
-get_or-opened_pieces k offset left (suc j) (sector ∷ sectors) lt =
-    let at : offset + 512 + 512 * j ≡ offset + 512 * suc j = omega arith in
-    get_or-opened_pieces k (offset + 512) (left - unit_bytes_of k.auth) j sectors (omega arith)
-    ∙ (λ i. opened_piece k (at i) (min (unit_bytes_of k.auth) (less_one (unit_bytes_of k.auth) left j i)) (get_or sectors j []))
-
--- ---- a logical sector with authentication is its pieces
-
-sealed_with-tagged : (a : Auth) (k : Keying) (sector : ℕ) (bytes : List ℕ) → a ≢ Off → sealed_with a k sector bytes ≡ sealed_pieces k (first_piece k sector) (units_in k bytes)
+sealed_with-tagged : (a : Auth) (k : Keying) (sector : ℕ) (bytes : List ℕ) → a ≢ Off → sealed_with a k sector bytes ≡ map (sealed_unit k sector bytes) (range_with_len 0 (units k))
 sealed_with-tagged Off k sector bytes on = absurd (on refl)
 sealed_with-tagged Sha256 k sector bytes on = refl
 sealed_with-tagged Sha384 k sector bytes on = refl
 sealed_with-tagged Sha512 k sector bytes on = refl
 
-pub seal-tagged : (k : Keying) (sector : ℕ) (bytes : List ℕ) → k.auth ≢ Off → seal k sector bytes ≡ sealed_pieces k (first_piece k sector) (units_in k bytes)
-seal-tagged k sector bytes on = sealed_with-tagged k.auth k sector bytes on
-
-opened_with-tagged : (a : Auth) (k : Keying) (sector : ℕ) (sectors : List (List ℕ)) → a ≢ Off → opened_with a k sector sectors ≡ opened_pieces k (first_piece k sector) k.sectorsize sectors
+opened_with-tagged : (a : Auth) (k : Keying) (sector : ℕ) (sectors : List (List ℕ)) → a ≢ Off → opened_with a k sector sectors ≡ map (unit_reading k sector sectors) (range_with_len 0 (length sectors))
 opened_with-tagged Off k sector sectors on = absurd (on refl)
 opened_with-tagged Sha256 k sector sectors on = refl
 opened_with-tagged Sha384 k sector sectors on = refl
 opened_with-tagged Sha512 k sector sectors on = refl
 
-pub unit_readings-tagged : (k : Keying) (sector : ℕ) (sectors : List (List ℕ)) → k.auth ≢ Off → unit_readings k sector sectors ≡ opened_pieces k (first_piece k sector) k.sectorsize sectors
-unit_readings-tagged k sector sectors on = opened_with-tagged k.auth k sector sectors on
+-- the byte offset of unit j
+unit_offset : (k : Keying) (sector j : ℕ) → 512 * unit_place k sector j ≡ 512 * (sector * units k) + 512 * j
+unit_offset k sector j = omega arith
+
+-- as many device sectors as units
+pub length-seal-tagged : (k : Keying) (sector : ℕ) (bytes : List ℕ) → k.auth ≢ Off → length (seal k sector bytes) ≡ units k
+length-seal-tagged k sector bytes on =
+    ap (λ (l : List (List ℕ)). length l) (sealed_with-tagged k.auth k sector bytes on) ∙ length-map-range_with_len (sealed_unit k sector bytes) 0 (units k)
 
 -- the device sector of unit j
+pub sealed_unit-place : (k : Keying) (sector j : ℕ) (bytes : List ℕ) → k.auth ≢ Off → j < units k → get_or (seal k sector bytes) j [] ≡ sealed_unit k sector bytes j
+sealed_unit-place k sector j bytes on lt =
+    ap (λ (l : List (List ℕ)). get_or l j []) (sealed_with-tagged k.auth k sector bytes on)
+    ∙ get_or-map-range_with_len (sealed_unit k sector bytes) 0 (units k) j j [] lt (omega arith)
+
 pub sealed_unit-tagged : (k : Keying) (sector j : ℕ) (bytes : List ℕ) → k.auth ≢ Off → j < units k
     → get_or (seal k sector bytes) j [] ≡ sealed_piece k (512 * (sector * units k) + 512 * j) (part (unit_bytes_of k.auth) j bytes)
 sealed_unit-tagged k sector j bytes on lt =
-    let count : length (units_in k bytes) ≡ units k = length-parts (unit_bytes_of k.auth) (units k) bytes in
-    ap (λ (l : List (List ℕ)). get_or l j []) (seal-tagged k sector bytes on)
-    ∙ get_or-sealed_pieces k (first_piece k sector) j (units_in k bytes) (rw count lt)
-    ∙ ap (sealed_piece k (first_piece k sector + 512 * j)) (get_or-parts (unit_bytes_of k.auth) (units k) j bytes lt)
+    sealed_unit-place k sector j bytes on lt
+    ∙ ap (λ (offset : ℕ). sealed_piece k offset (part (unit_bytes_of k.auth) j bytes)) (unit_offset k sector j)
 
 pub length-unit_readings-tagged : (k : Keying) (sector : ℕ) (sectors : List (List ℕ)) → k.auth ≢ Off → length (unit_readings k sector sectors) ≡ length sectors
 length-unit_readings-tagged k sector sectors on =
-    ap (λ (l : List (Result (List ℕ) ℕ)). length l) (unit_readings-tagged k sector sectors on) ∙ length-opened_pieces k (first_piece k sector) k.sectorsize sectors
+    ap (λ (l : List (Result (List ℕ) ℕ)). length l) (opened_with-tagged k.auth k sector sectors on)
+    ∙ length-map-range_with_len (unit_reading k sector sectors) 0 (length sectors)
 
 -- what unit j reads as
 pub unit_reading-tagged : (k : Keying) (sector j : ℕ) (sectors : List (List ℕ)) → k.auth ≢ Off → j < length sectors
     → get_or (unit_readings k sector sectors) j (Ok [])
     ≡ opened_piece k (512 * (sector * units k) + 512 * j) (min (unit_bytes_of k.auth) (k.sectorsize - unit_bytes_of k.auth * j)) (get_or sectors j [])
 unit_reading-tagged k sector j sectors on lt =
-    ap (λ (l : List (Result (List ℕ) ℕ)). get_or l j (Ok [])) (unit_readings-tagged k sector sectors on)
-    ∙ get_or-opened_pieces k (first_piece k sector) k.sectorsize j sectors lt
+    ap (λ (l : List (Result (List ℕ) ℕ)). get_or l j (Ok [])) (opened_with-tagged k.auth k sector sectors on)
+    ∙ get_or-map-range_with_len (unit_reading k sector sectors) 0 (length sectors) j j (Ok []) lt (omega arith)
+    ∙ ap (λ (offset : ℕ). opened_piece k offset (unit_size k j) (get_or sectors j [])) (unit_offset k sector j)
 
 -- which depends on the number and the bytes of its device sector alone
 pub unit_reading-piece : (k : Keying) (sector j : ℕ) (sectors : List (List ℕ)) → k.auth ≢ Off → length sectors ≡ units k → j < units k
     → get_or (unit_readings k sector sectors) j (Ok []) ≡ piece_reading k (sector * units k + j) (get_or sectors j [])
 unit_reading-piece k sector j sectors on count lt =
-    let n : ℕ = sector * units k + j in
-    let at : 512 * (sector * units k) + 512 * j ≡ 512 * n = omega arith in
-    let which : j ≡ n % units k = sym (mod-mul-add sector (units k) j lt) in
-    unit_reading-tagged k sector j sectors on (rw count lt)
-    ∙ (λ i. opened_piece k (at i) (min (unit_bytes_of k.auth) (k.sectorsize - unit_bytes_of k.auth * which i)) (get_or sectors j []))
+    let which : j ≡ unit_place k sector j % units k = sym (mod-mul-add sector (units k) j lt) in
+    ap (λ (l : List (Result (List ℕ) ℕ)). get_or l j (Ok [])) (opened_with-tagged k.auth k sector sectors on)
+    ∙ get_or-map-range_with_len (unit_reading k sector sectors) 0 (length sectors) j j (Ok []) (rw count lt) (omega arith)
+    ∙ ap (λ (i : ℕ). opened_piece k (512 * unit_place k sector j) (unit_size k i) (get_or sectors j [])) which

@@ -1,5 +1,5 @@
 -- Sealing and opening where there is no authentication.
-use Rattle.std.proofs.Common.{◌≡◌, ℕ, ◌+◌, ◌-◌, ◌*◌, ◌/◌, ◌%◌, ◌≤◌, List, length, Ok, sym, ap, ◌∙◌, arith, mul_comm}
+use Rattle.std.proofs.Common.{◌≡◌, ℕ, ◌+◌, ◌-◌, ◌*◌, ◌/◌, ◌%◌, ◌≤◌, List, length, Ok, ap, ◌∙◌, arith, mul_comm}
 use Rattle.std.proofs.Math.Nat.{div-add-mod}
 use Rattle.std.specs.List.{concat}
 use Rattle.eli_base.specs.declared.algorithms.Auth.{Auth}

@@ -1,5 +1,5 @@
 -- Logical sectors, with authentication and without: what they are sealed to, and that it reads as their bytes.
-use Rattle.std.proofs.Common.{◌≡◌, ◌≢◌, inl, inr, ℕ, ◌+◌, ◌-◌, ◌*◌, ◌/◌, ◌%◌, ◌<◌, ◌≤◌, min, List, [], length, map, get_or, drop, All, Result, Ok, refl, sym, ap, ◌∙◌, arith, length-take, length-drop}
+use Rattle.std.proofs.Common.{◌≡◌, ◌≢◌, inl, inr, ℕ, ◌+◌, ◌-◌, ◌*◌, ◌%◌, ◌<◌, ◌≤◌, min, List, [], length, map, get_or, drop, All, Result, Ok, sym, ap, ◌∙◌, arith, length-take, length-drop}
 use Rattle.std.proofs.lemmas.List.{ext_get_or, get_or-map, length-map}
 use Rattle.std.proofs.lemmas.List.Elements.{All-from_get_or}
 use Rattle.std.specs.List.{concat}
@@ -13,10 +13,10 @@ use Rattle.eli_base.proofs.Units.{off_or_not, unit_whole, units_reach}
 use Rattle.range_keys.specs.Ring.{IsKeying}
 use Rattle.sealing.specs.Parts.{parts}
 use Rattle.sealing.specs.Runs.{sealed_run, opened_run}
-use Rattle.sealing.specs.Sectors.{units, units_in, first_piece, seal, sealed_with, opened_with, unit_readings, joined, reading}
-use Rattle.sealing.specs.Pieces.{opened_piece, sealed_piece}
+use Rattle.sealing.specs.Sectors.{units, units_in, seal, sealed_with, opened_with, unit_readings, joined, reading}
+use Rattle.sealing.specs.Pieces.{opened_piece}
 use Rattle.sealing.proofs.PartLists.{part, length-part, length-parts, get_or-parts, concat-parts, joined-ok}
-use Rattle.sealing.proofs.Pieces.{length-tagged, length-sealed_pieces, seal-tagged, sealed_unit-tagged, opened_piece-sealed, length-unit_readings-tagged, unit_reading-tagged}
+use Rattle.sealing.proofs.Pieces.{length-tagged, length-seal-tagged, sealed_unit-tagged, opened_piece-sealed, length-unit_readings-tagged, unit_reading-tagged}
 use Rattle.sealing.proofs.Plain.{units_fill}
 use Rattle.sealing.proofs.Runs.{length-sealed_run, opened-sealed_run}
 
@@ -27,8 +27,7 @@ length-seal k sector bytes = elim (off_or_not k.auth) [
   | inl off ↦
       ap (λ (a : Auth). length (sealed_with a k sector bytes)) off ∙ length-parts 512 (units k) (sealed_run k (sector * k.sectorsize) bytes)
   | inr on ↦
-      ap (λ (l : List (List ℕ)). length l) (seal-tagged k sector bytes on)
-      ∙ length-sealed_pieces k (first_piece k sector) (units_in k bytes) ∙ length-parts (unit_bytes_of k.auth) (units k) bytes
+      length-seal-tagged k sector bytes on
 ]
 
 -- without authentication unit j is a part of the run
@@ -74,6 +73,16 @@ All-seal k sector bytes is size small =
     let sealed = length-seal k sector bytes in
     All-from_get_or (λ (s : List ℕ). length s ≡ 512) (seal k sector bytes) [] (λ j lt. length-sealed_unit k sector j bytes is size small (rw sealed at lt))
 
+-- a reading for each unit
+pub length-unit_readings : (k : Keying) (sector : ℕ) (sectors : List (List ℕ)) → length sectors ≡ units k → length (unit_readings k sector sectors) ≡ units k
+length-unit_readings k sector sectors count = elim (off_or_not k.auth) [
+  | inl off ↦
+      let plain : List ℕ = opened_run k (sector * k.sectorsize) (concat sectors) in
+      let ok : List ℕ → Result (List ℕ) ℕ = λ b. Ok b in
+      ap (λ (a : Auth). length (opened_with a k sector sectors)) off ∙ length-map (parts 512 (units k) plain) ok ∙ length-parts 512 (units k) plain
+  | inr on ↦ length-unit_readings-tagged k sector sectors on ∙ count
+]
+
 -- ---- opening undoes sealing
 
 opened_seal-off : (k : Keying) (sector : ℕ) (bytes : List ℕ) → IsKeying k → k.auth ≡ Off → AreBytes bytes → length bytes ≡ k.sectorsize
@@ -103,12 +112,12 @@ opened_seal-tagged k sector bytes is on small size =
     (λ j lt.
     let inside : j < units k = rw count at lt in
     unit_reading-tagged k sector j (seal k sector bytes) on (rw sealed inside)
-    ∙ ap (opened_piece k (first_piece k sector + 512 * j) (min d (k.sectorsize - d * j))) (sealed_unit-tagged k sector j bytes on inside)
-    ∙ opened_piece-sealed k (first_piece k sector + 512 * j) (min d (k.sectorsize - d * j)) (part d j bytes) is (AreBytes-chunk (d * j) d bytes small) (blocks_of_unit k j bytes is size) (length-unit k j bytes size)
+    ∙ ap (opened_piece k (512 * (sector * units k) + 512 * j) (min d (k.sectorsize - d * j))) (sealed_unit-tagged k sector j bytes on inside)
+    ∙ opened_piece-sealed k (512 * (sector * units k) + 512 * j) (min d (k.sectorsize - d * j)) (part d j bytes) is (AreBytes-chunk (d * j) d bytes small) (blocks_of_unit k j bytes is size) (length-unit k j bytes size)
     ∙ ap Ok (sym (get_or-parts d (units k) j bytes inside))
     ∙ sym (get_or-map ok (units_in k bytes) j [] (Ok []) (rw same inside)))
 
-opened_seal : (k : Keying) (sector : ℕ) (bytes : List ℕ) → IsKeying k → AreBytes bytes → length bytes ≡ k.sectorsize
+pub opened_seal : (k : Keying) (sector : ℕ) (bytes : List ℕ) → IsKeying k → AreBytes bytes → length bytes ≡ k.sectorsize
     → unit_readings k sector (seal k sector bytes) ≡ map Ok (units_in k bytes)
 opened_seal k sector bytes is small size = elim (off_or_not k.auth) [
   | inl off ↦ opened_seal-off k sector bytes is off small size

@@ -11,11 +11,14 @@ ghost use Rattle.sealing.specs.Runs.{sealed_run, opened_run};
 
 mod laws;
 
-use cbc_mode::{cbc_open, cbc_seal};
+use cbc_mode::{cbc_open_sliced, cbc_seal};
 use eli_base::Cipher;
-pub use laws::{opening_undoes_sealing, sealed_sectors_are_whole, tagged_units_are_read_alone};
+pub use laws::{
+    device_sector_by_its_number, each_unit_is_read, opening_undoes_sealing,
+    sealed_sectors_are_whole, tagged_units_stand_alone,
+};
 use range_keys::KeyRing;
-use xts_mode::{xts_open, xts_seal};
+use xts_mode::{xts_open_sliced, xts_seal_sliced};
 
 /// Enciphers a run of whole cipher blocks in place, under the keys of the byte offset at which it stands.
 /// `open_run` takes it back.
@@ -25,10 +28,16 @@ pub fn seal_run(ring: &mut KeyRing, offset: u64, block: &mut [u8])
     ensures taken_back { opened_run ring.old.keying offset block.new ≡ block.old }
     ensures keying { ring.new.keying ≡ ring.old.keying }
 {
-    let keys = ring.key_at(offset);
     match ring.cipher() {
-        Cipher::AesXts => xts_seal(&keys.first, &keys.second, offset, block),
-        Cipher::AesCbc => cbc_seal(&keys.first, &ring.iv_at(offset), block),
+        Cipher::AesXts => {
+            let keys = ring.key_at(offset);
+            xts_seal_sliced(&keys.first, &keys.second, offset, block);
+        }
+        Cipher::AesCbc => {
+            let vector = ring.iv_at(offset);
+            let keys = ring.key_at(offset);
+            cbc_seal(keys.first.schedule(), &vector, block);
+        }
     }
 }
 
@@ -38,9 +47,15 @@ pub fn open_run(ring: &mut KeyRing, offset: u64, block: &mut [u8])
     ensures opened { block.new ≡ opened_run ring.old.keying offset block.old }
     ensures keying { ring.new.keying ≡ ring.old.keying }
 {
-    let keys = ring.key_at(offset);
     match ring.cipher() {
-        Cipher::AesXts => xts_open(&keys.first, &keys.second, offset, block),
-        Cipher::AesCbc => cbc_open(&keys.first, &ring.iv_at(offset), block),
+        Cipher::AesXts => {
+            let keys = ring.key_at(offset);
+            xts_open_sliced(&keys.first, &keys.second, offset, block);
+        }
+        Cipher::AesCbc => {
+            let vector = ring.iv_at(offset);
+            let keys = ring.key_at(offset);
+            cbc_open_sliced(&keys.first, &vector, block);
+        }
     }
 }

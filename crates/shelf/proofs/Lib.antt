@@ -1,4 +1,10 @@
+pub mod Closings
+pub mod Openings
 pub mod Opening
 pub mod Places
+pub mod Sectors
 pub mod Rows
-pub mod Serving
+pub mod Spelling
+pub mod Events
+pub mod Untouched
+pub mod Causing

@@ -1,5 +1,5 @@
 -- `attach -C` opens what `init` made.
-use Rattle.std.proofs.Common.{◌≡◌, ◌==◌, ◌∙◌, ℕ, ◌-◌, ◌*◌, ◌≤◌, List, ◌∷◌, length, Option, None, Some, IfSome, IsSome, Result, Ok, Err, true, cond, refl, ap, sym, subst, inl, inr, ◌⊎◌, arith, zero, suc, get_or, []}
+use Rattle.std.proofs.Common.{Bool, ◌≡◌, ◌==◌, ◌∙◌, ℕ, ◌-◌, ◌*◌, ◌≤◌, List, ◌∷◌, length, Option, None, Some, IfSome, IsSome, Result, Ok, Err, true, cond, refl, ap, sym, subst, inl, inr, ◌⊎◌, arith, zero, suc, get_or, []}
 use Rattle.std.proofs.Math.Nat.{zero-div}
 use Rattle.std.proofs.lemmas.Grind.{common_steps}
 use Rattle.std.proofs.lemmas.Bool.Decides.{Decides-eqb}
@@ -37,9 +37,9 @@ use Rattle.user_key.specs.UserKey.{user_key}
 use Rattle.user_key.specs.declared.components.Components.{Components}
 use Rattle.user_key.specs.declared.components.UserKey.{UserKey}
 use Rattle.shelf.specs.Opening.{NamesSameKey, OpensOrFails}
-use Rattle.shelf.specs.Steps.{Admits, GoesOn, LoadsComponents, MakesProvider, Reads, Then, TriesKey, admitted, after_check, after_size, after_slot, or_refusal, or_wrong_key, tried}
+use Rattle.shelf.specs.Steps.{Admits, GoesOn, LoadsComponents, MakesProvider, Reads, Then, TriesKey, admitted, after_check, after_size, after_slot, attachment_by, or_refusal, or_wrong_key, tried}
 use Rattle.shelf.specs.Turn.{TryRow}
-use Rattle.shelf.specs.World.{Reach}
+use Rattle.shelf.specs.World.{Attachment, Reach}
 
 -- ---- what `init` leaves
 
@@ -163,28 +163,28 @@ opened-first m u master None opens first = opens.any_slot
 opened-first m u master (Some named) opens first =
     ap (λ (n : ℕ). opened m u (Some n)) first ∙ ap (λ (o : Option MasterKey). numbered o 0) opens.slot_0
 
-has_room : {A : Type 0} (n : ℕ) (small large : A) → 1 ≤ n → cond (n == 0) small large ≡ large
+pub has_room : {A : Type 0} (n : ℕ) (small large : A) → 1 ≤ n → cond (n == 0) small large ≡ large
 has_room zero small large room = absurd (omega arith)
 has_room (suc n) small large room = grind (arith, common_steps)
 
-tried-usable : (options : InitOptions) (parts : Components) (sectors : ℕ) (m : Metadata) (key : UserKey) (master : List ℕ) (slot : Option ℕ)
+tried-usable : (options : InitOptions) (parts : Components) (sectors : ℕ) (m : Metadata) (key : UserKey) (master : List ℕ) (slot : Option ℕ) (readonly : Bool)
     → IsUsable options parts sectors m key master → IfSome slot (λ named. named ≡ 0)
-    → tried m (settings_for options sectors) slot (user_key parts m.salt m.iterations) ≡ Ok tt
-tried-usable options parts sectors m key master slot usable first =
+    → tried m (settings_for options sectors) slot readonly (user_key parts m.salt m.iterations) ≡ Ok (attachment_by (settings_for options sectors) readonly (record { bytes = master }, 0))
+tried-usable options parts sectors m key master slot readonly usable first =
     let s : Settings = settings_for options sectors in
-    ap (tried m s slot) usable.derived
-    ∙ has_room (media_sectors options.auth options.sectorsize (512 * sectors)) (Err (refusals.TooSmall (512 * sectors))) (or_wrong_key (opened m key.bytes slot)) usable.room
-    ∙ ap or_wrong_key (opened-first m key.bytes master slot usable.opens first)
+    ap (tried m s slot readonly) usable.derived
+    ∙ has_room (media_sectors options.auth options.sectorsize (512 * sectors)) (Err (refusals.TooSmall (512 * sectors))) (or_wrong_key s readonly (opened m key.bytes slot)) usable.room
+    ∙ ap (or_wrong_key s readonly) (opened-first m key.bytes master slot usable.opens first)
 
 -- ---- the row
 
-OpensOrFails-refused : (parts : Components) (refusal : Refusal) (old new : Reach) → IsRefusal (Ok parts) refusal → MayRefuse old.cabinet new.cabinet refusal → OpensOrFails old (Err refusal) new
+OpensOrFails-refused : (parts : Components) (refusal : Refusal) (old new : Reach) → IsRefusal (Ok parts) refusal → MayRefuse old.cabinet new.cabinet refusal → OpensOrFails {A = Attachment} old (Err refusal) new
 OpensOrFails-refused parts (refusals.CabinetFault word) old new is cause = cause
 OpensOrFails-refused parts refusals.NoMemory old new is cause = tt
 OpensOrFails-refused parts _ old new is cause = absurd (cc is)
 
 -- the same since an earlier state, whose cabinet is the same
-OpensOrFails-earlier : (earlier old new : Reach) (answer : Result (Unit {0}) Refusal) → earlier.disk.faults ≤ old.disk.faults → old.cabinet ≡ earlier.cabinet
+OpensOrFails-earlier : (earlier old new : Reach) (answer : Result Attachment Refusal) → earlier.disk.faults ≤ old.disk.faults → old.cabinet ≡ earlier.cabinet
     → OpensOrFails old answer new → OpensOrFails earlier answer new
 OpensOrFails-earlier earlier old new (Ok done) later same opens = tt
 OpensOrFails-earlier earlier old new (Err refusals.DeviceFault) later same opens = Rose-earlier earlier.disk.faults old.disk.faults new.disk.faults later opens
@@ -192,48 +192,48 @@ OpensOrFails-earlier earlier old new (Err (refusals.CabinetFault word)) later sa
 OpensOrFails-earlier earlier old new (Err refusals.NoMemory) later same opens = tt
 OpensOrFails-earlier earlier old new (Err _) later same opens = absurd opens
 
-OpensOrFails-here : (old middle new : Reach) (answer : Result (Unit {0}) Refusal) (refusal : Refusal) → (answer ≡ Err refusal) × (new ≡ middle) → OpensOrFails old (Err refusal) middle → OpensOrFails old answer new
+OpensOrFails-here : (old middle new : Reach) (answer : Result Attachment Refusal) (refusal : Refusal) → (answer ≡ Err refusal) × (new ≡ middle) → OpensOrFails {A = Attachment} old (Err refusal) middle → OpensOrFails old answer new
 OpensOrFails-here old middle new answer refusal ends opens = rw (ends.0, ends.1) opens
 
 -- the files are loaded, and the key is tried
-OpensOrFails-key : (line : List ℕ) (words : KeyWords) (m : Metadata) (s : Settings) (slot : Option ℕ) (parts : Components) (given : Result Components Refusal) (old middle new : Reach) (answer : Result (Unit {0}) Refusal)
-    → LoadsComponents line words old given middle → IsAnswer (Ok parts) given → tried m s slot (user_key parts m.salt m.iterations) ≡ Ok tt → GoesOn (TriesKey m s slot) given middle answer new
+OpensOrFails-key : (line : List ℕ) (words : KeyWords) (m : Metadata) (s : Settings) (slot : Option ℕ) (readonly : Bool) (a : Attachment) (parts : Components) (given : Result Components Refusal) (old middle new : Reach) (answer : Result Attachment Refusal)
+    → LoadsComponents line words old given middle → IsAnswer (Ok parts) given → tried m s slot readonly (user_key parts m.salt m.iterations) ≡ Ok a → GoesOn (TriesKey m s slot readonly) given middle answer new
     → OpensOrFails old answer new
-OpensOrFails-key line words m s slot parts (Ok parts') old middle new answer loads told opens next =
+OpensOrFails-key line words m s slot readonly a parts (Ok parts') old middle new answer loads told opens next =
     let same : parts' ≡ parts = cc told in
-    let done : answer ≡ Ok tt = next.0 ∙ ap (λ (p : Components). tried m s slot (user_key p m.salt m.iterations)) same ∙ opens in
-    subst (λ (a : Result (Unit {0}) Refusal). OpensOrFails old a new) (sym done) tt
-OpensOrFails-key line words m s slot parts (Err refusal) old middle new answer loads told opens next =
+    let done : answer ≡ Ok a = next.0 ∙ ap (λ (p : Components). tried m s slot readonly (user_key p m.salt m.iterations)) same ∙ opens in
+    subst (λ (r : Result Attachment Refusal). OpensOrFails old r new) (sym done) tt
+OpensOrFails-key line words m s slot readonly a parts (Err refusal) old middle new answer loads told opens next =
     OpensOrFails-here old middle new answer refusal next (OpensOrFails-refused parts refusal old middle told loads.loads.cause)
 
 -- the metadata are admitted, and so on
-OpensOrFails-admitted : (line : List ℕ) (words : KeyWords) (m : Metadata) (s : Settings) (slot : Option ℕ) (parts : Components) (files : Files) (old new : Reach) (answer : Result (Unit {0}) Refusal)
-    → admitted m old.disk.size slot ≡ Ok s → old.cabinet.files ≡ Some files → components_of files line words ≡ Ok parts → tried m s slot (user_key parts m.salt m.iterations) ≡ Ok tt
-    → Then (Admits m slot) (λ settings. Then (LoadsComponents line words) (λ parts. TriesKey m settings slot parts)) old answer new → OpensOrFails old answer new
-OpensOrFails-admitted line words m s slot parts files old new answer admits told names opens then =
+OpensOrFails-admitted : (line : List ℕ) (words : KeyWords) (m : Metadata) (s : Settings) (slot : Option ℕ) (readonly : Bool) (a : Attachment) (parts : Components) (files : Files) (old new : Reach) (answer : Result Attachment Refusal)
+    → admitted m old.disk.size slot ≡ Ok s → old.cabinet.files ≡ Some files → components_of files line words ≡ Ok parts → tried m s slot readonly (user_key parts m.salt m.iterations) ≡ Ok a
+    → Then (Admits m slot) (λ settings. Then (LoadsComponents line words) (λ parts. TriesKey m settings slot readonly parts)) old answer new → OpensOrFails old answer new
+OpensOrFails-admitted line words m s slot readonly a parts files old new answer admits told names opens then =
     let given : then.given ≡ Ok s = then.first.0 ∙ admits in
-    let next : Then (LoadsComponents line words) (TriesKey m s slot) then.middle answer new =
-    subst (λ (g : Result Settings Refusal). GoesOn (λ settings. Then (LoadsComponents line words) (λ parts. TriesKey m settings slot parts)) g then.middle answer new) given then.next in
+    let next : Then (LoadsComponents line words) (TriesKey m s slot readonly) then.middle answer new =
+    subst (λ (g : Result Settings Refusal). GoesOn (λ settings. Then (LoadsComponents line words) (λ parts. TriesKey m settings slot readonly parts)) g then.middle answer new) given then.next in
     let here : then.middle.cabinet.files ≡ Some files = ap (λ (r : Reach). r.cabinet.files) then.first.1 ∙ told in
     let loaded : IsAnswer (components_of files line words) next.given =
     subst (λ (o : Option Files). IfSome o (λ files. IsAnswer (components_of files line words) next.given)) here next.first.told in
     let ends : OpensOrFails then.middle answer new =
-    OpensOrFails-key line words m s slot parts next.given then.middle next.middle new answer next.first (subst (λ (a : Result Components Refusal). IsAnswer a next.given) names loaded) opens next.next in
+    OpensOrFails-key line words m s slot readonly a parts next.given then.middle next.middle new answer next.first (subst (λ (a : Result Components Refusal). IsAnswer a next.given) names loaded) opens next.next in
     subst (λ (r : Reach). OpensOrFails r answer new) then.first.1 ends
 
 -- the metadata are read, and so on
-OpensOrFails-read : (line : List ℕ) (words : KeyWords) (m : Metadata) (s : Settings) (slot : Option ℕ) (parts : Components) (files : Files) (old new : Reach) (answer : Result (Unit {0}) Refusal)
+OpensOrFails-read : (line : List ℕ) (words : KeyWords) (m : Metadata) (s : Settings) (slot : Option ℕ) (readonly : Bool) (a : Attachment) (parts : Components) (files : Files) (old new : Reach) (answer : Result Attachment Refusal)
     → Holds old.disk m → admitted m old.disk.size slot ≡ Ok s → old.cabinet.files ≡ Some files → components_of files line words ≡ Ok parts
-    → tried m s slot (user_key parts m.salt m.iterations) ≡ Ok tt → TryRow line slot words old answer new → OpensOrFails old answer new
-OpensOrFails-read line words m s slot parts files old new answer holds admits told names opens row =
-    let Next : Metadata → Reach → Result (Unit {0}) Refusal → Reach → Type 0 =
-    λ m. Then (Admits m slot) (λ settings. Then (LoadsComponents line words) (λ parts. TriesKey m settings slot parts)) in
+    → tried m s slot readonly (user_key parts m.salt m.iterations) ≡ Ok a → TryRow line slot readonly words old answer new → OpensOrFails old answer new
+OpensOrFails-read line words m s slot readonly a parts files old new answer holds admits told names opens row =
+    let Next : Metadata → Reach → Result Attachment Refusal → Reach → Type 0 =
+    λ m. Then (Admits m slot) (λ settings. Then (LoadsComponents line words) (λ parts. TriesKey m settings slot readonly parts)) in
     let reads : Reads old.disk row.given row.middle.disk = row.first.reads in
     elim (read_again old.disk row.middle.disk m reads.read holds reads.reads) [
       | inl again ↦
           let given : row.given ≡ Ok m = reads.answered ∙ ap (or_refusal read_refusal_of) again.is in
           OpensOrFails-earlier old row.middle new answer again.faults row.first.cabinet
-          (OpensOrFails-admitted line words m s slot parts files row.middle new answer
+          (OpensOrFails-admitted line words m s slot readonly a parts files row.middle new answer
           (ap (λ (n : ℕ). admitted m n slot) again.size ∙ admits)
           (ap (λ (c : CabinetState). c.files) row.first.cabinet ∙ told) names opens
           (subst (λ (g : Result Metadata Refusal). GoesOn Next g row.middle answer new) given row.next))
@@ -243,20 +243,20 @@ OpensOrFails-read line words m s slot parts files old new answer holds admits to
           (subst (λ (g : Result Metadata Refusal). GoesOn Next g row.middle answer new) given row.next) failed.rose
     ]
 
-pub OpensOrFails-tried : (options : InitOptions) (line line' : List ℕ) (fresh words : KeyWords) (slot : Option ℕ) (parts : Components) (m : Metadata)
-    (before loaded made start after : Reach) (answer : Result (Unit {0}) Refusal)
+pub OpensOrFails-tried : (options : InitOptions) (line line' : List ℕ) (fresh words : KeyWords) (slot : Option ℕ) (readonly : Bool) (parts : Components) (m : Metadata)
+    (before loaded made start after : Reach) (answer : Result Attachment Refusal)
     → LoadsComponents line fresh before (Ok parts) loaded → MakesProvider options parts loaded (Ok m) made
     → IsSome before.disk.content → start.disk.content ≡ made.disk.content
     → NamesSameKey line fresh before.cabinet line' words start.cabinet → IfSome slot (λ named. named ≡ 0)
-    → TryRow line' slot words start answer after → OpensOrFails start answer after
-OpensOrFails-tried options line line' fresh words slot parts m before loaded made start after answer loads makes told same names first tries =
+    → TryRow line' slot readonly words start answer after → OpensOrFails start answer after
+OpensOrFails-tried options line line' fresh words slot readonly parts m before loaded made start after answer loads makes told same names first tries =
     let was : Made options parts m before.disk made.disk = subst (λ (d : DiskState). Made options parts m d made.disk) loads.disk (Made-provider options parts m loaded made makes) in
     let usable : IsUsable options parts before.disk.size m was.key was.master = was.usable in
     let size : start.disk.size ≡ before.disk.size = size-made before.disk made.disk start.disk (init_events before.disk m) was.logs told same in
     let named : Ok parts ≡ components_of names.files line fresh =
     subst (λ (o : Option Files). IfSome o (λ files. Ok parts ≡ components_of files line fresh)) names.told loads.told in
-    OpensOrFails-read line' words m (settings_for options before.disk.size) slot parts names.files' start after answer
+    OpensOrFails-read line' words m (settings_for options before.disk.size) slot readonly _ parts names.files' start after answer
     (Holds-made options parts before.disk made.disk start.disk m was.key was.master usable was.logs told same)
     (ap (λ (n : ℕ). admitted m n slot) size ∙ admitted-accepted options before.disk.size m slot usable.accepted first)
     names.told' (names.same ∙ sym named)
-    (tried-usable options parts before.disk.size m was.key was.master slot usable first) tries
+    (tried-usable options parts before.disk.size m was.key was.master slot readonly usable first) tries

@@ -1,12 +1,13 @@
 -- A drawer is taken out, changed and put back.
-use Rattle.std.proofs.Common.{◌≡◌, ◌∙◌, ℕ, ◌<◌, List, [], ◌∷◌, length, refl, ap, sym, arith, Bor, suc, zero, get_or, slice_get, Option, Some, None}
+use Rattle.std.proofs.Math.Seq.{take-append_seam}
+use Rattle.std.proofs.Common.{◌++◌, drop, subst, take, ◌≡◌, ℕ, ◌<◌, List, [], ◌∷◌, length, refl, ap, sym, arith, Bor, suc, zero, get_or, slice_get, Option, Some, None}
 use Rattle.std.specs.Prelude.{is_some, option_copied}
 use Rattle.std.specs.List.{insert, remove}
 use Rattle.std.proofs.Math.ListN.{set}
 use Rattle.std.proofs.lemmas.List.{map-set}
 use Rattle.block_traits.specs.Disk.{DiskState}
 use Rattle.shelf.specs.declared.drawer.Drawer.{Drawer}
-use Rattle.reply_text.specs.declared.Reply.{Reply}
+use Rattle.shelf.specs.Answer.{Answer}
 use Rattle.shelf.specs.World.{Reach, World, drawer_of, drawers_of}
 use Rattle.shelf.specs.Turn.{ChangesAt, reach}
 
@@ -22,17 +23,22 @@ slice_get-drawers state [] place drawer small here = absurd (omega arith)
 slice_get-drawers state (d ∷ ds) zero drawer small here = ap (λ (x : Drawer _). Some (drawer_of state x)) (sym here)
 slice_get-drawers state (d ∷ ds) (suc place) drawer small here = slice_get-drawers state ds place drawer (omega arith) here
 
-pub ChangesAt-set : {D : Type 0} (state : D → DiskState) (R : Reach → Reply → Reach → Type 0) (old new : World) (reply : Reply) (drawers : List (Drawer D)) (place : ℕ) (before after : Drawer D)
+pub ChangesAt-set : {D : Type 0} (state : D → DiskState) (R : Reach → Answer → Reach → Type 0) (old new : World) (reply : Answer) (drawers : List (Drawer D)) (place : ℕ) (before after : Drawer D)
     → place < length drawers → before ≡ get_or drawers place before → after.name ≡ before.name → old.drawers ≡ drawers_of state drawers → new.drawers ≡ drawers_of state (set drawers place after)
-    → R (reach (state before.disk) old) reply (reach (state after.disk) new) → ChangesAt R old reply new place
+    → R (reach (drawer_of state before) old) reply (reach (drawer_of state after) new) → ChangesAt R old reply new place
 ChangesAt-set state R old new reply drawers place before after small here name is_old is_new step = record {
-  drawer = drawer_of state before;
+  before = drawer_of state before;
   found = rw is_old (slice_get-drawers state drawers place before small here);
-  disk = state after.disk;
+  after = drawer_of state after;
+  name = name;
   step = step;
-  others = rw (is_new, is_old) (map-set (drawer_of state) drawers place after ∙ ap (λ (n : List ℕ). set (drawers_of state drawers) place (record { name = n; disk = state after.disk })) name);
+  others = rw (is_new, is_old) (map-set (drawer_of state) drawers place after);
 }
 
 pub is_some-copied : {X : Type 0} (o : Option (Bor X)) → is_some (option_copied o) ≡ is_some o
 is_some-copied None = refl
 is_some-copied (Some x) = refl
+
+-- a buffer whose front was written whole
+pub whole_buffer : (new old : List ℕ) (len : ℕ) → length new ≡ len → take len (new ++ drop (length new) old) ≡ new
+whole_buffer new old len is = subst (λ (n : ℕ). take n (new ++ drop (length new) old) ≡ new) is (take-append_seam new (drop (length new) old))

@@ -11,7 +11,7 @@ use Rattle.key_components.specs.Answers.{IsAnswer, IsReached, Loads, word_of}
 use Rattle.key_components.specs.Key.{FitsWords, components_of}
 use Rattle.user_key.specs.declared.components.Components.{Components}
 use Rattle.shelf.specs.Steps.{LoadsComponents, Then}
-use Rattle.shelf.specs.World.{Reach}
+use Rattle.shelf.specs.World.{Holding, Reach}
 
 -- the first step refused
 pub Then-refused : {A B : Type 0} (First : Reach → Result A Refusal → Reach → Type 0) (Next : A → Reach → Result B Refusal → Reach → Type 0)
@@ -24,9 +24,9 @@ pub Then-goes_on : {A B : Type 0} (First : Reach → Result A Refusal → Reach 
 Then-goes_on First Next old middle value answer new first next = record { given = Ok value; middle = middle; first = first; next = next }
 
 -- the files of a key were loaded
-pub loaded : (line : List ℕ) (words : KeyWords) (disk : DiskState) (entropy : EntropyState) (old new : CabinetState) (answer : Result Components Refusal)
+pub loaded : (line : List ℕ) (words : KeyWords) (disk : DiskState) (holding : Holding) (entropy : EntropyState) (old new : CabinetState) (answer : Result Components Refusal)
     → IfSome old.files (λ files. IsAnswer (components_of files line words) answer) → IfOk answer (FitsWords words)
     → IfErr answer (λ refusal. IfSome (word_of refusal) (IsReached old.files line words)) → Loads old new (result_err answer)
     → IfErr answer (λ refusal. 1 ≤ length words.files + length words.pass)
-    → LoadsComponents line words (record { disk = disk; cabinet = old; entropy = entropy }) answer (record { disk = disk; cabinet = new; entropy = entropy })
-loaded line words disk entropy old new answer told fits reached loads named = record { told = told; fits = fits; reached = reached; loads = loads; named = named; disk = refl; entropy = refl }
+    → LoadsComponents line words (record { disk = disk; holding = holding; cabinet = old; entropy = entropy }) answer (record { disk = disk; holding = holding; cabinet = new; entropy = entropy })
+loaded line words disk holding entropy old new answer told fits reached loads named = record { told = told; fits = fits; reached = reached; loads = loads; named = named; disk = refl; holding = refl; entropy = refl }

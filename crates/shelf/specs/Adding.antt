@@ -3,21 +3,21 @@ use Rattle.std.specs.Prelude.{◌≡◌, ℕ, ◌<◌, ◌≤◌, List, [], ◌�
 use Rattle.block_traits.specs.Disk.{DiskState}
 use Rattle.shelf.specs.declared.drawers.AddFault.{AddFault}
 use Rattle.shelf.specs.declared.drawers.AddFault.TheVariants.{Full, Taken, NoMemory}
-use Rattle.shelf.specs.World.{DrawerState, place_of}
+use Rattle.shelf.specs.World.{DrawerState, Idle, place_of}
 
 -- how many drawers a shelf may have
 abbrev pub most_drawers : ℕ
-most_drawers = 1
+most_drawers = 16
 
 -- there is room, and no drawer has the name
 pub record IsFree (name : List ℕ) (drawers : List DrawerState) : Type 0 where
   pub room : length drawers < most_drawers
   pub new_name : IsNone (place_of name drawers)
 
--- the disk stands behind the others
+-- the disk stands behind the others, idle
 pub record Adds (name : List ℕ) (disk : DiskState) (old new : List DrawerState) : Type 0 where
   pub free : IsFree name old
-  pub added : new ≡ old ++ record { name = name; disk = disk } ∷ []
+  pub added : new ≡ old ++ record { name = name; disk = disk; holding = Idle } ∷ []
 
 abbrev pub RefusesToAdd : List ℕ → AddFault → List DrawerState → Type 0
 RefusesToAdd name Full drawers = most_drawers ≤ length drawers

@@ -1,5 +1,14 @@
 pub mod Adding
+pub mod Answer
+pub mod Causes
+pub mod Closing
+pub mod Digits
+pub mod Histories
 pub mod Opening
+pub mod Requests
+pub mod Served
+pub mod Shelved
 pub mod Steps
+pub mod Trial
 pub mod Turn
 pub mod World

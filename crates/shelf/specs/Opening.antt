@@ -17,7 +17,7 @@ pub record NamesSameKey (line : List ℕ) (words : KeyWords) (cabinet : CabinetS
   pub same : components_of files' line' words' ≡ components_of files line words
 
 -- nothing is refused; or the disk failed, or the cabinet, and its count of faults rose; or there was no memory
-abbrev pub OpensOrFails : Reach → Result (Unit {0}) Refusal → Reach → Type 0
+abbrev pub OpensOrFails : {A : Type 0} → Reach → Result A Refusal → Reach → Type 0
 OpensOrFails old (Ok done) new = Unit {0}
 OpensOrFails old (Err refusals.DeviceFault) new = Rose old.disk.faults new.disk.faults
 OpensOrFails old (Err (refusals.CabinetFault word)) new = Rose old.cabinet.faults new.cabinet.faults

@@ -1,12 +1,15 @@
 -- The steps of which commands consist. A step answers a value or a refusal, and may change what the command reaches.
-use Rattle.std.specs.Prelude.{◌≡◌, ℕ, ◌+◌, ◌≤◌, List, length, Option, Some, None, IfOk, IfErr, IfSome, Result, Ok, Err, if◌then◌else◌, ◌==◌}
+use Rattle.std.specs.Prelude.{◌≡◌, ℕ, ◌+◌, ◌*◌, ◌/◌, ◌%◌, ◌≤◌, nat_le, Bool, true, false, ◌&&◌, ◌||◌, List, [], ◌∷◌, length, Option, Some, None, IfOk, IfErr, IfSome, Result, Ok, Err, if◌then◌else◌, ◌==◌}
 use Rattle.std.specs.Result.{result_err}
 use Rattle.block_traits.specs.Cabinet.{CabinetState, stored}
 use Rattle.block_traits.specs.Causes.{Rose}
-use Rattle.block_traits.specs.Disk.{DiskState}
+use Rattle.block_traits.specs.Disk.{DiskState, FailsIn, Logs}
+use Rattle.block_traits.specs.declared.disk.Event.{Event}
+use Rattle.block_traits.specs.declared.disk.Event.TheVariants.{Flush}
 use Rattle.command_words.specs.Places.{bytes_at}
 use Rattle.command_words.specs.declared.spans.KeyWords.{KeyWords}
 use Rattle.command_words.specs.declared.spans.Span.{Span}
+use Rattle.eli_base.specs.Keying.{Keying}
 use Rattle.eli_base.specs.Units.{media_sectors}
 use Rattle.eli_base.specs.declared.parameters.MasterKey.{MasterKey}
 use Rattle.eli_base.specs.declared.refusals.Refusal.{Refusal}
@@ -22,13 +25,16 @@ use Rattle.key_commands.specs.Init.{Inits}
 use Rattle.key_commands.specs.declared.options.InitOptions.{InitOptions}
 use Rattle.key_components.specs.Answers.{IsAnswer, IsReached, Loads, word_of}
 use Rattle.key_components.specs.Key.{FitsWords, components_of}
-use Rattle.provider.specs.Attached.{opened}
+use Rattle.provider.specs.Attached.{media, opened}
+use Rattle.provider.specs.Reading.{ReadsAs}
+use Rattle.provider.specs.Reads.{RunFails, RunFault}
+use Rattle.provider.specs.Writing.{data_writes}
 use Rattle.user_key.specs.UserKey.{user_key}
 use Rattle.user_key.specs.declared.components.Components.{Components}
 use Rattle.user_key.specs.declared.components.KeyFault.{KeyFault}
 use Rattle.user_key.specs.declared.components.KeyFault.TheVariants.{NoKeyComponents, PassphraseNeeded, PassphraseNotSet}
 use Rattle.user_key.specs.declared.components.UserKey.{UserKey}
-use Rattle.shelf.specs.World.{Reach}
+use Rattle.shelf.specs.World.{Attachment, Holding, Idle, IsAttached, Reach}
 
 -- ---- one step after another
 
@@ -54,7 +60,30 @@ abbrev pub or_refusal : {A F : Type 0} → (F → Refusal) → Result A F → Re
 or_refusal refusal_of (Ok value) = Ok value
 or_refusal refusal_of (Err fault) = Err (refusal_of fault)
 
--- ---- the metadata are read, and the cabinet and the entropy stay
+-- ---- what the drawer does with its disk
+
+-- the drawer is idle
+abbrev pub if_idle : Holding → Result (Unit {0}) Refusal
+if_idle Idle = Ok tt
+if_idle (IsAttached a) = Err refusals.StillAttached
+
+abbrev pub NeedsIdle : Reach → Result (Unit {0}) Refusal → Reach → Type 0
+NeedsIdle old answer new = Decides (if_idle old.holding) old answer new
+
+-- its provider is attached, with this
+abbrev pub if_attached : Holding → Result Attachment Refusal
+if_attached Idle = Err refusals.NotAttached
+if_attached (IsAttached a) = Ok a
+
+abbrev pub NeedsAttached : Reach → Result Attachment Refusal → Reach → Type 0
+NeedsAttached old answer new = Decides (if_attached old.holding) old answer new
+
+-- the cabinet and the entropy stay
+pub record KeepsOutside (old new : Reach) : Type 0 where
+  pub cabinet : new.cabinet ≡ old.cabinet
+  pub entropy : new.entropy ≡ old.entropy
+
+-- ---- the metadata are read, and all else stays
 
 -- what is read of a disk, or the refusal of the fault
 pub record Reads (old : DiskState) (answer : Result Metadata Refusal) (new : DiskState) : Type 0 where
@@ -64,6 +93,7 @@ pub record Reads (old : DiskState) (answer : Result Metadata Refusal) (new : Dis
 
 pub record ReadsLastSector (old : Reach) (answer : Result Metadata Refusal) (new : Reach) : Type 0 where
   pub reads : Reads old.disk answer new.disk
+  pub holding : new.holding ≡ old.holding
   pub cabinet : new.cabinet ≡ old.cabinet
   pub entropy : new.entropy ≡ old.entropy
 
@@ -88,7 +118,7 @@ admitted m sectors slot = or_refusal refusal_of (after_check m sectors slot (sup
 abbrev pub Admits : Metadata → Option ℕ → Reach → Result Settings Refusal → Reach → Type 0
 Admits m slot old answer new = Decides (admitted m old.disk.size slot) old answer new
 
--- ---- the components of a key are loaded, and the disk and the entropy stay
+-- ---- the components of a key are loaded, and all else stays
 
 pub record LoadsComponents (line : List ℕ) (words : KeyWords) (old : Reach) (answer : Result Components Refusal) (new : Reach) : Type 0 where
   pub told : IfSome old.cabinet.files (λ files. IsAnswer (components_of files line words) answer)
@@ -97,12 +127,14 @@ pub record LoadsComponents (line : List ℕ) (words : KeyWords) (old : Reach) (a
   pub loads : Loads old.cabinet new.cabinet (result_err answer)
   pub named : IfErr answer (λ refusal. 1 ≤ length words.files + length words.pass)
   pub disk : new.disk ≡ old.disk
+  pub holding : new.holding ≡ old.holding
   pub entropy : new.entropy ≡ old.entropy
 
 -- ---- a provider is made, and the cabinet stays
 
 pub record MakesProvider (options : InitOptions) (parts : Components) (old : Reach) (answer : Result Metadata Refusal) (new : Reach) : Type 0 where
   pub inits : Inits options parts old.disk old.entropy answer new.disk new.entropy
+  pub holding : new.holding ≡ old.holding
   pub cabinet : new.cabinet ≡ old.cabinet
 
 -- ---- the metadata are stored under the name at a place of the line, if there is one
@@ -128,6 +160,7 @@ StoreAnswers line span bytes old (Err refusal) new = ⊥
 pub record StoresAt (line : List ℕ) (span : Span) (m : Metadata) (old : Reach) (answer : Result (Unit {0}) Refusal) (new : Reach) : Type 0 where
   pub stores : StoreAnswers line span (encoded m) old.cabinet answer new.cabinet
   pub disk : new.disk ≡ old.disk
+  pub holding : new.holding ≡ old.holding
   pub entropy : new.entropy ≡ old.entropy
 
 abbrev pub BacksUp : List ℕ → Option Span → Metadata → Reach → Result (Unit {0}) Refusal → Reach → Type 0
@@ -141,16 +174,96 @@ key_refusal_of PassphraseNotSet = refusals.PassphraseNotSet
 key_refusal_of PassphraseNeeded = refusals.PassphraseNeeded
 key_refusal_of NoKeyComponents = refusals.NoKeyComponents
 
+-- with what a provider is attached by these settings, with the master key of a slot
+abbrev pub attachment_by : Settings → Bool → MasterKey × ℕ → Attachment
+attachment_by s readonly found = record {
+  slot = found.1;
+  keying = record { version = s.version; auth = s.auth; cipher = s.cipher; keylen = s.keylen; sectorsize = s.sectorsize; master = found.0.bytes };
+  readonly = readonly || s.readonly;
+}
+
 -- a slot that is asked for opened
-abbrev pub or_wrong_key : Option (MasterKey × ℕ) → Result (Unit {0}) Refusal
-or_wrong_key None = Err refusals.WrongKey
-or_wrong_key (Some found) = Ok tt
+abbrev pub or_wrong_key : Settings → Bool → Option (MasterKey × ℕ) → Result Attachment Refusal
+or_wrong_key s readonly None = Err refusals.WrongKey
+or_wrong_key s readonly (Some found) = Ok (attachment_by s readonly found)
 
 -- the provider has a sector, and the user key opens a slot that is asked for
-abbrev pub tried : Metadata → Settings → Option ℕ → Result UserKey KeyFault → Result (Unit {0}) Refusal
-tried m s slot (Err fault) = Err (key_refusal_of fault)
-tried m s slot (Ok key) =
-    if media_sectors s.auth s.sectorsize s.provsize == 0 then Err (refusals.TooSmall s.provsize) else or_wrong_key (opened m key.bytes slot)
+abbrev pub tried : Metadata → Settings → Option ℕ → Bool → Result UserKey KeyFault → Result Attachment Refusal
+tried m s slot readonly (Err fault) = Err (key_refusal_of fault)
+tried m s slot readonly (Ok key) =
+    if media_sectors s.auth s.sectorsize s.provsize == 0 then Err (refusals.TooSmall s.provsize) else or_wrong_key s readonly (opened m key.bytes slot)
 
-abbrev pub TriesKey : Metadata → Settings → Option ℕ → Components → Reach → Result (Unit {0}) Refusal → Reach → Type 0
-TriesKey m s slot parts old answer new = Decides (tried m s slot (user_key parts m.salt m.iterations)) old answer new
+abbrev pub TriesKey : Metadata → Settings → Option ℕ → Bool → Components → Reach → Result Attachment Refusal → Reach → Type 0
+TriesKey m s slot readonly parts old answer new = Decides (tried m s slot readonly (user_key parts m.salt m.iterations)) old answer new
+
+-- ---- the provider is attached, and detached
+
+-- the drawer is attached from now on; or there was no memory, and nothing changes
+abbrev pub Attaches : Attachment → Reach → Result (Unit {0}) Refusal → Reach → Type 0
+Attaches a old (Ok done) new = new ≡ record { disk = old.disk; holding = IsAttached a; cabinet = old.cabinet; entropy = old.entropy }
+Attaches a old (Err refusals.NoMemory) new = new ≡ old
+Attaches a old (Err refusal) new = ⊥
+
+-- these events are logged; or the disk failed in them
+abbrev pub DoesEvents : List Event → DiskState → Result (Unit {0}) Refusal → DiskState → Type 0
+DoesEvents events old (Ok done) new = Logs events old new
+DoesEvents events old (Err refusals.DeviceFault) new = FailsIn events old new
+DoesEvents events old (Err refusal) new = ⊥
+
+-- the disk is flushed, and the drawer is idle then, also where the flush failed
+pub record Detaches (old : Reach) (answer : Result (Unit {0}) Refusal) (new : Reach) : Type 0 where
+  pub flushes : DoesEvents (Flush ∷ []) old.disk answer new.disk
+  pub holding : new.holding ≡ Idle
+  pub outside : KeepsOutside old new
+
+-- ---- logical sectors are read and written
+
+-- the most bytes of a request
+abbrev pub request_limit : ℕ
+request_limit = 131072
+
+-- so many bytes are whole logical sectors of so many bytes each, at least one and not too many: their number
+abbrev pub whole_sectors : ℕ → ℕ → Result ℕ Refusal
+whole_sectors size bytes =
+    if nat_le 1 bytes && nat_le bytes request_limit && (bytes % size == 0) then Ok (bytes / size) else Err (refusals.BadLength bytes size)
+
+abbrev pub NeedsWhole : Attachment → ℕ → Reach → Result ℕ Refusal → Reach → Type 0
+NeedsWhole a bytes old answer new = Decides (whole_sectors a.keying.sectorsize bytes) old answer new
+
+-- the provider may be written
+abbrev pub if_writable : Bool → Result (Unit {0}) Refusal
+if_writable false = Ok tt
+if_writable true = Err refusals.ReadOnly
+
+abbrev pub NeedsWritable : Attachment → Reach → Result (Unit {0}) Refusal → Reach → Type 0
+NeedsWritable a old answer new = Decides (if_writable a.readonly) old answer new
+
+-- these sectors are there
+abbrev pub in_range : ℕ → ℕ → ℕ → Result (Unit {0}) Refusal
+in_range sector count there = if nat_le (sector + count) there then Ok tt else Err (refusals.OutOfRange sector count there)
+
+abbrev pub NeedsSectors : Attachment → ℕ → ℕ → Reach → Result (Unit {0}) Refusal → Reach → Type 0
+NeedsSectors a sector count old answer new = Decides (in_range sector count (media a.keying old.disk)) old answer new
+
+-- what the sectors read as, where the disk tells that; or the first unit whose tag differs; or the disk failed, all units before
+-- having been accepted
+abbrev pub SectorsAnswer : Keying → ℕ → ℕ → DiskState → Result (List ℕ) Refusal → DiskState → Type 0
+SectorsAnswer k sector count old (Ok bytes) new = (length bytes ≡ count * k.sectorsize) × Logs [] old new × ReadsAs old k sector count (Ok bytes)
+SectorsAnswer k sector count old (Err (refusals.Integrity offset)) new = RunFault k sector count offset old new
+SectorsAnswer k sector count old (Err refusals.DeviceFault) new = RunFails k sector count old new
+SectorsAnswer k sector count old (Err refusal) new = ⊥
+
+pub record ReadsSectors (a : Attachment) (sector count : ℕ) (old : Reach) (answer : Result (List ℕ) Refusal) (new : Reach) : Type 0 where
+  pub reads : SectorsAnswer a.keying sector count old.disk answer new.disk
+  pub holding : new.holding ≡ old.holding
+  pub outside : KeepsOutside old new
+
+-- these events are done on the disk, and all else stays
+pub record Does (events : List Event) (old : Reach) (answer : Result (Unit {0}) Refusal) (new : Reach) : Type 0 where
+  pub does : DoesEvents events old.disk answer new.disk
+  pub holding : new.holding ≡ old.holding
+  pub outside : KeepsOutside old new
+
+-- the writes of the sealed sectors, in ascending order
+abbrev pub WritesSectors : Attachment → ℕ → ℕ → List ℕ → Reach → Result (Unit {0}) Refusal → Reach → Type 0
+WritesSectors a sector count bytes old answer new = Does (data_writes a.keying sector count bytes) old answer new

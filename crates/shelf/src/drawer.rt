@@ -1,80 +1,152 @@
-// A named disk.
-ghost use Rattle.block_traits.specs.Cabinet.{cabinet_of};
-ghost use Rattle.block_traits.specs.Streams.{entropy_of};
-ghost use Rattle.command_words.specs.Built.{is_built};
-ghost use Rattle.command_words.specs.Places.{CommandIsWithin};
-ghost use Rattle.reply_text.specs.Text.{HasPayload};
-ghost use Rattle.shelf.specs.Turn.{Serves, done_or, dump_or};
-ghost use Rattle.shelf.specs.World.{reach_of};
-ghost use Rattle.std.specs.Prelude.{◌≡◌, [], length, IsTrue};
+// A named disk, and what is attached on it.
+ghost use Rattle.block_traits.specs.Cabinet.{CabinetState, cabinet_of};
+ghost use Rattle.block_traits.specs.Streams.{EntropyState, entropy_of};
+ghost use Rattle.command_words.specs.Bounds.{IsBounded};
+ghost use Rattle.command_words.specs.Places.{CommandIsWithin, provider_of};
+ghost use Rattle.shelf.specs.Answer.{FitsPayload, answer_of};
+ghost use Rattle.shelf.specs.Closing.{Closes};
+ghost use Rattle.shelf.specs.Requests.{bytes_read};
+ghost use Rattle.shelf.specs.Served.{is_served};
+ghost use Rattle.shelf.specs.Steps.{request_limit};
+ghost use Rattle.shelf.specs.Turn.{Serves, ShowsBy, done_or, dump_or, payload_or, row_of};
+ghost use Rattle.shelf.specs.World.{IsAttached, Idle, attachment_of, disk_in, drawer_of, holding_of, reach_of};
+ghost use Rattle.std.specs.Prelude.{◌≡◌, ◌≤◌, ℕ, List, IfOk, IsSome, IsTrue, length, option_copied};
 
+use crate::attaching::attach;
 use crate::making::{init, iterations_of};
 use crate::reading::read_last;
-use crate::trying::try_key;
-use block_traits::{ByteList, Cabinet, Disk, Entropy, LastSector};
+use crate::requests::{flush_answer, read, write};
+use block_traits::{ByteList, Cabinet, Disk, Entropy, Event, LastSector};
 use command_words::Command;
 use eli_base::Refusal;
 use eli_metadata::Metadata;
 use key_commands::InitOptions;
-use reply_text::Reply;
-use std::alloc::Global;
+use provider::{Provider, rest_tells_all};
+use reply_text::{Reply, Row};
+use std::alloc::{AllocError, Global};
+
+/// A disk, idle or with its provider attached.
+#[derive(Drop)]
+pub enum Held<D: Drop> {
+    /// The disk.
+    Idle(D),
+    /// The provider, which has the disk.
+    Attached(Provider<D>),
+}
 
 /// A disk under its name.
 #[derive(Drop)]
 pub struct Drawer<D: Drop> {
     /// The name's bytes.
     pub name: ByteList,
-    /// The disk.
-    pub disk: D,
+    /// The disk, and what is attached on it.
+    pub held: Held<D>,
 }
 
 impl<D: Disk> Drawer<D> {
     /// Serves a command that names this drawer; the places in the command are those of the line. Gives the drawer
-    /// back as it then is, with the reply.
+    /// back as it then is, with the reply, whose payload stands in the buffer.
     pub fn serve<C: Cabinet, E: Entropy>(
         self,
         alloc: Global,
         line: &[u8],
         command: &Command,
+        buffer: &mut [u8],
         files: &mut C,
         entropy: &mut E,
     ) -> (Drawer<D>, Reply)
         requires within { CommandIsWithin (length line.now) command.now }
-        requires built { IsTrue (is_built command.now) }
+        requires bounds { IsBounded line.now command.now }
+        requires served { IsTrue (is_served command.now) }
+        requires named { IsSome (provider_of command.now) }
+        requires room { length buffer.old ≡ request_limit }
         ensures name { result.0.name ≡ self.name }
         ensures serves { Serves line.now command.now
-            (reach_of (D.state self.disk) (cabinet_of C.files C.faults C.misses files.old) (entropy_of E.left E.faults entropy.old)) result.1
-            (reach_of (D.state result.0.disk) (cabinet_of C.files C.faults C.misses files.new) (entropy_of E.left E.faults entropy.new)) }
-        ensures payload { HasPayload result.1 [] }
+            (reach_of (disk_in D.state self.held) (holding_of self.held) (cabinet_of C.files C.faults C.misses files.old) (entropy_of E.left E.faults entropy.old)) (answer_of buffer.new result.1)
+            (reach_of (disk_in D.state result.0.held) (holding_of result.0.held) (cabinet_of C.files C.faults C.misses files.new) (entropy_of E.left E.faults entropy.new)) }
+        ensures payload { FitsPayload request_limit result.1 }
     {
-        let mut place = LastSector::new(self.disk);
-        let reply = serve(alloc, &mut place, line, command, files, entropy);
-        let drawer = Drawer {
-            name: self.name,
-            disk: place.into_disk(),
+        let Drawer { name, held } = self;
+        let (held, reply) = match held {
+            Held::Idle(disk) => serve_idle(alloc, disk, line, command, files, entropy),
+            Held::Attached(provider) => serve_attached(provider, line, command, buffer),
         };
-        (drawer, reply)
+        (Drawer { name, held }, reply)
+    }
+
+    /// Flushes the disk where its provider is attached, and says whether that failed. The drawer is idle then.
+    pub fn close(self) -> (Drawer<D>, bool)
+        ensures { Closes (drawer_of D.state self) result.1 (drawer_of D.state result.0) }
+    {
+        let Drawer { name, held } = self;
+        match held {
+            Held::Idle(disk) => {
+                let held = Held::Idle(disk);
+                (Drawer { name, held }, false)
+            }
+            Held::Attached(provider) => {
+                let (disk, closed) = provider.detach();
+                let held = Held::Idle(disk);
+                (Drawer { name, held }, closed.is_err())
+            }
+        }
+    }
+
+    /// The row of the drawer in a list.
+    pub fn row(&self, alloc: Global) -> Result<Row, AllocError>
+        ensures { IfOk result (λ row. row ≡ row_of (drawer_of D.state self.now)) }
+    {
+        let name = ByteList::from_vec(self.name.as_slice().to_vec(alloc)?);
+        match &self.held {
+            Held::Idle(_) => Ok(Row {
+                name,
+                attached: false,
+                sectorsize: 0,
+                sectors: 0,
+            }),
+            Held::Attached(provider) => Ok(Row {
+                name,
+                attached: true,
+                sectorsize: provider.sector_size(),
+                sectors: provider.sectors(),
+            }),
+        }
+    }
+
+    /// What the disk answers to `events` where the drawer is idle.
+    pub fn events(&self) -> Option<&[Event]>
+        ensures { ShowsBy (holding_of self.now.held) (disk_in D.state self.now.held) (option_copied result) }
+    {
+        match &self.held {
+            Held::Idle(disk) => disk.events(),
+            Held::Attached(_) => None,
+        }
     }
 }
 
-// Goes through the row of the command's verb.
-fn serve<D: Disk, C: Cabinet, E: Entropy>(
+// Goes through the row of the command's verb, on an idle drawer.
+fn serve_idle<D: Disk, C: Cabinet, E: Entropy>(
     alloc: Global,
-    place: &mut LastSector<D>,
+    disk: D,
     line: &[u8],
     command: &Command,
     files: &mut C,
     entropy: &mut E,
-) -> Reply
+) -> (Held<D>, Reply)
     requires within { CommandIsWithin (length line.now) command.now }
-    requires built { IsTrue (is_built command.now) }
-    ensures serves { Serves line.now command.now
-        (reach_of (D.state place.old.disk) (cabinet_of C.files C.faults C.misses files.old) (entropy_of E.left E.faults entropy.old)) result
-        (reach_of (D.state place.new.disk) (cabinet_of C.files C.faults C.misses files.new) (entropy_of E.left E.faults entropy.new)) }
-    ensures payload { HasPayload result [] }
+    requires served { IsTrue (is_served command.now) }
+    requires named { IsSome (provider_of command.now) }
+    ensures serves { (bytes : List ℕ) → Serves line.now command.now
+        (reach_of (D.state disk) Idle (cabinet_of C.files C.faults C.misses files.old) (entropy_of E.left E.faults entropy.old)) (answer_of bytes result.1)
+        (reach_of (disk_in D.state result.0) (holding_of result.0) (cabinet_of C.files C.faults C.misses files.new) (entropy_of E.left E.faults entropy.new)) }
+    ensures payload { FitsPayload 0 result.1 }
 {
     match command {
-        Command::Dump { .. } => dump_or(read_last(place)),
+        Command::Dump { .. } => {
+            let mut place = LastSector::new(disk);
+            let reply = dump_or(read_last(&mut place));
+            (Held::Idle(place.into_disk()), reply)
+        }
         Command::Init {
             cipher,
             auth,
@@ -94,19 +166,94 @@ fn serve<D: Disk, C: Cabinet, E: Entropy>(
                 iterations: iterations_of(fresh, *iterations),
                 autoresize: *autoresize,
             };
-            let disk = &mut place.disk;
-            done_or(init(alloc, disk, line, &options, fresh, *backup, files, entropy))
+            let mut disk = disk;
+            let answer = init(
+                alloc, &mut disk, line, &options, fresh, *backup, files, entropy,
+            );
+            (Held::Idle(disk), done_or(answer))
         }
-        Command::Attach { slot, old, .. } => {
-            done_or(try_key(alloc, place, line, *slot, old, files))
+        Command::Attach {
+            only_check,
+            readonly,
+            slot,
+            old,
+            ..
+        } => {
+            let (held, answer) = attach(
+                alloc,
+                disk,
+                line,
+                *only_check,
+                *readonly,
+                *slot,
+                old,
+                files,
+            );
+            (held, done_or(answer))
+        }
+        Command::Detach { .. } => (Held::Idle(disk), Reply::Refused(Refusal::NotAttached)),
+        Command::Read { .. } => (Held::Idle(disk), Reply::Refused(Refusal::NotAttached)),
+        Command::Write { .. } => (Held::Idle(disk), Reply::Refused(Refusal::NotAttached)),
+        Command::Flush { .. } => (Held::Idle(disk), Reply::Refused(Refusal::NotAttached)),
+        _ => unreachable!(),
+    }
+}
+
+// The same, on an attached drawer. The row reaches neither the cabinet nor the entropy.
+fn serve_attached<D: Disk>(
+    provider: Provider<D>,
+    line: &[u8],
+    command: &Command,
+    buffer: &mut [u8],
+) -> (Held<D>, Reply)
+    requires within { CommandIsWithin (length line.now) command.now }
+    requires bounds { IsBounded line.now command.now }
+    requires served { IsTrue (is_served command.now) }
+    requires named { IsSome (provider_of command.now) }
+    requires room { length buffer.old ≡ request_limit }
+    ensures serves { (cabinet : CabinetState) (entropy : EntropyState) → Serves line.now command.now
+        (reach_of (D.state provider.disk) (IsAttached (attachment_of provider)) cabinet entropy) (answer_of buffer.new result.1)
+        (reach_of (disk_in D.state result.0) (holding_of result.0) cabinet entropy) }
+    ensures payload { FitsPayload request_limit result.1 }
+{
+    let mut provider = provider;
+    match command {
+        Command::Dump { .. } => {
+            rest_tells_all();
+            let reply = dump_or(read_last(&mut provider));
+            (Held::Attached(provider), reply)
+        }
+        Command::Init { .. } => (
+            Held::Attached(provider),
+            Reply::Refused(Refusal::StillAttached),
+        ),
+        Command::Attach { .. } => (
+            Held::Attached(provider),
+            Reply::Refused(Refusal::StillAttached),
+        ),
+        Command::Detach { .. } => {
+            let (disk, flushed) = provider.detach();
+            (Held::Idle(disk), done_or(flush_answer(flushed)))
+        }
+        Command::Read { sector, count, .. } => {
+            let answer = read(&mut provider, *sector, *count, buffer);
+            (Held::Attached(provider), payload_or(answer))
+        }
+        Command::Write { sector, hex, .. } => {
+            let answer = write(&mut provider, *sector, hex.bytes_in(line), buffer);
+            (Held::Attached(provider), done_or(answer))
+        }
+        Command::Flush { .. } => {
+            let answer = flush_answer(provider.flush());
+            (Held::Attached(provider), done_or(answer))
         }
         _ => unreachable!(),
     }
 }
 
 fn done_or(answer: Result<(), Refusal>) -> Reply
-    ensures reply { result ≡ done_or answer }
-    ensures payload { HasPayload result [] }
+    ensures reply { (bytes : List ℕ) → answer_of bytes result ≡ done_or answer }
+    ensures payload { FitsPayload 0 result }
 {
     match answer {
         Ok(()) => Reply::Done,
@@ -115,11 +262,22 @@ fn done_or(answer: Result<(), Refusal>) -> Reply
 }
 
 fn dump_or(answer: Result<Metadata, Refusal>) -> Reply
-    ensures reply { result ≡ dump_or answer }
-    ensures payload { HasPayload result [] }
+    ensures reply { (bytes : List ℕ) → answer_of bytes result ≡ dump_or answer }
+    ensures payload { FitsPayload 0 result }
 {
     match answer {
         Ok(meta) => Reply::Dump(meta),
+        Err(refusal) => Reply::Refused(refusal),
+    }
+}
+
+fn payload_or(answer: Result<u32, Refusal>) -> Reply
+    requires { IfOk answer (λ bytes. bytes ≤ request_limit) }
+    ensures reply { (bytes : List ℕ) → answer_of bytes result ≡ payload_or (bytes_read bytes answer) }
+    ensures payload { FitsPayload request_limit result }
+{
+    match answer {
+        Ok(length) => Reply::Payload { length },
         Err(refusal) => Reply::Refused(refusal),
     }
 }

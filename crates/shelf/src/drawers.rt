@@ -1,30 +1,35 @@
 // The drawers in order of adding.
-ghost use Rattle.std.specs.Prelude.{◌≡◌, ◌<◌, ◌≤◌, ◌∷◌, ◌++◌, [], IfOk, IfSome, IsTrue, MatchResult, length, option_copied, vec_capacity, vec_len};
+ghost use Rattle.std.specs.Prelude.{◌≡◌, ◌<◌, ◌≤◌, ℕ, List, map, ◌∷◌, ◌++◌, [], IfOk, IfSome, IsTrue, MatchResult, length, option_copied, vec_capacity, vec_len};
 ghost use Rattle.std.specs.List.{insert};
 ghost use Rattle.block_traits.specs.Cabinet.{cabinet_of};
 ghost use Rattle.block_traits.specs.Streams.{entropy_of};
-ghost use Rattle.command_words.specs.Built.{is_built};
+ghost use Rattle.command_words.specs.Bounds.{IsBounded};
 ghost use Rattle.command_words.specs.Places.{CommandIsWithin};
-ghost use Rattle.reply_text.specs.Text.{HasPayload};
 ghost use Rattle.shelf.specs.Adding.{Adds, RefusesToAdd};
-ghost use Rattle.shelf.specs.Turn.{Shows, Turn};
+ghost use Rattle.shelf.specs.Answer.{FitsPayload, answer_of};
+ghost use Rattle.shelf.specs.Closing.{Closing, failures};
+ghost use Rattle.shelf.specs.Served.{is_served};
+ghost use Rattle.shelf.specs.Turn.{ListsAs, Shows, Turn, row_of};
 ghost use Rattle.shelf.specs.World.{drawers_of, place_of, world_of};
 
-use crate::Drawer;
+use crate::requests::REQUEST_LIMIT;
+use crate::{Drawer, Held};
 use block_traits::{ByteList, Cabinet, Disk, Entropy, Event, NoMemory};
 use command_words::Command;
 use eli_base::Refusal;
-use reply_text::Reply;
-use std::alloc::Global;
+use reply_text::{Reply, Row, RowList};
+use std::alloc::{AllocError, Global};
 use std::marker::Model;
 
 /// How many drawers a shelf may have.
-const ROOM: usize = 1;
+const ROOM: usize = 16;
 
 /// Named disks, each of which a command can name.
 #[derive(Drop)]
 pub struct Drawers<D: Drop> {
     drawers: Vec<Drawer<D>>,
+    // A request's bytes stand here.
+    buffer: Vec<u8>,
 }
 
 /// The disks that a program is given.
@@ -42,32 +47,32 @@ pub enum AddFault {
 }
 
 impl<D: Drop> Model for Drawers<D> {
-    ghost use Rattle.std.specs.Prelude.{◌≤◌, List, vec_capacity};
-    ghost use Rattle.shelf.specs.declared.drawer.Drawer.{Drawer};
+    ghost use Rattle.std.specs.Prelude.{◌≡◌, ◌≤◌, vec_capacity, vec_len};
+    ghost use Rattle.shelf.specs.Shelved.{Shelved};
 
-    ghost Value = { List (Drawer D) };
+    ghost Value = { Shelved D };
 
-    ghost view = { λ shelf. shelf.drawers.items };
+    ghost view = { λ shelf. record { drawers = shelf.drawers.items; buffer = shelf.buffer.items } };
 
-    ghost invariant = { λ shelf. 1 ≤ vec_capacity shelf.drawers };
+    ghost invariant = { λ shelf. (vec_len shelf.drawers ≤ 16) × (16 ≤ vec_capacity shelf.drawers) × (vec_len shelf.buffer ≡ 131072) };
 }
 
 impl<D: Disk> Drawers<D> {
-    /// A shelf without drawers, with room for all that it may have.
+    /// A shelf without drawers, with room for all that it may have, and with the buffer of requests.
     pub fn new(alloc: Global) -> Result<Drawers<D>, NoMemory>
-        ensures { IfOk result (λ shelf. shelf ≡ []) }
+        ensures { IfOk result (λ shelf. shelf.drawers ≡ []) }
     {
-        Ok(Drawers {
-            drawers: Vec::with_capacity(alloc, ROOM)?,
-        })
+        let buffer = vec![in alloc; 0; REQUEST_LIMIT]?;
+        let drawers = Vec::with_capacity(alloc, ROOM)?;
+        Ok(Drawers { drawers, buffer })
     }
 
-    /// Adds a disk behind the others. A refusal gives the disk back and leaves the shelf as it was:
+    /// Adds a disk behind the others, idle. A refusal gives the disk back and leaves the shelf as it was:
     /// `Full` exactly where there is no room, else `Taken` exactly where a drawer has the name.
     pub fn add(&mut self, name: &str, disk: D) -> Result<(), (D, AddFault)>
         ensures { MatchResult result
-            (λ _. Adds name.now (D.state disk) (drawers_of D.state self.old) (drawers_of D.state self.new))
-            (λ refused. (refused.0 ≡ disk) × RefusesToAdd name.now refused.1 (drawers_of D.state self.old) × (self.new ≡ self.old)) }
+            (λ _. Adds name.now (D.state disk) (drawers_of D.state self.old.drawers) (drawers_of D.state self.new.drawers))
+            (λ refused. (refused.0 ≡ disk) × RefusesToAdd name.now refused.1 (drawers_of D.state self.old.drawers) × (self.new ≡ self.old)) }
     {
         if self.drawers.len() >= ROOM {
             return Err((disk, AddFault::Full));
@@ -79,15 +84,16 @@ impl<D: Disk> Drawers<D> {
             Err(_) => Err((disk, AddFault::NoMemory)),
             Ok(bytes) => {
                 let name = ByteList::from_vec(bytes);
-                self.drawers.push_reserved(Drawer { name, disk });
+                let held = Held::Idle(disk);
+                self.drawers.push_reserved(Drawer { name, held });
                 Ok(())
             }
         }
     }
 
     /// Serves a command, whose places are those of the line: `UnknownProvider` exactly where no drawer has the name of
-    /// its provider, and else what the drawer answers. The other drawers stay as they are.
-    #[tactic(auto, using(crate::proofs::Serving::built_names_a_provider))]
+    /// its provider, and else what the drawer answers. The other drawers stay as they are. `list` answers a row for each
+    /// drawer, or that there was no memory.
     pub fn serve<C: Cabinet, E: Entropy>(
         &mut self,
         line: &[u8],
@@ -96,14 +102,15 @@ impl<D: Disk> Drawers<D> {
         entropy: &mut E,
     ) -> Reply
         requires within { CommandIsWithin (length line.now) command.now }
-        requires built { IsTrue (is_built command.now) }
+        requires bounds { IsBounded line.now command.now }
+        requires served { IsTrue (is_served command.now) }
         ensures turn { Turn line.now command.now
-            (world_of D.state self.old (cabinet_of C.files C.faults C.misses files.old) (entropy_of E.left E.faults entropy.old)) result
+            (world_of D.state self.old (cabinet_of C.files C.faults C.misses files.old) (entropy_of E.left E.faults entropy.old)) (answer_of self.new.buffer result)
             (world_of D.state self.new (cabinet_of C.files C.faults C.misses files.new) (entropy_of E.left E.faults entropy.new)) }
-        ensures payload { HasPayload result [] }
+        ensures payload { FitsPayload (length self.new.buffer) result }
     {
         let Some(prov) = command.provider() else {
-            unreachable!();
+            return self.list();
         };
         let name = prov.bytes_in(line);
         let Some(place) = find(&self.drawers, name) else {
@@ -111,19 +118,81 @@ impl<D: Disk> Drawers<D> {
         };
         let alloc = *self.drawers.allocator();
         let drawer = self.drawers.remove(place);
-        let (drawer, reply) = drawer.serve(alloc, line, command, files, entropy);
+        let buffer = self.buffer.as_mut_slice();
+        let (drawer, reply) = drawer.serve(alloc, line, command, buffer, files, entropy);
         put_back(&mut self.drawers, place, drawer);
         reply
     }
 
-    /// What the named disk answers to `events`. None comes exactly where no drawer has the name or
+    // A row for each drawer.
+    fn list(&self) -> Reply
+        ensures rows { (bytes : List ℕ) → ListsAs (drawers_of D.state self.now.drawers) (answer_of bytes result) }
+        ensures payload { FitsPayload 0 result }
+    {
+        match rows_of(*self.drawers.allocator(), &self.drawers) {
+            Ok(rows) => Reply::Rows(RowList::from_vec(rows)),
+            Err(_) => Reply::Refused(Refusal::NoMemory),
+        }
+    }
+
+    /// The buffer of requests, at whose front the payload of the last reply stands.
+    pub fn payload(&self) -> &[u8]
+        ensures { result.now ≡ self.now.buffer }
+    {
+        self.buffer.as_slice()
+    }
+
+    /// Flushes the disk of each attached drawer, in order, and answers how many flushes failed. All drawers are idle then.
+    pub fn close(&mut self) -> u32
+        ensures { Closing (drawers_of D.state self.old.drawers) result (drawers_of D.state self.new.drawers) }
+    {
+        close_all(&mut self.drawers)
+    }
+
+    /// What the disk of the named drawer answers to `events`. None comes exactly where no idle drawer has the name or
     /// the disk doesn't show its events.
     pub fn events(&self, name: &str) -> Option<&[Event]>
-        ensures { Shows name.now (drawers_of D.state self.now) (option_copied result) }
+        ensures { Shows name.now (drawers_of D.state self.now.drawers) (option_copied result) }
     {
         let place = find(&self.drawers, name.as_bytes())?;
-        self.drawers[place].disk.events()
+        self.drawers[place].events()
     }
+}
+
+// One where a flush failed.
+fn failures(refused: bool) -> u32
+    ensures { result ≡ failures refused }
+{
+    if refused { 1 } else { 0 }
+}
+
+// Closes the drawers in order, and answers how many flushes failed.
+fn close_all<D: Disk>(drawers: &mut Vec<Drawer<D>>) -> u32
+    requires small { vec_len drawers.old ≤ 16 }
+    requires room { 16 ≤ vec_capacity drawers.old }
+    ensures closing { Closing (drawers_of D.state drawers.old.items) result (drawers_of D.state drawers.new.items) }
+    ensures length { vec_len drawers.new ≡ vec_len drawers.old }
+    ensures room { 16 ≤ vec_capacity drawers.new }
+{
+    let mut failed = 0;
+    for place in 0..drawers.len() {
+        let drawer = drawers.remove(place);
+        let (drawer, refused) = drawer.close();
+        put_back(drawers, place, drawer);
+        failed += failures(refused);
+    }
+    failed
+}
+
+// A row for each drawer, in order.
+fn rows_of<D: Disk>(alloc: Global, drawers: &[Drawer<D>]) -> Result<Vec<Row>, AllocError>
+    ensures { IfOk result (λ rows. rows.items ≡ map row_of (drawers_of D.state drawers.now)) }
+{
+    let mut rows = Vec::new(alloc);
+    for drawer in drawers {
+        rows.push(drawer.row(alloc)?)?;
+    }
+    Ok(rows)
 }
 
 // The place of the first drawer with the name.

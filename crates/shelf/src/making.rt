@@ -7,7 +7,7 @@ ghost use Rattle.block_traits.specs.Streams.{EntropyState, entropy_of};
 ghost use Rattle.command_words.specs.Places.{IsWithin, KeyIsWithin};
 ghost use Rattle.shelf.specs.Steps.{BacksUp};
 ghost use Rattle.shelf.specs.Turn.{InitRow, iterations_of};
-ghost use Rattle.shelf.specs.World.{reach_of};
+ghost use Rattle.shelf.specs.World.{Holding, Idle, reach_of};
 
 use block_traits::{Cabinet, Disk, Entropy, StoreFault};
 use command_words::{KeyWords, Span};
@@ -40,10 +40,10 @@ fn back_up<C: Cabinet>(
     files: &mut C,
 ) -> Result<(), Refusal>
     requires { IfSome backup (IsWithin (length line.now)) }
-    ensures { (disk : DiskState) (entropy : EntropyState) →
+    ensures { (disk : DiskState) (holding : Holding) (entropy : EntropyState) →
         BacksUp line.now backup meta.now
-        (reach_of disk (cabinet_of C.files C.faults C.misses files.old) entropy) result
-        (reach_of disk (cabinet_of C.files C.faults C.misses files.new) entropy) }
+        (reach_of disk holding (cabinet_of C.files C.faults C.misses files.old) entropy) result
+        (reach_of disk holding (cabinet_of C.files C.faults C.misses files.new) entropy) }
 {
     let Some(span) = backup else {
         return Ok(());
@@ -58,7 +58,7 @@ fn back_up<C: Cabinet>(
     }
 }
 
-/// Makes a provider of a disk: loads the files of its key, writes its metadata, and then stores them as a backup where
+/// Makes a provider of the disk of an idle drawer: loads the files of its key, writes its metadata, and then stores them as a backup where
 /// one is wanted. A backup that can't be stored leaves the provider that was made.
 pub fn init<D: Disk, C: Cabinet, E: Entropy>(
     alloc: Global,
@@ -73,8 +73,8 @@ pub fn init<D: Disk, C: Cabinet, E: Entropy>(
     requires key { KeyIsWithin (length line.now) fresh.now }
     requires backup { IfSome backup (IsWithin (length line.now)) }
     ensures { InitRow line.now options.now fresh.now backup
-        (reach_of (D.state disk.old) (cabinet_of C.files C.faults C.misses files.old) (entropy_of E.left E.faults entropy.old)) result
-        (reach_of (D.state disk.new) (cabinet_of C.files C.faults C.misses files.new) (entropy_of E.left E.faults entropy.new)) }
+        (reach_of (D.state disk.old) Idle (cabinet_of C.files C.faults C.misses files.old) (entropy_of E.left E.faults entropy.old)) result
+        (reach_of (D.state disk.new) Idle (cabinet_of C.files C.faults C.misses files.new) (entropy_of E.left E.faults entropy.new)) }
 {
     let parts = load_components(alloc, line, fresh, files)?;
     let meta = key_commands::init(disk, options, &parts, entropy)?;

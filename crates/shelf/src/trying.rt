@@ -1,24 +1,40 @@
-//! `geli attach -C`: a key is tried, and nothing is attached (geli(8), attach).
+//! A key is tried on a provider (geli(8), attach).
 
-ghost use Rattle.std.specs.Prelude.{◌≡◌, ◌<◌, ◌^◌, IfOk, OnOk, MatchResult, Ok, Err, length};
+ghost use Rattle.std.specs.Prelude.{◌≡◌, ℕ, ◌<◌, ◌^◌, IfOk, OnOk, MatchResult, Bool, Ok, Err, length};
 ghost use Rattle.block_traits.specs.Cabinet.{cabinet_of};
 ghost use Rattle.block_traits.specs.Streams.{EntropyState};
 ghost use Rattle.command_words.specs.Places.{KeyIsWithin};
-ghost use Rattle.eli_metadata.specs.Check.{settings_of, slot_matches, supported};
+ghost use Rattle.eli_metadata.specs.Check.{settings_of, size_matches, slot_matches, supported};
 ghost use Rattle.shelf.specs.Steps.{admitted, key_refusal_of, tried};
+ghost use Rattle.shelf.specs.Trial.{IsOpening, as_attachment};
 ghost use Rattle.shelf.specs.Turn.{TryRow};
-ghost use Rattle.shelf.specs.World.{reach_of};
+ghost use Rattle.shelf.specs.World.{Holding, reach_of};
 ghost use Rattle.user_key.specs.UserKey.{user_key};
 
 use crate::reading::read_last;
 use block_traits::{Cabinet, MetaPlace};
 use command_words::KeyWords;
-use eli_base::{GeoFault, Geometry, Params, Refusal};
+use eli_base::{GeoFault, Geometry, MasterKey, Params, Refusal};
 use eli_metadata::{Metadata, check, size_gate, slot_gate};
 use key_components::load_components;
 use provider::opened;
 use std::alloc::Global;
-use user_key::{Components, KeyFault, derive};
+use user_key::{Components, KeyFault, UserKey, derive};
+
+/// What was found of a provider that a key opens.
+#[derive(Drop)]
+pub struct Opening {
+    /// Its metadata.
+    pub meta: Metadata,
+    /// Its parameters.
+    pub params: Params,
+    /// The user key.
+    pub key: UserKey,
+    /// The master key.
+    pub master: MasterKey,
+    /// The number of the slot that gave it.
+    pub slot: u8,
+}
 
 // The parameters of metadata that an image of so many device sectors can have, and whose named slot is set.
 fn admit(meta: &Metadata, sectors: u64, slot: Option<u8>) -> Result<Params, Refusal>
@@ -27,6 +43,7 @@ fn admit(meta: &Metadata, sectors: u64, slot: Option<u8>) -> Result<Params, Refu
         (λ params. admitted meta.now sectors slot ≡ Ok (settings_of params))
         (λ refusal. admitted meta.now sectors slot ≡ Err refusal) }
     ensures checked { IfOk result (λ params. supported meta.now ≡ Ok (settings_of params)) }
+    ensures size { OnOk result (size_matches meta.now sectors ≡ Ok tt) }
     ensures slot { OnOk result (slot_matches meta.now slot ≡ Ok tt) }
 {
     let params = check(meta)?;
@@ -45,32 +62,39 @@ fn key_refusal(fault: KeyFault) -> Refusal
     }
 }
 
-// Whether the key of these components opens a slot that is asked for.
+// What the key of these components opens, of the slots that are asked for.
 fn try_components(
-    meta: &Metadata,
-    params: &Params,
+    meta: Metadata,
+    params: Params,
     slot: Option<u8>,
     parts: &Components,
-) -> Result<(), Refusal>
-    requires checked { supported meta.now ≡ Ok (settings_of params.now) }
-    requires slot { slot_matches meta.now slot ≡ Ok tt }
-    ensures { result ≡ tried meta.now (settings_of params.now) slot (user_key parts.now meta.now.salt meta.now.iterations) }
+) -> Result<Opening, Refusal>
+    requires checked { supported meta ≡ Ok (settings_of params) }
+    requires slot { slot_matches meta slot ≡ Ok tt }
+    ensures answer { (readonly : Bool) → as_attachment readonly result ≡ tried meta (settings_of params) slot readonly (user_key parts.now meta.salt meta.iterations) }
+    ensures opening { IfOk result (λ o. (sectors : ℕ) → size_matches meta sectors ≡ Ok tt → IsOpening sectors slot o) }
 {
     let key = match derive(parts, &meta.salt, meta.iterations) {
         Ok(key) => key,
         Err(fault) => return Err(key_refusal(fault)),
     };
-    if let Err(GeoFault::TooSmall { size }) = Geometry::of(params) {
+    if let Err(GeoFault::TooSmall { size }) = Geometry::of(&params) {
         return Err(Refusal::TooSmall { size });
     }
-    match opened(meta, &key, slot) {
-        Some(_) => Ok(()),
+    match opened(&meta, &key, slot) {
+        Some((master, slot)) => Ok(Opening {
+            meta,
+            params,
+            key,
+            master,
+            slot,
+        }),
         None => Err(Refusal::WrongKey),
     }
 }
 
-/// Tries whether a key opens the provider, by the slot that is named or else by any. The files of the key are loaded
-/// once the metadata are admitted.
+/// Tries a key on the provider of an idle drawer, by the slot that is named or else by any. The files of the key are
+/// loaded once the metadata are admitted.
 pub fn try_key<P: MetaPlace, C: Cabinet>(
     alloc: Global,
     place: &mut P,
@@ -78,16 +102,16 @@ pub fn try_key<P: MetaPlace, C: Cabinet>(
     slot: Option<u8>,
     words: &KeyWords,
     files: &mut C,
-) -> Result<(), Refusal>
+) -> Result<Opening, Refusal>
     requires { KeyIsWithin (length line.now) words.now }
-    ensures row { (entropy : EntropyState) →
-        TryRow line.now slot words.now
-        (reach_of (P.state place.old) (cabinet_of C.files C.faults C.misses files.old) entropy) result
-        (reach_of (P.state place.new) (cabinet_of C.files C.faults C.misses files.new) entropy) }
-    ensures rest { P.rest place.new ≡ P.rest place.old }
+    ensures row { (readonly : Bool) (holding : Holding) (entropy : EntropyState) →
+        TryRow line.now slot readonly words.now
+        (reach_of (P.state place.old) holding (cabinet_of C.files C.faults C.misses files.old) entropy) (as_attachment readonly result)
+        (reach_of (P.state place.new) holding (cabinet_of C.files C.faults C.misses files.new) entropy) }
+    ensures opening { IfOk result (IsOpening (P.state place.new).size slot) }
 {
     let meta = read_last(place)?;
     let params = admit(&meta, place.sectors(), slot)?;
     let parts = load_components(alloc, line, words, files)?;
-    try_components(&meta, &params, slot, &parts)
+    try_components(meta, params, slot, &parts)
 }

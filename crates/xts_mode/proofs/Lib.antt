@@ -1,3 +1,4 @@
 pub mod Tweaks
 pub mod Halves
 pub mod GroupLaws
+pub mod Lengths

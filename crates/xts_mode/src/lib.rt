@@ -8,11 +8,13 @@ ghost use Rattle.xts_mode.specs.Examples.{example_key1, example_key2, example_un
 
 mod doubling;
 mod groups;
+mod laws;
 
 use aes_core::Schedule;
 use aes_planes::SlicedSchedule;
 use doubling::{first_tweak, halves};
 use groups::{open_group, open_rest, seal_group, seal_rest};
+pub use laws::{xts_goes_block_by_block, xts_keeps_lengths};
 
 /// Enciphers the whole blocks of one data unit in place (IEEE 1619, 5.3): `k1` is the key of the
 /// data, `k2` that of the tweak, and `tweak` the number of the data unit. `xts_open` takes it back.

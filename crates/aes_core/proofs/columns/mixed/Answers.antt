@@ -1,6 +1,6 @@
-use Rattle.std.proofs.Common.{[], ◌∷◌}
-use Rattle.aes_core.proofs.ColumnLaws.{columns_are}
+use Rattle.std.proofs.Common.{◌/◌, ◌%◌, ◌^◌, arith}
+use Rattle.aes_core.proofs.ColumnLaws.{column_is}
 use Rattle.aes_core.proofs.columns.mixed.Goals as goal
 
 pub returns : goal.returns
-returns c = columns_are c.args.s.now _ c.told-s (λ i. c.column.ensures i ∷ c.column-2.ensures i ∷ c.column-3.ensures i ∷ c.column-4.ensures i ∷ [])
+returns c = column_is (c.args.a % 256) (c.args.b / 2 ^ 8 % 256) (c.args.c / 2 ^ 16 % 256) (c.args.d / 2 ^ 24) (omega arith) (omega arith) (omega arith) (omega arith)

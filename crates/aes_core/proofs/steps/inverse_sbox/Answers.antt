@@ -1,6 +1,8 @@
-use Rattle.std.proofs.Common.{arith}
-use Rattle.aes_core.proofs.Boxes.{inverse_sbox_entry}
+use Rattle.std.proofs.Common.{ap, ◌∙◌}
+use Rattle.aes_core.specs.Field.{inverse}
+use Rattle.aes_core.specs.Aes.{inverse_sbox}
 use Rattle.aes_core.proofs.steps.inverse_sbox.Goals as goal
 
 pub returns : goal.returns
-returns c = inverse_sbox_entry c.args.b (omega arith)
+unfolding inverse_sbox
+returns c = c.inverse.ensures ∙ ap inverse c.inverse_affine.ensures

@@ -1,6 +1,7 @@
-use Rattle.std.proofs.Common.{arith}
-use Rattle.aes_core.proofs.Boxes.{sbox_entry}
+use Rattle.std.proofs.Common.{ap, ◌∙◌}
+use Rattle.aes_core.specs.Aes.{affine, sbox}
 use Rattle.aes_core.proofs.steps.sbox.Goals as goal
 
 pub returns : goal.returns
-returns c = sbox_entry c.args.b (omega arith)
+unfolding sbox
+returns c = c.affine.ensures ∙ ap affine c.inverse.ensures

@@ -1,20 +1,19 @@
-use Rattle.block_traits.specs.Cabinet.{cabinet_of}
-use Rattle.block_traits.specs.Streams.{entropy_of}
-use Rattle.shelf.specs.World.{World, drawers_of}
-use Rattle.geli_core.proofs.Histories.{contents_after_reading}
+use Rattle.std.proofs.Common.{None, map}
+use Rattle.std.specs.Prelude.{string_bytes}
+use Rattle.geli_core.specs.Source.{source_of}
+use Rattle.geli_core.proofs.Causes.{runs_caused, runs_end, runs_grew, write_fault_rose}
+use Rattle.geli_core.proofs.Completing.{runs_complete}
+use Rattle.geli_core.proofs.Commands.{runs_as}
 use Rattle.geli_core.proofs.top_call.run.Goals as goal
 
-pub returns-clause-histories : goal.returns-clause-histories
-returns-clause-histories g c =
-    let said = rw (c.deref.ensures.value, c.in-Ok.ensures) at c.in-Some.ensures.said in
-    let old : World = record {
-      drawers = drawers_of g.D.Disk.state c.args.shelf.now;
-      cabinet = cabinet_of g.C.Cabinet.files g.C.Cabinet.faults g.C.Cabinet.misses c.args.files.now;
-      entropy = entropy_of g.E.Entropy.left g.E.Entropy.faults c.args.entropy.now;
-    } in
-    let new : World = record {
-      drawers = drawers_of g.D.Disk.state c.serve-reply.new.self;
-      cabinet = cabinet_of g.C.Cabinet.files g.C.Cabinet.faults g.C.Cabinet.misses c.serve-reply.new.files;
-      entropy = entropy_of g.E.Entropy.left g.E.Entropy.faults c.serve-reply.new.entropy;
-    } in
-    λ reads. contents_after_reading c.deref-2.result.now c.in-Some.command old c.serve-reply.result new (rw (← said) at reads) c.serve-reply.ensures.turn
+pub returns-in-Some : goal.returns-in-Some
+returns-in-Some g c =
+    let words = map string_bytes c.args.words.now in
+    let runs = runs_as words _ _ _ c.run_script.result c.in-Some.ensures c.run_script.ensures in
+    record { runs = runs; cause = runs_caused words _ _ c.run_script.result runs; write_fault = write_fault_rose words _ _ c.run_script.result runs; complete = runs_complete words _ _ c.run_script.result runs; ends = runs_end words _ _ c.run_script.result runs; histories = runs_grew words _ _ c.run_script.result runs }
+
+pub returns-in-None : goal.returns-in-None
+returns-in-None g c =
+    let words = map string_bytes c.args.words.now in
+    let runs = runs_as words None _ _ c.run_command.result c.in-None.ensures (c.run_command.ensures (source_of g.S.Source.left g.S.Source.faults c.args.input.now)) in
+    record { runs = runs; cause = runs_caused words _ _ c.run_command.result runs; write_fault = write_fault_rose words _ _ c.run_command.result runs; complete = runs_complete words _ _ c.run_command.result runs; ends = runs_end words _ _ c.run_command.result runs; histories = runs_grew words _ _ c.run_command.result runs }

@@ -2,7 +2,7 @@ use Rattle.std.proofs.Common.{◌≡◌, List, ℕ, length, rules, subst}
 use Rattle.block_traits.specs.Disk.{FailsIn, Logs, last_sector}
 use Rattle.block_traits.specs.Overwriting.{overwrite_events}
 use Rattle.key_commands.specs.DeleteKeys.{Deletion}
-use Rattle.key_commands.specs.Overwriting.{filler_size}
+use Rattle.key_commands.specs.Overwriting.{filler_size, pass_sectors}
 use Rattle.key_commands.proofs.Passes.{IsWithout-zeros, KeepsAlone-passes, Overwrites-fails, Overwrites-logs}
 use Rattle.key_commands.proofs.delete_keys.delkey.Goals as goal
 
@@ -16,7 +16,7 @@ returns-in-Ok-clause-deletes g c =
     let whole = c.pass_sectors.ensures.whole in
     let size : length random ≡ filler_size asked.which = search rules in
     let P : List (List ℕ) → Type 0 = λ sectors. Logs (overwrite_events (last_sector disk) sectors) disk disk' in
-    let logs = subst P c.pass_sectors.ensures.sectors c.in-Ok.ensures.ok in
+    let logs = subst P {y = pass_sectors c.args.meta.now c.args.which random} c.pass_sectors.ensures.sectors c.in-Ok.ensures.ok in
     let last = c.cleared.ensures.fields in
     record {
       without = IsWithout-zeros asked c.cleared.result there whole last;
@@ -37,7 +37,7 @@ returns-in-Err-clause-deletes g c =
     let whole = c.pass_sectors.ensures.whole in
     let size : length random ≡ filler_size asked.which = search rules in
     let P : List (List ℕ) → Type 0 = λ sectors. FailsIn (overwrite_events (last_sector disk) sectors) disk disk' in
-    let fails = subst P c.pass_sectors.ensures.sectors c.in-Err.ensures.err in
+    let fails = subst P {y = pass_sectors c.args.meta.now c.args.which random} c.pass_sectors.ensures.sectors c.in-Err.ensures.err in
     record {
       random = random;
       draws = record { served = search rules; size = size; taken = record { taken = search rules; later = c.fill.ensures.cause.later } };

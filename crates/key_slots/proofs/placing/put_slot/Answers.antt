@@ -1,6 +1,6 @@
-use Rattle.std.proofs.Common.{◌≡◌, ℕ, ◌*◌, List, length, take, drop, ap, ◌∙◌, arith, rules}
+use Rattle.std.proofs.Common.{◌≡◌, refl, ℕ, ◌*◌, List, length, take, drop, ap, ◌∙◌, arith, rules}
 use Rattle.key_slots.specs.Slots.{deciphered}
-use Rattle.key_slots.proofs.Changes.{set_same, set_other, bytes_same, bytes_other}
+use Rattle.key_slots.proofs.Changes.{set_same, set_other, bytes_same, bytes_other, OpensAsBefore-same}
 use Rattle.key_slots.proofs.placing.put_slot.Goals as goal
 
 pub returns-clause-opens : goal.returns-clause-opens
@@ -22,3 +22,6 @@ returns-clause-other c =
       bytes = ap (λ (l : List ℕ). take 192 (drop (192 * s) l)) c.put_bytes.ensures
           ∙ bytes_other c.args.meta.now.mkeys c.args.wrapped.now slot s long (omega arith) c.requires ls ne;
     }
+
+pub returns-clause-opens_as_before : goal.returns-clause-opens_as_before
+returns-clause-opens_as_before c = λ s ls ne. OpensAsBefore-same _ _ s (returns-clause-other c s ls ne) refl

@@ -3,7 +3,7 @@ use Rattle.block_traits.specs.Content.{Content}
 use Rattle.block_traits.specs.Disk.{Logs}
 use Rattle.eli_base.specs.Units.{unit_bytes_of}
 use Rattle.sealing.specs.Sectors.{joined}
-use Rattle.provider.proofs.UnitLists.{units_now}
+use Rattle.provider.specs.Reading.{units_read}
 use Rattle.provider.proofs.pieces.read_pieces.Given as goal
 
 abbrev pub invariant-loop-j : goal.invariant-loop-j
@@ -14,5 +14,5 @@ invariant-loop-j g l =
       keying : l.ring.keying ≡ k;
       logs : Logs [] (state l.initial.disk) (state l.disk);
       start : l.start ≡ min (unit_bytes_of k.auth * l.j) (length l.initial.block);
-      reads : IfSome (state l.initial.disk).content (λ (c : Content). joined (take l.j (units_now k c l.sector)) ≡ Ok (take l.start l.block));
+      reads : IfSome (state l.initial.disk).content (λ (c : Content). joined (take l.j (units_read k c l.sector)) ≡ Ok (take l.start l.block));
     }

@@ -1,5 +1,5 @@
-use Rattle.std.proofs.Common.{◌≡◌, ◌≤◌, ◌-◌, ℕ, List, arith, ap, subst, sym}
-use Rattle.block_traits.specs.Disk.{FailsIn, Logs, last_sector}
+use Rattle.std.proofs.Common.{◌≤◌, ◌-◌, ℕ, arith, subst}
+use Rattle.block_traits.specs.Disk.{FailsIn, Logs}
 use Rattle.block_traits.specs.Overwriting.{overwrite_events}
 use Rattle.resize_kill.specs.Trash.{trash_sectors}
 use Rattle.resize_kill.proofs.Destroyed.{gone-Logs, gone-FailsIn}

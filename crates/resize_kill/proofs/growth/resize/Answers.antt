@@ -1,11 +1,10 @@
-use Rattle.std.proofs.Common.{◌≡◌, ◌<◌, ◌≤◌, ◌*◌, ℕ, Ok, None, inr, subst, rules, to_z, of_z}
+use Rattle.std.proofs.Common.{◌≡◌, ◌<◌, ◌*◌, ℕ, Ok, None, inr, subst, rules, to_z, of_z}
 use Rattle.std.proofs.lemmas.Int.{to_z-of_z}
 use Rattle.std.specs.Int.{w32}
 use Rattle.std.specs.Prelude.{FitsSigned}
 use Rattle.block_traits.specs.Disk.{FailsIn, Logs}
-use Rattle.block_traits.specs.Streams.{entropy_of}
 use Rattle.eli_metadata.specs.Format.{encoded, metadata_in}
-use Rattle.resize_kill.specs.Resizing.{Moves, MovesPart, grown, move_events, old_place, size_refusal}
+use Rattle.resize_kill.specs.Resizing.{grown, move_events, old_place, size_refusal}
 use Rattle.resize_kill.proofs.Moved.{moves, moves_part}
 use Rattle.resize_kill.proofs.growth.resize.Goals as goal
 

@@ -1,5 +1,8 @@
-use Rattle.sealing.proofs.Sectors.{reading-seal}
+use Rattle.sealing.proofs.Sectors.{opened_seal, reading-seal}
 use Rattle.sealing.proofs.laws.opening_undoes_sealing.Goals as goal
 
 pub returns : goal.returns
-returns c = λ k sector bytes is small size. reading-seal k sector bytes is small size
+returns c = record {
+  units = λ k sector bytes is small size. opened_seal k sector bytes is small size;
+  whole = λ k sector bytes is small size. reading-seal k sector bytes is small size;
+}

@@ -1,5 +1,4 @@
-use Rattle.std.proofs.Common.{◌∙◌}
-use Rattle.shelf.proofs.Places.{is_some-copied, slice_get-drawers}
+use Rattle.shelf.proofs.Places.{slice_get-drawers}
 use Rattle.shelf.specs.World.{drawer_of}
 use Rattle.shelf.proofs.drawers.Drawers.events.Goals as goal
 
@@ -11,5 +10,5 @@ returns g c =
     (record {
       drawer = drawer_of g.D.Disk.state c.index.result.now;
       found = slice_get-drawers g.D.Disk.state c.self.inside.drawers.items c.in_ok-place.place c.index.result.now bound c.index.ensures;
-      events = record { shows = is_some-copied c.events.result ∙ c.events.ensures.shown; history = c.events.ensures.history };
+      events = c.events.ensures;
     })

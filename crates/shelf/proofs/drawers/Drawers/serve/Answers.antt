@@ -1,11 +1,20 @@
-use Rattle.std.proofs.Common.{refl}
-use Rattle.shelf.proofs.Places.{ChangesAt-set, insert-remove}
+use Rattle.std.proofs.Common.{◌∙◌, ℕ, refl, subst, sym}
+use Rattle.shelf.specs.Answer.{FitsPayload}
+use Rattle.shelf.proofs.Places.{ChangesAt-set, insert-remove, whole_buffer}
 use Rattle.shelf.proofs.drawers.Drawers.serve.Goals as goal
 
 pub returns-clause-turn : goal.returns-clause-turn
 returns-clause-turn g c =
     let found = rw (c.deref.ensures.value, c.bytes_in-name.ensures) at c.in-Some-find.ensures.found in
     let bound = rw c.deref.ensures.value at c.in-Some-find.ensures.bound in
-    rw (← c.self.view_is, ← c.in-Some.ensures, ← found, c.put_back.ensures.items, c.remove-drawer.ensures.items, insert-remove c.self.inside.drawers.items c.in-Some-find.place c.serve-drawer.result.0 bound)
+    let len = c.serve-drawer.auto.buffer ∙ c.as_mut_slice-buffer.ensures.len in
+    let whole = whole_buffer c.serve-drawer.new.buffer c.self.inside.buffer.items c.self.inside.buffer.len len in
+    rw (← c.self.view_is, ← c.in-Some.ensures, ← found, c.put_back.ensures.items, c.remove-drawer.ensures.items, insert-remove c.self.inside.drawers.items c.in-Some-find.place c.serve-drawer.result.0 bound, whole)
     (ChangesAt-set g.D.Disk.state _ _ _ _ c.self.inside.drawers.items c.in-Some-find.place c.remove-drawer.result c.serve-drawer.result.0 bound c.remove-drawer.ensures.value c.serve-drawer.ensures.name refl refl
     c.serve-drawer.ensures.serves)
+
+pub returns-clause-payload : goal.returns-clause-payload
+returns-clause-payload g c =
+    let len = c.serve-drawer.auto.buffer ∙ c.as_mut_slice-buffer.ensures.len in
+    let whole = whole_buffer c.serve-drawer.new.buffer c.self.inside.buffer.items c.self.inside.buffer.len len in
+    rw whole (subst (λ (n : ℕ). FitsPayload n c.serve-drawer.result.1) (sym (len ∙ c.self.invariant.2)) c.serve-drawer.ensures.payload)

@@ -1,0 +1,90 @@
+# Completion of geli(8) in bash: `. completions/geli.bash`, or put this file where bash looks for completions.
+# It offers verbs, the options of each verb, values with a fixed choice, and file names. It runs no geli.
+# shellcheck shell=bash
+
+_geli_verbs='attach detach dump flush init list read script write'
+
+# The option letters of a verb: those without a value, then those with one.
+_geli_letters() {
+    case $1 in
+        init) echo PRv aBeiJKls ;;
+        attach) echo Cprv jkn ;;
+        detach) echo fv ;;
+        dump) echo v ;;
+    esac
+}
+
+_geli_files() {
+    compopt -o filenames 2>/dev/null
+    local IFS=$'\n'
+    COMPREPLY=($(compgen -f -- "$1"))
+}
+
+# What may stand behind an option with a value.
+_geli_value() {
+    case $1 in
+        a) COMPREPLY=($(compgen -W 'HMAC/SHA256 HMAC/SHA384 HMAC/SHA512' -- "$2")) ;;
+        e) COMPREPLY=($(compgen -W 'AES-XTS AES-CBC' -- "$2")) ;;
+        l) COMPREPLY=($(compgen -W '128 192 256' -- "$2")) ;;
+        n) COMPREPLY=($(compgen -W '0 1' -- "$2")) ;;
+        i) COMPREPLY=($(compgen -W '100000 1000000' -- "$2")) ;;
+        s) COMPREPLY=($(compgen -W '512 1024 2048 4096 8192 16384 32768 65536' -- "$2")) ;;
+        *) _geli_files "$2" ;;
+    esac
+}
+
+_geli() {
+    local cur=${COMP_WORDS[COMP_CWORD]} verb=${COMP_WORDS[1]} alone valued word letter
+    local -i at operands=0 waits=0 ended=0
+    COMPREPLY=()
+    if ((COMP_CWORD == 1)); then
+        COMPREPLY=($(compgen -W "$_geli_verbs" -- "$cur"))
+        return
+    fi
+    if [ "$verb" = script ]; then
+        _geli_files "$cur"
+        return
+    fi
+    read -r alone valued <<<"$(_geli_letters "$verb")"
+
+    # What the words before the cursor's say: whether an option waits for its value, and how many operands there are.
+    for ((at = 2; at < COMP_CWORD; at++)); do
+        word=${COMP_WORDS[at]}
+        if ((waits)); then
+            waits=0
+        elif ((ended == 0)) && [ "$word" = -- ]; then
+            ended=1
+        elif ((ended == 0)) && [[ $word == -?* ]]; then
+            word=${word#-}
+            while [ -n "$word" ]; do
+                letter=${word:0:1}
+                word=${word:1}
+                if [[ -n $valued && $valued == *"$letter"* ]]; then
+                    if [ -z "$word" ]; then waits=1; fi
+                    break
+                fi
+            done
+        else
+            ended=1
+            operands+=1
+        fi
+    done
+
+    if ((waits)); then
+        _geli_value "$letter" "$cur"
+        return
+    fi
+    if ((ended == 0)) && [[ $cur == -* ]]; then
+        local options=
+        for ((at = 0; at < ${#alone}; at++)); do options+=" -${alone:at:1}"; done
+        for ((at = 0; at < ${#valued}; at++)); do options+=" -${valued:at:1}"; done
+        COMPREPLY=($(compgen -W "$options" -- "$cur"))
+        return
+    fi
+    # The operand of a file name is the image, the first one.
+    if ((operands == 0)) && [ "$verb" != list ]; then
+        _geli_files "$cur"
+    fi
+}
+
+complete -F _geli geli

@@ -1,0 +1,11 @@
+use Rattle.std.proofs.Common.{arith}
+use Rattle.aes_core.proofs.KeyBytes.{IsState-block}
+use Rattle.aes_core.proofs.ColumnLaws.{inverse_round_is}
+use Rattle.aes_core.proofs.columns.after_inverse_round.Goals as goal
+
+pub returns : goal.returns
+returns c s state e =
+    inverse_round_is c.args.w s c.args.keys.now c.args.r _ _ _ _ _ _ _ _ _ _ _ _ state (IsState-block c.args.keys.now c.args.r c.fits-keys (omega arith)) e
+    c.unmixed.ensures c.unmixed-2.ensures c.unmixed-3.ensures c.unmixed-4.ensures
+    c.unsubstituted.ensures c.unsubstituted-2.ensures c.unsubstituted-3.ensures c.unsubstituted-4.ensures
+    c.column_at.ensures c.column_at-2.ensures c.column_at-3.ensures c.column_at-4.ensures

@@ -1,0 +1,44 @@
+-- What an opener was asked, in order.
+use Rattle.std.specs.Prelude.{ℕ, List, [], ◌∷◌, ◌++◌, Bool, true, false, Option, Result, Ok, Err, option_map}
+use Rattle.std.specs.IoError.{error_kind}
+use Rattle.std.specs.declared.fs.options.OpenOptions.{OpenOptions}
+use Rattle.std.specs.declared.io.Error.{Error}
+use Rattle.std.specs.declared.io.ErrorKind.{ErrorKind}
+use Rattle.std.specs.declared.io.ErrorKind.TheVariants.{AlreadyExists}
+
+-- One request: what a name leads to, through links; what has a name; the file of a name; a new file of a mode and a name, or
+-- one whose name something has already; bytes behind those of the new file; the new file on the disk; another name for a file,
+-- in place of what has it; the folder of a name on the disk; a name less.
+pub data Request : Type 0 where
+  Find : (name : List ℕ) → Request
+  Look : (name : List ℕ) → Request
+  Open : (how : OpenOptions) → (name : List ℕ) → Request
+  Make : (mode : ℕ) → (name : List ℕ) → Request
+  Meet : (mode : ℕ) → (name : List ℕ) → Request
+  Write : (bytes : List ℕ) → Request
+  Sync : Request
+  Rename : (from to : List ℕ) → Request
+  SyncFolder : (name : List ℕ) → Request
+  Remove : (name : List ℕ) → Request
+
+-- a request, and whether it was done; a find, a look and a removal count as done
+pub record Asked : Type 0 where
+  pub request : Request
+  pub done : Bool
+
+abbrev pub asking : Request → Bool → List Asked
+asking request done = record { request = request; done = done } ∷ []
+
+-- the same list with more behind it, where it is told
+abbrev pub more : {A : Type 0} → List A → Option (List A) → Option (List A)
+more items told = option_map (λ before. before ++ items) told
+
+-- what a refusal of a new file was, by its kind
+abbrev pub unmade : ℕ → List ℕ → ErrorKind → List Asked
+unmade mode name AlreadyExists = asking (Meet mode name) false
+unmade mode name kind = asking (Make mode name) false
+
+-- the request for a new file, by its answer
+abbrev pub making : ℕ → List ℕ → Result Unit Error → List Asked
+making mode name (Ok done) = asking (Make mode name) true
+making mode name (Err error) = unmade mode name (error_kind error)

@@ -1,0 +1,98 @@
+-- A file as a disk.
+use Rattle.std.specs.Prelude.{◌≡◌, ◌≤◌, ◌<◌, ◌^◌, ◌/◌, ℕ, List, ◌++◌, Bool, true, false, Option, None, Some, Result, Ok, Err, MatchBool}
+use Rattle.std.specs.declared.fs.options.OpenOptions.{OpenOptions}
+use Rattle.std.specs.declared.io.Error.{Error}
+use Rattle.block_traits.specs.Disk.{DiskState, untold}
+use Rattle.file_edge.specs.Asked.{Asked, Find, asking, more}
+use Rattle.file_edge.specs.declared.file_disk.FileDisk.{FileDisk}
+use Rattle.file_edge.specs.Found.{IsFree}
+use Rattle.file_edge.specs.declared.found.FileId.{FileId}
+use Rattle.file_edge.specs.declared.found.Found.{Found}
+use Rattle.file_edge.specs.ImageFile.{IsHeld}
+use Rattle.file_edge.specs.Opening.{OpensImage, image_asked}
+
+-- it tells no content
+abbrev pub state_of : {F : Type 0} → FileDisk F → DiskState
+state_of d = untold d.sectors d.faults d.small
+
+-- no file is opened, the disk has two sectors, and it is known which file it would have been, or not
+pub record IsUnopened {F : Type 0} (id : Option FileId) (disk : FileDisk F) : Type 0 where
+  pub file : disk.file ≡ None
+  pub sectors : disk.sectors ≡ 2
+  pub is_file : disk.id ≡ id
+
+-- the file is opened, and the disk has its whole 512-byte pieces
+pub record Holds {F : Type 0} (file : F) (id : FileId) (size : ℕ) (disk : FileDisk F) : Type 0 where
+  pub opened : disk.file ≡ Some file
+  pub sectors : disk.sectors ≡ size / 512
+  pub is_file : disk.id ≡ Some id
+
+-- the disk of an open file of this size in bytes
+pub record IsDiskOf {F : Type 0} (file : F) (id : FileId) (size : ℕ) (disk : FileDisk F) : Type 0 where
+  pub small : size < 2 ^ 53 → Holds file id size disk
+  pub large : 2 ^ 53 ≤ size → IsUnopened (Some id) disk
+
+-- the disk of an open file whose end is there; where the end isn't found, of none
+abbrev pub IsDiskTo : {F : Type 0} → F → FileId → Option ℕ → FileDisk F → Type 0
+IsDiskTo file id None disk = IsUnopened (Some id) disk
+IsDiskTo file id (Some size) disk = IsDiskOf file id size disk
+
+-- the disk of an open file, by the end that was found
+pub record IsDiskOfEnd {F : Type 0} (ends : F → Option ℕ → Type 0) (file : F) (id : FileId) (disk : FileDisk F) : Type 0 where
+  pub end : Option ℕ
+  pub found : ends file end
+  pub holds : IsDiskTo file id end disk
+
+-- the disk of an open file that may be an image; where it can't be held, of none
+pub record IsDiskHeld {F : Type 0} (locks : F → Bool → Type 0) (ends : F → Option ℕ → Type 0) (changes : Bool) (file : F) (id : FileId) (disk : FileDisk F) : Type 0 where
+  pub held : Bool
+  pub locked : IsHeld locks changes file held
+  pub holds : MatchBool held (IsDiskOfEnd ends file id disk) (IsUnopened (Some id) disk)
+
+module _ {F : Type 0} (tells : F → Result Found Error → Type 0) (locks : F → Bool → Type 0) (ends : F → Option ℕ → Type 0) (images : List FileId) (changes : Bool) where
+  -- the disk of an open file, by what was found under its name and of itself
+  abbrev pub IsDiskFound : F → FileId → Result Found Error → FileDisk F → Type 0
+  IsDiskFound file id (Err error) disk = IsUnopened (Some id) disk
+  IsDiskFound file id (Ok found) disk = (IsFree images found → IsDiskHeld locks ends changes file found.id disk) × ((IsFree images found → ⊥) → IsUnopened (Some found.id) disk)
+
+  -- the disk of an open file
+  pub record IsDiskOfFile (file : F) (id : FileId) (disk : FileDisk F) : Type 0 where
+    pub found : Result Found Error
+    pub told : tells file found
+    pub holds : IsDiskFound file id found disk
+
+  -- the disk of what was opened
+  abbrev pub IsDiskOfOpened : FileId → Result F Error → FileDisk F → Type 0
+  IsDiskOfOpened id (Err error) disk = IsUnopened (Some id) disk
+  IsDiskOfOpened id (Ok file) disk = IsDiskOfFile file id disk
+
+  module _ {O : Type 0} (leads : O → List ℕ → Result Found Error → Type 0) (answers : O → OpenOptions → List ℕ → Result F Error → Type 0) where
+    -- the disk of the image that is opened under a name that leads to this file
+    pub record OpensFile (name : List ℕ) (id : FileId) (disk : FileDisk F) : Type 0 where
+      pub opener : O
+      pub opened : Result F Error
+      pub image : OpensImage answers opener changes name opened
+      pub of_opened : IsDiskOfOpened id opened disk
+
+    -- the disk of what a name leads to; what may be no image isn't opened
+    abbrev pub OpensFound : List ℕ → Result Found Error → FileDisk F → Type 0
+    OpensFound name (Err error) disk = IsUnopened None disk
+    OpensFound name (Ok found) disk = (IsFree images found → OpensFile name found.id disk) × ((IsFree images found → ⊥) → IsUnopened (Some found.id) disk)
+
+    -- the disk of the image of a name
+    pub record OpensDisk (opener : O) (name : List ℕ) (disk : FileDisk F) : Type 0 where
+      pub found : Result Found Error
+      pub leading : leads opener name found
+      pub of_found : OpensFound name found disk
+
+-- what the disk of a name asks: where the name leads, and where that may be an image to open it
+abbrev pub disk_asked : List ℕ → (changes opened written read : Bool) → List Asked
+disk_asked name changes false written read = asking (Find name) true
+disk_asked name changes true written read = asking (Find name) true ++ image_asked name changes written read
+
+-- nothing else was asked
+pub record AsksDisk {O : Type 0} (log_of : O → Option (List Asked)) (opener : O) (changes : Bool) (name : List ℕ) (new : O) : Type 0 where
+  pub opened : Bool
+  pub written : Bool
+  pub read : Bool
+  pub log : log_of new ≡ more (disk_asked name changes opened written read) (log_of opener)

@@ -1,0 +1,58 @@
+-- What a cabinet answers, by what it finds under a name.
+use Rattle.std.specs.Prelude.{◌≡◌, ℕ, List, Option, Some, Result, Ok, Err, IfSome, is_ok}
+use Rattle.std.specs.IoError.{error_kind}
+use Rattle.std.specs.Str.{IsUtf8}
+use Rattle.std.specs.declared.fs.options.OpenOptions.{OpenOptions}
+use Rattle.std.specs.declared.io.Error.{Error}
+use Rattle.std.specs.declared.io.ErrorKind.{ErrorKind}
+use Rattle.std.specs.declared.io.ErrorKind.TheVariants as kinds
+use Rattle.block_traits.specs.Cabinet.{Answers, load_answer}
+use Rattle.block_traits.specs.declared.cabinet.LoadFault.{LoadFault}
+use Rattle.block_traits.specs.declared.cabinet.LoadFault.TheVariants as load
+use Rattle.file_edge.specs.Asked.{Asked, Open, asking, more}
+use Rattle.file_edge.specs.Found.{IsImage}
+use Rattle.file_edge.specs.Opening.{to_read}
+use Rattle.file_edge.specs.declared.found.FileId.{FileId}
+use Rattle.file_edge.specs.declared.found.Found.{Found}
+
+-- why nothing is loaded where the file can't be opened
+abbrev pub fault_of : ErrorKind → LoadFault
+fault_of kinds.NotFound = load.Absent
+fault_of kinds.OutOfMemory = load.NoMemory
+fault_of kind = load.Failed
+
+-- a file that is open isn't absent; where it knows its bytes they are answered, or they are too many, or it failed
+abbrev pub ReadAnswers : Option (List ℕ) → ℕ → Result (List ℕ) LoadFault → Type 0
+ReadAnswers known limit (Err load.Absent) = ⊥
+ReadAnswers known limit result = IfSome known (λ bytes. Answers (load_answer (Some bytes) limit) result)
+
+module _ {O F : Type 0} (answers : O → OpenOptions → List ℕ → Result F Error → Type 0) (log_of : O → Option (List Asked)) where
+  module _ (remaining : F → Option (List ℕ)) (tells : F → Result Found Error → Type 0) (images : List FileId) where
+    -- an image isn't read
+    pub record Reads (file : F) (limit : ℕ) (result : Result (List ℕ) LoadFault) : Type 0 where
+      pub found : Result Found Error
+      pub told : tells file found
+      pub image : IsImage images found → result ≡ Err load.Failed
+      pub other : (IsImage images found → ⊥) → ReadAnswers (remaining file) limit result
+
+    -- what was opened is read, or the refusal is answered
+    abbrev pub Loads : Result F Error → ℕ → Result (List ℕ) LoadFault → Type 0
+    Loads (Ok file) limit result = Reads file limit result
+    Loads (Err error) limit result = result ≡ Err (fault_of (error_kind error))
+
+    -- the file of this name is opened to be read, and nothing else is asked
+    pub record LoadsFile (opener : O) (name : List ℕ) (limit : ℕ) (result : Result (List ℕ) LoadFault) (new : O) : Type 0 where
+      pub opened : Result F Error
+      pub answered : answers opener to_read name opened
+      pub asked : log_of new ≡ more (asking (Open to_read name) (is_ok opened)) (log_of opener)
+      pub loads : Loads opened limit result
+
+    -- a name that is no text names no file
+    pub record LoadsNone (opener : O) (result : Result (List ℕ) LoadFault) (new : O) : Type 0 where
+      pub absent : result ≡ Err load.Absent
+      pub asked : log_of new ≡ log_of opener
+
+    -- the same of a name that is text
+    pub record LoadsNamed (opener : O) (name : List ℕ) (limit : ℕ) (result : Result (List ℕ) LoadFault) (new : O) : Type 0 where
+      pub text : IsUtf8 name → LoadsFile opener name limit result new
+      pub no_text : (IsUtf8 name → ⊥) → LoadsNone opener result new

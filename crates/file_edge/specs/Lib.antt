@@ -1,0 +1,9 @@
+pub mod Asked
+pub mod FileDisk
+pub mod Files
+pub mod Found
+pub mod ImageFile
+pub mod Kept
+pub mod Opening
+pub mod RandomFile
+pub mod Storing

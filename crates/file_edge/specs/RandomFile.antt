@@ -1,0 +1,13 @@
+-- The system's random bytes.
+use Rattle.std.specs.Prelude.{◌≡◌, List, ℕ, Result, codes}
+use Rattle.std.specs.Result.{result_ok}
+use Rattle.std.specs.declared.fs.options.OpenOptions.{OpenOptions}
+use Rattle.std.specs.declared.io.Error.{Error}
+use Rattle.file_edge.specs.Opening.{to_read}
+use Rattle.file_edge.specs.declared.random_file.RandomFile.{RandomFile}
+
+-- the device is opened under its name, or there is none
+pub record OpensDevice {O F : Type 0} (answers : O → OpenOptions → List ℕ → Result F Error → Type 0) (opener : O) (random : RandomFile F) : Type 0 where
+  pub opened : Result F Error
+  pub answered : answers opener to_read (codes "/dev/urandom") opened
+  pub device : random.device ≡ result_ok opened

@@ -1,0 +1,144 @@
+// The files of the system by their names.
+ghost use Rattle.std.specs.Prelude.{◌≡◌, ◌≤◌, None, IfOk, IsErrOf, length};
+ghost use Rattle.std.specs.IoError.{error_kind};
+ghost use Rattle.block_traits.specs.Causes.{Rose};
+ghost use Rattle.file_edge.specs.Files.{LoadsNamed, ReadAnswers, fault_of};
+ghost use Rattle.file_edge.specs.Storing.{StoresFile};
+
+use crate::found::{FileId, is_image};
+use crate::image_file::ImageFile;
+use crate::opener::Opener;
+use crate::store::{Stop, store_file};
+use block_traits::{ByteList, Cabinet, LoadFault, StoreFault};
+use std::alloc::Global;
+use std::fs::OpenOptions;
+use std::io::{self, ErrorKind, Read};
+
+/// Files as an opener finds them, but for the images of the run. It tells no content, and counts each failure, and each
+/// file that is absent or too long. A name that isn't UTF-8 names no file.
+#[derive(Drop)]
+pub struct FileCabinet<O: Opener + Drop> {
+    opener: O,
+    images: Vec<FileId>,
+    faults: u64,
+    misses: u64,
+}
+
+impl<O: Opener + Drop> FileCabinet<O> {
+    /// The files that the opener finds, but for these images.
+    pub fn new(opener: O, images: Vec<FileId>) -> FileCabinet<O>
+        ensures opener { result.opener ≡ opener }
+        ensures images { result.images ≡ images }
+        ensures faults { result.faults ≡ 0 }
+        ensures misses { result.misses ≡ 0 }
+    {
+        FileCabinet {
+            opener,
+            images,
+            faults: 0,
+            misses: 0,
+        }
+    }
+}
+
+impl<O: Opener + Drop> Cabinet for FileCabinet<O> {
+    ghost files = { λ _. None };
+
+    ghost faults = { λ cabinet. cabinet.faults };
+
+    ghost misses = { λ cabinet. cabinet.misses };
+
+    /// Besides what a cabinet does: the file that is opened under the name is read, whole where it knows its bytes, and
+    /// nothing else is asked of the opener. An image isn't read.
+    fn load(&mut self, alloc: Global, name: &[u8], limit: u64) -> Result<ByteList, LoadFault>
+        ensures named { LoadsNamed O.answers O.asked O.File.remaining O.File.tells self.old.images.items self.old.opener name.now limit result self.new.opener }
+        ensures images { self.new.images ≡ self.old.images }
+        ensures within { IfOk result (λ bytes. length bytes ≤ limit) }
+        ensures later { self.old.faults ≤ self.new.faults }
+        ensures failed { IsErrOf result LoadFault.Failed → Rose self.old.faults self.new.faults }
+        ensures more_misses { self.old.misses ≤ self.new.misses }
+        ensures absent { IsErrOf result LoadFault.Absent → Rose self.old.misses self.new.misses }
+        ensures too_long { IsErrOf result LoadFault.TooLong → Rose self.old.misses self.new.misses }
+    {
+        let loaded = load_file(&mut self.opener, alloc, self.images.as_slice(), name, limit);
+        match loaded {
+            Err(LoadFault::Absent | LoadFault::TooLong) => {
+                self.misses = self.misses.saturating_add(1);
+            }
+            Err(LoadFault::Failed) => self.faults = self.faults.saturating_add(1),
+            Ok(_) | Err(LoadFault::NoMemory) => {}
+        }
+        loaded
+    }
+
+    /// Besides what a cabinet does: the bytes are stored in a new file beside, which then takes the name; an image, and what
+    /// is no regular file, is left as it is.
+    fn store(&mut self, alloc: Global, name: &[u8], bytes: &[u8]) -> Result<(), StoreFault>
+        ensures stores { StoresFile O.finds O.asked self.old.images.items self.old.opener name.now bytes.now result self.new.opener }
+        ensures images { self.new.images ≡ self.old.images }
+        ensures later { self.old.faults ≤ self.new.faults }
+        ensures failed { IsErrOf result StoreFault.Failed → Rose self.old.faults self.new.faults }
+        ensures more_misses { self.old.misses ≤ self.new.misses }
+    {
+        match store_file(&mut self.opener, alloc, self.images.as_slice(), name, bytes) {
+            Ok(()) => Ok(()),
+            Err(Stop::Memory) => Err(StoreFault::NoMemory),
+            Err(_) => {
+                self.faults = self.faults.saturating_add(1);
+                Err(StoreFault::Failed)
+            }
+        }
+    }
+}
+
+fn load_file<O: Opener>(
+    opener: &mut O,
+    alloc: Global,
+    images: &[FileId],
+    name: &[u8],
+    limit: u64,
+) -> Result<ByteList, LoadFault>
+    ensures named { LoadsNamed O.answers O.asked O.File.remaining O.File.tells images.now opener.old name.now limit result opener.new }
+    ensures within { IfOk result (λ bytes. length bytes ≤ limit) }
+{
+    let Ok(name) = str::from_utf8(name) else {
+        return Err(LoadFault::Absent);
+    };
+    match opener.open(OpenOptions::new().read(true), name) {
+        Ok(file) => {
+            if is_image(images, &file.found()) {
+                return Err(LoadFault::Failed);
+            }
+            read_whole(file, alloc, limit)
+        }
+        Err(error) => Err(fault_of(&error)),
+    }
+}
+
+// What a reader has left, if that is at most so many bytes.
+fn read_whole<R: Read + Drop>(reader: R, alloc: Global, limit: u64) -> Result<ByteList, LoadFault>
+    ensures answers { ReadAnswers (R.remaining reader) limit result }
+    ensures within { IfOk result (λ bytes. length bytes ≤ limit) }
+{
+    let mut bytes = Vec::new(alloc);
+    if let Err(error) = reader.take(limit.saturating_add(1)).read_to_end(&mut bytes) {
+        return Err(match error.kind() {
+            ErrorKind::OutOfMemory => LoadFault::NoMemory,
+            _ => LoadFault::Failed,
+        });
+    }
+    if bytes.len() as u64 > limit {
+        return Err(LoadFault::TooLong);
+    }
+    Ok(ByteList::from_vec(bytes))
+}
+
+fn fault_of(error: &io::Error) -> LoadFault
+    ensures { result ≡ fault_of (error_kind error.now) }
+{
+    match error.kind() {
+        ErrorKind::NotFound => LoadFault::Absent,
+        ErrorKind::OutOfMemory => LoadFault::NoMemory,
+        _ => LoadFault::Failed,
+    }
+}

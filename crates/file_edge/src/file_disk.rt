@@ -1,0 +1,268 @@
+// A file, or a device, as a disk.
+ghost use Rattle.std.specs.Prelude.{◌≡◌, ◌<◌, ◌≤◌, ◌^◌, ◌*◌, ◌∷◌, [], IsErr, IsNone, MatchOption, OnErr, OnOk, false, is_err, is_ok, true};
+ghost use Rattle.block_traits.specs.Causes.{Rose};
+ghost use Rattle.block_traits.specs.Disk.{FailsIn, Gives, Logs};
+ghost use Rattle.file_edge.specs.ImageFile.{IsHeld, LeavesFile, WritesFile, WritesWithin, read_bytes};
+ghost use Rattle.file_edge.specs.Opening.{AsksImage};
+
+use crate::found::{FileId, is_free};
+use crate::image_file::ImageFile;
+use crate::opener::{Opener, open_image};
+use block_traits::{Disk, DiskFailed, Event, Sector};
+
+/// The whole 512-byte pieces of a file, read and written where they stand. It tells no content, shows
+/// no events, and counts each failure.
+#[derive(Drop)]
+pub struct FileDisk<F: Drop> {
+    file: Option<F>,
+    id: Option<FileId>,
+    sectors: u64,
+    faults: u64,
+    unsynced: bool,
+    ghost small: { sectors < 2 ^ 44 },
+}
+
+impl<F: Drop> FileDisk<F> {
+    ghost use Rattle.file_edge.specs.FileDisk.{AsksDisk, IsDiskHeld, IsDiskOf, IsDiskOfEnd, IsDiskOfFile, IsUnopened, OpensDisk, OpensFile};
+
+    /// The disk of a file. A file that can't be opened, that is no regular file and no block device, that is one of these
+    /// images, or of 2^53 bytes or more, is a disk of two sectors whose every call fails; so is one that is to be changed
+    /// and that another run holds. A file that is to be changed and can't be written is opened to be read, and each write
+    /// fails; one that isn't to be changed is opened to be read alone.
+    pub fn open<O: Opener<File = F>>(
+        opener: &mut O,
+        images: &[FileId],
+        changes: bool,
+        name: &str,
+    ) -> FileDisk<F>
+    where
+        F: ImageFile + 'static,
+        ensures opens { OpensDisk F.tells F.locks F.ends images.now changes O.leads O.answers opener.old name.now result }
+        ensures asked { AsksDisk O.asked opener.old changes name.now opener.new }
+        ensures faults { result.faults ≡ 0 }
+        ensures unsynced { result.unsynced ≡ false }
+        ensures unopened { IsNone result.file → result.sectors ≡ 2 }
+    {
+        // A pipe isn't opened, since that would wait for its writer.
+        match opener.find(name) {
+            Ok(found) if is_free(images, &found) => {
+                FileDisk::open_found(opener, images, changes, name, found.id)
+            }
+            Ok(found) => FileDisk::unopened(Some(found.id)),
+            Err(_) => FileDisk::unopened(None),
+        }
+    }
+
+    // The disk of a file that the name leads to.
+    fn open_found<O: Opener<File = F>>(
+        opener: &mut O,
+        images: &[FileId],
+        changes: bool,
+        name: &str,
+        id: FileId,
+    ) -> FileDisk<F>
+    where
+        F: ImageFile + 'static,
+        ensures opens { OpensFile F.tells F.locks F.ends images.now changes O.leads O.answers name.now id result }
+        ensures asked { AsksImage O.asked opener.old changes name.now opener.new }
+        ensures faults { result.faults ≡ 0 }
+        ensures unsynced { result.unsynced ≡ false }
+        ensures unopened { IsNone result.file → result.sectors ≡ 2 }
+    {
+        match open_image(opener, changes, name) {
+            Ok(file) => FileDisk::of_opened(file, images, changes, id),
+            Err(_) => FileDisk::unopened(Some(id)),
+        }
+    }
+
+    // The disk of a file that is open, and that was this one.
+    fn of_opened(file: F, images: &[FileId], changes: bool, id: FileId) -> FileDisk<F>
+    where
+        F: ImageFile,
+        ensures disk { IsDiskOfFile F.tells F.locks F.ends images.now changes file id result }
+        ensures faults { result.faults ≡ 0 }
+        ensures unsynced { result.unsynced ≡ false }
+        ensures unopened { IsNone result.file → result.sectors ≡ 2 }
+    {
+        match file.found() {
+            Ok(found) => {
+                if !is_free(images, &found) {
+                    return FileDisk::unopened(Some(found.id));
+                }
+                FileDisk::of_free(file, found.id, changes)
+            }
+            Err(_) => FileDisk::unopened(Some(id)),
+        }
+    }
+
+    // The disk of a file that may be an image.
+    fn of_free(file: F, id: FileId, changes: bool) -> FileDisk<F>
+    where
+        F: ImageFile,
+        ensures disk { IsDiskHeld F.locks F.ends changes file id result }
+        ensures faults { result.faults ≡ 0 }
+        ensures unsynced { result.unsynced ≡ false }
+        ensures unopened { IsNone result.file → result.sectors ≡ 2 }
+    {
+        if !is_held(&file, changes) {
+            return FileDisk::unopened(Some(id));
+        }
+        FileDisk::of_end(file, id)
+    }
+
+    // The disk of a file that is held.
+    fn of_end(file: F, id: FileId) -> FileDisk<F>
+    where
+        F: ImageFile,
+        ensures disk { IsDiskOfEnd F.ends file id result }
+        ensures faults { result.faults ≡ 0 }
+        ensures unsynced { result.unsynced ≡ false }
+        ensures unopened { IsNone result.file → result.sectors ≡ 2 }
+    {
+        match file.end() {
+            Ok(length) => FileDisk::of_file(file, id, length),
+            Err(_) => FileDisk::unopened(Some(id)),
+        }
+    }
+
+    /// The disk of an open file of so many bytes.
+    pub fn of_file(file: F, id: FileId, length: u64) -> FileDisk<F>
+        ensures disk { IsDiskOf file id length result }
+        ensures faults { result.faults ≡ 0 }
+        ensures unsynced { result.unsynced ≡ false }
+        ensures unopened { IsNone result.file → result.sectors ≡ 2 }
+    {
+        if length >= 1 << 53 {
+            return FileDisk::unopened(Some(id));
+        }
+        FileDisk {
+            file: Some(file),
+            id: Some(id),
+            sectors: length / 512,
+            faults: 0,
+            unsynced: false,
+        }
+    }
+
+    // A disk of two sectors whose every call fails.
+    fn unopened(id: Option<FileId>) -> FileDisk<F>
+        ensures unopened { IsUnopened id result }
+        ensures faults { result.faults ≡ 0 }
+        ensures unsynced { result.unsynced ≡ false }
+    {
+        FileDisk {
+            file: None,
+            id,
+            sectors: 2,
+            faults: 0,
+            unsynced: false,
+        }
+    }
+
+    /// Which file it is, where its name led to one.
+    pub fn id(&self) -> Option<FileId>
+        ensures { result ≡ self.now.id }
+    {
+        self.id
+    }
+
+    // Counts a failure.
+    fn fail(&mut self) -> DiskFailed
+        ensures file { self.new.file ≡ self.old.file }
+        ensures sectors { self.new.sectors ≡ self.old.sectors }
+        ensures later { self.old.faults ≤ self.new.faults }
+        ensures rose { Rose self.old.faults self.new.faults }
+        ensures unsynced { self.new.unsynced ≡ self.old.unsynced }
+    {
+        self.faults = self.faults.saturating_add(1);
+        DiskFailed
+    }
+}
+
+// Whether a file may be used: one that is to be changed is locked first.
+fn is_held<F: ImageFile>(file: &F, changes: bool) -> bool
+    ensures { IsHeld F.locks changes file.now result }
+{
+    if changes {
+        return file.lock().is_ok();
+    }
+    true
+}
+
+// Writes a sector, where the file still reaches so far: it may have become shorter, and isn't made longer.
+fn write_within<F: ImageFile>(file: &mut F, at: u64, from: &Sector) -> bool
+    requires { at < 2 ^ 53 }
+    ensures { WritesWithin F.ends F.writes F.written at from.now result file.old file.new }
+{
+    match file.end() {
+        Ok(end) => at + 512 <= end && file.write_sector(at, from).is_ok(),
+        Err(_) => false,
+    }
+}
+
+/// Sector n stands at byte 512 * n of the file. A file that isn't opened is a disk whose every call fails.
+impl<F: ImageFile + Drop> Disk for FileDisk<F> {
+    ghost use Rattle.file_edge.specs.FileDisk.{state_of};
+
+    ghost state = { state_of };
+
+    fn sectors(&self) -> u64 {
+        self.sectors
+    }
+
+    fn read(&mut self, n: u64, into: &mut Sector) -> Result<(), DiskFailed>
+        requires { n < (state_of self.old).size }
+        ensures bytes { OnOk result (Gives (state_of self.old) n into.new) }
+        ensures ok { OnOk result (Logs [] (state_of self.old) (state_of self.new)) }
+        ensures err { OnErr result (FailsIn [] (state_of self.old) (state_of self.new)) }
+        ensures placed { MatchOption self.old.file (IsErr result) (λ file. F.reads file (512 * n) (read_bytes result into.new)) }
+        ensures kept { LeavesFile F.written self.old.file self.new.file }
+        ensures unsynced { self.new.unsynced ≡ self.old.unsynced }
+    {
+        if let Some(file) = &mut self.file
+            && file.read_sector(512 * n, into).is_ok()
+        {
+            return Ok(());
+        }
+        Err(self.fail())
+    }
+
+    /// Besides what a disk does: where the file became shorter, what stands behind its end isn't written.
+    fn write(&mut self, n: u64, from: &Sector) -> Result<(), DiskFailed>
+        requires { n < (state_of self.old).size }
+        ensures ok { OnOk result (Logs (Event.Write n from.now ∷ []) (state_of self.old) (state_of self.new)) }
+        ensures err { OnErr result (FailsIn (Event.Write n from.now ∷ []) (state_of self.old) (state_of self.new)) }
+        ensures placed { WritesFile F.ends F.writes F.written (512 * n) from.now (is_ok result) self.old.file self.new.file }
+        ensures unsynced { self.new.unsynced ≡ self.old.unsynced }
+    {
+        if let Some(file) = &mut self.file
+            && write_within(file, 512 * n, from)
+        {
+            return Ok(());
+        }
+        Err(self.fail())
+    }
+
+    /// Besides what a disk does: after a failed flush each one fails, since the system may have dropped what was written.
+    fn flush(&mut self) -> Result<(), DiskFailed>
+        ensures ok { OnOk result (Logs (Event.Flush ∷ []) (state_of self.old) (state_of self.new)) }
+        ensures err { OnErr result (FailsIn (Event.Flush ∷ []) (state_of self.old) (state_of self.new)) }
+        ensures synced { self.old.unsynced ≡ false → MatchOption self.old.file (IsErr result) (λ file. F.syncs file (is_ok result)) }
+        ensures stays { self.old.unsynced ≡ true → IsErr result }
+        ensures unsynced { self.new.unsynced ≡ is_err result }
+        ensures kept { LeavesFile F.written self.old.file self.new.file }
+    {
+        if !self.unsynced
+            && let Some(file) = &mut self.file
+            && file.sync().is_ok()
+        {
+            return Ok(());
+        }
+        self.unsynced = true;
+        Err(self.fail())
+    }
+
+    fn events(&self) -> Option<&[Event]> {
+        None
+    }
+}

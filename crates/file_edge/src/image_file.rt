@@ -1,0 +1,112 @@
+// The file of an image, by byte offsets.
+ghost use Rattle.std.specs.Prelude.{◌≡◌, ℕ, List, None, Option, Bool, Result, is_ok};
+ghost use Rattle.std.specs.Result.{result_ok};
+ghost use Rattle.std.specs.declared.io.Error.{Error};
+ghost use Rattle.file_edge.specs.Asked.{more};
+ghost use Rattle.file_edge.specs.ImageFile.{Written, read_bytes, writing};
+ghost use Rattle.file_edge.specs.declared.found.Found.{Found};
+
+use crate::found::Found;
+use crate::opener::found_of;
+use block_traits::Sector;
+use std::fs::{File, OpenFile};
+use std::io::{self, Seek, SeekFrom};
+use std::os::unix::fs::FileExt;
+
+/// An open file that has an image. What is asked of it is proved for every such file, so that a contract can say
+/// where a sector stands and what is brought to the disk, although nothing tells what the system answers.
+pub trait ImageFile {
+    /// Whether this may be found of it.
+    ghost tells: { Self → Result Found Error → Type 0 };
+
+    /// Whether a lock may be answered so; true: no other open file holds it.
+    ghost locks: { Self → Bool → Type 0 };
+
+    /// Whether its end may be found at this byte offset; none: it isn't found.
+    ghost ends: { Self → Option ℕ → Type 0 };
+
+    /// Whether the sector at a byte offset may be read as these bytes; none: it isn't read.
+    ghost reads: { Self → ℕ → Option (List ℕ) → Type 0 };
+
+    /// Whether a write of these bytes at a byte offset may be answered so; true: it is done.
+    ghost writes: { Self → ℕ → List ℕ → Bool → Type 0 };
+
+    /// Whether a sync may be answered so; true: what was written is on the disk.
+    ghost syncs: { Self → Bool → Type 0 };
+
+    /// All that was to be written to it, in order, where that is told.
+    ghost written: { Self → Option (List Written) };
+
+    /// What is found of it.
+    fn found(&self) -> io::Result<Found>
+        ensures { tells self.now result };
+
+    /// Locks it, without waiting, for as long as it is open.
+    fn lock(&self) -> io::Result<()>
+        ensures { locks self.now (is_ok result) };
+
+    /// The byte offset of the end.
+    fn end(&self) -> io::Result<u64>
+        ensures { ends self.now (result_ok result) };
+
+    /// Reads the sector at a byte offset.
+    fn read_sector(&mut self, at: u64, into: &mut Sector) -> io::Result<()>
+        ensures reads { reads self.old at (read_bytes result into.new) }
+        ensures written { written self.new ≡ written self.old };
+
+    /// Writes the sector at a byte offset.
+    fn write_sector(&mut self, at: u64, from: &Sector) -> io::Result<()>
+        ensures writes { writes self.old at from.now (is_ok result) }
+        ensures written { written self.new ≡ more (writing at from.now) (written self.old) };
+
+    /// Brings what was written to the disk.
+    fn sync(&mut self) -> io::Result<()>
+        ensures syncs { syncs self.old (is_ok result) }
+        ensures written { written self.new ≡ written self.old };
+}
+
+/// A file of the system. It tells nothing of its answers.
+impl ImageFile for File {
+    ghost tells = { λ _ _. Unit {0} };
+
+    ghost locks = { λ _ _. Unit {0} };
+
+    ghost ends = { λ _ _. Unit {0} };
+
+    ghost reads = { λ _ _ _. Unit {0} };
+
+    ghost writes = { λ _ _ _ _. Unit {0} };
+
+    ghost syncs = { λ _ _. Unit {0} };
+
+    ghost written = { λ _. None };
+
+    fn found(&self) -> io::Result<Found> {
+        Ok(found_of(&self.metadata()?))
+    }
+
+    fn lock(&self) -> io::Result<()> {
+        match self.try_lock() {
+            Ok(()) => Ok(()),
+            Err(error) => Err(io::Error::from(error)),
+        }
+    }
+
+    // The end is sought, so that a block device has one too.
+    fn end(&self) -> io::Result<u64> {
+        let mut file = self;
+        file.seek(SeekFrom::End(0))
+    }
+
+    fn read_sector(&mut self, at: u64, into: &mut Sector) -> io::Result<()> {
+        self.read_exact_at(into, at)
+    }
+
+    fn write_sector(&mut self, at: u64, from: &Sector) -> io::Result<()> {
+        self.write_all_at(from, at)
+    }
+
+    fn sync(&mut self) -> io::Result<()> {
+        self.sync_data()
+    }
+}

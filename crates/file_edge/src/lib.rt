@@ -1,0 +1,24 @@
+//! The trusted edge: the system's files and streams as disks, a cabinet, sources, sinks and entropy, over whatever
+//! opens files.
+#![tactic(auto)]
+
+mod ask;
+mod file_cabinet;
+mod file_disk;
+mod found;
+mod image_file;
+mod opener;
+mod random_file;
+mod store;
+mod streams;
+#[cfg(test)]
+mod tests;
+
+pub use ask::{Ask, KeptAsk};
+pub use file_cabinet::FileCabinet;
+pub use file_disk::FileDisk;
+pub use found::{FileId, FileKind, Found};
+pub use image_file::ImageFile;
+pub use opener::{Opener, SystemFiles};
+pub use random_file::RandomFile;
+pub use streams::{InputSource, OutputSink};

@@ -1,0 +1,233 @@
+// The files of the system, by their names.
+ghost use Rattle.std.specs.Prelude.{◌≡◌, ◌<ℤ◌, ℕ, IfOk, List, None, Option, Result, is_ok, pos, true};
+ghost use Rattle.std.specs.Fd.{file_raw_fd};
+ghost use Rattle.std.specs.declared.fs.options.OpenOptions.{OpenOptions};
+ghost use Rattle.std.specs.declared.io.Error.{Error};
+ghost use Rattle.block_traits.specs.Causes.{HasCause};
+ghost use Rattle.file_edge.specs.Asked.{Asked, Find, Look, Open, Remove, Rename, Sync, SyncFolder, Write, asking, making, more};
+ghost use Rattle.file_edge.specs.Opening.{AsksImage, OpensImage};
+ghost use Rattle.file_edge.specs.declared.found.Found.{Found};
+
+use crate::found::{FileId, FileKind, Found};
+use crate::image_file::ImageFile;
+use std::fs::{self, File, Metadata, OpenOptions};
+use std::io::{self, ErrorKind, Read, Write};
+use std::os::fd::AsRawFd;
+use std::os::unix::fs::{FileTypeExt, MetadataExt, OpenOptionsExt};
+use std::rt::Files;
+
+/// What opens files by their names, and puts new ones in the place of others. Each use of it is proved for every opener,
+/// so that what is asked of it, in which order, can be said in a contract although nothing tells what the system answers.
+pub trait Opener {
+    /// An open file.
+    type File: Read + Write + ImageFile + Drop + 'static;
+
+    /// Whether it may answer this to these options and this name.
+    ghost answers: { Self → OpenOptions → List ℕ → Result Self.File Error → Type 0 };
+
+    /// Whether a name may lead to this, through links.
+    ghost leads: { Self → List ℕ → Result Found Error → Type 0 };
+
+    /// Whether it may find this under a name.
+    ghost finds: { Self → List ℕ → Result Found Error → Type 0 };
+
+    /// All that it was asked, in order, where that is told.
+    ghost asked: { Self → Option (List Asked) };
+
+    /// How often it has refused to open a file, which never falls.
+    ghost refusals: { Self → ℕ };
+
+    /// Opens the file of this name.
+    fn open(&mut self, how: &OpenOptions, name: &str) -> io::Result<Self::File>
+        ensures answers { answers self.old how.now name.now result }
+        ensures asked { asked self.new ≡ more (asking (Open how.now name.now) (is_ok result)) (asked self.old) }
+        ensures cause { HasCause (refusals self.old) (refusals self.new) result };
+
+    /// What the name leads to; a link is followed.
+    fn find(&mut self, name: &str) -> io::Result<Found>
+        ensures leads { leads self.old name.now result }
+        ensures asked { asked self.new ≡ more (asking (Find name.now) true) (asked self.old) };
+
+    /// What has this name; a link is found as a link.
+    fn look(&mut self, name: &str) -> io::Result<Found>
+        ensures finds { finds self.old name.now result }
+        ensures asked { asked self.new ≡ more (asking (Look name.now) true) (asked self.old) };
+
+    /// Makes a file of this name, with these permissions, where nothing has the name: the new file of the next calls.
+    /// `AlreadyExists`: something has it.
+    fn make(&mut self, mode: u32, name: &str) -> io::Result<()>
+        ensures { asked self.new ≡ more (making mode name.now result) (asked self.old) };
+
+    /// Writes all bytes behind those of the new file.
+    fn write(&mut self, bytes: &[u8]) -> io::Result<()>
+        ensures { asked self.new ≡ more (asking (Write bytes.now) (is_ok result)) (asked self.old) };
+
+    /// Brings the new file to the disk.
+    fn sync(&mut self) -> io::Result<()>
+        ensures { asked self.new ≡ more (asking Sync (is_ok result)) (asked self.old) };
+
+    /// Gives a file another name, in place of the file that has that.
+    fn rename(&mut self, from: &str, to: &str) -> io::Result<()>
+        ensures { asked self.new ≡ more (asking (Rename from.now to.now) (is_ok result)) (asked self.old) };
+
+    /// Brings the folder in which the name stands to the disk.
+    fn sync_folder(&mut self, name: &str) -> io::Result<()>
+        ensures { asked self.new ≡ more (asking (SyncFolder name.now) (is_ok result)) (asked self.old) };
+
+    /// Removes a name, if it can.
+    fn remove(&mut self, name: &str)
+        ensures { asked self.new ≡ more (asking (Remove name.now) true) (asked self.old) };
+}
+
+/// The files of the system. It tells nothing of its answers, and counts each refusal.
+#[derive(Drop)]
+pub struct SystemFiles<R: Files<File = File> + Drop> {
+    rt: R,
+    fresh: Option<File>,
+    refusals: u64,
+}
+
+impl<R: Files<File = File> + Drop> SystemFiles<R> {
+    /// The files that the runtime reaches.
+    pub fn new(rt: R) -> SystemFiles<R>
+        ensures runtime { result.rt ≡ rt }
+        ensures refusals { result.refusals ≡ 0 }
+    {
+        SystemFiles {
+            rt,
+            fresh: None,
+            refusals: 0,
+        }
+    }
+}
+
+impl<R: Files<File = File> + Drop> Opener for SystemFiles<R> {
+    type File = File;
+
+    ghost answers = { λ _ _ _ _. Unit {0} };
+
+    ghost leads = { λ _ _ _. Unit {0} };
+
+    ghost finds = { λ _ _ _. Unit {0} };
+
+    ghost asked = { λ _. None };
+
+    ghost refusals = { λ files. files.refusals };
+
+    /// Besides what an opener does: no file that it opens is a standard stream.
+    fn open(&mut self, how: &OpenOptions, name: &str) -> io::Result<File>
+        ensures beside { IfOk result (λ file. pos 2 <ℤ file_raw_fd file) }
+        ensures cause { HasCause self.old.refusals self.new.refusals result }
+    {
+        let opened = beside_streams(how.open(&self.rt, name));
+        if opened.is_err() {
+            self.refusals = self.refusals.saturating_add(1);
+        }
+        opened
+    }
+
+    fn find(&mut self, name: &str) -> io::Result<Found> {
+        Ok(found_of(&fs::metadata(&self.rt, name)?))
+    }
+
+    fn look(&mut self, name: &str) -> io::Result<Found> {
+        Ok(found_of(&fs::symlink_metadata(&self.rt, name)?))
+    }
+
+    fn make(&mut self, mode: u32, name: &str) -> io::Result<()> {
+        let mut how = OpenOptions::new();
+        how.write(true).create_new(true);
+        how.mode(mode);
+        self.fresh = Some(beside_streams(how.open(&self.rt, name))?);
+        Ok(())
+    }
+
+    fn write(&mut self, bytes: &[u8]) -> io::Result<()> {
+        match &mut self.fresh {
+            Some(file) => file.write_all(bytes),
+            None => Err(io::Error::from(ErrorKind::NotFound)),
+        }
+    }
+
+    fn sync(&mut self) -> io::Result<()> {
+        match &self.fresh {
+            Some(file) => file.sync_all(),
+            None => Err(io::Error::from(ErrorKind::NotFound)),
+        }
+    }
+
+    fn rename(&mut self, from: &str, to: &str) -> io::Result<()> {
+        fs::rename(&self.rt, from, to)
+    }
+
+    fn sync_folder(&mut self, name: &str) -> io::Result<()> {
+        File::open(&self.rt, folder_of(name))?.sync_all()
+    }
+
+    fn remove(&mut self, name: &str) {
+        let _ = fs::remove_file(&self.rt, name);
+    }
+}
+
+// A file that was opened and is no standard stream.
+fn beside_streams(opened: io::Result<File>) -> io::Result<File>
+    ensures { IfOk result (λ file. pos 2 <ℤ file_raw_fd file) }
+{
+    match opened {
+        // The stream of this number was closed, and what is printed would go into the file.
+        Ok(file) if file.as_raw_fd() <= 2 => Err(io::Error::from(ErrorKind::ResourceBusy)),
+        opened => opened,
+    }
+}
+
+/// What the system says of a file.
+pub(crate) fn found_of(metadata: &Metadata) -> Found {
+    let kind = metadata.file_type();
+    Found {
+        id: FileId {
+            device: metadata.dev(),
+            number: metadata.ino(),
+        },
+        kind: if kind.is_file() {
+            FileKind::Regular
+        } else if kind.is_block_device() {
+            FileKind::Block
+        } else {
+            FileKind::Other
+        },
+    }
+}
+
+// The folder in which a name stands.
+fn folder_of(name: &str) -> &str {
+    match name.rsplit_once('/') {
+        Some(("", _)) => "/",
+        Some((folder, _)) => folder,
+        None => ".",
+    }
+}
+
+/// Opens an image to be read and written, or, where that isn't asked for or is refused, to be read.
+pub(crate) fn open_image<O: Opener>(
+    opener: &mut O,
+    changes: bool,
+    name: &str,
+) -> io::Result<O::File>
+    ensures opens { OpensImage O.answers opener.old changes name.now result }
+    ensures asked { AsksImage O.asked opener.old changes name.now opener.new }
+{
+    if changes {
+        return open_to_change(opener, name);
+    }
+    opener.open(OpenOptions::new().read(true), name)
+}
+
+fn open_to_change<O: Opener>(opener: &mut O, name: &str) -> io::Result<O::File>
+    ensures opens { OpensImage O.answers opener.old true name.now result }
+    ensures asked { AsksImage O.asked opener.old true name.now opener.new }
+{
+    if let Ok(file) = opener.open(OpenOptions::new().read(true).write(true), name) {
+        return Ok(file);
+    }
+    opener.open(OpenOptions::new().read(true), name)
+}

@@ -1,0 +1,110 @@
+// The top call over disks that are put on a shelf.
+use crate::fault::Fault;
+use block_traits::{Disk, Event};
+use crash_disk::{MemCabinet, MemDisk, MemEntropy, MemSink, MemSource};
+use geli_core::{AddFault, Shelf, geli_main};
+use std::alloc::Global;
+
+/// What the shelf answers to a disk that it takes.
+pub const TAKEN_IN: &str = "ok";
+
+/// A disk of a run, and its name.
+#[derive(Drop)]
+pub struct Drawer {
+    name: String,
+    disk: MemDisk,
+}
+
+/// What the top call is given besides the words and the shelf.
+#[derive(Drop)]
+pub struct Objects {
+    pub input: MemSource,
+    pub output: MemSink,
+    pub cabinet: MemCabinet,
+    pub entropy: MemEntropy,
+}
+
+/// What came of a run.
+#[derive(Drop)]
+pub struct Outcome {
+    /// The number of the status.
+    pub status: u8,
+    /// What came of each disk, in order.
+    pub disks: Vec<DiskOutcome>,
+}
+
+/// What came of a disk.
+#[derive(Drop)]
+pub struct DiskOutcome {
+    /// Its name.
+    pub name: String,
+    /// What the shelf answered to it.
+    pub answer: &'static str,
+    /// What was done to it, if it is still on the shelf.
+    pub events: Option<Vec<Event>>,
+}
+
+/// Adds a disk to those of a run.
+pub fn add_drawer(
+    alloc: Global,
+    name: &str,
+    disk: MemDisk,
+    into: &mut Vec<Drawer>,
+) -> Result<(), Fault> {
+    let name = String::from_str(alloc, name)?;
+    Ok(into.push(Drawer { name, disk })?)
+}
+
+/// Puts the disks on a shelf, in order, and makes the top call over it.
+pub fn top_call(
+    alloc: Global,
+    drawers: Vec<Drawer>,
+    words: &[String],
+    objects: &mut Objects,
+) -> Result<Outcome, Fault> {
+    let mut shelf = Shelf::new(alloc)?;
+    let mut disks = Vec::new(alloc);
+    for drawer in drawers {
+        let Drawer { name, disk } = drawer;
+        let disk: Box<dyn Disk> = Box::new(alloc, disk)?;
+        let answer = match shelf.add(name.as_str(), disk) {
+            Ok(()) => TAKEN_IN,
+            Err((_, fault)) => refusal(fault),
+        };
+        disks.push(DiskOutcome {
+            name,
+            answer,
+            events: None,
+        })?;
+    }
+    let status = geli_main(
+        alloc,
+        words,
+        &mut objects.input,
+        &mut objects.output,
+        &mut objects.cabinet,
+        &mut objects.entropy,
+        &mut shelf,
+    )
+    .number();
+    for disk in disks.iter_mut() {
+        disk.events = listed(alloc, shelf.events(disk.name.as_str()))?;
+    }
+    Ok(Outcome { status, disks })
+}
+
+// How the transcript tells that the shelf refused a disk.
+fn refusal(fault: AddFault) -> &'static str {
+    match fault {
+        AddFault::Full => "Full",
+        AddFault::Taken => "Taken",
+        AddFault::NoMemory => "NoMemory",
+    }
+}
+
+fn listed(alloc: Global, events: Option<&[Event]>) -> Result<Option<Vec<Event>>, Fault> {
+    match events {
+        None => Ok(None),
+        Some(events) => Ok(Some(Vec::from_slice(alloc, events)?)),
+    }
+}

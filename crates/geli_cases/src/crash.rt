@@ -1,0 +1,92 @@
+// What crashes leave of a disk.
+use crate::fault::Fault;
+use crate::line::{Form, Line};
+use crash_disk::{MemDisk, Pick, SurvivorFault, Torn, survivor_torn, survivor_whole};
+use std::alloc::Global;
+
+/// The picks and torn sectors that were gathered for the next survivor.
+#[derive(Drop)]
+pub struct Choices {
+    picks: Vec<Pick>,
+    torn: Vec<Torn>,
+}
+
+/// What came of a survivor.
+#[derive(Drop)]
+pub enum Crashed {
+    /// The disk.
+    Disk(MemDisk),
+    /// This pick is bad.
+    BadPick(usize),
+    /// This torn sector is bad.
+    BadTorn(usize),
+    /// The moment lies behind the last event.
+    Beyond,
+}
+
+impl Choices {
+    /// Nothing was gathered.
+    pub fn new(alloc: Global) -> Choices {
+        Choices {
+            picks: Vec::new(alloc),
+            torn: Vec::new(alloc),
+        }
+    }
+
+    /// Adds a pick.
+    pub fn pick(&mut self, n: u64, place: u64) -> Result<(), Fault> {
+        let place = place as usize;
+        Ok(self.picks.push(Pick { n, place })?)
+    }
+
+    /// Adds a torn sector: the bytes of the line, with zeros behind them.
+    pub fn tear(&mut self, alloc: Global, line: &mut Line<'_>) -> Result<(), Fault> {
+        let n = line.number();
+        let mut front = Vec::new(alloc);
+        line.bytes(alloc, Form::Hex, &mut front)?;
+        let mut bytes = [0; 512];
+        for (into, byte) in bytes.iter_mut().zip(front.as_slice()) {
+            *into = *byte;
+        }
+        Ok(self.torn.push(Torn { n, bytes })?)
+    }
+
+    /// What a crash leaves after so many events, by what was gathered. That is then forgotten.
+    pub fn survivor(
+        &mut self,
+        alloc: Global,
+        disk: &MemDisk,
+        moment: u64,
+    ) -> Result<Crashed, Fault> {
+        let made = survivor_at(alloc, disk, moment as usize, &self.picks, &self.torn);
+        self.picks.clear();
+        self.torn.clear();
+        made
+    }
+}
+
+/// What a crash leaves of a disk after so many events.
+pub fn survivor_at(
+    alloc: Global,
+    disk: &MemDisk,
+    moment: usize,
+    picks: &[Pick],
+    torn: &[Torn],
+) -> Result<Crashed, Fault> {
+    if moment > disk.history().len() {
+        Ok(Crashed::Beyond)
+    } else if torn.is_empty() {
+        answer_of(survivor_whole(alloc, disk, moment, picks))
+    } else {
+        answer_of(survivor_torn(alloc, disk, moment, picks, torn))
+    }
+}
+
+fn answer_of(made: Result<MemDisk, SurvivorFault>) -> Result<Crashed, Fault> {
+    match made {
+        Ok(disk) => Ok(Crashed::Disk(disk)),
+        Err(SurvivorFault::BadPick { index }) => Ok(Crashed::BadPick(index)),
+        Err(SurvivorFault::BadTorn { index }) => Ok(Crashed::BadTorn(index)),
+        Err(SurvivorFault::NoMemory) => Err(Fault::NoMemory),
+    }
+}

@@ -1,0 +1,296 @@
+// The world of a case: its disks, files and random bytes, what the next run is given, and the runs.
+use crate::call::{Objects, Outcome, TAKEN_IN, add_drawer, top_call};
+use crate::crash::{Choices, Crashed, survivor_at};
+use crate::disks::{Disks, image_of};
+use crate::fault::Fault;
+use crate::files::Files;
+use crate::line::{Form, Has, Kind, Line};
+use crate::next_run::{NextRun, add_offers};
+use crate::transcript::{Part, Transcript};
+use block_traits::{Entropy, Source};
+use crash_disk::{MemDisk, MemEntropy, MemSource, Pick};
+use std::alloc::Global;
+
+// The last status that tells how much input is left.
+const LAST_READER: u8 = 2;
+
+/// What a case has between its lines.
+#[derive(Drop)]
+pub struct World {
+    runs: u64,
+    disks: Disks,
+    files: Files,
+    entropy: Vec<u8>,
+    next: NextRun,
+    choices: Choices,
+}
+
+impl World {
+    /// A case that has nothing.
+    pub fn new(alloc: Global) -> World {
+        World {
+            runs: 0,
+            disks: Disks::new(alloc),
+            files: Files::new(alloc),
+            entropy: Vec::new(alloc),
+            next: NextRun::new(alloc),
+            choices: Choices::new(alloc),
+        }
+    }
+
+    /// Does what a line says.
+    pub fn follow(
+        &mut self,
+        alloc: Global,
+        line: &mut Line<'_>,
+        transcript: &mut Transcript,
+    ) -> Result<(), Fault> {
+        match line.kind()? {
+            Kind::Case => {
+                *self = World::new(alloc);
+                transcript.line(&[Part::Text("case"), Part::Text(line.word())]);
+                Ok(())
+            }
+            Kind::Has(has) => self.has(alloc, has, line),
+            Kind::Given(given) => self.next.follow(alloc, given, line),
+            Kind::Run => self.run(alloc, transcript),
+            Kind::Pick => self.choices.pick(line.number(), line.number()),
+            Kind::Tear => self.choices.tear(alloc, line),
+            Kind::Survivor => self.survivor(alloc, line, transcript),
+            Kind::Crashes => self.crashes(alloc, line, transcript),
+        }
+    }
+
+    // What the case has from now on.
+    fn has(&mut self, alloc: Global, has: Has, line: &mut Line<'_>) -> Result<(), Fault> {
+        match has {
+            Has::Disk => self.disks.blank(alloc, line),
+            Has::Copy => self.disks.copy(alloc, line),
+            Has::Alter => self.disks.alter(alloc, line),
+            Has::Cover => self.disks.cover(alloc, line),
+            Has::Take => self.disks.take(alloc, line),
+            Has::Shelf => self.disks.set_shelf(alloc, line),
+            Has::File(form) => self.file(alloc, form, line),
+            Has::Watch => self.files.watch(alloc, line.word()),
+            Has::Entropy(form) => {
+                self.entropy.clear();
+                line.bytes(alloc, form, &mut self.entropy)
+            }
+        }
+    }
+
+    fn file(&mut self, alloc: Global, form: Form, line: &mut Line<'_>) -> Result<(), Fault> {
+        let name = line.word();
+        let mut bytes = Vec::new(alloc);
+        line.bytes(alloc, form, &mut bytes)?;
+        self.files.put(alloc, name, bytes)
+    }
+
+    // The top call over the shelf, and what it left of each object.
+    fn run(&mut self, alloc: Global, transcript: &mut Transcript) -> Result<(), Fault> {
+        self.runs = self.runs.saturating_add(1);
+        transcript.line(&[Part::Text("run"), Part::Number(self.runs)]);
+        let mut drawers = self.disks.drawers(alloc, &self.next.disk_fails)?;
+        let own = drawers.len();
+        add_offers(alloc, &self.next.offers, &mut drawers)?;
+        let mut objects = self.objects(alloc, true)?;
+        let outcome = top_call(alloc, drawers, &self.next.words, &mut objects)?;
+        tell_answers(&outcome, own, transcript)?;
+        self.tell_streams(outcome.status, &mut objects, transcript);
+        self.settle_disks(alloc, &outcome, own, transcript)?;
+        self.settle_rest(alloc, &mut objects, transcript)
+    }
+
+    // The objects of a run besides the shelf, made anew. In runs over survivors nothing fails.
+    fn objects(&self, alloc: Global, failing: bool) -> Result<Objects, Fault> {
+        let mut cabinet = self.files.cabinet(alloc)?;
+        if failing {
+            cabinet.fail_calls(&self.next.file_fails)?;
+        }
+        Ok(Objects {
+            input: self.next.source.source(alloc, &self.next.input, failing)?,
+            output: self.next.sink.sink(alloc, self.next.room, failing)?,
+            cabinet,
+            entropy: MemEntropy::new(alloc, &self.entropy)?,
+        })
+    }
+
+    // What the run printed, its status, and what it left of the input.
+    fn tell_streams(&self, status: u8, objects: &mut Objects, transcript: &mut Transcript) {
+        transcript.output(objects.output.bytes());
+        transcript.line(&[Part::Text("status"), Part::Number(u64::from(status))]);
+        if status <= LAST_READER && !self.next.input.is_empty() {
+            let left = left_of_input(&mut objects.input);
+            transcript.line(&[Part::Text("unread"), Part::Number(left)]);
+        }
+    }
+
+    // Keeps what was done to each of the first disks. One that left the shelf leaves the case.
+    fn settle_disks(
+        &mut self,
+        alloc: Global,
+        outcome: &Outcome,
+        own: usize,
+        transcript: &mut Transcript,
+    ) -> Result<(), Fault> {
+        for (place, disk) in outcome.disks.iter().enumerate() {
+            if place >= own {
+                break;
+            }
+            let name = disk.name.as_str();
+            match &disk.events {
+                None => {
+                    transcript.line(&[Part::Text("gone"), Part::Text(name)]);
+                    self.disks.forget(name);
+                }
+                Some(events) => {
+                    transcript.events(name, events);
+                    self.disks.find(name)?.settle(alloc, events)?;
+                }
+            }
+        }
+        Ok(())
+    }
+
+    // Keeps what the entropy has left, and the files; what was gathered for the run is forgotten.
+    fn settle_rest(
+        &mut self,
+        alloc: Global,
+        objects: &mut Objects,
+        transcript: &mut Transcript,
+    ) -> Result<(), Fault> {
+        let left = left_of_entropy(&mut objects.entropy);
+        let taken = self.entropy.len().saturating_sub(left);
+        if taken > 0 {
+            transcript.line(&[Part::Text("taken"), Part::Number(taken as u64)]);
+        }
+        self.entropy = Vec::from_slice(alloc, self.entropy.get(taken..).unwrap_or(&[]))?;
+        self.next = NextRun::new(alloc);
+        self.files.settle(alloc, &objects.cabinet, transcript)
+    }
+
+    // The crash image of a disk becomes a disk.
+    fn survivor(
+        &mut self,
+        alloc: Global,
+        line: &mut Line<'_>,
+        transcript: &mut Transcript,
+    ) -> Result<(), Fault> {
+        let (new, old, moment) = (line.word(), line.word(), line.number());
+        let disk = self.disks.find(old)?;
+        let room = disk.room();
+        let (answer, index) = match self.choices.survivor(alloc, disk.last(alloc)?, moment)? {
+            Crashed::Beyond => ("beyond", None),
+            Crashed::BadPick(index) => ("BadPick", Some(index)),
+            Crashed::BadTorn(index) => ("BadTorn", Some(index)),
+            Crashed::Disk(survivor) => {
+                self.disks
+                    .set(alloc, new, image_of(alloc, survivor)?, room)?;
+                ("ok", None)
+            }
+        };
+        transcript.survivor(new, old, moment, answer, index);
+        Ok(())
+    }
+
+    // The top call over each survivor that differs in one sector alone. The case stays as it is.
+    fn crashes(
+        &mut self,
+        alloc: Global,
+        line: &mut Line<'_>,
+        transcript: &mut Transcript,
+    ) -> Result<(), Fault> {
+        let (new, old, n) = (line.word(), line.word(), line.number());
+        let count = self.disks.find(old)?.last(alloc)?.history().len();
+        for moment in 0..=count {
+            self.crashes_at(alloc, new, old, n, moment, transcript)?;
+        }
+        self.next = NextRun::new(alloc);
+        Ok(())
+    }
+
+    // The same for the survivors of one moment.
+    fn crashes_at(
+        &mut self,
+        alloc: Global,
+        new: &str,
+        old: &str,
+        n: u64,
+        moment: usize,
+        transcript: &mut Transcript,
+    ) -> Result<(), Fault> {
+        for place in 0..usize::MAX {
+            let disk = self.disks.find(old)?.last(alloc)?;
+            let made = survivor_at(alloc, disk, moment, &[Pick { n, place }], &[])?;
+            let Crashed::Disk(survivor) = made else {
+                break;
+            };
+            let mut objects = self.objects(alloc, false)?;
+            let status = self.crash(alloc, new, survivor, &mut objects)?;
+            transcript.crash(moment, place, status, objects.output.bytes());
+        }
+        Ok(())
+    }
+
+    // The status of the top call over one disk, alone on a shelf.
+    fn crash(
+        &self,
+        alloc: Global,
+        name: &str,
+        disk: MemDisk,
+        objects: &mut Objects,
+    ) -> Result<u8, Fault> {
+        let mut drawers = Vec::new(alloc);
+        add_drawer(alloc, name, disk, &mut drawers)?;
+        Ok(top_call(alloc, drawers, &self.next.words, objects)?.status)
+    }
+}
+
+// What the shelf answered: to the first disks, which it takes, and to those that were offered.
+fn tell_answers(outcome: &Outcome, own: usize, transcript: &mut Transcript) -> Result<(), Fault> {
+    for (place, disk) in outcome.disks.iter().enumerate() {
+        if place >= own {
+            transcript.line(&[
+                Part::Text("offer"),
+                Part::Text(disk.name.as_str()),
+                Part::Text(disk.answer),
+            ]);
+        } else if disk.answer != TAKEN_IN {
+            return Err(Fault::Bad("the shelf refuses a disk"));
+        }
+    }
+    Ok(())
+}
+
+// How many bytes a source has left. A call that is to fail takes nothing, and is asked once more.
+fn left_of_input(input: &mut MemSource) -> u64 {
+    let mut count = 0u64;
+    let mut into = [0; 4096];
+    for _ in 0..u64::MAX {
+        match input.take(&mut into) {
+            Ok(0) => break,
+            Ok(taken) => count = count.saturating_add(taken as u64),
+            Err(_) => {}
+        }
+    }
+    count
+}
+
+// How many bytes entropy has left: first by blocks, which is fast, and the rest byte by byte. A block for which too
+// little is left takes nothing.
+fn left_of_entropy(entropy: &mut MemEntropy) -> usize {
+    let mut count = 0usize;
+    for _ in 0..u64::MAX {
+        if entropy.fill(&mut [0; 256]).is_err() {
+            break;
+        }
+        count = count.saturating_add(256);
+    }
+    for _ in 0..u64::MAX {
+        if entropy.fill(&mut [0; 1]).is_err() {
+            break;
+        }
+        count = count.saturating_add(1);
+    }
+    count
+}

@@ -1,0 +1,142 @@
+-- What the status says of the words and of the sink.
+use Rattle.std.specs.Io.KnownBytes.{prepend_known}
+use Rattle.std.proofs.lemmas.List.{append-nil}
+use Rattle.std.proofs.Common.{◌∙◌, ◌++◌, ◌≡◌, inl, inr, ℕ, List, [], ◌∷◌, Option, None, Some, ap, refl, subst}
+use Rattle.block_traits.specs.Causes.{Rose}
+use Rattle.block_traits.proofs.Causes.{Rose-earlier}
+use Rattle.block_traits.specs.Streams.{SinkState}
+use Rattle.command_words.specs.Images.{line_of, script_images}
+use Rattle.command_words.specs.declared.commands.Command.{Command}
+use Rattle.command_words.specs.declared.spans.Sep.TheVariants.{Blanks, Zeros}
+use Rattle.geli_core.specs.Asked.{asked_in}
+use Rattle.geli_core.specs.Histories.{EachGrew}
+use Rattle.geli_core.proofs.Drawn.{closed_run_grew, each_as}
+use Rattle.geli_core.specs.Script.{Ends, EndsBy, EndsCommand, HasCause, Prints, PrintsUsage, Runs, RunsAs, RunsCommand, RunsLine, RunsScript, Whole}
+use Rattle.geli_core.specs.declared.status.Status.{Status}
+use Rattle.geli_core.specs.declared.status.Status.TheVariants.{Done, SomeRefused, BadWords, ReadFault, WriteFault, NoMemory, LineTooLong, ScriptTooLong}
+use Rattle.shelf.specs.Answer.{Answer}
+
+pub rose_prints : (answers : List (Option Answer)) (failed : ℕ) (old new : SinkState) → Prints answers failed old WriteFault new → Rose old.faults new.faults
+rose_prints answers failed old new (inl part) = Rose-earlier old.faults part.middle.faults new.faults part.before.later part.part.rose
+rose_prints answers failed old new (inr part) = Rose-earlier old.faults part.middle.faults new.faults part.before.later part.part.rose
+
+rose_line : (line : List ℕ) (command : Option Command) (old new : Whole) → RunsLine line command old WriteFault new → Rose old.sink.faults new.sink.faults
+rose_line line None old new h = h.prints.rose
+rose_line line (Some command) old new h = rose_prints (Some h.answer ∷ []) h.failed old.sink new.sink h.prints
+
+rose_as : (asks : Option (List (List ℕ))) (words : List (List ℕ)) (old new : Whole) → RunsAs asks words old WriteFault new → Rose old.sink.faults new.sink.faults
+rose_as (Some names) words old new h = rose_prints h.answers h.failed old.sink new.sink h.prints
+rose_as None words old new h = rose_line (line_of words) (asked_in (line_of words)) old new h
+
+pub write_fault_rose : (words : List (List ℕ)) (old new : Whole) (status : Status) → Runs words old status new → status ≡ WriteFault → Rose old.sink.faults new.sink.faults
+write_fault_rose words old new status h is = rose_as (script_images words) words old new (subst (λ (s : Status). Runs words old s new) is h)
+
+-- ---- how the run ended
+
+not_bad : (names : List (List ℕ)) (command : Option Command) (answers : List (Option Answer)) (failed : ℕ) (old new : SinkState) (status : Status) → Prints answers failed old status new → EndsBy (Some names) command status
+not_bad names command answers failed old new WriteFault h = tt
+not_bad names command answers failed old new NoMemory h = tt
+not_bad names command answers failed old new BadWords h = absurd h
+not_bad names command answers failed old new Done h = λ is. (let no : ⊥ = cc is in no)
+not_bad names command answers failed old new SomeRefused h = λ is. (let no : ⊥ = cc is in no)
+not_bad names command answers failed old new ReadFault h = λ is. (let no : ⊥ = cc is in no)
+not_bad names command answers failed old new LineTooLong h = λ is. (let no : ⊥ = cc is in no)
+not_bad names command answers failed old new ScriptTooLong h = λ is. (let no : ⊥ = cc is in no)
+
+command_ends : (command : Command) (status : Status) → EndsCommand status → EndsBy None (Some command) status
+command_ends command WriteFault h = tt
+command_ends command Done h = inl refl
+command_ends command SomeRefused h = inr refl
+command_ends command status h = absurd h
+
+usage_ends : (old new : SinkState) (status : Status) → PrintsUsage old status new → EndsBy None None status
+usage_ends old new WriteFault h = tt
+usage_ends old new BadWords h = refl
+usage_ends old new status h = absurd h
+
+line_ends : (line : List ℕ) (command : Option Command) (old new : Whole) (status : Status) → RunsLine line command old status new → EndsBy None command status
+line_ends line None old new status h = usage_ends old.sink new.sink status h.prints
+line_ends line (Some command) old new status h = command_ends command status h.ended
+
+ends_as : (asks : Option (List (List ℕ))) (words : List (List ℕ)) (old new : Whole) (status : Status) → RunsAs asks words old status new → EndsBy asks (asked_in (line_of words)) status
+ends_as (Some names) words old new status h = not_bad names (asked_in (line_of words)) h.answers h.failed old.sink new.sink status h.prints
+ends_as None words old new status h = line_ends (line_of words) (asked_in (line_of words)) old new status h
+
+pub runs_end : (words : List (List ℕ)) (old new : Whole) (status : Status) → Runs words old status new → Ends words status
+runs_end words old new NoMemory h = tt
+runs_end words old new Done h = ends_as (script_images words) words old new Done h
+runs_end words old new SomeRefused h = ends_as (script_images words) words old new SomeRefused h
+runs_end words old new BadWords h = ends_as (script_images words) words old new BadWords h
+runs_end words old new ReadFault h = ends_as (script_images words) words old new ReadFault h
+runs_end words old new WriteFault h = tt
+runs_end words old new LineTooLong h = ends_as (script_images words) words old new LineTooLong h
+runs_end words old new ScriptTooLong h = ends_as (script_images words) words old new ScriptTooLong h
+
+-- ---- the histories
+
+line_grew : (line : List ℕ) (command : Option Command) (old new : Whole) (status : Status) → RunsLine line command old status new → EachGrew old.world.drawers new.world.drawers
+line_grew line None old new status h = each_as old.world new.world h.world
+line_grew line (Some command) old new status h = closed_run_grew Zeros old.world (line ∷ []) (Some h.answer ∷ []) h.failed new.world h.runs
+
+grew_as : (asks : Option (List (List ℕ))) (words : List (List ℕ)) (old new : Whole) (status : Status) → RunsAs asks words old status new → EachGrew old.world.drawers new.world.drawers
+grew_as (Some names) words old new status h = closed_run_grew Blanks old.world h.served h.answers h.failed new.world h.runs
+grew_as None words old new status h = line_grew (line_of words) (asked_in (line_of words)) old new status h
+
+pub runs_grew : (words : List (List ℕ)) (old new : Whole) (status : Status) → Runs words old status new → EachGrew old.world.drawers new.world.drawers
+runs_grew words old new NoMemory h = each_as old.world new.world (ap (λ (w : Whole). w.world) h)
+runs_grew words old new Done h = grew_as (script_images words) words old new Done h
+runs_grew words old new SomeRefused h = grew_as (script_images words) words old new SomeRefused h
+runs_grew words old new BadWords h = grew_as (script_images words) words old new BadWords h
+runs_grew words old new ReadFault h = grew_as (script_images words) words old new ReadFault h
+runs_grew words old new WriteFault h = grew_as (script_images words) words old new WriteFault h
+runs_grew words old new LineTooLong h = grew_as (script_images words) words old new LineTooLong h
+runs_grew words old new ScriptTooLong h = grew_as (script_images words) words old new ScriptTooLong h
+
+-- ---- why it broke off
+
+script_caused : (old new : Whole) (status : Status) → RunsScript old status new → HasCause status old new
+script_caused old new Done h = tt
+script_caused old new SomeRefused h = tt
+script_caused old new BadWords h = tt
+script_caused old new NoMemory h = tt
+script_caused old new WriteFault h = rose_prints h.answers h.failed old.sink new.sink h.prints
+script_caused old new ReadFault h = h.up_to.2
+script_caused old new LineTooLong h = record { taken = h.taken; gave = h.gave; cut = h.cut; long = h.up_to.1 }
+script_caused old new ScriptTooLong h = record {
+  read = h.taken.read;
+  gave = h.gave ∙ ap (λ (l : List ℕ). prepend_known (h.taken.read ++ l) new.source.left) h.up_to.1 ∙ ap (λ (l : List ℕ). prepend_known l new.source.left) (append-nil h.taken.read);
+  size = h.up_to.2;
+}
+
+command_caused : (line : List ℕ) (old new : Whole) (status : Status) → RunsCommand line old status new → HasCause status old new
+command_caused line old new WriteFault h = rose_prints (Some h.answer ∷ []) h.failed old.sink new.sink h.prints
+command_caused line old new ReadFault h = absurd h.ended
+command_caused line old new LineTooLong h = absurd h.ended
+command_caused line old new ScriptTooLong h = absurd h.ended
+command_caused line old new Done h = tt
+command_caused line old new SomeRefused h = tt
+command_caused line old new BadWords h = tt
+command_caused line old new NoMemory h = tt
+
+usage_caused : (old new : Whole) (status : Status) → PrintsUsage old.sink status new.sink → HasCause status old new
+usage_caused old new WriteFault h = h.rose
+usage_caused old new BadWords h = tt
+usage_caused old new status h = absurd h
+
+line_caused : (line : List ℕ) (command : Option Command) (old new : Whole) (status : Status) → RunsLine line command old status new → HasCause status old new
+line_caused line None old new status h = usage_caused old new status h.prints
+line_caused line (Some command) old new status h = command_caused line old new status h
+
+caused_as : (asks : Option (List (List ℕ))) (words : List (List ℕ)) (old new : Whole) (status : Status) → RunsAs asks words old status new → HasCause status old new
+caused_as (Some names) words old new status h = script_caused old new status h
+caused_as None words old new status h = line_caused (line_of words) (asked_in (line_of words)) old new status h
+
+pub runs_caused : (words : List (List ℕ)) (old new : Whole) (status : Status) → Runs words old status new → HasCause status old new
+runs_caused words old new NoMemory h = tt
+runs_caused words old new Done h = tt
+runs_caused words old new SomeRefused h = tt
+runs_caused words old new BadWords h = tt
+runs_caused words old new ReadFault h = caused_as (script_images words) words old new ReadFault h
+runs_caused words old new WriteFault h = caused_as (script_images words) words old new WriteFault h
+runs_caused words old new LineTooLong h = caused_as (script_images words) words old new LineTooLong h
+runs_caused words old new ScriptTooLong h = caused_as (script_images words) words old new ScriptTooLong h

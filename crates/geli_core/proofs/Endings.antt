@@ -1,0 +1,271 @@
+-- How a script ends.
+use Rattle.std.proofs.Common.{◌≡◌, ◌∙◌, inl, inr, ℕ, ◌+◌, ◌-◌, ◌≤◌, ◌<◌, List, [], ◌∷◌, ◌++◌, length, refl, ap, sym, subst, arith, Option, Some, Bool, true, false, Ok, Err}
+use Rattle.std.specs.Prelude.{◌||◌, nat_lt}
+use Rattle.std.proofs.Common.{zero, suc}
+use Rattle.std.proofs.lemmas.Bool.Decides.{nat_tests}
+use Rattle.std.proofs.lemmas.List.{replicate-append-replicate}
+use Rattle.eli_base.specs.declared.Refusal.TheVariants as refusals
+use Rattle.shelf.specs.Answer as answers
+use Rattle.shelf.specs.Answer.{answer_text}
+use Rattle.std.proofs.lemmas.List.{append-nil}
+use Rattle.std.proofs.lemmas.Grind.{flat_map-append}
+use Rattle.std.proofs.lemmas.List.Folds.{list_any-append}
+use Rattle.std.specs.Io.KnownBytes.{IsAtEnd, prepend_known}
+use Rattle.block_traits.specs.Causes.{Rose}
+use Rattle.block_traits.specs.Streams.{SinkState, TookAll, TookPart}
+use Rattle.command_words.specs.Reading.{line_limit}
+use Rattle.command_words.specs.declared.spans.Sep.TheVariants.{Blanks}
+use Rattle.shelf.specs.Answer.{Answer}
+use Rattle.reply_text.specs.declared.WriteEnd.{WriteEnd}
+use Rattle.reply_text.proofs.Printing.{TookAll-then}
+use Rattle.shelf.specs.Closing.{ClosesWorld}
+use Rattle.geli_core.specs.Lines.{CutsInto, last_line}
+use Rattle.geli_core.specs.Run.{FailsInLast, ServesAndPrints, ServesLine, answers_text, any_refused, closing_answers, is_refusal, refuses, text_of}
+use Rattle.geli_core.specs.Script.{RunsScript, script_limit}
+use Rattle.geli_core.specs.Served.{ClosesAndPrints, IsAllServed, IsAllUnprinted, IsServed, IsTaken, PrintsClosing, ServesAll, ServesLines, Site, StopsWithin, status_by, whole_of}
+use Rattle.geli_core.specs.Source.{SourceState}
+use Rattle.geli_core.specs.declared.feeding.Stop.TheVariants.{TooLong, Unprinted}
+use Rattle.geli_core.specs.declared.serving.LineEnd.{LineEnd}
+use Rattle.geli_core.specs.declared.status.Status.{Status}
+use Rattle.geli_core.specs.declared.status.Status.TheVariants.{Done, SomeRefused, BadWords, ReadFault, WriteFault, NoMemory, LineTooLong, ScriptTooLong}
+use Rattle.geli_core.proofs.Running.{Run-more, all_more, failed_more, refused_more, took_more}
+
+last_line-some : (line : List ℕ) → 1 ≤ length line → last_line line ≡ line ∷ []
+last_line-some [] some = absurd (omega arith)
+last_line-some (b ∷ bs) some = refl
+
+-- ---- the last line
+
+pub all_served-none : (bytes : List ℕ) (old new : Site) (rest : List ℕ) (refused : Bool) → rest ≡ [] → IsServed bytes old rest refused new → IsAllServed bytes old refused new
+all_served-none bytes old new rest refused none h = record {
+  serves = record {
+    lines = h.serves.lines;
+    rest = [];
+    answers = h.serves.answers;
+    cut = subst (λ (r : List ℕ). CutsInto bytes h.serves.lines r) none h.serves.cut;
+    short = rw (append-nil h.serves.lines) h.serves.short;
+    run = rw (append-nil h.serves.lines) h.serves.run;
+  };
+  printed = h.printed;
+  any = h.any;
+}
+
+serves_last : (bytes : List ℕ) (old middle new : Site) (line : List ℕ) (h : ServesLines bytes old line middle) (answer : Option Answer) → 1 ≤ length line → length line ≤ line_limit
+    → ServesLine Blanks line middle.world answer new.world → ServesAll bytes old new
+serves_last bytes old middle new line h answer some short serves = record {
+  lines = h.lines;
+  rest = line;
+  answers = h.answers ++ answer ∷ [];
+  cut = h.cut;
+  short = rw (last_line-some line some) (all_more _ h.lines line h.short short);
+  run = rw (last_line-some line some) (Run-more Blanks old.world middle.world new.world h.lines line h.answers answer h.run serves);
+}
+
+pub all_served-line : (bytes : List ℕ) (old middle new : Site) (line : List ℕ) (refused : Bool) (end : LineEnd) → 1 ≤ length line → length line ≤ line_limit → IsServed bytes old line refused middle
+    → ServesAndPrints Blanks line middle.world middle.sink (Ok end) new.world new.sink → IsAllServed bytes old (refused || is_refusal end) new
+unfolding serves_last
+all_served-line bytes old middle new line refused end some short h s = record {
+  serves = serves_last bytes old middle new line h.serves s.answer some short s.serves;
+  printed = took_more h.serves.answers s.answer old.sink middle.sink new.sink h.printed s.prints.1;
+  any = refused_more h.serves.answers s.answer refused end h.any s.prints.0;
+}
+
+pub all_unprinted-line : (bytes : List ℕ) (old middle new : Site) (line : List ℕ) (refused : Bool) (failed : WriteEnd) → 1 ≤ length line → length line ≤ line_limit → IsServed bytes old line refused middle
+    → ServesAndPrints Blanks line middle.world middle.sink (Err failed) new.world new.sink → IsAllUnprinted bytes old new
+unfolding serves_last
+all_unprinted-line bytes old middle new line refused failed some short h s = record {
+  serves = serves_last bytes old middle new line h.serves s.answer some short s.serves;
+  printed = failed_more h.serves.answers s.answer old.sink middle.sink new.sink h.printed s.prints;
+}
+
+-- ---- the script
+
+gave_all : (bytes : List ℕ) (source after : SourceState) → source.left ≡ prepend_known bytes after.left → source.left ≡ prepend_known (bytes ++ []) after.left
+gave_all bytes source after gave = rw (append-nil bytes) gave
+
+any_all : (said : List (Option Answer)) (failed : ℕ) (refused : Bool) → any_refused said ≡ refused → any_refused (said ++ closing_answers failed) ≡ (refused || any_refused (closing_answers failed))
+any_all said failed refused was = list_any-append refuses said (closing_answers failed) ∙ ap (λ (b : Bool). b || any_refused (closing_answers failed)) was
+
+-- all was printed
+ended_by : (bytes : List ℕ) (old middle new : Site) (source after : SourceState) (h : ServesAll bytes old middle) (failed : ℕ) (all : Bool) → length bytes < script_limit → IsAtEnd after.left
+    → source.left ≡ prepend_known bytes after.left → ClosesWorld middle.world failed new.world → any_refused (h.answers ++ closing_answers failed) ≡ all
+    → TookAll (answers_text (h.answers ++ closing_answers failed)) old.sink new.sink → RunsScript (whole_of old source) (status_by all) (whole_of new after)
+ended_by bytes old middle new source after h failed false small end gave closes refused took = record {
+  taken = record { read = bytes; lines = h.lines; rest = h.rest; unread = [] };
+  gave = gave_all bytes source after gave;
+  cut = h.cut;
+  served = h.lines ++ last_line h.rest;
+  short = h.short;
+  up_to = record { small = small; all = refl; unread = refl; end = end };
+  answers = h.answers;
+  failed = failed;
+  runs = record { middle = middle.world; run = h.run; closes = closes };
+  prints = (refused, took);
+}
+ended_by bytes old middle new source after h failed true small end gave closes refused took = record {
+  taken = record { read = bytes; lines = h.lines; rest = h.rest; unread = [] };
+  gave = gave_all bytes source after gave;
+  cut = h.cut;
+  served = h.lines ++ last_line h.rest;
+  short = h.short;
+  up_to = record { small = small; all = refl; unread = refl; end = end };
+  answers = h.answers;
+  failed = failed;
+  runs = record { middle = middle.world; run = h.run; closes = closes };
+  prints = (refused, took);
+}
+
+ended_whole : (bytes : List ℕ) (old middle new : Site) (source after : SourceState) (refused : Bool) (failed : ℕ) (status : Status) → IsAllServed bytes old refused middle → length bytes < script_limit → IsAtEnd after.left
+    → source.left ≡ prepend_known bytes after.left → ClosesWorld middle.world failed new.world
+    → (status ≡ status_by (refused || any_refused (closing_answers failed))) × TookAll (answers_text (closing_answers failed)) middle.sink new.sink
+    → RunsScript (whole_of old source) status (whole_of new after)
+ended_whole bytes old middle new source after refused failed status h small end gave closes p =
+    let all : Bool = refused || any_refused (closing_answers failed) in
+    let text = flat_map-append text_of h.serves.answers (closing_answers failed) in
+    let took : TookAll (answers_text (h.serves.answers ++ closing_answers failed)) old.sink new.sink = rw text (TookAll-then _ _ h.printed p.1) in
+    subst (λ (s : Status). RunsScript (whole_of old source) s (whole_of new after)) (sym p.0)
+    (ended_by bytes old middle new source after h.serves failed all small end gave closes (any_all h.serves.answers failed refused h.any) took)
+
+ended_part : (bytes : List ℕ) (old middle new : Site) (source after : SourceState) (refused : Bool) (failed : ℕ) → IsAllServed bytes old refused middle → length bytes < script_limit → IsAtEnd after.left
+    → source.left ≡ prepend_known bytes after.left → ClosesWorld middle.world failed new.world → TookPart (answers_text (closing_answers failed)) middle.sink new.sink
+    → RunsScript (whole_of old source) WriteFault (whole_of new after)
+ended_part bytes old middle new source after refused failed h small end gave closes p =
+    record {
+      taken = record { read = bytes; lines = h.serves.lines; rest = h.serves.rest; unread = [] };
+      gave = gave_all bytes source after gave;
+      cut = h.serves.cut;
+      served = h.serves.lines ++ last_line h.serves.rest;
+      short = h.serves.short;
+      up_to = inr (record { small = small; all = refl; unread = refl; end = end });
+      answers = h.serves.answers;
+      failed = failed;
+      runs = record { middle = middle.world; run = h.serves.run; closes = closes };
+      prints = inr (record { middle = middle.sink; before = h.printed; part = p });
+    }
+
+pub ended_script : (bytes : List ℕ) (old middle new : Site) (source after : SourceState) (refused : Bool) (status : Status) → IsAllServed bytes old refused middle → length bytes < script_limit → IsAtEnd after.left
+    → source.left ≡ prepend_known bytes after.left → (c : ClosesAndPrints refused middle status new) → RunsScript (whole_of old source) status (whole_of new after)
+ended_script bytes old middle new source after refused WriteFault h small end gave c = ended_part bytes old middle new source after refused c.failed h small end gave c.closes c.prints
+ended_script bytes old middle new source after refused Done h small end gave c = ended_whole bytes old middle new source after refused c.failed Done h small end gave c.closes c.prints
+ended_script bytes old middle new source after refused SomeRefused h small end gave c = ended_whole bytes old middle new source after refused c.failed SomeRefused h small end gave c.closes c.prints
+ended_script bytes old middle new source after refused BadWords h small end gave c = ended_whole bytes old middle new source after refused c.failed BadWords h small end gave c.closes c.prints
+ended_script bytes old middle new source after refused ReadFault h small end gave c = ended_whole bytes old middle new source after refused c.failed ReadFault h small end gave c.closes c.prints
+ended_script bytes old middle new source after refused NoMemory h small end gave c = ended_whole bytes old middle new source after refused c.failed NoMemory h small end gave c.closes c.prints
+ended_script bytes old middle new source after refused LineTooLong h small end gave c = ended_whole bytes old middle new source after refused c.failed LineTooLong h small end gave c.closes c.prints
+ended_script bytes old middle new source after refused ScriptTooLong h small end gave c = ended_whole bytes old middle new source after refused c.failed ScriptTooLong h small end gave c.closes c.prints
+
+-- the last line was not printed
+pub ended_unprinted : (bytes : List ℕ) (old middle new : Site) (source after : SourceState) (failed : ℕ) → IsAllUnprinted bytes old middle → length bytes < script_limit → IsAtEnd after.left
+    → source.left ≡ prepend_known bytes after.left → ClosesWorld middle.world failed new.world → new.sink ≡ middle.sink → RunsScript (whole_of old source) WriteFault (whole_of new after)
+ended_unprinted bytes old middle new source after failed h small end gave closes same = record {
+  taken = record { read = bytes; lines = h.serves.lines; rest = h.serves.rest; unread = [] };
+  gave = gave_all bytes source after gave;
+  cut = h.serves.cut;
+  served = h.serves.lines ++ last_line h.serves.rest;
+  short = h.serves.short;
+  up_to = inr (record { small = small; all = refl; unread = refl; end = end });
+  answers = h.serves.answers;
+  failed = failed;
+  runs = record { middle = middle.world; run = h.serves.run; closes = closes };
+  prints = inl (subst (λ (s : SinkState). FailsInLast h.serves.answers old.sink s) (sym same) h.printed);
+}
+
+-- the source failed
+pub ended_failed : (bytes : List ℕ) (old middle new : Site) (source after : SourceState) (rest : List ℕ) (refused : Bool) (failed : ℕ) → IsTaken bytes old source rest refused middle after → Rose source.faults after.faults
+    → ClosesWorld middle.world failed new.world → new.sink ≡ middle.sink → RunsScript (whole_of old source) ReadFault (whole_of new after)
+ended_failed bytes old middle new source after rest refused failed h rose closes same = record {
+  taken = record { read = bytes; lines = h.served.serves.lines; rest = rest; unread = [] };
+  gave = gave_all bytes source after h.gave;
+  cut = h.served.serves.cut;
+  served = h.served.serves.lines;
+  short = h.served.serves.short;
+  up_to = (refl, refl, rose);
+  answers = h.served.serves.answers;
+  failed = failed;
+  runs = record { middle = middle.world; run = h.served.serves.run; closes = closes };
+  prints = subst (λ (s : SinkState). TookAll (answers_text h.served.serves.answers) old.sink s) (sym same) h.served.printed;
+}
+
+-- the limit was reached
+pub ended_full : (bytes : List ℕ) (old middle new : Site) (source after : SourceState) (rest : List ℕ) (refused : Bool) (failed : ℕ) → IsTaken bytes old source rest refused middle after → length bytes ≡ script_limit
+    → ClosesWorld middle.world failed new.world → new.sink ≡ middle.sink → RunsScript (whole_of old source) ScriptTooLong (whole_of new after)
+ended_full bytes old middle new source after rest refused failed h full closes same = record {
+  taken = record { read = bytes; lines = h.served.serves.lines; rest = rest; unread = [] };
+  gave = gave_all bytes source after h.gave;
+  cut = h.served.serves.cut;
+  served = h.served.serves.lines;
+  short = h.served.serves.short;
+  up_to = (refl, refl, full);
+  answers = h.served.serves.answers;
+  failed = failed;
+  runs = record { middle = middle.world; run = h.served.serves.run; closes = closes };
+  prints = subst (λ (s : SinkState). TookAll (answers_text h.served.serves.answers) old.sink s) (sym same) h.served.printed;
+}
+
+-- a line was too long
+pub ended_long : (bytes : List ℕ) (old middle new : Site) (source after : SourceState) (failed : ℕ) → StopsWithin bytes old TooLong middle → source.left ≡ prepend_known bytes after.left
+    → ClosesWorld middle.world failed new.world → new.sink ≡ middle.sink → RunsScript (whole_of old source) LineTooLong (whole_of new after)
+ended_long bytes old middle new source after failed h gave closes same = record {
+  taken = record { read = h.read; lines = h.stops.served.serves.lines; rest = h.stops.rest; unread = h.unread };
+  gave = subst (λ (l : List ℕ). source.left ≡ prepend_known l after.left) h.whole gave;
+  cut = h.stops.served.serves.cut;
+  served = h.stops.served.serves.lines;
+  short = h.stops.served.serves.short;
+  up_to = (refl, h.stops.long);
+  answers = h.stops.served.serves.answers;
+  failed = failed;
+  runs = record { middle = middle.world; run = h.stops.served.serves.run; closes = closes };
+  prints = subst (λ (s : SinkState). TookAll (answers_text h.stops.served.serves.answers) old.sink s) (sym same) h.stops.served.printed;
+}
+
+-- an answer was not printed
+pub ended_broken : (bytes : List ℕ) (old middle new : Site) (source after : SourceState) (failed : ℕ) → StopsWithin bytes old Unprinted middle → source.left ≡ prepend_known bytes after.left
+    → ClosesWorld middle.world failed new.world → new.sink ≡ middle.sink → RunsScript (whole_of old source) WriteFault (whole_of new after)
+ended_broken bytes old middle new source after failed h gave closes same = record {
+  taken = record { read = h.read; lines = h.stops.serves.lines; rest = []; unread = h.unread };
+  gave = subst (λ (l : List ℕ). source.left ≡ prepend_known l after.left) h.whole gave;
+  cut = h.stops.serves.cut;
+  served = h.stops.serves.lines;
+  short = h.stops.serves.short;
+  up_to = inl refl;
+  answers = h.stops.serves.answers;
+  failed = failed;
+  runs = record { middle = middle.world; run = h.stops.serves.run; closes = closes };
+  prints = inl (subst (λ (s : SinkState). FailsInLast h.stops.serves.answers old.sink s) (sym same) h.stops.printed);
+}
+
+-- ---- the refusals of the closing
+
+pub failures_text-add : (n m : ℕ) → answers_text (closing_answers (n + m)) ≡ answers_text (closing_answers n) ++ answers_text (closing_answers m)
+failures_text-add n m =
+    ap answers_text (sym (replicate-append-replicate n m (Some (answers.Refused refusals.DeviceFault))))
+    ∙ flat_map-append text_of (closing_answers n) (closing_answers m)
+
+pub failures_text-one : answers_text (closing_answers 1) ≡ answer_text (answers.Refused refusals.DeviceFault)
+failures_text-one = append-nil _
+
+pub failures_text-more : (n : ℕ) → answers_text (closing_answers (n + 1)) ≡ answers_text (closing_answers n) ++ answer_text (answers.Refused refusals.DeviceFault)
+failures_text-more n = failures_text-add n 1 ∙ ap (λ (l : List ℕ). answers_text (closing_answers n) ++ l) failures_text-one
+
+any_failed : (n : ℕ) → any_refused (closing_answers n) ≡ nat_lt 0 n
+any_failed zero = refl
+any_failed (suc n) = grind (arith, nat_tests)
+
+pub failures-refuse : (refused : Bool) (n : ℕ) → (refused || nat_lt 0 n) ≡ (refused || any_refused (closing_answers n))
+failures-refuse refused n = ap (λ (b : Bool). refused || b) (sym (any_failed n))
+
+pub failures_text-split : (i n : ℕ) → i < n
+    → answers_text (closing_answers n) ≡ (answers_text (closing_answers i) ++ answer_text (answers.Refused refusals.DeviceFault)) ++ answers_text (closing_answers (n - (i + 1)))
+failures_text-split i n small =
+    let whole : n ≡ i + 1 + (n - (i + 1)) = omega arith in
+    ap (λ (k : ℕ). answers_text (closing_answers k)) whole ∙ failures_text-add (i + 1) (n - (i + 1))
+    ∙ ap (λ (l : List ℕ). l ++ answers_text (closing_answers (n - (i + 1)))) (failures_text-more i)
+
+pub prints_closing : (refused : Bool) (failed : ℕ) (old new : SinkState) (all : Bool) → all ≡ (refused || any_refused (closing_answers failed)) → TookAll (answers_text (closing_answers failed)) old new
+    → PrintsClosing refused failed old (status_by all) new
+prints_closing refused failed old new false is took = (ap status_by is, took)
+prints_closing refused failed old new true is took = (ap status_by is, took)
+
+pub no_bytes : (line : List ℕ) → length line ≡ 0 → line ≡ []
+no_bytes [] none = refl
+no_bytes (b ∷ bs) none = absurd (omega arith)

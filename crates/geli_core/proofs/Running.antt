@@ -1,0 +1,137 @@
+-- One more line is served, and one more byte is looked at.
+use Rattle.std.proofs.Common.{◌≡◌, ◌≢◌, ◌∙◌, ℕ, ◌≤◌, List, [], ◌∷◌, ◌++◌, length, refl, ap, sym, subst, arith, append_assoc, length-append, Option, None, Some, Bool, true, false, Ok, Err}
+use Rattle.std.specs.Prelude.{◌||◌}
+use Rattle.std.proofs.lemmas.List.{append-nil}
+use Rattle.std.proofs.lemmas.Grind.{flat_map-append}
+use Rattle.std.proofs.lemmas.List.Folds.{list_any-append}
+use Rattle.std.specs.List.{AllByRecursion, flat_map, list_any}
+use Rattle.block_traits.specs.Streams.{SinkState, TookAll, TookPart}
+use Rattle.command_words.specs.Reading.{line_limit}
+use Rattle.command_words.specs.declared.spans.Sep.{Sep}
+use Rattle.command_words.specs.declared.spans.Sep.TheVariants.{Blanks}
+use Rattle.shelf.specs.Answer.{Answer}
+use Rattle.shelf.specs.Answer as answers
+use Rattle.reply_text.specs.declared.WriteEnd.{WriteEnd}
+use Rattle.reply_text.proofs.Printing.{TookAll-nothing, TookAll-then}
+use Rattle.shelf.specs.World.{World}
+use Rattle.geli_core.specs.Lines.{ended, newline}
+use Rattle.geli_core.specs.Run.{FailsInLast, Run, ServesAndPrints, ServesLine, answers_text, any_refused, end_of, is_refusal, refuses, text_of}
+use Rattle.geli_core.specs.declared.serving.LineEnd.{LineEnd}
+use Rattle.geli_core.specs.Served.{IsServed, IsTooLong, IsUnprinted, ServesLines, Site}
+
+-- a run goes on by a line
+pub Run-more : (sep : Sep) (old middle new : World) (lines : List (List ℕ)) (line : List ℕ) (answers : List (Option Answer)) (answer : Option Answer)
+    → Run sep old lines answers middle → ServesLine sep line middle answer new → Run sep old (lines ++ line ∷ []) (answers ++ answer ∷ []) new
+Run-more sep old middle new [] line [] answer run serves = (new, subst (λ (w : World). ServesLine sep line w answer new) run serves, refl)
+Run-more sep old middle new (l ∷ lines) line (a ∷ answers) answer run serves =
+    (run.0, run.1, Run-more sep run.0 middle new lines line answers answer run.2 serves)
+Run-more sep old middle new [] line (a ∷ answers) answer run serves = absurd run
+Run-more sep old middle new (l ∷ lines) line [] answer run serves = absurd run
+
+-- all, and one more
+pub all_more : {X : Type 0} (P : X → Type 0) (xs : List X) (x : X) → AllByRecursion P xs → P x → AllByRecursion P (xs ++ x ∷ [])
+all_more P [] x all one = (one, tt)
+all_more P (y ∷ ys) x all one = (all.0, all_more P ys x all.1 one)
+
+flat_map-more : {X : Type 0} (f : X → List ℕ) (xs : List X) (x : X) → flat_map f (xs ++ x ∷ []) ≡ flat_map f xs ++ f x
+flat_map-more f xs x = flat_map-append f xs (x ∷ []) ∙ ap (λ (l : List ℕ). flat_map f xs ++ l) (append-nil (f x))
+
+or_nothing : (b : Bool) → (b || false) ≡ b
+or_nothing true = refl
+or_nothing false = refl
+
+any-more : {X : Type 0} (p : X → Bool) (xs : List X) (x : X) → list_any p (xs ++ x ∷ []) ≡ (list_any p xs || p x)
+any-more p xs x = list_any-append p xs (x ∷ []) ∙ ap (λ (b : Bool). list_any p xs || b) (or_nothing (p x))
+
+-- whether a line that ended so was refused
+pub refuses-end : (answer : Option Answer) → refuses answer ≡ is_refusal (end_of answer)
+refuses-end None = refl
+refuses-end (Some (answers.Refused refusal)) = refl
+refuses-end (Some answers.Done) = refl
+refuses-end (Some (answers.Payload bytes)) = refl
+refuses-end (Some (answers.Dump meta)) = refl
+refuses-end (Some (answers.Digest digest)) = refl
+refuses-end (Some (answers.Rows rows)) = refl
+
+-- nothing was looked at
+pub IsServed-nothing : (site : Site) → IsServed [] site [] false site
+IsServed-nothing site = record {
+  serves = record { lines = []; answers = []; cut = record { whole = refl; each = tt; behind = tt }; short = tt; run = refl };
+  printed = TookAll-nothing site.sink;
+  any = refl;
+}
+
+-- one more byte of a line
+pub IsServed-byte : (bytes : List ℕ) (old new : Site) (rest : List ℕ) (refused : Bool) (b : ℕ) → b ≢ newline → IsServed bytes old rest refused new
+    → IsServed (bytes ++ b ∷ []) old (rest ++ b ∷ []) refused new
+IsServed-byte bytes old new rest refused b other h = record {
+  serves = record {
+    lines = h.serves.lines;
+    answers = h.serves.answers;
+    cut = record {
+      whole = ap (λ (l : List ℕ). l ++ b ∷ []) h.serves.cut.whole ∙ append_assoc (flat_map ended h.serves.lines) rest (b ∷ []);
+      each = h.serves.cut.each;
+      behind = all_more _ rest b h.serves.cut.behind other;
+    };
+    short = h.serves.short;
+    run = h.serves.run;
+  };
+  printed = h.printed;
+  any = h.any;
+}
+
+-- a line that has its newline now was served
+ServesLines-line : (bytes : List ℕ) (old middle new : Site) (line : List ℕ) (h : ServesLines bytes old line middle) (answer : Option Answer) → length line ≤ line_limit
+    → ServesLine Blanks line middle.world answer new.world → ServesLines (bytes ++ newline ∷ []) old [] new
+ServesLines-line bytes old middle new line h answer short serves = record {
+  lines = h.lines ++ line ∷ [];
+  answers = h.answers ++ answer ∷ [];
+  cut = record {
+    whole =
+        ap (λ (l : List ℕ). l ++ newline ∷ []) h.cut.whole ∙ append_assoc (flat_map ended h.lines) line (newline ∷ [])
+        ∙ sym (flat_map-more ended h.lines line) ∙ sym (append-nil (flat_map ended (h.lines ++ line ∷ [])));
+    each = all_more _ h.lines line h.cut.each h.cut.behind;
+    behind = tt;
+  };
+  short = all_more _ h.lines line h.short short;
+  run = Run-more Blanks old.world middle.world new.world h.lines line h.answers answer h.run serves;
+}
+
+pub took_more : (said : List (Option Answer)) (answer : Option Answer) (old middle new : SinkState) → TookAll (answers_text said) old middle → TookAll (text_of answer) middle new
+    → TookAll (answers_text (said ++ answer ∷ [])) old new
+took_more said answer old middle new a b = rw (flat_map-more text_of said answer) (TookAll-then (answers_text said) (text_of answer) a b)
+
+pub failed_more : (said : List (Option Answer)) (answer : Option Answer) (old middle new : SinkState) → TookAll (answers_text said) old middle → TookPart (text_of answer) middle new
+    → FailsInLast (said ++ answer ∷ []) old new
+failed_more said answer old middle new a b = record { printed = said; last = answer; are = refl; middle = middle; before = a; part = b }
+
+pub refused_more : (said : List (Option Answer)) (answer : Option Answer) (refused : Bool) (end : LineEnd) → any_refused said ≡ refused → end ≡ end_of answer
+    → any_refused (said ++ answer ∷ []) ≡ (refused || is_refusal end)
+refused_more said answer refused end was is =
+    any-more refuses said answer ∙ ap (λ (b : Bool). b || refuses answer) was ∙ ap (λ (b : Bool). refused || b) (refuses-end answer ∙ ap is_refusal (sym is))
+
+pub IsServed-line : (bytes : List ℕ) (old middle new : Site) (line : List ℕ) (refused : Bool) (end : LineEnd) → length line ≤ line_limit → IsServed bytes old line refused middle
+    → ServesAndPrints Blanks line middle.world middle.sink (Ok end) new.world new.sink → IsServed (bytes ++ newline ∷ []) old [] (refused || is_refusal end) new
+unfolding ServesLines-line
+IsServed-line bytes old middle new line refused end short h s = record {
+  serves = ServesLines-line bytes old middle new line h.serves s.answer short s.serves;
+  printed = took_more h.serves.answers s.answer old.sink middle.sink new.sink h.printed s.prints.1;
+  any = refused_more h.serves.answers s.answer refused end h.any s.prints.0;
+}
+
+pub IsUnprinted-line : (bytes : List ℕ) (old middle new : Site) (line : List ℕ) (refused : Bool) (failed : WriteEnd) → length line ≤ line_limit → IsServed bytes old line refused middle
+    → ServesAndPrints Blanks line middle.world middle.sink (Err failed) new.world new.sink → IsUnprinted (bytes ++ newline ∷ []) old new
+unfolding ServesLines-line
+IsUnprinted-line bytes old middle new line refused failed short h s = record {
+  serves = ServesLines-line bytes old middle new line h.serves s.answer short s.serves;
+  printed = failed_more h.serves.answers s.answer old.sink middle.sink new.sink h.printed s.prints;
+}
+
+pub IsTooLong-byte : (bytes : List ℕ) (old new : Site) (rest : List ℕ) (refused : Bool) (b : ℕ) → b ≢ newline → line_limit ≤ length rest → IsServed bytes old rest refused new
+    → IsTooLong (bytes ++ b ∷ []) old new
+IsTooLong-byte bytes old new rest refused b other full h = record {
+  rest = rest ++ b ∷ [];
+  refused = refused;
+  served = IsServed-byte bytes old new rest refused b other h;
+  long = omega (arith, full, length-append rest (b ∷ []));
+}

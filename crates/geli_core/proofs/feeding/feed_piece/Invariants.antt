@@ -1,0 +1,21 @@
+use Rattle.std.proofs.Common.{ℕ, ◌≤◌, List, ◌++◌, take, vec_capacity, vec_len}
+use Rattle.block_traits.specs.Cabinet.{cabinet_of}
+use Rattle.block_traits.specs.Streams.{entropy_of, sink_of}
+use Rattle.command_words.specs.Reading.{line_limit}
+use Rattle.shelf.specs.World.{world_of}
+use Rattle.geli_core.specs.Served.{IsServed, Site, site_of}
+use Rattle.geli_core.proofs.feeding.feed_piece.Given as goal
+
+-- the bytes up to this place were looked at
+abbrev pub invariant-loop-byte : goal.invariant-loop-byte
+invariant-loop-byte g l =
+    let cabinet = cabinet_of g.C.Cabinet.files g.C.Cabinet.faults g.C.Cabinet.misses in
+    let entropy = entropy_of g.E.Entropy.left g.E.Entropy.faults in
+    let sink = sink_of g.K.Sink.taken g.K.Sink.faults in
+    let world = world_of g.D.Disk.state in
+    record {
+      room : line_limit ≤ vec_capacity l.line;
+      short : vec_len l.line ≤ line_limit;
+      feeds : (bytes : List ℕ) (old : Site) → IsServed bytes old l.fn.line.items l.fn.refused (site_of (world l.fn.shelf (cabinet l.fn.files) (entropy l.fn.entropy)) (sink l.fn.output))
+          → IsServed (bytes ++ take l.byte-index l.piece) old l.line.items l.refused (site_of (world l.shelf (cabinet l.files) (entropy l.entropy)) (sink l.output));
+    }

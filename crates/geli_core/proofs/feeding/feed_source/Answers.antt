@@ -1,0 +1,52 @@
+use Rattle.std.proofs.Common.{[], ◌++◌, ◌≤◌, ap, arith, length, length-append, length-take, sym, take}
+use Rattle.std.proofs.lemmas.List.{take-append-le}
+use Rattle.geli_core.proofs.Pieces.{IsTaken-piece, gave_piece, prepend_known-nothing}
+use Rattle.geli_core.proofs.Running.{IsServed-nothing}
+use Rattle.geli_core.proofs.feeding.feed_source.Goals as goal
+
+pub loop-room-init : goal.loop-room-init
+loop-room-init g c =
+    let none = ap length c.requires.empty in
+    let ok = c.args.line.now.ok.0 in
+    record {
+      capacity = c.requires.room;
+      short = omega arith;
+      bytes = [];
+      taken = record {
+        served = rw (c.requires.empty, c.requires.nothing) (IsServed-nothing _);
+        gave = sym (prepend_known-nothing _);
+        faults = omega arith;
+        short = omega arith;
+      };
+      counted = omega arith;
+    }
+
+pub returns-in-Err-fed-clause-ends : goal.returns-in-Err-fed-clause-ends
+returns-in-Err-fed-clause-ends g c =
+    let inv = c.loop-room.invariant in
+    let bound : c.in-Ok.count ≤ length c.take.new.into = c.in-Ok.ensures.bound in
+    let fed = rw take-append-le at (c.in-Err-fed.ensures.feeds inv.bytes _ inv.taken.served) in
+    record {
+      bytes = inv.bytes ++ take c.in-Ok.count c.take.new.into;
+      by = (fed, gave_piece inv.bytes (take c.in-Ok.count c.take.new.into) _ _ _ inv.taken.gave c.in-Ok.ensures.bytes);
+    }
+
+pub loop-room-preserved : goal.loop-room-preserved
+loop-room-preserved g c =
+    let inv = c.loop-room.invariant in
+    let count = c.in-Ok.count in
+    let into = c.take.new.into in
+    let bound : count ≤ length into = c.in-Ok.ensures.bound in
+    let fed = rw take-append-le at (c.in_default.ensures.feeds inv.bytes _ inv.taken.served) in
+    let ok = c.feed_piece-fed.new.line.ok.0 in
+    let small = c.in_default.ensures.short in
+    let counted = inv.counted in
+    let most = c.min-most.ensures in
+    let long = c.take.auto.into in
+    record {
+      capacity = c.in_default.ensures.room;
+      short = c.in_default.ensures.short;
+      bytes = inv.bytes ++ take count into;
+      taken = IsTaken-piece inv.bytes (take count into) _ _ _ _ _ _ _ _ _ _ inv.taken c.in-Ok.ensures.bytes c.in-Ok.ensures.cause.later (omega arith) fed;
+      counted = omega (arith, length-append inv.bytes (take count into), length-take count into, length-take c.min-most.result c.loop-room.piece);
+    }

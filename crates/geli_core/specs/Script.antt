@@ -1,0 +1,166 @@
+-- The run of the words of the command line, and the status with which it ends.
+use Rattle.std.specs.Prelude.{◌≡◌, ◌≢◌, ◌⊎◌, ℕ, ◌^◌, ◌<◌, ◌≤◌, List, [], ◌∷◌, ◌++◌, length, true, false, Option, Some, None, codes}
+use Rattle.std.specs.List.{AllByRecursion}
+use Rattle.std.specs.Io.KnownBytes.{IsAtEnd, prepend_known}
+use Rattle.block_traits.specs.Causes.{Rose}
+use Rattle.block_traits.specs.Streams.{SinkState, TookAll, TookPart}
+use Rattle.command_words.specs.Images.{line_of, script_images}
+use Rattle.command_words.specs.Reading.{line_limit}
+use Rattle.command_words.specs.declared.commands.Command.{Command}
+use Rattle.command_words.specs.declared.spans.Sep.TheVariants.{Blanks, Zeros}
+use Rattle.shelf.specs.Answer.{Answer}
+use Rattle.shelf.specs.World.{World}
+use Rattle.geli_core.specs.Asked.{asked_in}
+use Rattle.geli_core.specs.Lines.{CutsInto, last_line}
+use Rattle.geli_core.specs.Run.{FailsInClosing, FailsInLast, RunsAndCloses, answers_text, any_refused, closing_answers}
+use Rattle.geli_core.specs.Source.{SourceState}
+use Rattle.geli_core.specs.declared.status.Status.{Status}
+use Rattle.geli_core.specs.declared.status.Status.TheVariants.{Done, SomeRefused, BadWords, ReadFault, WriteFault, NoMemory, LineTooLong, ScriptTooLong}
+
+-- all that a run may change
+pub record Whole : Type 0 where
+  pub world : World
+  pub source : SourceState
+  pub sink : SinkState
+
+abbrev pub usage_text : List ℕ
+usage_text = codes "usage: geli script IMAGE... or geli VERB ...\n"
+
+-- the most bytes of a script, and one more
+abbrev pub script_limit : ℕ
+script_limit = 2 ^ 40
+
+-- ---- what was printed
+
+-- all answers, those of the closing behind them; or, where the run broke off, those to its lines; or, where the sink failed, up to a
+-- part of the last answer, or of the closing
+abbrev pub Prints : List (Option Answer) → ℕ → SinkState → Status → SinkState → Type 0
+Prints answers failed old Done new = (any_refused (answers ++ closing_answers failed) ≡ false) × TookAll (answers_text (answers ++ closing_answers failed)) old new
+Prints answers failed old SomeRefused new = (any_refused (answers ++ closing_answers failed) ≡ true) × TookAll (answers_text (answers ++ closing_answers failed)) old new
+Prints answers failed old WriteFault new = FailsInLast answers old new ⊎ FailsInClosing answers failed old new
+Prints answers failed old ReadFault new = TookAll (answers_text answers) old new
+Prints answers failed old LineTooLong new = TookAll (answers_text answers) old new
+Prints answers failed old ScriptTooLong new = TookAll (answers_text answers) old new
+Prints answers failed old BadWords new = ⊥
+Prints answers failed old NoMemory new = ⊥
+
+-- ---- a script
+
+-- the bytes that a source gave: those that were read, which are whole lines and a rest, and those behind them
+pub record Taken : Type 0 where
+  pub read : List ℕ
+  pub lines : List (List ℕ)
+  pub rest : List ℕ
+  pub unread : List ℕ
+
+-- the input was read to its end, and all its lines were served
+pub record IsReadToEnd (taken : Taken) (served : List (List ℕ)) (after : SourceState) : Type 0 where
+  pub small : length taken.read < script_limit
+  pub all : served ≡ taken.lines ++ last_line taken.rest
+  pub unread : taken.unread ≡ []
+  pub end : IsAtEnd after.left
+
+-- how far a script was served, by the status
+abbrev pub ServesUpTo : Taken → List (List ℕ) → SourceState → Status → SourceState → Type 0
+ServesUpTo taken served old Done new = IsReadToEnd taken served new
+ServesUpTo taken served old SomeRefused new = IsReadToEnd taken served new
+ServesUpTo taken served old WriteFault new = (served ≡ taken.lines) ⊎ IsReadToEnd taken served new
+ServesUpTo taken served old ReadFault new = (served ≡ taken.lines) × (taken.unread ≡ []) × Rose old.faults new.faults
+ServesUpTo taken served old LineTooLong new = (served ≡ taken.lines) × (line_limit < length taken.rest)
+ServesUpTo taken served old ScriptTooLong new = (served ≡ taken.lines) × (taken.unread ≡ []) × (length taken.read ≡ script_limit)
+ServesUpTo taken served old BadWords new = ⊥
+ServesUpTo taken served old NoMemory new = ⊥
+
+-- a script was run: the source gave bytes, lines among them were served and answered, the drawers were closed, and the answers
+-- were printed
+pub record RunsScript (old : Whole) (status : Status) (new : Whole) : Type 0 where
+  pub taken : Taken
+  pub gave : old.source.left ≡ prepend_known (taken.read ++ taken.unread) new.source.left
+  pub cut : CutsInto taken.read taken.lines taken.rest
+  pub served : List (List ℕ)
+  pub short : AllByRecursion (λ line. length line ≤ line_limit) served
+  pub up_to : ServesUpTo taken served old.source status new.source
+  pub answers : List (Option Answer)
+  pub failed : ℕ
+  pub runs : RunsAndCloses Blanks old.world served answers failed new.world
+  pub prints : Prints answers failed old.sink status new.sink
+
+-- ---- one command
+
+-- how one command may end
+abbrev pub EndsCommand : Status → Type 0
+EndsCommand Done = Unit {0}
+EndsCommand SomeRefused = Unit {0}
+EndsCommand WriteFault = Unit {0}
+EndsCommand status = ⊥
+
+-- the one command was served as a script of one line, and the input was not read
+pub record RunsCommand (line : List ℕ) (old : Whole) (status : Status) (new : Whole) : Type 0 where
+  pub answer : Answer
+  pub failed : ℕ
+  pub runs : RunsAndCloses Zeros old.world (line ∷ []) (Some answer ∷ []) failed new.world
+  pub prints : Prints (Some answer ∷ []) failed old.sink status new.sink
+  pub source : new.source ≡ old.source
+  pub ended : EndsCommand status
+
+-- the words asked for nothing: the usage line is printed
+abbrev pub PrintsUsage : SinkState → Status → SinkState → Type 0
+PrintsUsage old BadWords new = TookAll usage_text old new
+PrintsUsage old WriteFault new = TookPart usage_text old new
+PrintsUsage old status new = ⊥
+
+pub record Declines (old : Whole) (status : Status) (new : Whole) : Type 0 where
+  pub world : new.world ≡ old.world
+  pub source : new.source ≡ old.source
+  pub prints : PrintsUsage old.sink status new.sink
+
+-- ---- the words
+
+abbrev pub RunsLine : List ℕ → Option Command → Whole → Status → Whole → Type 0
+RunsLine line None old status new = Declines old status new
+RunsLine line (Some command) old status new = RunsCommand line old status new
+
+abbrev pub RunsAs : Option (List (List ℕ)) → List (List ℕ) → Whole → Status → Whole → Type 0
+RunsAs (Some names) words old status new = RunsScript old status new
+RunsAs None words old status new = RunsLine (line_of words) (asked_in (line_of words)) old status new
+
+-- the run of the words of the command line: a script where they are `script` and names, and else one command or nothing; without memory for it nothing is read, printed or changed
+abbrev pub Runs : List (List ℕ) → Whole → Status → Whole → Type 0
+Runs words old NoMemory new = new ≡ old
+Runs words old status new = RunsAs (script_images words) words old status new
+
+-- how a run may end, by what the words ask for: a script by any status but BadWords, one command by those of its reply, and else by
+-- BadWords; or the sink failed, or there was no memory
+abbrev pub EndsBy : Option (List (List ℕ)) → Option Command → Status → Type 0
+EndsBy names command WriteFault = Unit {0}
+EndsBy names command NoMemory = Unit {0}
+EndsBy (Some names) command status = status ≢ BadWords
+EndsBy None (Some command) status = (status ≡ Done) ⊎ (status ≡ SomeRefused)
+EndsBy None None status = status ≡ BadWords
+
+-- the same of the words
+abbrev pub Ends : List (List ℕ) → Status → Type 0
+Ends words status = EndsBy (script_images words) (asked_in (line_of words)) status
+
+-- ---- why a run broke off
+
+-- the source gave a line of too many bytes
+pub record GaveLongLine (old new : SourceState) : Type 0 where
+  pub taken : Taken
+  pub gave : old.left ≡ prepend_known (taken.read ++ taken.unread) new.left
+  pub cut : CutsInto taken.read taken.lines taken.rest
+  pub long : line_limit < length taken.rest
+
+-- the source gave as many bytes as are too many for a script
+pub record GaveTooMuch (old new : SourceState) : Type 0 where
+  pub read : List ℕ
+  pub gave : old.left ≡ prepend_known read new.left
+  pub size : length read ≡ script_limit
+
+-- the cause of a status that breaks a run off: a count that rose, or the bytes that the source gave
+abbrev pub HasCause : Status → Whole → Whole → Type 0
+HasCause ReadFault old new = Rose old.source.faults new.source.faults
+HasCause WriteFault old new = Rose old.sink.faults new.sink.faults
+HasCause LineTooLong old new = GaveLongLine old.source new.source
+HasCause ScriptTooLong old new = GaveTooMuch old.source new.source
+HasCause status old new = Unit {0}

@@ -1,0 +1,146 @@
+-- A script while it is served: what the loops over its bytes keep. What a run comes to stands in `Script`.
+use Rattle.std.specs.Prelude.{◌≡◌, ℕ, ◌<◌, ◌≤◌, List, [], ◌++◌, length, Option, Bool, true, false, ◌||◌, Result, Ok, Err}
+use Rattle.std.specs.List.{AllByRecursion}
+use Rattle.block_traits.specs.Streams.{SinkState, TookAll, TookPart}
+use Rattle.command_words.specs.Reading.{line_limit}
+use Rattle.command_words.specs.declared.spans.Sep.TheVariants.{Blanks}
+use Rattle.shelf.specs.Answer.{Answer}
+use Rattle.shelf.specs.Closing.{ClosesWorld}
+use Rattle.shelf.specs.World.{World}
+use Rattle.reply_text.specs.declared.WriteEnd.{WriteEnd}
+use Rattle.geli_core.specs.declared.status.Status.{Status}
+use Rattle.geli_core.specs.declared.status.Status.TheVariants.{Done, SomeRefused, WriteFault, NoMemory}
+use Rattle.std.specs.Io.KnownBytes.{IsAtEnd, prepend_known}
+use Rattle.block_traits.specs.Causes.{Rose}
+use Rattle.geli_core.specs.Lines.{CutsInto, last_line}
+use Rattle.geli_core.specs.Script.{Whole, script_limit}
+use Rattle.geli_core.specs.Source.{SourceState}
+use Rattle.geli_core.specs.declared.feeding.Ending.{Ending}
+use Rattle.geli_core.specs.declared.feeding.Ending.TheVariants.{AtEnd, SourceFailed, Full, Stopped}
+use Rattle.geli_core.specs.Run.{FailsInLast, Run, answers_text, any_refused, closing_answers}
+use Rattle.geli_core.specs.declared.feeding.Stop.{Stop}
+use Rattle.geli_core.specs.declared.feeding.Stop.TheVariants.{TooLong, Unprinted}
+
+-- what a script works on
+pub record Site : Type 0 where
+  pub world : World
+  pub sink : SinkState
+
+abbrev pub site_of : World → SinkState → Site
+site_of world sink = record { world = world; sink = sink }
+
+-- the whole lines of these bytes were served, and nothing else, with these answers
+pub record ServesLines (bytes : List ℕ) (old : Site) (rest : List ℕ) (new : Site) : Type 0 where
+  pub lines : List (List ℕ)
+  pub answers : List (Option Answer)
+  pub cut : CutsInto bytes lines rest
+  pub short : AllByRecursion (λ line. length line ≤ line_limit) lines
+  pub run : Run Blanks old.world lines answers new.world
+
+-- they were printed, and something was refused among them or not
+pub record IsServed (bytes : List ℕ) (old : Site) (rest : List ℕ) (refused : Bool) (new : Site) : Type 0 where
+  pub serves : ServesLines bytes old rest new
+  pub printed : TookAll (answers_text serves.answers) old.sink new.sink
+  pub any : any_refused serves.answers ≡ refused
+
+-- they were served, and the sink failed while they were printed
+pub record IsUnprinted (bytes : List ℕ) (old : Site) (new : Site) : Type 0 where
+  pub serves : ServesLines bytes old [] new
+  pub printed : FailsInLast serves.answers old.sink new.sink
+
+-- a line has too many bytes
+pub record IsTooLong (bytes : List ℕ) (old : Site) (new : Site) : Type 0 where
+  pub rest : List ℕ
+  pub refused : Bool
+  pub served : IsServed bytes old rest refused new
+  pub long : line_limit < length rest
+
+-- why no more bytes are looked at
+abbrev pub StopsBy : List ℕ → Site → Stop → Site → Type 0
+StopsBy bytes old TooLong new = IsTooLong bytes old new
+StopsBy bytes old Unprinted new = IsUnprinted bytes old new
+
+-- one more byte was looked at
+abbrev pub FeedsByte : List ℕ → Site → Result (Unit {0}) Stop → List ℕ → Bool → Site → Type 0
+FeedsByte bytes old (Ok done) rest refused new = IsServed bytes old rest refused new
+FeedsByte bytes old (Err stop) rest refused new = StopsBy bytes old stop new
+
+-- some of the bytes were looked at, and then it stopped
+pub record StopsWithin (bytes : List ℕ) (old : Site) (stop : Stop) (new : Site) : Type 0 where
+  pub read : List ℕ
+  pub unread : List ℕ
+  pub whole : bytes ≡ read ++ unread
+  pub stops : StopsBy read old stop new
+
+-- a piece was looked at
+abbrev pub FeedsPiece : List ℕ → Site → Result (Unit {0}) Stop → List ℕ → Bool → Site → Type 0
+FeedsPiece bytes old (Ok done) rest refused new = IsServed bytes old rest refused new
+FeedsPiece bytes old (Err stop) rest refused new = StopsWithin bytes old stop new
+
+-- ---- the whole input
+
+-- these bytes of the source were looked at
+pub record IsTaken (bytes : List ℕ) (old : Site) (source : SourceState) (rest : List ℕ) (refused : Bool) (new : Site) (after : SourceState) : Type 0 where
+  pub served : IsServed bytes old rest refused new
+  pub gave : source.left ≡ prepend_known bytes after.left
+  pub faults : source.faults ≤ after.faults
+  pub short : length rest ≤ line_limit
+
+-- the input was looked at up to its end, up to a failure, or up to the limit; or it stopped before
+abbrev pub EndsBy : List ℕ → Site → SourceState → Ending → List ℕ → Bool → Site → SourceState → Type 0
+EndsBy bytes old source AtEnd rest refused new after = IsTaken bytes old source rest refused new after × (length bytes < script_limit) × IsAtEnd after.left
+EndsBy bytes old source SourceFailed rest refused new after = IsTaken bytes old source rest refused new after × Rose source.faults after.faults
+EndsBy bytes old source Full rest refused new after = IsTaken bytes old source rest refused new after × (length bytes ≡ script_limit)
+EndsBy bytes old source (Stopped stop) rest refused new after = StopsWithin bytes old stop new × (source.left ≡ prepend_known bytes after.left)
+
+pub record Ends (old : Site) (source : SourceState) (ending : Ending) (rest : List ℕ) (refused : Bool) (new : Site) (after : SourceState) : Type 0 where
+  pub bytes : List ℕ
+  pub by : EndsBy bytes old source ending rest refused new after
+
+-- ---- the end
+
+-- all lines of these bytes were served, also a last one without a newline
+pub record ServesAll (bytes : List ℕ) (old new : Site) : Type 0 where
+  pub lines : List (List ℕ)
+  pub rest : List ℕ
+  pub answers : List (Option Answer)
+  pub cut : CutsInto bytes lines rest
+  pub short : AllByRecursion (λ line. length line ≤ line_limit) (lines ++ last_line rest)
+  pub run : Run Blanks old.world (lines ++ last_line rest) answers new.world
+
+pub record IsAllServed (bytes : List ℕ) (old : Site) (refused : Bool) (new : Site) : Type 0 where
+  pub serves : ServesAll bytes old new
+  pub printed : TookAll (answers_text serves.answers) old.sink new.sink
+  pub any : any_refused serves.answers ≡ refused
+
+pub record IsAllUnprinted (bytes : List ℕ) (old new : Site) : Type 0 where
+  pub serves : ServesAll bytes old new
+  pub printed : FailsInLast serves.answers old.sink new.sink
+
+-- a last line without a newline was served, if there is one
+abbrev pub EndsLines : List ℕ → Site → Result Bool WriteEnd → Site → Type 0
+EndsLines bytes old (Ok refused) new = IsAllServed bytes old refused new
+EndsLines bytes old (Err failed) new = IsAllUnprinted bytes old new
+
+-- the status where all was printed
+abbrev pub status_by : Bool → Status
+status_by false = Done
+status_by true = SomeRefused
+
+-- the refusals of the closing were printed, and this status is answered, something having been refused before or not
+abbrev pub PrintsClosing : Bool → ℕ → SinkState → Status → SinkState → Type 0
+PrintsClosing refused failed old WriteFault new = TookPart (answers_text (closing_answers failed)) old new
+PrintsClosing refused failed old status new = (status ≡ status_by (refused || any_refused (closing_answers failed))) × TookAll (answers_text (closing_answers failed)) old new
+
+pub record ClosesAndPrints (refused : Bool) (old : Site) (status : Status) (new : Site) : Type 0 where
+  pub failed : ℕ
+  pub closes : ClosesWorld old.world failed new.world
+  pub prints : PrintsClosing refused failed old.sink status new.sink
+
+abbrev pub whole_of : Site → SourceState → Whole
+whole_of site source = record { world = site.world; source = source; sink = site.sink }
+
+-- without memory nothing was done
+abbrev pub RunsUnless : (Whole → Status → Whole → Type 0) → Whole → Status → Whole → Type 0
+RunsUnless R old NoMemory new = new ≡ old
+RunsUnless R old status new = R old status new

@@ -1,0 +1,153 @@
+// The bytes of a script are looked at one by one, and each whole line is served.
+ghost use Rattle.std.specs.Prelude.{◌≡◌, ◌≤◌, ◌∷◌, ◌++◌, [], ℕ, List, false, vec_capacity, vec_len};
+ghost use Rattle.block_traits.specs.Cabinet.{cabinet_of};
+ghost use Rattle.block_traits.specs.Streams.{entropy_of, sink_of};
+ghost use Rattle.command_words.specs.Reading.{line_limit};
+ghost use Rattle.shelf.specs.World.{world_of};
+ghost use Rattle.geli_core.specs.Served.{Ends, FeedsByte, FeedsPiece, IsServed, Site, site_of};
+ghost use Rattle.geli_core.specs.Source.{source_of};
+
+use crate::serving::{either, serve_line};
+use block_traits::{Cabinet, Disk, Entropy, Sink, Source};
+use command_words::Sep;
+use shelf::Drawers;
+
+/// The most bytes of a line.
+pub(crate) const LINE_LIMIT: usize = 300_000;
+
+/// Why no more bytes are looked at.
+#[derive(Clone, Copy)]
+pub(crate) enum Stop {
+    /// A line has too many bytes.
+    TooLong,
+    /// The sink failed.
+    Unprinted,
+}
+
+/// How far the input was looked at.
+#[derive(Clone, Copy)]
+pub(crate) enum Ending {
+    /// Up to its end.
+    AtEnd,
+    /// Up to a failure of the source.
+    SourceFailed,
+    /// Up to the most bytes of a script.
+    Full,
+    /// Up to a byte at which it stopped.
+    Stopped(Stop),
+}
+
+/// How many bytes are taken at a time.
+const PIECE: usize = 4_096;
+
+/// The number of bytes that is too many for a script.
+const SCRIPT_LIMIT: u64 = 1 << 40;
+
+/// Looks at one more byte. A newline ends the line, which is served and printed.
+pub(crate) fn feed_byte<K: Sink, C: Cabinet, E: Entropy, D: Disk>(
+    shelf: &mut Drawers<D>,
+    line: &mut Vec<u8>,
+    byte: u8,
+    refused: &mut bool,
+    output: &mut K,
+    files: &mut C,
+    entropy: &mut E,
+) -> Result<(), Stop>
+    requires room { line_limit ≤ vec_capacity line.old }
+    requires short { vec_len line.old ≤ line_limit }
+    ensures room { line_limit ≤ vec_capacity line.new }
+    ensures short { vec_len line.new ≤ line_limit }
+    ensures feeds { (bytes : List ℕ) (old : Site) →
+        IsServed bytes old line.old.items refused.old
+        (site_of (world_of D.state shelf.old (cabinet_of C.files C.faults C.misses files.old) (entropy_of E.left E.faults entropy.old)) (sink_of K.taken K.faults output.old)) →
+        FeedsByte (bytes ++ byte ∷ []) old result line.new.items refused.new
+        (site_of (world_of D.state shelf.new (cabinet_of C.files C.faults C.misses files.new) (entropy_of E.left E.faults entropy.new)) (sink_of K.taken K.faults output.new)) }
+{
+    if byte == b'\n' {
+        let served = serve_line(shelf, line.as_slice(), Sep::Blanks, output, files, entropy);
+        let end = match served {
+            Ok(end) => end,
+            Err(_) => return Err(Stop::Unprinted),
+        };
+        *refused = either(*refused, end.is_refusal());
+        line.clear();
+        return Ok(());
+    }
+    if line.len() >= LINE_LIMIT {
+        return Err(Stop::TooLong);
+    }
+    line.push_reserved(byte);
+    Ok(())
+}
+
+/// Looks at the bytes of a piece, up to the first at which it stops.
+pub(crate) fn feed_piece<K: Sink, C: Cabinet, E: Entropy, D: Disk>(
+    shelf: &mut Drawers<D>,
+    line: &mut Vec<u8>,
+    piece: &[u8],
+    refused: &mut bool,
+    output: &mut K,
+    files: &mut C,
+    entropy: &mut E,
+) -> Result<(), Stop>
+    requires room { line_limit ≤ vec_capacity line.old }
+    requires short { vec_len line.old ≤ line_limit }
+    ensures room { line_limit ≤ vec_capacity line.new }
+    ensures short { vec_len line.new ≤ line_limit }
+    ensures feeds { (bytes : List ℕ) (old : Site) →
+        IsServed bytes old line.old.items refused.old
+        (site_of (world_of D.state shelf.old (cabinet_of C.files C.faults C.misses files.old) (entropy_of E.left E.faults entropy.old)) (sink_of K.taken K.faults output.old)) →
+        FeedsPiece (bytes ++ piece.now) old result line.new.items refused.new
+        (site_of (world_of D.state shelf.new (cabinet_of C.files C.faults C.misses files.new) (entropy_of E.left E.faults entropy.new)) (sink_of K.taken K.faults output.new)) }
+{
+    for byte in piece {
+        feed_byte(shelf, line, *byte, refused, output, files, entropy)?;
+    }
+    Ok(())
+}
+
+/// Takes the input piece by piece, and looks at its bytes.
+pub(crate) fn feed_source<S: Source, K: Sink, C: Cabinet, E: Entropy, D: Disk>(
+    input: &mut S,
+    shelf: &mut Drawers<D>,
+    line: &mut Vec<u8>,
+    refused: &mut bool,
+    output: &mut K,
+    files: &mut C,
+    entropy: &mut E,
+) -> Ending
+    requires room { line_limit ≤ vec_capacity line.old }
+    requires empty { line.old.items ≡ [] }
+    requires nothing { refused.old ≡ false }
+    ensures short { vec_len line.new ≤ line_limit }
+    ensures ends { Ends
+        (site_of (world_of D.state shelf.old (cabinet_of C.files C.faults C.misses files.old) (entropy_of E.left E.faults entropy.old)) (sink_of K.taken K.faults output.old))
+        (source_of S.left S.faults input.old) result line.new.items refused.new
+        (site_of (world_of D.state shelf.new (cabinet_of C.files C.faults C.misses files.new) (entropy_of E.left E.faults entropy.new)) (sink_of K.taken K.faults output.new))
+        (source_of S.left S.faults input.new) }
+{
+    let mut piece = [0; PIECE];
+    let mut room = SCRIPT_LIMIT;
+    while room > 0 {
+        let most = (PIECE as u64).min(room) as usize;
+        let count = match input.take(&mut piece[..most]) {
+            Err(_) => return Ending::SourceFailed,
+            Ok(0) => return Ending::AtEnd,
+            Ok(count) => count,
+        };
+        let fed = feed_piece(
+            shelf,
+            line,
+            &piece[..count],
+            refused,
+            output,
+            files,
+            entropy,
+        );
+        if let Err(stop) = fed {
+            return Ending::Stopped(stop);
+        }
+        room -= count as u64;
+    }
+    Ending::Full
+}

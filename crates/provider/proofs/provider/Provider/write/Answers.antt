@@ -1,0 +1,9 @@
+use Rattle.std.proofs.Common.{◌/◌, length}
+use Rattle.provider.proofs.Ranges.{request_inside}
+use Rattle.provider.proofs.provider.Provider.write.Goals as goal
+
+pub write_run-requires-clause-inside : goal.write_run-requires-clause-inside
+write_run-requires-clause-inside g c =
+    let is = rw (← c.self.view_is) at c.sectors-media.ensures in
+    request_inside c.self.inside.ring.keying c.args.sector (length c.args.from.now / c.self.inside.params.sectorsize) c.sectors-media.result
+    (g.D.Disk.state c.self.inside.disk).size c.passes_end.result is c.passes_end.ensures c.if-passes_end.false

@@ -1,0 +1,41 @@
+-- A reply whole: what is answered to one command, as data.
+use Rattle.std.specs.Prelude.{ℕ, ◌≤◌, List, take}
+use Rattle.eli_base.specs.declared.Refusal.{Refusal}
+use Rattle.eli_metadata.specs.declared.Metadata.{Metadata}
+use Rattle.reply_text.specs.Text.{bytes_text, dump_text, list_text, refusal_text}
+use Rattle.reply_text.specs.declared.Reply.{Reply}
+use Rattle.reply_text.specs.declared.Reply.TheVariants as replies
+use Rattle.reply_text.specs.declared.Row.{Row}
+use Rattle.std.specs.Prelude.{codes}
+
+-- it was done; bytes that were read; a digest; the drawers; the metadata; or it was refused
+pub data Answer : Type 0 where
+  Done : Answer
+  Payload : List ℕ → Answer
+  Digest : List ℕ → Answer
+  Rows : List Row → Answer
+  Dump : Metadata → Answer
+  Refused : Refusal → Answer
+
+-- a reply, whose payload stands at the front of some bytes
+abbrev pub answer_of : List ℕ → Reply → Answer
+answer_of bytes replies.Done = Done
+answer_of bytes (replies.Payload count) = Payload (take count bytes)
+answer_of bytes (replies.Digest digest) = Digest digest
+answer_of bytes (replies.Rows rows) = Rows rows
+answer_of bytes (replies.Dump meta) = Dump meta
+answer_of bytes (replies.Refused refusal) = Refused refusal
+
+-- the payload of a reply, if it has one, is at most so long
+abbrev pub FitsPayload : ℕ → Reply → Type 0
+FitsPayload len (replies.Payload count) = count ≤ len
+FitsPayload len reply = Unit {0}
+
+-- the text of an answer
+abbrev pub answer_text : Answer → List ℕ
+answer_text Done = codes "ok\n"
+answer_text (Payload bytes) = bytes_text bytes
+answer_text (Digest digest) = bytes_text digest
+answer_text (Rows rows) = list_text rows
+answer_text (Dump meta) = dump_text meta
+answer_text (Refused refusal) = refusal_text refusal

@@ -1,0 +1,36 @@
+-- The end of a run: each attached drawer is flushed, in order, and is idle then.
+use Rattle.std.specs.Prelude.{◌≡◌, ℕ, ◌+◌, List, [], ◌∷◌, Bool, true, false}
+use Rattle.block_traits.specs.declared.Event.TheVariants.{Flush}
+use Rattle.block_traits.specs.Disk.{DiskState, FailsIn, Logs}
+use Rattle.shelf.specs.World.{DrawerState, Holding, Idle, IsAttached, World}
+
+-- a disk is flushed, or fails in that
+abbrev pub Flushes : Bool → DiskState → DiskState → Type 0
+Flushes false old new = Logs (Flush ∷ []) old new
+Flushes true old new = FailsIn (Flush ∷ []) old new
+
+-- one drawer is closed, and whether its flush failed: nothing is done on an idle one, and another is idle then
+abbrev pub ClosesAs : Holding → DrawerState → Bool → DrawerState → Type 0
+ClosesAs Idle old failed new = (failed ≡ false) × (new ≡ old)
+ClosesAs (IsAttached a) old failed new = Flushes failed old.disk new.disk × (new ≡ record { name = old.name; disk = new.disk; holding = Idle })
+
+abbrev pub Closes : DrawerState → Bool → DrawerState → Type 0
+Closes old failed new = ClosesAs old.holding old failed new
+
+-- one where it failed
+abbrev pub failures : Bool → ℕ
+failures false = 0
+failures true = 1
+
+-- the drawers are closed in order, and so many flushes failed
+abbrev pub Closing : List DrawerState → ℕ → List DrawerState → Type 0
+Closing [] count new = (count ≡ 0) × (new ≡ [])
+Closing (drawer ∷ drawers) count new =
+    (failed : Bool) × (closed : DrawerState) × (others : ℕ) × (behind : List DrawerState)
+    × Closes drawer failed closed × Closing drawers others behind × (count ≡ failures failed + others) × (new ≡ closed ∷ behind)
+
+-- the same of a world, whose cabinet and entropy stay
+pub record ClosesWorld (old : World) (failed : ℕ) (new : World) : Type 0 where
+  pub drawers : Closing old.drawers failed new.drawers
+  pub cabinet : new.cabinet ≡ old.cabinet
+  pub entropy : new.entropy ≡ old.entropy

@@ -1,0 +1,78 @@
+//! `geli attach`: a key is tried, and the provider is attached unless it is only tried (geli(8), attach).
+
+ghost use Rattle.std.specs.Prelude.{◌≡◌, length};
+ghost use Rattle.block_traits.specs.Cabinet.{CabinetState, cabinet_of};
+ghost use Rattle.block_traits.specs.Streams.{EntropyState};
+ghost use Rattle.command_words.specs.Places.{KeyIsWithin};
+ghost use Rattle.shelf.specs.Trial.{IsOpening, attachment_in};
+ghost use Rattle.shelf.specs.Steps.{Attaches};
+ghost use Rattle.shelf.specs.Turn.{AttachRow};
+ghost use Rattle.shelf.specs.World.{Idle, disk_in, holding_of, reach_of};
+
+use crate::Held;
+use crate::trying::{Opening, try_key};
+use block_traits::{Cabinet, Disk, LastSector};
+use command_words::KeyWords;
+use eli_base::Refusal;
+use provider::{AttachFault, Provider};
+use std::alloc::Global;
+
+// Attaches the provider that a key opens.
+fn take_over<D: Disk>(
+    alloc: Global,
+    disk: D,
+    opening: &Opening,
+    slot: Option<u8>,
+    readonly: bool,
+) -> (Held<D>, Result<(), Refusal>)
+    requires { IsOpening (D.state disk).size slot opening.now }
+    ensures { (cabinet : CabinetState) (entropy : EntropyState) →
+        Attaches (attachment_in readonly opening.now)
+        (reach_of (D.state disk) Idle cabinet entropy) result.1
+        (reach_of (disk_in D.state result.0) (holding_of result.0) cabinet entropy) }
+{
+    let Opening {
+        meta,
+        params,
+        key,
+        ..
+    } = opening;
+    match Provider::attach(alloc, disk, meta, params, key, slot, readonly) {
+        Ok(provider) => (Held::Attached(provider), Ok(())),
+        Err((disk, AttachFault::NoMemory)) => (Held::Idle(disk), Err(Refusal::NoMemory)),
+        Err((_, AttachFault::TooSmall { .. })) => unreachable!(),
+        Err((_, AttachFault::WrongKey)) => unreachable!(),
+    }
+}
+
+/// Attaches the provider on the disk of an idle drawer, or only tries the key. The disk comes back idle with each refusal.
+pub fn attach<D: Disk, C: Cabinet>(
+    alloc: Global,
+    disk: D,
+    line: &[u8],
+    only_check: bool,
+    readonly: bool,
+    slot: Option<u8>,
+    words: &KeyWords,
+    files: &mut C,
+) -> (Held<D>, Result<(), Refusal>)
+    requires { KeyIsWithin (length line.now) words.now }
+    ensures { (entropy : EntropyState) →
+        AttachRow line.now only_check readonly slot words.now
+        (reach_of (D.state disk) Idle (cabinet_of C.files C.faults C.misses files.old) entropy) result.1
+        (reach_of (disk_in D.state result.0) (holding_of result.0) (cabinet_of C.files C.faults C.misses files.new) entropy) }
+{
+    let mut place = LastSector::new(disk);
+    let tried = try_key(alloc, &mut place, line, slot, words, files);
+    let disk = place.into_disk();
+    match tried {
+        Err(refusal) => (Held::Idle(disk), Err(refusal)),
+        Ok(opening) => {
+            if only_check {
+                (Held::Idle(disk), Ok(()))
+            } else {
+                take_over(alloc, disk, &opening, slot, readonly)
+            }
+        }
+    }
+}

@@ -1,0 +1,127 @@
+//! Logical sectors of an attached provider are read and written.
+
+ghost use Rattle.std.specs.Prelude.{◌≡◌, ◌≤◌, IfOk, length, take};
+ghost use Rattle.block_traits.specs.Cabinet.{CabinetState};
+ghost use Rattle.block_traits.specs.Streams.{EntropyState};
+ghost use Rattle.shelf.specs.Digits.{SpellsBytes, bytes_spelled};
+ghost use Rattle.shelf.specs.Requests.{bytes_read, read_answer, write_refusal};
+ghost use Rattle.shelf.specs.Steps.{or_refusal, request_limit};
+ghost use Rattle.shelf.specs.Turn.{ReadRow, WriteRow};
+ghost use Rattle.shelf.specs.World.{IsAttached, attachment_of, reach_of};
+
+use block_traits::{Disk, DiskFailed};
+use eli_base::Refusal;
+use provider::{Provider, ReadFault, WriteFault};
+
+/// The most bytes of a request.
+pub const REQUEST_LIMIT: usize = 131_072;
+
+fn read_answer(answer: Result<(), ReadFault>, bytes: u32) -> Result<u32, Refusal>
+    ensures { result ≡ read_answer bytes answer }
+{
+    match answer {
+        Ok(()) => Ok(bytes),
+        Err(
+            ReadFault::OutOfRange {
+                sector,
+                count,
+                media,
+            },
+        ) => Err(Refusal::OutOfRange {
+            sector,
+            count,
+            media,
+        }),
+        Err(ReadFault::DeviceFault) => Err(Refusal::DeviceFault),
+        Err(ReadFault::Integrity { offset }) => Err(Refusal::Integrity { offset }),
+    }
+}
+
+fn write_answer(answer: Result<(), WriteFault>) -> Result<(), Refusal>
+    ensures { result ≡ or_refusal write_refusal answer }
+{
+    match answer {
+        Ok(()) => Ok(()),
+        Err(WriteFault::ReadOnly) => Err(Refusal::ReadOnly),
+        Err(
+            WriteFault::OutOfRange {
+                sector,
+                count,
+                media,
+            },
+        ) => Err(Refusal::OutOfRange {
+            sector,
+            count,
+            media,
+        }),
+        Err(WriteFault::DeviceFault) => Err(Refusal::DeviceFault),
+    }
+}
+
+/// Reads logical sectors to the front of the buffer, and answers how many bytes they have.
+pub fn read<D: Disk>(
+    provider: &mut Provider<D>,
+    sector: u64,
+    count: u32,
+    buffer: &mut [u8],
+) -> Result<u32, Refusal>
+    requires { length buffer.old ≡ request_limit }
+    ensures row { (cabinet : CabinetState) (entropy : EntropyState) →
+        ReadRow sector count
+        (reach_of (D.state provider.old.disk) (IsAttached (attachment_of provider.old)) cabinet entropy) (bytes_read buffer.new result)
+        (reach_of (D.state provider.new.disk) (IsAttached (attachment_of provider.new)) cabinet entropy) }
+    ensures bound { IfOk result (λ bytes. bytes ≤ request_limit) }
+{
+    let sectorsize = provider.sector_size();
+    let given = u64::from(count) * u64::from(sectorsize);
+    if given == 0 || given > REQUEST_LIMIT as u64 {
+        return Err(Refusal::BadLength { given, sectorsize });
+    }
+    let answer = provider.read(sector, &mut buffer[..given as usize]);
+    read_answer(answer, given as u32)
+}
+
+/// Writes logical sectors with the bytes that digits spell, which are put to the front of the buffer.
+pub fn write<D: Disk>(
+    provider: &mut Provider<D>,
+    sector: u64,
+    digits: &[u8],
+    buffer: &mut [u8],
+) -> Result<(), Refusal>
+    requires spelled { SpellsBytes digits.now }
+    requires room { length buffer.old ≡ request_limit }
+    ensures { (cabinet : CabinetState) (entropy : EntropyState) →
+        WriteRow sector (bytes_spelled digits.now)
+        (reach_of (D.state provider.old.disk) (IsAttached (attachment_of provider.old)) cabinet entropy) result
+        (reach_of (D.state provider.new.disk) (IsAttached (attachment_of provider.new)) cabinet entropy) }
+{
+    let given = decode(digits, buffer);
+    let sectorsize = provider.sector_size();
+    if given == 0 || given % sectorsize as usize != 0 {
+        let given = given as u64;
+        return Err(Refusal::BadLength { given, sectorsize });
+    }
+    write_answer(provider.write(sector, &buffer[..given]))
+}
+
+// Puts the bytes that digits spell to the front of the buffer, and answers how many.
+fn decode(digits: &[u8], buffer: &mut [u8]) -> usize
+    requires spelled { SpellsBytes digits.now }
+    requires room { length buffer.old ≡ request_limit }
+    ensures bytes { take result buffer.new ≡ bytes_spelled digits.now }
+    ensures bound { result ≤ request_limit }
+{
+    let count = digits.len() / 2;
+    let _ = hex::decode_to_slice(digits, &mut buffer[..count]);
+    count
+}
+
+/// What a flush comes to.
+pub fn flush_answer(answer: Result<(), DiskFailed>) -> Result<(), Refusal>
+    ensures { result ≡ or_refusal (λ _. Refusal.DeviceFault) answer }
+{
+    match answer {
+        Ok(()) => Ok(()),
+        Err(_) => Err(Refusal::DeviceFault),
+    }
+}

@@ -1,0 +1,104 @@
+#!/usr/bin/env bash
+# after-a-power-failure.sh: says what a provider is like after a crash, and what to do. It changes nothing.
+#
+#   after-a-power-failure.sh [-p] [-j PASSFILE] [-k KEYFILE]... IMAGE
+#
+# The passphrase is asked for; -j names a file whose first line it is, -p says that there is none. Work on a copy of
+# the image where you can. First the metadata are looked at, then the key is tried, then every sector is
+# read. Status 0: all can be read. Status 1: something can't, and standard output says what.
+#
+# What it can't see: a sector whose 512-byte parts come from different writes, all of them whole. That is what a
+# crash may leave of sectors that were written after the last flush. Look at the filesystem inside with its
+# own tools, on a copy by copy-out.sh. Without authentication it doesn't see damaged sectors either.
+set -euo pipefail
+. "$(dirname -- "${BASH_SOURCE[0]}")/lib.sh"
+
+usage() { note 'usage: after-a-power-failure.sh [-p] [-j PASSFILE] [-k KEYFILE]... IMAGE'; exit 2; }
+while getopts pj:k: option; do
+    case $option in
+        p | j | k) key_option "$option" "${OPTARG:-}" ;;
+        *) usage ;;
+    esac
+done
+shift $((OPTIND - 1))
+[ $# -eq 1 ] || usage
+image=$(one_word "$1")
+need
+readable "$image"
+key_ready
+
+python_part "$image" "${key[*]}" <<'PY'
+import sys
+from lib import REQUEST, WORDS, Progress, Session, length_of, told
+
+image, key = WORDS
+length = length_of(image)
+place = length // 512 - 1
+session = Session(image)
+
+
+def stop(*lines):
+    print(*lines, sep="\n")
+    session.end()
+    sys.exit(1)
+
+
+back = f"dd if=BACKUP of={image} bs=512 count=1 seek={place} conv=notrunc"
+rows, reply = session.ask("dump", image)
+if reply != "ok":
+    helps = {
+        "5": [f"If the image became longer or shorter: make it as long as before, by truncate -s (it has {length} bytes).",
+              f"If something else wrote over its last 512 bytes, with a backup of the metadata: {back}"],
+        "6": ["If the disk tore the sector while init wrote it, see error 7 in geli(8)."],
+        "7": [f"If the disk tore the sector while init wrote it, or something else wrote there, with a backup of the metadata: {back}"],
+        "26": ["Look whether another geli has the image. Else copy the image to a sound disk first, and look at the copy."],
+    }
+    stop(f"metadata: {told(reply)}", *helps.get(reply.split(" ")[1], []))
+fields = dict(row.split(": ") for row in rows)
+print(f"metadata: sound, version {fields['version']}, provider of {fields['provsize']} bytes in an image of {length}")
+
+_, reply = session.ask("attach", "-r", key, image)
+if reply != "ok":
+    helps = {
+        "15": ["If init was at work: the image holds what it held before, or the new provider."],
+        "8": ["The image was cut, lengthened or copied by other means. See BadSize in geli(8)."],
+    }
+    stop(f"key: {told(reply)}", *helps.get(reply.split(" ")[1], []))
+print("key: it opens the provider")
+
+# The device sectors of a logical sector, to tell its number by the byte offset of a bad part.
+width, sectors = session.sizes()
+is_tagged = int(fields["flags"], 16) & 0x10
+data = {"18": 480, "19": 464, "20": 448}[fields["aalgo"]] if is_tagged else 512
+units = (width - 1) // data + 1
+
+bad = []  # ranges of sectors that can't be read: the first, and the one behind the last
+progress = Progress(sectors * width)
+at = 0
+while at < sectors:
+    some = min(REQUEST // width, sectors - at)
+    _, reply = session.ask("read", image, at, some)
+    if reply.startswith("ok "):
+        at += some
+    elif reply.startswith("error 25 "):
+        here = int(reply.split(" ")[3]) // 512 // units
+        if bad and bad[-1][1] == here:
+            bad[-1][1] = here + 1
+        else:
+            bad.append([here, here + 1])
+        at = here + 1
+    else:
+        stop(f"from sector {at} on: {told(reply)}")
+    progress.at(at * width)
+session.must("detach", image)
+session.end()
+for first, end in bad:
+    print(f"unreadable: sector {first}" if end == first + 1 else f"unreadable: sectors {first} to {end - 1}")
+print(f"data: {sectors} sectors of {width} bytes, {sum(end - first for first, end in bad)} of them unreadable")
+if bad:
+    print("An unreadable sector was never written, was cut off by the failure, or was changed from outside.",
+          "A write of the whole sector makes it readable again; what it held is lost.", sep="\n")
+    sys.exit(1)
+if not is_tagged:
+    print("These sectors are not authenticated: damage in them reads as other bytes and is not told.")
+PY

@@ -1,0 +1,80 @@
+#!/usr/bin/env bash
+# copy-in.sh: copies a plain file, such as a filesystem image, into a provider, byte for byte from its sector 0 on.
+#
+#   copy-in.sh [-c] [-p] [-j PASSFILE] [-k KEYFILE]... SOURCE IMAGE
+#
+# What stands there in the provider is overwritten. The passphrase is asked for; -j names a file whose first line it is,
+# -p says that there is none. With -c the sectors are read again afterwards and compared.
+# Where SOURCE ends within a sector, the rest of that sector becomes zeros.
+#
+# It works in pieces of up to 131,072 bytes over one `geli script`, some lines ahead of the replies, and says how far
+# it is on standard error. It answers 0 only where all was written and flushed. If it is broken off, some sectors
+# are new and some old: give it again.
+set -euo pipefail
+. "$(dirname -- "${BASH_SOURCE[0]}")/lib.sh"
+
+usage() { note 'usage: copy-in.sh [-c] [-p] [-j PASSFILE] [-k KEYFILE]... SOURCE IMAGE'; exit 2; }
+check=
+while getopts cpj:k: option; do
+    case $option in
+        c) check=yes ;;
+        p | j | k) key_option "$option" "${OPTARG:-}" ;;
+        *) usage ;;
+    esac
+done
+shift $((OPTIND - 1))
+[ $# -eq 2 ] || usage
+source=$1
+image=$(one_word "$2")
+need
+readable "$source"
+readable "$image"
+[ -w "$image" ] || fail "'$image' can't be written"
+[ ! "$source" -ef "$image" ] || fail 'the two are one file'
+key_ready
+
+python_part "$source" "$image" "$check" "${key[*]}" <<'PY'
+import hashlib
+from lib import REQUEST, WORDS, Progress, Session, fail, length_of
+
+source, image, check, key = WORDS
+size = length_of(source)
+session = Session(image)
+session.must("attach", key, image)
+width, sectors = session.sizes()
+count = -(-size // width)
+if count > sectors:
+    fail(f"{source} has {size} bytes, the provider has room for {sectors * width}: nothing was written")
+progress = Progress(size)
+whole = hashlib.sha256()
+
+
+def pieces(file):
+    at = 0
+    while at < count:
+        some = min(REQUEST // width, count - at)
+        wanted = min(some * width, size - at * width)
+        piece = file.read(wanted)
+        if len(piece) < wanted:
+            fail(f"{source} became shorter meanwhile")
+        piece += bytes(-len(piece) % width)
+        whole.update(piece)
+        yield at, piece
+        at += some
+        progress.at(at * width)
+
+
+with open(source, "rb") as file:
+    session.write_pieces(pieces(file))
+session.must("flush", image)
+if check:
+    back = hashlib.sha256()
+    for piece in session.read_pieces(width, count):
+        back.update(piece)
+    if back.digest() != whole.digest():
+        fail("what is read differs from what was written")
+session.must("detach", image)
+if session.end() != 0:
+    fail("geli ended with another status than 0")
+progress.end(f"{size} bytes in {count} sectors of {width} bytes" + (", read again" if check else ""))
+PY

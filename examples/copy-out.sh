@@ -1,0 +1,67 @@
+#!/usr/bin/env bash
+# copy-out.sh: copies a provider's data, from its sector 0 on, into a new plain file, byte for byte.
+#
+#   copy-out.sh [-b BYTES] [-p] [-j PASSFILE] [-k KEYFILE]... IMAGE TARGET
+#
+# TARGET must not exist; it holds the data in the clear. -b: so many bytes and no more, such as the length of the
+# file that was copied in; without it the whole provider is copied. The passphrase is asked for; -j names
+# a file whose first line it is, -p says that there is none. The image is only read.
+#
+# It works in pieces of up to 131,072 bytes over one `geli script`, some lines ahead of the replies, and says how far
+# it is on standard error. Until all is read and synced the file is called TARGET.part, and it stays so where a
+# sector can't be read.
+set -euo pipefail
+. "$(dirname -- "${BASH_SOURCE[0]}")/lib.sh"
+
+usage() { note 'usage: copy-out.sh [-b BYTES] [-p] [-j PASSFILE] [-k KEYFILE]... IMAGE TARGET'; exit 2; }
+bytes=
+while getopts b:pj:k: option; do
+    case $option in
+        b) bytes=$OPTARG ;;
+        p | j | k) key_option "$option" "${OPTARG:-}" ;;
+        *) usage ;;
+    esac
+done
+shift $((OPTIND - 1))
+[ $# -eq 2 ] || usage
+image=$(one_word "$1")
+target=$2
+need
+[[ -z $bytes || $bytes =~ ^[0-9]{1,16}$ ]] || fail "'$bytes' is no number of bytes"
+readable "$image"
+for name in "$target" "$target.part"; do
+    [ ! -e "$name" ] || fail "'$name' is there already: it is left alone"
+done
+key_ready
+
+python_part "$image" "$target" "$bytes" "${key[*]}" <<'PY'
+import os
+from lib import WORDS, Progress, Session, fail, note
+
+image, target, size, key = WORDS
+session = Session(image)
+session.must("attach", "-r", key, image)
+width, sectors = session.sizes()
+size = int(size) if size else sectors * width
+if size > sectors * width:
+    fail(f"the provider has {sectors * width} bytes, fewer than {size}")
+progress = Progress(size)
+got = 0
+with open(target + ".part", "xb") as file:
+    try:
+        for piece in session.read_pieces(width, -(-size // width)):
+            piece = piece[:size - got]
+            file.write(piece)
+            got += len(piece)
+            progress.at(got)
+    except SystemExit:
+        note(f"{target}.part has the {got} bytes before")
+        raise
+    file.flush()
+    os.fsync(file.fileno())
+session.must("detach", image)
+if session.end() != 0:
+    fail("geli ended with another status than 0")
+os.rename(target + ".part", target)
+progress.end(f"{size} bytes")
+PY

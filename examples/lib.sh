@@ -1,0 +1,102 @@
+# lib.sh: what the scripts of this folder share. It is read by them with `.`, and does nothing alone.
+#
+# GELI names the program, `geli` on the path if it isn't set. The scripts need bash 4 or later, and python3, which holds
+# the two ends of a `geli script` (lib.py).
+# shellcheck shell=bash
+
+GELI=${GELI:-geli}
+library=$(cd -- "$(dirname -- "${BASH_SOURCE[0]}")" && pwd)
+umask 077 # every file that is made here is the caller's alone
+
+note() { printf '%s\n' "$*" >&2; }
+fail() {
+    note "${0##*/}: $*"
+    exit 1
+}
+
+# The name of a file, so that it is no option.
+plain() {
+    case $1 in
+        '') fail 'a file name is empty' ;;
+        */*) printf '%s' "$1" ;;
+        *) printf './%s' "$1" ;;
+    esac
+}
+
+# The same as a line of a script can hold it: one word.
+one_word() {
+    case $1 in
+        *[[:space:]]*) fail "the name '$1' has blanks, and words of a geli script are divided by blanks: use another name or a link" ;;
+        *) plain "$1" ;;
+    esac
+}
+
+# The programs that are used here: geli, python3 and these.
+need() {
+    local program
+    for program in "$GELI" python3 "$@"; do
+        command -v "$program" >/dev/null || fail "the program '$program' isn't there (GELI names the geli to use)"
+    done
+}
+
+# A file, or a block device, that can be read.
+readable() {
+    if [ ! -r "$1" ] || { [ ! -f "$1" ] && [ ! -b "$1" ]; }; then
+        fail "'$1' is no file that can be read"
+    fi
+}
+
+# A folder for passphrases, in memory where the system has such a place. It goes away when the script ends.
+private_folder() {
+    local top
+    for top in "${XDG_RUNTIME_DIR:-}" /dev/shm "${TMPDIR:-/tmp}"; do
+        if [ -n "$top" ] && [ -d "$top" ] && [ -w "$top" ]; then
+            private=$(mktemp -d "$top/geli.XXXXXXXX") || fail "no private folder in $top"
+            trap 'rm -rf "$private"' EXIT
+            trap 'exit 130' INT TERM HUP
+            one_word "$private" >/dev/null
+            return
+        fi
+    done
+    fail 'there is no folder for a passphrase'
+}
+
+# ask_passphrase FILE WHAT [twice]: asks at the terminal and writes the answer to FILE as its first line.
+ask_passphrase() {
+    local first second
+    [ -r /dev/tty ] || fail "no terminal to ask for the $2: name a file of it (see the head of this script)"
+    IFS= read -r -s -p "$2: " first </dev/tty || fail 'nothing was typed'
+    printf '\n' >/dev/tty
+    [ -n "$first" ] || fail "the $2 is empty"
+    if [ "${3:-}" = twice ]; then
+        IFS= read -r -s -p "$2, again: " second </dev/tty || fail 'nothing was typed'
+        printf '\n' >/dev/tty
+        [ "$first" = "$second" ] || fail 'the two differ, nothing was done'
+    fi
+    printf '%s\n' "$first" >"$1"
+}
+
+# The options -k, -j and -p of a key: `key_option LETTER VALUE` for each, then `key_ready`.
+key=()
+has_passphrase=
+key_option() {
+    local name
+    case $1 in
+        k | j)
+            [ -r "$2" ] || fail "the file '$2' can't be read"
+            name=$(one_word "$2")
+            key+=("-$1" "$name") ;;
+        p) key+=(-p) ;;
+    esac
+    case $1 in p | j) has_passphrase=$1 ;; esac
+}
+key_ready() {
+    if [ -z "$has_passphrase" ]; then
+        private_folder
+        ask_passphrase "$private/old" 'passphrase'
+        key+=(-j "$private/old")
+    fi
+}
+
+# The python3 program on standard input, with these words and lib.py.
+python_part() { PYTHONPATH=$library python3 -B - "${0##*/}" "$GELI" "$@"; }

@@ -1,0 +1,162 @@
+"""Selects the acceptance cases that run today, as data of the program geli_cases.
+
+usage: python3 tools/select_cases.py CASES CRATE [--forms FORM..] [--drawers N] [--without NAME..]
+
+CASES is the folder with the `.cases` and `.expected` files. Of each file the cases whose forms are built are written
+to CRATE/data/NAME.cases, unchanged and in their order, and their transcripts to CRATE/stdout; CRATE/args names the files.
+What is left out is counted on standard output.
+
+FORM is a verb that is served, as a single command and as a line of a script; `attach-C` is `attach` with -C alone, and
+`script` the script itself. N is how many drawers a shelf may have. NAME is a file or a case that is left out, as too dear.
+"""
+
+import argparse
+import pathlib
+
+# What is built today.
+FORMS = "script dump init attach detach read write flush list".split(" ")
+DRAWERS = 16
+# A disk with more sectors has no image in memory here.
+SECTORS = 65_536
+# Each verb of the finished product. Any other first word is refused today as ever.
+VERBS = (
+    "attach backup delkey detach dump eject fill flush init kill list read reap restore resize resume "
+    "setkey step submit sum suspend verify write"
+).split(" ")
+# What words that are no command are answered; it is the same in every stage.
+USAGE = "out usage:"
+
+
+def cases_of(text):
+    """The cases of a file: name, lines as they stand with the comments before them."""
+    cases, before = [], []
+    for line in text.splitlines():
+        if line.startswith("case "):
+            cases.append((line.split(" ")[1], before + [line]))
+            before = []
+        elif cases and not before and line and not line.startswith("#"):
+            cases[-1][1].append(line)
+        else:
+            before.append(line)
+            if line and not line.startswith("#"):
+                cases[-1][1].extend(before)
+                before = []
+    return cases
+
+
+def transcripts_of(text):
+    """The transcripts of a file: name, lines."""
+    found = []
+    for line in text.splitlines():
+        if line.startswith("case "):
+            found.append((line.split(" ")[1], []))
+        found[-1][1].append(line)
+    return found
+
+
+def runs_of(transcript):
+    """What each run of a transcript printed."""
+    runs = []
+    for line in transcript:
+        if line.startswith("run "):
+            runs.append([])
+        elif runs:
+            runs[-1].append(line)
+    return runs
+
+
+class Selection:
+    """Which cases run."""
+
+    def __init__(self, forms, drawers, without):
+        self.forms, self.drawers, self.without = forms, drawers, without
+
+    def serves(self, words):
+        """Whether the words of a command or of a line are answered today as in the finished product."""
+        if not words or words[0] not in VERBS or words[0] in self.forms:
+            return True
+        checks = any(word.startswith("-") and "C" in word for word in words)
+        return words[0] == "attach" and "attach-C" in self.forms and checks
+
+    def serves_all(self, words, given):
+        """The same of the words of the command line, with the input that was given."""
+        if words[:1] != ["script"]:
+            return words[:1] and words[0] in VERBS and self.serves(words)
+        lines = [line.decode("utf-8", "replace").split() for line in given.split(b"\n")]
+        return "script" in self.forms and all(self.serves(line) for line in lines)
+
+    def has(self, lines, transcript):
+        """Whether all runs of a case are served, over shelves with room."""
+        disks, shelf, words, given, offered = [], None, [], b"", 0
+        runs = runs_of(transcript)
+        place = 0
+        for line in lines:
+            head, *rest = line.split(" ") if line and not line.startswith("#") else [""]
+            if head in ("disk", "copy", "survivor"):
+                disks += [name for name in rest[:1] if name not in disks]
+            if head in ("disk", "copy") and int(rest[-2]) > SECTORS:
+                return False
+            if head == "shelf":
+                shelf = rest
+            elif head == "offer":
+                offered += 1
+            elif head == "words":
+                words += rest
+            elif head == "word":
+                words.append("" if rest[0] == "-" else bytes.fromhex(rest[0]).decode())
+            elif head == "word-times":
+                words.append(" ".join(rest[1:]) * int(rest[0]))
+            elif head == "in":
+                given += " ".join(rest).encode() + b"\n"
+            elif head in ("in-times", "in-count"):
+                given += " ".join(rest[2:]).encode() + b" x\n"
+            elif head == "bytes":
+                given += b"" if rest[0] == "-" else bytes.fromhex(rest[0])
+            elif head == "bytes-times":
+                given += bytes.fromhex(rest[1]) * min(int(rest[0]), 400_000)
+            elif head in ("run", "crashes"):
+                printed = runs[place] if head == "run" else []
+                place += head == "run"
+                count = len(shelf if shelf is not None else disks) if head == "run" else 1
+                usage = any(found.startswith(USAGE) for found in printed)
+                full = self.drawers < 16 and count + offered > self.drawers
+                if full or not (usage or self.serves_all(words, given)):
+                    return False
+                words, given, offered = [], b"", 0
+        return True
+
+    def write(self, folder, crate):
+        """Writes the data of the crate."""
+        args, stdout = [], []
+        data = crate / "data"
+        data.mkdir(exist_ok=True)
+        for old in data.glob("*.cases"):
+            old.unlink()
+        for path in sorted(folder.glob("*.cases")):
+            cases = cases_of(path.read_text())
+            transcripts = transcripts_of(path.with_suffix(".expected").read_text())
+            assert [name for name, _ in cases] == [name for name, _ in transcripts], path
+            chosen, count = [], 0
+            for (name, lines), (_, transcript) in zip(cases, transcripts):
+                left_out = name in self.without or path.stem in self.without
+                if not left_out and self.has(lines, transcript):
+                    chosen += lines
+                    stdout += transcript
+                    count += 1
+            print(f"{path.stem}: {count} of {len(cases)}")
+            if chosen:
+                (data / path.name).write_text("".join(line + "\n" for line in chosen))
+                args.append(path.name)
+        (crate / "args").write_text("".join(name + "\n" for name in args))
+        (crate / "stdout").write_text("".join(line + "\n" for line in stdout))
+
+
+if __name__ == "__main__":
+    parser = argparse.ArgumentParser(usage=__doc__)
+    parser.add_argument("cases", type=pathlib.Path)
+    parser.add_argument("crate", type=pathlib.Path)
+    parser.add_argument("--forms", nargs="+", default=FORMS)
+    parser.add_argument("--drawers", type=int, default=DRAWERS)
+    parser.add_argument("--without", nargs="+", default=[])
+    given = parser.parse_args()
+    Selection(given.forms, given.drawers, given.without).write(given.cases, given.crate)

@@ -12,6 +12,7 @@ import os
 import pathlib
 import subprocess
 import sys
+import tempfile
 import time
 
 PROGRAM = pathlib.Path(__file__).parent.parent / "crates/bench_aes/out/bench_aes"
@@ -32,15 +33,23 @@ class OpenSSL:
         self.process = subprocess.Popen(
             [sys.executable, __file__, "--openssl"], env=environment, text=True, stdin=subprocess.PIPE, stdout=subprocess.PIPE
         )
+        # The least that two calls through ctypes cost that do nothing, of all measurements: on a loaded machine one alone may be too much.
+        self.nothing = float("inf")
+        for _ in range(20):
+            self.measure("cbc", "open", 128, 512)
 
     def measure(self, *words):
         print(*words, file=self.process.stdin, flush=True)
-        nanos, last = self.process.stdout.readline().split()
+        nanos, nothing, last = self.process.stdout.readline().split()
+        self.nothing = min(self.nothing, float(nothing))
         return float(nanos), last
+
+    def without_calls(self, nanos):
+        return max(0.1, nanos - self.nothing)
 
 
 def serve():
-    """Answers each line, as `xts seal 128 512`, by the nanoseconds of a call and the last bytes that one leaves."""
+    """Answers each line, as `xts seal 128 512`, by the nanoseconds of a call, those of calls that do nothing, and the last bytes that one leaves."""
     crypto = ctypes.CDLL(ctypes.util.find_library("crypto"))
     crypto.EVP_CIPHER_CTX_new.restype = ctypes.c_void_p
     update = crypto.EVP_CipherUpdate
@@ -76,7 +85,48 @@ def serve():
                 best = min(best, time.perf_counter_ns() - start)
             return best / count
 
-        print(max(0.1, least(init, update) - least(no_init, no_update)), last, flush=True)
+        print(least(init, update), least(no_init, no_update), last, flush=True)
+
+
+class Tables:
+    """CBC by tables of columns, one block after the other, as gcc compiles bench/t_tables.c."""
+
+    def __init__(self, folder):
+        library = pathlib.Path(folder) / "t_tables.so"
+        source = pathlib.Path(__file__).with_name("t_tables.c")
+        subprocess.run(["gcc", "-O2", "-march=x86-64-v2", "-shared", "-fPIC", "-o", library, source], check=True)
+        self.code = ctypes.CDLL(str(library))
+        self.code.cbc_seal.argtypes = [ctypes.c_void_p, ctypes.c_int, ctypes.c_void_p, ctypes.c_void_p, ctypes.c_size_t]
+
+    def measure(self, bits, size):
+        """The nanoseconds of a call, and the last bytes that one leaves."""
+        keys, zeros, buffer = ctypes.create_string_buffer(240), bytes(16), ctypes.create_string_buffer(size)
+        rounds = self.code.expand(b"\x01" * (bits // 8), bits // 8, keys)
+        self.code.cbc_seal(keys, rounds, zeros, buffer, size)
+        last = buffer.raw[-16:].hex()
+        count, best = max(1, SLICE // size), float("inf")
+        for _ in range(SLICES):
+            start = time.perf_counter_ns()
+            for _ in range(count):
+                self.code.cbc_seal(keys, rounds, zeros, buffer, size)
+            best = min(best, time.perf_counter_ns() - start)
+        return best / count, last
+
+
+def print_single_blocks(rounds):
+    """One block at a time, beside gcc's compilation of the same tables."""
+    with tempfile.TemporaryDirectory() as folder:
+        tables = Tables(folder)
+        for bits in (128, 256):
+            times = []
+            for _ in range(rounds):
+                (here, last), (other, expected) = ours("cbc", "seal", bits, 65536), tables.measure(bits, 65536)
+                if last != expected:
+                    sys.exit(f"the bytes of single blocks differ at {bits} bits")
+                times.append((here, other))
+            here, other = map(min, zip(*times))
+            rate = lambda nanos: f"{1000 * 65536 / nanos:.1f}"
+            print(f"single blocks, AES-{bits} cbc seal, 65536 | tables by gcc {rate(other)} | here {rate(here)} ({other / here:.2f})", flush=True)
 
 
 def ours(*words):
@@ -95,7 +145,8 @@ def row(without, with_aes, rounds, mode, way, bits, size):
         if last != expected:
             sys.exit(f"the bytes of {mode} {way} {bits} {size} differ")
         times.append((here, sector, other, limit))
-    return [min(column) for column in zip(*times)]
+    here, sector, other, limit = (min(column) for column in zip(*times))
+    return here, sector, without.without_calls(other), with_aes.without_calls(limit)
 
 
 def main():
@@ -113,12 +164,20 @@ def main():
                     f"{rate(sector)} ({other / sector:.2f}) | {rate(limit)}",
                     flush=True,
                 )
+    print_single_blocks(rounds)
     for name, numbers in (("kept, one number", 1), ("kept, 16 numbers in turn", 16), ("made, 17 numbers in turn", 17)):
         times = [ours("ring", "key", bits, numbers)[0] for bits in (128, 256) for _ in range(rounds)]
         print(f"a range key, {name}: {min(times[:rounds]):.0f} ns at 128 bits, {min(times[rounds:]):.0f} ns at 256", flush=True)
     for auth in ("HMAC/SHA256", "HMAC/SHA384", "HMAC/SHA512"):
         seal, open_, alone = (min(ours(auth, way, 128, 0)[0] for _ in range(rounds)) for way in ("seal", "open", "hash"))
         print(f"a piece with {auth}: sealed in {seal:.0f} ns, opened in {open_:.0f} ns, its code alone {alone:.0f} ns", flush=True)
+    print("a logical sector of 4,096 bytes of a provider over a disk in memory, AES-128 xts, in ns")
+    print("data | written | read | the disk's writes alone | its codes alone")
+    for name in ("plain", "HMAC/SHA256", "HMAC/SHA384", "HMAC/SHA512"):
+        call = "provider" if name == "plain" else f"provider-{name}"
+        parts = ("write", "read", "disk", "codes")
+        times = [[ours(call, part, 128, 0)[0] for part in parts] for _ in range(rounds)]
+        print(f"{name} | " + " | ".join(f"{min(column):.0f}" for column in zip(*times)), flush=True)
 
 
 if sys.argv[1:] == ["--openssl"]:

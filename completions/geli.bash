@@ -2,15 +2,18 @@
 # It offers verbs, the options of each verb, values with a fixed choice, and file names. It runs no geli.
 # shellcheck shell=bash
 
-_geli_verbs='attach detach dump flush init list read script write'
+_geli_verbs='attach backup delkey detach dump eject fill flush init kill list read resize restore script setkey sum write'
 
 # The option letters of a verb: those without a value, then those with one.
 _geli_letters() {
     case $1 in
         init) echo PRv aBeiJKls ;;
         attach) echo Cprv jkn ;;
-        detach) echo fv ;;
-        dump) echo v ;;
+        setkey) echo pPv ijJkKn ;;
+        delkey) echo afv n ;;
+        detach | restore) echo fv ;;
+        resize) echo v s ;;
+        backup | dump | kill) echo v ;;
     esac
 }
 
@@ -20,7 +23,7 @@ _geli_files() {
     COMPREPLY=($(compgen -f -- "$1"))
 }
 
-# What may stand behind an option with a value.
+# What may stand behind an option with a value, of this verb.
 _geli_value() {
     case $1 in
         a) COMPREPLY=($(compgen -W 'HMAC/SHA256 HMAC/SHA384 HMAC/SHA512' -- "$2")) ;;
@@ -28,7 +31,7 @@ _geli_value() {
         l) COMPREPLY=($(compgen -W '128 192 256' -- "$2")) ;;
         n) COMPREPLY=($(compgen -W '0 1' -- "$2")) ;;
         i) COMPREPLY=($(compgen -W '100000 1000000' -- "$2")) ;;
-        s) COMPREPLY=($(compgen -W '512 1024 2048 4096 8192 16384 32768 65536' -- "$2")) ;;
+        s) [ "$3" = resize ] || COMPREPLY=($(compgen -W '512 1024 2048 4096 8192 16384 32768 65536' -- "$2")) ;;
         *) _geli_files "$2" ;;
     esac
 }
@@ -71,7 +74,7 @@ _geli() {
     done
 
     if ((waits)); then
-        _geli_value "$letter" "$cur"
+        _geli_value "$letter" "$cur" "$verb"
         return
     fi
     if ((ended == 0)) && [[ $cur == -* ]]; then
@@ -81,10 +84,12 @@ _geli() {
         COMPREPLY=($(compgen -W "$options" -- "$cur"))
         return
     fi
-    # The operand of a file name is the image, the first one.
-    if ((operands == 0)) && [ "$verb" != list ]; then
-        _geli_files "$cur"
-    fi
+    # The operands that are file names: the image, and the backup before or behind it.
+    case $verb in
+        list) ;;
+        backup | restore) ((operands > 1)) || _geli_files "$cur" ;;
+        *) ((operands > 0)) || _geli_files "$cur" ;;
+    esac
 }
 
 complete -F _geli geli

@@ -33,7 +33,6 @@ from lib import REQUEST, WORDS, Progress, Session, length_of, told
 
 image, key = WORDS
 length = length_of(image)
-place = length // 512 - 1
 session = Session(image)
 
 
@@ -43,14 +42,16 @@ def stop(*lines):
     sys.exit(1)
 
 
-back = f"dd if=BACKUP of={image} bs=512 count=1 seek={place} conv=notrunc"
+back = f"geli restore BACKUP {image}"
 rows, reply = session.ask("dump", image)
 if reply != "ok":
     helps = {
         "5": [f"If the image became longer or shorter: make it as long as before, by truncate -s (it has {length} bytes).",
+              "If it was made longer and resize was at work: grow-provider.sh -s, with the length before.",
+              "If kill was at work: it destroyed the metadata.",
               f"If something else wrote over its last 512 bytes, with a backup of the metadata: {back}"],
-        "6": ["If the disk tore the sector while init wrote it, see error 7 in geli(8)."],
-        "7": [f"If the disk tore the sector while init wrote it, or something else wrote there, with a backup of the metadata: {back}"],
+        "6": ["If the disk tore the sector while a command wrote it, see error 7 in geli(8)."],
+        "7": [f"If the disk tore the sector while a command wrote it, or something else wrote there, with a backup of the metadata: {back}"],
         "26": ["Look whether another geli has the image. Else copy the image to a sound disk first, and look at the copy."],
     }
     stop(f"metadata: {told(reply)}", *helps.get(reply.split(" ")[1], []))
@@ -60,7 +61,9 @@ print(f"metadata: sound, version {fields['version']}, provider of {fields['provs
 _, reply = session.ask("attach", "-r", key, image)
 if reply != "ok":
     helps = {
-        "15": ["If init was at work: the image holds what it held before, or the new provider."],
+        "14": ["If delkey was at work: it destroyed the keys."],
+        "15": ["If init was at work: the image holds what it held before, or the new provider.",
+               "If setkey or delkey was at work: the slot has its old key or the new one, or none; the other slot is as before."],
         "8": ["The image was cut, lengthened or copied by other means. See BadSize in geli(8)."],
     }
     stop(f"key: {told(reply)}", *helps.get(reply.split(" ")[1], []))

@@ -25,6 +25,8 @@ CAUSES = {
     "15": "wrong passphrase or wrong key file",
     "16": "a key without a passphrase needs a key file",
     "17": "this provider was made without a passphrase: give -p",
+    "19": "this key slot is empty",
+    "20": "it is the last key",
     "22": "a passphrase is asked for: give -j, or -p where there is none",
     "23": "past the end of the provider",
     "24": "the provider is read-only",
@@ -33,6 +35,8 @@ CAUSES = {
     "27": "a key or passphrase file is not there",
     "28": "a file cannot be read or written: look at the permissions and the space left",
     "30": "a key file or passphrase is too long",
+    "32": "the provider had another size",
+    "34": "the image is not longer than before",
     "35": "the image is too small, or cannot be opened",
 }
 

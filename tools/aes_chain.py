@@ -1,11 +1,16 @@
 #!/usr/bin/env python3
-"""The expected values of aes_core's test of chained keys, by python3's `cryptography`.
+"""The table of aes_core's test of chained keys.
 
 A chain begins with the key bytes 0x00 to 0x1f and a block of zeros. Each of its 1,000 steps
 enciphers (or deciphers) the block under the key's first 16, 24 or 32 bytes, and adds the
 outcome to both halves of the key, so each step has a new key.
 """
+import cryptography
 from cryptography.hazmat.primitives.ciphers import Cipher, algorithms, modes
+
+from test_tables import print_or_check, table
+
+MADE_WITH = f"cryptography {cryptography.__version__}"
 
 
 def chain(length, backwards):
@@ -19,5 +24,14 @@ def chain(length, backwards):
     return block
 
 
-for length in (16, 24, 32):
-    print(length, chain(length, False).hex(), chain(length, True).hex())
+def main():
+    rows = [
+        f"({length}, {str(backwards).lower()}, 0x{chain(length, backwards).hex()})"
+        for backwards in (False, True)
+        for length in (16, 24, 32)
+    ]
+    print_or_check(__doc__, MADE_WITH, {("aes_core/src/tests.rt", "CHAINS"): table(rows)})
+
+
+if __name__ == "__main__":
+    main()

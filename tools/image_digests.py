@@ -1,5 +1,5 @@
 #!/usr/bin/env python3
-"""The table of the test of provider, by python3's hmac, hashlib and `cryptography`.
+"""The table of the test of provider.
 
 The master key is the bytes 0 to 127: IV-Key, then Data-Key. The plain text is byte i = (7 * i + i / 256) mod 256. A row
 has the numbers of an authentication and of a cipher, the bits of a data key, and for each sector size from 512 to 65,536
@@ -7,8 +7,14 @@ the first eight bytes of the SHA-256 digest of the image's data sectors: two log
 the plain text sealed to the second.
 """
 import hashlib
+import platform
+
+import cryptography
 
 from piece_digests import CIPHERS, DATA_KEY, TAGS, piece, sealed
+from test_tables import print_or_check
+
+MADE_WITH = f"hashlib and hmac of Python {platform.python_version()} and cryptography {cryptography.__version__}"
 
 NUMBERS = {"AesXts": "AES_XTS", "AesCbc": "AES_CBC"}
 
@@ -31,11 +37,15 @@ def digest(auth, cipher, bits, size):
     return hashlib.sha256(bytes(len(out)) + out).hexdigest()
 
 
+def row(number, auth, cipher, bits):
+    digests = ", ".join("0x" + digest(auth, cipher, bits, 512 << i)[:16] for i in range(8))
+    return f"    ({number if auth else 0}, {NUMBERS[cipher]}, {bits}, [{digests}]),"
+
+
 def main():
-    for number, auth in enumerate((None, *TAGS), 17):
-        for cipher, bits in CIPHERS:
-            digests = ", ".join("0x" + digest(auth, cipher, bits, 512 << i)[:16] for i in range(8))
-            print(f"    ({number if auth else 0}, {NUMBERS[cipher]}, {bits}, [{digests}]),")
+    rows = [row(number, auth, cipher, bits) for number, auth in enumerate((None, *TAGS), 17) for cipher, bits in CIPHERS]
+    table = "\n".join(["[", *rows, "]"])
+    print_or_check(__doc__, MADE_WITH, {("provider/src/tests.rt", "IMAGES"): table})
 
 
 if __name__ == "__main__":

@@ -1,10 +1,10 @@
 #!/usr/bin/env python3
-"""Kills the program at random moments of sessions with `write` and `flush` on a real file, and looks at what is left.
+"""Kills the program at random moments of sessions with `write`, `fill` and `flush` on a real file, and looks at what is left.
 
     tools/kill_runs.py [-n RUNS] [-s SEED] [-d FOLDER] [PROGRAM]      without a word: the program that ./geli runs
 
-Each run is a `geli script` that attaches a provider and writes runs of sectors, with a flush now and then, until SIGKILL
-ends it. Then a reader of the format of its own, over python3's hmac, hashlib and `cryptography`, opens every sector and
+Each run is a `geli script` that attaches a provider and writes runs of sectors, some of them by `fill`, with a flush now and
+then, until SIGKILL ends it. The bytes of `fill` are made here by a PCG64 of its own. Then a reader of the format of its own, over python3's hmac, hashlib and `cryptography`, opens every sector and
 finds for each device sector which write it is of. What must hold:
 
 - a device sector that an answered flush covers reads as it was written before that flush, or as a later write of it;
@@ -13,7 +13,9 @@ finds for each device sector which write it is of. What must hold:
 - all writes that were answered are there, and what is there is that of the first so many device writes of the session,
   in order;
 - the program's own `read` gives the same bytes, or the same refusal, for each sector;
-- an `init` that is killed leaves the metadata from before, or new ones that open.
+- an `init` that is killed leaves the metadata from before, or new ones that open;
+- so does a `setkey`, and the other slot as it was; a `delkey` leaves the metadata from before, or those without the key, and
+  the other slot as it was; a `resize` the metadata at their old place or at the new one; a `kill` the metadata or none.
 
 SIGKILL doesn't drop what the system holds in memory for the file. So this shows the order and completeness of what the
 program wrote, and not what a power failure does: that needs a disk that loses its cache.
@@ -33,6 +35,7 @@ import time
 from cryptography.hazmat.primitives.ciphers import Cipher, algorithms, modes
 
 KEY = bytes(range(64))
+OTHER = bytes(range(64, 128))
 CONFIGURATIONS = [  # cipher, bits, authentication, sector size
     ("AES-XTS", 128, "", 512), ("AES-XTS", 256, "", 4096), ("AES-XTS", 128, "", 16384),
     ("AES-CBC", 128, "", 1024), ("AES-CBC", 192, "", 4096), ("AES-CBC", 256, "", 8192),
@@ -52,22 +55,61 @@ def le64(number):
     return struct.pack("<Q", number)
 
 
+def rotated(number, count, bits):
+    """So many bits, turned to the right."""
+    return (number >> count | number << (-count % bits)) & 2**bits - 1
+
+
+def workload(seed, size):
+    """The bytes of `fill`: PCG64 (O'Neill's XSL-RR over a state of 128 bits, stepped before each word), whose state and increment
+    come from the seed by eight words of PCG32 (XSH-RR), as `seed_from_u64` of rand_core has it."""
+    parts = b""
+    for _ in range(8):
+        seed = (seed * 6364136223846793005 + 11634580027462260723) % 2**64
+        parts += struct.pack("<I", rotated((seed >> 18 ^ seed) >> 27 & 0xFFFFFFFF, seed >> 59, 32))
+    factor = 0x2360ED051FC65DA44385DF649FCCF645
+    increment = int.from_bytes(parts[16:], "little") | 1
+    state = ((int.from_bytes(parts[:16], "little") + increment) * factor + increment) % 2**128
+    words = []
+    for _ in range(size // 8):
+        state = (state * factor + increment) % 2**128
+        words.append(rotated((state >> 64 ^ state) % 2**64, state >> 122, 64))
+    return struct.pack(f"<{len(words)}Q", *words)
+
+
+assert workload(7, 32).hex() == "0fe813d1643921004d221855746b383bd4012a3ffbaacee6f1d3a7105a6cc3d5"
+
+
+def is_metadata(sector):
+    return sector[:16] == b"GEOM::ELI" + bytes(7) and hashlib.md5(sector[:495]).digest() == sector[495:511]
+
+
+def fields(sector):
+    """Version, flags, cipher, bits, authentication, length, size of a sector, set slots and iterations."""
+    return struct.unpack("<IIHHHQIBi", sector[16:47])
+
+
+def master_in(sector, slot, key):
+    """The master key that a key file opens a slot to, or None."""
+    user, at = sha512(b"", key), 111 + 192 * slot
+    opener = Cipher(algorithms.AES(sha512(user, b"\1")[: fields(sector)[3] // 8]), modes.CBC(bytes(16))).decryptor()
+    text = opener.update(sector[at : at + 192]) + opener.finalize()
+    return text[:128] if sha512(sha512(user, b"\0"), text[:128]) == text[128:] else None
+
+
 class Reader:
     """A provider as its image and its key file say, without the program."""
 
     def __init__(self, image):
         meta = image[-512:]
-        assert meta[:16] == b"GEOM::ELI" + bytes(7), "magic"
-        assert hashlib.md5(meta[:495]).digest() == meta[495:511], "MD5"
-        version, flags, cipher, bits, auth, length, self.size, keys, iterations = struct.unpack("<IIHHHQIBi", meta[16:47])
+        assert is_metadata(meta), "no metadata"
+        version, flags, cipher, bits, auth, length, self.size, keys, iterations = fields(meta)
         assert (version, length, keys, iterations) == (7, len(image), 1, -1), "fields"
         self.is_cbc, self.bytes = cipher == 11, bits // 8
         self.hash, self.tag = TAGS[auth if flags & 0x10 else 0]
-        user = sha512(b"", KEY)
-        open_slot = Cipher(algorithms.AES(sha512(user, b"\1")[: self.bytes]), modes.CBC(bytes(16))).decryptor()
-        slot = open_slot.update(meta[111:303]) + open_slot.finalize()
-        assert sha512(sha512(user, b"\0"), slot[:128]) == slot[128:], "slot 0"
-        self.iv_key, data_key = slot[:64], slot[64:128]
+        master = master_in(meta, 0, KEY)
+        assert master, "slot 0"
+        self.iv_key, data_key = master[:64], master[64:]
         self.base = sha512(data_key, b"\x10") if self.hash else data_key
         self.tag_key = sha512(data_key, b"\x11")
         # The bytes of data in a device sector, and the device sectors of a logical one.
@@ -120,8 +162,10 @@ class Trial:
         self.image = os.path.join(folder, f"{number}.img")
         self.key = os.path.join(folder, "key")
         self.lines, self.replies = os.path.join(folder, "lines"), os.path.join(folder, "replies")
-        with open(self.key, "wb") as file:
-            file.write(KEY)
+        self.other = os.path.join(folder, "other")
+        for name, key in ((self.key, KEY), (self.other, OTHER)):
+            with open(name, "wb") as file:
+                file.write(key)
         with open(self.image, "wb") as file:
             file.truncate(LENGTH)
         self.init = ["init", "-P", "-K", self.key, "-e", self.cipher, "-l", str(self.bits), "-s", str(self.size)]
@@ -130,35 +174,42 @@ class Trial:
         subprocess.run([self.program, *self.init], check=True, stdout=subprocess.DEVNULL)
         self.init_span = time.monotonic() - begun
         self.span = 0.0  # how long a whole session takes
+        self.spans = {}  # from what times the moments of the other commands are drawn
 
     def bytes(self):
         with open(self.image, "rb") as file:
             return file.read()
 
     def session(self, reader):
-        """Lines of random writes and flushes: for each line the writes (first sector, bytes) or None for a flush."""
+        """Lines of random writes, fills and flushes: for each line its words, and the writes (first sector, bytes) or None for a flush."""
         said = []
         most = min(reader.sectors, 65536 // self.size, 24)
         for _ in range(LINES):
-            if self.chance.random() < 0.08:
-                said.append(None)
+            kind = self.chance.random()
+            if kind < 0.08:
+                said.append((f"flush {self.image}", None))
+            elif kind < 0.18:
+                # Up to the whole provider, so that one takes more pieces than one of 131,072 bytes.
+                count = self.chance.randint(1, reader.sectors if self.chance.random() < 0.3 else most)
+                at, seed = self.chance.randint(0, reader.sectors - count), self.chance.getrandbits(64)
+                said.append((f"fill {self.image} {seed} {at} {count}", (at, workload(seed, count * self.size))))
             else:
                 count = self.chance.randint(1, most)
                 # Half of them go to a few sectors, so that these are written over and over.
                 last = reader.sectors - count
                 at = self.chance.randint(0, last if self.chance.random() < 0.5 else min(last, 3))
-                said.append((at, self.chance.randbytes(count * self.size)))
+                plain = self.chance.randbytes(count * self.size)
+                said.append((f"write {self.image} {at} {plain.hex()}", (at, plain)))
         return said
 
     def run(self):
         before = self.bytes()
         reader = Reader(before)
         old = [reader.parts(before, sector) for sector in range(reader.sectors)]
-        said = self.session(reader)
+        words, said = zip(*self.session(reader))
         with open(self.lines, "w", encoding="ascii") as file:
             file.write(f"attach -p -k {self.key} {self.image}\n")
-            for line in said:
-                file.write(f"flush {self.image}\n" if line is None else f"write {self.image} {line[0]} {line[1].hex()}\n")
+            file.writelines(f"{line}\n" for line in words)
         killed = self.play()
         with open(self.replies, encoding="ascii") as file:
             answers = file.read()
@@ -255,6 +306,54 @@ class Trial:
         return status != 0, after != before
 
 
+    def killed(self, words):
+        """Kills a command; whether it had ended by itself."""
+        run = subprocess.Popen([self.program, *words], stdout=subprocess.DEVNULL)
+        span = self.spans.setdefault(words[0], self.init_span)
+        time.sleep(self.chance.uniform(0, span))
+        run.kill()
+        status = run.wait()
+        assert status in (0, -9), f"status {status} of {words[0]}"
+        self.spans[words[0]] = span * (0.7 if status == 0 else 1.2)
+        return status == 0
+
+    def killed_change(self, verb):
+        """Kills a command that changes the metadata of a copy; whether it hadn't ended by itself, and whether they are changed."""
+        image = self.image + ".copy"
+        shutil.copyfile(self.image, image)
+        put = ["setkey", "-n", "1", "-p", "-k", self.key, "-P", "-K", self.other, image]
+        take, grow = ["delkey", "-n", "1", image], ["resize", "-s", str(LENGTH), image]
+        if verb == "delkey":
+            subprocess.run([self.program, *put], check=True, stdout=subprocess.DEVNULL)
+        if verb == "resize":
+            os.truncate(image, LENGTH + 65536)
+        with open(image, "rb") as file:
+            before = file.read()
+        ended = self.killed({"setkey": put, "delkey": take, "resize": grow, "kill": ["kill", image]}[verb])
+        with open(image, "rb") as file:
+            after = file.read()
+        old, new, place = before[LENGTH - 512 : LENGTH], after[-512:], after[LENGTH - 512 : LENGTH]
+        assert len(after) == len(before) and after[: LENGTH - 512] == before[: LENGTH - 512], f"{verb} changed data"
+        if verb == "resize":
+            assert not any(after[LENGTH:-512]), "resize changed other sectors"
+            length = LENGTH + 65536
+            moved = is_metadata(new) and new[:30] + new[38:495] == old[:30] + old[38:495] and fields(new)[5] == length
+            assert moved or place == old, "the metadata are at neither place"
+            assert not ended or (moved and not any(place)), "resize ended and left something"
+            return not ended, moved
+        if verb == "kill":
+            assert new == old or not is_metadata(new), "kill left other metadata"
+            assert not ended or not any(new), "kill ended and left something"
+            return not ended, new != old
+        assert is_metadata(new) and new[:42] + new[43:303] == old[:42] + old[43:303], f"{verb} changed more than its slot"
+        opened = master_in(new, 1, OTHER) if fields(new)[7] & 2 else None
+        assert fields(new)[7] in (1, 3) and master_in(new, 0, KEY) and opened in (None, master_in(new, 0, KEY)), "the slots"
+        assert (fields(new)[7] == 3) == (opened is not None), f"{verb} left a slot that doesn't open"
+        assert not ended or (fields(new)[7] == 3) == (verb == "setkey"), f"{verb} ended and changed nothing"
+        assert not ended or verb == "setkey" or not any(new[303:495]), "delkey ended and left something"
+        return not ended, new != old
+
+
 def main():
     words = argparse.ArgumentParser(usage="%(prog)s [-n RUNS] [-s SEED] [-d FOLDER] [PROGRAM]")
     words.add_argument("-n", type=int, default=600)
@@ -292,11 +391,18 @@ def main():
             was_killed, is_new = trials[number % len(trials)].killed_init()
             inits += was_killed
             new += was_killed and is_new
+        changes = changed = 0
+        for number in range(given.n):
+            verb = ("setkey", "delkey", "resize", "kill")[number // len(trials) % 4]
+            was_killed, is_new = trials[number % len(trials)].killed_change(verb)
+            changes += was_killed
+            changed += was_killed and is_new
     finally:
         shutil.rmtree(folder)
     print(f"{runs} runs, {killed} killed before they ended, {covered} of them behind an answered flush; {answered} answered lines.")
     print(f"{within} were killed behind device writes of a line that wasn't answered; {mixed} logical sectors had parts of different lines.")
     print(f"{inits} killed inits left sound metadata, {new} the new ones.")
+    print(f"{changes} killed commands that change metadata left what they may, {changed} something new.")
     print("Every sector read as said, by the reader and by the program.")
 
 

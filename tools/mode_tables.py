@@ -1,13 +1,20 @@
 #!/usr/bin/env python3
-"""The tables of the tests of cbc_mode and xts_mode, by python3's `cryptography`.
+"""The tables of the tests of cbc_mode and xts_mode.
 
 Keys, initial vectors and tweaks are random, from the seed below. The plain text of a row is byte
 i = (7 * i + i / 256) mod 256, for i below its length; the row holds the SHA-256 digest of its
 cipher text. Long numbers are big-endian.
 """
 import hashlib
+import platform
 import random
+
+import cryptography
 from cryptography.hazmat.primitives.ciphers import Cipher, algorithms, modes
+
+from test_tables import print_or_check, table
+
+MADE_WITH = f"cryptography {cryptography.__version__} and hashlib of Python {platform.python_version()}"
 
 LENGTHS = [0, 16, 48, 512, 4096, 65536]
 
@@ -35,7 +42,7 @@ def cbc_rows(rng):
         digest = digest_of(key, modes.CBC(iv), length)
         yield (
             f"Row {{ key: [{halves(key)}], key_length: {size}, iv: 0x{iv.hex()},"
-            f" length: {length}, digest: [{halves(digest)}] }},"
+            f" length: {length}, digest: [{halves(digest)}] }}"
         )
 
 
@@ -46,13 +53,17 @@ def xts_rows(rng):
         digest = digest_of(first + second, modes.XTS(tweak.to_bytes(16, "little")), length)
         yield (
             f"Row {{ first: [{halves(first)}], second: [{halves(second)}], key_length: {size},"
-            f" tweak: {tweak:#018x}, length: {length}, digest: [{halves(digest)}] }},"
+            f" tweak: {tweak:#018x}, length: {length}, digest: [{halves(digest)}] }}"
         )
 
 
-RNG = random.Random(197)
-for row in cbc_rows(RNG):
-    print(row)
-print()
-for row in xts_rows(RNG):
-    print(row)
+def main():
+    rng = random.Random(197)
+    print_or_check(__doc__, MADE_WITH, {
+        ("cbc_mode/src/tests.rt", "ROWS"): table(cbc_rows(rng)),
+        ("xts_mode/src/tests.rt", "ROWS"): table(xts_rows(rng)),
+    })
+
+
+if __name__ == "__main__":
+    main()

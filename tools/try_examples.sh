@@ -89,10 +89,43 @@ says "what is written again can be read again" "$in" -c -k key -j pass plain c.i
 says "  as can all" "$look" -k key -j pass c.img >report 2>notes
 dd if=/dev/zero of=c.img bs=1 count=1 seek=$((6291456 - 512 + 60)) conv=notrunc status=none
 says "after-a-power-failure.sh tells damaged metadata" test "$("$look" -k key -j pass c.img 2>notes | grep -o '^metadata: error 7 BadHash')" = 'metadata: error 7 BadHash'
-help=$("$look" -k key -j pass c.img 2>notes | sed -n 's/.*: \(dd if=BACKUP.*\)/\1/p')
-eval "${help/BACKUP/c.backup}" 2>notes
+help=$("$look" -k key -j pass c.img 2>notes | sed -n 's/.*: geli \(restore BACKUP.*\)/"$GELI" \1/p')
+eval "${help/BACKUP/c.backup}" >out 2>notes
 says "  and its help mends them" "$look" -k key -j pass c.img >report 2>notes
 says "after-a-power-failure.sh tells a wrong key" test "$("$look" -k key -j wrong c.img 2>notes | grep -c '^key: error 15')" = 1
+
+# A new passphrase, and a longer image.
+change=$top/examples/change-passphrase.sh grow=$top/examples/grow-provider.sh
+printf 'a new one\n' >new && printf 'a newer one\n' >newer
+"$make" -i 1000 -J pass 1048576 d.img key d.backup 2>notes
+says "change-passphrase.sh changes it" "$change" -k key -j pass -J new d.img d1.backup 2>notes
+says "  the new one opens" "$GELI" attach -C -k key -j new d.img >out
+says "  the old one doesn't" test "$("$GELI" attach -C -k key -j pass d.img)" = 'error 15 WrongKey'
+says "  the slot of the old one is empty" test "$("$GELI" dump d.img | grep '^keys')" = 'keys: 0x2'
+says "  and the backup is the metadata" cmp -s d1.backup <(tail -c 512 d.img)
+cp d.img before
+says "change-passphrase.sh overwrites nothing" test "$("$change" -k key -j new -J newer d.img d1.backup 2>&1 | grep -c 'left alone')" = 1
+says "  and refuses an old key that is wrong" test "$("$change" -k key -j pass -J newer d.img d2.backup 2>&1 | grep -c 'the old key: error 15')" = 1
+says "  and writes nothing" cmp d.img before
+"$GELI" setkey -n 0 -k key -j new -K key -J pass d.img >out
+says "change-passphrase.sh takes the place where both slots have keys" "$change" -k key -j new -J newer d.img d2.backup 2>notes
+says "  which opens" "$GELI" attach -C -n 1 -k key -j newer d.img >out
+says "  and leaves the other" "$GELI" attach -C -n 0 -k key -j pass d.img >out
+"$in" -k key -j pass key d.img 2>notes
+says "grow-provider.sh grows it" "$grow" -k key -j pass 2097152 d.img d3.backup 2>notes
+says "  to its new end" test "$(printf 'attach -k key -j pass d.img\nlist\n' | "$GELI" script d.img | sed -n 2p)" = 'd.img attached 4096 511'
+says "  with the data as they were" "$out" -b 64 -k key -j pass d.img d.plain 2>notes
+says "  the same bytes" cmp key d.plain
+says "  and the backup is the metadata" cmp -s d3.backup <(tail -c 512 d.img)
+truncate -s 4194304 d.img # and then power failed
+says "grow-provider.sh goes on with -s" "$grow" -s 2097152 -k key -j pass 4194304 d.img d4.backup 2>notes
+says "  to its new end" "$GELI" attach -C -k key -j pass d.img >out
+cp d.img before
+says "grow-provider.sh changes nothing under a wrong key" test "$("$grow" -k key -j wrong 8388608 d.img d5.backup 2>&1 | grep -c 'nothing was changed: error 15')" = 1
+says "  indeed" cmp d.img before
+"$make" -a -i 1000 -J pass 1048576 e.img key e.backup 2>notes
+says "grow-provider.sh grows an authenticated one" "$grow" -k key -j pass 3145728 e.img e1.backup 2>notes
+says "  every sector of which can be read" grep -q '^data: 682 sectors of 4096 bytes, 0 of them unreadable' <("$look" -k key -j pass e.img 2>notes)
 
 # Completions, by bash itself.
 offered() { # WORD...: what is offered for the last word
@@ -102,13 +135,17 @@ offered() { # WORD...: what is offered for the last word
     printf '%s ' "${COMPREPLY[@]}"
 }
 . "$top/completions/geli.bash"
-says "completions of verbs" test "$(offered '')" = "attach detach dump flush init list read script write "
+says "completions of verbs" test "$(offered '')" = "attach backup delkey detach dump eject fill flush init kill list read resize restore script setkey sum write "
 says "completions of options" test "$(offered attach -)" = "-C -p -r -v -j -k -n "
 says "completions of values" test "$(offered init -e '')" = "AES-XTS AES-CBC "
 says "  of detach" test "$(offered detach -)" = "-f -v "
+says "  of delkey" test "$(offered delkey -)" = "-a -f -v -n "
+says "  of setkey" test "$(offered setkey -)" = "-p -P -v -i -j -J -k -K -n "
 says "  none of read" test "$(offered read -)" = " "
 says "completions of names" test "$(offered dump b.i)" = "b.img "
 says "  of each of a script's" test "$(offered script a.img b.i)" = "b.img "
+says "  of a backup" test "$(offered restore a.img b.i)" = "b.img "
+says "  none behind it" test "$(offered restore a.img b.img b.i)" = " "
 says "  none of a list's" test "$(offered list b.i)" = " "
 
 [ "$failures" = 0 ] || exit 1

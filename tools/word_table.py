@@ -1,10 +1,11 @@
 #!/usr/bin/env python3
-"""The tables of the tests of command_words, by another reader of the syntax.
+"""The tables of the tests of command_words, by the reader of the syntax that stands here, in Python alone.
 
 A row of the first table has the separator, a line, and what the line says; one of the second has the words of a command
 line and the images that they name. This takes lines and words from the tables, reads them itself, and prints the rows
-that come of it. It ends with status 1 where they aren't the tables'.
+that come of it, or with `--check` those that differ. It ends with status 1 where they aren't the tables'.
 """
+import argparse
 import re
 import sys
 from collections import namedtuple
@@ -259,12 +260,24 @@ def image_row(row):
     return f"{words}||[{shown}]"
 
 
-if __name__ == "__main__":
+def main():
+    options = argparse.ArgumentParser(description=__doc__, formatter_class=argparse.RawDescriptionHelpFormatter)
+    options.add_argument("--check", action="store_true", help="say only which rows differ")
+    check = options.parse_args().check
     tables = TABLE.read_text(encoding="utf-8").split('r#"')[1:]
     wrong = False
-    for table, make in zip(tables, (line_row, image_row)):
+    for name, table, make in zip(("LINES", "IMAGES"), tables, (line_row, image_row)):
         before = table.split('"#')[0].splitlines()
         rows = [make(row) for row in before]
-        print("\n".join(rows))
-        wrong |= rows != before
+        differ = [(old, new) for old, new in zip(before, rows) if old != new]
+        if check:
+            print(f"command_words/src/tests/table.rt: {name}: {f'{len(differ)} rows differ' if differ else 'equal'}")
+            print("".join(f"  {old}\n  here {new}\n" for old, new in differ), end="")
+        else:
+            print("\n".join(rows))
+        wrong |= bool(differ)
     sys.exit(wrong)
+
+
+if __name__ == "__main__":
+    main()

@@ -1,6 +1,7 @@
 -- Each entry of the tables of columns, a column from four of them, and a round by columns, both ways.
-use Rattle.std.proofs.Common.{◌≡◌, ℕ, zero, suc, ◌^◌, ◌+◌, ◌-◌, ◌*◌, ◌<◌, ◌/◌, ◌%◌, List, [], ◌∷◌, length, map, get_or, bit_xor, refl, sym, ap, subst, ◌∙◌, arith, lit<}
+use Rattle.std.proofs.Common.{◌≡◌, ℕ, zero, suc, ◌^◌, ◌+◌, ◌-◌, ◌*◌, ◌<◌, ◌/◌, ◌%◌, List, [], ◌∷◌, length, map, get_or, bit_xor, bit_and, refl, sym, ap, subst, ◌∙◌, arith, lit<}
 use Rattle.std.proofs.lemmas.Nat.{xor_block, xor_of_8}
+use Rattle.std.specs.Int.Bits.{xor_zero_l, xor_zero_r}
 use Rattle.std.specs.List.{range_with_len}
 use Rattle.std.specs.Simd.Lanes.{digits_l, number_l}
 use Rattle.aes_core.specs.Field.{times, power}
@@ -8,7 +9,7 @@ use Rattle.std.proofs.lemmas.Simd.{get_or-zip2, get_or-chunk}
 use Rattle.aes_core.specs.Aes.{sbox, inverse_affine, inverse_sbox, after_inverse_rounds, bytes_by, xor, sub_bytes, shift_rows, mix_columns, inverse_sub_bytes, inverse_shift_rows, inverse_mix_columns, circulant_byte, round_key}
 use Rattle.aes_core.proofs.Boxes.{agree_at}
 use Rattle.aes_core.specs.State.{IsState}
-use Rattle.aes_core.proofs.Inverse.{by_index, times-lt, power-lt, sum4, sum4-rotated, IsState-mix_columns, IsState-bytes_by, IsState-xor}
+use Rattle.aes_core.proofs.Inverse.{by_index, times-lt, power-lt, sum4, sum4-rotated, sbox-lt, IsState-sub_bytes, IsState-shift_rows, IsState-mix_columns, IsState-bytes_by, IsState-xor}
 use Rattle.aes_core.specs.Columns.{word_of, word_at, words_of, mixed_word, unmixed_word}
 use Rattle.aes_core.specs.declared.column_tables.TheConstants.{ROW_0, ROW_1, ROW_2, ROW_3}
 use Rattle.aes_core.specs.declared.inverse_column_tables.TheConstants.{INVERSE_ROW_0, INVERSE_ROW_1, INVERSE_ROW_2, INVERSE_ROW_3}
@@ -73,6 +74,43 @@ column_is a b c d la lb lc ld =
     ((sym (sum4-rotated (times 1 w) (times 1 x) (times 2 y) (times 3 z)) ∙ sym (sum4-rotated (times 1 x) (times 2 y) (times 3 z) (times 1 w))) i)
     (sum4-rotated (times 2 z) (times 3 w) (times 1 x) (times 1 y) i))
 
+-- ---- the S-box in the tables
+
+sbox_entries0 : map (λ x. bit_and (get_or ROW_2 x 0) 0xFF) (range_with_len 0 256) ≡ map (λ x. word_of (sbox x) 0 0 0) (range_with_len 0 256)
+unfolding sbox power times
+sbox_entries0 = refl
+
+sbox_entries1 : map (λ x. bit_and (get_or ROW_3 x 0) 0xFF00) (range_with_len 0 256) ≡ map (λ x. word_of 0 (sbox x) 0 0) (range_with_len 0 256)
+unfolding sbox power times
+sbox_entries1 = refl
+
+sbox_entries2 : map (λ x. bit_and (get_or ROW_0 x 0) 0xFF0000) (range_with_len 0 256) ≡ map (λ x. word_of 0 0 (sbox x) 0) (range_with_len 0 256)
+unfolding sbox power times
+sbox_entries2 = refl
+
+sbox_entries3 : map (λ x. bit_and (get_or ROW_1 x 0) 0xFF000000) (range_with_len 0 256) ≡ map (λ x. word_of 0 0 0 (sbox x)) (range_with_len 0 256)
+unfolding sbox power times
+sbox_entries3 = refl
+
+-- the sum of four entries, each with its S-box alone
+pub substituted_is : (a b c d : ℕ) → a < 256 → b < 256 → c < 256 → d < 256
+    → bit_xor (bit_xor (bit_xor (bit_and (get_or ROW_2 a 0) 0xFF) (bit_and (get_or ROW_3 b 0) 0xFF00)) (bit_and (get_or ROW_0 c 0) 0xFF0000)) (bit_and (get_or ROW_1 d 0) 0xFF000000)
+    ≡ word_of (sbox a) (sbox b) (sbox c) (sbox d)
+substituted_is a b c d la lb lc ld =
+    let w = sbox a in let x = sbox b in let y = sbox c in let z = sbox d in
+    let lw = sbox-lt a in let lx = sbox-lt b in let ly = sbox-lt c in
+    let none : 0 < 256 = lit< tt in
+    let e0 = agree_at (λ x. bit_and (get_or ROW_2 x 0) 0xFF) (λ x. word_of (sbox x) 0 0 0) 256 a sbox_entries0 la in
+    let e1 = agree_at (λ x. bit_and (get_or ROW_3 x 0) 0xFF00) (λ x. word_of 0 (sbox x) 0 0) 256 b sbox_entries1 lb in
+    let e2 = agree_at (λ x. bit_and (get_or ROW_0 x 0) 0xFF0000) (λ x. word_of 0 0 (sbox x) 0) 256 c sbox_entries2 lc in
+    let e3 = agree_at (λ x. bit_and (get_or ROW_1 x 0) 0xFF000000) (λ x. word_of 0 0 0 (sbox x)) 256 d sbox_entries3 ld in
+    let ab : bit_xor (word_of w 0 0 0) (word_of 0 x 0 0) ≡ word_of w x 0 0 = word_of-xor w 0 0 0 0 x 0 0 lw none none none lx none ∙ (λ i. word_of (xor_zero_r w i) (xor_zero_l x i) 0 0) in
+    let abc : bit_xor (word_of w x 0 0) (word_of 0 0 y 0) ≡ word_of w x y 0 = word_of-xor w x 0 0 0 0 y 0 lw lx none none none ly ∙ (λ i. word_of (xor_zero_r w i) (xor_zero_r x i) (xor_zero_l y i) 0) in
+    let abcd : bit_xor (word_of w x y 0) (word_of 0 0 0 z) ≡ word_of w x y z = word_of-xor w x y 0 0 0 0 z lw lx ly none none none ∙ (λ i. word_of (xor_zero_r w i) (xor_zero_r x i) (xor_zero_r y i) (xor_zero_l z i)) in
+    (λ i. bit_xor (bit_xor (bit_xor (e0 i) (e1 i)) (e2 i)) (e3 i))
+    ∙ ap (λ (k : ℕ). bit_xor (bit_xor k (word_of 0 0 y 0)) (word_of 0 0 0 z)) ab
+    ∙ ap (λ (k : ℕ). bit_xor k (word_of 0 0 0 z)) abc ∙ abcd
+
 -- ---- the inverse
 
 inverse_entries0 : map (λ x. get_or INVERSE_ROW_0 x 0) (range_with_len 0 256) ≡ map (λ x. word_of (times 14 x) (times 9 x) (times 13 x) (times 11 x)) (range_with_len 0 256)
@@ -126,7 +164,8 @@ unmixed_is w x y z lw lx ly lz =
 
 -- ---- the bytes of four words
 
-digits_number : (xs : List ℕ) → ((k : ℕ) → get_or xs k 0 < 256) → digits_l (2 ^ 8) (length xs) (number_l (2 ^ 8) xs) ≡ xs
+-- bytes are the digits of their number
+pub digits_number : (xs : List ℕ) → ((k : ℕ) → get_or xs k 0 < 256) → digits_l (2 ^ 8) (length xs) (number_l (2 ^ 8) xs) ≡ xs
 digits_number [] h = refl
 digits_number (x ∷ xs) h =
     let n : ℕ = number_l (2 ^ 8) xs in
@@ -144,7 +183,32 @@ bytes_of_words xs len small =
     let whole : number_l (2 ^ 32) (word_of (b 0) (b 1) (b 2) (b 3) ∷ word_of (b 4) (b 5) (b 6) (b 7) ∷ word_of (b 8) (b 9) (b 10) (b 11) ∷ word_of (b 12) (b 13) (b 14) (b 15) ∷ []) ≡ number_l (2 ^ 8) ys = omega arith in
     ap (digits_l (2 ^ 8) 16) whole ∙ digits_number ys (subst (λ (l : List ℕ). (k : ℕ) → get_or l k 0 < 256) e small) ∙ sym e
 
+-- one word more
+word_more : (x m k : ℕ) → x < 2 ^ 32 → digits_l (2 ^ 32) (suc k) (x + 4294967296 * m) ≡ x ∷ digits_l (2 ^ 32) k m
+word_more x m k small =
+    let e : (x + 4294967296 * m) % 4294967296 ≡ x = omega (arith, small) in
+    let d : (x + 4294967296 * m) / 4294967296 ≡ m = omega (arith, small) in
+    (λ i. e i ∷ ap (digits_l (2 ^ 32) k) d i)
+
 -- ---- a state by its words
+
+-- the words of a state
+pub words_are : (s : List ℕ) → IsState s → digits_l (2 ^ 32) 4 (number_l (2 ^ 8) s) ≡ words_of s
+words_are s h =
+    let b : ℕ → ℕ = λ k. get_or s k 0 in
+    let w0 : ℕ = word_of (b 0) (b 1) (b 2) (b 3) in
+    let w1 : ℕ = word_of (b 4) (b 5) (b 6) (b 7) in
+    let w2 : ℕ = word_of (b 8) (b 9) (b 10) (b 11) in
+    let w3 : ℕ = word_of (b 12) (b 13) (b 14) (b 15) in
+    let b0 = h.bytes 0 in let b1 = h.bytes 1 in let b2 = h.bytes 2 in let b3 = h.bytes 3 in let b4 = h.bytes 4 in let b5 = h.bytes 5 in let b6 = h.bytes 6 in let b7 = h.bytes 7 in
+    let b8 = h.bytes 8 in let b9 = h.bytes 9 in let b10 = h.bytes 10 in let b11 = h.bytes 11 in let b12 = h.bytes 12 in let b13 = h.bytes 13 in let b14 = h.bytes 14 in let b15 = h.bytes 15 in
+    let whole : number_l (2 ^ 8) (bytes_by 16 b) ≡ w0 + 4294967296 * (w1 + 4294967296 * (w2 + 4294967296 * (w3 + 4294967296 * 0))) = omega arith in
+    ap (λ (l : List ℕ). digits_l (2 ^ 32) 4 (number_l (2 ^ 8) l)) (by_index s h.long)
+    ∙ ap (digits_l (2 ^ 32) 4) whole
+    ∙ word_more w0 (w1 + 4294967296 * (w2 + 4294967296 * (w3 + 4294967296 * 0))) 3 (omega (arith, b0, b1, b2, b3))
+    ∙ ap (λ (l : List ℕ). w0 ∷ l) (word_more w1 (w2 + 4294967296 * (w3 + 4294967296 * 0)) 2 (omega (arith, b4, b5, b6, b7))
+    ∙ ap (λ (l : List ℕ). w1 ∷ l) (word_more w2 (w3 + 4294967296 * 0) 1 (omega (arith, b8, b9, b10, b11))
+    ∙ ap (λ (l : List ℕ). w2 ∷ l) (word_more w3 0 0 (omega (arith, b12, b13, b14, b15)))))
 
 -- the state of four words
 pub state_is : (w s : List ℕ) → IsState s → w ≡ words_of s → digits_l (2 ^ 8) 16 (number_l (2 ^ 32) w) ≡ s
@@ -193,51 +257,66 @@ word_at-round_key keys r i lt =
 -- ---- a round
 
 -- a column of which row 0 stands at place i, row 1 at the one behind j, and so on
-mixed_at : (s : List ℕ) (i j k l : ℕ) → IsState s
-    → mixed_word (sbox (word_at s i % 256)) (sbox (word_at s j / 2 ^ 8 % 256)) (sbox (word_at s k / 2 ^ 16 % 256)) (sbox (word_at s l / 2 ^ 24))
-    ≡ mixed_word (sbox (get_or s i 0)) (sbox (get_or s (j + 1) 0)) (sbox (get_or s (k + 2) 0)) (sbox (get_or s (l + 3) 0))
-mixed_at s i j k l h =
+rows_at : (f : ℕ → ℕ → ℕ → ℕ → ℕ) (s : List ℕ) (i j k l : ℕ) → IsState s
+    → f (sbox (word_at s i % 256)) (sbox (word_at s j / 2 ^ 8 % 256)) (sbox (word_at s k / 2 ^ 16 % 256)) (sbox (word_at s l / 2 ^ 24))
+    ≡ f (sbox (get_or s i 0)) (sbox (get_or s (j + 1) 0)) (sbox (get_or s (k + 2) 0)) (sbox (get_or s (l + 3) 0))
+rows_at f s i j k l h =
     let g : ℕ → ℕ = λ n. get_or s n 0 in
     let e0 = byte_0 (g i) (g (i + 1)) (g (i + 2)) (g (i + 3)) (h.bytes i) in
     let e1 = byte_1 (g j) (g (j + 1)) (g (j + 2)) (g (j + 3)) (h.bytes j) (h.bytes (j + 1)) in
     let e2 = byte_2 (g k) (g (k + 1)) (g (k + 2)) (g (k + 3)) (h.bytes k) (h.bytes (k + 1)) (h.bytes (k + 2)) in
     let e3 = byte_3 (g l) (g (l + 1)) (g (l + 2)) (g (l + 3)) (h.bytes l) (h.bytes (l + 1)) (h.bytes (l + 2)) in
-    (λ n. mixed_word (sbox (e0 n)) (sbox (e1 n)) (sbox (e2 n)) (sbox (e3 n)))
+    (λ n. f (sbox (e0 n)) (sbox (e1 n)) (sbox (e2 n)) (sbox (e3 n)))
 
--- the words after MixColumns
-mixed_words : (s : List ℕ) → length s ≡ 16 → (let b : ℕ → ℕ = λ k. sbox (get_or s k 0) in
-    mixed_word (b 0) (b 5) (b 10) (b 15) ∷ mixed_word (b 4) (b 9) (b 14) (b 3) ∷ mixed_word (b 8) (b 13) (b 2) (b 7) ∷ mixed_word (b 12) (b 1) (b 6) (b 11) ∷ [] ≡ words_of (mix_columns (shift_rows (sub_bytes s))))
-mixed_words s len =
-    let f : ℕ → ℕ = λ k. get_or s k 0 in
-    let e : words_of (mix_columns (shift_rows (sub_bytes s))) ≡ words_of (mix_columns (shift_rows (sub_bytes (bytes_by 16 f)))) = ap (λ (l : List ℕ). words_of (mix_columns (shift_rows (sub_bytes l)))) (by_index s len) in
-    sym e
+-- the words of the state m, each of which f makes of the S-boxes of a column after ShiftRows
+abbrev IsByRows : (f : ℕ → ℕ → ℕ → ℕ → ℕ) (s m : List ℕ) → Type 0
+IsByRows f s m = (let b : ℕ → ℕ = λ k. sbox (get_or s k 0) in
+    f (b 0) (b 5) (b 10) (b 15) ∷ f (b 4) (b 9) (b 14) (b 3) ∷ f (b 8) (b 13) (b 2) (b 7) ∷ f (b 12) (b 1) (b 6) (b 11) ∷ [] ≡ words_of m)
+
+mixed_words : (s : List ℕ) → length s ≡ 16 → IsByRows (λ a b c d. mixed_word a b c d) s (mix_columns (shift_rows (sub_bytes s)))
+mixed_words s len = sym (ap (λ (l : List ℕ). words_of (mix_columns (shift_rows (sub_bytes l)))) (by_index s len))
+
+substituted_words : (s : List ℕ) → length s ≡ 16 → IsByRows (λ a b c d. word_of a b c d) s (shift_rows (sub_bytes s))
+substituted_words s len = sym (ap (λ (l : List ℕ). words_of (shift_rows (sub_bytes l))) (by_index s len))
+
+-- the words of a state after a round that makes the words of m of those of s, with the sum with a round key
+sum_is : (f : ℕ → ℕ → ℕ → ℕ → ℕ) (w s m key k : List ℕ) (m0 m1 m2 m3 : ℕ) → IsState s → IsState m → IsState key → w ≡ words_of s → IsByRows f s m → k ≡ words_of key
+    → m0 ≡ f (sbox (get_or w 0 0 % 256)) (sbox (get_or w 1 0 / 2 ^ 8 % 256)) (sbox (get_or w 2 0 / 2 ^ 16 % 256)) (sbox (get_or w 3 0 / 2 ^ 24))
+    → m1 ≡ f (sbox (get_or w 1 0 % 256)) (sbox (get_or w 2 0 / 2 ^ 8 % 256)) (sbox (get_or w 3 0 / 2 ^ 16 % 256)) (sbox (get_or w 0 0 / 2 ^ 24))
+    → m2 ≡ f (sbox (get_or w 2 0 % 256)) (sbox (get_or w 3 0 / 2 ^ 8 % 256)) (sbox (get_or w 0 0 / 2 ^ 16 % 256)) (sbox (get_or w 1 0 / 2 ^ 24))
+    → m3 ≡ f (sbox (get_or w 3 0 % 256)) (sbox (get_or w 0 0 / 2 ^ 8 % 256)) (sbox (get_or w 1 0 / 2 ^ 16 % 256)) (sbox (get_or w 2 0 / 2 ^ 24))
+    → bit_xor m0 (get_or k 0 0) ∷ bit_xor m1 (get_or k 1 0) ∷ bit_xor m2 (get_or k 2 0) ∷ bit_xor m3 (get_or k 3 0) ∷ [] ≡ words_of (xor m key)
+sum_is f w s m key k m0 m1 m2 m3 h hm hk e by ek em0 em1 em2 em3 =
+    let at : (p : ℕ) → get_or w p 0 ≡ get_or (words_of s) p 0 = λ p. ap (λ (l : List ℕ). get_or l p 0) e in
+    let c0 = em0 ∙ (λ i. f (sbox (at 0 i % 256)) (sbox (at 1 i / 2 ^ 8 % 256)) (sbox (at 2 i / 2 ^ 16 % 256)) (sbox (at 3 i / 2 ^ 24))) ∙ rows_at f s 0 4 8 12 h in
+    let c1 = em1 ∙ (λ i. f (sbox (at 1 i % 256)) (sbox (at 2 i / 2 ^ 8 % 256)) (sbox (at 3 i / 2 ^ 16 % 256)) (sbox (at 0 i / 2 ^ 24))) ∙ rows_at f s 4 8 12 0 h in
+    let c2 = em2 ∙ (λ i. f (sbox (at 2 i % 256)) (sbox (at 3 i / 2 ^ 8 % 256)) (sbox (at 0 i / 2 ^ 16 % 256)) (sbox (at 1 i / 2 ^ 24))) ∙ rows_at f s 8 12 0 4 h in
+    let c3 = em3 ∙ (λ i. f (sbox (at 3 i % 256)) (sbox (at 0 i / 2 ^ 8 % 256)) (sbox (at 1 i / 2 ^ 16 % 256)) (sbox (at 2 i / 2 ^ 24))) ∙ rows_at f s 12 0 4 8 h in
+    let ms : m0 ∷ m1 ∷ m2 ∷ m3 ∷ [] ≡ words_of m = (λ i. c0 i ∷ c1 i ∷ c2 i ∷ c3 i ∷ []) ∙ by in
+    let of : (p : ℕ) → get_or (m0 ∷ m1 ∷ m2 ∷ m3 ∷ []) p 0 ≡ get_or (words_of m) p 0 = λ p. ap (λ (l : List ℕ). get_or l p 0) ms in
+    let r : (p : ℕ) → get_or k p 0 ≡ get_or (words_of key) p 0 = λ p. ap (λ (l : List ℕ). get_or l p 0) ek in
+    (λ i. bit_xor (of 0 i) (r 0 i) ∷ bit_xor (of 1 i) (r 1 i) ∷ bit_xor (of 2 i) (r 2 i) ∷ bit_xor (of 3 i) (r 3 i) ∷ [])
+    ∙ sym (λ i. word_at-xor m key 0 hm hk (lit< tt) i ∷ word_at-xor m key 4 hm hk (lit< tt) i ∷ word_at-xor m key 8 hm hk (lit< tt) i ∷ word_at-xor m key 12 hm hk (lit< tt) i ∷ [])
 
 -- the words of a state after a round, from those before it
-pub round_is : (w s keys : List ℕ) (r m0 m1 m2 m3 k0 k1 k2 k3 : ℕ) → IsState s → IsState (round_key keys r) → w ≡ words_of s
+pub round_is : (w s key k : List ℕ) (m0 m1 m2 m3 : ℕ) → IsState s → IsState key → w ≡ words_of s → k ≡ words_of key
     → m0 ≡ mixed_word (sbox (get_or w 0 0 % 256)) (sbox (get_or w 1 0 / 2 ^ 8 % 256)) (sbox (get_or w 2 0 / 2 ^ 16 % 256)) (sbox (get_or w 3 0 / 2 ^ 24))
     → m1 ≡ mixed_word (sbox (get_or w 1 0 % 256)) (sbox (get_or w 2 0 / 2 ^ 8 % 256)) (sbox (get_or w 3 0 / 2 ^ 16 % 256)) (sbox (get_or w 0 0 / 2 ^ 24))
     → m2 ≡ mixed_word (sbox (get_or w 2 0 % 256)) (sbox (get_or w 3 0 / 2 ^ 8 % 256)) (sbox (get_or w 0 0 / 2 ^ 16 % 256)) (sbox (get_or w 1 0 / 2 ^ 24))
     → m3 ≡ mixed_word (sbox (get_or w 3 0 % 256)) (sbox (get_or w 0 0 / 2 ^ 8 % 256)) (sbox (get_or w 1 0 / 2 ^ 16 % 256)) (sbox (get_or w 2 0 / 2 ^ 24))
-    → k0 ≡ word_at keys (16 * r) → k1 ≡ word_at keys (16 * r + 4) → k2 ≡ word_at keys (16 * r + 8) → k3 ≡ word_at keys (16 * r + 12)
-    → bit_xor m0 k0 ∷ bit_xor m1 k1 ∷ bit_xor m2 k2 ∷ bit_xor m3 k3 ∷ [] ≡ words_of (xor (mix_columns (shift_rows (sub_bytes s))) (round_key keys r))
-round_is w s keys r m0 m1 m2 m3 k0 k1 k2 k3 h hk e em0 em1 em2 em3 ek0 ek1 ek2 ek3 =
-    let m : List ℕ = mix_columns (shift_rows (sub_bytes s)) in
-    let k : List ℕ = round_key keys r in
-    let hm : IsState m = IsState-mix_columns (shift_rows (sub_bytes s)) in
-    let at : (p : ℕ) → get_or w p 0 ≡ get_or (words_of s) p 0 = λ p. ap (λ (l : List ℕ). get_or l p 0) e in
-    let c0 = em0 ∙ (λ i. mixed_word (sbox (at 0 i % 256)) (sbox (at 1 i / 2 ^ 8 % 256)) (sbox (at 2 i / 2 ^ 16 % 256)) (sbox (at 3 i / 2 ^ 24))) ∙ mixed_at s 0 4 8 12 h in
-    let c1 = em1 ∙ (λ i. mixed_word (sbox (at 1 i % 256)) (sbox (at 2 i / 2 ^ 8 % 256)) (sbox (at 3 i / 2 ^ 16 % 256)) (sbox (at 0 i / 2 ^ 24))) ∙ mixed_at s 4 8 12 0 h in
-    let c2 = em2 ∙ (λ i. mixed_word (sbox (at 2 i % 256)) (sbox (at 3 i / 2 ^ 8 % 256)) (sbox (at 0 i / 2 ^ 16 % 256)) (sbox (at 1 i / 2 ^ 24))) ∙ mixed_at s 8 12 0 4 h in
-    let c3 = em3 ∙ (λ i. mixed_word (sbox (at 3 i % 256)) (sbox (at 0 i / 2 ^ 8 % 256)) (sbox (at 1 i / 2 ^ 16 % 256)) (sbox (at 2 i / 2 ^ 24))) ∙ mixed_at s 12 0 4 8 h in
-    let ms : m0 ∷ m1 ∷ m2 ∷ m3 ∷ [] ≡ words_of m = (λ i. c0 i ∷ c1 i ∷ c2 i ∷ c3 i ∷ []) ∙ mixed_words s h.long in
-    let none : 16 * r + 0 ≡ 16 * r = omega arith in
-    let r0 = ek0 ∙ ap (word_at keys) (sym none) ∙ sym (word_at-round_key keys r 0 (lit< tt)) in
-    let r1 = ek1 ∙ sym (word_at-round_key keys r 4 (lit< tt)) in
-    let r2 = ek2 ∙ sym (word_at-round_key keys r 8 (lit< tt)) in
-    let r3 = ek3 ∙ sym (word_at-round_key keys r 12 (lit< tt)) in
-    let of : (p : ℕ) → get_or (m0 ∷ m1 ∷ m2 ∷ m3 ∷ []) p 0 ≡ get_or (words_of m) p 0 = λ p. ap (λ (l : List ℕ). get_or l p 0) ms in
-    (λ i. bit_xor (of 0 i) (r0 i) ∷ bit_xor (of 1 i) (r1 i) ∷ bit_xor (of 2 i) (r2 i) ∷ bit_xor (of 3 i) (r3 i) ∷ [])
-    ∙ sym (λ i. word_at-xor m k 0 hm hk (lit< tt) i ∷ word_at-xor m k 4 hm hk (lit< tt) i ∷ word_at-xor m k 8 hm hk (lit< tt) i ∷ word_at-xor m k 12 hm hk (lit< tt) i ∷ [])
+    → bit_xor m0 (get_or k 0 0) ∷ bit_xor m1 (get_or k 1 0) ∷ bit_xor m2 (get_or k 2 0) ∷ bit_xor m3 (get_or k 3 0) ∷ [] ≡ words_of (xor (mix_columns (shift_rows (sub_bytes s))) key)
+round_is w s key k m0 m1 m2 m3 h hk e ek =
+    sum_is (λ a b c d. mixed_word a b c d) w s (mix_columns (shift_rows (sub_bytes s))) key k m0 m1 m2 m3 h (IsState-mix_columns (shift_rows (sub_bytes s))) hk e (mixed_words s h.long) ek
+
+-- the same of the last round
+pub last_round_is : (w s key k : List ℕ) (m0 m1 m2 m3 : ℕ) → IsState s → IsState key → w ≡ words_of s → k ≡ words_of key
+    → m0 ≡ word_of (sbox (get_or w 0 0 % 256)) (sbox (get_or w 1 0 / 2 ^ 8 % 256)) (sbox (get_or w 2 0 / 2 ^ 16 % 256)) (sbox (get_or w 3 0 / 2 ^ 24))
+    → m1 ≡ word_of (sbox (get_or w 1 0 % 256)) (sbox (get_or w 2 0 / 2 ^ 8 % 256)) (sbox (get_or w 3 0 / 2 ^ 16 % 256)) (sbox (get_or w 0 0 / 2 ^ 24))
+    → m2 ≡ word_of (sbox (get_or w 2 0 % 256)) (sbox (get_or w 3 0 / 2 ^ 8 % 256)) (sbox (get_or w 0 0 / 2 ^ 16 % 256)) (sbox (get_or w 1 0 / 2 ^ 24))
+    → m3 ≡ word_of (sbox (get_or w 3 0 % 256)) (sbox (get_or w 0 0 / 2 ^ 8 % 256)) (sbox (get_or w 1 0 / 2 ^ 16 % 256)) (sbox (get_or w 2 0 / 2 ^ 24))
+    → bit_xor m0 (get_or k 0 0) ∷ bit_xor m1 (get_or k 1 0) ∷ bit_xor m2 (get_or k 2 0) ∷ bit_xor m3 (get_or k 3 0) ∷ [] ≡ words_of (xor (shift_rows (sub_bytes s)) key)
+last_round_is w s key k m0 m1 m2 m3 h hk e ek =
+    sum_is (λ a b c d. word_of a b c d) w s (shift_rows (sub_bytes s)) key k m0 m1 m2 m3 h (IsState-shift_rows (sub_bytes s) (IsState-sub_bytes s h.long)) hk e (substituted_words s h.long) ek
 
 -- ---- an inverse round
 

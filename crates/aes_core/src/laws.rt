@@ -1,4 +1,5 @@
-// What holds of the cipher, whatever it is given.
+//! What holds of the cipher, whatever it is given.
+
 ghost use Rattle.std.specs.Prelude.{◌≡◌, ℕ, List, length};
 ghost use Rattle.aes_core.specs.Aes.{decrypt, encrypt};
 ghost use Rattle.aes_core.specs.Schedule.{IsKeyLength};

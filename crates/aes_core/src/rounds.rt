@@ -1,23 +1,12 @@
 //! The cipher and its inverse under the round keys (FIPS 197, 5.1 and 5.3), by tables.
 
 ghost use Rattle.std.specs.Prelude.{◌≡◌, ℕ, ◌<◌};
-ghost use Rattle.aes_core.specs.Aes.{enciphered, deciphered, sub_bytes, inverse_sub_bytes};
+ghost use Rattle.aes_core.specs.Aes.{enciphered, deciphered, inverse_sub_bytes};
 
 use crate::blocks::Block;
-use crate::columns::{after_inverse_round, after_round, columns_of, state_of};
-use crate::sboxes::{inverse_sbox, sbox};
-use crate::steps::{add_round_key, inverse_shift_rows, shift_rows};
-
-// SubBytes (FIPS 197, 5.1.1).
-fn substituted(s: Block) -> Block
-    ensures { result ≡ sub_bytes s }
-{
-    let mut out = [0u8; 16];
-    for i in 0..16 {
-        out[i] = sbox(s[i]);
-    }
-    out
-}
+use crate::columns::{after_inverse_round, after_last_round, after_round, columns_of, state_of};
+use crate::sboxes::inverse_sbox;
+use crate::steps::{add_round_key, inverse_shift_rows};
 
 // InvSubBytes (FIPS 197, 5.3.2).
 fn unsubstituted(s: Block) -> Block
@@ -40,7 +29,7 @@ pub fn encipher(keys: &[u8; 240], count: usize, block: &Block) -> Block
         let next = after_round(w, keys, n + 1);
         w = next;
     }
-    add_round_key(shift_rows(substituted(state_of(w))), keys, count + 1)
+    state_of(after_last_round(w, keys, count + 1))
 }
 
 /// The inverse cipher under the round keys, with `count` rounds before the last (FIPS 197, 5.3).

@@ -1,3 +1,5 @@
+//! The standard's vectors by the tables and by the equations, and chains of keys.
+
 use crate::Schedule;
 use crate::steps::{decipher, encipher};
 use std::test::Fail;
@@ -23,7 +25,7 @@ fn vectors_of_the_standard(rt: HostRuntime) -> Result<(), Fail> {
         (24, 0xdda97ca4864cdfe06eaf70a0ec0d7191),
         (32, 0x8ea2b7ca516745bfeafc49904b496089),
     ] {
-        assert!(rt; length <= 32);
+        assert!(rt; length <= 32, "{length}");
         let schedule = Schedule::new(&key[..length]).ok_or("a key was refused")?;
         let mut block = plain.to_be_bytes();
         schedule.encrypt_block(&mut block);
@@ -74,7 +76,7 @@ fn key_expansions_of_the_standard(rt: HostRuntime) -> Result<(), Fail> {
             0xfe4890d1e6188d0b046df344706c631e,
         ),
     ] {
-        assert!(rt; length <= 32);
+        assert!(rt; length <= 32, "{length}");
         let schedule = Schedule::new(&key_of(first, second)[..length]).ok_or("a key was refused")?;
         let end = 4 * length + 112;
         let keys = &schedule.keys;
@@ -92,19 +94,22 @@ fn key_expansions_of_the_standard(rt: HostRuntime) -> Result<(), Fail> {
     Ok(())
 }
 
-// 1,000 keys of each length, each made from the outcome before it, both ways. The expected blocks
-// come from another implementation, by tools/aes_chain.py.
+// The bytes of a key, whether it goes backwards, and the block in the end: the chains of tools/aes_chain.py, by the library
+// that it names.
+const CHAINS: [(usize, bool, u128); 6] = [
+    (16, false, 0xecb1d5bf6aa1efc4abadb08d938846ca),
+    (24, false, 0xe68edbbf40e28214f56bbdb6e191b5d9),
+    (32, false, 0x6fcb24d95c3fc4cb1284e235bb66d75a),
+    (16, true, 0xf9c7b40bdad0befb25f9bc9a99f84edd),
+    (24, true, 0x941edf1f01f6a58275f3c9154aa647ef),
+    (32, true, 0xc2f9d9c13836c8aecc72b7ffe2735635),
+];
+
+// 1,000 keys of each length, each made from the outcome before it, both ways.
 #[test]
 fn chains_of_keys(rt: HostRuntime) -> Result<(), Fail> {
-    for (length, backwards, end) in [
-        (16usize, false, 0xecb1d5bf6aa1efc4abadb08d938846cau128),
-        (24, false, 0xe68edbbf40e28214f56bbdb6e191b5d9),
-        (32, false, 0x6fcb24d95c3fc4cb1284e235bb66d75a),
-        (16, true, 0xf9c7b40bdad0befb25f9bc9a99f84edd),
-        (24, true, 0x941edf1f01f6a58275f3c9154aa647ef),
-        (32, true, 0xc2f9d9c13836c8aecc72b7ffe2735635),
-    ] {
-        assert!(rt; length <= 32);
+    for (length, backwards, end) in CHAINS {
+        assert!(rt; length <= 32, "{length}");
         let mut first = 0x000102030405060708090a0b0c0d0e0fu128;
         let mut second = 0x101112131415161718191a1b1c1d1e1fu128;
         let mut block = [0u8; 16];

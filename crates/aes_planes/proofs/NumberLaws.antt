@@ -2,20 +2,12 @@
 use Rattle.std.proofs.Common.{◌≡◌, ℕ, suc, ◌+◌, ◌*◌, ◌/◌, ◌%◌, ◌^◌, ◌<◌, List, [], ◌∷◌, get_or, length, bit_xor, replicate, refl, sym, ap, ◌∙◌, arith}
 use Rattle.std.specs.Simd.Lanes.{zip2, digits_l, number_l}
 use Rattle.aes_core.specs.State.{IsState}
+use Rattle.aes_core.proofs.ColumnLaws.{digits_number}
 use Rattle.aes_planes.specs.Planes.{turned}
 use Rattle.aes_planes.specs.Blocks.{plane_of}
 use Rattle.std.proofs.lemmas.List.{get_or-replicate}
 use Rattle.aes_planes.proofs.SubLaw.{small_get}
 use Rattle.aes_planes.proofs.RowLaws.{explicit}
-
-digits_number : (xs : List ℕ) → ((k : ℕ) → get_or xs k 0 < 256) → digits_l (2 ^ 8) (length xs) (number_l (2 ^ 8) xs) ≡ xs
-digits_number [] h = refl
-digits_number (x ∷ xs) h =
-    let n : ℕ = number_l (2 ^ 8) xs in
-    let small : x < 256 = h 0 in
-    let e : (x + 256 * n) % 256 ≡ x = omega (arith, small) in
-    let d : (x + 256 * n) / 256 ≡ n = omega (arith, small) in
-    (λ i. e i ∷ (ap (digits_l (2 ^ 8) (length xs)) d ∙ digits_number xs (λ k. h (suc k))) i)
 
 number-lt : (v : List ℕ) → IsState v → number_l (2 ^ 8) v < 2 ^ 128
 number-lt v h =

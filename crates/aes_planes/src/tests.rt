@@ -1,3 +1,5 @@
+//! The standard's vectors among eight blocks.
+
 use crate::{SlicedSchedule, loaded, store};
 use aes_core::Schedule;
 use std::test::Fail;
@@ -22,7 +24,7 @@ fn vectors_of_the_standard(rt: HostRuntime) -> Result<(), Fail> {
         (24, 0xdda97ca4864cdfe06eaf70a0ec0d7191),
         (32, 0x8ea2b7ca516745bfeafc49904b496089),
     ] {
-        assert!(rt; length <= 32);
+        assert!(rt; length <= 32, "{length}");
         let schedule = Schedule::new(&key[..length]).ok_or("a key was refused")?;
         let sliced = SlicedSchedule::new(&schedule);
         let mut group = [0u8; 128];

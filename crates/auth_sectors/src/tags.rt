@@ -1,4 +1,5 @@
-// Tags, in the first bytes of 64.
+//! Tags, in the first bytes of 64.
+
 ghost use Rattle.std.specs.Prelude.{◌≡◌, ◌≢◌, ◌↔◌, ◌-◌, ◌≤◌, ◌++◌, IsTrue, length, replicate};
 ghost use Rattle.sealing.specs.Pieces.{hmac_of, tag_of};
 ghost use Rattle.auth_sectors.specs.Tags.{padded};
@@ -31,21 +32,9 @@ fn code_of(auth: Auth, key: &[u8; 32], message: &[u8]) -> [u8; 64]
 {
     match auth {
         Auth::Off => [0; 64],
-        Auth::Sha256 => {
-            let mut hasher = Hmac256::new(key);
-            hasher.update(message);
-            padded(&hasher.finish())
-        }
-        Auth::Sha384 => {
-            let mut hasher = Hmac384::new(key);
-            hasher.update(message);
-            padded(&hasher.finish())
-        }
-        Auth::Sha512 => {
-            let mut hasher = Hmac512::new(key);
-            hasher.update(message);
-            padded(&hasher.finish())
-        }
+        Auth::Sha256 => padded(&Hmac256::code_of(key, message)),
+        Auth::Sha384 => padded(&Hmac384::code_of(key, message)),
+        Auth::Sha512 => padded(&Hmac512::code_of(key, message)),
     }
 }
 

@@ -1,3 +1,5 @@
+//! Sealed pieces by authentication, cipher and place, and pieces with one bit turned.
+
 use crate::{open_piece, seal_piece};
 use eli_base::{Auth, Cipher, MasterKey, Params, sector_size_ok};
 use range_keys::KeyRing;
@@ -104,7 +106,7 @@ const DIGESTS: [(Auth, Cipher, u16, &str); 15] = [
 const OFFSETS: [u64; 5] = [0, 512, 4_608, 536_870_400, 536_870_912];
 
 /// Each line has a version of the metadata, an authentication, a cipher, the bits of its key, the bytes of a logical sector, its
-/// number, and the digest of its device sectors, by another implementation of the rules of geli(8).
+/// number, and the digest of its device sectors, by the same script.
 const SECTORS: [(u32, Auth, Cipher, u16, usize, u64, &str); 10] = [
     (
         7,
@@ -211,7 +213,10 @@ fn ring_of(
     for (i, byte) in bytes.iter_mut().enumerate() {
         *byte = (i % 128) as u8;
     }
-    assert!(rt; cipher.allows(keylen) && sector_size_ok(4_096));
+    assert!(rt;
+        cipher.allows(keylen) && sector_size_ok(4_096),
+        "{keylen} bits"
+    );
     let params = Params::new(version, auth, cipher, keylen, 4_096, 0, false);
     Ok(KeyRing::new(alloc, &MasterKey { bytes }, &params)?)
 }
@@ -233,14 +238,23 @@ fn sealed(
     plain: &[u8],
 ) -> Result<[u8; 512], Fail> {
     let length = plain.len();
-    assert!(rt; ring.auth() != Auth::Off && 16 <= length && length <= 480);
-    assert!(rt; length <= ring.auth().data_bytes() && length % 16 == 0);
+    assert!(rt;
+        ring.auth() != Auth::Off && 16 <= length && length <= 480,
+        "{length} bytes at {offset}"
+    );
+    assert!(rt;
+        length <= ring.auth().data_bytes() && length % 16 == 0,
+        "{length} bytes at {offset}"
+    );
     let mut sector = [0xff; 512];
     seal_piece(ring, offset, plain, &mut sector);
     let mut opened = [0u8; 480];
     assert!(rt; ring.auth() != Auth::Off && length <= ring.auth().data_bytes());
-    assert!(rt; open_piece(ring, offset, &sector, &mut opened[..length]).is_ok());
-    assert_eq!(rt; &opened[..length], plain);
+    assert!(rt;
+        open_piece(ring, offset, &sector, &mut opened[..length]).is_ok(),
+        "{length} bytes at {offset}"
+    );
+    assert_eq!(rt; &opened[..length], plain, "{length} bytes at {offset}");
     Ok(sector)
 }
 
@@ -252,7 +266,7 @@ fn sealed_pieces(rt: HostRuntime) -> Result<(), Fail> {
         for offset in OFFSETS {
             let plain = plain_bytes(offset);
             for length in [16, 32, auth.data_bytes()] {
-                assert!(rt; length <= 480);
+                assert!(rt; length <= 480, "{auth:?} {length} bytes at {offset}");
                 digest.update(&sealed(&rt, &mut ring, offset, &plain[..length])?);
             }
         }
@@ -269,7 +283,7 @@ fn sealed_pieces(rt: HostRuntime) -> Result<(), Fail> {
         let mut digest = Sha256::new();
         for (j, unit) in plain.chunks(auth.data_bytes()).enumerate() {
             let first = number.checked_mul(units).expect(&rt, "the number is small");
-            assert!(rt; first < 1 << 40 && j < 1 << 10);
+            assert!(rt; first < 1 << 40 && j < 1 << 10, "{auth:?} {size} {number}");
             let offset = 512 * (first + j as u64);
             digest.update(&sealed(&rt, &mut ring, offset, unit)?);
         }
@@ -290,7 +304,7 @@ fn turned_bits(rt: HostRuntime) -> Result<(), Fail> {
         let mut ring = ring_of(&rt, rt.alloc(), 7, auth, Cipher::AesXts, 128)?;
         let sector = sealed(&rt, &mut ring, 512, &[0x37; 32])?;
         let size = auth.tag_bytes();
-        assert!(rt; 1 <= size && size <= 64);
+        assert!(rt; 1 <= size && size <= 64, "{auth:?}");
         for (place, is_looked_at) in [
             (0, true),
             (size - 1, true),
@@ -300,7 +314,7 @@ fn turned_bits(rt: HostRuntime) -> Result<(), Fail> {
             (511, false),
         ] {
             let mut turned = sector;
-            assert!(rt; place < 512);
+            assert!(rt; place < 512, "{auth:?} at {place}");
             turned[place] ^= 0x10;
             let mut out = [0xff; 32];
             assert!(rt; ring.auth() != Auth::Off && 32 <= ring.auth().data_bytes());
@@ -309,10 +323,10 @@ fn turned_bits(rt: HostRuntime) -> Result<(), Fail> {
             if let Err(mismatch) = answer {
                 let kept = mismatch.kept;
                 let computed = mismatch.computed;
-                assert_eq!(rt; usize::from(mismatch.length), size);
-                assert_eq!(rt; &kept[..size], &turned[..size]);
-                assert_ne!(rt; kept, computed);
-                assert_eq!(rt; out, [0; 32]);
+                assert_eq!(rt; usize::from(mismatch.length), size, "{auth:?} at {place}");
+                assert_eq!(rt; &kept[..size], &turned[..size], "{auth:?} at {place}");
+                assert_ne!(rt; kept, computed, "{auth:?} at {place}");
+                assert_eq!(rt; out, [0; 32], "{auth:?} at {place}");
             }
         }
     }

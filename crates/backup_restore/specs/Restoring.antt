@@ -3,15 +3,15 @@ use Rattle.std.specs.Prelude.{◌≡◌, ℕ, ◌*◌, nat_lt, if◌then◌else�
 use Rattle.std.specs.Bool.{IsFalse}
 use Rattle.block_traits.specs.Disk.{DiskState, FailsIn, Logs, last_sector}
 use Rattle.block_traits.specs.Moments.{KeepsOldOr}
-use Rattle.eli_base.specs.declared.Refusal.{Refusal}
-use Rattle.eli_base.specs.declared.Refusal.TheVariants.{DeviceFault}
-use Rattle.eli_base.specs.declared.Refusal.TheVariants as refusals
+use Rattle.eli_base.specs.declared.refusals.Refusal.{Refusal}
+use Rattle.eli_base.specs.declared.refusals.Refusal.TheVariants.{DeviceFault}
+use Rattle.eli_base.specs.declared.refusals.Refusal.TheVariants as refusals
 use Rattle.eli_metadata.specs.Check.{size_matches}
 use Rattle.eli_metadata.specs.Format.{encoded, metadata_in}
 use Rattle.eli_metadata.specs.Place.{IsSectorOf, replace_events}
 use Rattle.eli_metadata.specs.Refusals.{refusal_of}
-use Rattle.eli_metadata.specs.declared.MetaFault.{MetaFault}
-use Rattle.eli_metadata.specs.declared.Metadata.{Metadata}
+use Rattle.eli_metadata.specs.declared.metadata.MetaFault.{MetaFault}
+use Rattle.eli_metadata.specs.declared.metadata.Metadata.{Metadata}
 
 -- the first 511 bytes of a backup, and a zero byte
 abbrev pub backed_up_sector : List ℕ → List ℕ

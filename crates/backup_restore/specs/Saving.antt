@@ -1,12 +1,12 @@
 -- What `backup` answers, and what it does to the disk (geli(8), backup).
 use Rattle.std.specs.Prelude.{◌≡◌, ℕ, ◌*◌, ◌<◌, ◌≤◌, List, [], length, Result, Ok, Err}
 use Rattle.block_traits.specs.Disk.{DiskState, FailsIn, Gives, Logs, last_sector}
-use Rattle.eli_base.specs.declared.Refusal.{Refusal}
-use Rattle.eli_base.specs.declared.Refusal.TheVariants.{DeviceFault, TooSmall}
+use Rattle.eli_base.specs.declared.refusals.Refusal.{Refusal}
+use Rattle.eli_base.specs.declared.refusals.Refusal.TheVariants.{DeviceFault, TooSmall}
 use Rattle.eli_metadata.specs.Format.{metadata_in}
 use Rattle.eli_metadata.specs.Refusals.{refusal_of}
-use Rattle.eli_metadata.specs.declared.MetaFault.{MetaFault}
-use Rattle.eli_metadata.specs.declared.Metadata.{Metadata}
+use Rattle.eli_metadata.specs.declared.metadata.MetaFault.{MetaFault}
+use Rattle.eli_metadata.specs.declared.metadata.Metadata.{Metadata}
 
 -- the last device sector was read, without an event, and these bytes are what it holds
 pub record ReadsSector (before : DiskState) (bytes : List ℕ) (after : DiskState) : Type 0 where

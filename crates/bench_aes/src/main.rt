@@ -1,4 +1,4 @@
-//! The time of the cipher modes, of the key ring and of sealed sectors, for bench/aes.py.
+//! The time of the cipher modes, of the key ring, of sealed sectors and of a provider, for bench/aes.py.
 //!
 //! Its arguments are a call's name, the bits of a key, the bytes of a call and how many slices are measured. It prints the
 //! nanoseconds of the quickest slice, the calls of a slice, and the last 16 bytes that one call leaves of zeros. With other
@@ -8,12 +8,14 @@
 ghost use Rattle.std.specs.Prelude.{◌≡◌, ◌≤◌, ◌%◌, length};
 
 mod modes;
+mod providers;
 mod sectors;
 
 use aes_core::Schedule;
 use aes_planes::SlicedSchedule;
 use eli_base::{Auth, Cipher, MasterKey, Params, sector_size_ok};
 use modes::{Mode, time_mode};
+use providers::{CALLS, Part, time_provider};
 use range_keys::KeyRing;
 use sectors::{time_hash, time_keys, time_pieces, time_sectors};
 use std::alloc::Global;
@@ -131,6 +133,30 @@ fn run_pieces(
     print_slice(rt, nanos, 200, &[])
 }
 
+// A whole provider of one logical sector, or what its disk or its codes alone cost.
+fn run_provider(
+    rt: &(impl Print + Clock),
+    alloc: Global,
+    auth: Auth,
+    what: &str,
+    bits: u16,
+    slices: u32,
+) -> io::Result<()> {
+    let part = match what {
+        "write" => Part::Write,
+        "read" => Part::Read,
+        "disk" => Part::Disk,
+        _ => Part::Codes,
+    };
+    if bits != 128 && bits != 256 {
+        return Ok(());
+    }
+    match time_provider(rt, alloc, part, auth, bits, slices)? {
+        Some(nanos) => print_slice(rt, nanos, CALLS, &[]),
+        None => Ok(()),
+    }
+}
+
 fn run(rt: &(impl Print + Clock), alloc: Global, words: &[&str]) -> io::Result<()> {
     let [name, way, bits, size, slices] = words else {
         return Ok(());
@@ -161,6 +187,10 @@ fn run(rt: &(impl Print + Clock), alloc: Global, words: &[&str]) -> io::Result<(
         "HMAC/SHA256" => run_pieces(rt, alloc, Auth::Sha256, way, bits, slices),
         "HMAC/SHA384" => run_pieces(rt, alloc, Auth::Sha384, way, bits, slices),
         "HMAC/SHA512" => run_pieces(rt, alloc, Auth::Sha512, way, bits, slices),
+        "provider" => run_provider(rt, alloc, Auth::Off, way, bits, slices),
+        "provider-HMAC/SHA256" => run_provider(rt, alloc, Auth::Sha256, way, bits, slices),
+        "provider-HMAC/SHA384" => run_provider(rt, alloc, Auth::Sha384, way, bits, slices),
+        "provider-HMAC/SHA512" => run_provider(rt, alloc, Auth::Sha512, way, bits, slices),
         _ => Ok(()),
     }
 }

@@ -1,4 +1,5 @@
-// The cipher modes under schedules that are kept.
+//! The cipher modes under schedules that are kept.
+
 ghost use Rattle.std.specs.Prelude.{◌≡◌, ◌%◌, length};
 
 use aes_core::Schedule;

@@ -1,4 +1,5 @@
-// The key ring, sealed sectors, and what their hashes alone cost.
+//! The key ring, sealed sectors, and what their hashes alone cost.
+
 ghost use Rattle.std.specs.Prelude.{◌≡◌, ◌≢◌, ◌≤◌, ◌<◌, ◌%◌, length};
 ghost use Rattle.eli_base.specs.Units.{unit_bytes_of};
 
@@ -120,25 +121,13 @@ pub fn time_pieces(
     Ok(least)
 }
 
-// The first byte of the code of a message.
-fn code(auth: Auth, key: &[u8; 32], message: &[u8]) -> u8 {
+/// The first byte of the code of a message.
+pub fn code(auth: Auth, key: &[u8; 32], message: &[u8]) -> u8 {
     match auth {
         Auth::Off => 0,
-        Auth::Sha256 => {
-            let mut hasher = Hmac256::new(key);
-            hasher.update(message);
-            hasher.finish()[0]
-        }
-        Auth::Sha384 => {
-            let mut hasher = Hmac384::new(key);
-            hasher.update(message);
-            hasher.finish()[0]
-        }
-        Auth::Sha512 => {
-            let mut hasher = Hmac512::new(key);
-            hasher.update(message);
-            hasher.finish()[0]
-        }
+        Auth::Sha256 => Hmac256::code_of(key, message)[0],
+        Auth::Sha384 => Hmac384::code_of(key, message)[0],
+        Auth::Sha512 => Hmac512::code_of(key, message)[0],
     }
 }
 

@@ -10,7 +10,7 @@ use Rattle.block_traits.specs.Disk.{DiskState, Continues, FailsIn, Logs}
 use Rattle.block_traits.specs.Moments.{AtEachMoment, HoldsOldOr, HoldsOnceFlushed, KeepsAlone, KeepsOldOr}
 use Rattle.block_traits.specs.Overwriting.{overwrite_events, passes_of, piece_of, zeros}
 use Rattle.block_traits.proofs.Contents.{last_of-push}
-use Rattle.block_traits.proofs.Logs.{Continues-then, FailsIn-next, FailsIn-part, Logs-then}
+use Rattle.block_traits.proofs.Logs.{Continues-then, FailsIn-part}
 use Rattle.block_traits.proofs.Keeping.{AtEachMoment-FailsIn, AtEachMoment-Logs, HoldsOldOr-more, WritesHere, AllHold, AllHold-one, AllHold-kept_after, flushed-more, kept_values-more}
 
 -- where P holds of the values, or they are written elsewhere
@@ -108,7 +108,7 @@ length-passes_of n random size =
     let from_1 : All P (piece 1 ∷ piece 2 ∷ piece 3 ∷ piece 4 ∷ last) = All-cons P (piece 1) (piece 2 ∷ piece 3 ∷ piece 4 ∷ last) (length-piece_of n random 1 (omega arith)) from_2 in
     All-cons P (piece 0) (piece 1 ∷ piece 2 ∷ piece 3 ∷ piece 4 ∷ last) (length-piece_of n random 0 (omega arith)) from_1
 
--- ---- the loops that write values over a sector
+-- ---- the loop that writes values over a sector
 
 -- the events that are left begin with those of one value
 pub left_from : (n i : ℕ) (values : List (List ℕ)) (all : List Event) {middle start : DiskState} → i < length values → Continues (overwrite_events n (drop i values)) all middle start
@@ -118,24 +118,6 @@ left_from n i values all {middle} {start} small continues =
     let cons : drop i values ≡ get_or values i [] ∷ drop (i + 1) values = rw (add-one, drop-cons values i []) refl in
     subst P cons continues
 
-pub next_value : (n i : ℕ) (values : List (List ℕ)) (all : List Event) {middle between next start : DiskState} → i < length values → Continues (overwrite_events n (drop i values)) all middle start
-    → Logs (Write n (get_or values i []) ∷ []) middle between → Logs (Flush ∷ []) between next → Continues (overwrite_events n (drop (i + 1) values)) all next start
-next_value n i values all small continues write flush =
-    Continues-then (Write n (get_or values i []) ∷ Flush ∷ []) (overwrite_events n (drop (i + 1) values)) all (left_from n i values all small continues)
-    (Logs-then (Write n (get_or values i []) ∷ []) (Flush ∷ []) write flush)
-
-pub failed_write : (n i : ℕ) (values : List (List ℕ)) (all : List Event) {middle start new : DiskState} → i < length values → Continues (overwrite_events n (drop i values)) all middle start
-    → FailsIn (Write n (get_or values i []) ∷ []) middle new → FailsIn all start new
-failed_write n i values all small continues fails =
-    FailsIn-part (Write n (get_or values i []) ∷ []) (Flush ∷ overwrite_events n (drop (i + 1) values)) all (left_from n i values all small continues) fails
-
-pub failed_flush : (n i : ℕ) (values : List (List ℕ)) (all : List Event) {middle between start new : DiskState} → i < length values → Continues (overwrite_events n (drop i values)) all middle start
-    → Logs (Write n (get_or values i []) ∷ []) middle between → FailsIn (Flush ∷ []) between new → FailsIn all start new
-failed_flush n i values all small continues write fails =
-    FailsIn-part (Write n (get_or values i []) ∷ Flush ∷ []) (overwrite_events n (drop (i + 1) values)) all (left_from n i values all small continues)
-    (FailsIn-next (Write n (get_or values i [])) (Flush ∷ []) write fails)
-
--- the same where the value is stored in one call
 pub next_store : (n i : ℕ) (values : List (List ℕ)) (all : List Event) {middle next start : DiskState} → i < length values → Continues (overwrite_events n (drop i values)) all middle start
     → Logs (Write n (get_or values i []) ∷ Flush ∷ []) middle next → Continues (overwrite_events n (drop (i + 1) values)) all next start
 next_store n i values all small continues store =

@@ -38,6 +38,3 @@ pub record CabinetState : Type 0 where
   pub files : Option Files
   pub faults : ℕ
   pub misses : ℕ
-
-abbrev pub cabinet_of : {C : Type 0} → (C → Option Files) → (C → ℕ) → (C → ℕ) → C → CabinetState
-cabinet_of files faults misses cabinet = record { files = files cabinet; faults = faults cabinet; misses = misses cabinet }

@@ -17,35 +17,39 @@ pub record IsWellFormed (size : ℕ) (shows : Bool) (told : Option Content) : Ty
   pub shown : IsTrue shows → IsSome told
 
 -- what a disk tells of itself: its size in sectors, whether it shows its events, its content where it tells that,
--- and how often it has failed
+-- how often it has failed, and how often it was asked to read
 pub record DiskState : Type 0 where
   pub size : ℕ
   pub shows : Bool
   pub content : Option Content
   pub faults : ℕ
+  pub reads : ℕ
   pub well_formed : IsWellFormed size shows content
 
 -- a disk that tells no content, and so shows no events
-abbrev pub untold : (size faults : ℕ) → size < 2 ^ 44 → DiskState
-untold size faults bound = record {
+abbrev pub untold : (size faults reads : ℕ) → size < 2 ^ 44 → DiskState
+untold size faults reads bound = record {
   size = size;
   shows = false;
   content = None;
   faults = faults;
+  reads = reads;
   well_formed = record { bound = bound; fits = tt; shown = λ h. h };
 }
 
 -- a disk that tells its content and shows its events
-abbrev pub showing : (c : Content) (faults : ℕ) → length c.base < 2 ^ 44 → IsContentOf (length c.base) c → DiskState
-showing c faults bound fits = record {
+abbrev pub showing : (c : Content) (faults reads : ℕ) → length c.base < 2 ^ 44 → IsContentOf (length c.base) c → DiskState
+showing c faults reads bound fits = record {
   size = length c.base;
   shows = true;
   content = Some c;
   faults = faults;
+  reads = reads;
   well_formed = record { bound = bound; fits = fits; shown = λ h. h };
 }
 
--- these events were logged, and nothing else happened but that the count of faults may have risen
+-- these events were logged, and nothing else happened but that the count of faults may have risen; how often the disk was
+-- asked to read isn't said here
 pub record Logs (events : List Event) (old new : DiskState) : Type 0 where
   pub content : new.content ≡ logged events old.content
   pub size : new.size ≡ old.size

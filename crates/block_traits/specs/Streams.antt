@@ -1,15 +1,17 @@
--- What a sink and entropy tell of themselves, and what calls of them do.
+-- What a source, a sink and entropy tell of themselves, and what calls of them do.
 use Rattle.std.specs.Prelude.{◌≡◌, ℕ, ◌≤◌, List, length, take, Option}
 use Rattle.std.specs.Io.KnownBytes.{append_known, prepend_known}
 use Rattle.block_traits.specs.Causes.{Rose}
+
+-- a source by the bytes that it has left, where it tells them, and how often it failed
+pub record SourceState : Type 0 where
+  pub left : Option (List ℕ)
+  pub faults : ℕ
 
 -- a sink by the bytes that it took, where it tells them, and how often it failed
 pub record SinkState : Type 0 where
   pub taken : Option (List ℕ)
   pub faults : ℕ
-
-abbrev pub sink_of : {K : Type 0} → (K → Option (List ℕ)) → (K → ℕ) → K → SinkState
-sink_of taken faults sink = record { taken = taken sink; faults = faults sink }
 
 -- the sink took the whole text
 pub record TookAll (text : List ℕ) (old new : SinkState) : Type 0 where
@@ -28,9 +30,6 @@ pub record TookPart (text : List ℕ) (old new : SinkState) : Type 0 where
 pub record EntropyState : Type 0 where
   pub left : Option (List ℕ)
   pub faults : ℕ
-
-abbrev pub entropy_of : {E : Type 0} → (E → Option (List ℕ)) → (E → ℕ) → E → EntropyState
-entropy_of left faults entropy = record { left = left entropy; faults = faults entropy }
 
 -- these bytes were taken in one piece, and no others
 pub record Takes (bytes : List ℕ) (old new : EntropyState) : Type 0 where

@@ -1,6 +1,6 @@
 // What keeps files by their names.
-ghost use Rattle.std.specs.Prelude.{◌≡◌, ◌≤◌, ℕ, Option, OnOk, OnErr, IfOk, IsErrOf, length};
-ghost use Rattle.block_traits.specs.Cabinet.{Files, LoadGives, stored};
+ghost use Rattle.std.specs.Prelude.{◌≡◌, ◌≤◌, OnOk, OnErr, IfOk, IsErrOf, length};
+ghost use Rattle.block_traits.specs.Cabinet.{CabinetState, LoadGives, stored};
 ghost use Rattle.block_traits.specs.Causes.{Rose};
 
 use crate::ByteList;
@@ -30,32 +30,27 @@ pub enum StoreFault {
 
 /// What keeps files by their names.
 pub trait Cabinet {
-    /// The files, where that is told.
-    ghost files: { Self → Option Files };
-
-    /// How often it has failed, which never falls.
-    ghost faults: { Self → ℕ };
-
-    /// How often a file was absent or too long, which never falls.
-    ghost misses: { Self → ℕ };
+    /// Its files, where it tells them, which it then always does; how often it has failed; and how often a file was
+    /// absent or too long. No count falls.
+    ghost state: { Self → CabinetState };
 
     /// The whole file of this name, if it has at most `limit` bytes. Changes no file.
     fn load(&mut self, alloc: Global, name: &[u8], limit: u64) -> Result<ByteList, LoadFault>
-        ensures gives { LoadGives (files self.old) name.now limit result }
+        ensures gives { LoadGives (state self.old).files name.now limit result }
         ensures within { IfOk result (λ bytes. length bytes ≤ limit) }
-        ensures files { files self.new ≡ files self.old }
-        ensures later { faults self.old ≤ faults self.new }
-        ensures failed { IsErrOf result LoadFault.Failed → Rose (faults self.old) (faults self.new) }
-        ensures more_misses { misses self.old ≤ misses self.new }
-        ensures absent { IsErrOf result LoadFault.Absent → Rose (misses self.old) (misses self.new) }
-        ensures too_long { IsErrOf result LoadFault.TooLong → Rose (misses self.old) (misses self.new) };
+        ensures files { (state self.new).files ≡ (state self.old).files }
+        ensures later { (state self.old).faults ≤ (state self.new).faults }
+        ensures failed { IsErrOf result LoadFault.Failed → Rose (state self.old).faults (state self.new).faults }
+        ensures more_misses { (state self.old).misses ≤ (state self.new).misses }
+        ensures absent { IsErrOf result LoadFault.Absent → Rose (state self.old).misses (state self.new).misses }
+        ensures too_long { IsErrOf result LoadFault.TooLong → Rose (state self.old).misses (state self.new).misses };
 
     /// Makes or replaces the file of this name, and leaves the others. After a failure a cabinet
     /// that tells its files has what it had.
     fn store(&mut self, alloc: Global, name: &[u8], bytes: &[u8]) -> Result<(), StoreFault>
-        ensures ok { OnOk result (files self.new ≡ stored name.now bytes.now (files self.old)) }
-        ensures err { OnErr result (files self.new ≡ files self.old) }
-        ensures later { faults self.old ≤ faults self.new }
-        ensures failed { IsErrOf result StoreFault.Failed → Rose (faults self.old) (faults self.new) }
-        ensures more_misses { misses self.old ≤ misses self.new };
+        ensures ok { OnOk result ((state self.new).files ≡ stored name.now bytes.now (state self.old).files) }
+        ensures err { OnErr result ((state self.new).files ≡ (state self.old).files) }
+        ensures later { (state self.old).faults ≤ (state self.new).faults }
+        ensures failed { IsErrOf result StoreFault.Failed → Rose (state self.old).faults (state self.new).faults }
+        ensures more_misses { (state self.old).misses ≤ (state self.new).misses };
 }

@@ -1,5 +1,6 @@
 // A disk of 512-byte sectors, by what it had at first and what was done to it since.
 ghost use Rattle.std.specs.Prelude.{◌≡◌, ◌<◌, ◌∷◌, [], OnOk, OnErr, is_some, option_copied};
+ghost use Rattle.block_traits.specs.Causes.{Counted};
 ghost use Rattle.block_traits.specs.Disk.{DiskState, FailsIn, Gives, IsHistory, Logs};
 
 /// The content of one sector.
@@ -21,32 +22,35 @@ pub struct DiskFailed;
 /// A disk of fewer than 2^44 sectors.
 pub trait Disk: Drop {
     /// Its size, which never changes; whether it shows its events, which never changes; its content
-    /// where it tells that, which it then always does; and a count of faults, which never falls.
-    /// What it tells is well formed.
+    /// where it tells that, which it then always does; a count of faults, which never falls; and a
+    /// count of the reads that it was asked for. What it tells is well formed.
     ghost state: { Self → DiskState };
 
     /// The size in sectors.
     fn sectors(&self) -> u64
         ensures { result ≡ (state self.now).size };
 
-    /// Reads sector `n`: what stands there now, where that is told.
+    /// Reads sector `n`: what stands there now, where that is told. It is counted whatever it answers.
     /// After a failure `into` may hold any bytes.
     fn read(&mut self, n: u64, into: &mut Sector) -> Result<(), DiskFailed>
         requires { n < (state self.old).size }
         ensures bytes { OnOk result (Gives (state self.old) n into.new) }
         ensures ok { OnOk result (Logs [] (state self.old) (state self.new)) }
-        ensures err { OnErr result (FailsIn [] (state self.old) (state self.new)) };
+        ensures err { OnErr result (FailsIn [] (state self.old) (state self.new)) }
+        ensures asked { Counted 1 (state self.old).reads (state self.new).reads };
 
     /// Writes sector `n`. A failed write was done or wasn't.
     fn write(&mut self, n: u64, from: &Sector) -> Result<(), DiskFailed>
         requires { n < (state self.old).size }
         ensures ok { OnOk result (Logs (Event.Write n from.now ∷ []) (state self.old) (state self.new)) }
-        ensures err { OnErr result (FailsIn (Event.Write n from.now ∷ []) (state self.old) (state self.new)) };
+        ensures err { OnErr result (FailsIn (Event.Write n from.now ∷ []) (state self.old) (state self.new)) }
+        ensures unasked { (state self.new).reads ≡ (state self.old).reads };
 
     /// Makes what was written before last. A failed flush was done or wasn't.
     fn flush(&mut self) -> Result<(), DiskFailed>
         ensures ok { OnOk result (Logs (Event.Flush ∷ []) (state self.old) (state self.new)) }
-        ensures err { OnErr result (FailsIn (Event.Flush ∷ []) (state self.old) (state self.new)) };
+        ensures err { OnErr result (FailsIn (Event.Flush ∷ []) (state self.old) (state self.new)) }
+        ensures unasked { (state self.new).reads ≡ (state self.old).reads };
 
     /// The whole history, the oldest event first, where the disk shows its events.
     fn events(&self) -> Option<&[Event]>

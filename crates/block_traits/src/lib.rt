@@ -23,5 +23,5 @@ pub use laws::{
     last_kept_value_is_present, torn_image_is_altered,
 };
 pub use meta_place::{LastSector, MetaPlace, load_last, store_last};
-pub use overwriting::{overwrite, overwrite_last};
+pub use overwriting::{Pass, overwrite, overwrite_last, passes};
 pub use streams::{Entropy, EntropyFailed, Sink, SinkFailed, Source, SourceFailed};

@@ -1,8 +1,8 @@
 // The last sector of a disk, where the metadata of a provider stands (g_eli.h).
-ghost use Rattle.std.specs.Prelude.{◌≡◌, ◌<◌, [], ℕ, List, OnOk, OnErr};
+ghost use Rattle.std.specs.Prelude.{◌≡◌, ◌<◌, ◌∷◌, [], ℕ, List, OnOk, OnErr};
 ghost use Rattle.block_traits.specs.Disk.{DiskState, FailsIn, Gives, Logs, last_sector, store_events};
 
-use crate::{Disk, DiskFailed, Sector};
+use crate::{Disk, DiskFailed, Event, Sector};
 
 /// A disk by its last sector, where its metadata stands.
 pub trait MetaPlace {
@@ -25,11 +25,12 @@ pub trait MetaPlace {
         ensures rest { rest self.new ≡ rest self.old };
 
     /// Writes the last sector, and then flushes. Where it fails, the first of these two were done,
-    /// or both, or none.
+    /// or both, or none. It reads nothing.
     fn store(&mut self, from: &Sector) -> Result<(), DiskFailed>
         requires { 0 < (state self.old).size }
         ensures ok { OnOk result (Logs (store_events (state self.old) from.now) (state self.old) (state self.new)) }
         ensures err { OnErr result (FailsIn (store_events (state self.old) from.now) (state self.old) (state self.new)) }
+        ensures unasked { (state self.new).reads ≡ (state self.old).reads }
         ensures rest { rest self.new ≡ rest self.old };
 }
 
@@ -88,13 +89,25 @@ pub fn load_last<D: Disk>(disk: &mut D, into: &mut Sector) -> Result<(), DiskFai
 }
 
 /// Writes the last sector of a disk, and then flushes. Where it fails, the first of these two were
-/// done, or both, or none.
+/// done, or both, or none. It reads nothing.
 pub fn store_last<D: Disk>(disk: &mut D, from: &Sector) -> Result<(), DiskFailed>
     requires { 0 < (D.state disk.old).size }
     ensures ok { OnOk result (Logs (store_events (D.state disk.old) from.now) (D.state disk.old) (D.state disk.new)) }
     ensures err { OnErr result (FailsIn (store_events (D.state disk.old) from.now) (D.state disk.old) (D.state disk.new)) }
+    ensures unasked { (D.state disk.new).reads ≡ (D.state disk.old).reads }
 {
     let last = disk.sectors() - 1;
-    disk.write(last, from)?;
+    write_through(disk, last, from)
+}
+
+/// Writes sector `n` of a disk, and then flushes. Where it fails, the first of these two were done, or
+/// both, or none. It reads nothing.
+pub(crate) fn write_through<D: Disk>(disk: &mut D, n: u64, from: &Sector) -> Result<(), DiskFailed>
+    requires { n < (D.state disk.old).size }
+    ensures ok { OnOk result (Logs (Event.Write n from.now ∷ Event.Flush ∷ []) (D.state disk.old) (D.state disk.new)) }
+    ensures err { OnErr result (FailsIn (Event.Write n from.now ∷ Event.Flush ∷ []) (D.state disk.old) (D.state disk.new)) }
+    ensures unasked { (D.state disk.new).reads ≡ (D.state disk.old).reads }
+{
+    disk.write(n, from)?;
     disk.flush()
 }

@@ -1,7 +1,8 @@
 // What gives bytes, what takes them, and where random bytes come from.
-ghost use Rattle.std.specs.Prelude.{◌≡◌, ◌<◌, ◌≤◌, ℕ, List, Option, OnOk, IfOk, OnErr, length, take};
+ghost use Rattle.std.specs.Prelude.{◌≡◌, ◌<◌, ◌≤◌, OnOk, IfOk, OnErr, length, take};
 ghost use Rattle.std.specs.Io.KnownBytes.{prepend_known, append_known, IsAtEnd};
 ghost use Rattle.block_traits.specs.Causes.{HasCause, Rose};
+ghost use Rattle.block_traits.specs.Streams.{EntropyState, SinkState, SourceState};
 
 /// The source failed.
 #[derive(Clone, Copy, Debug, PartialEq, Eq)]
@@ -17,53 +18,44 @@ pub struct EntropyFailed;
 
 /// What gives bytes, as standard input.
 pub trait Source {
-    /// The bytes that are left, where that is told.
-    ghost left: { Self → Option (List ℕ) };
-
-    /// How often it has failed, which never falls.
-    ghost faults: { Self → ℕ };
+    /// The bytes that are left, where it tells them; and how often it has failed, which never falls.
+    ghost state: { Self → SourceState };
 
     /// Moves the first bytes that are left to the front of `into`, and answers how many. 0 means
     /// the end of input. A failure takes nothing, and `into` may then hold any bytes.
     fn take(&mut self, into: &mut [u8]) -> Result<usize, SourceFailed>
         requires { 0 < length into.old }
         ensures bound { IfOk result (λ k. k ≤ length into.new) }
-        ensures bytes { IfOk result (λ k. left self.old ≡ prepend_known (take k into.new) (left self.new)) }
-        ensures end { IfOk result (λ k. k ≡ 0 → IsAtEnd (left self.new)) }
-        ensures err { OnErr result (left self.new ≡ left self.old) }
-        ensures cause { HasCause (faults self.old) (faults self.new) result };
+        ensures bytes { IfOk result (λ k. (state self.old).left ≡ prepend_known (take k into.new) (state self.new).left) }
+        ensures end { IfOk result (λ k. k ≡ 0 → IsAtEnd (state self.new).left) }
+        ensures err { OnErr result ((state self.new).left ≡ (state self.old).left) }
+        ensures cause { HasCause (state self.old).faults (state self.new).faults result };
 }
 
 /// What takes bytes, as standard output.
 pub trait Sink {
-    /// The bytes that it took, where that is told.
-    ghost taken: { Self → Option (List ℕ) };
-
-    /// How often it has failed, which never falls.
-    ghost faults: { Self → ℕ };
+    /// The bytes that it took, where it tells them; and how often it has failed, which never falls.
+    ghost state: { Self → SinkState };
 
     /// Takes the first bytes of `from`, and answers how many. To take nothing of something is a
     /// fault, and is counted. A failure takes nothing.
     fn give(&mut self, from: &[u8]) -> Result<usize, SinkFailed>
         ensures bound { IfOk result (λ k. k ≤ length from.now) }
-        ensures bytes { IfOk result (λ k. taken self.new ≡ append_known (taken self.old) (take k from.now)) }
-        ensures none { IfOk result (λ k. k ≡ 0 → 0 < length from.now → Rose (faults self.old) (faults self.new)) }
-        ensures err { OnErr result (taken self.new ≡ taken self.old) }
-        ensures cause { HasCause (faults self.old) (faults self.new) result };
+        ensures bytes { IfOk result (λ k. (state self.new).taken ≡ append_known (state self.old).taken (take k from.now)) }
+        ensures none { IfOk result (λ k. k ≡ 0 → 0 < length from.now → Rose (state self.old).faults (state self.new).faults) }
+        ensures err { OnErr result ((state self.new).taken ≡ (state self.old).taken) }
+        ensures cause { HasCause (state self.old).faults (state self.new).faults result };
 }
 
 /// Where random bytes come from.
 pub trait Entropy {
-    /// The bytes that are left, where that is told.
-    ghost left: { Self → Option (List ℕ) };
-
-    /// How often it has failed, which never falls.
-    ghost faults: { Self → ℕ };
+    /// The bytes that are left, where it tells them; and how often it has failed, which never falls.
+    ghost state: { Self → EntropyState };
 
     /// Fills `into` with the first bytes that are left, in order. A failure takes nothing, and
     /// `into` may then hold any bytes.
     fn fill(&mut self, into: &mut [u8]) -> Result<(), EntropyFailed>
-        ensures ok { OnOk result (left self.old ≡ prepend_known into.new (left self.new)) }
-        ensures err { OnErr result (left self.new ≡ left self.old) }
-        ensures cause { HasCause (faults self.old) (faults self.new) result };
+        ensures ok { OnOk result ((state self.old).left ≡ prepend_known into.new (state self.new).left) }
+        ensures err { OnErr result ((state self.new).left ≡ (state self.old).left) }
+        ensures cause { HasCause (state self.old).faults (state self.new).faults result };
 }

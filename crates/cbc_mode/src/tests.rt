@@ -1,3 +1,5 @@
+//! The vectors of NIST SP 800-38A, and texts of other lengths.
+
 use crate::{cbc_open, cbc_seal};
 use aes_core::Schedule;
 use sha2::{Digest, Sha256};
@@ -83,13 +85,13 @@ fn vectors_of_the_standard(rt: HostRuntime) -> Result<(), Fail> {
     let iv = INITIAL_VECTOR.to_be_bytes();
     for vector in VECTORS {
         let length = vector.key_length;
-        assert!(rt; length <= 32);
+        assert!(rt; length <= 32, "{length}");
         let k = Schedule::new(&bytes_of(vector.key)[..length]).ok_or("a key was refused")?;
         let mut text = plain;
         cbc_seal(&k, &iv, &mut text);
         assert_eq!(rt; text, text_of(vector.cipher), "{length}");
         cbc_open(&k, &iv, &mut text);
-        assert_eq!(rt; text, plain, "{length}");
+        assert_eq!(rt; text, plain, "{length}, opened");
     }
     Ok(())
 }
@@ -194,9 +196,9 @@ fn fill(text: &mut [u8]) {
 }
 
 fn check(rt: &impl Abort, row: Row, text: &mut [u8]) -> Result<(), Fail> {
-    assert!(rt; row.key_length <= 32);
+    assert!(rt; row.key_length <= 32, "{}", row.length);
     let k = Schedule::new(&bytes_of(row.key)[..row.key_length]).ok_or("a key was refused")?;
-    assert!(rt; text.len() % 16 == 0);
+    assert!(rt; text.len() % 16 == 0, "{}", row.length);
     cbc_seal(&k, &row.iv.to_be_bytes(), text);
     let digest = Sha256::digest(text);
     assert_eq!(rt; digest, bytes_of(row.digest), "{}", row.length);
@@ -207,7 +209,7 @@ fn check(rt: &impl Abort, row: Row, text: &mut [u8]) -> Result<(), Fail> {
 fn as_another_implementation(rt: HostRuntime) -> Result<(), Fail> {
     let mut text = vec![in rt.alloc(); 0u8; 65536]?;
     for row in ROWS {
-        assert!(rt; row.length <= text.len());
+        assert!(rt; row.length <= text.len(), "{}", row.length);
         fill(&mut text);
         check(&rt, row, &mut text[..row.length])?;
     }

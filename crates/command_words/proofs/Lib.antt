@@ -1,9 +1,9 @@
-mod BoundsLaws
-pub mod CutLaws
-mod JoinLaws
-mod NumberLaws
-mod OperandsLaws
-mod OptionsLaws
-mod PlacesLaws
-mod TextLaws
-mod WordsLaws
+mod Bounds
+pub mod Cuts
+mod Joining
+mod Numbers
+mod OperandsLemmas
+mod Options
+mod Places
+mod Text
+mod Words

@@ -1,3 +1,4 @@
+-- What a cursor over the words of a line has taken, and what is left.
 use Rattle.std.specs.Prelude.{List, [], if◌then◌else◌}
 use Rattle.std.specs.List.{slice_split}
 use Rattle.command_words.specs.declared.cursor.Piece.{Piece}

@@ -1,3 +1,4 @@
+-- The images that the words of a run name.
 use Rattle.std.specs.Prelude.{ℕ, List, [], ◌∷◌, length, Bool, true, not, ◌&&◌, nat_le, if◌then◌else◌, Option, None, Some, option_and_then, codes}
 use Rattle.std.specs.List.{join_with_byte, list_any}
 use Rattle.std.specs.Str.{bytes_eq}

@@ -1,3 +1,4 @@
+-- How bytes are cut into lines.
 use Rattle.std.specs.Prelude.{ℕ, List, [], ◌∷◌, Bool, ◌==◌}
 use Rattle.std.specs.List.{slice_split}
 

@@ -1,3 +1,4 @@
+-- The operands of a line.
 use Rattle.std.specs.Prelude.{ℕ, List, [], ◌∷◌, ◌==◌, if◌then◌else◌, Option, None, Some, option_map}
 use Rattle.std.specs.Option.{option_map_or}
 use Rattle.command_words.specs.declared.commands.Usage.{Usage}

@@ -1,6 +1,7 @@
+-- The options of a line, read in one pass.
 use Rattle.std.specs.Prelude.{ℕ, ◌+◌, pos, List, [], ◌∷◌, ◌++◌, length, true, false, Option, None, Some, unwrap_or, Result, Ok, Err}
-use Rattle.eli_base.specs.declared.Auth.TheVariants.{Off}
-use Rattle.eli_base.specs.declared.Cipher.TheVariants.{AesXts}
+use Rattle.eli_base.specs.declared.algorithms.Auth.TheVariants.{Off}
+use Rattle.eli_base.specs.declared.algorithms.Cipher.TheVariants.{AesXts}
 use Rattle.eli_base.specs.declared.Reason.{Reason}
 use Rattle.eli_base.specs.declared.Reason.TheVariants.{UnknownOption, MissingValue}
 use Rattle.command_words.specs.declared.commands.Usage.{Usage}

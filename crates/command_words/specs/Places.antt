@@ -1,3 +1,4 @@
+-- That the places of a command lie within the line.
 use Rattle.std.specs.Prelude.{ℕ, ◌≤◌, List, All, IfSome, slice_range, Option, Some, None}
 use Rattle.std.specs.Str.{IsUtf8}
 use Rattle.command_words.specs.declared.commands.Command.{Command}

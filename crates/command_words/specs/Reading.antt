@@ -1,3 +1,4 @@
+-- A line to a command, or what is wrong with it.
 use Rattle.std.specs.Prelude.{ℕ, ◌+◌, List, [], ◌∷◌, length, Bool, true, false, not, ◌&&◌, ◌||◌, ◌==◌, nat_le, is_some, if◌then◌else◌, Option, None, Some, unwrap_or, Result, Ok, Err}
 use Rattle.std.specs.Str.{is_utf8}
 use Rattle.eli_base.specs.declared.Reason.{Reason}
@@ -30,8 +31,8 @@ has_files [] = false
 has_files (span ∷ spans) = true
 
 -- Whether the words of a key name passphrases and go without one.
-abbrev pub is_torn : KeyWords → Bool
-is_torn key = key.without && has_files key.pass
+abbrev pub excludes_itself : KeyWords → Bool
+excludes_itself key = key.without && has_files key.pass
 
 -- Whether two options that exclude each other under one verb alone are there: what `init` writes has no iterations
 -- without a passphrase, and `delkey` names all slots or one.
@@ -42,7 +43,7 @@ excludes_own _ settings = false
 
 -- Whether two options of a verb exclude each other.
 abbrev pub excludes : Verb → Settings → Bool
-excludes verb settings = is_torn settings.old_key || is_torn settings.fresh_key || excludes_own verb settings
+excludes verb settings = excludes_itself settings.old_key || excludes_itself settings.fresh_key || excludes_own verb settings
 
 -- What is wrong with the options together, in this order.
 abbrev pub complaint : Verb → Settings → Option Reason

@@ -1,9 +1,10 @@
+-- What the options of a line say.
 use Rattle.std.specs.Prelude.{ℕ, ◌+◌, pos, List, [], ◌∷◌, length, map, Bool, false, not, ◌==◌, if◌then◌else◌, Option, None, Some, unwrap_or, option_and_then, option_map, codes}
 use Rattle.std.specs.Option.{option_map_or}
 use Rattle.std.specs.List.{list_any}
 use Rattle.std.specs.Str.{bytes_eq}
-use Rattle.eli_base.specs.declared.Auth.TheVariants.{Off}
-use Rattle.eli_base.specs.declared.Cipher.TheVariants.{AesXts}
+use Rattle.eli_base.specs.declared.algorithms.Auth.TheVariants.{Off}
+use Rattle.eli_base.specs.declared.algorithms.Cipher.TheVariants.{AesXts}
 use Rattle.command_words.specs.declared.spans.Span.{Span}
 use Rattle.command_words.specs.declared.settings.Settings.{Settings}
 use Rattle.command_words.specs.declared.table.Switch.{Switch}

@@ -1,3 +1,4 @@
+-- The verbs, their options and their operands.
 use Rattle.std.specs.Prelude.{ℕ, List, [], ◌∷◌, length, ◌==◌, if◌then◌else◌, Option, None, Some, codes, map, option_map}
 use Rattle.std.specs.Str.{byte, bytes_eq}
 use Rattle.command_words.specs.declared.table.Verb.{Verb}

@@ -1,11 +1,12 @@
+-- The values of options and operands.
 use Rattle.std.specs.Prelude.{ℕ, ◌+◌, ◌-◌, ◌*◌, ◌%◌, ◌^◌, List, [], ◌∷◌, length, Bool, ◌&&◌, ◌==◌, nat_le, if◌then◌else◌, Option, None, Some, is_some, codes}
 use Rattle.std.specs.List.{list_all}
 use Rattle.std.specs.Char.{is_ascii_digit, is_ascii_hexdigit}
 use Rattle.std.specs.Str.{bytes_eq, str_eq_ignore_ascii_case}
-use Rattle.eli_base.specs.declared.Auth.{Auth}
-use Rattle.eli_base.specs.declared.Auth.TheVariants.{Sha256, Sha384, Sha512}
-use Rattle.eli_base.specs.declared.Cipher.{Cipher}
-use Rattle.eli_base.specs.declared.Cipher.TheVariants.{AesCbc, AesXts}
+use Rattle.eli_base.specs.declared.algorithms.Auth.{Auth}
+use Rattle.eli_base.specs.declared.algorithms.Auth.TheVariants.{Sha256, Sha384, Sha512}
+use Rattle.eli_base.specs.declared.algorithms.Cipher.{Cipher}
+use Rattle.eli_base.specs.declared.algorithms.Cipher.TheVariants.{AesCbc, AesXts}
 use Rattle.eli_base.specs.declared.Reason.{Reason}
 use Rattle.eli_base.specs.declared.Reason.TheVariants.{BadNumber, BadName, BadHex, DashFile, TooManyFiles}
 use Rattle.command_words.specs.declared.table.Valued.{Valued}

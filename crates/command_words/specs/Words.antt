@@ -1,3 +1,4 @@
+-- The words of a line.
 use Rattle.std.specs.Prelude.{ℕ, ◌+◌, List, [], ◌∷◌, length, Bool, true, false, ◌==◌, ◌||◌, if◌then◌else◌, drop, nat_lt}
 use Rattle.std.specs.List.{slice_split}
 use Rattle.command_words.specs.declared.spans.Sep.{Sep}

@@ -1,3 +1,7 @@
+// Commands, with the places of their names in the line.
+ghost use Rattle.std.specs.Prelude.{◌≡◌};
+ghost use Rattle.command_words.specs.Places.{provider_of};
+
 use crate::spans::{KeyWords, Span};
 use eli_base::{Auth, Cipher, Reason};
 
@@ -150,6 +154,33 @@ pub enum Command {
         /// The provider.
         prov: Span,
     },
+}
+
+impl Command {
+    /// The provider that the command names, if it names one.
+    pub fn provider(&self) -> Option<Span>
+        ensures { result ≡ provider_of self.now }
+    {
+        match self {
+            Command::Init { prov, .. }
+            | Command::Attach { prov, .. }
+            | Command::Detach { prov }
+            | Command::Setkey { prov, .. }
+            | Command::Delkey { prov, .. }
+            | Command::Kill { prov }
+            | Command::Backup { prov, .. }
+            | Command::Restore { prov, .. }
+            | Command::Resize { prov, .. }
+            | Command::Dump { prov }
+            | Command::Read { prov, .. }
+            | Command::Write { prov, .. }
+            | Command::Flush { prov }
+            | Command::Fill { prov, .. }
+            | Command::Sum { prov, .. }
+            | Command::Eject { prov } => Some(*prov),
+            Command::List => None,
+        }
+    }
 }
 
 /// Why a line is no command: the place of the word, and what is wrong.

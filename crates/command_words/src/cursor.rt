@@ -1,8 +1,7 @@
+// The words of a line, taken one by one.
 ghost use Rattle.std.specs.Prelude.{◌≡◌, ◌+◌, ◌-◌, ◌<◌, ◌≤◌, ℕ, [], ◌∷◌, length, if◌then◌else◌, false, IsTrue, IfSome, MatchOption, ◌⊎◌};
-ghost use Rattle.std.specs.List.{position_or_len, position};
-ghost use Rattle.command_words.specs.Words.{is_between, is_word};
 
-use crate::spans::Sep;
+use crate::spans::{Sep, Span};
 
 /// A word, or the part of one that is the value of an option, with its place in the line.
 #[derive(Clone, Copy)]
@@ -14,6 +13,22 @@ pub struct Piece<'a> {
     /// The number of the word from 0.
     pub number: u32,
     pub ghost inside: { start + length bytes.now ≤ 300001 },
+}
+
+impl Piece<'_> {
+    ghost use Rattle.command_words.specs.Cursor.{seen};
+    ghost use Rattle.command_words.specs.Settings.{span_of};
+
+    /// The places of the bytes.
+    pub fn span(self) -> Span
+        ensures { result ≡ span_of (seen self.entry) }
+    {
+        Span {
+            start: self.start,
+            end: self.start + self.bytes.len() as u32,
+            word: self.number,
+        }
+    }
 }
 
 /// What is left of a line whose words are taken one by one.
@@ -29,45 +44,6 @@ pub struct Words<'a> {
     ended: bool,
     ghost inside: { start + length rest.now ≤ (if ended then 300001 else 300000) },
     ghost counted: { number ≤ start },
-}
-
-impl Sep {
-    // Whether the byte stands between words.
-    fn is_between(self, byte: u8) -> bool
-        ensures { result ≡ is_between self byte }
-    {
-        match self {
-            Sep::Blanks => byte == b' ' || byte == b'\t',
-            Sep::Zeros => byte == 0,
-        }
-    }
-
-    // Whether the bytes from one separator to the next are a word.
-    fn is_word(self, piece: &[u8]) -> bool
-        ensures { result ≡ is_word self piece.now }
-    {
-        match self {
-            Sep::Blanks => !piece.is_empty(),
-            Sep::Zeros => true,
-        }
-    }
-
-    // The place of the first separator.
-    fn first_between(self, bytes: &[u8]) -> Option<usize>
-        ensures { result ≡ position (is_between self) bytes.now }
-    {
-        bytes.iter().position(|byte| self.is_between(*byte))
-    }
-
-    // How many bytes stand before the first separator.
-    fn part_len(self, bytes: &[u8]) -> usize
-        ensures { result ≡ position_or_len (is_between self) bytes.now }
-    {
-        match self.first_between(bytes) {
-            Some(len) => len,
-            None => bytes.len(),
-        }
-    }
 }
 
 impl<'a> Words<'a> {
@@ -90,7 +66,7 @@ impl<'a> Words<'a> {
     }
 
     /// The next word and the words behind it.
-    #[tactic(auto, using(crate::proofs::WordsLaws::word_taken))]
+    #[tactic(auto, using(crate::proofs::Words::word_taken))]
     pub fn split_first(self) -> Option<(Piece<'a>, Words<'a>)>
         ensures words { MatchOption result (left self.entry ≡ [])
             (λ taken. left self.entry ≡ seen taken.0 ∷ left taken.1) }

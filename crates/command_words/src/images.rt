@@ -1,9 +1,10 @@
+// The images that the words of a run name.
 ghost use Rattle.std.specs.Prelude.{◌≡◌, [], ◌∷◌, map, length, IfOk, MatchOption, string_bytes};
 ghost use Rattle.std.specs.List.{list_any};
 ghost use Rattle.std.specs.Str.{bytes_eq};
 ghost use Rattle.std.specs.Str.{IsUtf8};
 ghost use Rattle.command_words.specs.Images.{line_of, image_names, all_differ, are_images, script_images};
-ghost use Rattle.command_words.specs.Places.{IsWithin, bytes_at, provider_of};
+ghost use Rattle.command_words.specs.Places.{IsWithin, bytes_at};
 
 use crate::commands::Command;
 use crate::lines::command_in;
@@ -87,33 +88,6 @@ fn name_at(alloc: Global, line: &[u8], span: Span) -> Result<String, AllocError>
     match str::from_utf8(span.bytes_in(line)) {
         Ok(text) => String::from_str(alloc, text),
         Err(_) => unreachable!(),
-    }
-}
-
-impl Command {
-    /// The provider that the command names, if it names one.
-    pub fn provider(&self) -> Option<Span>
-        ensures { result ≡ provider_of self.now }
-    {
-        match self {
-            Command::Init { prov, .. }
-            | Command::Attach { prov, .. }
-            | Command::Detach { prov }
-            | Command::Setkey { prov, .. }
-            | Command::Delkey { prov, .. }
-            | Command::Kill { prov }
-            | Command::Backup { prov, .. }
-            | Command::Restore { prov, .. }
-            | Command::Resize { prov, .. }
-            | Command::Dump { prov }
-            | Command::Read { prov, .. }
-            | Command::Write { prov, .. }
-            | Command::Flush { prov }
-            | Command::Fill { prov, .. }
-            | Command::Sum { prov, .. }
-            | Command::Eject { prov } => Some(*prov),
-            Command::List => None,
-        }
     }
 }
 

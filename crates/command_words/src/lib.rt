@@ -4,9 +4,9 @@
 
 mod commands;
 mod cursor;
-mod cuts;
 mod images;
 mod kinds;
+mod laws;
 mod lines;
 mod operands;
 mod pass;
@@ -16,8 +16,8 @@ mod table;
 mod values;
 
 pub use commands::{Command, Usage};
-pub use cuts::lines_are_cut;
 pub use images::{ImageNames, images_of, joined, script_images};
+pub use laws::lines_are_cut;
 pub use lines::{command_in, read_line};
 pub use spans::{KeyWords, Sep, Span, SpanList};
 

@@ -1,10 +1,11 @@
+// A line to a command, or what is wrong with it.
 ghost use Rattle.std.specs.Prelude.{◌≡◌, ◌+◌, ◌≤◌, length, IfOk, IfSome};
 ghost use Rattle.std.specs.Str.{is_utf8};
 ghost use Rattle.command_words.specs.Cursor.{left};
 ghost use Rattle.command_words.specs.Pass.{provider_alone};
 ghost use Rattle.command_words.specs.Bounds.{IsBounded};
 ghost use Rattle.command_words.specs.Places.{CommandIsWithin, ProviderIsText};
-ghost use Rattle.command_words.specs.Reading.{reading, by_verb, settled, is_comment, complaint, command_at, command_in, is_torn, lacks_option, excludes_own, excludes, line_limit};
+ghost use Rattle.command_words.specs.Reading.{reading, by_verb, settled, is_comment, complaint, command_at, command_in, excludes_itself, lacks_option, excludes_own, excludes, line_limit};
 
 use crate::commands::{Command, Usage};
 use crate::cursor::Words;
@@ -30,7 +31,7 @@ fn starts_comment(sep: Sep, word: &[u8]) -> bool
 
 // Whether the words of a key name passphrases and go without one.
 fn excludes_itself(key: &KeyWords) -> bool
-    ensures { result ≡ is_torn key.now }
+    ensures { result ≡ excludes_itself key.now }
 {
     key.without && key.pass.len() > 0
 }
@@ -202,7 +203,7 @@ fn settle(verb: Verb, settings: Settings, words: Words) -> Result<Command, Usage
 }
 
 // The command of the words behind a verb.
-#[tactic(auto, using(crate::proofs::OptionsLaws::options_taken))]
+#[tactic(auto, using(crate::proofs::Options::options_taken))]
 fn read_command(verb: Verb, words: Words) -> Result<Command, Usage>
     ensures { result ≡ by_verb (Some verb) (words.entry.number + length (left words.entry)) (left words.entry) }
 {

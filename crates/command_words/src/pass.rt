@@ -1,3 +1,4 @@
+// The options of a line, read in one pass.
 ghost use Rattle.std.specs.Prelude.{◌≡◌, [], ◌+◌, length, MatchResult, IfOk};
 ghost use Rattle.command_words.specs.Cursor.{seen, left};
 ghost use Rattle.command_words.specs.Pass.{given, with_rest, taken_letters, taken_options};

@@ -1,3 +1,4 @@
+// What the options of a line say.
 ghost use Rattle.std.specs.Prelude.{◌≡◌, [], ◌++◌, ◌∷◌, length, false, pos, Ok, Err, Some, None, MatchResult};
 ghost use Rattle.command_words.specs.Values.{decimal, value_fault, files_fault, file_fault, number_within, old_size_named};
 ghost use Rattle.command_words.specs.Cursor.{seen};
@@ -27,19 +28,6 @@ pub struct Settings {
     pub force: bool,
     pub old_key: KeyWords,
     pub fresh_key: KeyWords,
-}
-
-impl Piece<'_> {
-    /// The places of the bytes.
-    pub fn span(self) -> Span
-        ensures { result ≡ span_of (seen self.entry) }
-    {
-        Span {
-            start: self.start,
-            end: self.start + self.bytes.len() as u32,
-            word: self.number,
-        }
-    }
 }
 
 fn number(value: Piece, high: u64) -> Result<u64, Reason>
@@ -137,20 +125,6 @@ fn add_file(files: &mut SpanList, value: Piece) -> Result<(), Reason>
     }
     files.push(file);
     Ok(())
-}
-
-impl KeyWords {
-    fn new() -> KeyWords
-        ensures files { result.files ≡ [] }
-        ensures pass { result.pass ≡ [] }
-        ensures without { result.without ≡ false }
-    {
-        KeyWords {
-            files: SpanList::new(),
-            pass: SpanList::new(),
-            without: false,
-        }
-    }
 }
 
 impl Settings {

@@ -1,4 +1,7 @@
-ghost use Rattle.std.specs.Prelude.{◌≡◌, ◌<◌, ◌≤◌, [], ◌∷◌, ◌++◌, length};
+// Places of words and values in a line.
+ghost use Rattle.std.specs.Prelude.{◌≡◌, ◌<◌, ◌≤◌, [], ◌∷◌, ◌++◌, length, false};
+ghost use Rattle.std.specs.List.{position_or_len, position};
+ghost use Rattle.command_words.specs.Words.{is_between, is_word};
 
 use std::fmt::{self, Debug, Formatter, Write};
 use std::marker::Model;
@@ -10,6 +13,45 @@ pub enum Sep {
     Blanks,
     /// Single zero bytes: words may be empty.
     Zeros,
+}
+
+impl Sep {
+    // Whether the byte stands between words.
+    pub(crate) fn is_between(self, byte: u8) -> bool
+        ensures { result ≡ is_between self byte }
+    {
+        match self {
+            Sep::Blanks => byte == b' ' || byte == b'\t',
+            Sep::Zeros => byte == 0,
+        }
+    }
+
+    // Whether the bytes from one separator to the next are a word.
+    pub(crate) fn is_word(self, piece: &[u8]) -> bool
+        ensures { result ≡ is_word self piece.now }
+    {
+        match self {
+            Sep::Blanks => !piece.is_empty(),
+            Sep::Zeros => true,
+        }
+    }
+
+    // The place of the first separator.
+    fn first_between(self, bytes: &[u8]) -> Option<usize>
+        ensures { result ≡ position (is_between self) bytes.now }
+    {
+        bytes.iter().position(|byte| self.is_between(*byte))
+    }
+
+    // How many bytes stand before the first separator.
+    pub(crate) fn part_len(self, bytes: &[u8]) -> usize
+        ensures { result ≡ position_or_len (is_between self) bytes.now }
+    {
+        match self.first_between(bytes) {
+            Some(len) => len,
+            None => bytes.len(),
+        }
+    }
 }
 
 /// The bytes of a value, by their places in the line: those from `start` to before `end`.
@@ -118,4 +160,18 @@ pub struct KeyWords {
     pub pass: SpanList,
     /// `-p` or `-P`.
     pub without: bool,
+}
+
+impl KeyWords {
+    pub(crate) fn new() -> KeyWords
+        ensures files { result.files ≡ [] }
+        ensures pass { result.pass ≡ [] }
+        ensures without { result.without ≡ false }
+    {
+        KeyWords {
+            files: SpanList::new(),
+            pass: SpanList::new(),
+            without: false,
+        }
+    }
 }

@@ -1,3 +1,4 @@
+// The verbs, their options and their operands.
 ghost use Rattle.std.specs.Prelude.{◌≡◌, ℕ, MatchOption, map};
 ghost use Rattle.command_words.specs.Table.{row_seen, row_of, named_among, verb_named, letter_of, entry, of_length, form_of};
 

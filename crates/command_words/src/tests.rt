@@ -1,3 +1,4 @@
+// Lines and words, against the tables of another implementation.
 mod table;
 
 use super::*;

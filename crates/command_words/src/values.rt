@@ -1,3 +1,4 @@
+// The values of options and operands: numbers, names and hexadecimal digits.
 ghost use Rattle.std.specs.Prelude.{◌≡◌, ◌≤◌, ◌<◌, ◌+◌, ◌*◌, ◌^◌, MatchOption, IfSome};
 ghost use Rattle.std.specs.Char.{is_ascii_digit, is_ascii_hexdigit};
 ghost use Rattle.std.specs.List.{list_all};
@@ -14,7 +15,7 @@ fn with_digit(value: u64, digit: u64) -> Option<u64>
 }
 
 // The value of decimal digits, where it is below 2^64.
-#[tactic(auto, using(crate::proofs::NumberLaws::decimal_last))]
+#[tactic(auto, using(crate::proofs::Numbers::decimal_last))]
 fn digits_value(digits: &[u8]) -> Option<u64>
     ensures { MatchOption result (2 ^ 64 ≤ decimal digits.now) (λ value. value ≡ decimal digits.now) }
 {

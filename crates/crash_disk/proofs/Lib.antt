@@ -6,3 +6,4 @@ pub mod ReplayLemmas
 pub mod StreamLemmas
 pub mod SurvivorLemmas
 pub mod TornLemmas
+pub mod WriteLemmas

@@ -7,5 +7,7 @@ pub mod MemDisk
 pub mod Plan
 pub mod Replay
 pub mod SectorLog
+pub mod SparseDisk
 pub mod Streams
 pub mod Survivor
+pub mod Writes

@@ -10,7 +10,7 @@ use Rattle.crash_disk.specs.Calls.{CallsState, called, next_fails}
 use Rattle.crash_disk.specs.Count.{one_more}
 
 -- its files, the calls that fail, how often it has failed, and how often a file was absent or too long
-pub record CabinetState : Type 0 where
+pub record MemCabinetState : Type 0 where
   pub files : List NamedFile
   pub calls : CallsState
   pub faults : ℕ
@@ -30,18 +30,18 @@ abbrev pub files_of : List NamedFile → Files
 files_of files name = file_in name files
 
 -- after a call that finds no file absent or too long
-abbrev pub after_call : CabinetState → CabinetState
+abbrev pub after_call : MemCabinetState → MemCabinetState
 after_call cabinet = record cabinet {
   calls = called cabinet.calls;
   faults = if next_fails cabinet.calls then one_more cabinet.faults else cabinet.faults;
 }
 
 -- a load doesn't fail, and finds the file absent or too long
-abbrev pub load_misses : List ℕ → ℕ → CabinetState → Bool
+abbrev pub load_misses : List ℕ → ℕ → MemCabinetState → Bool
 load_misses name limit cabinet = not (next_fails cabinet.calls) && is_err (load_answer (file_in name cabinet.files) limit)
 
 -- after a load
-abbrev pub after_load : List ℕ → ℕ → CabinetState → CabinetState
+abbrev pub after_load : List ℕ → ℕ → MemCabinetState → MemCabinetState
 after_load name limit cabinet = record (after_call cabinet) {
   misses = if load_misses name limit cabinet then one_more cabinet.misses else cabinet.misses;
 }
@@ -52,5 +52,5 @@ AnswersLoad true answer result = result ≡ Err Failed
 AnswersLoad false (Err fault) result = result ≡ Err fault
 AnswersLoad false (Ok bytes) result = (result ≡ Ok bytes) ⊎ (result ≡ Err NoMemory)
 
-abbrev pub Loads : List ℕ → ℕ → CabinetState → Result (List ℕ) LoadFault → Type 0
+abbrev pub Loads : List ℕ → ℕ → MemCabinetState → Result (List ℕ) LoadFault → Type 0
 Loads name limit cabinet result = AnswersLoad (next_fails cabinet.calls) (load_answer (file_in name cabinet.files) limit) result

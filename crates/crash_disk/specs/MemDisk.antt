@@ -28,7 +28,7 @@ state_of disk = record {
 
 -- as a disk
 abbrev pub disk_of : MemDisk → DiskState
-disk_of disk = showing (content_of disk.log) disk.faults disk.log.small disk.log.fits
+disk_of disk = showing (content_of disk.log) disk.faults disk.plan.reads disk.log.small disk.log.fits
 
 -- these sectors, to which nothing was done, and no call that fails
 abbrev pub fresh : List (List ℕ) → ℕ → MemState

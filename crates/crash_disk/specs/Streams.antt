@@ -4,18 +4,18 @@ use Rattle.crash_disk.specs.Calls.{CallsState, called, next_fails, piece}
 use Rattle.crash_disk.specs.Count.{one_more}
 
 -- the bytes that are left, the most that each call gives, the calls that fail, and how often it has failed
-pub record SourceState : Type 0 where
+pub record MemSourceState : Type 0 where
   pub left : List ℕ
   pub cuts : List ℕ
   pub calls : CallsState
   pub faults : ℕ
 
 -- how many bytes the next call gives, where there is so much room
-abbrev pub given : ℕ → SourceState → ℕ
+abbrev pub given : ℕ → MemSourceState → ℕ
 given room source = min (piece source.cuts source.calls room) (length source.left)
 
 -- after the next call
-abbrev pub after_take : ℕ → SourceState → SourceState
+abbrev pub after_take : ℕ → MemSourceState → MemSourceState
 after_take room source = record source {
   left = if next_fails source.calls then source.left else drop (given room source) source.left;
   calls = called source.calls;
@@ -24,7 +24,7 @@ after_take room source = record source {
 
 -- the bytes that it took, how many it has room for, the most that each call takes, the calls that fail, and how
 -- often it has failed
-pub record SinkState : Type 0 where
+pub record MemSinkState : Type 0 where
   pub bytes : List ℕ
   pub room : ℕ
   pub cuts : List ℕ
@@ -32,15 +32,15 @@ pub record SinkState : Type 0 where
   pub faults : ℕ
 
 -- how many bytes of a piece of this length the next call takes
-abbrev pub taken : ℕ → SinkState → ℕ
+abbrev pub taken : ℕ → MemSinkState → ℕ
 taken size sink = min (piece sink.cuts sink.calls size) (sink.room - length sink.bytes)
 
 -- the next call fails: it is listed, or the piece isn't empty and there is no room
-abbrev pub give_fails : ℕ → SinkState → Bool
+abbrev pub give_fails : ℕ → MemSinkState → Bool
 give_fails size sink = next_fails sink.calls || (length sink.bytes == sink.room && not (size == 0))
 
 -- after the next call
-abbrev pub after_give : List ℕ → SinkState → SinkState
+abbrev pub after_give : List ℕ → MemSinkState → MemSinkState
 after_give from sink = record sink {
   bytes = if give_fails (length from) sink then sink.bytes else sink.bytes ++ take (taken (length from) sink) from;
   calls = called sink.calls;
@@ -48,16 +48,16 @@ after_give from sink = record sink {
 }
 
 -- the bytes that are left, and how often it has failed
-pub record EntropyState : Type 0 where
+pub record MemEntropyState : Type 0 where
   pub left : List ℕ
   pub faults : ℕ
 
 -- a call fails that asks for more than is left
-abbrev pub fill_fails : ℕ → EntropyState → Bool
+abbrev pub fill_fails : ℕ → MemEntropyState → Bool
 fill_fails wanted entropy = nat_lt (length entropy.left) wanted
 
 -- after a call
-abbrev pub after_fill : ℕ → EntropyState → EntropyState
+abbrev pub after_fill : ℕ → MemEntropyState → MemEntropyState
 after_fill wanted entropy = record {
   left = if fill_fails wanted entropy then entropy.left else drop wanted entropy.left;
   faults = if fill_fails wanted entropy then one_more entropy.faults else entropy.faults;

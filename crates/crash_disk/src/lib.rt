@@ -12,7 +12,10 @@ mod mem_sink;
 mod mem_source;
 mod plan;
 mod sectors;
+mod sparse_crash;
+mod sparse_disk;
 mod survivor;
+mod write_log;
 
 pub use mem_cabinet::MemCabinet;
 pub use mem_disk::MemDisk;
@@ -20,6 +23,8 @@ pub use mem_entropy::MemEntropy;
 pub use mem_sink::MemSink;
 pub use mem_source::MemSource;
 pub use plan::{CallKind, FailAt};
+pub use sparse_crash::sparse_survivor;
+pub use sparse_disk::SparseDisk;
 pub use survivor::{Pick, SurvivorFault, Torn, survivor_torn, survivor_whole};
 
 #[cfg(test)]

@@ -27,9 +27,9 @@ pub struct MemCabinet {
 }
 
 impl Model for MemCabinet {
-    ghost use Rattle.crash_disk.specs.MemCabinet.{CabinetState};
+    ghost use Rattle.crash_disk.specs.MemCabinet.{MemCabinetState};
 
-    ghost Value = { CabinetState };
+    ghost Value = { MemCabinetState };
 
     ghost view = { λ cabinet. record {
       files = cabinet.files.items;
@@ -98,11 +98,7 @@ impl MemCabinet {
 impl Cabinet for MemCabinet {
     ghost use Rattle.crash_disk.specs.MemCabinet.{Loads, after_call, after_load};
 
-    ghost files = { λ cabinet. Some (files_of cabinet.files) };
-
-    ghost faults = { λ cabinet. cabinet.faults };
-
-    ghost misses = { λ cabinet. cabinet.misses };
+    ghost state = { λ cabinet. record { files = Some (files_of cabinet.files); faults = cabinet.faults; misses = cabinet.misses } };
 
     fn load(&mut self, alloc: Global, name: &[u8], limit: u64) -> Result<ByteList, LoadFault>
         ensures gives { LoadGives (Some (files_of self.old.files)) name.now limit result }

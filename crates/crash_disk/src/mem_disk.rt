@@ -148,6 +148,7 @@ impl MemDisk {
 }
 
 impl Disk for MemDisk {
+    ghost use Rattle.block_traits.specs.Causes.{Counted};
     ghost use Rattle.block_traits.specs.Disk.{FailsIn, Gives, Logs};
     ghost use Rattle.crash_disk.specs.MemDisk.{after_change, after_read, change_fails, disk_of, read_fails, state_of};
 
@@ -162,6 +163,7 @@ impl Disk for MemDisk {
         ensures bytes { OnOk result (Gives (disk_of self.old) n into.new) }
         ensures ok { OnOk result (Logs [] (disk_of self.old) (disk_of self.new)) }
         ensures err { OnErr result (FailsIn [] (disk_of self.old) (disk_of self.new)) }
+        ensures asked { Counted 1 (disk_of self.old).reads (disk_of self.new).reads }
         ensures answer { is_err result ≡ read_fails (state_of self.old) }
         ensures after { state_of self.new ≡ after_read (state_of self.old) }
     {
@@ -176,6 +178,7 @@ impl Disk for MemDisk {
         requires { n < (disk_of self.old).size }
         ensures ok { OnOk result (Logs (Event.Write n from.now ∷ []) (disk_of self.old) (disk_of self.new)) }
         ensures err { OnErr result (FailsIn (Event.Write n from.now ∷ []) (disk_of self.old) (disk_of self.new)) }
+        ensures unasked { (disk_of self.new).reads ≡ (disk_of self.old).reads }
         ensures answer { is_err result ≡ change_fails CallKind.Write (state_of self.old) }
         ensures after { state_of self.new ≡ after_change CallKind.Write (Event.Write n from.now) (state_of self.old) }
     {
@@ -185,6 +188,7 @@ impl Disk for MemDisk {
     fn flush(&mut self) -> Result<(), DiskFailed>
         ensures ok { OnOk result (Logs (Event.Flush ∷ []) (disk_of self.old) (disk_of self.new)) }
         ensures err { OnErr result (FailsIn (Event.Flush ∷ []) (disk_of self.old) (disk_of self.new)) }
+        ensures unasked { (disk_of self.new).reads ≡ (disk_of self.old).reads }
         ensures answer { is_err result ≡ change_fails CallKind.Flush (state_of self.old) }
         ensures after { state_of self.new ≡ after_change CallKind.Flush Event.Flush (state_of self.old) }
     {

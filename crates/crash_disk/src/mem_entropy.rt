@@ -17,9 +17,9 @@ pub struct MemEntropy {
 
 impl Model for MemEntropy {
     ghost use Rattle.std.specs.Prelude.{◌≤◌, drop, length};
-    ghost use Rattle.crash_disk.specs.Streams.{EntropyState};
+    ghost use Rattle.crash_disk.specs.Streams.{MemEntropyState};
 
-    ghost Value = { EntropyState };
+    ghost Value = { MemEntropyState };
 
     ghost view = { λ entropy. record { left = drop entropy.used entropy.bytes.items; faults = entropy.faults } };
 
@@ -42,9 +42,7 @@ impl MemEntropy {
 impl Entropy for MemEntropy {
     ghost use Rattle.crash_disk.specs.Streams.{after_fill, fill_fails};
 
-    ghost left = { λ entropy. Some entropy.left };
-
-    ghost faults = { λ entropy. entropy.faults };
+    ghost state = { λ entropy. record { left = Some entropy.left; faults = entropy.faults } };
 
     fn fill(&mut self, into: &mut [u8]) -> Result<(), EntropyFailed>
         ensures ok { OnOk result (Some self.old.left ≡ prepend_known into.new (Some self.new.left)) }

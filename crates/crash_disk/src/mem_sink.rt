@@ -21,9 +21,9 @@ pub struct MemSink {
 
 impl Model for MemSink {
     ghost use Rattle.std.specs.Prelude.{◌≤◌, length, vec_capacity};
-    ghost use Rattle.crash_disk.specs.Streams.{SinkState};
+    ghost use Rattle.crash_disk.specs.Streams.{MemSinkState};
 
-    ghost Value = { SinkState };
+    ghost Value = { MemSinkState };
 
     ghost view = { λ sink. record {
       bytes = sink.bytes.items;
@@ -63,9 +63,7 @@ impl MemSink {
 impl Sink for MemSink {
     ghost use Rattle.crash_disk.specs.Streams.{after_give, give_fails, taken};
 
-    ghost taken = { λ sink. Some sink.bytes };
-
-    ghost faults = { λ sink. sink.faults };
+    ghost state = { λ sink. record { taken = Some sink.bytes; faults = sink.faults } };
 
     fn give(&mut self, from: &[u8]) -> Result<usize, SinkFailed>
         ensures bound { IfOk result (λ k. k ≤ length from.now) }

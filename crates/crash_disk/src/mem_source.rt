@@ -21,9 +21,9 @@ pub struct MemSource {
 
 impl Model for MemSource {
     ghost use Rattle.std.specs.Prelude.{◌≤◌, drop, length};
-    ghost use Rattle.crash_disk.specs.Streams.{SourceState};
+    ghost use Rattle.crash_disk.specs.Streams.{MemSourceState};
 
-    ghost Value = { SourceState };
+    ghost Value = { MemSourceState };
 
     ghost view = { λ source. record {
       left = drop source.given source.bytes.items;
@@ -59,9 +59,7 @@ impl MemSource {
 impl Source for MemSource {
     ghost use Rattle.crash_disk.specs.Streams.{after_take, given};
 
-    ghost left = { λ source. Some source.left };
-
-    ghost faults = { λ source. source.faults };
+    ghost state = { λ source. record { left = Some source.left; faults = source.faults } };
 
     fn take(&mut self, into: &mut [u8]) -> Result<usize, SourceFailed>
         requires { 0 < length into.old }

@@ -155,7 +155,7 @@ fn can_tear(base: &[Sector], events: &[Event], picks: &[Pick], before: &[Torn], 
 }
 
 // Whether a sector is among the torn ones.
-fn is_torn(torn: &[Torn], n: u64) -> bool
+pub(crate) fn is_torn(torn: &[Torn], n: u64) -> bool
     ensures { result ≡ is_torn n torn.now }
 {
     for tear in torn {
@@ -178,7 +178,7 @@ fn picked_value(base: &[Sector], events: &[Event], before: &[Pick], pick: Pick) 
 }
 
 // Whether a sector is among the picks.
-fn is_picked(picks: &[Pick], n: u64) -> bool
+pub(crate) fn is_picked(picks: &[Pick], n: u64) -> bool
     ensures { result ≡ is_picked n picks.now }
 {
     for pick in picks {
@@ -190,7 +190,7 @@ fn is_picked(picks: &[Pick], n: u64) -> bool
 }
 
 // The value at a place among those that a sector may have after events.
-fn kept_value(base: &Sector, events: &[Event], n: u64, place: usize) -> Option<Sector>
+pub(crate) fn kept_value(base: &Sector, events: &[Event], n: u64, place: usize) -> Option<Sector>
     ensures { result ≡ slice_get (kept_after events.now n (base.now ∷ [])) place }
 {
     let place = place as u64;

@@ -1,6 +1,7 @@
+-- The geometry of a provider.
 use Rattle.std.specs.Prelude.{◌≡◌}
 use Rattle.eli_base.specs.declared.parameters.Params.{Params}
-use Rattle.eli_base.specs.declared.layout.Geometry.{Geometry}
+use Rattle.eli_base.specs.declared.geometry.Geometry.{Geometry}
 use Rattle.eli_base.specs.Units.{unit_bytes_of, units_per_sector, last_unit_bytes, media_sectors}
 
 -- The geometry of a provider with these parameters.

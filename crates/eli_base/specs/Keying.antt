@@ -1,3 +1,4 @@
+-- What the bytes of a sealed sector depend on.
 use Rattle.std.specs.Prelude.{ℕ, List}
 use Rattle.eli_base.specs.declared.algorithms.Auth.{Auth}
 use Rattle.eli_base.specs.declared.algorithms.Cipher.{Cipher}

@@ -3,4 +3,4 @@ pub mod SectorSize
 pub mod Keying
 pub mod Units
 pub mod Geometry
-pub mod Refusal
+pub mod Refusals

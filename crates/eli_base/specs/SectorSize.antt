@@ -1,3 +1,4 @@
+-- The sizes of logical sectors.
 use Rattle.std.specs.Prelude.{ℕ, Bool, [], ◌∷◌, ◌==◌, ◌^◌}
 use Rattle.std.specs.List.{list_any}
 

@@ -5,12 +5,14 @@
 #![tactic(auto)]
 
 mod algorithms;
-mod layout;
+mod geometry;
+mod laws;
 mod parameters;
 mod refusals;
 
 pub use algorithms::{Auth, Cipher};
-pub use layout::{GeoFault, Geometry, UnitSpan, units_without_authentication};
+pub use geometry::{GeoFault, Geometry, UnitSpan};
+pub use laws::units_without_authentication;
 pub use parameters::{MasterKey, Params, sector_size_ok};
 pub use refusals::{Reason, Refusal};
 

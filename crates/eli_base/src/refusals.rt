@@ -1,5 +1,6 @@
+// Why a command is refused, and the number of each refusal.
 ghost use Rattle.std.specs.Prelude.{◌≡◌};
-ghost use Rattle.eli_base.specs.Refusal.{number_of};
+ghost use Rattle.eli_base.specs.Refusals.{number_of};
 
 /// What is wrong with the words of a line, by POSIX option syntax.
 #[derive(Clone, Copy, Debug, PartialEq, Eq)]

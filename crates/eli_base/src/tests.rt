@@ -1,3 +1,4 @@
+// Sizes and numbers at their edges.
 use super::*;
 use std::test::Fail;
 
@@ -39,8 +40,8 @@ const MEDIA: [(Auth, u32, u64, u64, u64, u64, u64); 32] = [
 ];
 
 fn params(rt: &impl std::process::Abort, auth: Auth, sectorsize: u32, provsize: u64) -> Params {
-    assert!(rt; sector_size_ok(sectorsize));
-    assert!(rt; provsize < 1 << 53);
+    assert!(rt; sector_size_ok(sectorsize), "{sectorsize}");
+    assert!(rt; provsize < 1 << 53, "{provsize}");
     Params::new(7, auth, Cipher::AesXts, 128, sectorsize, provsize, false)
 }
 
@@ -51,14 +52,18 @@ fn sizes_of_media(rt: HostRuntime) -> Result<(), Fail> {
         assert_eq!(rt;
             geometry.sectors,
             sectors,
-            "sectors of {sectorsize} in {provsize}"
+            "sectors: {auth:?}, {sectorsize} in {provsize}"
         );
-        assert_eq!(rt; geometry.units, units, "units of {sectorsize}");
-        assert_eq!(rt; geometry.unit_bytes, unit_bytes, "unit of {sectorsize}");
+        assert_eq!(rt; geometry.units, units, "units: {auth:?}, {sectorsize}");
+        assert_eq!(rt;
+            geometry.unit_bytes,
+            unit_bytes,
+            "unit: {auth:?}, {sectorsize}"
+        );
         assert_eq!(rt;
             geometry.last_bytes,
             last_bytes,
-            "last unit of {sectorsize}"
+            "last unit: {auth:?}, {sectorsize}"
         );
     }
     Ok(())
@@ -69,7 +74,11 @@ fn sizes_of_media(rt: HostRuntime) -> Result<(), Fail> {
 fn images_without_a_sector(rt: HostRuntime) -> Result<(), Fail> {
     for (sectorsize, provsize) in [(512, 0), (512, 511), (512, 1_023), (4_096, 4_096)] {
         let none = Geometry::of(&params(&rt, Auth::Off, sectorsize, provsize));
-        assert_eq!(rt; none.err(), Some(GeoFault::TooSmall { size: provsize }));
+        assert_eq!(rt;
+            none.err(),
+            Some(GeoFault::TooSmall { size: provsize }),
+            "{sectorsize} in {provsize}"
+        );
     }
     Ok(())
 }

@@ -12,22 +12,22 @@ use Rattle.byteorder.specs.Endian.{little_from}
 use Rattle.byteorder.specs.Numbers.{little_from-take, little_number-reads_back, length-bytes_low_first}
 use Rattle.md5.specs.Md5.{md5, digest_bytes}
 use Rattle.eli_metadata.specs.declared.metadata.Metadata.{Metadata}
-use Rattle.eli_metadata.specs.Format.{magic, bytes_at, number_at, number_bytes, signed_at, signed_bytes, fields, number_fields, field_bytes, encoded, is_served, metadata_in, IsInRange}
+use Rattle.eli_metadata.specs.Format.{magic, field_at, number_at, number_bytes, signed_at, signed_bytes, fields, number_fields, field_bytes, encoded, is_served, metadata_in, IsInRange}
 use Rattle.eli_metadata.proofs.Numbers.{AreBytes, number_bytes-number_at, number_at-fits}
 
 -- the next bytes, with those in front of them
-step : (b : List ℕ) (p n : ℕ) (front field : List ℕ) → front ≡ take p b → field ≡ bytes_at b p n → front ++ field ≡ take (p + n) b
+step : (b : List ℕ) (p n : ℕ) (front field : List ℕ) → front ≡ take p b → field ≡ field_at b p n → front ++ field ≡ take (p + n) b
 step b p n front field before here = rw (before, here) (sym (take-add p n b))
 
 -- one byte as a list
-byte_at_place : (b : List ℕ) (p : ℕ) → p < length b → slice_index b p ∷ [] ≡ bytes_at b p 1
+byte_at_place : (b : List ℕ) (p : ℕ) → p < length b → slice_index b p ∷ [] ≡ field_at b p 1
 byte_at_place b p inside = rw (drop-cons b p 0) refl
 
 -- the bytes of the numbers of a decoded record are those that were read
 number_fields-fields : (b : List ℕ) → length b ≡ 512 → AreBytes b → take 16 b ≡ magic → number_fields (fields b) ≡ take 47 b
 unfolding number_fields fields signed_bytes signed_at
 number_fields-fields b long fit begins =
-    let number : (p n : ℕ) → p + n ≤ 512 → number_bytes n (number_at b p n) ≡ bytes_at b p n = λ p n h. number_bytes-number_at b p n (rw long h) fit in
+    let number : (p n : ℕ) → p + n ≤ 512 → number_bytes n (number_at b p n) ≡ field_at b p n = λ p n h. number_bytes-number_at b p n (rw long h) fit in
     let s1 = step b 16 4 _ _ (sym begins) (number 16 4 (lit≤ tt)) in
     let s2 = step b 20 4 _ _ s1 (number 20 4 (lit≤ tt)) in
     let s3 = step b 24 2 _ _ s2 (number 24 2 (lit≤ tt)) in
@@ -40,7 +40,7 @@ number_fields-fields b long fit begins =
     step b 43 4 _ _ s8 (z ∙ number 43 4 (lit≤ tt))
 
 -- the bytes of a decoded record are those that were read
-pub encoded-fields : (b : List ℕ) → length b ≡ 512 → AreBytes b → take 16 b ≡ magic → md5 (take 495 b) ≡ bytes_at b 495 16 → encoded (fields b) ≡ take 511 b ++ 0 ∷ []
+pub encoded-fields : (b : List ℕ) → length b ≡ 512 → AreBytes b → take 16 b ≡ magic → md5 (take 495 b) ≡ field_at b 495 16 → encoded (fields b) ≡ take 511 b ++ 0 ∷ []
 unfolding encoded field_bytes fields
 encoded-fields b long fit begins hash =
     let salted = step b 47 64 _ _ (number_fields-fields b long fit begins) refl in
@@ -64,7 +64,7 @@ next : (b : List ℕ) (p n : ℕ) (field rest : List ℕ) → length field ≡ n
 next b p n field rest long begins = sym (drop-drop n p b) ∙ ap (drop n) begins ∙ ap (λ (k : ℕ). drop k (field ++ rest)) (sym long) ∙ drop-append_seam field rest
 
 -- the bytes at a place
-here : (b : List ℕ) (p n : ℕ) (field rest : List ℕ) → length field ≡ n → drop p b ≡ field ++ rest → bytes_at b p n ≡ field
+here : (b : List ℕ) (p n : ℕ) (field rest : List ℕ) → length field ≡ n → drop p b ≡ field ++ rest → field_at b p n ≡ field
 here b p n field rest long begins = ap (take n) begins ∙ ap (λ (k : ℕ). take k (field ++ rest)) (sym long) ∙ take-append_seam field rest
 
 -- the number at a place where its bytes stand
@@ -175,7 +175,7 @@ unfolding metadata_in
 metadata_in-stands b m s front served =
     let versioned : number_at b 16 4 ≡ m.version = version-fields b ∙ ap (λ (r : Metadata). r.version) s.same in
     let flagged : number_at b 20 4 ≡ m.flags = flags-fields b ∙ ap (λ (r : Metadata). r.flags) s.same in
-    let hash : bytes_at b 495 16 ≡ md5 (field_bytes m) = here b 495 16 _ (0 ∷ []) (length-md5 (field_bytes m)) s.after in
+    let hash : field_at b 495 16 ≡ md5 (field_bytes m) = here b 495 16 _ (0 ∷ []) (length-md5 (field_bytes m)) s.after in
     rw (s.begins, same_bytes magic, versioned, flagged, served, front, hash, same_bytes (md5 (field_bytes m)), s.same) refl
 
 -- a record of a version that is served is read back

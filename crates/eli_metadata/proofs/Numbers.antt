@@ -5,7 +5,7 @@ use Rattle.std.proofs.lemmas.List.{get_or-drop}
 use Rattle.std.specs.Int.{byte_at, bytes_low_first}
 use Rattle.byteorder.specs.Endian.{little_from}
 use Rattle.byteorder.specs.Numbers.{little_from-cons, little_from-lt, little_from-take}
-use Rattle.eli_metadata.specs.Format.{bytes_at, number_at, number_bytes}
+use Rattle.eli_metadata.specs.Format.{field_at, number_at, number_bytes}
 
 -- each number is a byte
 abbrev pub AreBytes : List ℕ → Type 0
@@ -29,7 +29,7 @@ bytes_low_first-number (y ∷ ys) (suc n) j x short fit above =
     rw (first, bytes_low_first-number ys n (suc j) x (omega arith) (λ k. fit (suc k)) rest) refl
 
 -- the bytes of the number at a place are those that stand there
-pub number_bytes-number_at : (bytes : List ℕ) (place n : ℕ) → place + n ≤ length bytes → AreBytes bytes → number_bytes n (number_at bytes place n) ≡ bytes_at bytes place n
+pub number_bytes-number_at : (bytes : List ℕ) (place n : ℕ) → place + n ≤ length bytes → AreBytes bytes → number_bytes n (number_at bytes place n) ≡ field_at bytes place n
 unfolding number_bytes number_at
 number_bytes-number_at bytes place n inside fit =
     bytes_low_first-number (drop place bytes) n 0 _ (omega (arith, length-drop place bytes)) (λ k. rw (get_or-drop place bytes k 0) (fit (place + k)))

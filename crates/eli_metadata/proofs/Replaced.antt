@@ -3,8 +3,8 @@ use Rattle.std.proofs.Common.{[], ◌∷◌, refl, arith, All}
 use Rattle.std.proofs.lemmas.List.Elements.{All-nil, All-cons}
 use Rattle.block_traits.specs.Disk.{DiskState, FailsIn, Logs, last_sector, store_events}
 use Rattle.block_traits.specs.Moments.{HoldsOldOr, KeepsAlone, KeepsOldOr}
-use Rattle.block_traits.specs.declared.Event.{Event}
-use Rattle.block_traits.specs.declared.Event.TheVariants.{Write, Flush}
+use Rattle.block_traits.specs.declared.disk.Event.{Event}
+use Rattle.block_traits.specs.declared.disk.Event.TheVariants.{Write, Flush}
 use Rattle.block_traits.proofs.Keeping.{AtEachMoment-Logs, AtEachMoment-FailsIn, HoldsOldOr-more, WritesHere}
 use Rattle.block_traits.proofs.Overwritten.{KeepsAlone-overwrite, KeepsOldOr-overwrite, KeepsOldOr-overwrite_part}
 use Rattle.eli_metadata.specs.Format.{encoded}

@@ -1,10 +1,10 @@
 -- Which metadata a provider can be used by (g_eli.h, eli_metadata_decode and eli_metadata_crypto_supported; geli(8)).
 use Rattle.std.specs.Prelude.{ℕ, ◌*◌, ◌^◌, nat_lt, nat_le, bit_and, Bool, ◌==◌, if◌then◌else◌, not, Option, Some, None, Result, Ok, Err}
-use Rattle.eli_base.specs.declared.Auth.{Auth}
-use Rattle.eli_base.specs.declared.Auth.TheVariants.{Off, Sha256, Sha384, Sha512}
-use Rattle.eli_base.specs.declared.Cipher.{Cipher}
-use Rattle.eli_base.specs.declared.Cipher.TheVariants.{AesCbc, AesXts}
-use Rattle.eli_base.specs.declared.Params.{Params}
+use Rattle.eli_base.specs.declared.algorithms.Auth.{Auth}
+use Rattle.eli_base.specs.declared.algorithms.Auth.TheVariants.{Off, Sha256, Sha384, Sha512}
+use Rattle.eli_base.specs.declared.algorithms.Cipher.{Cipher}
+use Rattle.eli_base.specs.declared.algorithms.Cipher.TheVariants.{AesCbc, AesXts}
+use Rattle.eli_base.specs.declared.parameters.Params.{Params}
 use Rattle.eli_base.specs.Algorithms.{allows_length, auth_number, cipher_number}
 use Rattle.eli_base.specs.SectorSize.{is_sector_size}
 use Rattle.eli_metadata.specs.declared.metadata.Metadata.{Metadata}

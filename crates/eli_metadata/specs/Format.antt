@@ -14,12 +14,12 @@ unfoldable pub magic : List ℕ
 magic = 71 ∷ 69 ∷ 79 ∷ 77 ∷ 58 ∷ 58 ∷ 69 ∷ 76 ∷ 73 ∷ 0 ∷ 0 ∷ 0 ∷ 0 ∷ 0 ∷ 0 ∷ 0 ∷ []
 
 -- the n bytes at a place
-abbrev pub bytes_at : List ℕ → ℕ → ℕ → List ℕ
-bytes_at bytes place n = take n (drop place bytes)
+abbrev pub field_at : List ℕ → ℕ → ℕ → List ℕ
+field_at bytes place n = take n (drop place bytes)
 
 -- the number of n bytes at a place
 unfoldable pub number_at : List ℕ → ℕ → ℕ → ℕ
-number_at bytes place n = little_number n (bytes_at bytes place n)
+number_at bytes place n = little_number n (field_at bytes place n)
 
 -- the number of four bytes at a place, as two's complement
 unfoldable pub signed_at : List ℕ → ℕ → ℤ
@@ -37,13 +37,13 @@ fields bytes = record {
   sectorsize = number_at bytes 38 4;
   keys = slice_index bytes 42;
   iterations = signed_at bytes 43;
-  salt = bytes_at bytes 47 64;
-  mkeys = bytes_at bytes 111 384;
+  salt = field_at bytes 47 64;
+  mkeys = field_at bytes 111 384;
 }
 
 -- bytes 495 to 510 are the MD5 (RFC 1321) of bytes 0 to 494
 abbrev pub decode_hashed : List ℕ → Result Metadata MetaFault
-decode_hashed bytes = if bytes_eq (md5 (take 495 bytes)) (bytes_at bytes 495 16) then Ok (fields bytes) else Err BadHash
+decode_hashed bytes = if bytes_eq (md5 (take 495 bytes)) (field_at bytes 495 16) then Ok (fields bytes) else Err BadHash
 
 -- which versions are served: 7 and 6, and 5 without G_ELI_FLAG_AUTH
 abbrev pub is_served : ℕ → ℕ → Bool

@@ -1,8 +1,8 @@
 -- What a read of the metadata answers, and what a read and a change of them do to the disk.
 use Rattle.std.specs.Prelude.{◌≡◌, ℕ, ◌<◌, ◌≤◌, ◌*◌, List, [], ◌∷◌, length, Result, Ok, Err}
 use Rattle.block_traits.specs.Disk.{DiskState, FailsIn, Gives, Logs, last_sector, store_events}
-use Rattle.block_traits.specs.declared.Event.{Event}
-use Rattle.block_traits.specs.declared.Event.TheVariants.{Flush}
+use Rattle.block_traits.specs.declared.disk.Event.{Event}
+use Rattle.block_traits.specs.declared.disk.Event.TheVariants.{Flush}
 use Rattle.eli_metadata.specs.Format.{encoded, metadata_in}
 use Rattle.eli_metadata.specs.declared.metadata.Metadata.{Metadata}
 use Rattle.eli_metadata.specs.declared.metadata.MetaFault.{MetaFault}

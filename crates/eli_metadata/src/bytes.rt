@@ -42,9 +42,9 @@ pub fn u64_at(from: &Sector, place: usize) -> u64
     LittleEndian::read_u64(&from[place..place + 8])
 }
 
-/// Puts bytes at a place.
-pub fn put(into: &mut Sector, place: usize, bytes: &[u8])
-    requires { place + length bytes.now ≤ 512 }
+/// Puts bytes at a place. What stands before them stays.
+pub fn put(into: &mut [u8], place: usize, bytes: &[u8])
+    requires { place + length bytes.now ≤ length into.old }
     ensures { take (place + length bytes.now) into.new ≡ take place into.old ++ bytes.now }
 {
     into[place..place + bytes.len()].copy_from_slice(bytes);

@@ -2,12 +2,13 @@
 #![tactic(auto)]
 
 mod bytes;
-mod codec;
-mod gates;
+mod checks;
+mod format;
 mod metadata;
 mod place;
 
-pub use codec::{decode, encode};
-pub use gates::{check, size_gate, slot_gate};
-pub use metadata::{MetaFault, Metadata};
+pub use bytes::put;
+pub use checks::{check, size_gate, slot_gate};
+pub use format::{decode, encode};
+pub use metadata::{FLAG_AUTH, FLAG_AUTORESIZE, FLAG_RO, MetaFault, Metadata, VERSION};
 pub use place::{ReadMetaFault, read_metadata, replace_metadata};

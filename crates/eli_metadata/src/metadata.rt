@@ -1,12 +1,22 @@
 // The fields of the metadata, and what may be wrong with them.
+ghost use Rattle.std.specs.Prelude.{◌≡◌, ◌<◌};
+ghost use Rattle.eli_metadata.specs.Check.{is_set};
 ghost use Rattle.eli_metadata.specs.Refusals.{refusal_of};
-ghost use Rattle.std.specs.Prelude.{◌≡◌};
 
 use eli_base::Refusal;
 use thiserror::Error;
 
+/// The version of the metadata of a new provider (g_eli.h, `G_ELI_VERSION`).
+pub const VERSION: u32 = 7;
+
 /// The flag `G_ELI_FLAG_AUTH`: the data is authenticated.
-pub(crate) const FLAG_AUTH: u32 = 0x10;
+pub const FLAG_AUTH: u32 = 0x10;
+
+/// The flag `G_ELI_FLAG_RO`: the provider is to be read alone.
+pub const FLAG_RO: u32 = 0x20;
+
+/// The flag `G_ELI_FLAG_AUTORESIZE`: the provider is to grow with its image.
+pub const FLAG_AUTORESIZE: u32 = 0x200;
 
 /// The fields of the metadata sector, by their names in `struct g_eli_metadata` (g_eli.h).
 #[derive(Clone, Copy, Debug, PartialEq, Eq)]
@@ -35,6 +45,16 @@ pub struct Metadata {
     pub salt: [u8; 64],
     /// The two slots of 192 bytes each, with a wrapped master key or filler.
     pub mkeys: [u8; 384],
+}
+
+impl Metadata {
+    /// Whether a slot holds a key.
+    pub fn is_set(&self, slot: u8) -> bool
+        requires { slot < 2 }
+        ensures { result ≡ is_set self.now slot }
+    {
+        self.keys & (1 << slot) != 0
+    }
 }
 
 /// Why bytes are no metadata, or metadata no provider that can be used.

@@ -13,7 +13,7 @@ use Rattle.file_edge.specs.Opening.{OpensImage, image_asked}
 
 -- it tells no content
 abbrev pub state_of : {F : Type 0} → FileDisk F → DiskState
-state_of d = untold d.sectors d.faults d.small
+state_of d = untold d.sectors d.faults d.reads d.small
 
 -- no file is opened, the disk has two sectors, and it is known which file it would have been, or not
 pub record IsUnopened {F : Type 0} (id : Option FileId) (disk : FileDisk F) : Type 0 where

@@ -42,11 +42,7 @@ impl<O: Opener + Drop> FileCabinet<O> {
 }
 
 impl<O: Opener + Drop> Cabinet for FileCabinet<O> {
-    ghost files = { λ _. None };
-
-    ghost faults = { λ cabinet. cabinet.faults };
-
-    ghost misses = { λ cabinet. cabinet.misses };
+    ghost state = { λ cabinet. record { files = None; faults = cabinet.faults; misses = cabinet.misses } };
 
     /// Besides what a cabinet does: the file that is opened under the name is read, whole where it knows its bytes, and
     /// nothing else is asked of the opener. An image isn't read.

@@ -1,6 +1,6 @@
 // A file, or a device, as a disk.
 ghost use Rattle.std.specs.Prelude.{◌≡◌, ◌<◌, ◌≤◌, ◌^◌, ◌*◌, ◌∷◌, [], IsErr, IsNone, MatchOption, OnErr, OnOk, false, is_err, is_ok, true};
-ghost use Rattle.block_traits.specs.Causes.{Rose};
+ghost use Rattle.block_traits.specs.Causes.{Counted, Rose};
 ghost use Rattle.block_traits.specs.Disk.{FailsIn, Gives, Logs};
 ghost use Rattle.file_edge.specs.ImageFile.{IsHeld, LeavesFile, WritesFile, WritesWithin, read_bytes};
 ghost use Rattle.file_edge.specs.Opening.{AsksImage};
@@ -11,13 +11,14 @@ use crate::opener::{Opener, open_image};
 use block_traits::{Disk, DiskFailed, Event, Sector};
 
 /// The whole 512-byte pieces of a file, read and written where they stand. It tells no content, shows
-/// no events, and counts each failure.
+/// no events, and counts each failure and each read.
 #[derive(Drop)]
 pub struct FileDisk<F: Drop> {
     file: Option<F>,
     id: Option<FileId>,
     sectors: u64,
     faults: u64,
+    reads: u64,
     unsynced: bool,
     ghost small: { sectors < 2 ^ 44 },
 }
@@ -140,6 +141,7 @@ impl<F: Drop> FileDisk<F> {
             id: Some(id),
             sectors: length / 512,
             faults: 0,
+            reads: 0,
             unsynced: false,
         }
     }
@@ -155,6 +157,7 @@ impl<F: Drop> FileDisk<F> {
             id,
             sectors: 2,
             faults: 0,
+            reads: 0,
             unsynced: false,
         }
     }
@@ -172,6 +175,7 @@ impl<F: Drop> FileDisk<F> {
         ensures sectors { self.new.sectors ≡ self.old.sectors }
         ensures later { self.old.faults ≤ self.new.faults }
         ensures rose { Rose self.old.faults self.new.faults }
+        ensures reads { self.new.reads ≡ self.old.reads }
         ensures unsynced { self.new.unsynced ≡ self.old.unsynced }
     {
         self.faults = self.faults.saturating_add(1);
@@ -215,10 +219,12 @@ impl<F: ImageFile + Drop> Disk for FileDisk<F> {
         ensures bytes { OnOk result (Gives (state_of self.old) n into.new) }
         ensures ok { OnOk result (Logs [] (state_of self.old) (state_of self.new)) }
         ensures err { OnErr result (FailsIn [] (state_of self.old) (state_of self.new)) }
+        ensures asked { Counted 1 self.old.reads self.new.reads }
         ensures placed { MatchOption self.old.file (IsErr result) (λ file. F.reads file (512 * n) (read_bytes result into.new)) }
         ensures kept { LeavesFile F.written self.old.file self.new.file }
         ensures unsynced { self.new.unsynced ≡ self.old.unsynced }
     {
+        self.reads = self.reads.saturating_add(1);
         if let Some(file) = &mut self.file
             && file.read_sector(512 * n, into).is_ok()
         {
@@ -232,6 +238,7 @@ impl<F: ImageFile + Drop> Disk for FileDisk<F> {
         requires { n < (state_of self.old).size }
         ensures ok { OnOk result (Logs (Event.Write n from.now ∷ []) (state_of self.old) (state_of self.new)) }
         ensures err { OnErr result (FailsIn (Event.Write n from.now ∷ []) (state_of self.old) (state_of self.new)) }
+        ensures unasked { self.new.reads ≡ self.old.reads }
         ensures placed { WritesFile F.ends F.writes F.written (512 * n) from.now (is_ok result) self.old.file self.new.file }
         ensures unsynced { self.new.unsynced ≡ self.old.unsynced }
     {
@@ -247,6 +254,7 @@ impl<F: ImageFile + Drop> Disk for FileDisk<F> {
     fn flush(&mut self) -> Result<(), DiskFailed>
         ensures ok { OnOk result (Logs (Event.Flush ∷ []) (state_of self.old) (state_of self.new)) }
         ensures err { OnErr result (FailsIn (Event.Flush ∷ []) (state_of self.old) (state_of self.new)) }
+        ensures unasked { self.new.reads ≡ self.old.reads }
         ensures synced { self.old.unsynced ≡ false → MatchOption self.old.file (IsErr result) (λ file. F.syncs file (is_ok result)) }
         ensures stays { self.old.unsynced ≡ true → IsErr result }
         ensures unsynced { self.new.unsynced ≡ is_err result }

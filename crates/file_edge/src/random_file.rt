@@ -32,9 +32,7 @@ impl<R: Read + Drop + 'static> RandomFile<R> {
 }
 
 impl<R: Read + Drop> Entropy for RandomFile<R> {
-    ghost left = { λ _. None };
-
-    ghost faults = { λ random. random.faults };
+    ghost state = { λ random. record { left = None; faults = random.faults } };
 
     /// Besides what entropy does: where the device knows its bytes, they are given, and where there is no device the
     /// call fails.

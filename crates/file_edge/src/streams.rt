@@ -24,9 +24,7 @@ impl<R: Read + Drop> InputSource<R> {
 }
 
 impl<R: Read + Drop> Source for InputSource<R> {
-    ghost left = { λ _. None };
-
-    ghost faults = { λ source. source.faults };
+    ghost state = { λ source. record { left = None; faults = source.faults } };
 
     /// Besides what a source does: where the reader knows its bytes, they are given, and 0 only at their end.
     fn take(&mut self, into: &mut [u8]) -> Result<usize, SourceFailed>
@@ -81,9 +79,7 @@ impl<W: Write + Drop> OutputSink<W> {
 }
 
 impl<W: Write + Drop> Sink for OutputSink<W> {
-    ghost taken = { λ _. None };
-
-    ghost faults = { λ sink. sink.faults };
+    ghost state = { λ sink. record { taken = None; faults = sink.faults } };
 
     /// Besides what a sink does: where the writer knows its bytes, those that are taken stand behind them.
     fn give(&mut self, from: &[u8]) -> Result<usize, SinkFailed>

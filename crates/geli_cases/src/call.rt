@@ -1,7 +1,7 @@
 // The top call over disks that are put on a shelf.
 use crate::fault::Fault;
 use block_traits::{Disk, Event};
-use crash_disk::{MemCabinet, MemDisk, MemEntropy, MemSink, MemSource};
+use crash_disk::{MemCabinet, MemEntropy, MemSink, MemSource, SparseDisk};
 use geli_core::{AddFault, Shelf, geli_main};
 use std::alloc::Global;
 
@@ -12,7 +12,7 @@ pub const TAKEN_IN: &str = "ok";
 #[derive(Drop)]
 pub struct Drawer {
     name: String,
-    disk: MemDisk,
+    disk: SparseDisk,
 }
 
 /// What the top call is given besides the words and the shelf.
@@ -48,7 +48,7 @@ pub struct DiskOutcome {
 pub fn add_drawer(
     alloc: Global,
     name: &str,
-    disk: MemDisk,
+    disk: SparseDisk,
     into: &mut Vec<Drawer>,
 ) -> Result<(), Fault> {
     let name = String::from_str(alloc, name)?;

@@ -1,7 +1,7 @@
 // What crashes leave of a disk.
 use crate::fault::Fault;
 use crate::line::{Form, Line};
-use crash_disk::{MemDisk, Pick, SurvivorFault, Torn, survivor_torn, survivor_whole};
+use crash_disk::{Pick, SparseDisk, SurvivorFault, Torn, sparse_survivor};
 use std::alloc::Global;
 
 /// The picks and torn sectors that were gathered for the next survivor.
@@ -15,7 +15,7 @@ pub struct Choices {
 #[derive(Drop)]
 pub enum Crashed {
     /// The disk.
-    Disk(MemDisk),
+    Disk(SparseDisk),
     /// This pick is bad.
     BadPick(usize),
     /// This torn sector is bad.
@@ -55,7 +55,7 @@ impl Choices {
     pub fn survivor(
         &mut self,
         alloc: Global,
-        disk: &MemDisk,
+        disk: &SparseDisk,
         moment: u64,
     ) -> Result<Crashed, Fault> {
         let made = survivor_at(alloc, disk, moment as usize, &self.picks, &self.torn);
@@ -68,22 +68,15 @@ impl Choices {
 /// What a crash leaves of a disk after so many events.
 pub fn survivor_at(
     alloc: Global,
-    disk: &MemDisk,
+    disk: &SparseDisk,
     moment: usize,
     picks: &[Pick],
     torn: &[Torn],
 ) -> Result<Crashed, Fault> {
     if moment > disk.history().len() {
-        Ok(Crashed::Beyond)
-    } else if torn.is_empty() {
-        answer_of(survivor_whole(alloc, disk, moment, picks))
-    } else {
-        answer_of(survivor_torn(alloc, disk, moment, picks, torn))
+        return Ok(Crashed::Beyond);
     }
-}
-
-fn answer_of(made: Result<MemDisk, SurvivorFault>) -> Result<Crashed, Fault> {
-    match made {
+    match sparse_survivor(alloc, disk, moment, picks, torn) {
         Ok(disk) => Ok(Crashed::Disk(disk)),
         Err(SurvivorFault::BadPick { index }) => Ok(Crashed::BadPick(index)),
         Err(SurvivorFault::BadTorn { index }) => Ok(Crashed::BadTorn(index)),

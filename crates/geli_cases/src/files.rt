@@ -1,5 +1,6 @@
 // The files of a case.
 use crate::fault::Fault;
+use crate::line::{Form, Line};
 use crate::transcript::Transcript;
 use crash_disk::MemCabinet;
 use std::alloc::Global;
@@ -25,8 +26,15 @@ impl Files {
         }
     }
 
-    /// Makes or replaces a file.
-    pub fn put(&mut self, alloc: Global, name: &str, bytes: Vec<u8>) -> Result<(), Fault> {
+    /// Makes or replaces the file that a line tells.
+    pub fn tell(&mut self, alloc: Global, form: Form, line: &mut Line<'_>) -> Result<(), Fault> {
+        let name = line.word();
+        let mut bytes = Vec::new(alloc);
+        line.bytes(alloc, form, &mut bytes)?;
+        self.put(alloc, name, bytes)
+    }
+
+    fn put(&mut self, alloc: Global, name: &str, bytes: Vec<u8>) -> Result<(), Fault> {
         match self.find(name) {
             None => self.add(alloc, name, Some(bytes)),
             Some(file) => {

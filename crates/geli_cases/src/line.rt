@@ -267,21 +267,21 @@ impl<'a> Line<'a> {
 
     /// Appends all words that are left.
     pub fn words(&mut self, alloc: Global, into: &mut Vec<String>) -> Result<(), Fault> {
-        if self.rest.is_none() {
-            return Ok(());
-        }
-        for word in self.text().split(' ') {
-            into.push(String::from_str(alloc, word)?)?;
+        for _ in 0..u64::MAX {
+            if self.rest.is_none() {
+                break;
+            }
+            into.push(String::from_str(alloc, self.word())?)?;
         }
         Ok(())
     }
 
-    /// Appends all numbers that are left.
+    /// Appends all numbers that are left, at least one.
     pub fn numbers(&mut self, into: &mut Vec<u64>) -> Result<(), Fault> {
-        for word in self.text().split(' ') {
-            match word.parse::<u64>() {
-                Ok(number) => into.push(number)?,
-                Err(_) => return Err(Fault::Bad("no number")),
+        for _ in 0..u64::MAX {
+            into.push(self.number())?;
+            if self.rest.is_none() {
+                break;
             }
         }
         Ok(())

@@ -1,13 +1,16 @@
 // What the next run of a case is given.
 use crate::call::{Drawer, add_drawer};
+use crate::disks::blank;
 use crate::fault::Fault;
 use crate::line::{Form, Given, Line};
-use crash_disk::{CallKind, FailAt, MemDisk, MemSink, MemSource};
+use crash_disk::{CallKind, FailAt, MemSink, MemSource, SparseDisk};
 use std::alloc::Global;
 
 // The room of a sink, where no line says another.
 const USUAL_ROOM: u64 = 1_048_576;
-// Room for so many events on a disk that is offered: a run sends it none.
+// What a disk has that is offered: a run sends it no event.
+const OFFERED_SECTORS: u64 = 2;
+
 const OFFERED_ROOM: u64 = 16;
 
 // The words for the calls of a disk.
@@ -69,6 +72,13 @@ impl NextRun {
         }
     }
 
+    /// No call of the cabinet, the source and the sink fails.
+    pub fn fail_none(&mut self) {
+        self.file_fails.clear();
+        self.source.fails.clear();
+        self.sink.fails.clear();
+    }
+
     /// Gathers what a line says.
     pub fn follow(
         &mut self,
@@ -103,19 +113,14 @@ impl Stream {
         }
     }
 
-    // The calls that fail, if any is to.
-    fn fails(&self, failing: bool) -> &[u64] {
-        if failing { &self.fails } else { &[] }
+    /// A source of this input.
+    pub fn source(&self, alloc: Global, input: &[u8]) -> Result<MemSource, Fault> {
+        Ok(MemSource::new(alloc, input, &self.cuts, &self.fails)?)
     }
 
-    /// A source of this input, some of whose calls fail.
-    pub fn source(&self, alloc: Global, input: &[u8], failing: bool) -> Result<MemSource, Fault> {
-        Ok(MemSource::new(alloc, input, &self.cuts, self.fails(failing))?)
-    }
-
-    /// A sink with so much room, some of whose calls fail.
-    pub fn sink(&self, alloc: Global, room: u64, failing: bool) -> Result<MemSink, Fault> {
-        Ok(MemSink::new(alloc, &self.cuts, self.fails(failing), room)?)
+    /// A sink with so much room.
+    pub fn sink(&self, alloc: Global, room: u64) -> Result<MemSink, Fault> {
+        Ok(MemSink::new(alloc, &self.cuts, &self.fails, room)?)
     }
 }
 
@@ -164,7 +169,7 @@ pub fn fail_calls(
     alloc: Global,
     fails: &[NamedFail],
     name: &str,
-    disk: &mut MemDisk,
+    disk: &mut SparseDisk,
 ) -> Result<(), Fault> {
     let mut calls = Vec::new(alloc);
     for fail in fails {
@@ -178,7 +183,7 @@ pub fn fail_calls(
 /// Adds the disks of these names, which are offered.
 pub fn add_offers(alloc: Global, names: &[String], drawers: &mut Vec<Drawer>) -> Result<(), Fault> {
     for name in names {
-        let disk = MemDisk::new(alloc, 2, OFFERED_ROOM)?;
+        let disk = blank(alloc, OFFERED_SECTORS, OFFERED_ROOM)?;
         add_drawer(alloc, name.as_str(), disk, drawers)?;
     }
     Ok(())

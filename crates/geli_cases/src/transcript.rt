@@ -203,13 +203,9 @@ impl Transcript {
         answer: &'a str,
         place: Option<usize>,
     ) {
-        self.parts(&[
-            Part::Text("survivor"),
-            Part::Text(new),
-            Part::Text(old),
-            Part::Number(moment),
-            Part::Text(answer),
-        ]);
+        self.parts(&[Part::Text("survivor"), Part::Text(new), Part::Text(old)]);
+        self.text(" ");
+        self.parts(&[Part::Number(moment), Part::Text(answer)]);
         if let Some(place) = place {
             self.text(" ");
             self.number(place as u64);
@@ -241,7 +237,7 @@ impl Transcript {
 
 // The text of a line whose bytes are all plain.
 fn plain_text(line: &[u8]) -> Option<&str> {
-    if !line.iter().all(|byte| (0x20..=0x7e).contains(byte)) {
+    if !line.iter().all(|byte| b' ' <= *byte && *byte <= b'~') {
         return None;
     }
     str::from_utf8(line).ok()

@@ -1,14 +1,14 @@
 // The world of a case: its disks, files and random bytes, what the next run is given, and the runs.
 use crate::call::{Objects, Outcome, TAKEN_IN, add_drawer, top_call};
 use crate::crash::{Choices, Crashed, survivor_at};
-use crate::disks::{Disks, image_of};
+use crate::disks::Disks;
 use crate::fault::Fault;
 use crate::files::Files;
-use crate::line::{Form, Has, Kind, Line};
+use crate::line::{Has, Kind, Line};
 use crate::next_run::{NextRun, add_offers};
 use crate::transcript::{Part, Transcript};
 use block_traits::{Entropy, Source};
-use crash_disk::{MemDisk, MemEntropy, MemSource, Pick};
+use crash_disk::{MemEntropy, MemSource, Pick, SparseDisk};
 use std::alloc::Global;
 
 // The last status that tells how much input is left.
@@ -70,20 +70,13 @@ impl World {
             Has::Cover => self.disks.cover(alloc, line),
             Has::Take => self.disks.take(alloc, line),
             Has::Shelf => self.disks.set_shelf(alloc, line),
-            Has::File(form) => self.file(alloc, form, line),
+            Has::File(form) => self.files.tell(alloc, form, line),
             Has::Watch => self.files.watch(alloc, line.word()),
             Has::Entropy(form) => {
                 self.entropy.clear();
                 line.bytes(alloc, form, &mut self.entropy)
             }
         }
-    }
-
-    fn file(&mut self, alloc: Global, form: Form, line: &mut Line<'_>) -> Result<(), Fault> {
-        let name = line.word();
-        let mut bytes = Vec::new(alloc);
-        line.bytes(alloc, form, &mut bytes)?;
-        self.files.put(alloc, name, bytes)
     }
 
     // The top call over the shelf, and what it left of each object.
@@ -93,7 +86,7 @@ impl World {
         let mut drawers = self.disks.drawers(alloc, &self.next.disk_fails)?;
         let own = drawers.len();
         add_offers(alloc, &self.next.offers, &mut drawers)?;
-        let mut objects = self.objects(alloc, true)?;
+        let mut objects = self.objects(alloc)?;
         let outcome = top_call(alloc, drawers, &self.next.words, &mut objects)?;
         tell_answers(&outcome, own, transcript)?;
         self.tell_streams(outcome.status, &mut objects, transcript);
@@ -101,15 +94,13 @@ impl World {
         self.settle_rest(alloc, &mut objects, transcript)
     }
 
-    // The objects of a run besides the shelf, made anew. In runs over survivors nothing fails.
-    fn objects(&self, alloc: Global, failing: bool) -> Result<Objects, Fault> {
+    // The objects of a run besides the shelf, made anew.
+    fn objects(&self, alloc: Global) -> Result<Objects, Fault> {
         let mut cabinet = self.files.cabinet(alloc)?;
-        if failing {
-            cabinet.fail_calls(&self.next.file_fails)?;
-        }
+        cabinet.fail_calls(&self.next.file_fails)?;
         Ok(Objects {
-            input: self.next.source.source(alloc, &self.next.input, failing)?,
-            output: self.next.sink.sink(alloc, self.next.room, failing)?,
+            input: self.next.source.source(alloc, &self.next.input)?,
+            output: self.next.sink.sink(alloc, self.next.room)?,
             cabinet,
             entropy: MemEntropy::new(alloc, &self.entropy)?,
         })
@@ -177,15 +168,13 @@ impl World {
         transcript: &mut Transcript,
     ) -> Result<(), Fault> {
         let (new, old, moment) = (line.word(), line.word(), line.number());
-        let disk = self.disks.find(old)?;
-        let room = disk.room();
-        let (answer, index) = match self.choices.survivor(alloc, disk.last(alloc)?, moment)? {
+        let disk = self.disks.find(old)?.last();
+        let (answer, index) = match self.choices.survivor(alloc, disk, moment)? {
             Crashed::Beyond => ("beyond", None),
             Crashed::BadPick(index) => ("BadPick", Some(index)),
             Crashed::BadTorn(index) => ("BadTorn", Some(index)),
             Crashed::Disk(survivor) => {
-                self.disks
-                    .set(alloc, new, image_of(alloc, survivor)?, room)?;
+                self.disks.set(alloc, new, survivor)?;
                 ("ok", None)
             }
         };
@@ -193,7 +182,7 @@ impl World {
         Ok(())
     }
 
-    // The top call over each survivor that differs in one sector alone. The case stays as it is.
+    // The top call over each survivor that differs in one sector alone, where nothing fails. The case stays as it is.
     fn crashes(
         &mut self,
         alloc: Global,
@@ -201,7 +190,8 @@ impl World {
         transcript: &mut Transcript,
     ) -> Result<(), Fault> {
         let (new, old, n) = (line.word(), line.word(), line.number());
-        let count = self.disks.find(old)?.last(alloc)?.history().len();
+        let count = self.disks.find(old)?.last().history().len();
+        self.next.fail_none();
         for moment in 0..=count {
             self.crashes_at(alloc, new, old, n, moment, transcript)?;
         }
@@ -220,12 +210,12 @@ impl World {
         transcript: &mut Transcript,
     ) -> Result<(), Fault> {
         for place in 0..usize::MAX {
-            let disk = self.disks.find(old)?.last(alloc)?;
+            let disk = self.disks.find(old)?.last();
             let made = survivor_at(alloc, disk, moment, &[Pick { n, place }], &[])?;
             let Crashed::Disk(survivor) = made else {
                 break;
             };
-            let mut objects = self.objects(alloc, false)?;
+            let mut objects = self.objects(alloc)?;
             let status = self.crash(alloc, new, survivor, &mut objects)?;
             transcript.crash(moment, place, status, objects.output.bytes());
         }
@@ -237,7 +227,7 @@ impl World {
         &self,
         alloc: Global,
         name: &str,
-        disk: MemDisk,
+        disk: SparseDisk,
         objects: &mut Objects,
     ) -> Result<u8, Fault> {
         let mut drawers = Vec::new(alloc);
@@ -279,18 +269,18 @@ fn left_of_input(input: &mut MemSource) -> u64 {
 // How many bytes entropy has left: first by blocks, which is fast, and the rest byte by byte. A block for which too
 // little is left takes nothing.
 fn left_of_entropy(entropy: &mut MemEntropy) -> usize {
+    let blocks = filled(entropy, &mut [0; 256]);
+    blocks.saturating_add(filled(entropy, &mut [0; 1]))
+}
+
+// How many bytes are taken until so many as these aren't left.
+fn filled(entropy: &mut MemEntropy, into: &mut [u8]) -> usize {
     let mut count = 0usize;
     for _ in 0..u64::MAX {
-        if entropy.fill(&mut [0; 256]).is_err() {
+        if entropy.fill(into).is_err() {
             break;
         }
-        count = count.saturating_add(256);
-    }
-    for _ in 0..u64::MAX {
-        if entropy.fill(&mut [0; 1]).is_err() {
-            break;
-        }
-        count = count.saturating_add(1);
+        count = count.saturating_add(into.len());
     }
     count
 }

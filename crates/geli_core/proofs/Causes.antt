@@ -1,17 +1,22 @@
 -- What the status says of the words and of the sink.
 use Rattle.std.specs.Io.KnownBytes.{prepend_known}
 use Rattle.std.proofs.lemmas.List.{append-nil}
-use Rattle.std.proofs.Common.{◌∙◌, ◌++◌, ◌≡◌, inl, inr, ℕ, List, [], ◌∷◌, Option, None, Some, ap, refl, subst}
+use Rattle.std.specs.Prelude.{◌||◌, MatchOption}
+use Rattle.std.specs.List.{list_any}
+use Rattle.std.proofs.lemmas.List.Folds.{list_any-append}
+use Rattle.std.proofs.Common.{◌∙◌, ◌⊎◌, ◌++◌, ◌≡◌, inl, inr, ℕ, List, [], ◌∷◌, Bool, true, false, Option, None, Some, ap, refl, subst}
 use Rattle.block_traits.specs.Causes.{Rose}
 use Rattle.block_traits.proofs.Causes.{Rose-earlier}
-use Rattle.block_traits.specs.Streams.{SinkState}
+use Rattle.block_traits.specs.Streams.{SinkState, SourceState}
+use Rattle.command_words.specs.Reading.{command_in}
 use Rattle.command_words.specs.Images.{line_of, script_images}
 use Rattle.command_words.specs.declared.commands.Command.{Command}
+use Rattle.command_words.specs.declared.spans.Sep.{Sep}
 use Rattle.command_words.specs.declared.spans.Sep.TheVariants.{Blanks, Zeros}
-use Rattle.geli_core.specs.Asked.{asked_in}
-use Rattle.geli_core.specs.Histories.{EachGrew}
-use Rattle.geli_core.proofs.Drawn.{closed_run_grew, each_as}
-use Rattle.geli_core.specs.Script.{Ends, EndsBy, EndsCommand, HasCause, Prints, PrintsUsage, Runs, RunsAs, RunsCommand, RunsLine, RunsScript, Whole}
+use Rattle.geli_core.specs.Histories.{AnyEjects, EachGrew, GaveEject, IsEjected, KeepsDrawers, ejects}
+use Rattle.geli_core.specs.Lines.{last_line}
+use Rattle.geli_core.proofs.Drawn.{any_here, closed_run_grew, each_as, each_weaker}
+use Rattle.geli_core.specs.Script.{Ends, EndsBy, EndsCommand, HasCause, Prints, PrintsUsage, Runs, RunsAs, RunsCommand, RunsLine, RunsScript, ServesUpTo, Taken, Whole}
 use Rattle.geli_core.specs.declared.status.Status.{Status}
 use Rattle.geli_core.specs.declared.status.Status.TheVariants.{Done, SomeRefused, BadWords, ReadFault, WriteFault, NoMemory, LineTooLong, ScriptTooLong}
 use Rattle.shelf.specs.Answer.{Answer}
@@ -26,7 +31,7 @@ rose_line line (Some command) old new h = rose_prints (Some h.answer ∷ []) h.f
 
 rose_as : (asks : Option (List (List ℕ))) (words : List (List ℕ)) (old new : Whole) → RunsAs asks words old WriteFault new → Rose old.sink.faults new.sink.faults
 rose_as (Some names) words old new h = rose_prints h.answers h.failed old.sink new.sink h.prints
-rose_as None words old new h = rose_line (line_of words) (asked_in (line_of words)) old new h
+rose_as None words old new h = rose_line (line_of words) (command_in (line_of words)) old new h
 
 pub write_fault_rose : (words : List (List ℕ)) (old new : Whole) (status : Status) → Runs words old status new → status ≡ WriteFault → Rose old.sink.faults new.sink.faults
 write_fault_rose words old new status h is = rose_as (script_images words) words old new (subst (λ (s : Status). Runs words old s new) is h)
@@ -58,9 +63,9 @@ line_ends : (line : List ℕ) (command : Option Command) (old new : Whole) (stat
 line_ends line None old new status h = usage_ends old.sink new.sink status h.prints
 line_ends line (Some command) old new status h = command_ends command status h.ended
 
-ends_as : (asks : Option (List (List ℕ))) (words : List (List ℕ)) (old new : Whole) (status : Status) → RunsAs asks words old status new → EndsBy asks (asked_in (line_of words)) status
-ends_as (Some names) words old new status h = not_bad names (asked_in (line_of words)) h.answers h.failed old.sink new.sink status h.prints
-ends_as None words old new status h = line_ends (line_of words) (asked_in (line_of words)) old new status h
+ends_as : (asks : Option (List (List ℕ))) (words : List (List ℕ)) (old new : Whole) (status : Status) → RunsAs asks words old status new → EndsBy asks (command_in (line_of words)) status
+ends_as (Some names) words old new status h = not_bad names (command_in (line_of words)) h.answers h.failed old.sink new.sink status h.prints
+ends_as None words old new status h = line_ends (line_of words) (command_in (line_of words)) old new status h
 
 pub runs_end : (words : List (List ℕ)) (old new : Whole) (status : Status) → Runs words old status new → Ends words status
 runs_end words old new NoMemory h = tt
@@ -74,16 +79,55 @@ runs_end words old new ScriptTooLong h = ends_as (script_images words) words old
 
 -- ---- the histories
 
-line_grew : (line : List ℕ) (command : Option Command) (old new : Whole) (status : Status) → RunsLine line command old status new → EachGrew old.world.drawers new.world.drawers
-line_grew line None old new status h = each_as old.world new.world h.world
-line_grew line (Some command) old new status h = closed_run_grew Zeros old.world (line ∷ []) (Some h.answer ∷ []) h.failed new.world h.runs
+any_before : (sep : Sep) (lines more : List (List ℕ)) (name : List ℕ) → AnyEjects sep lines name → AnyEjects sep (lines ++ more) name
+any_before sep lines more name h = list_any-append (λ line. ejects sep line name) lines more ∙ any_here (list_any (λ line. ejects sep line name) lines) (list_any (λ line. ejects sep line name) more) h
 
-grew_as : (asks : Option (List (List ℕ))) (words : List (List ℕ)) (old new : Whole) (status : Status) → RunsAs asks words old status new → EachGrew old.world.drawers new.world.drawers
-grew_as (Some names) words old new status h = closed_run_grew Blanks old.world h.served h.answers h.failed new.world h.runs
-grew_as None words old new status h = line_grew (line_of words) (asked_in (line_of words)) old new status h
+-- the lines that were served are among those that the source gave
+any_given : (served lines more : List (List ℕ)) (name : List ℕ) → (served ≡ lines) ⊎ (served ≡ lines ++ more) → AnyEjects Blanks served name → AnyEjects Blanks (lines ++ more) name
+any_given served lines more name (inl is) h = any_before Blanks lines more name (subst (λ (l : List (List ℕ)). AnyEjects Blanks l name) is h)
+any_given served lines more name (inr is) h = subst (λ (l : List (List ℕ)). AnyEjects Blanks l name) is h
 
-pub runs_grew : (words : List (List ℕ)) (old new : Whole) (status : Status) → Runs words old status new → EachGrew old.world.drawers new.world.drawers
-runs_grew words old new NoMemory h = each_as old.world new.world (ap (λ (w : Whole). w.world) h)
+served_lines : (taken : Taken) (served : List (List ℕ)) (old : SourceState) (status : Status) (new : SourceState) → ServesUpTo taken served old status new → (served ≡ taken.lines) ⊎ (served ≡ taken.lines ++ last_line taken.rest)
+served_lines taken served old Done new h = inr h.all
+served_lines taken served old SomeRefused new h = inr h.all
+served_lines taken served old WriteFault new (inl h) = inl h
+served_lines taken served old WriteFault new (inr h) = inr h.all
+served_lines taken served old ReadFault new h = inl h.0
+served_lines taken served old LineTooLong new h = inl h.0
+served_lines taken served old ScriptTooLong new h = inl h.0
+served_lines taken served old BadWords new h = absurd h
+served_lines taken served old NoMemory new h = absurd h
+
+script_grew : (old new : Whole) (status : Status) → RunsScript old status new → EachGrew (GaveEject old.source new.source) old.world.drawers new.world.drawers
+script_grew old new status h =
+    each_weaker (AnyEjects Blanks h.served) (GaveEject old.source new.source) old.world.drawers new.world.drawers
+    (λ name any. record {
+      taken = h.taken;
+      gave = h.gave;
+      cut = h.cut;
+      ejected = any_given h.served h.taken.lines (last_line h.taken.rest) name (served_lines h.taken h.served old.source status new.source h.up_to) any;
+    })
+    (closed_run_grew Blanks old.world h.served h.answers h.failed new.world h.runs)
+
+one_any : (a : Bool) → (a || false) ≡ true → a ≡ true
+one_any true h = refl
+one_any false h = h
+
+line_grew : (line : List ℕ) (command : Option Command) (old new : Whole) (status : Status) → RunsLine line command old status new → EachGrew (λ name. ejects Zeros line name ≡ true) old.world.drawers new.world.drawers
+line_grew line None old new status h = each_as (λ name. ejects Zeros line name ≡ true) old.world new.world h.world
+line_grew line (Some command) old new status h =
+    each_weaker (AnyEjects Zeros (line ∷ [])) (λ name. ejects Zeros line name ≡ true) old.world.drawers new.world.drawers (λ name any. one_any (ejects Zeros line name) any)
+    (closed_run_grew Zeros old.world (line ∷ []) (Some h.answer ∷ []) h.failed new.world h.runs)
+
+abbrev EjectedBy : Option (List (List ℕ)) → List (List ℕ) → Whole → Whole → List ℕ → Type 0
+EjectedBy asks words old new name = MatchOption asks (ejects Zeros (line_of words) name ≡ true) (λ names. GaveEject old.source new.source name)
+
+grew_as : (asks : Option (List (List ℕ))) (words : List (List ℕ)) (old new : Whole) (status : Status) → RunsAs asks words old status new → EachGrew (EjectedBy asks words old new) old.world.drawers new.world.drawers
+grew_as (Some names) words old new status h = script_grew old new status h
+grew_as None words old new status h = line_grew (line_of words) (command_in (line_of words)) old new status h
+
+pub runs_grew : (words : List (List ℕ)) (old new : Whole) (status : Status) → Runs words old status new → KeepsDrawers words old new
+runs_grew words old new NoMemory h = each_as (IsEjected words old new) old.world new.world (ap (λ (w : Whole). w.world) h)
 runs_grew words old new Done h = grew_as (script_images words) words old new Done h
 runs_grew words old new SomeRefused h = grew_as (script_images words) words old new SomeRefused h
 runs_grew words old new BadWords h = grew_as (script_images words) words old new BadWords h
@@ -129,7 +173,7 @@ line_caused line (Some command) old new status h = command_caused line old new s
 
 caused_as : (asks : Option (List (List ℕ))) (words : List (List ℕ)) (old new : Whole) (status : Status) → RunsAs asks words old status new → HasCause status old new
 caused_as (Some names) words old new status h = script_caused old new status h
-caused_as None words old new status h = line_caused (line_of words) (asked_in (line_of words)) old new status h
+caused_as None words old new status h = line_caused (line_of words) (command_in (line_of words)) old new status h
 
 pub runs_caused : (words : List (List ℕ)) (old new : Whole) (status : Status) → Runs words old status new → HasCause status old new
 runs_caused words old new NoMemory h = tt

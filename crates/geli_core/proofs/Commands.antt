@@ -2,21 +2,19 @@
 use Rattle.std.proofs.Common.{[], ◌≡◌, ◌∙◌, inl, inr, ℕ, List, length, refl, ap, sym, subst, Option, None, Some, Bool, true, false, cond, Result, Ok, Err}
 use Rattle.std.specs.Prelude.{◌||◌, nat_le}
 use Rattle.std.proofs.lemmas.List.{append-nil}
-use Rattle.block_traits.specs.Streams.{SinkState, TookAll, TookPart}
+use Rattle.block_traits.specs.Streams.{SinkState, TookAll, TookPart, SourceState}
 use Rattle.command_words.specs.Images.{script_images}
-use Rattle.command_words.specs.Reading.{line_limit, said}
+use Rattle.command_words.specs.Reading.{command_in, line_limit, reading, said}
 use Rattle.command_words.specs.declared.commands.Command.{Command}
 use Rattle.command_words.specs.declared.commands.Usage.{Usage}
 use Rattle.command_words.specs.declared.spans.Sep.TheVariants.{Zeros}
 use Rattle.shelf.specs.Answer.{Answer}
-use Rattle.reply_text.specs.declared.WriteEnd.{WriteEnd}
+use Rattle.reply_text.specs.declared.print.WriteEnd.{WriteEnd}
 use Rattle.reply_text.proofs.Printing.{TookAll-nothing, TookAll-then}
 use Rattle.shelf.specs.Closing.{ClosesWorld}
 use Rattle.geli_core.specs.Run.{ServesAndPrints, ServesLine, ServesReading, answers_text, any_refused, closing_answers, end_of, is_refusal, refuses, text_of}
-use Rattle.geli_core.specs.Asked.{asked_by, asked_in}
 use Rattle.geli_core.specs.Script.{RunsAs, RunsCommand, RunsLine, Runs, Whole}
 use Rattle.geli_core.specs.Served.{ClosesAndPrints, RunsUnless, Site, status_by, whole_of}
-use Rattle.geli_core.specs.Source.{SourceState}
 use Rattle.geli_core.specs.declared.serving.LineEnd.{LineEnd}
 use Rattle.geli_core.specs.declared.status.Status.{Status}
 use Rattle.geli_core.specs.declared.status.Status.TheVariants.{Done, SomeRefused, BadWords, ReadFault, WriteFault, NoMemory, LineTooLong, ScriptTooLong}
@@ -28,8 +26,8 @@ commanded false read command h = absurd (let no : ⊥ = cc in no)
 commanded true (Ok found) command h = ap Ok h
 commanded true (Err usage) command h = absurd (let no : ⊥ = cc in no)
 
-says : (line : List ℕ) (command : Command) → asked_in line ≡ Some command → asked_by Zeros line ≡ Ok (Some command)
-says line command h = commanded (nat_le (length line) line_limit) (asked_by Zeros line) command h
+says : (line : List ℕ) (command : Command) → command_in line ≡ Some command → reading Zeros line ≡ Ok (Some command)
+says line command h = commanded (nat_le (length line) line_limit) (reading Zeros line) command h
 
 -- all was printed
 one_whole : (line : List ℕ) (command : Command) (old middle new : Site) (source : SourceState) (answer : Answer) (failed : ℕ) (all : Bool) → ServesLine Zeros line old.world (Some answer) middle.world
@@ -92,9 +90,9 @@ ran line command old middle new source None end status answered serves is first 
 ran line command old middle new source (Some answer) end status answered serves is first c = one_command line command old middle new source answer end status serves is first c
 
 -- the command was served, printed, and the drawers closed
-pub ran_command : (line : List ℕ) (command : Command) (old middle new : Site) (source : SourceState) (end : LineEnd) (refused : Bool) (status : Status) → asked_in line ≡ Some command
+pub ran_command : (line : List ℕ) (command : Command) (old middle new : Site) (source : SourceState) (end : LineEnd) (refused : Bool) (status : Status) → command_in line ≡ Some command
     → ServesAndPrints Zeros line old.world old.sink (Ok end) middle.world middle.sink → refused ≡ is_refusal end → ClosesAndPrints refused middle status new
-    → RunsUnless (RunsLine line (asked_in line)) (whole_of old source) status (whole_of new source)
+    → RunsUnless (RunsLine line (command_in line)) (whole_of old source) status (whole_of new source)
 ran_command line command old middle new source end refused status is s same c =
     subst (λ (o : Option Command). RunsUnless (RunsLine line o) (whole_of old source) status (whole_of new source)) (sym is)
     (ran line command old middle new source s.answer end status
@@ -116,9 +114,9 @@ broke line command old middle new source (Some answer) failed answered serves pa
     }
 
 -- the command was served, and its answer was not printed
-pub broke_command : (line : List ℕ) (command : Command) (old middle new : Site) (source : SourceState) (end : WriteEnd) (failed : ℕ) → asked_in line ≡ Some command
+pub broke_command : (line : List ℕ) (command : Command) (old middle new : Site) (source : SourceState) (end : WriteEnd) (failed : ℕ) → command_in line ≡ Some command
     → ServesAndPrints Zeros line old.world old.sink (Err end) middle.world middle.sink → ClosesWorld middle.world failed new.world → new.sink ≡ middle.sink
-    → RunsUnless (RunsLine line (asked_in line)) (whole_of old source) WriteFault (whole_of new source)
+    → RunsUnless (RunsLine line (command_in line)) (whole_of old source) WriteFault (whole_of new source)
 broke_command line command old middle new source end failed is s closes same =
     subst (λ (o : Option Command). RunsUnless (RunsLine line o) (whole_of old source) WriteFault (whole_of new source)) (sym is)
     (broke line command old middle new source s.answer failed

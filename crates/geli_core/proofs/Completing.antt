@@ -3,19 +3,17 @@ use Rattle.std.specs.Io.KnownBytes.{prepend_known}
 use Rattle.std.proofs.lemmas.List.{append-nil}
 use Rattle.std.proofs.Common.{◌∙◌, ◌++◌, ◌≡◌, ◌<◌, ◌≤◌, ℕ, List, [], ◌∷◌, length, Bool, Option, None, Some, ap, refl, sym, subst, true, false, arith}
 use Rattle.block_traits.specs.Causes.{Rose}
-use Rattle.block_traits.specs.Streams.{TookAll}
+use Rattle.block_traits.specs.Streams.{TookAll, SourceState}
 use Rattle.command_words.specs.Images.{line_of, script_images}
-use Rattle.command_words.specs.Reading.{line_limit}
+use Rattle.command_words.specs.Reading.{command_in, line_limit}
 use Rattle.command_words.specs.declared.commands.Command.{Command}
 use Rattle.command_words.specs.declared.spans.Sep.TheVariants.{Blanks}
 use Rattle.shelf.specs.Answer.{Answer}
-use Rattle.geli_core.specs.Asked.{asked_in}
 use Rattle.geli_core.specs.Complete.{CommandToEnd, Completes, CompletesBy, GaveWithinLimits, ScriptToEnd}
 use Rattle.geli_core.specs.Lines.{CutsInto, ended}
 use Rattle.geli_core.specs.Run.{RunsAndCloses, answers_text, any_refused, closing_answers}
 use Rattle.geli_core.specs.Script.{IsReadToEnd, Runs, RunsAs, RunsLine, RunsScript, Taken, Whole, script_limit}
 use Rattle.geli_core.specs.Served.{RunsUnless, status_by}
-use Rattle.geli_core.specs.Source.{SourceState}
 use Rattle.geli_core.specs.declared.status.Status.{Status}
 use Rattle.geli_core.specs.declared.status.Status.TheVariants.{Done, SomeRefused, BadWords, ReadFault, WriteFault, NoMemory, LineTooLong, ScriptTooLong}
 use Rattle.geli_core.proofs.Causes.{rose_prints}
@@ -100,9 +98,9 @@ line_complete line None old new status quiet h = tt
 line_complete line (Some command) old new status quiet h = command_complete line command old new status quiet h
 
 complete_as : (asks : Option (List (List ℕ))) (words : List (List ℕ)) (old new : Whole) (status : Status) → (Rose old.sink.faults new.sink.faults → ⊥)
-    → RunsUnless (RunsAs asks words) old status new → CompletesBy asks (asked_in (line_of words)) (line_of words) old status new
+    → RunsUnless (RunsAs asks words) old status new → CompletesBy asks (command_in (line_of words)) (line_of words) old status new
 complete_as (Some names) words old new status quiet h = λ limits. script_complete old new status quiet limits h
-complete_as None words old new status quiet h = line_complete (line_of words) (asked_in (line_of words)) old new status quiet h
+complete_as None words old new status quiet h = line_complete (line_of words) (command_in (line_of words)) old new status quiet h
 
 as_run : (words : List (List ℕ)) (old new : Whole) (status : Status) → Runs words old status new → RunsUnless (RunsAs (script_images words) words) old status new
 as_run words old new NoMemory h = h

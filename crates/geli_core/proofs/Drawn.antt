@@ -1,52 +1,47 @@
 -- What a run does to each drawer.
-use Rattle.std.proofs.Common.{◌≡◌, ◌≢◌, ◌∙◌, ◌⊎◌, inl, inr, ℕ, ◌+◌, zero, suc, List, [], ◌∷◌, ◌++◌, length, take, refl, ap, sym, subst, arith, Bool, true, false, cond, Option, None, Some, Result, Ok, Err, slice_get}
-use Rattle.std.specs.Prelude.{IfSome, option_and_then}
-use Rattle.std.specs.List.{AllByRecursion}
+use Rattle.std.proofs.Common.{◌≡◌, ◌∙◌, ◌⊎◌, inl, inr, ℕ, ◌+◌, zero, suc, List, [], ◌∷◌, ◌++◌, take, refl, ap, sym, subst, arith, Bool, true, false, cond, Option, None, Some, Result, Ok, Err, slice_get}
+use Rattle.std.specs.Prelude.{◌&&◌, ◌||◌, option_and_then}
+use Rattle.std.specs.List.{AllByRecursion, list_any, remove}
+use Rattle.std.proofs.Math.ListN.{set}
 use Rattle.std.specs.Option.{option_map}
 use Rattle.std.specs.Str.{bytes_eq}
 use Rattle.block_traits.specs.Disk.{DiskState, Logs}
 use Rattle.block_traits.specs.declared.disk.Event.{Event}
 use Rattle.block_traits.specs.declared.disk.Event.TheVariants.{Flush}
 use Rattle.block_traits.proofs.Logs.{Logs-nothing, Logs-then}
+use Rattle.command_words.specs.Reading.{reading}
 use Rattle.command_words.specs.Places.{bytes_at, provider_of}
 use Rattle.command_words.specs.declared.commands.Command.{Command}
 use Rattle.command_words.specs.declared.commands.Usage.{Usage}
 use Rattle.command_words.specs.declared.spans.Sep.{Sep}
 use Rattle.command_words.specs.declared.spans.Span.{Span}
 use Rattle.shelf.specs.Answer.{Answer}
+use Rattle.shelf.specs.Answer as answers
 use Rattle.shelf.specs.Closing.{ClosesAs, Closing, Flushes}
-use Rattle.shelf.specs.Histories.{OnlySteps, StepsAt, place_named}
+use Rattle.shelf.specs.Histories.{ChangesBy, OnlyAt, StepsAt, place_named}
+use Rattle.shelf.specs.Turn.{takes_out}
 use Rattle.shelf.specs.World.{DrawerState, Holding, Idle, IsAttached, World, place_of}
-use Rattle.shelf.proofs.Untouched.{turn_only_steps}
-use Rattle.geli_core.specs.Asked.{asked_by}
-use Rattle.geli_core.specs.Histories.{DrawerSteps, EachGrew, Grew, RunsAt, names, names_by, says_name}
+use Rattle.shelf.proofs.Untouched.{get-set, get-set_other, turn_only_steps}
+use Rattle.geli_core.specs.Histories.{AnyEjects, DrawerSteps, EachGrew, Grew, RunsAt, TakesDrawer, ejects, names, names_by, says_eject, says_name}
 use Rattle.geli_core.specs.Run.{Run, RunsAndCloses, ServesLine, ServesReading}
 
 -- ---- the drawer at a place
 
-same_some : {X : Type 0} (a b : X) → Some a ≡ Some b → a ≡ b
+pub same_some : {X : Type 0} (a b : X) → Some a ≡ Some b → a ≡ b
 same_some a b h = cc h
 
 suc_or : (a b : ℕ) → (a ≡ b) ⊎ (a ≡ b → ⊥) → (suc a ≡ suc b) ⊎ (suc a ≡ suc b → ⊥)
 suc_or a b (inl is) = inl (ap suc is)
 suc_or a b (inr other) = inr (λ h. other (let p : a ≡ b = omega (arith, h) in p))
 
-here_or : (a b : ℕ) → (a ≡ b) ⊎ (a ≡ b → ⊥)
+pub here_or : (a b : ℕ) → (a ≡ b) ⊎ (a ≡ b → ⊥)
 here_or zero zero = inl refl
 here_or zero (suc b) = inr (λ h. (let none : ⊥ = omega (arith, h) in none))
 here_or (suc a) zero = inr (λ h. (let none : ⊥ = omega (arith, h) in none))
 here_or (suc a) (suc b) = suc_or a b (here_or a b)
 
-some_or : (a b : ℕ) → (a ≡ b) ⊎ (a ≡ b → ⊥) → (Some a ≡ Some b) ⊎ (Some a ≢ Some b)
-some_or a b (inl is) = inl (ap Some is)
-some_or a b (inr other) = inr (λ h. other (same_some a b h))
-
-at_or : (place : Option ℕ) (n : ℕ) → (place ≡ Some n) ⊎ (place ≢ Some n)
-at_or None n = inr (λ h. (let none : ⊥ = cc h in none))
-at_or (Some p) n = some_or p n (here_or p n)
-
 -- the drawer at the place of a name has that name
-named_more : (same : Bool) (place : Option ℕ) (n : ℕ) → cond same (Some 0) (option_map (λ k. k + 1) place) ≡ Some n → ((same ≡ true) × (n ≡ 0)) ⊎ ((k : ℕ) × (place ≡ Some k) × (n ≡ suc k))
+pub named_more : (same : Bool) (place : Option ℕ) (n : ℕ) → cond same (Some 0) (option_map (λ k. k + 1) place) ≡ Some n → ((same ≡ true) × (n ≡ 0)) ⊎ ((k : ℕ) × (place ≡ Some k) × (n ≡ suc k))
 named_more true place n h = inl (refl, sym (same_some 0 n h))
 named_more false None n h = absurd (let none : ⊥ = cc h in none)
 named_more false (Some k) n h = inr (k, refl, (let p : k + 1 ≡ n = same_some (k + 1) n h in omega (arith, p)))
@@ -71,23 +66,29 @@ named_at line drawers (Some prov) n d h there = has_name (bytes_at line prov) dr
 
 -- ---- one line
 
-record LineAt (sep : Sep) (line : List ℕ) (answer : Option Answer) (before : DrawerState) (drawers : List DrawerState) (n : ℕ) : Type 0 where
+record LineAt (sep : Sep) (line : List ℕ) (answer : Option Answer) (before : DrawerState) (drawers : List DrawerState) : Type 0 where
+  place : ℕ
   after : DrawerState
-  there : slice_get drawers n ≡ Some after
+  there : slice_get drawers place ≡ Some after
   events : List Event
   steps : DrawerSteps sep line answer before events after
 
-stays_at : (sep : Sep) (line : List ℕ) (answer : Option Answer) (before : DrawerState) (old new : List DrawerState) (n : ℕ) → slice_get old n ≡ Some before → slice_get new n ≡ slice_get old n → LineAt sep line answer before new n
-stays_at sep line answer before old new n found same = record { after = before; there = same ∙ found; events = []; steps = inl (refl, refl) }
+-- the drawer stands in the new list, or the line takes it out
+abbrev LineOn : Sep → List ℕ → Option Answer → DrawerState → List DrawerState → Type 0
+LineOn sep line answer before drawers = LineAt sep line answer before drawers ⊎ TakesDrawer sep line answer before
 
-stepped : (sep : Sep) (line : List ℕ) (command : Command) (said : Answer) (before : DrawerState) (old new : List DrawerState) (n : ℕ) → asked_by sep line ≡ Ok (Some command) → slice_get old n ≡ Some before
-    → place_named line command old ≡ Some n → StepsAt line command said old new n → LineAt sep line (Some said) before new n
+stays_at : (sep : Sep) (line : List ℕ) (answer : Option Answer) (before : DrawerState) (old new : List DrawerState) (n k : ℕ) → slice_get old n ≡ Some before → slice_get new k ≡ slice_get old n → LineOn sep line answer before new
+stays_at sep line answer before old new n k found same = inl (record { place = k; after = before; there = same ∙ found; events = []; steps = inl (refl, refl) })
+
+stepped : (sep : Sep) (line : List ℕ) (command : Command) (said : Answer) (before : DrawerState) (old new : List DrawerState) (n : ℕ) → reading sep line ≡ Ok (Some command) → slice_get old n ≡ Some before
+    → place_named line command old ≡ Some n → StepsAt line command said old new n → LineAt sep line (Some said) before new
 stepped sep line command said before old new n asked found place h =
     let is : h.before ≡ before = same_some h.before before (sym h.found ∙ found) in
     let named : names_by (provider_of command) line before.name ≡ true = named_at line old (provider_of command) n before place found in
-    subst (λ (d : DrawerState). LineAt sep line (Some said) d new n) is (record {
+    subst (λ (d : DrawerState). LineAt sep line (Some said) d new) is (record {
+      place = n;
       after = h.after;
-      there = h.there;
+      there = rw h.others (get-set old n h.before h.after h.found);
       events = h.steps.events;
       steps = inr (record {
         command = command;
@@ -101,29 +102,65 @@ stepped sep line command said before old new n asked found place h =
       });
     })
 
-turned_at : (sep : Sep) (line : List ℕ) (command : Command) (said : Answer) (before : DrawerState) (old new : List DrawerState) (n : ℕ) → asked_by sep line ≡ Ok (Some command) → slice_get old n ≡ Some before
-    → (h : OnlySteps line command said old new) → (place_named line command old ≡ Some n) ⊎ (place_named line command old ≢ Some n) → LineAt sep line (Some said) before new n
-turned_at sep line command said before old new n asked found h (inl place) =
-    stepped sep line command said before old new n asked found place (subst (λ (o : Option ℕ). IfSome o (StepsAt line command said old new)) place h.named)
-turned_at sep line command said before old new n asked found h (inr other) = stays_at sep line (Some said) before old new n found (h.others n other)
+both_true : (a b : Bool) → a ≡ true → b ≡ true → (a && b) ≡ true
+both_true true b p q = q
+both_true false b p q = absurd (let none : ⊥ = cc p in none)
 
-read_at : (sep : Sep) (line : List ℕ) (read : Result (Option Command) Usage) (answer : Option Answer) (before : DrawerState) (old new : World) (n : ℕ) → asked_by sep line ≡ read → slice_get old.drawers n ≡ Some before
-    → ServesReading read line old answer new → LineAt sep line answer before new.drawers n
-read_at sep line (Ok None) answer before old new n asked found h = stays_at sep line answer before old.drawers new.drawers n found (ap (λ (w : World). slice_get w.drawers n) h.1)
-read_at sep line (Err usage) answer before old new n asked found h = stays_at sep line answer before old.drawers new.drawers n found (ap (λ (w : World). slice_get w.drawers n) h.1)
-read_at sep line (Ok (Some command)) None before old new n asked found h = absurd h
-read_at sep line (Ok (Some command)) (Some said) before old new n asked found h =
-    let only = turn_only_steps line command old said new h in
-    turned_at sep line command said before old.drawers new.drawers n asked found only (at_or (place_named line command old.drawers) n)
+-- a line that takes the drawer at a place out
+taken_at : (sep : Sep) (line : List ℕ) (command : Command) (said : Answer) (before : DrawerState) (old : List DrawerState) (n : ℕ) → reading sep line ≡ Ok (Some command) → takes_out command ≡ true → slice_get old n ≡ Some before
+    → place_named line command old ≡ Some n → said ≡ answers.Done → TakesDrawer sep line (Some said) before
+taken_at sep line command said before old n asked out found place done =
+    let named : names_by (provider_of command) line before.name ≡ true = named_at line old (provider_of command) n before place found in
+    record {
+      ejected = ap (λ (r : Result (Option Command) Usage). says_eject r line before.name) asked ∙ both_true (takes_out command) (names_by (provider_of command) line before.name) out named;
+      named = ap (λ (r : Result (Option Command) Usage). says_name r line before.name) asked ∙ named;
+      done = ap Some done;
+    }
 
-line_at : (sep : Sep) (line : List ℕ) (answer : Option Answer) (before : DrawerState) (old new : World) (n : ℕ) → slice_get old.drawers n ≡ Some before → ServesLine sep line old answer new → LineAt sep line answer before new.drawers n
-line_at sep line answer before old new n found h = read_at sep line (asked_by sep line) answer before old new n refl found h
+-- what stands at another place is still in the list
+get-removed : {X : Type 0} (xs : List X) (place n : ℕ) → (place ≡ n → ⊥) → (k : ℕ) × (slice_get (remove xs place) k ≡ slice_get xs n)
+get-removed [] zero n other = (n, refl)
+get-removed [] (suc place) n other = (n, refl)
+get-removed (x ∷ xs) zero zero other = absurd (other refl)
+get-removed (x ∷ xs) zero (suc n) other = (n, refl)
+get-removed (x ∷ xs) (suc place) zero other = (0, refl)
+get-removed (x ∷ xs) (suc place) (suc n) other =
+    let r = get-removed xs place n (λ same. other (ap suc same)) in
+    (suc r.0, r.1)
 
-step_name : (sep : Sep) (line : List ℕ) (answer : Option Answer) (old : DrawerState) (events : List Event) (new : DrawerState) → DrawerSteps sep line answer old events new → new.name ≡ old.name
+changed_on : (sep : Sep) (line : List ℕ) (command : Command) (said : Answer) (before : DrawerState) (old new : List DrawerState) (n place : ℕ) (out : Bool) → takes_out command ≡ out → reading sep line ≡ Ok (Some command)
+    → slice_get old n ≡ Some before → place_named line command old ≡ Some place → ChangesBy out line command said old new place → (place ≡ n) ⊎ (place ≡ n → ⊥) → LineOn sep line (Some said) before new
+changed_on sep line command said before old new n place true is asked found at h (inl here) =
+    inr (taken_at sep line command said before old n asked is found (at ∙ ap Some here) h.done)
+changed_on sep line command said before old new n place true is asked found at h (inr other) =
+    let r = get-removed old place n other in
+    stays_at sep line (Some said) before old new n r.0 found (ap (λ (l : List DrawerState). slice_get l r.0) h.others ∙ r.1)
+changed_on sep line command said before old new n place false is asked found at h (inl here) =
+    inl (stepped sep line command said before old new n asked found (at ∙ ap Some here) (subst (λ (k : ℕ). StepsAt line command said old new k) here h))
+changed_on sep line command said before old new n place false is asked found at h (inr other) =
+    stays_at sep line (Some said) before old new n n found (ap (λ (l : List DrawerState). slice_get l n) h.others ∙ get-set_other old place n h.after other)
+
+turned_on : (sep : Sep) (line : List ℕ) (command : Command) (said : Answer) (before : DrawerState) (old new : List DrawerState) (n : ℕ) (place : Option ℕ) → reading sep line ≡ Ok (Some command) → slice_get old n ≡ Some before
+    → place_named line command old ≡ place → OnlyAt line command said old new place → LineOn sep line (Some said) before new
+turned_on sep line command said before old new n None asked found at h = stays_at sep line (Some said) before old new n n found (ap (λ (l : List DrawerState). slice_get l n) h)
+turned_on sep line command said before old new n (Some place) asked found at h = changed_on sep line command said before old new n place (takes_out command) refl asked found at h (here_or place n)
+
+read_on : (sep : Sep) (line : List ℕ) (read : Result (Option Command) Usage) (answer : Option Answer) (before : DrawerState) (old new : World) (n : ℕ) → reading sep line ≡ read → slice_get old.drawers n ≡ Some before
+    → ServesReading read line old answer new → LineOn sep line answer before new.drawers
+read_on sep line (Ok None) answer before old new n asked found h = stays_at sep line answer before old.drawers new.drawers n n found (ap (λ (w : World). slice_get w.drawers n) h.1)
+read_on sep line (Err usage) answer before old new n asked found h = stays_at sep line answer before old.drawers new.drawers n n found (ap (λ (w : World). slice_get w.drawers n) h.1)
+read_on sep line (Ok (Some command)) None before old new n asked found h = absurd h
+read_on sep line (Ok (Some command)) (Some said) before old new n asked found h =
+    turned_on sep line command said before old.drawers new.drawers n (place_named line command old.drawers) asked found refl (turn_only_steps line command old said new h)
+
+line_on : (sep : Sep) (line : List ℕ) (answer : Option Answer) (before : DrawerState) (old new : World) (n : ℕ) → slice_get old.drawers n ≡ Some before → ServesLine sep line old answer new → LineOn sep line answer before new.drawers
+line_on sep line answer before old new n found h = read_on sep line (reading sep line) answer before old new n refl found h
+
+pub step_name : (sep : Sep) (line : List ℕ) (answer : Option Answer) (old : DrawerState) (events : List Event) (new : DrawerState) → DrawerSteps sep line answer old events new → new.name ≡ old.name
 step_name sep line answer old events new (inl stays) = ap (λ (d : DrawerState). d.name) stays.0
 step_name sep line answer old events new (inr h) = h.name
 
-step_logs : (sep : Sep) (line : List ℕ) (answer : Option Answer) (old : DrawerState) (events : List Event) (new : DrawerState) → DrawerSteps sep line answer old events new → Logs events old.disk new.disk
+pub step_logs : (sep : Sep) (line : List ℕ) (answer : Option Answer) (old : DrawerState) (events : List Event) (new : DrawerState) → DrawerSteps sep line answer old events new → Logs events old.disk new.disk
 step_logs sep line answer old events new (inl stays) = rw (stays.0, stays.1) (Logs-nothing old.disk)
 step_logs sep line answer old events new (inr h) = h.logs
 
@@ -134,34 +171,56 @@ step_unnamed sep line answer old events new (inr h) unnamed = absurd (let bad : 
 -- ---- a run
 
 -- the line, and then the others
-run_more : (sep : Sep) (line : List ℕ) (lines : List (List ℕ)) (answer : Option Answer) (answers : List (Option Answer)) (before : DrawerState) (middle drawers : List DrawerState) (n : ℕ) → (l : LineAt sep line answer before middle n)
-    → RunsAt sep lines answers l.after drawers n → RunsAt sep (line ∷ lines) (answer ∷ answers) before drawers n
-run_more sep line lines answer answers before middle drawers n l r = record {
-  after = r.after;
+run_more : (sep : Sep) (line : List ℕ) (lines : List (List ℕ)) (answer : Option Answer) (answers : List (Option Answer)) (before : DrawerState) (middle drawers : List DrawerState) → (l : LineAt sep line answer before middle)
+    → RunsAt sep lines answers l.after drawers → RunsAt sep (line ∷ lines) (answer ∷ answers) before drawers
+run_more sep line lines answer answers before middle drawers l r = record {
   there = r.there;
+  last = r.last;
   events = l.events ++ r.events;
-  runs = (l.after, l.events, r.events, l.steps, r.runs, refl);
+  runs = inl (l.after, l.events, r.events, l.steps, r.runs, refl);
+  ends = r.ends;
   name = r.name ∙ step_name sep line answer before l.events l.after l.steps;
   logs = Logs-then l.events r.events (step_logs sep line answer before l.events l.after l.steps) r.logs;
   unnamed = λ h.
       let one : l.after ≡ before = step_unnamed sep line answer before l.events l.after l.steps h.0 in
       let behind = subst (λ (d : DrawerState). AllByRecursion (λ line. names sep line d.name ≡ false) lines) (sym one) h.1 in
-      r.unnamed behind ∙ one;
+      let rest = r.unnamed behind in
+      (rest.0, rest.1 ∙ one);
 }
 
-pub run_at : (sep : Sep) (lines : List (List ℕ)) (answers : List (Option Answer)) (old new : World) (before : DrawerState) (n : ℕ) → Run sep old lines answers new → slice_get old.drawers n ≡ Some before → RunsAt sep lines answers before new.drawers n
-run_at sep [] [] old new before n run found = record {
-  after = before;
-  there = ap (λ (w : World). slice_get w.drawers n) run ∙ found;
+-- the line takes the drawer out, and the others do nothing to it
+run_taken : (sep : Sep) (line : List ℕ) (lines : List (List ℕ)) (answer : Option Answer) (answers : List (Option Answer)) (before : DrawerState) (drawers : List DrawerState) → TakesDrawer sep line answer before
+    → RunsAt sep (line ∷ lines) (answer ∷ answers) before drawers
+run_taken sep line lines answer answers before drawers t = record {
+  there = false;
+  last = before;
   events = [];
-  runs = (refl, refl);
+  runs = inr (t, refl, refl, refl);
+  ends = tt;
   name = refl;
   logs = Logs-nothing before.disk;
-  unnamed = λ h. refl;
+  unnamed = λ h. absurd (let bad : true ≡ false = sym t.named ∙ h.0 in (let none : ⊥ = cc bad in none));
+}
+
+-- the line, and then the others, whatever becomes of the drawer
+run_behind : (sep : Sep) (line : List ℕ) (lines : List (List ℕ)) (answer : Option Answer) (answers : List (Option Answer)) (before : DrawerState) (middle drawers : List DrawerState) → LineOn sep line answer before middle
+    → ((l : LineAt sep line answer before middle) → RunsAt sep lines answers l.after drawers) → RunsAt sep (line ∷ lines) (answer ∷ answers) before drawers
+run_behind sep line lines answer answers before middle drawers (inl l) rest = run_more sep line lines answer answers before middle drawers l (rest l)
+run_behind sep line lines answer answers before middle drawers (inr t) rest = run_taken sep line lines answer answers before drawers t
+
+pub run_at : (sep : Sep) (lines : List (List ℕ)) (answers : List (Option Answer)) (old new : World) (before : DrawerState) (n : ℕ) → Run sep old lines answers new → slice_get old.drawers n ≡ Some before → RunsAt sep lines answers before new.drawers
+run_at sep [] [] old new before n run found = record {
+  there = true;
+  last = before;
+  events = [];
+  runs = (refl, refl, refl);
+  ends = (n, ap (λ (w : World). slice_get w.drawers n) run ∙ found);
+  name = refl;
+  logs = Logs-nothing before.disk;
+  unnamed = λ h. (refl, refl);
 }
 run_at sep (line ∷ lines) (answer ∷ answers) old new before n run found =
-    let l = line_at sep line answer before old run.0 n found run.1 in
-    run_more sep line lines answer answers before run.0.drawers new.drawers n l (run_at sep lines answers run.0 new l.after n run.2 l.there)
+    run_behind sep line lines answer answers before run.0.drawers new.drawers (line_on sep line answer before old run.0 n found run.1) (λ l. run_at sep lines answers run.0 new l.after l.place run.2 l.there)
 run_at sep [] (answer ∷ answers) old new before n run found = absurd run
 run_at sep (line ∷ lines) [] old new before n run found = absurd run
 
@@ -170,56 +229,91 @@ run_at sep (line ∷ lines) [] old new before n run found = absurd run
 grew_then : (old middle new : DrawerState) → Grew old middle → Grew middle new → Grew old new
 grew_then old middle new a b = record { name = b.name ∙ a.name; events = a.events ++ b.events; logs = Logs-then a.events b.events a.logs b.logs }
 
-each_same : (drawers : List DrawerState) → EachGrew drawers drawers
-each_same [] = tt
-each_same (d ∷ ds) = (record { name = refl; events = []; logs = Logs-nothing d.disk }, each_same ds)
+grew_same : (d : DrawerState) → Grew d d
+grew_same d = record { name = refl; events = []; logs = Logs-nothing d.disk }
 
-pub each_as : (old new : World) → new ≡ old → EachGrew old.drawers new.drawers
-each_as old new is = rw is (each_same old.drawers)
+pub each_same : (Gone : List ℕ → Type 0) (drawers : List DrawerState) → EachGrew Gone drawers drawers
+each_same Gone [] = tt
+each_same Gone (d ∷ ds) = inl (grew_same d, each_same Gone ds)
 
-each_then : (olds middles news : List DrawerState) → EachGrew olds middles → EachGrew middles news → EachGrew olds news
-each_then [] [] [] a b = tt
-each_then (o ∷ os) (m ∷ ms) (n ∷ ns) a b = (grew_then o m n a.0 b.0, each_then os ms ns a.1 b.1)
-each_then [] [] (n ∷ ns) a b = absurd b
-each_then [] (m ∷ ms) news a b = absurd a
-each_then (o ∷ os) [] news a b = absurd a
-each_then (o ∷ os) (m ∷ ms) [] a b = absurd b
+pub each_as : (Gone : List ℕ → Type 0) (old new : World) → new ≡ old → EachGrew Gone old.drawers new.drawers
+each_as Gone old new is = rw is (each_same Gone old.drawers)
 
--- the drawer at a place of a list grew into that at the same place of another
-record GrewAt (before : DrawerState) (drawers : List DrawerState) (n : ℕ) : Type 0 where
-  after : DrawerState
-  there : slice_get drawers n ≡ Some after
-  grew : Grew before after
+-- one more that is gone
+each_left : (Gone : List ℕ → Type 0) (o : DrawerState) (os news : List DrawerState) → Gone o.name → EachGrew Gone os news → EachGrew Gone (o ∷ os) news
+each_left Gone o os [] gone h = (gone, h)
+each_left Gone o os (n ∷ ns) gone h = inr (gone, h)
 
-each_from : (olds news : List DrawerState) → length news ≡ length olds → ((n : ℕ) (before : DrawerState) → slice_get olds n ≡ Some before → GrewAt before news n) → EachGrew olds news
-each_from [] [] count at = tt
-each_from [] (n ∷ ns) count at = absurd (let none : ⊥ = omega (arith, count) in none)
-each_from (o ∷ os) [] count at = absurd (let none : ⊥ = omega (arith, count) in none)
-each_from (o ∷ os) (n ∷ ns) count at =
-    let first = at 0 o refl in
-    (subst (λ (d : DrawerState). Grew o d) (sym (same_some n first.after first.there)) first.grew, each_from os ns (omega (arith, count)) (λ k before found. (let g = at (suc k) before found in record { after = g.after; there = g.there; grew = g.grew })))
+-- one more that was there, and then grew or is gone
+each_kept : (Gone : List ℕ → Type 0) (o m : DrawerState) (os ms news : List DrawerState) → Grew o m → ((others : List DrawerState) → EachGrew Gone ms others → EachGrew Gone os others) → EachGrew Gone (m ∷ ms) news → EachGrew Gone (o ∷ os) news
+each_kept Gone o m os ms [] grew rest b = (subst Gone grew.name b.0, rest [] b.1)
+each_kept Gone o m os ms (n ∷ ns) grew rest (inl b) = inl (grew_then o m n grew b.0, rest ns b.1)
+each_kept Gone o m os ms (n ∷ ns) grew rest (inr b) = inr (subst Gone grew.name b.0, rest (n ∷ ns) b.1)
 
-read_count : (line : List ℕ) (read : Result (Option Command) Usage) (answer : Option Answer) (old new : World) → ServesReading read line old answer new → length new.drawers ≡ length old.drawers
-read_count line (Ok None) answer old new h = ap (λ (w : World). length w.drawers) h.1
-read_count line (Err usage) answer old new h = ap (λ (w : World). length w.drawers) h.1
-read_count line (Ok (Some command)) None old new h = absurd h
-read_count line (Ok (Some command)) (Some said) old new h = (turn_only_steps line command old said new h).count
+each_then : (Gone : List ℕ → Type 0) (olds middles news : List DrawerState) → EachGrew Gone olds middles → EachGrew Gone middles news → EachGrew Gone olds news
+each_then Gone [] [] news a b = b
+each_then Gone [] (m ∷ ms) news a b = absurd a
+each_then Gone (o ∷ os) [] news a b = each_left Gone o os news a.0 (each_then Gone os [] news a.1 b)
+each_then Gone (o ∷ os) (m ∷ ms) news (inl a) b = each_kept Gone o m os ms news a.0 (λ others. each_then Gone os ms others a.1) b
+each_then Gone (o ∷ os) (m ∷ ms) news (inr a) b = each_left Gone o os news a.0 (each_then Gone os (m ∷ ms) news a.1 b)
 
-line_grew : (sep : Sep) (line : List ℕ) (answer : Option Answer) (old new : World) → ServesLine sep line old answer new → EachGrew old.drawers new.drawers
-line_grew sep line answer old new h =
-    each_from old.drawers new.drawers (read_count line (asked_by sep line) answer old new h)
-    (λ n before found.
-    let l = line_at sep line answer before old new n found h in
-    record {
-      after = l.after;
-      there = l.there;
-      grew = record { name = step_name sep line answer before l.events l.after l.steps; events = l.events; logs = step_logs sep line answer before l.events l.after l.steps };
-    })
+-- more may be gone
+pub each_weaker : (Gone More : List ℕ → Type 0) (olds news : List DrawerState) → ((name : List ℕ) → Gone name → More name) → EachGrew Gone olds news → EachGrew More olds news
+each_weaker Gone More [] [] more h = tt
+each_weaker Gone More [] (n ∷ ns) more h = absurd h
+each_weaker Gone More (o ∷ os) [] more h = (more o.name h.0, each_weaker Gone More os [] more h.1)
+each_weaker Gone More (o ∷ os) (n ∷ ns) more (inl h) = inl (h.0, each_weaker Gone More os ns more h.1)
+each_weaker Gone More (o ∷ os) (n ∷ ns) more (inr h) = inr (more o.name h.0, each_weaker Gone More os (n ∷ ns) more h.1)
 
-run_grew : (sep : Sep) (old : World) (lines : List (List ℕ)) (answers : List (Option Answer)) (new : World) → Run sep old lines answers new → EachGrew old.drawers new.drawers
-run_grew sep old [] [] new run = each_as old new run
+-- one drawer changes
+each_set : (Gone : List ℕ → Type 0) (drawers : List DrawerState) (place : ℕ) (before after : DrawerState) → slice_get drawers place ≡ Some before → Grew before after → EachGrew Gone drawers (set drawers place after)
+each_set Gone [] place before after found grew = absurd (let none : ⊥ = cc found in none)
+each_set Gone (d ∷ ds) zero before after found grew = inl (subst (λ (x : DrawerState). Grew x after) (sym (same_some d before found)) grew, each_same Gone ds)
+each_set Gone (d ∷ ds) (suc place) before after found grew = inl (grew_same d, each_set Gone ds place before after found grew)
+
+-- one is taken out
+each_removed : (Gone : List ℕ → Type 0) (drawers : List DrawerState) (place : ℕ) (before : DrawerState) → slice_get drawers place ≡ Some before → Gone before.name → EachGrew Gone drawers (remove drawers place)
+each_removed Gone [] place before found gone = absurd (let none : ⊥ = cc found in none)
+each_removed Gone (d ∷ ds) zero before found gone = each_left Gone d ds ds (subst (λ (x : DrawerState). Gone x.name) (sym (same_some d before found)) gone) (each_same Gone ds)
+each_removed Gone (d ∷ ds) (suc place) before found gone = inl (grew_same d, each_removed Gone ds place before found gone)
+
+changed_grew : (sep : Sep) (line : List ℕ) (command : Command) (said : Answer) (old new : List DrawerState) (place : ℕ) (out : Bool) → takes_out command ≡ out → reading sep line ≡ Ok (Some command) → place_named line command old ≡ Some place
+    → ChangesBy out line command said old new place → EachGrew (λ name. ejects sep line name ≡ true) old new
+changed_grew sep line command said old new place true is asked at h =
+    let t = taken_at sep line command said h.before old place asked is h.found at h.done in
+    rw h.others (each_removed (λ name. ejects sep line name ≡ true) old place h.before h.found t.ejected)
+changed_grew sep line command said old new place false is asked at h =
+    rw h.others (each_set (λ name. ejects sep line name ≡ true) old place h.before h.after h.found (record { name = h.steps.name; events = h.steps.events; logs = h.steps.logs }))
+
+turned_grew : (sep : Sep) (line : List ℕ) (command : Command) (said : Answer) (old new : List DrawerState) (place : Option ℕ) → reading sep line ≡ Ok (Some command) → place_named line command old ≡ place → OnlyAt line command said old new place
+    → EachGrew (λ name. ejects sep line name ≡ true) old new
+turned_grew sep line command said old new None asked at h = rw h (each_same (λ name. ejects sep line name ≡ true) old)
+turned_grew sep line command said old new (Some place) asked at h = changed_grew sep line command said old new place (takes_out command) refl asked at h
+
+read_grew : (sep : Sep) (line : List ℕ) (read : Result (Option Command) Usage) (answer : Option Answer) (old new : World) → reading sep line ≡ read → ServesReading read line old answer new
+    → EachGrew (λ name. ejects sep line name ≡ true) old.drawers new.drawers
+read_grew sep line (Ok None) answer old new asked h = each_as (λ name. ejects sep line name ≡ true) old new h.1
+read_grew sep line (Err usage) answer old new asked h = each_as (λ name. ejects sep line name ≡ true) old new h.1
+read_grew sep line (Ok (Some command)) None old new asked h = absurd h
+read_grew sep line (Ok (Some command)) (Some said) old new asked h =
+    turned_grew sep line command said old.drawers new.drawers (place_named line command old.drawers) asked refl (turn_only_steps line command old said new h)
+
+pub any_here : (a b : Bool) → a ≡ true → (a || b) ≡ true
+any_here true b h = refl
+any_here false b h = absurd (let none : ⊥ = cc h in none)
+
+any_behind : (a b : Bool) → b ≡ true → (a || b) ≡ true
+any_behind true b h = refl
+any_behind false b h = h
+
+run_grew : (sep : Sep) (old : World) (lines : List (List ℕ)) (answers : List (Option Answer)) (new : World) → Run sep old lines answers new → EachGrew (AnyEjects sep lines) old.drawers new.drawers
+run_grew sep old [] [] new run = each_as (AnyEjects sep []) old new run
 run_grew sep old (line ∷ lines) (answer ∷ answers) new run =
-    each_then old.drawers run.0.drawers new.drawers (line_grew sep line answer old run.0 run.1) (run_grew sep run.0 lines answers new run.2)
+    each_then (AnyEjects sep (line ∷ lines)) old.drawers run.0.drawers new.drawers
+    (each_weaker (λ name. ejects sep line name ≡ true) (AnyEjects sep (line ∷ lines)) old.drawers run.0.drawers (λ name h. any_here (ejects sep line name) (list_any (λ l. ejects sep l name) lines) h)
+    (read_grew sep line (reading sep line) answer old run.0 refl run.1))
+    (each_weaker (AnyEjects sep lines) (AnyEjects sep (line ∷ lines)) run.0.drawers new.drawers (λ name h. any_behind (ejects sep line name) (list_any (λ l. ejects sep l name) lines) h)
+    (run_grew sep run.0 lines answers new run.2))
 run_grew sep old [] (answer ∷ answers) new run = absurd run
 run_grew sep old (line ∷ lines) [] new run = absurd run
 
@@ -233,11 +327,11 @@ closed_grew (IsAttached a) old failed new h =
     let l = flushed_logs failed old.disk new.disk h.0 in
     record { name = ap (λ (d : DrawerState). d.name) h.1; events = l.0; logs = l.1 }
 
-closing_grew : (olds : List DrawerState) (count : ℕ) (news : List DrawerState) → Closing olds count news → EachGrew olds news
-closing_grew [] count news h = rw h.1 tt
-closing_grew (d ∷ ds) count news h =
-    subst (EachGrew (d ∷ ds)) (sym h.7) (closed_grew d.holding d h.0 h.1 h.4, closing_grew ds h.2 h.3 h.5)
+closing_grew : (Gone : List ℕ → Type 0) (olds : List DrawerState) (count : ℕ) (news : List DrawerState) → Closing olds count news → EachGrew Gone olds news
+closing_grew Gone [] count news h = rw h.1 tt
+closing_grew Gone (d ∷ ds) count news h =
+    subst (EachGrew Gone (d ∷ ds)) (sym h.7) (inl (closed_grew d.holding d h.0 h.1 h.4, closing_grew Gone ds h.2 h.3 h.5))
 
-pub closed_run_grew : (sep : Sep) (old : World) (lines : List (List ℕ)) (answers : List (Option Answer)) (failed : ℕ) (new : World) → RunsAndCloses sep old lines answers failed new → EachGrew old.drawers new.drawers
+pub closed_run_grew : (sep : Sep) (old : World) (lines : List (List ℕ)) (answers : List (Option Answer)) (failed : ℕ) (new : World) → RunsAndCloses sep old lines answers failed new → EachGrew (AnyEjects sep lines) old.drawers new.drawers
 closed_run_grew sep old lines answers failed new h =
-    each_then old.drawers h.middle.drawers new.drawers (run_grew sep old lines answers h.middle h.run) (closing_grew h.middle.drawers failed new.drawers h.closes.drawers)
+    each_then (AnyEjects sep lines) old.drawers h.middle.drawers new.drawers (run_grew sep old lines answers h.middle h.run) (closing_grew (AnyEjects sep lines) h.middle.drawers failed new.drawers h.closes.drawers)

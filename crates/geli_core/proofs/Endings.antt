@@ -4,7 +4,7 @@ use Rattle.std.specs.Prelude.{◌||◌, nat_lt}
 use Rattle.std.proofs.Common.{zero, suc}
 use Rattle.std.proofs.lemmas.Bool.Decides.{nat_tests}
 use Rattle.std.proofs.lemmas.List.{replicate-append-replicate}
-use Rattle.eli_base.specs.declared.Refusal.TheVariants as refusals
+use Rattle.eli_base.specs.declared.refusals.Refusal.TheVariants as refusals
 use Rattle.shelf.specs.Answer as answers
 use Rattle.shelf.specs.Answer.{answer_text}
 use Rattle.std.proofs.lemmas.List.{append-nil}
@@ -12,18 +12,17 @@ use Rattle.std.proofs.lemmas.Grind.{flat_map-append}
 use Rattle.std.proofs.lemmas.List.Folds.{list_any-append}
 use Rattle.std.specs.Io.KnownBytes.{IsAtEnd, prepend_known}
 use Rattle.block_traits.specs.Causes.{Rose}
-use Rattle.block_traits.specs.Streams.{SinkState, TookAll, TookPart}
+use Rattle.block_traits.specs.Streams.{SinkState, TookAll, TookPart, SourceState}
 use Rattle.command_words.specs.Reading.{line_limit}
 use Rattle.command_words.specs.declared.spans.Sep.TheVariants.{Blanks}
 use Rattle.shelf.specs.Answer.{Answer}
-use Rattle.reply_text.specs.declared.WriteEnd.{WriteEnd}
+use Rattle.reply_text.specs.declared.print.WriteEnd.{WriteEnd}
 use Rattle.reply_text.proofs.Printing.{TookAll-then}
 use Rattle.shelf.specs.Closing.{ClosesWorld}
 use Rattle.geli_core.specs.Lines.{CutsInto, last_line}
 use Rattle.geli_core.specs.Run.{FailsInLast, ServesAndPrints, ServesLine, answers_text, any_refused, closing_answers, is_refusal, refuses, text_of}
 use Rattle.geli_core.specs.Script.{RunsScript, script_limit}
 use Rattle.geli_core.specs.Served.{ClosesAndPrints, IsAllServed, IsAllUnprinted, IsServed, IsTaken, PrintsClosing, ServesAll, ServesLines, Site, StopsWithin, status_by, whole_of}
-use Rattle.geli_core.specs.Source.{SourceState}
 use Rattle.geli_core.specs.declared.feeding.Stop.TheVariants.{TooLong, Unprinted}
 use Rattle.geli_core.specs.declared.serving.LineEnd.{LineEnd}
 use Rattle.geli_core.specs.declared.status.Status.{Status}

@@ -1,8 +1,15 @@
+pub mod Bounding
+pub mod Counting
 pub mod Causes
 pub mod Commands
 pub mod Completing
 pub mod Drawn
 pub mod Endings
+pub mod Keyings
 pub mod LineLaws
+pub mod Outside
+pub mod Bounded
 pub mod Pieces
+pub mod Placing
 pub mod Running
+pub mod Surviving

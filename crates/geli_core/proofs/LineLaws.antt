@@ -1,6 +1,7 @@
 -- The laws of a line that is served.
 use Rattle.std.proofs.Common.{◌≡◌, ℕ, List, Option, None, Some, Result, Ok, Err, refl, subst}
 use Rattle.std.specs.Prelude.{IsTrue, MatchOption}
+use Rattle.command_words.specs.Reading.{reading}
 use Rattle.command_words.specs.Places.{bytes_at}
 use Rattle.command_words.specs.declared.commands.Command.{Command}
 use Rattle.command_words.specs.declared.commands.Command.TheVariants as commands
@@ -13,38 +14,42 @@ use Rattle.shelf.specs.Answer as answers
 use Rattle.shelf.specs.Causes.{Caused, CausedAt, may_lack_memory}
 use Rattle.shelf.specs.Turn.{Turn}
 use Rattle.shelf.specs.World.{World, place_of}
-use Rattle.shelf.proofs.Causing.{refusal_caused}
+use Rattle.shelf.proofs.Counting.{turn_counts}
+use Rattle.shelf.proofs.LineCauses.{refusal_caused}
+use Rattle.shelf.proofs.Stopped.{turn_leaves}
 use Rattle.shelf.proofs.Untouched.{turn_only_steps}
-use Rattle.geli_core.specs.Asked.{asked_by}
-use Rattle.geli_core.specs.Laws.{IfRefused, KeepsLaws, LineKeepsLaws}
-use Rattle.geli_core.specs.Run.{ServesLine, ServesReading}
+use Rattle.block_traits.specs.Streams.{SinkState}
+use Rattle.reply_text.specs.declared.print.WriteEnd.{WriteEnd}
+use Rattle.geli_core.specs.Laws.{IfRefused, KeepsLaws, LineKeepsLaws, ServesLawfully}
+use Rattle.geli_core.specs.Run.{ServesAndPrints, ServesLine, ServesReading}
+use Rattle.geli_core.specs.declared.serving.LineEnd.{LineEnd}
 
 -- ---- want of memory
 
 -- a line that names a drawer lacks memory only where its verb may
-lacks_at : (command : Command) (old new : World) (place : Option ℕ) → MatchOption place (refusals.NoMemory ≡ refusals.UnknownProvider) (CausedAt command refusals.NoMemory old new)
+lacks_at : (line : List ℕ) (command : Command) (old new : World) (place : Option ℕ) → MatchOption place (refusals.NoMemory ≡ refusals.UnknownProvider) (CausedAt line command refusals.NoMemory old new)
     → IsTrue (may_lack_memory command)
-lacks_at command old new None h = absurd (let none : ⊥ = cc h in none)
-lacks_at command old new (Some place) h = h.cause
+lacks_at line command old new None h = absurd (let none : ⊥ = cc h in none)
+lacks_at line command old new (Some place) h = h.cause
 
 lacks : (line : List ℕ) (command : Command) (old new : World) → Caused line command refusals.NoMemory old new → IsTrue (may_lack_memory command)
 lacks line (commands.Init prov cipher auth keylen sectorsize iterations autoresize fresh backup) old new h = refl
 lacks line (commands.Attach prov only_check readonly slot words) old new h = refl
 lacks line commands.List old new h = refl
-lacks line (commands.Detach prov) old new h = lacks_at (commands.Detach prov) old new (place_of (bytes_at line prov) old.drawers) h
-lacks line (commands.Setkey prov iterations slot words fresh) old new h = lacks_at (commands.Setkey prov iterations slot words fresh) old new (place_of (bytes_at line prov) old.drawers) h
-lacks line (commands.Delkey prov all force slot) old new h = lacks_at (commands.Delkey prov all force slot) old new (place_of (bytes_at line prov) old.drawers) h
-lacks line (commands.Kill prov) old new h = lacks_at (commands.Kill prov) old new (place_of (bytes_at line prov) old.drawers) h
-lacks line (commands.Backup prov file) old new h = lacks_at (commands.Backup prov file) old new (place_of (bytes_at line prov) old.drawers) h
-lacks line (commands.Restore file prov force) old new h = lacks_at (commands.Restore file prov force) old new (place_of (bytes_at line prov) old.drawers) h
-lacks line (commands.Resize prov oldsize) old new h = lacks_at (commands.Resize prov oldsize) old new (place_of (bytes_at line prov) old.drawers) h
-lacks line (commands.Dump prov) old new h = lacks_at (commands.Dump prov) old new (place_of (bytes_at line prov) old.drawers) h
-lacks line (commands.Read prov sector count) old new h = lacks_at (commands.Read prov sector count) old new (place_of (bytes_at line prov) old.drawers) h
-lacks line (commands.Write prov sector hex) old new h = lacks_at (commands.Write prov sector hex) old new (place_of (bytes_at line prov) old.drawers) h
-lacks line (commands.Flush prov) old new h = lacks_at (commands.Flush prov) old new (place_of (bytes_at line prov) old.drawers) h
-lacks line (commands.Fill prov seed start count) old new h = lacks_at (commands.Fill prov seed start count) old new (place_of (bytes_at line prov) old.drawers) h
-lacks line (commands.Sum prov start count) old new h = lacks_at (commands.Sum prov start count) old new (place_of (bytes_at line prov) old.drawers) h
-lacks line (commands.Eject prov) old new h = lacks_at (commands.Eject prov) old new (place_of (bytes_at line prov) old.drawers) h
+lacks line (commands.Detach prov) old new h = lacks_at line (commands.Detach prov) old new (place_of (bytes_at line prov) old.drawers) h
+lacks line (commands.Setkey prov iterations slot words fresh) old new h = lacks_at line (commands.Setkey prov iterations slot words fresh) old new (place_of (bytes_at line prov) old.drawers) h
+lacks line (commands.Delkey prov all force slot) old new h = lacks_at line (commands.Delkey prov all force slot) old new (place_of (bytes_at line prov) old.drawers) h
+lacks line (commands.Kill prov) old new h = lacks_at line (commands.Kill prov) old new (place_of (bytes_at line prov) old.drawers) h
+lacks line (commands.Backup prov file) old new h = lacks_at line (commands.Backup prov file) old new (place_of (bytes_at line prov) old.drawers) h
+lacks line (commands.Restore file prov force) old new h = lacks_at line (commands.Restore file prov force) old new (place_of (bytes_at line prov) old.drawers) h
+lacks line (commands.Resize prov oldsize) old new h = lacks_at line (commands.Resize prov oldsize) old new (place_of (bytes_at line prov) old.drawers) h
+lacks line (commands.Dump prov) old new h = lacks_at line (commands.Dump prov) old new (place_of (bytes_at line prov) old.drawers) h
+lacks line (commands.Read prov sector count) old new h = lacks_at line (commands.Read prov sector count) old new (place_of (bytes_at line prov) old.drawers) h
+lacks line (commands.Write prov sector hex) old new h = lacks_at line (commands.Write prov sector hex) old new (place_of (bytes_at line prov) old.drawers) h
+lacks line (commands.Flush prov) old new h = lacks_at line (commands.Flush prov) old new (place_of (bytes_at line prov) old.drawers) h
+lacks line (commands.Fill prov seed start count) old new h = lacks_at line (commands.Fill prov seed start count) old new (place_of (bytes_at line prov) old.drawers) h
+lacks line (commands.Sum prov start count) old new h = lacks_at line (commands.Sum prov start count) old new (place_of (bytes_at line prov) old.drawers) h
+lacks line (commands.Eject prov) old new h = lacks_at line (commands.Eject prov) old new (place_of (bytes_at line prov) old.drawers) h
 
 -- ---- an answer
 
@@ -70,6 +75,8 @@ turn_laws line command old answer new h =
       memory = memory_of line command old answer new caused;
       served = served_of line command old answer new caused;
       drawers = turn_only_steps line command old answer new h;
+      leaves = turn_leaves line command old answer new h;
+      counts = turn_counts line command old answer new h;
     }
 
 reading_laws : (read : Result (Option Command) Usage) (line : List ℕ) (old : World) (answer : Option Answer) (new : World) → ServesReading read line old answer new → LineKeepsLaws read line old answer new
@@ -78,5 +85,10 @@ reading_laws (Ok None) line old answer new h = tt
 reading_laws (Ok (Some command)) line old None new h = absurd h
 reading_laws (Ok (Some command)) line old (Some answer) new h = turn_laws line command old answer new h
 
-pub line_laws : (sep : Sep) (line : List ℕ) (old : World) (answer : Option Answer) (new : World) → ServesLine sep line old answer new → LineKeepsLaws (asked_by sep line) line old answer new
-line_laws sep line old answer new h = reading_laws (asked_by sep line) line old answer new h
+pub line_laws : (sep : Sep) (line : List ℕ) (old : World) (answer : Option Answer) (new : World) → ServesLine sep line old answer new → LineKeepsLaws (reading sep line) line old answer new
+line_laws sep line old answer new h = reading_laws (reading sep line) line old answer new h
+
+-- a line that was served and printed keeps them
+pub served_lawfully : (sep : Sep) (line : List ℕ) (old : World) (sink : SinkState) (result : Result LineEnd WriteEnd) (new : World) (after : SinkState) → ServesAndPrints sep line old sink result new after
+    → ServesLawfully sep line old sink result new after
+served_lawfully sep line old sink result new after h = record { answer = h.answer; serves = h.serves; prints = h.prints; laws = line_laws sep line old h.answer new h.serves }

@@ -4,7 +4,7 @@ use Rattle.std.proofs.lemmas.List.{take-append-drop, take_more}
 use Rattle.std.specs.Io.KnownBytes.{prepend_known}
 use Rattle.geli_core.specs.Served.{IsServed, IsTaken, Site, StopsBy, StopsWithin}
 use Rattle.command_words.specs.Reading.{line_limit}
-use Rattle.geli_core.specs.Source.{SourceState}
+use Rattle.block_traits.specs.Streams.{SourceState}
 use Rattle.std.proofs.Common.{Bool}
 use Rattle.geli_core.specs.declared.feeding.Stop.{Stop}
 

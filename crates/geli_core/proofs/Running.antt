@@ -11,7 +11,7 @@ use Rattle.command_words.specs.declared.spans.Sep.{Sep}
 use Rattle.command_words.specs.declared.spans.Sep.TheVariants.{Blanks}
 use Rattle.shelf.specs.Answer.{Answer}
 use Rattle.shelf.specs.Answer as answers
-use Rattle.reply_text.specs.declared.WriteEnd.{WriteEnd}
+use Rattle.reply_text.specs.declared.print.WriteEnd.{WriteEnd}
 use Rattle.reply_text.proofs.Printing.{TookAll-nothing, TookAll-then}
 use Rattle.shelf.specs.World.{World}
 use Rattle.geli_core.specs.Lines.{ended, newline}

@@ -2,19 +2,17 @@
 use Rattle.std.specs.Prelude.{◌≡◌, ℕ, ◌<◌, ◌≤◌, List, [], ◌∷◌, ◌++◌, length, Option, Some, None}
 use Rattle.std.specs.Io.KnownBytes.{IsAtEnd, prepend_known}
 use Rattle.block_traits.specs.Causes.{Rose}
-use Rattle.block_traits.specs.Streams.{TookAll}
+use Rattle.block_traits.specs.Streams.{TookAll, SourceState}
 use Rattle.command_words.specs.Images.{line_of, script_images}
-use Rattle.command_words.specs.Reading.{line_limit}
+use Rattle.command_words.specs.Reading.{command_in, line_limit}
 use Rattle.command_words.specs.declared.commands.Command.{Command}
 use Rattle.command_words.specs.declared.spans.Sep.{Sep}
 use Rattle.command_words.specs.declared.spans.Sep.TheVariants.{Blanks, Zeros}
 use Rattle.shelf.specs.Answer.{Answer}
-use Rattle.geli_core.specs.Asked.{asked_in}
 use Rattle.geli_core.specs.Lines.{CutsInto, IsOneLine, last_line}
 use Rattle.geli_core.specs.Run.{RunsAndCloses, answers_text, any_refused, closing_answers}
 use Rattle.geli_core.specs.Script.{Whole, script_limit}
 use Rattle.geli_core.specs.Served.{RunsUnless, status_by}
-use Rattle.geli_core.specs.Source.{SourceState}
 use Rattle.geli_core.specs.declared.status.Status.{Status}
 
 -- the bytes are fewer than are too many for a script, and wherever no newline stands among them, they are at most those of a line
@@ -60,4 +58,4 @@ CompletesBy None None line old status new = Unit {0}
 
 -- the same of the words, where the sink didn't fail
 abbrev pub Completes : List (List ℕ) → Whole → Status → Whole → Type 0
-Completes words old status new = (Rose old.sink.faults new.sink.faults → ⊥) → CompletesBy (script_images words) (asked_in (line_of words)) (line_of words) old status new
+Completes words old status new = (Rose old.sink.faults new.sink.faults → ⊥) → CompletesBy (script_images words) (command_in (line_of words)) (line_of words) old status new

@@ -1,14 +1,22 @@
 -- What holds of each line, whatever the row of its command.
 use Rattle.std.specs.Prelude.{◌≡◌, List, ℕ, IsTrue, Option, Some, Result, Ok}
+use Rattle.command_words.specs.Reading.{reading}
 use Rattle.command_words.specs.declared.commands.Command.{Command}
 use Rattle.command_words.specs.declared.commands.Usage.{Usage}
-use Rattle.eli_base.specs.declared.Refusal.{Refusal}
-use Rattle.eli_base.specs.declared.Refusal.TheVariants as refusals
+use Rattle.eli_base.specs.declared.refusals.Refusal.{Refusal}
+use Rattle.eli_base.specs.declared.refusals.Refusal.TheVariants as refusals
 use Rattle.shelf.specs.Answer.{Answer}
 use Rattle.shelf.specs.Answer as answers
 use Rattle.shelf.specs.Causes.{Caused, may_lack_memory}
+use Rattle.shelf.specs.Counts.{CountsFailures}
 use Rattle.shelf.specs.Histories.{OnlySteps}
+use Rattle.shelf.specs.Stops.{LeavesOldOrNew}
 use Rattle.shelf.specs.World.{World}
+use Rattle.block_traits.specs.Streams.{SinkState}
+use Rattle.command_words.specs.declared.spans.Sep.{Sep}
+use Rattle.reply_text.specs.declared.print.WriteEnd.{WriteEnd}
+use Rattle.geli_core.specs.Run.{PrintsAnswer, ServesLine}
+use Rattle.geli_core.specs.declared.serving.LineEnd.{LineEnd}
 
 -- this holds of what was refused, if anything was
 abbrev pub IfRefused : Answer → (Refusal → Type 0) → Type 0
@@ -17,14 +25,24 @@ IfRefused answer Holds = Unit {0}
 
 -- Of a command: a refusal has its cause. Want of memory is answered only to verbs that may lack it. Where nothing but want of memory
 -- can be the cause of a refusal, it is served, or there was no memory. It changes only the drawer that it names, whose disk logs
--- events of the line.
+-- events of the line. Where it changes metadata, the disk holds the old or the new at each moment of it. No count of the cabinet or the
+-- entropy falls, and a failure of theirs is answered only where its count rose.
 pub record KeepsLaws (line : List ℕ) (command : Command) (old : World) (answer : Answer) (new : World) : Type 0 where
   pub caused : IfRefused answer (λ refusal. Caused line command refusal old new)
   pub memory : IfRefused answer (λ refusal. refusal ≡ refusals.NoMemory → IsTrue (may_lack_memory command))
   pub served : ((refusal : Refusal) → Caused line command refusal old new → refusal ≡ refusals.NoMemory) → IfRefused answer (λ refusal. refusal ≡ refusals.NoMemory)
   pub drawers : OnlySteps line command answer old.drawers new.drawers
+  pub leaves : LeavesOldOrNew line command answer old new
+  pub counts : CountsFailures old answer new
 
 -- the same of a line that says a command
 abbrev pub LineKeepsLaws : Result (Option Command) Usage → List ℕ → World → Option Answer → World → Type 0
 LineKeepsLaws (Ok (Some command)) line old (Some answer) new = KeepsLaws line command old answer new
 LineKeepsLaws read line old answer new = Unit {0}
+
+-- a line was served, by the laws, and then its answer was printed
+pub record ServesLawfully (sep : Sep) (line : List ℕ) (old : World) (sink : SinkState) (result : Result LineEnd WriteEnd) (new : World) (after : SinkState) : Type 0 where
+  pub answer : Option Answer
+  pub serves : ServesLine sep line old answer new
+  pub prints : PrintsAnswer answer sink result after
+  pub laws : LineKeepsLaws (reading sep line) line old answer new

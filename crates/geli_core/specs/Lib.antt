@@ -1,10 +1,12 @@
-pub mod Asked
+pub mod Bounded
+pub mod Bounds
 pub mod Complete
 pub mod Histories
 pub mod Laws
 pub mod Lines
+pub mod Placing
 pub mod Run
 pub mod Script
 pub mod Served
-pub mod Source
+pub mod Survivors
 pub mod Status

@@ -2,18 +2,18 @@
 use Rattle.std.specs.Prelude.{◌++◌, ◌≡◌, ℕ, List, [], ◌∷◌, replicate, Option, Some, None, Bool, true, false, Result, Ok, Err}
 use Rattle.std.specs.List.{flat_map, list_any}
 use Rattle.block_traits.specs.Streams.{SinkState, TookAll, TookPart}
+use Rattle.command_words.specs.Reading.{reading}
 use Rattle.command_words.specs.declared.commands.Command.{Command}
 use Rattle.command_words.specs.declared.commands.Usage.{Usage}
 use Rattle.command_words.specs.declared.spans.Sep.{Sep}
-use Rattle.eli_base.specs.declared.Refusal.TheVariants as refusals
+use Rattle.eli_base.specs.declared.refusals.Refusal.TheVariants as refusals
 use Rattle.shelf.specs.Answer.{Answer}
 use Rattle.shelf.specs.Answer as answers
 use Rattle.shelf.specs.Answer.{answer_text}
-use Rattle.reply_text.specs.declared.WriteEnd.{WriteEnd}
+use Rattle.reply_text.specs.declared.print.WriteEnd.{WriteEnd}
 use Rattle.shelf.specs.Closing.{ClosesWorld}
 use Rattle.shelf.specs.Turn.{Turn}
 use Rattle.shelf.specs.World.{World}
-use Rattle.geli_core.specs.Asked.{asked_by}
 use Rattle.geli_core.specs.declared.serving.LineEnd.{LineEnd}
 use Rattle.geli_core.specs.declared.serving.LineEnd.TheVariants.{Silent, Accepted, Refused}
 
@@ -27,7 +27,7 @@ ServesReading (Ok (Some command)) line old None new = ⊥
 ServesReading (Ok (Some command)) line old (Some answer) new = Turn line command old answer new
 
 abbrev pub ServesLine : Sep → List ℕ → World → Option Answer → World → Type 0
-ServesLine sep line old answer new = ServesReading (asked_by sep line) line old answer new
+ServesLine sep line old answer new = ServesReading (reading sep line) line old answer new
 
 -- the text of what was answered to a line
 abbrev pub text_of : Option Answer → List ℕ

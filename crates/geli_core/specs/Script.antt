@@ -3,17 +3,15 @@ use Rattle.std.specs.Prelude.{◌≡◌, ◌≢◌, ◌⊎◌, ℕ, ◌^◌, ◌
 use Rattle.std.specs.List.{AllByRecursion}
 use Rattle.std.specs.Io.KnownBytes.{IsAtEnd, prepend_known}
 use Rattle.block_traits.specs.Causes.{Rose}
-use Rattle.block_traits.specs.Streams.{SinkState, TookAll, TookPart}
+use Rattle.block_traits.specs.Streams.{SinkState, TookAll, TookPart, SourceState}
 use Rattle.command_words.specs.Images.{line_of, script_images}
-use Rattle.command_words.specs.Reading.{line_limit}
+use Rattle.command_words.specs.Reading.{command_in, line_limit}
 use Rattle.command_words.specs.declared.commands.Command.{Command}
 use Rattle.command_words.specs.declared.spans.Sep.TheVariants.{Blanks, Zeros}
 use Rattle.shelf.specs.Answer.{Answer}
 use Rattle.shelf.specs.World.{World}
-use Rattle.geli_core.specs.Asked.{asked_in}
 use Rattle.geli_core.specs.Lines.{CutsInto, last_line}
 use Rattle.geli_core.specs.Run.{FailsInClosing, FailsInLast, RunsAndCloses, answers_text, any_refused, closing_answers}
-use Rattle.geli_core.specs.Source.{SourceState}
 use Rattle.geli_core.specs.declared.status.Status.{Status}
 use Rattle.geli_core.specs.declared.status.Status.TheVariants.{Done, SomeRefused, BadWords, ReadFault, WriteFault, NoMemory, LineTooLong, ScriptTooLong}
 
@@ -122,7 +120,7 @@ RunsLine line (Some command) old status new = RunsCommand line old status new
 
 abbrev pub RunsAs : Option (List (List ℕ)) → List (List ℕ) → Whole → Status → Whole → Type 0
 RunsAs (Some names) words old status new = RunsScript old status new
-RunsAs None words old status new = RunsLine (line_of words) (asked_in (line_of words)) old status new
+RunsAs None words old status new = RunsLine (line_of words) (command_in (line_of words)) old status new
 
 -- the run of the words of the command line: a script where they are `script` and names, and else one command or nothing; without memory for it nothing is read, printed or changed
 abbrev pub Runs : List (List ℕ) → Whole → Status → Whole → Type 0
@@ -140,7 +138,7 @@ EndsBy None None status = status ≡ BadWords
 
 -- the same of the words
 abbrev pub Ends : List (List ℕ) → Status → Type 0
-Ends words status = EndsBy (script_images words) (asked_in (line_of words)) status
+Ends words status = EndsBy (script_images words) (command_in (line_of words)) status
 
 -- ---- why a run broke off
 

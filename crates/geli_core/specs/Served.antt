@@ -1,20 +1,19 @@
 -- A script while it is served: what the loops over its bytes keep. What a run comes to stands in `Script`.
 use Rattle.std.specs.Prelude.{◌≡◌, ℕ, ◌<◌, ◌≤◌, List, [], ◌++◌, length, Option, Bool, true, false, ◌||◌, Result, Ok, Err}
 use Rattle.std.specs.List.{AllByRecursion}
-use Rattle.block_traits.specs.Streams.{SinkState, TookAll, TookPart}
+use Rattle.block_traits.specs.Streams.{SinkState, TookAll, TookPart, SourceState}
 use Rattle.command_words.specs.Reading.{line_limit}
 use Rattle.command_words.specs.declared.spans.Sep.TheVariants.{Blanks}
 use Rattle.shelf.specs.Answer.{Answer}
 use Rattle.shelf.specs.Closing.{ClosesWorld}
 use Rattle.shelf.specs.World.{World}
-use Rattle.reply_text.specs.declared.WriteEnd.{WriteEnd}
+use Rattle.reply_text.specs.declared.print.WriteEnd.{WriteEnd}
 use Rattle.geli_core.specs.declared.status.Status.{Status}
 use Rattle.geli_core.specs.declared.status.Status.TheVariants.{Done, SomeRefused, WriteFault, NoMemory}
 use Rattle.std.specs.Io.KnownBytes.{IsAtEnd, prepend_known}
 use Rattle.block_traits.specs.Causes.{Rose}
 use Rattle.geli_core.specs.Lines.{CutsInto, last_line}
 use Rattle.geli_core.specs.Script.{Whole, script_limit}
-use Rattle.geli_core.specs.Source.{SourceState}
 use Rattle.geli_core.specs.declared.feeding.Ending.{Ending}
 use Rattle.geli_core.specs.declared.feeding.Ending.TheVariants.{AtEnd, SourceFailed, Full, Stopped}
 use Rattle.geli_core.specs.Run.{FailsInLast, Run, answers_text, any_refused, closing_answers}

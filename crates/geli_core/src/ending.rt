@@ -1,14 +1,13 @@
 // The end of a run: the drawers are closed, and what was refused decides on the status.
 ghost use Rattle.std.specs.Prelude.{◌≡◌, ◌≤◌, ℕ, List, length};
-ghost use Rattle.block_traits.specs.Cabinet.{CabinetState, cabinet_of};
-ghost use Rattle.block_traits.specs.Streams.{EntropyState, SinkState, entropy_of, sink_of};
+ghost use Rattle.block_traits.specs.Cabinet.{CabinetState};
+ghost use Rattle.block_traits.specs.Streams.{EntropyState, SinkState, SourceState};
 ghost use Rattle.std.specs.Io.KnownBytes.{prepend_known};
 ghost use Rattle.command_words.specs.Reading.{line_limit};
 ghost use Rattle.reply_text.specs.Output.{Prints};
 ghost use Rattle.shelf.specs.World.{world_of};
 ghost use Rattle.geli_core.specs.Run.{answers_text, closing_answers};
 ghost use Rattle.geli_core.specs.Script.{RunsScript};
-ghost use Rattle.geli_core.specs.Source.{SourceState};
 ghost use Rattle.geli_core.specs.Served.{ClosesAndPrints, EndsBy, EndsLines, IsServed, Site, StopsWithin, site_of, status_by, whole_of};
 
 use crate::Status;
@@ -22,7 +21,7 @@ use shelf::Drawers;
 
 // Prints a refusal for each flush that failed.
 fn print_failures<K: Sink>(failed: u32, output: &mut K) -> Result<(), WriteEnd>
-    ensures { Prints (answers_text (closing_answers failed)) (sink_of K.taken K.faults output.old) result (sink_of K.taken K.faults output.new) }
+    ensures { Prints (answers_text (closing_answers failed)) (K.state output.old) result (K.state output.new) }
 {
     for printed in 0..failed {
         let _ = printed;
@@ -48,8 +47,8 @@ pub(crate) fn close_and_print<K: Sink, D: Disk>(
     output: &mut K,
 ) -> Status
     ensures { (cabinet : CabinetState) (entropy : EntropyState) → ClosesAndPrints refused
-        (site_of (world_of D.state shelf.old cabinet entropy) (sink_of K.taken K.faults output.old)) result
-        (site_of (world_of D.state shelf.new cabinet entropy) (sink_of K.taken K.faults output.new)) }
+        (site_of (world_of D.state shelf.old cabinet entropy) (K.state output.old)) result
+        (site_of (world_of D.state shelf.new cabinet entropy) (K.state output.new)) }
 {
     let failed = shelf.close();
     match print_failures(failed, output) {
@@ -70,9 +69,9 @@ fn serve_last<K: Sink, C: Cabinet, E: Entropy, D: Disk>(
     requires { length line.now ≤ line_limit }
     ensures { (bytes : List ℕ) (old : Site) →
         IsServed bytes old line.now refused
-        (site_of (world_of D.state shelf.old (cabinet_of C.files C.faults C.misses files.old) (entropy_of E.left E.faults entropy.old)) (sink_of K.taken K.faults output.old)) →
+        (site_of (world_of D.state shelf.old (C.state files.old) (E.state entropy.old)) (K.state output.old)) →
         EndsLines bytes old result
-        (site_of (world_of D.state shelf.new (cabinet_of C.files C.faults C.misses files.new) (entropy_of E.left E.faults entropy.new)) (sink_of K.taken K.faults output.new)) }
+        (site_of (world_of D.state shelf.new (C.state files.new) (E.state entropy.new)) (K.state output.new)) }
 {
     if line.is_empty() {
         return Ok(refused);
@@ -95,9 +94,9 @@ pub(crate) fn end_script<K: Sink, C: Cabinet, E: Entropy, D: Disk>(
     requires { length line.now ≤ line_limit }
     ensures { (bytes : List ℕ) (old : Site) (source after : SourceState) →
         EndsBy bytes old source ending line.now refused
-        (site_of (world_of D.state shelf.old (cabinet_of C.files C.faults C.misses files.old) (entropy_of E.left E.faults entropy.old)) (sink_of K.taken K.faults output.old)) after →
+        (site_of (world_of D.state shelf.old (C.state files.old) (E.state entropy.old)) (K.state output.old)) after →
         RunsScript (whole_of old source) result
-        (whole_of (site_of (world_of D.state shelf.new (cabinet_of C.files C.faults C.misses files.new) (entropy_of E.left E.faults entropy.new)) (sink_of K.taken K.faults output.new)) after) }
+        (whole_of (site_of (world_of D.state shelf.new (C.state files.new) (E.state entropy.new)) (K.state output.new)) after) }
 {
     match ending {
         Ending::AtEnd => end_lines(shelf, line, refused, output, files, entropy),
@@ -138,9 +137,9 @@ fn end_lines<K: Sink, C: Cabinet, E: Entropy, D: Disk>(
     requires { length line.now ≤ line_limit }
     ensures { (bytes : List ℕ) (old : Site) (source after : SourceState) →
         EndsBy bytes old source Ending.AtEnd line.now refused
-        (site_of (world_of D.state shelf.old (cabinet_of C.files C.faults C.misses files.old) (entropy_of E.left E.faults entropy.old)) (sink_of K.taken K.faults output.old)) after →
+        (site_of (world_of D.state shelf.old (C.state files.old) (E.state entropy.old)) (K.state output.old)) after →
         RunsScript (whole_of old source) result
-        (whole_of (site_of (world_of D.state shelf.new (cabinet_of C.files C.faults C.misses files.new) (entropy_of E.left E.faults entropy.new)) (sink_of K.taken K.faults output.new)) after) }
+        (whole_of (site_of (world_of D.state shelf.new (C.state files.new) (E.state entropy.new)) (K.state output.new)) after) }
 {
     match serve_last(shelf, line, refused, output, files, entropy) {
         Ok(refused) => close_and_print(shelf, refused, output),

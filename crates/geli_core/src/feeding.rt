@@ -1,11 +1,8 @@
 // The bytes of a script are looked at one by one, and each whole line is served.
 ghost use Rattle.std.specs.Prelude.{◌≡◌, ◌≤◌, ◌∷◌, ◌++◌, [], ℕ, List, false, vec_capacity, vec_len};
-ghost use Rattle.block_traits.specs.Cabinet.{cabinet_of};
-ghost use Rattle.block_traits.specs.Streams.{entropy_of, sink_of};
 ghost use Rattle.command_words.specs.Reading.{line_limit};
 ghost use Rattle.shelf.specs.World.{world_of};
 ghost use Rattle.geli_core.specs.Served.{Ends, FeedsByte, FeedsPiece, IsServed, Site, site_of};
-ghost use Rattle.geli_core.specs.Source.{source_of};
 
 use crate::serving::{either, serve_line};
 use block_traits::{Cabinet, Disk, Entropy, Sink, Source};
@@ -59,9 +56,9 @@ pub(crate) fn feed_byte<K: Sink, C: Cabinet, E: Entropy, D: Disk>(
     ensures short { vec_len line.new ≤ line_limit }
     ensures feeds { (bytes : List ℕ) (old : Site) →
         IsServed bytes old line.old.items refused.old
-        (site_of (world_of D.state shelf.old (cabinet_of C.files C.faults C.misses files.old) (entropy_of E.left E.faults entropy.old)) (sink_of K.taken K.faults output.old)) →
+        (site_of (world_of D.state shelf.old (C.state files.old) (E.state entropy.old)) (K.state output.old)) →
         FeedsByte (bytes ++ byte ∷ []) old result line.new.items refused.new
-        (site_of (world_of D.state shelf.new (cabinet_of C.files C.faults C.misses files.new) (entropy_of E.left E.faults entropy.new)) (sink_of K.taken K.faults output.new)) }
+        (site_of (world_of D.state shelf.new (C.state files.new) (E.state entropy.new)) (K.state output.new)) }
 {
     if byte == b'\n' {
         let served = serve_line(shelf, line.as_slice(), Sep::Blanks, output, files, entropy);
@@ -96,9 +93,9 @@ pub(crate) fn feed_piece<K: Sink, C: Cabinet, E: Entropy, D: Disk>(
     ensures short { vec_len line.new ≤ line_limit }
     ensures feeds { (bytes : List ℕ) (old : Site) →
         IsServed bytes old line.old.items refused.old
-        (site_of (world_of D.state shelf.old (cabinet_of C.files C.faults C.misses files.old) (entropy_of E.left E.faults entropy.old)) (sink_of K.taken K.faults output.old)) →
+        (site_of (world_of D.state shelf.old (C.state files.old) (E.state entropy.old)) (K.state output.old)) →
         FeedsPiece (bytes ++ piece.now) old result line.new.items refused.new
-        (site_of (world_of D.state shelf.new (cabinet_of C.files C.faults C.misses files.new) (entropy_of E.left E.faults entropy.new)) (sink_of K.taken K.faults output.new)) }
+        (site_of (world_of D.state shelf.new (C.state files.new) (E.state entropy.new)) (K.state output.new)) }
 {
     for byte in piece {
         feed_byte(shelf, line, *byte, refused, output, files, entropy)?;
@@ -121,10 +118,10 @@ pub(crate) fn feed_source<S: Source, K: Sink, C: Cabinet, E: Entropy, D: Disk>(
     requires nothing { refused.old ≡ false }
     ensures short { vec_len line.new ≤ line_limit }
     ensures ends { Ends
-        (site_of (world_of D.state shelf.old (cabinet_of C.files C.faults C.misses files.old) (entropy_of E.left E.faults entropy.old)) (sink_of K.taken K.faults output.old))
-        (source_of S.left S.faults input.old) result line.new.items refused.new
-        (site_of (world_of D.state shelf.new (cabinet_of C.files C.faults C.misses files.new) (entropy_of E.left E.faults entropy.new)) (sink_of K.taken K.faults output.new))
-        (source_of S.left S.faults input.new) }
+        (site_of (world_of D.state shelf.old (C.state files.old) (E.state entropy.old)) (K.state output.old))
+        (S.state input.old) result line.new.items refused.new
+        (site_of (world_of D.state shelf.new (C.state files.new) (E.state entropy.new)) (K.state output.new))
+        (S.state input.new) }
 {
     let mut piece = [0; PIECE];
     let mut room = SCRIPT_LIMIT;

@@ -1,28 +1,28 @@
 // What holds of whole runs.
 ghost use Rattle.std.specs.Prelude.{◌≡◌, ℕ, List, Option, Some, slice_get};
-ghost use Rattle.geli_core.specs.Asked.{asked_by};
 ghost use Rattle.geli_core.specs.Laws.{LineKeepsLaws};
+ghost use Rattle.command_words.specs.Reading.{reading};
 ghost use Rattle.command_words.specs.declared.spans.Sep.{Sep};
 ghost use Rattle.geli_core.specs.Histories.{RunsAt};
 ghost use Rattle.geli_core.specs.Run.{Run, ServesLine};
 ghost use Rattle.shelf.specs.Answer.{Answer};
 ghost use Rattle.shelf.specs.World.{DrawerState, World};
 
-/// While lines are served each drawer stays at its place and keeps its name. The history of its disk grows by exactly the
+/// While lines are served each drawer keeps its name, until a line takes it out. The history of its disk grows by exactly the
 /// events of the lines that name it, one after the other, each line's being those of its row. A drawer that no line
-/// names is as it was, with what is attached on it.
+/// names is there as it was, with what is attached on it.
 pub fn a_run_logs_the_events_of_its_lines()
     ensures { (sep : Sep) (lines : List (List ℕ)) (answers : List (Option Answer)) (old new : World) (before : DrawerState) (place : ℕ) →
-        Run sep old lines answers new → slice_get old.drawers place ≡ Some before → RunsAt sep lines answers before new.drawers place }
+        Run sep old lines answers new → slice_get old.drawers place ≡ Some before → RunsAt sep lines answers before new.drawers }
 {}
 
-/// What holds of each line that `serve_line` serves, whatever its row. A refusal of its command has its cause: `read`, `write`,
-/// `flush` and `detach` are refused only where the drawer is idle, where the provider is only read, by the length and the range, by a
-/// unit whose tag differs, or where the disk failed, whose count of faults rose. Where nothing but want of memory can be the cause
-/// of a refusal, the line is served or there was no memory. Want of memory is answered to `init`, `attach` and `list` alone. Only the
-/// drawer that the line names changes, and its disk logs events of the line: none where there was no memory, but for a backup that
-/// `init` stores last.
+/// What holds of each line, whatever its row: a refusal of a command has its cause, as `a_refusal_has_its_cause` of the shelf says. Where
+/// nothing but want of memory can be the cause of a refusal, the line is served or there was no memory. Want of memory is answered to
+/// `init`, `attach`, `setkey`, `backup`, `restore` and `list` alone. Only the drawer that the line names changes or is taken out, and its
+/// disk logs events of the line: none where there was no memory, but for a backup that `init` stores last. A line that changes metadata
+/// leaves the old or the new whenever power fails, as `a_line_leaves_old_or_new` of the shelf says. The counts of the cabinet and the entropy
+/// do what `a_line_counts_failures` of the shelf says.
 pub fn a_line_keeps_the_laws()
     ensures { (sep : Sep) (line : List ℕ) (old : World) (answer : Option Answer) (new : World) →
-        ServesLine sep line old answer new → LineKeepsLaws (asked_by sep line) line old answer new }
+        ServesLine sep line old answer new → LineKeepsLaws (reading sep line) line old answer new }
 {}

@@ -1,24 +1,23 @@
 // The run: the words are read, and a script or one command is served.
 ghost use Rattle.std.specs.Prelude.{◌≡◌, map, string_bytes};
-ghost use Rattle.block_traits.specs.Cabinet.{cabinet_of};
 ghost use Rattle.block_traits.specs.Causes.{Rose};
-ghost use Rattle.block_traits.specs.Streams.{entropy_of, sink_of};
+ghost use Rattle.command_words.specs.Reading.{command_in};
 ghost use Rattle.command_words.specs.Images.{line_of};
-ghost use Rattle.shelf.specs.World.{drawers_of, world_of};
-ghost use Rattle.geli_core.specs.Asked.{asked_in};
+ghost use Rattle.shelf.specs.World.{world_of};
+ghost use Rattle.geli_core.specs.Bounded.{BoundsReplies};
 ghost use Rattle.geli_core.specs.Complete.{Completes};
-ghost use Rattle.geli_core.specs.Histories.{EachGrew};
+ghost use Rattle.geli_core.specs.Histories.{KeepsDrawers};
 ghost use Rattle.geli_core.specs.Script.{Ends, HasCause, PrintsUsage, Runs, RunsLine, RunsScript, usage_text};
 ghost use Rattle.geli_core.specs.Served.{RunsUnless, site_of, whole_of};
-ghost use Rattle.geli_core.specs.Source.{SourceState, source_of};
+ghost use Rattle.block_traits.specs.Streams.{SourceState};
+ghost use Rattle.geli_core.specs.Survivors.{SurvivesCrashes};
 
 use crate::Status;
-use crate::asked::asked_in;
 use crate::ending::{close_and_print, end_script};
 use crate::feeding::{LINE_LIMIT, feed_source};
 use crate::serving::serve_line;
 use block_traits::{Cabinet, Disk, Entropy, Sink, Source};
-use command_words::{Sep, joined, script_images};
+use command_words::{Sep, command_in, joined, script_images};
 use reply_text::write_text;
 use shelf::{Drawers, Shelf};
 use std::alloc::Global;
@@ -40,28 +39,44 @@ pub fn geli_main<S: Source, K: Sink, C: Cabinet, E: Entropy>(
     shelf: &mut Shelf,
 ) -> Status
     ensures runs { Runs (map string_bytes words.now)
-        (whole_of (site_of (world_of (⟦<Box<dyn Disk> as Disk>⟧).state shelf.old (cabinet_of C.files C.faults C.misses files.old) (entropy_of E.left E.faults entropy.old)) (sink_of K.taken K.faults output.old)) (source_of S.left S.faults input.old)) result
-        (whole_of (site_of (world_of (⟦<Box<dyn Disk> as Disk>⟧).state shelf.new (cabinet_of C.files C.faults C.misses files.new) (entropy_of E.left E.faults entropy.new)) (sink_of K.taken K.faults output.new)) (source_of S.left S.faults input.new)) }
+        (whole_of (site_of (world_of (⟦<Box<dyn Disk> as Disk>⟧).state shelf.old (C.state files.old) (E.state entropy.old)) (K.state output.old)) (S.state input.old)) result
+        (whole_of (site_of (world_of (⟦<Box<dyn Disk> as Disk>⟧).state shelf.new (C.state files.new) (E.state entropy.new)) (K.state output.new)) (S.state input.new)) }
 
     // A status that breaks the run off has its cause: where no count of faults rose, and the input is within its limits, the
     // run is gone through to its end.
     ensures cause { HasCause result
-        (whole_of (site_of (world_of (⟦<Box<dyn Disk> as Disk>⟧).state shelf.old (cabinet_of C.files C.faults C.misses files.old) (entropy_of E.left E.faults entropy.old)) (sink_of K.taken K.faults output.old)) (source_of S.left S.faults input.old))
-        (whole_of (site_of (world_of (⟦<Box<dyn Disk> as Disk>⟧).state shelf.new (cabinet_of C.files C.faults C.misses files.new) (entropy_of E.left E.faults entropy.new)) (sink_of K.taken K.faults output.new)) (source_of S.left S.faults input.new)) }
-    ensures write_fault { result ≡ Status.WriteFault → Rose (K.faults output.old) (K.faults output.new) }
+        (whole_of (site_of (world_of (⟦<Box<dyn Disk> as Disk>⟧).state shelf.old (C.state files.old) (E.state entropy.old)) (K.state output.old)) (S.state input.old))
+        (whole_of (site_of (world_of (⟦<Box<dyn Disk> as Disk>⟧).state shelf.new (C.state files.new) (E.state entropy.new)) (K.state output.new)) (S.state input.new)) }
+    ensures write_fault { result ≡ Status.WriteFault → Rose (K.state output.old).faults (K.state output.new).faults }
 
     // A script or one command that is served goes to its end where the sink didn't fail, nor the source of a script, which gave
     // fewer than 2^40 bytes and no line of more than 300,000: all is served and printed, and the status is Done or SomeRefused, by
     // the replies. Or there was no memory, and nothing was done.
     ensures complete { Completes (map string_bytes words.now)
-        (whole_of (site_of (world_of (⟦<Box<dyn Disk> as Disk>⟧).state shelf.old (cabinet_of C.files C.faults C.misses files.old) (entropy_of E.left E.faults entropy.old)) (sink_of K.taken K.faults output.old)) (source_of S.left S.faults input.old)) result
-        (whole_of (site_of (world_of (⟦<Box<dyn Disk> as Disk>⟧).state shelf.new (cabinet_of C.files C.faults C.misses files.new) (entropy_of E.left E.faults entropy.new)) (sink_of K.taken K.faults output.new)) (source_of S.left S.faults input.new)) }
+        (whole_of (site_of (world_of (⟦<Box<dyn Disk> as Disk>⟧).state shelf.old (C.state files.old) (E.state entropy.old)) (K.state output.old)) (S.state input.old)) result
+        (whole_of (site_of (world_of (⟦<Box<dyn Disk> as Disk>⟧).state shelf.new (C.state files.new) (E.state entropy.new)) (K.state output.new)) (S.state input.new)) }
+
+    // If power fails at any moment, before or within any write of a device sector: of each drawer that is there in the end, each image that is
+    // left, whole, torn or altered, reads unit by unit as the lines' writes placed it.
+    ensures survivors { SurvivesCrashes
+        (world_of (⟦<Box<dyn Disk> as Disk>⟧).state shelf.old (C.state files.old) (E.state entropy.old))
+        (world_of (⟦<Box<dyn Disk> as Disk>⟧).state shelf.new (C.state files.new) (E.state entropy.new)) }
+
+    // Of the answers that were printed: those that the cabinet failed, that a file was absent or longer than a file may be, and that the entropy failed
+    // are each at most as many as the count of such failures rose by; those to the lines that name a drawer that its disk failed at most as many
+    // as that disk's count of faults; and each refusal of the closing has its drawer.
+    ensures bounds { BoundsReplies
+        (whole_of (site_of (world_of (⟦<Box<dyn Disk> as Disk>⟧).state shelf.old (C.state files.old) (E.state entropy.old)) (K.state output.old)) (S.state input.old)) result
+        (whole_of (site_of (world_of (⟦<Box<dyn Disk> as Disk>⟧).state shelf.new (C.state files.new) (E.state entropy.new)) (K.state output.new)) (S.state input.new)) }
 
     // How the run may end, by what the words ask for.
     ensures ends { Ends (map string_bytes words.now) result }
 
-    // Whatever the status, each drawer is there as before, and the history of its disk only grew.
-    ensures histories { EachGrew (drawers_of (⟦<Box<dyn Disk> as Disk>⟧).state shelf.old.drawers) (drawers_of (⟦<Box<dyn Disk> as Disk>⟧).state shelf.new.drawers) }
+    // Whatever the status, each drawer is there as before, in order, and the history of its disk only grew; one isn't there only where
+    // a line of the script, or the one command, took it out.
+    ensures histories { KeepsDrawers (map string_bytes words.now)
+        (whole_of (site_of (world_of (⟦<Box<dyn Disk> as Disk>⟧).state shelf.old (C.state files.old) (E.state entropy.old)) (K.state output.old)) (S.state input.old))
+        (whole_of (site_of (world_of (⟦<Box<dyn Disk> as Disk>⟧).state shelf.new (C.state files.new) (E.state entropy.new)) (K.state output.new)) (S.state input.new)) }
 {
     run(alloc, words, input, output, files, entropy, shelf)
 }
@@ -77,17 +92,25 @@ pub fn run<S: Source, K: Sink, C: Cabinet, E: Entropy, D: Disk>(
     shelf: &mut Drawers<D>,
 ) -> Status
     ensures runs { Runs (map string_bytes words.now)
-        (whole_of (site_of (world_of D.state shelf.old (cabinet_of C.files C.faults C.misses files.old) (entropy_of E.left E.faults entropy.old)) (sink_of K.taken K.faults output.old)) (source_of S.left S.faults input.old)) result
-        (whole_of (site_of (world_of D.state shelf.new (cabinet_of C.files C.faults C.misses files.new) (entropy_of E.left E.faults entropy.new)) (sink_of K.taken K.faults output.new)) (source_of S.left S.faults input.new)) }
+        (whole_of (site_of (world_of D.state shelf.old (C.state files.old) (E.state entropy.old)) (K.state output.old)) (S.state input.old)) result
+        (whole_of (site_of (world_of D.state shelf.new (C.state files.new) (E.state entropy.new)) (K.state output.new)) (S.state input.new)) }
     ensures cause { HasCause result
-        (whole_of (site_of (world_of D.state shelf.old (cabinet_of C.files C.faults C.misses files.old) (entropy_of E.left E.faults entropy.old)) (sink_of K.taken K.faults output.old)) (source_of S.left S.faults input.old))
-        (whole_of (site_of (world_of D.state shelf.new (cabinet_of C.files C.faults C.misses files.new) (entropy_of E.left E.faults entropy.new)) (sink_of K.taken K.faults output.new)) (source_of S.left S.faults input.new)) }
-    ensures write_fault { result ≡ Status.WriteFault → Rose (K.faults output.old) (K.faults output.new) }
+        (whole_of (site_of (world_of D.state shelf.old (C.state files.old) (E.state entropy.old)) (K.state output.old)) (S.state input.old))
+        (whole_of (site_of (world_of D.state shelf.new (C.state files.new) (E.state entropy.new)) (K.state output.new)) (S.state input.new)) }
+    ensures write_fault { result ≡ Status.WriteFault → Rose (K.state output.old).faults (K.state output.new).faults }
     ensures complete { Completes (map string_bytes words.now)
-        (whole_of (site_of (world_of D.state shelf.old (cabinet_of C.files C.faults C.misses files.old) (entropy_of E.left E.faults entropy.old)) (sink_of K.taken K.faults output.old)) (source_of S.left S.faults input.old)) result
-        (whole_of (site_of (world_of D.state shelf.new (cabinet_of C.files C.faults C.misses files.new) (entropy_of E.left E.faults entropy.new)) (sink_of K.taken K.faults output.new)) (source_of S.left S.faults input.new)) }
+        (whole_of (site_of (world_of D.state shelf.old (C.state files.old) (E.state entropy.old)) (K.state output.old)) (S.state input.old)) result
+        (whole_of (site_of (world_of D.state shelf.new (C.state files.new) (E.state entropy.new)) (K.state output.new)) (S.state input.new)) }
+    ensures survivors { SurvivesCrashes
+        (world_of D.state shelf.old (C.state files.old) (E.state entropy.old))
+        (world_of D.state shelf.new (C.state files.new) (E.state entropy.new)) }
+    ensures bounds { BoundsReplies
+        (whole_of (site_of (world_of D.state shelf.old (C.state files.old) (E.state entropy.old)) (K.state output.old)) (S.state input.old)) result
+        (whole_of (site_of (world_of D.state shelf.new (C.state files.new) (E.state entropy.new)) (K.state output.new)) (S.state input.new)) }
     ensures ends { Ends (map string_bytes words.now) result }
-    ensures histories { EachGrew (drawers_of D.state shelf.old.drawers) (drawers_of D.state shelf.new.drawers) }
+    ensures histories { KeepsDrawers (map string_bytes words.now)
+        (whole_of (site_of (world_of D.state shelf.old (C.state files.old) (E.state entropy.old)) (K.state output.old)) (S.state input.old))
+        (whole_of (site_of (world_of D.state shelf.new (C.state files.new) (E.state entropy.new)) (K.state output.new)) (S.state input.new)) }
 {
     match script_images(words) {
         Some(_) => run_script(alloc, input, output, files, entropy, shelf),
@@ -105,8 +128,8 @@ fn run_script<S: Source, K: Sink, C: Cabinet, E: Entropy, D: Disk>(
     shelf: &mut Drawers<D>,
 ) -> Status
     ensures { RunsUnless RunsScript
-        (whole_of (site_of (world_of D.state shelf.old (cabinet_of C.files C.faults C.misses files.old) (entropy_of E.left E.faults entropy.old)) (sink_of K.taken K.faults output.old)) (source_of S.left S.faults input.old)) result
-        (whole_of (site_of (world_of D.state shelf.new (cabinet_of C.files C.faults C.misses files.new) (entropy_of E.left E.faults entropy.new)) (sink_of K.taken K.faults output.new)) (source_of S.left S.faults input.new)) }
+        (whole_of (site_of (world_of D.state shelf.old (C.state files.old) (E.state entropy.old)) (K.state output.old)) (S.state input.old)) result
+        (whole_of (site_of (world_of D.state shelf.new (C.state files.new) (E.state entropy.new)) (K.state output.new)) (S.state input.new)) }
 {
     let Ok(mut line) = Vec::with_capacity(alloc, LINE_LIMIT) else {
         return Status::NoMemory;
@@ -141,14 +164,14 @@ fn run_command<K: Sink, C: Cabinet, E: Entropy, D: Disk>(
     entropy: &mut E,
     shelf: &mut Drawers<D>,
 ) -> Status
-    ensures { (source : SourceState) → RunsUnless (RunsLine (line_of (map string_bytes words.now)) (asked_in (line_of (map string_bytes words.now))))
-        (whole_of (site_of (world_of D.state shelf.old (cabinet_of C.files C.faults C.misses files.old) (entropy_of E.left E.faults entropy.old)) (sink_of K.taken K.faults output.old)) source) result
-        (whole_of (site_of (world_of D.state shelf.new (cabinet_of C.files C.faults C.misses files.new) (entropy_of E.left E.faults entropy.new)) (sink_of K.taken K.faults output.new)) source) }
+    ensures { (source : SourceState) → RunsUnless (RunsLine (line_of (map string_bytes words.now)) (command_in (line_of (map string_bytes words.now))))
+        (whole_of (site_of (world_of D.state shelf.old (C.state files.old) (E.state entropy.old)) (K.state output.old)) source) result
+        (whole_of (site_of (world_of D.state shelf.new (C.state files.new) (E.state entropy.new)) (K.state output.new)) source) }
 {
     let Ok(line) = joined(alloc, words) else {
         return Status::NoMemory;
     };
-    let Some(_command) = asked_in(&line) else {
+    let Some(_command) = command_in(&line) else {
         return print_usage(output);
     };
     match serve_line(shelf, &line, Sep::Zeros, output, files, entropy) {
@@ -161,7 +184,7 @@ fn run_command<K: Sink, C: Cabinet, E: Entropy, D: Disk>(
 }
 
 fn print_usage<K: Sink>(output: &mut K) -> Status
-    ensures { PrintsUsage (sink_of K.taken K.faults output.old) result (sink_of K.taken K.faults output.new) }
+    ensures { PrintsUsage (K.state output.old) result (K.state output.new) }
 {
     match write_text(USAGE, output) {
         Ok(()) => Status::BadWords,

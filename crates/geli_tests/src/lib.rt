@@ -7,6 +7,8 @@ mod common;
 #[cfg(test)]
 mod dump;
 #[cfg(test)]
+mod eject;
+#[cfg(test)]
 mod failures;
 #[cfg(test)]
 mod hashes;

@@ -1,4 +1,5 @@
-// What holds of digests, codes and derived keys, whatever they are made of.
+//! What holds of digests, codes and derived keys, whatever they are made of.
+
 ghost use Rattle.std.specs.Prelude.{ℕ, List};
 ghost use Rattle.sha2.specs.Sha256.{sha256};
 ghost use Rattle.sha2.specs.Sha512.{sha384, sha512};

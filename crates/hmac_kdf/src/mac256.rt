@@ -44,6 +44,15 @@ impl Hmac256 {
         }
     }
 
+    /// The code of a message that is there whole: 32 bytes.
+    pub fn code_of(key: &[u8], message: &[u8]) -> [u8; 32]
+        ensures { result ≡ hmac256 key.now message.now }
+    {
+        let mut hasher = Hmac256::new(key);
+        hasher.update(message);
+        hasher.finish()
+    }
+
     /// Adds a piece to the message.
     pub fn update(&mut self, piece: &[u8])
         ensures { (k m : List ℕ) → HoldsUnder256 self.old k m → HoldsUnder256 self.new k (m ++ piece.now) }

@@ -44,6 +44,15 @@ impl Hmac384 {
         }
     }
 
+    /// The code of a message that is there whole: 48 bytes.
+    pub fn code_of(key: &[u8], message: &[u8]) -> [u8; 48]
+        ensures { result ≡ hmac384 key.now message.now }
+    {
+        let mut hasher = Hmac384::new(key);
+        hasher.update(message);
+        hasher.finish()
+    }
+
     /// Adds a piece to the message.
     pub fn update(&mut self, piece: &[u8])
         ensures { (k m : List ℕ) → HoldsUnder384 self.old k m → HoldsUnder384 self.new k (m ++ piece.now) }

@@ -44,6 +44,15 @@ impl Hmac512 {
         }
     }
 
+    /// The code of a message that is there whole: 64 bytes.
+    pub fn code_of(key: &[u8], message: &[u8]) -> [u8; 64]
+        ensures { result ≡ hmac512 key.now message.now }
+    {
+        let mut hasher = Hmac512::new(key);
+        hasher.update(message);
+        hasher.finish()
+    }
+
     /// Adds a piece to the message.
     pub fn update(&mut self, piece: &[u8])
         ensures { (k m : List ℕ) → HoldsUnder512 self.old k m → HoldsUnder512 self.new k (m ++ piece.now) }

@@ -6,23 +6,23 @@ use Rattle.std.proofs.lemmas.Nat.{and_assoc, pow_apart}
 use Rattle.std.specs.Int.{is_negative}
 use Rattle.std.specs.Prelude.{IsOk}
 use Rattle.eli_base.specs.Algorithms.{allows_length}
-use Rattle.eli_base.specs.declared.Cipher.{Cipher}
-use Rattle.eli_base.specs.declared.Cipher.TheVariants.{AesCbc, AesXts}
-use Rattle.eli_base.specs.declared.Refusal.{Refusal}
-use Rattle.eli_base.specs.declared.Refusal.TheVariants as refusals
+use Rattle.eli_base.specs.declared.algorithms.Cipher.{Cipher}
+use Rattle.eli_base.specs.declared.algorithms.Cipher.TheVariants.{AesCbc, AesXts}
+use Rattle.eli_base.specs.declared.refusals.Refusal.{Refusal}
+use Rattle.eli_base.specs.declared.refusals.Refusal.TheVariants as refusals
 use Rattle.eli_metadata.specs.Check.{are_clear, check_auth, check_cipher, auth_of, cipher_of, is_set, named_slot_opens, slot_matches, supported}
-use Rattle.eli_metadata.specs.declared.Metadata.{Metadata}
-use Rattle.eli_metadata.specs.declared.MetaFault.{MetaFault}
-use Rattle.eli_metadata.specs.declared.MetaFault.TheVariants.{NoValidKeys}
+use Rattle.eli_metadata.specs.declared.metadata.Metadata.{Metadata}
+use Rattle.eli_metadata.specs.declared.metadata.MetaFault.{MetaFault}
+use Rattle.eli_metadata.specs.declared.metadata.MetaFault.TheVariants.{NoValidKeys}
 use Rattle.key_slots.specs.Slots.{IsKeyBits, Opens, SameSlot, with_slot, wrapped}
 use Rattle.key_slots.proofs.Changes.{OpensAsBefore-same}
 use Rattle.user_key.specs.UserKey.{user_key}
-use Rattle.user_key.specs.declared.Components.{Components}
-use Rattle.user_key.specs.declared.KeyFault.{KeyFault}
-use Rattle.user_key.specs.declared.KeyFault.TheVariants.{PassphraseNotSet}
-use Rattle.user_key.specs.declared.PassPart.{PassPart}
-use Rattle.user_key.specs.declared.PassPart.TheVariants.{Without, Missing, Given}
-use Rattle.user_key.specs.declared.UserKey.{UserKey}
+use Rattle.user_key.specs.declared.components.Components.{Components}
+use Rattle.user_key.specs.declared.components.KeyFault.{KeyFault}
+use Rattle.user_key.specs.declared.components.KeyFault.TheVariants.{PassphraseNotSet}
+use Rattle.user_key.specs.declared.components.PassPart.{PassPart}
+use Rattle.user_key.specs.declared.components.PassPart.TheVariants.{Without, Missing, Given}
+use Rattle.user_key.specs.declared.components.UserKey.{UserKey}
 use Rattle.key_commands.specs.NewKey.{IsAcceptedAs, KeepsSlot, KeyChange, MakesKey, change_refusal, is_only_key, iterations_of, new_iterations, new_user_key, with_key}
 use Rattle.key_commands.specs.Options.{key_refusal}
 

@@ -3,15 +3,15 @@ use Rattle.std.proofs.Common.{◌≡◌, ◌==◌, ℕ, ◌*◌, [], refl, cond,
 use Rattle.eli_base.specs.Algorithms.{allows_length}
 use Rattle.eli_base.specs.SectorSize.{is_sector_size}
 use Rattle.eli_base.specs.Units.{media_sectors}
-use Rattle.eli_base.specs.declared.Refusal.{Refusal}
-use Rattle.eli_base.specs.declared.Refusal.TheVariants as refusals
+use Rattle.eli_base.specs.declared.refusals.Refusal.{Refusal}
+use Rattle.eli_base.specs.declared.refusals.Refusal.TheVariants as refusals
 use Rattle.key_commands.specs.Options.{early_refusal, key_refusal}
 use Rattle.key_commands.specs.declared.options.InitOptions.{InitOptions}
 use Rattle.user_key.specs.UserKey.{user_key}
-use Rattle.user_key.specs.declared.Components.{Components}
-use Rattle.user_key.specs.declared.KeyFault.{KeyFault}
-use Rattle.user_key.specs.declared.KeyFault.TheVariants.{PassphraseNotSet, PassphraseNeeded, NoKeyComponents}
-use Rattle.user_key.specs.declared.UserKey.{UserKey}
+use Rattle.user_key.specs.declared.components.Components.{Components}
+use Rattle.user_key.specs.declared.components.KeyFault.{KeyFault}
+use Rattle.user_key.specs.declared.components.KeyFault.TheVariants.{PassphraseNotSet, PassphraseNeeded, NoKeyComponents}
+use Rattle.user_key.specs.declared.components.UserKey.{UserKey}
 
 -- of three conditions none holds
 none_of_three : (a b c : Bool) (x y z w : Option Refusal) → a ≡ true → b ≡ true → c ≡ false → cond (not a) x (cond (not b) y (cond c z w)) ≡ w

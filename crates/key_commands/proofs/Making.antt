@@ -3,11 +3,11 @@ use Rattle.std.proofs.Common.{◌≡◌, ℕ, ◌<◌, ◌^◌, length, drop, tr
 use Rattle.std.proofs.lemmas.List.{length-take-le}
 use Rattle.block_traits.specs.Disk.{DiskState}
 use Rattle.block_traits.specs.Streams.{EntropyState}
-use Rattle.eli_base.specs.declared.Refusal.{Refusal}
-use Rattle.eli_base.specs.declared.Refusal.TheVariants.{EntropyFault, DeviceFault}
+use Rattle.eli_base.specs.declared.refusals.Refusal.{Refusal}
+use Rattle.eli_base.specs.declared.refusals.Refusal.TheVariants.{EntropyFault, DeviceFault}
 use Rattle.eli_metadata.specs.Format.{encoded, is_served, metadata_in}
-use Rattle.eli_metadata.specs.declared.Metadata.{Metadata}
-use Rattle.key_commands.specs.Init.{Inits, MakesMetadata, RefusesInit}
+use Rattle.eli_metadata.specs.declared.metadata.Metadata.{Metadata}
+use Rattle.key_commands.specs.NewProvider.{Inits, MakesMetadata, RefusesInit}
 use Rattle.key_commands.specs.NewMetadata.{metadata_of}
 use Rattle.key_commands.specs.Options.{early_refusal}
 use Rattle.key_commands.specs.Random.{Draws, master_key_in}
@@ -17,8 +17,8 @@ use Rattle.key_commands.proofs.Keys.{inside-early_refusal}
 use Rattle.key_commands.proofs.Usable.{IsAccepted-metadata_of, OpensFirst-Opens, IsServed-early_refusal}
 use Rattle.key_slots.specs.Slots.{Opens, wrapped}
 use Rattle.user_key.specs.UserKey.{user_key}
-use Rattle.user_key.specs.declared.Components.{Components}
-use Rattle.user_key.specs.declared.UserKey.{UserKey}
+use Rattle.user_key.specs.declared.components.Components.{Components}
+use Rattle.user_key.specs.declared.components.UserKey.{UserKey}
 
 -- the metadata by the parts of the random bytes are those by the random bytes, and of use
 pub makes : (options : InitOptions) (parts : Components) (sectors : ℕ) (random : RandomParts) (key : UserKey) (m : Metadata) (old new : EntropyState)

@@ -9,8 +9,8 @@ use Rattle.block_traits.specs.Moments.{KeepsAlone}
 use Rattle.block_traits.specs.Overwriting.{passes_of, zeros}
 use Rattle.block_traits.proofs.Overwritten.{KeepsAlone-overwrite, KeepsOldOr-overwrite, KeepsOldOr-overwrite_part, flushed-overwrite, flushed-overwrite_part, length-passes_of}
 use Rattle.eli_metadata.specs.Check.{is_set}
-use Rattle.eli_metadata.specs.Format.{encoded, is_served, metadata_in}
-use Rattle.eli_metadata.specs.declared.Metadata.{Metadata}
+use Rattle.eli_metadata.specs.Format.{IsInRange, encoded, is_served, metadata_in}
+use Rattle.eli_metadata.specs.declared.metadata.Metadata.{Metadata}
 use Rattle.eli_metadata.proofs.Laws.{metadata_in-encoded}
 use Rattle.key_slots.specs.Slots.{SameSlot, slot_bytes, with_slot_bytes, without_slot}
 use Rattle.key_slots.proofs.Changes.{bytes_same, bytes_other, clear_other}
@@ -41,35 +41,23 @@ length-with_slot_bytes mkeys bytes slot lt long long' =
     let back = length-drop (192 * slot + 192) mkeys in
     simp length-append (omega arith)
 
+-- other slots leave the other fields in their ranges
+IsInRange-slots : (m : Metadata) (keys : ℕ) (mkeys : List ℕ) → IsInRange m → IsInRange (record m { keys = keys; mkeys = mkeys })
+IsInRange-slots m keys mkeys range = record {
+  version = range.version;
+  flags = range.flags;
+  ealgo = range.ealgo;
+  keylen = range.keylen;
+  aalgo = range.aalgo;
+  provsize = range.provsize;
+  sectorsize = range.sectorsize;
+  iterations = range.iterations;
+}
+
 IsWhole-without : (m : Metadata) (which : Which) (bytes : List ℕ) → IsThere which → IsWhole m → length bytes ≡ named_size which → IsWhole (without_keys m which bytes)
-IsWhole-without m slots.All bytes there whole size = record {
-  range = record {
-    version = whole.range.version;
-    flags = whole.range.flags;
-    ealgo = whole.range.ealgo;
-    keylen = whole.range.keylen;
-    aalgo = whole.range.aalgo;
-    provsize = whole.range.provsize;
-    sectorsize = whole.range.sectorsize;
-    iterations = whole.range.iterations;
-  };
-  salt = whole.salt;
-  mkeys = size;
-}
-IsWhole-without m (slots.One slot) bytes there whole size = record {
-  range = record {
-    version = whole.range.version;
-    flags = whole.range.flags;
-    ealgo = whole.range.ealgo;
-    keylen = whole.range.keylen;
-    aalgo = whole.range.aalgo;
-    provsize = whole.range.provsize;
-    sectorsize = whole.range.sectorsize;
-    iterations = whole.range.iterations;
-  };
-  salt = whole.salt;
-  mkeys = length-with_slot_bytes m.mkeys bytes slot there whole.mkeys size;
-}
+IsWhole-without m slots.All bytes there whole size = record { range = IsInRange-slots m _ _ whole.range; salt = whole.salt; mkeys = size }
+IsWhole-without m (slots.One slot) bytes there whole size =
+    record { range = IsInRange-slots m _ _ whole.range; salt = whole.salt; mkeys = length-with_slot_bytes m.mkeys bytes slot there whole.mkeys size }
 
 is_served-without : (m : Metadata) (which : Which) (bytes : List ℕ) → is_served (without_keys m which bytes).version (without_keys m which bytes).flags ≡ is_served m.version m.flags
 is_served-without m slots.All bytes = refl

@@ -4,11 +4,11 @@ use Rattle.block_traits.specs.Disk.{DiskState, FailsIn, Logs, last_sector}
 use Rattle.block_traits.specs.Moments.{AtEachMoment, HoldsOnceFlushed, KeepsAlone, KeepsOldOr}
 use Rattle.block_traits.specs.Overwriting.{zeros}
 use Rattle.block_traits.specs.Streams.{EntropyState, Takes, TakesNone}
-use Rattle.eli_base.specs.declared.Refusal.{Refusal}
-use Rattle.eli_base.specs.declared.Refusal.TheVariants.{EntropyFault, DeviceFault}
+use Rattle.eli_base.specs.declared.refusals.Refusal.{Refusal}
+use Rattle.eli_base.specs.declared.refusals.Refusal.TheVariants.{EntropyFault, DeviceFault}
 use Rattle.eli_metadata.specs.Check.{is_set}
 use Rattle.eli_metadata.specs.Format.{encoded, is_served, metadata_in}
-use Rattle.eli_metadata.specs.declared.Metadata.{Metadata}
+use Rattle.eli_metadata.specs.declared.metadata.Metadata.{Metadata}
 use Rattle.key_slots.specs.Slots.{slot_bytes}
 use Rattle.key_commands.specs.NewKey.{KeepsSlot}
 use Rattle.key_commands.specs.Overwriting.{HasNoKey, Names, deletion_refusal, filler_size, named_size, pass_events, without_keys}

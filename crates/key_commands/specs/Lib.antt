@@ -1,5 +1,5 @@
 pub mod DeleteKeys
-pub mod Init
+pub mod NewProvider
 pub mod NewKey
 pub mod NewMetadata
 pub mod Options

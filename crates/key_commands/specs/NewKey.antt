@@ -1,17 +1,17 @@
 -- A new key in a slot of the metadata, which wraps the master key that is there (geli(8), setkey).
 use Rattle.std.specs.Prelude.{◌≡◌, ◌≢◌, ℕ, ◌^◌, ◌<◌, ℤ, pos, ◌==◌, ◌&&◌, not, bit_and, Bool, IsTrue, is_some, List, Option, Some, None, Result, Ok, if◌then◌else◌}
 use Rattle.std.specs.Int.{is_negative}
-use Rattle.eli_base.specs.declared.Refusal.{Refusal}
-use Rattle.eli_base.specs.declared.Refusal.TheVariants.{IterationsNeedOneKey}
+use Rattle.eli_base.specs.declared.refusals.Refusal.{Refusal}
+use Rattle.eli_base.specs.declared.refusals.Refusal.TheVariants.{IterationsNeedOneKey}
 use Rattle.eli_metadata.specs.Check.{is_set, size_matches, slot_matches, supported}
-use Rattle.eli_metadata.specs.declared.Metadata.{Metadata}
+use Rattle.eli_metadata.specs.declared.metadata.Metadata.{Metadata}
 use Rattle.key_slots.specs.Slots.{Opens, OpensAsBefore, SameSlot, with_slot, wrapped}
 use Rattle.user_key.specs.UserKey.{user_key}
-use Rattle.user_key.specs.declared.Components.{Components}
-use Rattle.user_key.specs.declared.KeyFault.{KeyFault}
-use Rattle.user_key.specs.declared.PassPart.{PassPart}
-use Rattle.user_key.specs.declared.PassPart.TheVariants.{Without, Missing, Given}
-use Rattle.user_key.specs.declared.UserKey.{UserKey}
+use Rattle.user_key.specs.declared.components.Components.{Components}
+use Rattle.user_key.specs.declared.components.KeyFault.{KeyFault}
+use Rattle.user_key.specs.declared.components.PassPart.{PassPart}
+use Rattle.user_key.specs.declared.components.PassPart.TheVariants.{Without, Missing, Given}
+use Rattle.user_key.specs.declared.components.UserKey.{UserKey}
 use Rattle.key_commands.specs.Options.{key_refusal}
 
 -- what is asked for: the metadata as they were read, the master key, the slot that is to have it, the iterations where they

@@ -1,9 +1,9 @@
 -- The metadata of a new provider (g_eli.h, struct g_eli_metadata; geli(8), init).
 use Rattle.std.specs.Prelude.{ℕ, ◌+◌, ◌*◌, List, ◌++◌, Bool, true, false}
 use Rattle.eli_base.specs.Algorithms.{auth_number, cipher_number}
-use Rattle.eli_base.specs.declared.Auth.{Auth}
-use Rattle.eli_base.specs.declared.Auth.TheVariants.{Off}
-use Rattle.eli_metadata.specs.declared.Metadata.{Metadata}
+use Rattle.eli_base.specs.declared.algorithms.Auth.{Auth}
+use Rattle.eli_base.specs.declared.algorithms.Auth.TheVariants.{Off}
+use Rattle.eli_metadata.specs.declared.metadata.Metadata.{Metadata}
 use Rattle.key_slots.specs.Slots.{wrapped}
 use Rattle.key_commands.specs.declared.options.InitOptions.{InitOptions}
 use Rattle.key_commands.specs.Random.{salt_in, master_key_in, filler_in}

@@ -3,21 +3,19 @@ use Rattle.std.specs.Prelude.{ℕ, ◌*◌, ◌==◌, [], not, Option, Some, Non
 use Rattle.eli_base.specs.Algorithms.{allows_length}
 use Rattle.eli_base.specs.SectorSize.{is_sector_size}
 use Rattle.eli_base.specs.Units.{media_sectors}
-use Rattle.eli_base.specs.declared.Refusal.{Refusal}
-use Rattle.eli_base.specs.declared.Refusal.TheVariants as refusals
+use Rattle.eli_base.specs.declared.refusals.Refusal.{Refusal}
+use Rattle.eli_base.specs.declared.refusals.Refusal.TheVariants as refusals
+use Rattle.user_key.specs.Refusals.{key_refusal_of}
 use Rattle.user_key.specs.UserKey.{user_key}
-use Rattle.user_key.specs.declared.Components.{Components}
-use Rattle.user_key.specs.declared.UserKey.{UserKey}
-use Rattle.user_key.specs.declared.KeyFault.{KeyFault}
-use Rattle.user_key.specs.declared.KeyFault.TheVariants.{PassphraseNotSet, PassphraseNeeded, NoKeyComponents}
+use Rattle.user_key.specs.declared.components.Components.{Components}
+use Rattle.user_key.specs.declared.components.UserKey.{UserKey}
+use Rattle.user_key.specs.declared.components.KeyFault.{KeyFault}
 use Rattle.key_commands.specs.declared.options.InitOptions.{InitOptions}
 
 -- the refusal of components that make no user key
 abbrev pub key_refusal : Result UserKey KeyFault → Option Refusal
 key_refusal (Ok key) = None
-key_refusal (Err PassphraseNotSet) = Some refusals.PassphraseNotSet
-key_refusal (Err PassphraseNeeded) = Some refusals.PassphraseNeeded
-key_refusal (Err NoKeyComponents) = Some refusals.NoKeyComponents
+key_refusal (Err fault) = Some (key_refusal_of fault)
 
 -- the first refusal that holds of an image of so many device sectors. One of fewer than two has no logical
 -- sector. Whether components make a key is the same under every salt, so it is asked with none.

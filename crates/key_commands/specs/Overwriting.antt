@@ -1,13 +1,14 @@
 -- Slots of the metadata that are cleared and overwritten (geli(8), delkey).
 use Rattle.std.specs.Prelude.{◌≡◌, ℕ, ◌*◌, ◌<◌, ◌&&◌, not, nat_lt, bit_and, Bool, IsTrue, false, List, length, map, Option, Some, None, Ok, if◌then◌else◌}
+use Rattle.std.specs.Coded.{Unit-prop, le_prop}
 use Rattle.block_traits.specs.Disk.{DiskState, last_sector}
 use Rattle.block_traits.specs.Overwriting.{overwrite_events, passes_of}
-use Rattle.block_traits.specs.declared.Event.{Event}
-use Rattle.eli_base.specs.declared.Refusal.{Refusal}
-use Rattle.eli_base.specs.declared.Refusal.TheVariants.{KeyNumberOutOfRange, KeyNotSet, LastKey}
+use Rattle.block_traits.specs.declared.disk.Event.{Event}
+use Rattle.eli_base.specs.declared.refusals.Refusal.{Refusal}
+use Rattle.eli_base.specs.declared.refusals.Refusal.TheVariants.{KeyNumberOutOfRange, KeyNotSet, LastKey}
 use Rattle.eli_metadata.specs.Check.{is_set}
 use Rattle.eli_metadata.specs.Format.{IsInRange, encoded, is_served, metadata_in}
-use Rattle.eli_metadata.specs.declared.Metadata.{Metadata}
+use Rattle.eli_metadata.specs.declared.metadata.Metadata.{Metadata}
 use Rattle.key_slots.specs.Slots.{without_slot}
 use Rattle.key_commands.specs.NewKey.{is_only_key}
 use Rattle.key_commands.specs.declared.overwriting.Which.{Which}
@@ -26,6 +27,11 @@ deletion_refusal m (slots.One slot) force =
 abbrev pub IsThere : Which → Type 0
 IsThere slots.All = Unit {0}
 IsThere (slots.One slot) = slot < 2
+
+-- which holds in one way at most, for the ghost field of what clears them
+pub IsThere-prop : (which : Which) → IsProp (IsThere which)
+IsThere-prop slots.All = Unit-prop
+IsThere-prop (slots.One slot) = le_prop
 
 -- each field fits its type
 pub record IsWhole (m : Metadata) : Type 0 where

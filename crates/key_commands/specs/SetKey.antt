@@ -2,11 +2,11 @@
 use Rattle.std.specs.Prelude.{◌≡◌, IsTrue, Some, Result, Ok, Err}
 use Rattle.block_traits.specs.Disk.{DiskState, FailsIn, Logs, last_sector, store_events}
 use Rattle.block_traits.specs.Moments.{KeepsAlone, KeepsOldOr}
-use Rattle.eli_base.specs.declared.Refusal.{Refusal}
-use Rattle.eli_base.specs.declared.Refusal.TheVariants.{DeviceFault}
+use Rattle.eli_base.specs.declared.refusals.Refusal.{Refusal}
+use Rattle.eli_base.specs.declared.refusals.Refusal.TheVariants.{DeviceFault}
 use Rattle.eli_metadata.specs.Format.{encoded, is_served, metadata_in}
 use Rattle.eli_metadata.specs.Place.{IsSectorOf}
-use Rattle.eli_metadata.specs.declared.Metadata.{Metadata}
+use Rattle.eli_metadata.specs.declared.metadata.Metadata.{Metadata}
 use Rattle.key_commands.specs.NewKey.{KeyChange, MakesKey, change_refusal}
 
 -- the new metadata were written with both events, and the last sector then holds them alone

@@ -4,11 +4,11 @@ use Rattle.std.specs.Prelude.{◌≡◌, ◌≤◌, ℕ, ◌*◌, List, false, N
 use Rattle.eli_base.specs.Units.{media_sectors}
 use Rattle.eli_metadata.specs.Check.{Settings, supported, size_matches, slot_matches}
 use Rattle.eli_metadata.specs.Format.{encoded, metadata_in}
-use Rattle.eli_metadata.specs.declared.Metadata.{Metadata}
+use Rattle.eli_metadata.specs.declared.metadata.Metadata.{Metadata}
 use Rattle.key_slots.specs.Slots.{unwrapped, unwrapped_any}
 use Rattle.user_key.specs.UserKey.{user_key}
-use Rattle.user_key.specs.declared.Components.{Components}
-use Rattle.user_key.specs.declared.UserKey.{UserKey}
+use Rattle.user_key.specs.declared.components.Components.{Components}
+use Rattle.user_key.specs.declared.components.UserKey.{UserKey}
 use Rattle.key_commands.specs.declared.options.InitOptions.{InitOptions}
 
 -- what metadata by these options say of the data of an image of so many device sectors

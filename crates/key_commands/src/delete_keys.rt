@@ -1,7 +1,5 @@
-//! Keys that are taken out of the metadata.
-
+// Keys that are taken out of the metadata.
 ghost use Rattle.std.specs.Prelude.{◌≡◌, ◌<◌};
-ghost use Rattle.block_traits.specs.Streams.{entropy_of};
 ghost use Rattle.key_commands.specs.DeleteKeys.{DeletesKeys, Deletion};
 
 use crate::overwriting::{Which, cleared, deletion_refusal, filler_size, pass_sectors};
@@ -28,8 +26,8 @@ pub fn delkey<P: MetaPlace, E: Entropy>(
 ) -> Result<Metadata, Refusal>
     requires { 0 < (P.state place.old).size }
     ensures deletes { let asked : Deletion = record { meta = meta.now; which = which; force = force } in
-        DeletesKeys asked (P.state place.old) (entropy_of E.left E.faults entropy.old)
-        result (P.state place.new) (entropy_of E.left E.faults entropy.new) }
+        DeletesKeys asked (P.state place.old) (E.state entropy.old)
+        result (P.state place.new) (E.state entropy.new) }
     ensures rest { P.rest place.new ≡ P.rest place.old }
 {
     if let Some(refusal) = deletion_refusal(meta, which, force) {

@@ -204,14 +204,18 @@ fn delete(
 #[test]
 fn new_keys(rt: HostRuntime) -> Result<(), Fail> {
     let alloc = rt.alloc();
-    for case in &CHANGE_CASES {
+    for (row, case) in CHANGE_CASES.iter().enumerate() {
         let mut place = new_place(alloc)?;
         let parts = components(alloc, case.passphrase)?;
         let meta = metadata(case.keys, case.kept);
         let made = set(&rt, &mut place, &meta, case.slot, case.given, &parts);
-        assert!(rt; made.is_ok());
+        assert!(rt; made.is_ok(), "row {row}");
         let expected = format!(in alloc; "2047 {}\nflush\n", case.digest)?;
-        assert_eq!(rt; history_text(alloc, &place)?.as_str(), expected.as_str());
+        assert_eq!(rt;
+            history_text(alloc, &place)?.as_str(),
+            expected.as_str(),
+            "row {row}"
+        );
     }
     Ok(())
 }
@@ -228,8 +232,8 @@ fn refused_keys(rt: HostRuntime) -> Result<(), Fail> {
     for (keys, kept, given, refusal) in cases {
         let mut place = new_place(alloc)?;
         let answer = set(&rt, &mut place, &metadata(keys, kept), 0, given, &parts);
-        assert_eq!(rt; answer, Err(refusal));
-        assert_eq!(rt; place.disk.history().len(), 0);
+        assert_eq!(rt; answer, Err(refusal), "{keys:#x} {kept} {given:?}");
+        assert_eq!(rt; place.disk.history().len(), 0, "{keys:#x} {kept} {given:?}");
     }
     let mut place = new_place(alloc)?;
     parts.passphrase = PassPart::Missing;
@@ -248,17 +252,21 @@ fn refused_keys(rt: HostRuntime) -> Result<(), Fail> {
 #[test]
 fn deleted_keys(rt: HostRuntime) -> Result<(), Fail> {
     let alloc = rt.alloc();
-    for case in &DELETION_CASES {
+    for (row, case) in DELETION_CASES.iter().enumerate() {
         let mut place = new_place(alloc)?;
         let mut entropy = MemEntropy::new(alloc, &random_bytes())?;
         let meta = metadata(0x47, 1000);
         let left = delete(&rt, &mut place, &meta, case.which, false, &mut entropy);
-        assert!(rt; left.is_ok());
+        assert!(rt; left.is_ok(), "row {row}");
         let mut expected = String::new(alloc);
         for digest in &case.digests {
             write!(expected, "2047 {digest}\nflush\n")?;
         }
-        assert_eq!(rt; history_text(alloc, &place)?.as_str(), expected.as_str());
+        assert_eq!(rt;
+            history_text(alloc, &place)?.as_str(),
+            expected.as_str(),
+            "row {row}"
+        );
     }
     Ok(())
 }
@@ -283,14 +291,18 @@ fn refused_deletions(rt: HostRuntime) -> Result<(), Fail> {
         let mut entropy = MemEntropy::new(alloc, &[0; 959])?;
         let meta = metadata(keys, 1000);
         let answer = delete(&rt, &mut place, &meta, which, force, &mut entropy);
-        assert_eq!(rt; answer, Err(refusal));
-        assert_eq!(rt; place.disk.history().len(), 0);
+        assert_eq!(rt; answer, Err(refusal), "{keys:#x} {which:?} {force}");
+        assert_eq!(rt;
+            place.disk.history().len(),
+            0,
+            "{keys:#x} {which:?} {force}"
+        );
     }
     Ok(())
 }
 
 // A new key in slot 1, or keys that are taken out.
-#[derive(Clone, Copy)]
+#[derive(Clone, Copy, Debug)]
 enum Change {
     Set,
     Delete(Which),
@@ -407,17 +419,25 @@ fn failing_calls(
                     delete(rt, &mut place, &meta, which, true, &mut entropy)
                 }
             };
-            assert_eq!(rt; answer, Err(Refusal::DeviceFault), "call {number}");
+            assert_eq!(rt;
+                answer,
+                Err(Refusal::DeviceFault),
+                "{change:?}, call {number}, lands: {lands}"
+            );
             let events = place.disk.history().len();
             assert_eq!(rt;
                 events as u64,
                 number + 1 + u64::from(lands),
-                "call {number}"
+                "{change:?}, call {number}, lands: {lands}"
             );
             for (event, expected) in moments.iter().enumerate() {
                 if event < events {
                     let letters = letters_at(alloc, &place.disk, &keys, event)?;
-                    assert_eq!(rt; letters.as_str(), *expected, "call {number}, event {event}");
+                    assert_eq!(rt;
+                        letters.as_str(),
+                        *expected,
+                        "{change:?}, call {number}, lands: {lands}, event {event}"
+                    );
                 }
             }
         }

@@ -8,9 +8,9 @@ mod delete_keys;
 #[cfg(test)]
 mod key_tests;
 mod laws;
+mod new_provider;
 mod options;
 mod overwriting;
-mod provider;
 mod random;
 mod set_key;
 mod storing;
@@ -22,7 +22,7 @@ pub use laws::{
     cleared_slot_opens_no_more, iterations_stay_for_the_other_key, new_metadata_are_accepted,
     new_slot_opens, other_key_is_made_again,
 };
+pub use new_provider::init;
 pub use options::InitOptions;
 pub use overwriting::Which;
-pub use provider::init;
 pub use set_key::setkey;

@@ -1,5 +1,4 @@
-//! What a new provider is to be, and what is refused before anything is done.
-
+// What a new provider is to be, and what is refused before anything is done.
 ghost use Rattle.std.specs.Prelude.{◌≡◌, ◌<◌, ◌^◌, ◌*◌, ◌==◌, ℕ, List, IsTrue, OnOk, IfErr};
 ghost use Rattle.std.specs.Bool.{OnFalse};
 ghost use Rattle.eli_base.specs.Algorithms.{allows_length};
@@ -10,6 +9,7 @@ ghost use Rattle.user_key.specs.UserKey.{user_key};
 ghost use Rattle.key_commands.specs.Options.{early_refusal, key_refusal};
 
 use eli_base::{Auth, Cipher, Geometry, Params, Refusal, sector_size_ok};
+use eli_metadata::VERSION;
 use user_key::{Components, PassPart};
 
 /// What a new provider is to be, by the options of `geli init` (geli(8)).
@@ -28,9 +28,6 @@ pub struct InitOptions {
     /// Whether the provider is to grow with its image; `-R` says that it isn't.
     pub autoresize: bool,
 }
-
-/// The version of the metadata that is written (g_eli.h, `G_ELI_VERSION`).
-pub const VERSION: u32 = 7;
 
 // Whether an image of so many device sectors has no whole logical sector beside its metadata.
 fn has_no_media(options: &InitOptions, sectors: u64) -> bool

@@ -1,12 +1,11 @@
-//! Slots that are cleared and overwritten.
-
+// Slots that are cleared and overwritten.
 ghost use Rattle.std.specs.Prelude.{◌≡◌, ◌<◌, ◌≤◌, IfNone, length};
-ghost use Rattle.block_traits.specs.Overwriting.{piece_of, zeros};
+ghost use Rattle.block_traits.specs.Overwriting.{zeros};
 ghost use Rattle.eli_metadata.specs.Check.{is_set};
-ghost use Rattle.key_commands.specs.Overwriting.{IsThere, IsWhole, deletion_refusal, filler_size, named_size, pass_sectors, sector_without, without_keys};
+ghost use Rattle.key_commands.specs.Overwriting.{IsThere, IsThere-prop, IsWhole, deletion_refusal, filler_size, named_size, pass_sectors, without_keys};
 
 use crate::set_key::is_only_key;
-use block_traits::Sector;
+use block_traits::{Pass, Sector, passes};
 use eli_base::Refusal;
 use eli_metadata::{Metadata, encode};
 use key_slots::clear_slot;
@@ -26,13 +25,6 @@ const RANDOM_PASSES: usize = 5;
 // The bytes of both slots.
 const ZEROS: [u8; 384] = [0; 384];
 
-fn is_set(meta: &Metadata, slot: u8) -> bool
-    requires { slot < 2 }
-    ensures { result ≡ is_set meta.now slot }
-{
-    meta.keys & (1 << slot) != 0
-}
-
 /// Why the slots can't be cleared, if so.
 pub fn deletion_refusal(meta: &Metadata, which: Which, force: bool) -> Option<Refusal>
     ensures answer { result ≡ deletion_refusal meta.now which force }
@@ -44,7 +36,7 @@ pub fn deletion_refusal(meta: &Metadata, which: Which, force: bool) -> Option<Re
     if slot > 1 {
         return Some(Refusal::KeyNumberOutOfRange { given: slot });
     }
-    if !is_set(meta, slot) {
+    if !meta.is_set(slot) {
         return Some(Refusal::KeyNotSet { slot });
     }
     if !force && is_only_key(meta, slot) {
@@ -71,13 +63,18 @@ pub fn filler_size(which: Which) -> usize
     RANDOM_PASSES * named_size(which)
 }
 
-// The metadata with these bytes in the slots, which are then clear. (That all fields fit their types is known here, where
-// they are read: so what each pass writes is read again.)
+// All fields fit their types, so that what each pass writes is read again.
+fn fits_types(meta: Metadata)
+    ensures { IsWhole meta }
+{
+    let _ = meta;
+}
+
+// The metadata with these bytes in the slots, which are then clear.
 fn without_keys(meta: Metadata, which: Which, bytes: &[u8]) -> Metadata
     requires there { IsThere which }
     requires size { length bytes.now ≡ named_size which }
     ensures fields { result ≡ without_keys meta which bytes.now }
-    ensures whole { IsWhole meta }
 {
     let mut new = meta;
     match which {
@@ -101,32 +98,34 @@ pub fn cleared(meta: &Metadata, which: Which) -> Metadata
     ensures fields { result ≡ without_keys meta.now which (zeros (named_size which)) }
     ensures whole { IsWhole meta.now }
 {
+    fits_types(*meta);
     without_keys(*meta, which, &ZEROS[..named_size(which)])
 }
 
-// The sector of the metadata that a pass of random bytes writes, the first of which is number 0.
-fn random_pass(meta: &Metadata, which: Which, random: &[u8], pass: usize) -> Sector
-    requires there { IsThere which }
-    requires size { length random.now ≡ filler_size which }
-    requires pass { pass < 5 }
-    ensures { result ≡ sector_without meta.now which (piece_of (named_size which) random.now pass) }
-{
-    let size = named_size(which);
-    let meta = without_keys(*meta, which, &random[size * pass..size * pass + size]);
-    let mut sector = [0; 512];
-    encode(&meta, &mut sector);
-    sector
+// A pass makes of its bytes the sector of the metadata with them in the named slots.
+#[derive(Drop)]
+struct Clearing {
+    meta: Metadata,
+    which: Which,
+    ghost there: { IsThere which } by { IsThere-prop which },
 }
 
-// The sector of the metadata that the last pass writes.
-fn last_pass(meta: &Metadata, which: Which) -> Sector
-    requires there { IsThere which }
-    ensures sector { result ≡ sector_without meta.now which (zeros (named_size which)) }
-    ensures whole { IsWhole meta.now }
-{
-    let mut sector = [0; 512];
-    encode(&cleared(meta, which), &mut sector);
-    sector
+impl Pass for Clearing {
+    ghost use Rattle.key_commands.specs.Overwriting.{named_size, sector_without};
+
+    ghost size = { λ pass. named_size pass.which };
+
+    ghost sector = { λ pass. sector_without pass.meta pass.which };
+
+    fn size(&self) -> usize {
+        named_size(self.which)
+    }
+
+    fn sector(&self, bytes: &[u8]) -> Sector {
+        let mut sector = [0; 512];
+        encode(&without_keys(self.meta, self.which, bytes), &mut sector);
+        sector
+    }
 }
 
 /// The sectors of the six passes, in order.
@@ -136,12 +135,7 @@ pub fn pass_sectors(meta: &Metadata, which: Which, random: &[u8]) -> [Sector; 6]
     ensures sectors { result ≡ pass_sectors meta.now which random.now }
     ensures whole { IsWhole meta.now }
 {
-    [
-        random_pass(meta, which, random, 0),
-        random_pass(meta, which, random, 1),
-        random_pass(meta, which, random, 2),
-        random_pass(meta, which, random, 3),
-        random_pass(meta, which, random, 4),
-        last_pass(meta, which),
-    ]
+    fits_types(*meta);
+    let pass = Clearing { meta: *meta, which };
+    passes(&pass, random)
 }

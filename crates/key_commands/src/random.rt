@@ -1,7 +1,6 @@
-//! The random bytes of a new provider.
-
+// The random bytes of a new provider.
 ghost use Rattle.std.specs.Prelude.{◌≡◌, IfOk, OnErr};
-ghost use Rattle.block_traits.specs.Streams.{TakesNone, entropy_of};
+ghost use Rattle.block_traits.specs.Streams.{TakesNone};
 ghost use Rattle.key_commands.specs.Random.{Draws, filler_in, master_key_in, salt_in};
 
 use block_traits::{Entropy, EntropyFailed};
@@ -44,8 +43,8 @@ fn filler_in(random: &[u8; 384]) -> [u8; 192]
 
 /// Takes the random bytes of a new provider, all in one call. A failure takes nothing.
 pub fn draw<E: Entropy>(entropy: &mut E) -> Result<RandomParts, EntropyFailed>
-    ensures ok { IfOk result (λ parts. Draws parts (entropy_of E.left E.faults entropy.old) (entropy_of E.left E.faults entropy.new)) }
-    ensures err { OnErr result (TakesNone (entropy_of E.left E.faults entropy.old) (entropy_of E.left E.faults entropy.new)) }
+    ensures ok { IfOk result (λ parts. Draws parts (E.state entropy.old) (E.state entropy.new)) }
+    ensures err { OnErr result (TakesNone (E.state entropy.old) (E.state entropy.new)) }
 {
     let mut random = [0; 384];
     entropy.fill(&mut random)?;

@@ -1,9 +1,7 @@
-//! A new key in a slot.
-
-ghost use Rattle.std.specs.Prelude.{◌≡◌, ◌≢◌, ◌==◌, ◌<◌, ◌^◌, ℕ, bit_and, IfErr, IfOk, IsOk, Err, Some};
+// A new key in a slot.
+ghost use Rattle.std.specs.Prelude.{◌≡◌, ◌≢◌, ◌==◌, ◌<◌, ◌^◌, ℕ, bit_and, IfErr, IfOk, IsOk, Some};
 ghost use Rattle.eli_metadata.specs.Check.{supported};
 ghost use Rattle.key_commands.specs.NewKey.{KeyChange, MakesKey, change_refusal, new_iterations};
-ghost use Rattle.key_commands.specs.Options.{key_refusal};
 ghost use Rattle.key_commands.specs.SetKey.{SetsKey};
 ghost use Rattle.key_slots.specs.Slots.{IsKeyBits, Opens, SameSlot, with_slot, wrapped};
 
@@ -12,7 +10,7 @@ use block_traits::MetaPlace;
 use eli_base::{MasterKey, Refusal};
 use eli_metadata::Metadata;
 use key_slots::{put_slot, wrap};
-use user_key::{Components, KeyFault, PassPart, UserKey, derive};
+use user_key::{Components, PassPart, UserKey, derive};
 
 // The iterations that a passphrase brings where none was set up.
 const USUAL_ITERATIONS: i32 = 100_000;
@@ -33,16 +31,6 @@ pub fn is_only_key(meta: &Metadata, slot: u8) -> bool
     ensures { result ≡ (bit_and meta.now.keys 3 == 2 ^ slot) }
 {
     meta.keys & 3 == 1 << slot
-}
-
-fn refusal_of(fault: KeyFault) -> Refusal
-    ensures { key_refusal (Err fault) ≡ Some result }
-{
-    match fault {
-        KeyFault::PassphraseNotSet => Refusal::PassphraseNotSet,
-        KeyFault::PassphraseNeeded => Refusal::PassphraseNeeded,
-        KeyFault::NoKeyComponents => Refusal::NoKeyComponents,
-    }
 }
 
 // The metadata with other iterations, and the master key wrapped by a user key in a slot.
@@ -89,10 +77,8 @@ fn changed(
         return Err(Refusal::IterationsNeedOneKey);
     }
     let count = new_iterations(iterations, &parts.passphrase, meta.iterations);
-    match derive(parts, &meta.salt, count) {
-        Ok(key) => Ok(with_key(meta, master, slot, count, &key)),
-        Err(fault) => Err(refusal_of(fault)),
-    }
+    let key = derive(parts, &meta.salt, count)?;
+    Ok(with_key(meta, master, slot, count, &key))
 }
 
 /// Wraps the master key for a new user key, made of these components, in the slot `target`, and stores the

@@ -134,18 +134,18 @@ fn text_of(alloc: Global, event: &Event) -> Result<String, AllocError> {
 #[test]
 fn new_metadata_sectors(rt: HostRuntime) -> Result<(), Fail> {
     let alloc = rt.alloc();
-    for case in &SECTOR_CASES {
+    for (row, case) in SECTOR_CASES.iter().enumerate() {
         let mut disk = MemDisk::new(alloc, 2048, 8)?;
         let mut entropy = MemEntropy::new(alloc, &random_bytes())?;
         let parts = components(alloc, case.passphrase)?;
         let made = init(&mut disk, &case.options, &parts, &mut entropy);
-        assert!(rt; made.is_ok());
+        assert!(rt; made.is_ok(), "row {row}");
         let mut events = String::new(alloc);
         for event in disk.history() {
             write!(events, "{}\n", text_of(alloc, event)?)?;
         }
         let expected = format!(in alloc; "flush\n2047 {}\nflush\n", case.sector)?;
-        assert_eq!(rt; events.as_str(), expected.as_str());
+        assert_eq!(rt; events.as_str(), expected.as_str(), "row {row}");
     }
     Ok(())
 }
@@ -195,8 +195,8 @@ fn refusals_leave_the_disk(rt: HostRuntime) -> Result<(), Fail> {
         let mut disk = MemDisk::new(alloc, sectors, 8)?;
         let mut entropy = MemEntropy::new(alloc, &[])?;
         let answer = init(&mut disk, &options, &parts, &mut entropy);
-        assert_eq!(rt; answer, Err(refusal));
-        assert_eq!(rt; disk.history().len(), 0);
+        assert_eq!(rt; answer, Err(refusal), "{sectors} of {options:?}");
+        assert_eq!(rt; disk.history().len(), 0, "{sectors} of {options:?}");
     }
     Ok(())
 }

@@ -6,7 +6,7 @@ use Rattle.block_traits.specs.Cabinet.{Files}
 use Rattle.block_traits.specs.declared.cabinet.LoadFault.TheVariants.{TooLong}
 use Rattle.eli_base.specs.declared.refusals.Refusal.{Refusal}
 use Rattle.user_key.specs.Passphrase.{first_line}
-use Rattle.key_components.specs.Answers.{IsAnswer, file_answer, refused, unless}
+use Rattle.key_components.specs.Answers.{IsAnswer, file_answer, refused, unless_refused}
 use Rattle.key_components.specs.Files.{file_limit, passphrase_fault}
 use Rattle.key_components.specs.Parts.{line_fault}
 
@@ -19,8 +19,8 @@ not_too_long bytes fits = grind (arith, nat_tests)
 
 line_is : (word used : ℕ) (held : Option (List ℕ)) (file : List ℕ) (result : Result (List ℕ) Refusal)
     → Ok file ≡ file_answer word file_limit held
-    → IsAnswer (unless (line_fault word used file) (first_line file)) result
-    → IsAnswer (unless (passphrase_fault word used held) (first_line (unwrap_or held []))) result
+    → IsAnswer (unless_refused (line_fault word used file) (first_line file)) result
+    → IsAnswer (unless_refused (passphrase_fault word used held) (first_line (unwrap_or held []))) result
 line_is word used None file result loaded answer = cc
 line_is word used (Some bytes) file result loaded answer =
     let parts = was_loaded word (nat_le (length bytes) file_limit) bytes file loaded in
@@ -29,7 +29,7 @@ line_is word used (Some bytes) file result loaded answer =
 -- the answer for the first line is that for the file
 pub PassphraseIs : (word used : ℕ) (told : Option Files) (name file : List ℕ) (result : Result (List ℕ) Refusal)
     → IfSome told (λ files. IsAnswer (file_answer word file_limit (files name)) (Ok file))
-    → IsAnswer (unless (line_fault word used file) (first_line file)) result
-    → IfSome told (λ files. IsAnswer (unless (passphrase_fault word used (files name)) (first_line (unwrap_or (files name) []))) result)
+    → IsAnswer (unless_refused (line_fault word used file) (first_line file)) result
+    → IfSome told (λ files. IsAnswer (unless_refused (passphrase_fault word used (files name)) (first_line (unwrap_or (files name) []))) result)
 PassphraseIs word used None name file result loaded answer = tt
 PassphraseIs word used (Some files) name file result loaded answer = line_is word used (files name) file result loaded answer

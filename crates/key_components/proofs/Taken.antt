@@ -10,7 +10,7 @@ use Rattle.command_words.specs.declared.spans.Span.{Span}
 use Rattle.eli_base.specs.declared.refusals.Refusal.{Refusal}
 use Rattle.eli_base.specs.declared.refusals.Refusal.TheVariants.{CabinetFault, NoMemory}
 use Rattle.key_components.specs.Files.{Taking, content, first_fault, joined}
-use Rattle.key_components.specs.Answers.{unless, IsRefusal, IsAnswer, IsAt, word_of}
+use Rattle.key_components.specs.Answers.{unless_refused, IsRefusal, IsAnswer, IsAt, word_of}
 
 option_or-assoc : (a b c : Option Refusal) → option_or (option_or a b) c ≡ option_or a (option_or b c)
 option_or-assoc None b c = refl
@@ -63,13 +63,13 @@ Taken-more taking files line spans bytes span piece taken good is = record {
 }
 
 -- a value is answered only where nothing is refused
-pub unless-ok : {T : Type 0} (fault : Option Refusal) (value got : T) → Ok got ≡ unless fault value → (fault ≡ None) × (got ≡ value)
-unless-ok None value got is = (refl, cc)
-unless-ok (Some refusal) value got is = cc
+pub unless_refused-ok : {T : Type 0} (fault : Option Refusal) (value got : T) → Ok got ≡ unless_refused fault value → (fault ≡ None) × (got ≡ value)
+unless_refused-ok None value got is = (refl, cc)
+unless_refused-ok (Some refusal) value got is = cc
 
-unless-err : {T : Type 0} (fault : Option Refusal) (value : T) (refusal : Refusal) → Err refusal ≡ unless fault value → fault ≡ Some refusal
-unless-err None value refusal is = cc
-unless-err (Some other) value refusal is = cc
+unless_refused-err : {T : Type 0} (fault : Option Refusal) (value : T) (refusal : Refusal) → Err refusal ≡ unless_refused fault value → fault ≡ Some refusal
+unless_refused-err None value refusal is = cc
+unless_refused-err (Some other) value refusal is = cc
 
 pub IsRefusal-weaker : {T U : Type 0} (answer : Result T Refusal) (other : Result U Refusal) (refusal : Refusal) → (Err refusal ≡ answer → Err refusal ≡ other) → IsRefusal answer refusal → IsRefusal other refusal
 IsRefusal-weaker answer other (CabinetFault word) same is = tt
@@ -83,20 +83,20 @@ TakenSo taking told line spans bytes = IfSome told (λ files. Taken taking files
 -- the answer for the file of one span
 abbrev pub PieceIs : Taking → Option Files → List ℕ → ℕ → Span → Result (List ℕ) Refusal → Type 0
 PieceIs taking told line used span result =
-    IfSome told (λ files. IsAnswer (unless (taking.fault span.word used (files (bytes_at line span))) (taking.piece (content files line span))) result)
+    IfSome told (λ files. IsAnswer (unless_refused (taking.fault span.word used (files (bytes_at line span))) (taking.piece (content files line span))) result)
 
 pub TakenSo-more : (taking : Taking) (told : Option Files) (line : List ℕ) (spans : List Span) (bytes : List ℕ) (span : Span) (piece : List ℕ)
     → TakenSo taking told line spans bytes → PieceIs taking told line (length bytes) span (Ok piece)
     → TakenSo taking told line (spans ++ span ∷ []) (bytes ++ piece)
 TakenSo-more taking None line spans bytes span piece taken is = tt
 TakenSo-more taking (Some files) line spans bytes span piece taken is =
-    let parts = unless-ok (taking.fault span.word (length bytes) (files (bytes_at line span))) (taking.piece (content files line span)) piece is in
+    let parts = unless_refused-ok (taking.fault span.word (length bytes) (files (bytes_at line span))) (taking.piece (content files line span)) piece is in
     Taken-more taking files line spans bytes span piece taken parts.0 parts.1
 
 -- the answer for all files of an option
 abbrev pub PartIs : Taking → Option Files → List ℕ → List Span → Result (List ℕ) Refusal → Type 0
 PartIs taking told line spans result =
-    IfSome told (λ files. IsAnswer (unless (first_fault taking files line 0 spans) (joined taking files line spans)) result)
+    IfSome told (λ files. IsAnswer (unless_refused (first_fault taking files line 0 spans) (joined taking files line spans)) result)
 
 pub PartIs-refused : (taking : Taking) (told : Option Files) (line : List ℕ) (spans : List Span) (bytes : List ℕ) (span : Span) (behind : List Span) (refusal : Refusal)
     → TakenSo taking told line spans bytes → PieceIs taking told line (length bytes) span (Err refusal)
@@ -106,9 +106,9 @@ PartIs-refused taking (Some files) line spans bytes span behind refusal taken is
     let fault = taking.fault span.word (length bytes) (files (bytes_at line span)) in
     let value = taking.piece (content files line span) in
     let all = spans ++ span ∷ behind in
-    IsRefusal-weaker (unless fault value) (unless (first_fault taking files line 0 all) (joined taking files line all)) refusal
-    (λ same. ap (λ f. unless f (joined taking files line all))
-    (sym (next_fault taking files line spans bytes span behind taken ∙ ap (λ f. option_or f (first_fault taking files line (length bytes + length value) behind)) (unless-err fault value refusal same))))
+    IsRefusal-weaker (unless_refused fault value) (unless_refused (first_fault taking files line 0 all) (joined taking files line all)) refusal
+    (λ same. ap (λ f. unless_refused f (joined taking files line all))
+    (sym (next_fault taking files line spans bytes span behind taken ∙ ap (λ f. option_or f (first_fault taking files line (length bytes + length value) behind)) (unless_refused-err fault value refusal same))))
     is
 
 served : (taking : Taking) (told : Option Files) (line : List ℕ) (spans : List Span) (bytes : List ℕ)

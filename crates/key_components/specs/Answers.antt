@@ -12,9 +12,9 @@ use Rattle.eli_base.specs.declared.refusals.Refusal.TheVariants.{CabinetFault, F
 use Rattle.key_components.specs.Files.{Taking, file_limit, first_fault, key_files, passphrase_files, passphrase_limit}
 
 -- a refusal, or else a value
-abbrev pub unless : {T : Type 0} → Option Refusal → T → Result T Refusal
-unless None value = Ok value
-unless (Some refusal) value = Err refusal
+abbrev pub unless_refused : {T : Type 0} → Option Refusal → T → Result T Refusal
+unless_refused None value = Ok value
+unless_refused (Some refusal) value = Err refusal
 
 -- the refusal of a file that the word names, by what a load of it answers
 abbrev pub refusal_of : ℕ → LoadFault → Refusal

@@ -1,8 +1,6 @@
-//! One file of a key.
-
+// One file of a key.
 ghost use Rattle.std.specs.Prelude.{◌≡◌, ◌≤◌, length, IfOk, IfErr, IfSome};
 ghost use Rattle.std.specs.Result.{result_err};
-ghost use Rattle.block_traits.specs.Cabinet.{cabinet_of};
 ghost use Rattle.command_words.specs.Places.{IsWithin, bytes_at};
 ghost use Rattle.key_components.specs.Answers.{IsAnswer, Loads, file_answer, refusal_of, word_of};
 
@@ -38,10 +36,10 @@ pub fn load_file<C: Cabinet>(
     files: &mut C,
 ) -> Result<ByteList, Refusal>
     requires { IsWithin (length line.now) span }
-    ensures answer { IfSome (C.files files.old) (λ told. IsAnswer (file_answer span.word limit (told (bytes_at line.now span))) result) }
+    ensures answer { IfSome (C.state files.old).files (λ told. IsAnswer (file_answer span.word limit (told (bytes_at line.now span))) result) }
     ensures within { IfOk result (λ bytes. length bytes ≤ limit) }
     ensures word { IfErr result (λ refusal. IfSome (word_of refusal) (λ word. span.word ≡ word)) }
-    ensures loads { Loads (cabinet_of C.files C.faults C.misses files.old) (cabinet_of C.files C.faults C.misses files.new) (result_err result) }
+    ensures loads { Loads (C.state files.old) (C.state files.new) (result_err result) }
 {
     match files.load(alloc, span.bytes_in(line), limit as u64) {
         Ok(bytes) => Ok(bytes),

@@ -1,8 +1,6 @@
-//! The components of a key.
-
+// The components of a key.
 ghost use Rattle.std.specs.Prelude.{◌≡◌, ◌+◌, ◌≤◌, length, IfOk, IfErr, IfSome};
 ghost use Rattle.std.specs.Result.{result_err};
-ghost use Rattle.block_traits.specs.Cabinet.{cabinet_of};
 ghost use Rattle.command_words.specs.Places.{KeyIsWithin};
 ghost use Rattle.key_components.specs.Answers.{IsAnswer, IsReached, Loads, word_of};
 ghost use Rattle.key_components.specs.Key.{FitsWords, components_of, passphrase_of};
@@ -46,19 +44,19 @@ pub fn load_components<C: Cabinet>(
     requires { KeyIsWithin (length line.now) words.now }
 
     // Where the cabinet tells its files, they decide the answer, unless it failed or there was no memory.
-    ensures answer { IfSome (C.files files.old) (λ told. IsAnswer (components_of told line.now words.now) result) }
+    ensures answer { IfSome (C.state files.old).files (λ told. IsAnswer (components_of told line.now words.now) result) }
 
     // In any case the components are of the kind that the words want, and within the limits.
     ensures fits { IfOk result (FitsWords words.now) }
 
     // A refusal names the word of a file that was reached.
-    ensures reached { IfErr result (λ refusal. IfSome (word_of refusal) (IsReached (C.files files.old) line.now words.now)) }
+    ensures reached { IfErr result (λ refusal. IfSome (word_of refusal) (IsReached (C.state files.old).files line.now words.now)) }
 
     // Where no file is named nothing is refused.
     ensures named { IfErr result (λ _. 1 ≤ length words.now.files + length words.now.pass) }
 
     // Each refusal has its cause, and no file changes.
-    ensures loads { Loads (cabinet_of C.files C.faults C.misses files.old) (cabinet_of C.files C.faults C.misses files.new) (result_err result) }
+    ensures loads { Loads (C.state files.old) (C.state files.new) (result_err result) }
 {
     let keyfiles = load_part(alloc, line, Part::KeyFiles, words.files.as_slice(), files)?;
     let passphrase = load_part(alloc, line, Part::Passphrase, words.pass.as_slice(), files)?;

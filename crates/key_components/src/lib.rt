@@ -10,4 +10,5 @@ mod parts;
 #[cfg(test)]
 mod tests;
 
+pub use files::{FILE_LIMIT, load_file};
 pub use key::load_components;

@@ -1,11 +1,9 @@
-//! The files of one option of a key.
-
+// The files of one option of a key.
 ghost use Rattle.std.specs.Prelude.{◌≡◌, ◌+◌, ◌≤◌, ◌⊎◌, All, length, IfOk, IfErr, IfSome};
 ghost use Rattle.std.specs.Result.{result_err};
-ghost use Rattle.block_traits.specs.Cabinet.{cabinet_of};
 ghost use Rattle.command_words.specs.Places.{IsWithin, bytes_at};
 ghost use Rattle.user_key.specs.Passphrase.{first_line};
-ghost use Rattle.key_components.specs.Answers.{IsAnswer, IsAt, Loads, unless, word_of};
+ghost use Rattle.key_components.specs.Answers.{IsAnswer, IsAt, Loads, unless_refused, word_of};
 ghost use Rattle.key_components.specs.Files.{content, first_fault, joined, passphrase_limit};
 ghost use Rattle.key_components.specs.Parts.{limit_of, line_fault, taking_of};
 
@@ -31,7 +29,7 @@ pub enum Part {
 // The first line of a file, if it and the `used` bytes before it are no longer than a passphrase.
 fn take_line(alloc: Global, file: &[u8], word: u32, used: usize) -> Result<ByteList, Refusal>
     requires { used ≤ passphrase_limit }
-    ensures answer { IsAnswer (unless (line_fault word used file.now) (first_line file.now)) result }
+    ensures answer { IsAnswer (unless_refused (line_fault word used file.now) (first_line file.now)) result }
     ensures within { IfOk result (λ line. used + length line ≤ passphrase_limit) }
     ensures refusal { IfErr result (λ refusal. (refusal ≡ Refusal.FileTooLong word passphrase_limit) ⊎ (refusal ≡ Refusal.NoMemory)) }
 {
@@ -60,11 +58,11 @@ impl Part {
     ) -> Result<ByteList, Refusal>
         requires span { IsWithin (length line.now) span }
         requires used { used ≤ limit_of self }
-        ensures answer { IfSome (C.files files.old) (λ told.
-            IsAnswer (unless ((taking_of self).fault span.word used (told (bytes_at line.now span))) ((taking_of self).piece (content told line.now span))) result) }
+        ensures answer { IfSome (C.state files.old).files (λ told.
+            IsAnswer (unless_refused ((taking_of self).fault span.word used (told (bytes_at line.now span))) ((taking_of self).piece (content told line.now span))) result) }
         ensures within { IfOk result (λ piece. used + length piece ≤ limit_of self) }
         ensures word { IfErr result (λ refusal. IfSome (word_of refusal) (λ word. span.word ≡ word)) }
-        ensures loads { Loads (cabinet_of C.files C.faults C.misses files.old) (cabinet_of C.files C.faults C.misses files.new) (result_err result) }
+        ensures loads { Loads (C.state files.old) (C.state files.new) (result_err result) }
     {
         match self {
             Part::KeyFiles => load_file(alloc, line, span, FILE_LIMIT - used, files),
@@ -85,12 +83,12 @@ pub fn load_part<C: Cabinet>(
     files: &mut C,
 ) -> Result<ByteList, Refusal>
     requires { All (IsWithin (length line.now)) spans.now }
-    ensures answer { IfSome (C.files files.old) (λ told.
-        IsAnswer (unless (first_fault (taking_of part) told line.now 0 spans.now) (joined (taking_of part) told line.now spans.now)) result) }
+    ensures answer { IfSome (C.state files.old).files (λ told.
+        IsAnswer (unless_refused (first_fault (taking_of part) told line.now 0 spans.now) (joined (taking_of part) told line.now spans.now)) result) }
     ensures within { IfOk result (λ bytes. length bytes ≤ limit_of part) }
-    ensures at { IfErr result (λ refusal. IfSome (word_of refusal) (IsAt (taking_of part) (C.files files.old) line.now spans.now)) }
+    ensures at { IfErr result (λ refusal. IfSome (word_of refusal) (IsAt (taking_of part) (C.state files.old).files line.now spans.now)) }
     ensures named { IfErr result (λ _. 1 ≤ length spans.now) }
-    ensures loads { Loads (cabinet_of C.files C.faults C.misses files.old) (cabinet_of C.files C.faults C.misses files.new) (result_err result) }
+    ensures loads { Loads (C.state files.old) (C.state files.new) (result_err result) }
 {
     let mut joined = Vec::new(alloc);
     for span in spans {

@@ -1,6 +1,6 @@
 // Components over a cabinet in memory: what is joined, the limits at their edges, and failing calls.
 use crate::load_components;
-use block_traits::NoMemory;
+use block_traits::{ByteList, Cabinet, LoadFault, NoMemory};
 use command_words::{Command, Sep, read_line};
 use crash_disk::MemCabinet;
 use eli_base::Refusal;
@@ -74,9 +74,9 @@ fn joins_key_files_and_first_lines(rt: HostRuntime) -> Result<(), Fail> {
     ];
     for (line, count, keyfiles, passphrase) in cases {
         let parts = load(rt.alloc(), line.as_bytes(), &mut files).ok_or("no attach")??;
-        assert_eq!(rt; parts.keyfile_count, count);
-        assert_eq!(rt; parts.keyfiles.as_slice(), keyfiles);
-        assert!(rt; is_wanted(&parts.passphrase, passphrase));
+        assert!(&rt; parts.keyfile_count == count, "{line}");
+        assert!(&rt; parts.keyfiles.as_slice() == keyfiles, "{line}");
+        assert!(&rt; is_wanted(&parts.passphrase, passphrase), "{line}");
     }
     Ok(())
 }
@@ -130,7 +130,7 @@ fn limits_at_their_edges(rt: HostRuntime) -> Result<(), Fail> {
         ("attach -C -jabsent -k most x", absent(2)),
     ];
     for (line, wanted) in cases {
-        assert_eq!(rt; refusal(rt.alloc(), line, &mut files)?, wanted);
+        assert!(&rt; refusal(rt.alloc(), line, &mut files)? == wanted, "{line}");
     }
     Ok(())
 }
@@ -156,9 +156,12 @@ fn nothing_is_loaded_after_a_refusal(rt: HostRuntime) -> Result<(), Fail> {
     for (line, wanted) in cases {
         let mut files = large_files(rt.alloc())?;
         files.fail_calls(&[2])?;
-        assert_eq!(rt; refusal(rt.alloc(), line, &mut files)?, Some(wanted));
+        assert!(&rt;
+            refusal(rt.alloc(), line, &mut files)? == Some(wanted),
+            "{line}"
+        );
         let next = refusal(rt.alloc(), "attach -C -k one x", &mut files)?;
-        assert_eq!(rt; next, Some(Refusal::CabinetFault { word: 3 }));
+        assert!(&rt; next == Some(Refusal::CabinetFault { word: 3 }), "{line}");
     }
     Ok(())
 }
@@ -178,9 +181,52 @@ fn each_call_fails_in_turn(rt: HostRuntime) -> Result<(), Fail> {
         let mut files = small_files(rt.alloc())?;
         files.fail_calls(&[call, call + 1])?;
         let wanted = word.map(|word| Refusal::CabinetFault { word });
-        assert_eq!(rt; refusal(rt.alloc(), line, &mut files)?, wanted);
+        assert!(&rt;
+            refusal(rt.alloc(), line, &mut files)? == wanted,
+            "call {call}"
+        );
         let next = refusal(rt.alloc(), "attach -C -k a x", &mut files)?;
-        assert_eq!(rt; next, Some(Refusal::CabinetFault { word: 3 }));
+        assert!(&rt;
+            next == Some(Refusal::CabinetFault { word: 3 }),
+            "call {call}"
+        );
     }
+    Ok(())
+}
+
+// Stores bytes under a name, and loads what then has the name, as any cabinet does.
+fn store_and_load<C: Cabinet>(
+    alloc: Global,
+    files: &mut C,
+    name: &[u8],
+    bytes: &[u8],
+) -> Result<Result<ByteList, LoadFault>, Fail> {
+    files
+        .store(alloc, name, bytes)
+        .ok()
+        .ok_or("was not stored")?;
+    Ok(files.load(alloc, name, 16))
+}
+
+// A file that is stored over another has its own bytes alone, longer or shorter, and the other files are as they were.
+#[test]
+fn a_file_is_stored_over_another(rt: HostRuntime) -> Result<(), Fail> {
+    let alloc = rt.alloc();
+    let mut files = small_files(alloc)?;
+    for bytes in ["three", "ten bytes", "", "2"] {
+        let file = store_and_load(alloc, &mut files, b"b", bytes.as_bytes())?;
+        let file = file.ok().ok_or("was not loaded")?;
+        assert!(&rt; file.as_slice() == bytes.as_bytes(), "{bytes}");
+        assert!(&rt; files.get("b") == Some(bytes.as_bytes()), "{bytes}");
+        assert!(&rt; files.get("a") == Some(b"one\n\0".as_slice()), "{bytes}");
+        assert!(&rt;
+            files.get("p") == Some(b"sec\0ret\nrest\n".as_slice()),
+            "{bytes}"
+        );
+    }
+    let long = store_and_load(alloc, &mut files, b"b", b"seventeen letters")?;
+    assert_eq!(rt; long.err(), Some(LoadFault::TooLong));
+    let parts = load(alloc, b"attach -C -k b -k a x", &mut files).ok_or("no attach")??;
+    assert!(&rt; parts.keyfiles.as_slice() == b"seventeen lettersone\n\0".as_slice());
     Ok(())
 }

@@ -1,6 +1,6 @@
 -- The first slot that opens, by what each of the two slots answers.
 use Rattle.std.proofs.Common.{◌≡◌, ℕ, zero, suc, ◌↔◌, List, [], Option, Some, None, unwrap_or, subst, sym, ap, ◌∙◌, arith}
-use Rattle.eli_base.specs.declared.MasterKey.{MasterKey}
+use Rattle.eli_base.specs.declared.parameters.MasterKey.{MasterKey}
 use Rattle.eli_metadata.specs.declared.metadata.Metadata.{Metadata}
 use Rattle.key_slots.specs.Slots.{IsFirstToOpen, Opens, numbered}
 

@@ -1,7 +1,7 @@
 -- A text of a slot, and the master key in it.
 use Rattle.std.proofs.Common.{◌≡◌, ℕ, ◌+◌, List, [], ◌∷◌, ◌++◌, length, take, drop, Bool, true, false, Option, Some, None, unwrap_or, if◌then◌else◌, refl, sym, ap, ◌∙◌, arith, length-append, take-append-drop}
 use Rattle.std.proofs.lemmas.Slice.Eq.{bytes_eq-Decides}
-use Rattle.eli_base.specs.declared.MasterKey.{MasterKey}
+use Rattle.eli_base.specs.declared.parameters.MasterKey.{MasterKey}
 use Rattle.hmac_kdf.specs.Hmac.{hmac512}
 use Rattle.hmac_kdf.proofs.Lengths.{length-hmac512}
 use Rattle.key_slots.specs.Slots.{check_code, slot_text, has_code, master_in}

@@ -1,6 +1,5 @@
 // A slot opened by a user key.
 ghost use Rattle.std.specs.Prelude.{◌≡◌, ℕ, ◌<◌, ◌↔◌, List, Some};
-ghost use Rattle.eli_metadata.specs.Check.{is_set};
 ghost use Rattle.key_slots.specs.Slots.{IsFirstToOpen, IsKeyBits, Opens, slot_bytes, deciphered, has_code, master_in, unwrapped, numbered, unwrapped_any};
 
 use crate::wrapping::{SLOT_SIZE, ZERO_VECTOR, check_code, wrapping_schedule};
@@ -8,13 +7,6 @@ use cbc_mode::cbc_open;
 use eli_base::MasterKey;
 use eli_metadata::Metadata;
 use user_key::UserKey;
-
-fn is_set(meta: &Metadata, slot: u8) -> bool
-    requires { slot < 2 }
-    ensures { result ≡ is_set meta.now slot }
-{
-    meta.keys & (1 << slot) != 0
-}
 
 fn slot_bytes(meta: &Metadata, slot: u8) -> [u8; SLOT_SIZE]
     requires { slot < 2 }
@@ -68,7 +60,7 @@ pub fn unwrap(meta: &Metadata, key: &UserKey, slot: u8) -> Option<MasterKey>
     ensures answer { result ≡ unwrapped meta.now key.now.bytes slot }
     ensures opens { (master : List ℕ) → Opens meta.now key.now.bytes slot master ↔ (result ≡ Some (record { bytes = master })) }
 {
-    if is_set(meta, slot) {
+    if meta.is_set(slot) {
         master_in(&deciphered(meta, key, slot), key)
     } else {
         None

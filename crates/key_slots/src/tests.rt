@@ -1,3 +1,4 @@
+// Slots of another implementation, and slots that are altered.
 ghost use Rattle.std.specs.Prelude.{◌≡◌};
 ghost use Rattle.key_slots.specs.Slots.{IsKeyBits};
 
@@ -82,9 +83,9 @@ fn metadata(keylen: u16) -> Metadata
 fn wrapped_slots(rt: HostRuntime) -> Result<(), Fail> {
     for case in &SLOT_CASES {
         let keylen = case.keylen;
-        assert!(rt; keylen == 128 || keylen == 192 || keylen == 256);
+        assert!(rt; keylen == 128 || keylen == 192 || keylen == 256, "{keylen}");
         let slot = hex::encode(rt.alloc(), &wrap(&master_key(), &USER_KEY, keylen))?;
-        assert_eq!(rt; slot.as_str(), case.slot);
+        assert_eq!(rt; slot.as_str(), case.slot, "{keylen}");
     }
     Ok(())
 }
@@ -93,33 +94,48 @@ fn wrapped_slots(rt: HostRuntime) -> Result<(), Fail> {
 fn opens_unless_altered(rt: &impl Abort, meta: &Metadata)
     requires { IsKeyBits meta.now.keylen }
 {
-    assert_eq!(rt; unwrap(meta, &USER_KEY, 1), Some(master_key()));
-    assert_eq!(rt; unwrap_any(meta, &USER_KEY), Some((master_key(), 1)));
+    assert_eq!(rt;
+        unwrap(meta, &USER_KEY, 1),
+        Some(master_key()),
+        "{}",
+        meta.keylen
+    );
+    assert_eq!(rt;
+        unwrap_any(meta, &USER_KEY),
+        Some((master_key(), 1)),
+        "{}",
+        meta.keylen
+    );
     for place in 0..192usize {
         let mut altered = *meta;
         altered.mkeys[192 + place] ^= 1 << (place % 8);
-        assert_eq!(rt; unwrap(&altered, &USER_KEY, 1), None, "byte {place}");
+        assert_eq!(rt;
+            unwrap(&altered, &USER_KEY, 1),
+            None,
+            "{} bits, byte {place}",
+            meta.keylen
+        );
     }
 }
 
 #[test]
 fn slot_round_trip(rt: HostRuntime) {
     for keylen in [128u16, 192, 256] {
-        assert!(rt; keylen == 128 || keylen == 192 || keylen == 256);
+        assert!(rt; keylen == 128 || keylen == 192 || keylen == 256, "{keylen}");
         let mut meta = metadata(keylen);
         put_slot(&mut meta, 1, &wrap(&master_key(), &USER_KEY, keylen));
-        assert_eq!(rt; meta.keys, 0x46);
+        assert_eq!(rt; meta.keys, 0x46, "{keylen}");
         opens_unless_altered(&rt, &meta);
         let mut unset = meta;
         unset.keys &= !2;
-        assert_eq!(rt; unwrap(&unset, &USER_KEY, 1), None);
-        assert_eq!(rt; unwrap_any(&unset, &USER_KEY), None);
+        assert_eq!(rt; unwrap(&unset, &USER_KEY, 1), None, "{keylen}");
+        assert_eq!(rt; unwrap_any(&unset, &USER_KEY), None, "{keylen}");
         clear_slot(&mut meta, 1, &[0x55; 192]);
-        assert_eq!(rt; unwrap(&meta, &USER_KEY, 1), None);
-        assert_eq!(rt; unwrap_any(&meta, &USER_KEY), None);
-        assert_eq!(rt; meta.keys, 0x44);
-        assert_eq!(rt; &meta.mkeys[..192], [0xa5; 192].as_slice());
-        assert_eq!(rt; &meta.mkeys[192..], [0x55; 192].as_slice());
+        assert_eq!(rt; unwrap(&meta, &USER_KEY, 1), None, "{keylen}");
+        assert_eq!(rt; unwrap_any(&meta, &USER_KEY), None, "{keylen}");
+        assert_eq!(rt; meta.keys, 0x44, "{keylen}");
+        assert_eq!(rt; &meta.mkeys[..192], [0xa5; 192].as_slice(), "{keylen}");
+        assert_eq!(rt; &meta.mkeys[192..], [0x55; 192].as_slice(), "{keylen}");
     }
 }
 

@@ -1,11 +1,11 @@
 // A master key wrapped by a user key.
 ghost use Rattle.std.specs.Prelude.{◌≡◌, ◌+◌, ◌≤◌, [], ◌∷◌, ◌++◌, length, take};
-ghost use Rattle.hmac_kdf.specs.Hmac.{hmac512};
 ghost use Rattle.key_slots.specs.Slots.{IsKeyBits, check_code, slot_text, wrapping_key, wrapped, IsSlotOf};
 
 use aes_core::Schedule;
 use cbc_mode::cbc_seal;
 use eli_base::MasterKey;
+use eli_metadata::put;
 use hmac_kdf::Hmac512;
 use user_key::UserKey;
 
@@ -20,19 +20,11 @@ const CHECK_KEY: [u8; 1] = [0x00];
 
 const WRAPPING_KEY: [u8; 1] = [0x01];
 
-fn code_of(key: &[u8], message: &[u8]) -> [u8; 64]
-    ensures { result ≡ hmac512 key.now message.now }
-{
-    let mut hasher = Hmac512::new(key);
-    hasher.update(message);
-    hasher.finish()
-}
-
 /// The code behind a master key, which proves that it was wrapped by this user key.
 pub fn check_code(key: &UserKey, master: &[u8]) -> [u8; 64]
     ensures { result ≡ check_code key.now.bytes master.now }
 {
-    code_of(&code_of(&key.bytes, &CHECK_KEY), master)
+    Hmac512::code_of(&Hmac512::code_of(&key.bytes, &CHECK_KEY), master)
 }
 
 /// The key that enciphers a slot's text, expanded.
@@ -40,16 +32,8 @@ pub fn wrapping_schedule(key: &UserKey, keylen: u16) -> Schedule
     requires { IsKeyBits keylen }
     ensures { result ≡ wrapping_key key.now.bytes keylen }
 {
-    let code = code_of(&key.bytes, &WRAPPING_KEY);
+    let code = Hmac512::code_of(&key.bytes, &WRAPPING_KEY);
     Schedule::new(&code[..usize::from(keylen) / 8]).unwrap()
-}
-
-// Puts bytes at a place of a text.
-fn put(text: &mut [u8; SLOT_SIZE], place: usize, bytes: &[u8])
-    requires { place + length bytes.now ≤ SLOT_SIZE }
-    ensures { take (place + length bytes.now) text.new ≡ take place text.old ++ bytes.now }
-{
-    text[place..place + bytes.len()].copy_from_slice(bytes);
 }
 
 // The plain text of a slot.

@@ -1,3 +1,5 @@
+//! Sealed logical sectors by cipher, size and place.
+
 use crate::{open_plain, seal_plain};
 use eli_base::{Auth, Cipher, MasterKey, Params, sector_size_ok};
 use range_keys::KeyRing;
@@ -106,12 +108,18 @@ fn check_at(
         keylen,
         sectorsize,
     } = *tried;
-    assert!(rt; cipher.allows(keylen) && sector_size_ok(sectorsize));
+    assert!(rt;
+        cipher.allows(keylen) && sector_size_ok(sectorsize),
+        "{keylen} bits, {sectorsize} bytes"
+    );
     let params = Params::new(version, Auth::Off, cipher, keylen, sectorsize, 0, false);
     let mut ring = KeyRing::new(alloc, &master(), &params)?;
     let mut block = plain.to_vec(alloc)?;
-    assert!(rt; block.len() == sectorsize as usize);
-    assert!(rt; offset % u64::from(sectorsize) == 0);
+    assert!(rt; block.len() == sectorsize as usize, "{sectorsize} bytes");
+    assert!(rt;
+        offset % u64::from(sectorsize) == 0,
+        "{sectorsize} bytes, at {offset}"
+    );
     seal_plain(&mut ring, offset, &mut block);
     digest.update(&block);
     open_plain(&mut ring, offset, &mut block);
@@ -134,7 +142,7 @@ fn check_row(
     fill(&mut plain);
     let size = u64::from(tried.sectorsize);
     let next_number = size << 20;
-    assert!(rt; next_number >= size);
+    assert!(rt; next_number >= size, "{size} bytes");
     let mut digest = Sha256::new();
     for offset in [0, size, next_number - size, next_number, (1 << 53) - size] {
         check_at(rt, alloc, tried, offset, &plain, &mut digest)?;
@@ -192,7 +200,7 @@ struct Vector {
     digest: &'static str,
 }
 
-// By another implementation of the rules of geli(8), under the same master key, of the same plain text.
+// By the same script, under the same master key, of the same plain text.
 const VECTORS: [Vector; 9] = [
     Vector {
         version: 7,
@@ -277,7 +285,7 @@ fn check_sector(rt: &impl Abort, alloc: Global, vector: &Vector) -> Result<(), F
     };
     let mut plain = vec![in alloc; 0u8; vector.sectorsize as usize]?;
     fill(&mut plain);
-    assert!(rt; vector.number < 1 << 32);
+    assert!(rt; vector.number < 1 << 32, "{}", vector.number);
     let offset = vector.number * u64::from(vector.sectorsize);
     let mut digest = Sha256::new();
     check_at(rt, alloc, &tried, offset, &plain, &mut digest)?;

@@ -1,7 +1,9 @@
 -- The first fault of some logical sectors that are read one after the other.
 use Rattle.std.proofs.Common.{◌≡◌, ◌≢◌, ℕ, zero, suc, ◌+◌, ◌<◌, ◌*◌, List, [], ◌∷◌, length, get_or, take, Option, Some, None, Result, Ok, Err, refl, sym, ap, ◌∙◌, arith, add-zero, IfSome, IsOk, subst}
+use Rattle.block_traits.specs.Causes.{Counted}
 use Rattle.block_traits.specs.Content.{Content}
-use Rattle.block_traits.specs.Disk.{DiskState, FailsIn, Logs}
+use Rattle.block_traits.specs.Disk.{DiskState, Logs}
+use Rattle.block_traits.proofs.Causes.{Counted-then}
 use Rattle.block_traits.proofs.Logs.{FailsIn-then, Logs-then, logged-none}
 use Rattle.eli_base.specs.declared.algorithms.Auth.TheVariants.{Off}
 use Rattle.eli_base.specs.Keying.{Keying}
@@ -49,24 +51,26 @@ all_accepted (Some c) now_told k now sector i unit front same there so accepted 
     let Q : Keying → Type 0 = λ h. AreAccepted h c (sector + i) unit in
     let R : Result (List ℕ) ℕ → Type 0 = λ r. IsOk r in (subst R (sym so) refl, subst Q same (subst P there accepted))
 
-pub run_fault : (fault : ReadFault) (first middle last : DiskState) (k now : Keying) (sector count i : ℕ) (front block bytes : List ℕ) → now ≡ k → Logs [] first middle → i < count
+pub run_fault : (fault : ReadFault) (first middle last : DiskState) (k now : Keying) (sector count i : ℕ) (front block bytes : List ℕ) → now ≡ k → Counted (i * units k) first.reads middle.reads → Logs [] first middle → i < count
     → ReadsAs first k sector i (Ok front) → SectorAnswers now (sector + i) middle last block (Err fault) → RunAnswers k sector count first last bytes (Err fault)
-run_fault (OutOfRange a b m) first middle last k now sector count i front block bytes same logs lt so gives = absurd gives
-run_fault DeviceFault first middle last k now sector count i front block bytes same logs lt so gives = record {
+run_fault (OutOfRange a b m) first middle last k now sector count i front block bytes same asked logs lt so gives = absurd gives
+run_fault DeviceFault first middle last k now sector count i front block bytes same asked logs lt so gives = record {
   passed = i;
   unit = gives.unit;
   more = lt;
   within = within_same k now gives.unit same gives.within;
   accepted = all_accepted first.content middle.content k now sector i gives.unit front same (logs.content ∙ logged-none first.content) so gives.accepted;
-  fails = FailsIn-then [] [] logs gives.fails;
+  asked = Counted-then (i * units k) (gives.unit + 1) (i * units k + gives.unit + 1) (omega arith) asked gives.fails.asked;
+  fails = FailsIn-then [] [] logs gives.fails.fails;
 }
-run_fault (Integrity offset) first middle last k now sector count i front block bytes same logs lt so gives = record {
+run_fault (Integrity offset) first middle last k now sector count i front block bytes same asked logs lt so gives = record {
   tagged = let P : Keying → Type 0 = λ h. h.auth ≢ Off in subst P same gives.tagged;
   passed = i;
   unit = gives.unit;
   more = lt;
   within = within_same k now gives.unit same gives.within;
   place = gives.place ∙ ap (λ (h : Keying). 512 * ((sector + i) * units h + gives.unit)) same;
+  asked = Counted-then (i * units k) (gives.unit + 1) (i * units k + gives.unit + 1) (omega arith) asked gives.asked;
   logs = Logs-then [] [] logs gives.logs;
   reads = reads_fault first.content middle.content k now sector count i offset front same (logs.content ∙ logged-none first.content) lt so gives.reads;
 }

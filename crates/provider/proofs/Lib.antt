@@ -7,3 +7,4 @@ pub mod Events
 pub mod Checked
 pub mod Sealed
 pub mod Told
+pub mod Adjoining

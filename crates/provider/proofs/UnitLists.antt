@@ -1,11 +1,14 @@
 -- Logical sectors with authentication, piece by piece.
-use Rattle.std.proofs.Common.{◌≡◌, ◌≢◌, ℕ, zero, suc, ◌+◌, ◌-◌, ◌*◌, ◌/◌, ◌%◌, ◌<◌, ◌≤◌, min, List, [], ◌∷◌, ◌++◌, length, get_or, take, drop, Option, Some, None, IfSome, Result, Ok, Err, IsOk, OnErr, subst, refl, sym, ap, ◌∙◌, arith, add-one}
+use Rattle.std.proofs.Common.{◌≡◌, ◌≢◌, ℕ, zero, suc, ◌+◌, ◌-◌, ◌*◌, ◌%◌, ◌<◌, ◌≤◌, min, List, [], ◌∷◌, ◌++◌, length, get_or, take, drop, Option, Some, None, IfSome, Result, Ok, Err, IsOk, OnErr, map, subst, refl, sym, ap, ◌∙◌, arith, add-one}
+use Rattle.std.specs.List.{concat}
 use Rattle.std.proofs.Math.Seq.{take-suc, drop-cons}
 use Rattle.std.proofs.lemmas.List.{take_all, take_min, drop_all, length-take-le, length-drop, take-append-drop}
 use Rattle.std.proofs.lemmas.Slice.{take-put_mid}
 use borrow.Rule.Slice.PartMut.{put_mid}
+use Rattle.block_traits.specs.Causes.{Counted}
 use Rattle.block_traits.specs.Content.{Content, present}
-use Rattle.block_traits.specs.Disk.{DiskState, FailsIn, Logs}
+use Rattle.block_traits.specs.Disk.{DiskState, Logs}
+use Rattle.block_traits.proofs.Causes.{Counted-then}
 use Rattle.block_traits.proofs.Logs.{FailsIn-then, Logs-then, logged-none}
 use Rattle.block_traits.specs.declared.disk.Event.{Event}
 use Rattle.block_traits.specs.declared.disk.Event.TheVariants.{Write}
@@ -15,7 +18,9 @@ use Rattle.eli_base.specs.Keying.{Keying}
 use Rattle.eli_base.specs.Units.{unit_bytes_of, units_per_sector}
 use Rattle.eli_base.proofs.Units.{units_reach}
 use Rattle.sealing.specs.Pieces.{opened_piece, sealed_piece}
-use Rattle.sealing.specs.Sectors.{before, joined, seal, units}
+use Rattle.sealing.specs.Parts.{parts}
+use Rattle.sealing.specs.Runs.{opened_run}
+use Rattle.sealing.specs.Sectors.{before, joined, opened_with, seal, units}
 use Rattle.sealing.proofs.PartLists.{part}
 use Rattle.sealing.proofs.Pieces.{sealed_unit-tagged, unit_reading-tagged, length-unit_readings-tagged}
 use Rattle.sealing.proofs.Sectors.{length-seal}
@@ -143,22 +148,40 @@ pub accepted_so : (told : Option Content) (k : Keying) (sector j : ℕ) (front :
 accepted_so None k sector j front so = tt
 accepted_so (Some c) k sector j front so = let P : Result (List ℕ) ℕ → Type 0 = λ r. IsOk r in subst P (sym so) refl
 
-pub fault_next : (fault : ReadFault) (first middle last : DiskState) (k now : Keying) (sector j n size start end : ℕ) (block piece bytes : List ℕ) → k.auth ≢ Off → now ≡ k → Logs [] first middle
+-- without authentication each unit is accepted
+before-accepted : (front : List ℕ) (r : Result (List ℕ) ℕ) → IsOk r → IsOk (before front r)
+before-accepted front (Ok rest) ok = refl
+before-accepted front (Err offset) ok = absurd cc
+
+all-accepted : (pieces : List (List ℕ)) (count : ℕ) → IsOk (joined (take count (map Ok pieces)))
+all-accepted pieces zero = refl
+all-accepted [] (suc count) = refl
+all-accepted (piece ∷ pieces) (suc count) = before-accepted piece (joined (take count (map Ok pieces))) (all-accepted pieces count)
+
+pub accepted-off : (told : Option Content) (k : Keying) (sector unit : ℕ) → k.auth ≡ Off → IfSome told (λ (c : Content). AreAccepted k c sector unit)
+accepted-off None k sector unit off = tt
+accepted-off (Some c) k sector unit off =
+    let sectors : List (List ℕ) = standing c (sector * units k) (units k) in
+    let P : Auth → Type 0 = λ auth. IsOk (joined (take unit (opened_with auth k sector sectors))) in
+    subst P (sym off) (all-accepted (parts 512 (units k) (opened_run k (sector * k.sectorsize) (concat sectors))) unit)
+
+pub fault_next : (fault : ReadFault) (first middle last : DiskState) (k now : Keying) (sector j n size start end : ℕ) (block piece bytes : List ℕ) → k.auth ≢ Off → now ≡ k → Counted j first.reads middle.reads → Logs [] first middle
     → j < units k → n ≡ sector * units k + j → size ≡ end - start → IsUnit k.auth k.sectorsize j start end
     → IfSome first.content (λ (c : Content). joined (take j (units_read k c sector)) ≡ Ok (take start block))
     → PieceAnswers now n size middle last piece (Err fault) → SectorAnswers k sector first last bytes (Err fault)
-fault_next (OutOfRange a b m) first middle last k now sector j n size start end block piece bytes on same logs lt at count unit so gives = absurd gives
-fault_next DeviceFault first middle last k now sector j n size start end block piece bytes on same logs lt at count unit so gives = record {
+fault_next (OutOfRange a b m) first middle last k now sector j n size start end block piece bytes on same asked logs lt at count unit so gives = absurd gives
+fault_next DeviceFault first middle last k now sector j n size start end block piece bytes on same asked logs lt at count unit so gives = record {
   unit = j;
   within = lt;
   accepted = accepted_so first.content k sector j (take start block) so;
-  fails = FailsIn-then [] [] logs gives;
+  fails = record { asked = Counted-then j 1 (j + 1) refl asked gives.asked; fails = FailsIn-then [] [] logs gives.fails };
 }
-fault_next (Integrity offset) first middle last k now sector j n size start end block piece bytes on same logs lt at count unit so gives = record {
+fault_next (Integrity offset) first middle last k now sector j n size start end block piece bytes on same asked logs lt at count unit so gives = record {
   tagged = on;
   unit = j;
   within = lt;
   place = gives.0 ∙ ap (λ (m : ℕ). 512 * m) at;
+  asked = Counted-then j 1 (j + 1) refl asked gives.1.asked;
   logs = Logs-then [] [] logs gives.1.logs;
   reads = read_faulty first.content middle.content k now sector j n size start end offset block on same (logs.content ∙ logged-none first.content) lt at count unit so gives.1.reads;
 }

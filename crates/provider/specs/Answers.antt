@@ -1,11 +1,13 @@
 -- What the calls of a provider answer, each answer with its cause.
 use Rattle.std.specs.Prelude.{◌≡◌, ℕ, ◌+◌, ◌*◌, ◌/◌, ◌<◌, ◌≤◌, Bool, true, false, ◌||◌, IsSome, List, [], length, Option, Some, None, Result, Ok, Err}
+use Rattle.block_traits.specs.Causes.{Counted}
 use Rattle.block_traits.specs.Disk.{DiskState, FailsIn, Logs}
 use Rattle.eli_base.specs.declared.parameters.Params.{Params}
 use Rattle.eli_base.specs.Keying.{Keying, keying_of}
 use Rattle.eli_base.specs.Units.{media_sectors}
 use Rattle.eli_metadata.specs.Check.{is_readonly}
 use Rattle.eli_metadata.specs.declared.metadata.Metadata.{Metadata}
+use Rattle.sealing.specs.Sectors.{units}
 use Rattle.provider.specs.declared.faults.AttachFault.{AttachFault}
 use Rattle.provider.specs.declared.faults.AttachFault.TheVariants as attach
 use Rattle.provider.specs.declared.faults.ReadFault.{ReadFault}
@@ -85,19 +87,21 @@ pub record PassesEnd (r : Request) (first asked there : ℕ) : Type 0 where
   pub count : asked ≡ r.count
   pub media : there ≡ r.media
 
--- the request was served: nothing was logged, and this is what the sectors read as
+-- the request was served: each unit was read once, nothing was logged, and this is what the sectors read as
 pub record IsRead (k : Keying) (r : Request) (bytes : List ℕ) (old new : DiskState) : Type 0 where
   pub in_range : IsInRange r
+  pub asked : Counted (r.count * units k) old.reads new.reads
   pub logs : Logs [] old new
   pub reads : ReadsAs old k r.sector r.count (Ok bytes)
 
 -- a unit has another tag than its cipher text: nothing was logged, and it is the first of the request that has, at this
--- byte offset of the device
+-- byte offset of the device, and the last that was read
 pub record FindsFault (k : Keying) (r : Request) (offset : ℕ) (old new : DiskState) : Type 0 where
   pub in_range : IsInRange r
   pub finds : RunFault k r.sector r.count offset old new
 
--- a device call failed: nothing was logged, and every unit of the request before the one that was to be read was accepted
+-- a device call failed: nothing was logged, every unit of the request before the one that was to be read was accepted, and none
+-- behind it was read
 pub record FailsRead (k : Keying) (r : Request) (old new : DiskState) : Type 0 where
   pub in_range : IsInRange r
   pub fails : RunFails k r.sector r.count old new

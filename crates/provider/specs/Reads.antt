@@ -1,7 +1,9 @@
 -- What reading a piece, a logical sector, or some of them came to, each answer with its cause. Units are read in order, and each
 -- is looked at before the next one is read: so a fault is that of the first unit that has one, and where a call of the disk
--- failed, every unit before the one that was to be read was accepted.
+-- failed, every unit before the one that was to be read was accepted. A read leaves no event, but the disk counts it: the unit
+-- with a fault, and the one whose read failed, is that of the last read, and none behind it was read.
 use Rattle.std.specs.Prelude.{◌≡◌, ◌≢◌, ℕ, ◌+◌, ◌*◌, ◌<◌, List, [], take, Result, Ok, Err, IfSome, IsOk}
+use Rattle.block_traits.specs.Causes.{Counted}
 use Rattle.block_traits.specs.Content.{Content, present}
 use Rattle.block_traits.specs.Disk.{DiskState, FailsIn, Logs}
 use Rattle.eli_base.specs.declared.algorithms.Auth.TheVariants.{Off}
@@ -12,16 +14,28 @@ use Rattle.provider.specs.declared.faults.ReadFault.{ReadFault}
 use Rattle.provider.specs.declared.faults.ReadFault.TheVariants.{OutOfRange, DeviceFault, Integrity}
 use Rattle.provider.specs.Reading.{ReadsAs, data_reading, sector_reading, units_read}
 
--- nothing was logged, and this holds of the content where it is told
-pub record ReadSo (old new : DiskState) (fact : Content → Type 0) : Type 0 where
+-- so many reads were made, nothing was logged, and this holds of the content where it is told
+pub record ReadSo (count : ℕ) (old new : DiskState) (fact : Content → Type 0) : Type 0 where
+  pub asked : Counted count old.reads new.reads
   pub logs : Logs [] old new
   pub reads : IfSome old.content fact
 
+-- so many reads were made, of which the last failed, and nothing was logged
+pub record FailsAt (count : ℕ) (old new : DiskState) : Type 0 where
+  pub asked : Counted count old.reads new.reads
+  pub fails : FailsIn [] old new
+
+-- the read of one of so many units failed: each one before it was read, and none behind it
+pub record FailsAmong (count : ℕ) (old new : DiskState) : Type 0 where
+  pub unit : ℕ
+  pub within : unit < count
+  pub fails : FailsAt (unit + 1) old new
+
 -- what reading a piece of so many plain bytes in device sector n answers
 abbrev pub PieceAnswers : Keying → ℕ → ℕ → DiskState → DiskState → List ℕ → Result (Unit {0}) ReadFault → Type 0
-PieceAnswers k n size old new bytes (Ok done) = ReadSo old new (λ c. opened_piece k (512 * n) size (present c n) ≡ Ok bytes)
-PieceAnswers k n size old new bytes (Err (Integrity offset)) = (offset ≡ 512 * n) × ReadSo old new (λ c. opened_piece k (512 * n) size (present c n) ≡ Err offset)
-PieceAnswers k n size old new bytes (Err DeviceFault) = FailsIn [] old new
+PieceAnswers k n size old new bytes (Ok done) = ReadSo 1 old new (λ c. opened_piece k (512 * n) size (present c n) ≡ Ok bytes)
+PieceAnswers k n size old new bytes (Err (Integrity offset)) = (offset ≡ 512 * n) × ReadSo 1 old new (λ c. opened_piece k (512 * n) size (present c n) ≡ Err offset)
+PieceAnswers k n size old new bytes (Err DeviceFault) = FailsAt 1 old new
 PieceAnswers k n size old new bytes (Err (OutOfRange sector count media)) = ⊥
 
 -- ---- one logical sector
@@ -30,25 +44,28 @@ PieceAnswers k n size old new bytes (Err (OutOfRange sector count media)) = ⊥
 abbrev pub AreAccepted : Keying → Content → ℕ → ℕ → Type 0
 AreAccepted k c sector count = IsOk (joined (take count (units_read k c sector)))
 
--- there is authentication, this unit is the first of the logical sector whose tag differs, and nothing was logged
+-- there is authentication, this unit is the first of the logical sector whose tag differs, it was the last to be read, and
+-- nothing was logged
 pub record SectorFault (k : Keying) (sector offset : ℕ) (old new : DiskState) : Type 0 where
   pub tagged : k.auth ≢ Off
   pub unit : ℕ
   pub within : unit < units k
   pub place : offset ≡ 512 * (sector * units k + unit)
+  pub asked : Counted (unit + 1) old.reads new.reads
   pub logs : Logs [] old new
   pub reads : IfSome old.content (λ c. sector_reading k c sector ≡ Err offset)
 
--- the device failed where this unit was to be read, all units before it were accepted, and nothing was logged
+-- the device failed where this unit was to be read, all units before it were accepted, none behind it was read, and nothing
+-- was logged
 pub record SectorFails (k : Keying) (sector : ℕ) (old new : DiskState) : Type 0 where
   pub unit : ℕ
   pub within : unit < units k
   pub accepted : IfSome old.content (λ c. AreAccepted k c sector unit)
-  pub fails : FailsIn [] old new
+  pub fails : FailsAt (unit + 1) old new
 
 -- what reading a logical sector answers
 abbrev pub SectorAnswers : Keying → ℕ → DiskState → DiskState → List ℕ → Result (Unit {0}) ReadFault → Type 0
-SectorAnswers k sector old new bytes (Ok done) = ReadSo old new (λ c. sector_reading k c sector ≡ Ok bytes)
+SectorAnswers k sector old new bytes (Ok done) = ReadSo (units k) old new (λ c. sector_reading k c sector ≡ Ok bytes)
 SectorAnswers k sector old new bytes (Err (Integrity offset)) = SectorFault k sector offset old new
 SectorAnswers k sector old new bytes (Err DeviceFault) = SectorFails k sector old new
 SectorAnswers k sector old new bytes (Err (OutOfRange first count media)) = ⊥
@@ -56,7 +73,7 @@ SectorAnswers k sector old new bytes (Err (OutOfRange first count media)) = ⊥
 -- ---- some logical sectors
 
 -- there is authentication, a unit of the logical sector behind so many is the first of them all whose tag differs, at this byte offset
--- of the device, and nothing was logged
+-- of the device, it was the last to be read, and nothing was logged
 pub record RunFault (k : Keying) (sector count offset : ℕ) (old new : DiskState) : Type 0 where
   pub tagged : k.auth ≢ Off
   pub passed : ℕ
@@ -64,22 +81,24 @@ pub record RunFault (k : Keying) (sector count offset : ℕ) (old new : DiskStat
   pub more : passed < count
   pub within : unit < units k
   pub place : offset ≡ 512 * ((sector + passed) * units k + unit)
+  pub asked : Counted (passed * units k + unit + 1) old.reads new.reads
   pub logs : Logs [] old new
   pub reads : ReadsAs old k sector count (Err offset)
 
--- the device failed where a unit of the logical sector behind so many was to be read, all units before it were accepted, and
--- nothing was logged
+-- the device failed where a unit of the logical sector behind so many was to be read, all units before it were accepted, none
+-- behind it was read, and nothing was logged
 pub record RunFails (k : Keying) (sector count : ℕ) (old new : DiskState) : Type 0 where
   pub passed : ℕ
   pub unit : ℕ
   pub more : passed < count
   pub within : unit < units k
   pub accepted : IfSome old.content (λ c. IsOk (data_reading k c sector passed) × AreAccepted k c (sector + passed) unit)
+  pub asked : Counted (passed * units k + unit + 1) old.reads new.reads
   pub fails : FailsIn [] old new
 
--- what reading so many logical sectors answers: the bytes of all, or the first fault among them
+-- what reading so many logical sectors answers: the bytes of all, each unit of which was read once, or the first fault among them
 abbrev pub RunAnswers : Keying → ℕ → ℕ → DiskState → DiskState → List ℕ → Result (Unit {0}) ReadFault → Type 0
-RunAnswers k sector count old new bytes (Ok done) = Logs [] old new × ReadsAs old k sector count (Ok bytes)
+RunAnswers k sector count old new bytes (Ok done) = Counted (count * units k) old.reads new.reads × Logs [] old new × ReadsAs old k sector count (Ok bytes)
 RunAnswers k sector count old new bytes (Err (Integrity offset)) = RunFault k sector count offset old new
 RunAnswers k sector count old new bytes (Err DeviceFault) = RunFails k sector count old new
 RunAnswers k sector count old new bytes (Err (OutOfRange first asked media)) = ⊥

@@ -1,10 +1,11 @@
 // Logical sectors one after the other, opened and sealed, with authentication and without.
 ghost use Rattle.std.specs.Prelude.{◌≡◌, ℕ, ◌+◌, ◌*◌, ◌/◌, ◌%◌, ◌≤◌, [], OnOk, OnErr, IfSome, length};
+ghost use Rattle.block_traits.specs.Causes.{Counted};
 ghost use Rattle.block_traits.specs.Disk.{DiskState, FailsIn, Logs};
 ghost use Rattle.eli_base.specs.declared.algorithms.Auth.TheVariants.{Off};
 ghost use Rattle.sealing.specs.Sectors.{units};
 ghost use Rattle.provider.specs.Reading.{sector_reading};
-ghost use Rattle.provider.specs.Reads.{RunAnswers, SectorAnswers};
+ghost use Rattle.provider.specs.Reads.{FailsAmong, RunAnswers, SectorAnswers};
 ghost use Rattle.provider.specs.Writing.{data_writes, sector_writes};
 
 use crate::ReadFault;
@@ -26,8 +27,9 @@ fn read_whole<D: Disk>(
     requires size { length block.old ≡ ring.old.keying.sectorsize }
     requires inside { sector * units ring.old.keying + units ring.old.keying ≤ (D.state disk.old).size }
     ensures reads { OnOk result (IfSome (D.state disk.old).content (λ c. sector_reading ring.old.keying c sector ≡ Ok block.new)) }
+    ensures asked { OnOk result (Counted (units ring.old.keying) (D.state disk.old).reads (D.state disk.new).reads) }
     ensures ok { OnOk result (Logs [] (D.state disk.old) (D.state disk.new)) }
-    ensures err { OnErr result (FailsIn [] (D.state disk.old) (D.state disk.new)) }
+    ensures err { OnErr result (FailsAmong (units ring.old.keying) (D.state disk.old) (D.state disk.new)) }
     ensures keying { ring.new.keying ≡ ring.old.keying }
 {
     ring.is_of_a_keying();

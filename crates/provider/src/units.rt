@@ -1,8 +1,10 @@
 // Device sectors one after the other, read and written.
 ghost use Rattle.std.specs.Prelude.{◌≡◌, ℕ, ◌+◌, ◌*◌, ◌/◌, ◌%◌, ◌≤◌, [], List, OnOk, OnErr, length, take, drop};
+ghost use Rattle.block_traits.specs.Causes.{Counted};
 ghost use Rattle.block_traits.specs.Disk.{DiskState, FailsIn, Logs};
 ghost use Rattle.sealing.specs.Parts.{parts};
 ghost use Rattle.provider.specs.Reading.{StandFrom};
+ghost use Rattle.provider.specs.Reads.{FailsAmong};
 ghost use Rattle.provider.specs.Writing.{writes_from};
 
 use block_traits::{Disk, DiskFailed, Sector};
@@ -12,8 +14,9 @@ pub fn read_units<D: Disk>(disk: &mut D, first: u64, into: &mut [u8]) -> Result<
     requires { first + length into.old / 512 ≤ (D.state disk.old).size }
     ensures stand { let count = length into.old / 512 in
         OnOk result (StandFrom (D.state disk.old).content first count (parts 512 count into.new)) }
+    ensures asked { OnOk result (Counted (length into.old / 512) (D.state disk.old).reads (D.state disk.new).reads) }
     ensures ok { OnOk result (Logs [] (D.state disk.old) (D.state disk.new)) }
-    ensures err { OnErr result (FailsIn [] (D.state disk.old) (D.state disk.new)) }
+    ensures err { OnErr result (FailsAmong (length into.old / 512) (D.state disk.old) (D.state disk.new)) }
 {
     let mut sector: Sector = [0; 512];
     for j in 0..into.len() / 512 {

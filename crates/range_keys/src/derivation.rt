@@ -1,4 +1,5 @@
-// How the keys are made of one another.
+//! How the keys are made of one another.
+
 ghost use Rattle.std.specs.Prelude.{◌≡◌, ℕ, List, ◌++◌, codes};
 ghost use Rattle.sha2.specs.Hashers.{Holds256};
 ghost use Rattle.sha2.specs.Sha256.{sha256};
@@ -30,21 +31,13 @@ fn data_key(master: &MasterKey) -> [u8; 64]
     key
 }
 
-fn code_of(key: &[u8; 64], message: &[u8]) -> [u8; 64]
-    ensures { result ≡ hmac512 key.now message.now }
-{
-    let mut hasher = Hmac512::new(key);
-    hasher.update(message);
-    hasher.finish()
-}
-
 // The base key: Data-Key, or with authentication a code under it.
 fn base_key(auth: Auth, master: &MasterKey) -> [u8; 64]
     ensures { result ≡ base_key auth master.now.bytes }
 {
     match auth {
         Auth::Off => data_key(master),
-        Auth::Sha256 | Auth::Sha384 | Auth::Sha512 => code_of(&data_key(master), &[0x10]),
+        Auth::Sha256 | Auth::Sha384 | Auth::Sha512 => Hmac512::code_of(&data_key(master), &[0x10]),
     }
 }
 
@@ -63,7 +56,7 @@ pub fn range_base(version: u32, auth: Auth, master: &MasterKey) -> [u8; 64]
 pub fn auth_key(master: &MasterKey) -> [u8; 64]
     ensures { result ≡ auth_key master.now.bytes }
 {
-    code_of(&data_key(master), &[0x11])
+    Hmac512::code_of(&data_key(master), &[0x11])
 }
 
 /// The range key of a number.

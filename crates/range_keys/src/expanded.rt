@@ -1,4 +1,5 @@
-// The expanded keys of a range.
+//! The expanded keys of a range.
+
 ghost use Rattle.std.specs.Prelude.{◌≡◌, IsTrue};
 ghost use Rattle.eli_base.specs.Algorithms.{allows_length};
 ghost use Rattle.range_keys.specs.Keys.{first_part, second_part};

@@ -1,4 +1,5 @@
-// The range keys that a ring keeps.
+//! The range keys that a ring keeps.
+
 ghost use Rattle.std.specs.Prelude.{◌≡◌, IsTrue, IsSome, IfSome, Some, slice_get};
 ghost use Rattle.std.specs.Bool.{OnTrue, OnFalse};
 ghost use Rattle.std.specs.Map.{keys_of};

@@ -1,4 +1,5 @@
-// The ring of a provider's keys.
+//! The ring of a provider's keys.
+
 ghost use Rattle.std.specs.Prelude.{◌≡◌, ◌≢◌, ◌↔◌, ◌/◌, ◌^◌, ◌≤◌, [], IsTrue, IfOk, Contains, length, nat_eq};
 ghost use Rattle.std.specs.List.{IsDistinct};
 ghost use Rattle.std.specs.Borrow.{sem};

@@ -1,3 +1,5 @@
+//! Keys, initial vectors and tag keys by offset, and which range keys are kept.
+
 use crate::KeyRing;
 use aes_core::Schedule;
 use eli_base::{Auth, Cipher, MasterKey, Params, sector_size_ok};
@@ -5,8 +7,8 @@ use std::alloc::Global;
 use std::process::Abort;
 use std::test::Fail;
 
-// The range keys of the master key with the bytes 0 to 127, from another implementation of the rules of geli(8), and
-// by Python's hmac: the front and the back half, each number big-endian.
+// The range keys of the master key with the bytes 0 to 127, by tools/range_key_tables.py: the front and the back half,
+// each number big-endian.
 const PLAIN_0_FRONT: [u128; 2] = [
     0xf6403813b0b67abbb64a620d5fe0f8db,
     0x4e540133355d685b208d3eb99cf53971,
@@ -47,7 +49,7 @@ const TAGGED_1_BACK: [u128; 2] = [
     0x4f7b35b668bc67c63b06dd2f75c2424d,
 ];
 
-// Those of metadata below version 7, whatever the authentication: by Python's hmac of IV-Key.
+// Those of metadata below version 7, whatever the authentication.
 const OLD_0_FRONT: [u128; 2] = [
     0x013f5e8a32eb1c2faf41c3c8ed6e7215,
     0xf65636379c36428e8198e1b1b0d7b869,
@@ -175,13 +177,19 @@ fn check_place(rt: &impl Abort, alloc: Global, place: &Place) -> Result<(), Fail
     assert_eq!(rt;
         enciphered(keys.first.schedule()),
         expected(place.first)?,
-        "first at {}",
+        "first, version {}, {:?}, {} bytes, at {}",
+        place.version,
+        place.auth,
+        place.sectorsize,
         place.offset
     );
     assert_eq!(rt;
         enciphered(&keys.second),
         expected(place.second)?,
-        "second at {}",
+        "second, version {}, {:?}, {} bytes, at {}",
+        place.version,
+        place.auth,
+        place.sectorsize,
         place.offset
     );
     Ok(())
@@ -256,7 +264,7 @@ struct Vector {
     tag_key: [u128; 2],
 }
 
-// From the same implementation, and by Python's hmac and hashlib.
+// By the same script.
 const VECTORS: [Vector; 2] = [
     Vector {
         offset: 0,
@@ -282,8 +290,14 @@ fn check_vector(rt: &impl Abort, ring: &KeyRing, vector: &Vector) {
     let mut expected = [0u8; 32];
     expected[..16].copy_from_slice(&vector.tag_key[0].to_be_bytes());
     expected[16..].copy_from_slice(&vector.tag_key[1].to_be_bytes());
-    assert_eq!(rt; tag_key, expected);
-    assert_eq!(rt; ring.iv_at(vector.offset), vector.vector.to_be_bytes());
+    assert_eq!(rt; tag_key, expected, "{:?} at {}", ring.auth(), vector.offset);
+    assert_eq!(rt;
+        ring.iv_at(vector.offset),
+        vector.vector.to_be_bytes(),
+        "{:?} at {}",
+        ring.auth(),
+        vector.offset
+    );
 }
 
 #[test]
@@ -292,7 +306,7 @@ fn vectors_and_tag_keys(rt: HostRuntime) -> Result<(), Fail> {
     for auth in AUTHENTICATIONS {
         let params = Params::new(7, auth, Cipher::AesCbc, 192, 4096, 0, false);
         let ring = KeyRing::new(rt.alloc(), &master(), &params)?;
-        assert!(rt; ring.cipher() == Cipher::AesCbc);
+        assert!(rt; ring.cipher() == Cipher::AesCbc, "{auth:?}");
         for vector in &VECTORS {
             check_vector(&rt, &ring, vector);
         }
@@ -311,7 +325,7 @@ fn sixteen_range_keys_are_kept(rt: HostRuntime) -> Result<(), Fail> {
         assert!(rt; !ring.keeps(number << 29), "{number}");
         let key = enciphered(ring.key_at(number << 29).first.schedule());
         if number == 0 {
-            assert_eq!(rt; key, expected(PLAIN_0_FRONT)?);
+            assert_eq!(rt; key, expected(PLAIN_0_FRONT)?, "{number}");
         }
     }
     for number in 0..17u64 {

@@ -11,3 +11,4 @@ pub mod Survivors
 pub mod Ever
 pub mod Settled
 pub mod Writes
+pub mod Crashes

@@ -6,7 +6,6 @@ use Rattle.eli_base.specs.declared.algorithms.Auth.TheVariants.{Off}
 use Rattle.eli_base.specs.Keying.{Keying}
 use Rattle.eli_base.specs.Units.{unit_bytes_of}
 use Rattle.block_traits.specs.Content.{IsSector}
-use Rattle.sealing.specs.Parts.{parts}
 use Rattle.sealing.specs.Runs.{sealed_run}
 use Rattle.sealing.specs.Pieces.{sealed_piece}
 use Rattle.sealing.specs.Sectors.{units, units_in, seal}

@@ -5,7 +5,6 @@ use Rattle.std.proofs.lemmas.List.{append_cancel_left, get_or-take, get_or-drop,
 use Rattle.std.proofs.lemmas.List.FromFn.{length-map-range_with_len, get_or-map-range_with_len}
 use Rattle.std.proofs.lemmas.List.Elements.{All-from_get_or, Contains-push_cases}
 use Rattle.std.specs.List.{range_with_len}
-use Rattle.eli_base.specs.declared.algorithms.Auth.{Auth}
 use Rattle.eli_base.specs.declared.algorithms.Auth.TheVariants.{Off}
 use Rattle.eli_base.specs.Keying.{Keying}
 use Rattle.eli_base.proofs.Units.{off_or_not}

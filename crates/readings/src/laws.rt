@@ -14,6 +14,7 @@ ghost use Rattle.readings.specs.Steps.{Flush, Place, Step, after, cell, events_o
 ghost use Rattle.readings.specs.Read.{Matches, matching, opened_unit, read, read_unit, writing_in};
 ghost use Rattle.readings.specs.Survivors.{AreSteps, ReadFromCells, ReadsAsPut, chosen, media, moment, place_of, sectors_in, sectors_now, last_writings};
 ghost use Rattle.readings.specs.Writes.{AreStepsBelow, data_steps, puts_of, raw_steps};
+ghost use Rattle.readings.specs.Crashes.{Endures};
 ghost use Rattle.readings.specs.Ever.{CollidesWithOneOf, HasNewTag, IsForged, ReadsAsOneOf, cipher_text_at, ever, placed_at};
 
 /// What a device sector may hold if power fails after some steps are, place by place, the device bytes of its cell.
@@ -163,4 +164,11 @@ pub fn other_steps_fit()
     ensures raw { (next size : ℕ) (steps : List Step) (events : List Event) → AreStepsBelow next steps →
         All (IsEventOf size) events → AreStepsBelow next (steps ++ raw_steps events) }
     ensures first { (next t : ℕ) (steps : List Step) → AreStepsBelow next steps → AreStepsBelow next (take t steps) }
+{}
+
+/// If power fails after any of some steps, each logical sector under each keying keeps what `Endures` promises of every image
+/// that is left: whole, torn or altered.
+pub fn steps_endure_crashes()
+    ensures { (c : Content) (steps : List Step) (t : ℕ) (k : Keying) (sector : ℕ) →
+        IsContentOf (length c.base) c → AreSteps steps → IsKeying k → sector < media k c → Endures c steps t k sector }
 {}

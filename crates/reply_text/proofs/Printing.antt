@@ -8,7 +8,7 @@ use Rattle.std.specs.List.{concat}
 use Rattle.std.specs.Io.KnownBytes.{append_known}
 use Rattle.block_traits.specs.Streams.{SinkState, TookAll, TookPart}
 use Rattle.reply_text.specs.declared.print.WriteEnd.{WriteEnd}
-use Rattle.reply_text.specs.Output.{Prints}
+use Rattle.reply_text.specs.Output.{Prints, Puts, PutsAll, PutsPart}
 
 append_known-then : (known : Option (List ℕ)) (first second : List ℕ) → append_known (append_known known first) second ≡ append_known known (first ++ second)
 append_known-then None first second = refl
@@ -51,11 +51,6 @@ TookPart-more first second {old} {new} a = record {
   rose = a.rose;
 }
 
--- a text, and then another
-pub Prints-then : (first second : List ℕ) (old middle new : SinkState) (result : Result (Unit {0}) WriteEnd) → TookAll first old middle → Prints second middle result new → Prints (first ++ second) old result new
-Prints-then first second old middle new (Ok done) a b = TookAll-then first second a b
-Prints-then first second old middle new (Err failed) a b = TookPart-then first second a b
-
 -- a failed print
 pub Prints-failed : (text : List ℕ) (old new : SinkState) (result : Result (Unit {0}) WriteEnd) → IsErr result → TookPart text old new → Prints text old result new
 Prints-failed text old new (Ok done) failed part = absurd (false≢true failed)
@@ -72,6 +67,51 @@ pub concat-more : {X : Type 0} (text : X → List ℕ) (pieces : List X) (n : �
 concat-more text pieces n d inside =
     rw (take_more pieces n d inside, map-append, concat-append, append-nil) refl
 
--- nothing is to be printed
-pub prints_nothing : (s : SinkState) → Prints [] s (Ok tt) s
-prints_nothing s = TookAll-nothing s
+-- a text was put behind another
+pub PutsAll-then : (first second : List ℕ) {held middle_held left : List ℕ} {old middle new : SinkState} → PutsAll first held old middle_held middle → PutsAll second middle_held middle left new → PutsAll (first ++ second) held old left new
+PutsAll-then first second {held} {middle_held} {left} a b = record {
+  given = a.given ++ b.given;
+  split =
+      sym (append_assoc held first second) ∙ ap (λ (bytes : List ℕ). bytes ++ second) a.split ∙ append_assoc a.given middle_held second
+      ∙ ap (λ (bytes : List ℕ). a.given ++ bytes) b.split ∙ sym (append_assoc a.given b.given left);
+  took = TookAll-then a.given b.given a.took b.took;
+}
+
+-- the second of two texts failed
+pub PutsPart-then : (first second : List ℕ) {held middle_held : List ℕ} {old middle new : SinkState} → PutsAll first held old middle_held middle → PutsPart second middle_held middle new → PutsPart (first ++ second) held old new
+PutsPart-then first second {held} {middle_held} a b =
+    let whole : held ++ (first ++ second) ≡ a.given ++ (middle_held ++ second) =
+    sym (append_assoc held first second) ∙ ap (λ (bytes : List ℕ). bytes ++ second) a.split ∙ append_assoc a.given middle_held second in
+    record { part = rw whole (TookPart-then a.given (middle_held ++ second) a.took b.part) }
+
+-- the first of two texts failed
+pub PutsPart-more : (first second : List ℕ) {held : List ℕ} {old new : SinkState} → PutsPart first held old new → PutsPart (first ++ second) held old new
+PutsPart-more first second {held} a = record { part = rw (sym (append_assoc held first second)) (TookPart-more (held ++ first) second a.part) }
+
+-- a text, and then another
+pub Puts-then : (first second held middle_held left : List ℕ) (old middle new : SinkState) (result : Result (Unit {0}) WriteEnd) → PutsAll first held old middle_held middle → Puts second middle_held middle result left new → Puts (first ++ second) held old result left new
+Puts-then first second held middle_held left old middle new (Ok done) a b = PutsAll-then first second a b
+Puts-then first second held middle_held left old middle new (Err failed) a b = PutsPart-then first second a b
+
+-- a text that failed
+pub Puts-failed : (text held left : List ℕ) (old new : SinkState) (result : Result (Unit {0}) WriteEnd) → IsErr result → PutsPart text held old new → Puts text held old result left new
+Puts-failed text held left old new (Ok done) failed part = absurd (false≢true failed)
+Puts-failed text held left old new (Err end) failed part = part
+
+-- no text
+pub PutsAll-nothing : (held : List ℕ) (s : SinkState) → PutsAll [] held s held s
+PutsAll-nothing held s = record { given = []; split = append-nil held; took = TookAll-nothing s }
+
+-- nothing is to be put
+pub puts_nothing : (held : List ℕ) (s : SinkState) → Puts [] held s (Ok tt) held s
+puts_nothing held s = PutsAll-nothing held s
+
+-- the page went to the sink, and then the text
+pub Puts-given : (text held left : List ℕ) (old middle new : SinkState) (result : Result (Unit {0}) WriteEnd) → TookAll held old middle → Prints text middle result new → left ≡ [] → Puts text held old result left new
+Puts-given text held left old middle new (Ok done) a b none = record { given = held ++ text; split = rw none (sym (append-nil (held ++ text))); took = TookAll-then held text a b }
+Puts-given text held left old middle new (Err failed) a b none = record { part = TookPart-then held text a b }
+
+-- what an empty page began with, and its last bytes
+pub Prints-given : (text left : List ℕ) (old middle new : SinkState) (result : Result (Unit {0}) WriteEnd) → PutsAll text [] old left middle → Prints left middle result new → Prints text old result new
+Prints-given text left old middle new (Ok done) a b = rw a.split (TookAll-then a.given left a.took b)
+Prints-given text left old middle new (Err failed) a b = rw a.split (TookPart-then a.given left a.took b)

@@ -6,10 +6,10 @@ use Rattle.std.specs.Prelude.{false}
 use Rattle.hex.specs.Hex.{encode_lower}
 use Rattle.eli_base.specs.declared.Reason.{Reason}
 use Rattle.eli_base.specs.declared.Reason.TheVariants as reasons
-use Rattle.eli_base.specs.declared.Refusal.{Refusal}
-use Rattle.eli_base.specs.declared.Refusal.TheVariants as refusals
-use Rattle.eli_base.specs.Refusal.{number_of}
-use Rattle.eli_metadata.specs.declared.Metadata.{Metadata}
+use Rattle.eli_base.specs.declared.refusals.Refusal.{Refusal}
+use Rattle.eli_base.specs.declared.refusals.Refusal.TheVariants as refusals
+use Rattle.eli_base.specs.Refusals.{number_of}
+use Rattle.eli_metadata.specs.declared.metadata.Metadata.{Metadata}
 use Rattle.reply_text.specs.declared.reply.Reply.{Reply}
 use Rattle.reply_text.specs.declared.reply.Reply.TheVariants.{Done, Payload, Digest, Rows, Dump, Refused}
 use Rattle.reply_text.specs.declared.rows.Row.{Row}

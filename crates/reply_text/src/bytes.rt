@@ -1,44 +1,48 @@
 // Bytes in hexadecimal.
 ghost use Rattle.std.specs.Prelude.{◌≡◌, ◌++◌, ◌≤◌, ◌∷◌, [], length, codes};
-ghost use Rattle.block_traits.specs.Streams.{sink_of};
 ghost use Rattle.hex.specs.Hex.{encode_lower};
-ghost use Rattle.reply_text.specs.Output.{Prints};
+ghost use Rattle.reply_text.specs.Output.{Puts};
 ghost use Rattle.reply_text.specs.Text.{bytes_text};
 
-use crate::{WriteEnd, write_text};
+use crate::WriteEnd;
+use crate::page::{Page, put};
 use block_traits::Sink;
 
-// How many bytes are printed by one piece of digits.
-const PIECE: usize = 2048;
+// How many bytes are printed in one piece of digits.
+const PIECE: usize = 4096;
 
-/// Gives `ok `, bytes in lower-case hexadecimal, and a newline.
-pub(crate) fn write_ok_bytes<K: Sink>(bytes: &[u8], output: &mut K) -> Result<(), WriteEnd>
-    ensures { Prints (bytes_text bytes.now) (sink_of K.taken K.faults output.old) result (sink_of K.taken K.faults output.new) }
+/// Puts `ok `, bytes in lower-case hexadecimal, and a newline.
+pub(crate) fn write_ok_bytes<K: Sink>(
+    bytes: &[u8],
+    page: &mut Page,
+    output: &mut K,
+) -> Result<(), WriteEnd>
+    ensures { Puts (bytes_text bytes.now) page.old.items (K.state output.old) result page.new.items (K.state output.new) }
 {
-    write_text(b"ok ", output)?;
-    write_bytes(bytes, output)?;
-    write_text(b"\n", output)
+    put(b"ok ", page, output)?;
+    write_bytes(bytes, page, output)?;
+    put(b"\n", page, output)
 }
 
-// Gives bytes in lower-case hexadecimal, 4,096 digits at a time.
-fn write_bytes<K: Sink>(bytes: &[u8], output: &mut K) -> Result<(), WriteEnd>
-    ensures { Prints (encode_lower bytes.now) (sink_of K.taken K.faults output.old) result (sink_of K.taken K.faults output.new) }
+// Puts bytes in lower-case hexadecimal, 8,192 digits at a time.
+fn write_bytes<K: Sink>(bytes: &[u8], page: &mut Page, output: &mut K) -> Result<(), WriteEnd>
+    ensures { Puts (encode_lower bytes.now) page.old.items (K.state output.old) result page.new.items (K.state output.new) }
 {
     let mut given = 0;
     'pieces: while given < bytes.len() {
         let count = PIECE.min(bytes.len() - given);
-        write_piece(&bytes[given..given + count], output)?;
+        write_piece(&bytes[given..given + count], page, output)?;
         given += count;
     }
     Ok(())
 }
 
-fn write_piece<K: Sink>(bytes: &[u8], output: &mut K) -> Result<(), WriteEnd>
-    requires { length bytes.now ≤ 2048 }
-    ensures { Prints (encode_lower bytes.now) (sink_of K.taken K.faults output.old) result (sink_of K.taken K.faults output.new) }
+fn write_piece<K: Sink>(bytes: &[u8], page: &mut Page, output: &mut K) -> Result<(), WriteEnd>
+    requires { length bytes.now ≤ 4096 }
+    ensures { Puts (encode_lower bytes.now) page.old.items (K.state output.old) result page.new.items (K.state output.new) }
 {
-    let mut buffer = [0; 4096];
+    let mut buffer = [0; 8192];
     let digits = &mut buffer[..2 * bytes.len()];
     let _ = hex::encode_to_slice(bytes, &mut *digits);
-    write_text(digits, output)
+    put(digits, page, output)
 }

@@ -5,6 +5,7 @@ mod bytes;
 mod dump;
 mod hexadecimal;
 mod names;
+mod page;
 mod print;
 mod reply;
 mod rows;

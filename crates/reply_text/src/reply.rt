@@ -1,16 +1,16 @@
 // What is answered to a command, and how it is printed.
 ghost use Rattle.std.specs.Prelude.{◌≡◌, ◌++◌, ◌∷◌, []};
-ghost use Rattle.block_traits.specs.Streams.{sink_of};
-ghost use Rattle.reply_text.specs.Output.{Prints};
+ghost use Rattle.reply_text.specs.Output.{Prints, Puts};
 ghost use Rattle.reply_text.specs.Text.{HasPayload, reply_text, list_text, refusal_text, refusal_fields, number_fields, reason_name, refusal_head, field};
 ghost use Rattle.std.specs.Fmt.{decimal};
 
+use crate::WriteEnd;
 use crate::bytes::write_ok_bytes;
 use crate::dump::write_dump;
 use crate::names::{reason_name, refusal_name};
+use crate::page::{Page, give_page, put};
 use crate::print::write_pieces;
 use crate::rows::{Row, RowList, write_rows};
-use crate::{WriteEnd, write_text};
 use block_traits::Sink;
 use eli_base::{Reason, Refusal};
 use eli_metadata::Metadata;
@@ -40,114 +40,142 @@ pub enum Reply {
 /// the first bytes of the reply's text and no others. Takes no memory.
 pub fn write_reply<K: Sink>(reply: &Reply, payload: &[u8], output: &mut K) -> Result<(), WriteEnd>
     requires { HasPayload reply.now payload.now }
-    ensures { Prints (reply_text reply.now payload.now) (sink_of K.taken K.faults output.old) result (sink_of K.taken K.faults output.new) }
+    ensures { Prints (reply_text reply.now payload.now) (K.state output.old) result (K.state output.new) }
+{
+    let mut page = Page::new();
+    write_whole(reply, payload, &mut page, output)?;
+    give_page(&mut page, output)
+}
+
+// The text of a reply.
+fn write_whole<K: Sink>(
+    reply: &Reply,
+    payload: &[u8],
+    page: &mut Page,
+    output: &mut K,
+) -> Result<(), WriteEnd>
+    requires { HasPayload reply.now payload.now }
+    ensures { Puts (reply_text reply.now payload.now) page.old.items (K.state output.old) result page.new.items (K.state output.new) }
 {
     match reply {
-        Reply::Done => write_text(b"ok\n", output),
-        Reply::Payload { length } => write_ok_bytes(&payload[..*length as usize], output),
-        Reply::Digest(digest) => write_ok_bytes(digest, output),
-        Reply::Rows(rows) => write_list(rows.as_slice(), output),
-        Reply::Dump(meta) => write_dump(meta, output),
-        Reply::Refused(refusal) => write_refusal(refusal, output),
+        Reply::Done => put(b"ok\n", page, output),
+        Reply::Payload { length } => write_ok_bytes(&payload[..*length as usize], page, output),
+        Reply::Digest(digest) => write_ok_bytes(digest, page, output),
+        Reply::Rows(rows) => write_list(rows.as_slice(), page, output),
+        Reply::Dump(meta) => write_dump(meta, page, output),
+        Reply::Refused(refusal) => write_refusal(refusal, page, output),
     }
 }
 
 // The drawers and `ok`.
-fn write_list<K: Sink>(rows: &[Row], output: &mut K) -> Result<(), WriteEnd>
-    ensures { Prints (list_text rows.now) (sink_of K.taken K.faults output.old) result (sink_of K.taken K.faults output.new) }
+fn write_list<K: Sink>(rows: &[Row], page: &mut Page, output: &mut K) -> Result<(), WriteEnd>
+    ensures { Puts (list_text rows.now) page.old.items (K.state output.old) result page.new.items (K.state output.new) }
 {
-    write_rows(rows, output)?;
-    write_text(b"ok\n", output)
+    write_rows(rows, page, output)?;
+    put(b"ok\n", page, output)
 }
 
-fn write_refusal<K: Sink>(refusal: &Refusal, output: &mut K) -> Result<(), WriteEnd>
-    ensures { Prints (refusal_text refusal.now) (sink_of K.taken K.faults output.old) result (sink_of K.taken K.faults output.new) }
+fn write_refusal<K: Sink>(
+    refusal: &Refusal,
+    page: &mut Page,
+    output: &mut K,
+) -> Result<(), WriteEnd>
+    ensures { Puts (refusal_text refusal.now) page.old.items (K.state output.old) result page.new.items (K.state output.new) }
 {
-    write_head(refusal, output)?;
-    write_fields(refusal, output)?;
-    write_text(b"\n", output)
+    write_head(refusal, page, output)?;
+    write_fields(refusal, page, output)?;
+    put(b"\n", page, output)
 }
 
 // The number and the name.
-fn write_head<K: Sink>(refusal: &Refusal, output: &mut K) -> Result<(), WriteEnd>
-    ensures { Prints (refusal_head refusal.now) (sink_of K.taken K.faults output.old) result (sink_of K.taken K.faults output.new) }
+fn write_head<K: Sink>(refusal: &Refusal, page: &mut Page, output: &mut K) -> Result<(), WriteEnd>
+    ensures { Puts (refusal_head refusal.now) page.old.items (K.state output.old) result page.new.items (K.state output.new) }
 {
-    write_text(b"error ", output)?;
-    write_number(refusal.number(), output)?;
-    write_field(refusal_name(refusal), output)
+    put(b"error ", page, output)?;
+    write_number(refusal.number(), page, output)?;
+    write_field(refusal_name(refusal), page, output)
 }
 
 // A space and a text.
-fn write_field<K: Sink>(text: &[u8], output: &mut K) -> Result<(), WriteEnd>
-    ensures { Prints (field text.now) (sink_of K.taken K.faults output.old) result (sink_of K.taken K.faults output.new) }
+fn write_field<K: Sink>(text: &[u8], page: &mut Page, output: &mut K) -> Result<(), WriteEnd>
+    ensures { Puts (field text.now) page.old.items (K.state output.old) result page.new.items (K.state output.new) }
 {
-    write_pieces(&[b" ", text], output)
+    write_pieces(&[b" ", text], page, output)
 }
 
-fn write_number<K: Sink>(number: u8, output: &mut K) -> Result<(), WriteEnd>
-    ensures { Prints (decimal number) (sink_of K.taken K.faults output.old) result (sink_of K.taken K.faults output.new) }
-{
-    let mut digits = Buffer::new();
-    write_text(digits.format(number).as_bytes(), output)
-}
-
-fn write_number_field<K: Sink>(number: u64, output: &mut K) -> Result<(), WriteEnd>
-    ensures { Prints (field (decimal number)) (sink_of K.taken K.faults output.old) result (sink_of K.taken K.faults output.new) }
+fn write_number<K: Sink>(number: u8, page: &mut Page, output: &mut K) -> Result<(), WriteEnd>
+    ensures { Puts (decimal number) page.old.items (K.state output.old) result page.new.items (K.state output.new) }
 {
     let mut digits = Buffer::new();
-    write_field(digits.format(number).as_bytes(), output)
+    put(digits.format(number).as_bytes(), page, output)
 }
 
-pub(crate) fn write_numbers<K: Sink>(numbers: &[u64], output: &mut K) -> Result<(), WriteEnd>
-    ensures { Prints (number_fields numbers.now) (sink_of K.taken K.faults output.old) result (sink_of K.taken K.faults output.new) }
+fn write_number_field<K: Sink>(number: u64, page: &mut Page, output: &mut K) -> Result<(), WriteEnd>
+    ensures { Puts (field (decimal number)) page.old.items (K.state output.old) result page.new.items (K.state output.new) }
+{
+    let mut digits = Buffer::new();
+    write_field(digits.format(number).as_bytes(), page, output)
+}
+
+pub(crate) fn write_numbers<K: Sink>(
+    numbers: &[u64],
+    page: &mut Page,
+    output: &mut K,
+) -> Result<(), WriteEnd>
+    ensures { Puts (number_fields numbers.now) page.old.items (K.state output.old) result page.new.items (K.state output.new) }
 {
     for number in numbers {
-        write_number_field(*number, output)?;
+        write_number_field(*number, page, output)?;
     }
     Ok(())
 }
 
 // The number of a word and the reason.
-fn write_usage<K: Sink>(word: u32, reason: Reason, output: &mut K) -> Result<(), WriteEnd>
-    ensures { Prints (number_fields (word ∷ []) ++ field (reason_name reason)) (sink_of K.taken K.faults output.old) result (sink_of K.taken K.faults output.new) }
+fn write_usage<K: Sink>(
+    word: u32,
+    reason: Reason,
+    page: &mut Page,
+    output: &mut K,
+) -> Result<(), WriteEnd>
+    ensures { Puts (number_fields (word ∷ []) ++ field (reason_name reason)) page.old.items (K.state output.old) result page.new.items (K.state output.new) }
 {
-    write_numbers(&[word.into()], output)?;
-    write_field(reason_name(reason), output)
+    write_numbers(&[word.into()], page, output)?;
+    write_field(reason_name(reason), page, output)
 }
 
 // The fields of a refusal: a refusal without one stands here too, so that none is forgotten.
-#[tactic(auto, using(crate::proofs::Printing::prints_nothing))]
-fn write_fields<K: Sink>(refusal: &Refusal, output: &mut K) -> Result<(), WriteEnd>
-    ensures { Prints (refusal_fields refusal.now) (sink_of K.taken K.faults output.old) result (sink_of K.taken K.faults output.new) }
+#[tactic(auto, using(crate::proofs::Printing::puts_nothing))]
+fn write_fields<K: Sink>(refusal: &Refusal, page: &mut Page, output: &mut K) -> Result<(), WriteEnd>
+    ensures { Puts (refusal_fields refusal.now) page.old.items (K.state output.old) result page.new.items (K.state output.new) }
 {
     match *refusal {
-        Refusal::Usage { word, reason } => write_usage(word, reason, output),
+        Refusal::Usage { word, reason } => write_usage(word, reason, page, output),
         Refusal::KeyNumberOutOfRange { given: number }
         | Refusal::KeyNotSet { slot: number }
-        | Refusal::LastKey { slot: number } => write_numbers(&[number.into()], output),
+        | Refusal::LastKey { slot: number } => write_numbers(&[number.into()], page, output),
         Refusal::UnsupportedCipher { found }
         | Refusal::UnsupportedAuth { found }
-        | Refusal::BadKeyLength { found } => write_numbers(&[found.into()], output),
+        | Refusal::BadKeyLength { found } => write_numbers(&[found.into()], page, output),
         Refusal::BadVersion { found: number }
         | Refusal::BadSectorSize { found: number }
         | Refusal::UnsupportedFlags { mask: number }
         | Refusal::FileAbsent { word: number }
-        | Refusal::CabinetFault { word: number } => write_numbers(&[number.into()], output),
+        | Refusal::CabinetFault { word: number } => write_numbers(&[number.into()], page, output),
         Refusal::Integrity { offset: number }
         | Refusal::BackupTooShort { length: number }
-        | Refusal::TooSmall { size: number } => write_numbers(&[number], output),
-        Refusal::BadSize { kept, found } => write_numbers(&[kept, found], output),
-        Refusal::OldSizeMismatch { kept, given } => write_numbers(&[kept, given], output),
-        Refusal::NotGrown { size, given } => write_numbers(&[size, given], output),
-        Refusal::FileTooLong { word, limit } => write_numbers(&[word.into(), limit], output),
+        | Refusal::TooSmall { size: number } => write_numbers(&[number], page, output),
+        Refusal::BadSize { kept, found } => write_numbers(&[kept, found], page, output),
+        Refusal::OldSizeMismatch { kept, given } => write_numbers(&[kept, given], page, output),
+        Refusal::NotGrown { size, given } => write_numbers(&[size, given], page, output),
+        Refusal::FileTooLong { word, limit } => write_numbers(&[word.into(), limit], page, output),
         Refusal::BadLength { given, sectorsize } => {
-            write_numbers(&[given, sectorsize.into()], output)
+            write_numbers(&[given, sectorsize.into()], page, output)
         }
         Refusal::OutOfRange {
             sector,
             count,
             media,
-        } => write_numbers(&[sector, count, media], output),
+        } => write_numbers(&[sector, count, media], page, output),
         Refusal::UnknownProvider
         | Refusal::NotAttached
         | Refusal::StillAttached

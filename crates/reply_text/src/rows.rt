@@ -1,12 +1,12 @@
 // The drawers, one on each line.
 ghost use Rattle.std.specs.Prelude.{◌≡◌, ◌++◌, codes, ◌∷◌, [], map};
 ghost use Rattle.std.specs.List.{concat};
-ghost use Rattle.block_traits.specs.Streams.{sink_of};
-ghost use Rattle.reply_text.specs.Output.{Prints};
+ghost use Rattle.reply_text.specs.Output.{Puts};
 ghost use Rattle.reply_text.specs.Text.{row_text, row_state, row_lines, number_fields};
 
+use crate::WriteEnd;
+use crate::page::{Page, put};
 use crate::reply::write_numbers;
-use crate::{WriteEnd, write_text};
 use block_traits::{ByteList, Sink};
 use std::marker::Model;
 
@@ -54,30 +54,34 @@ impl RowList {
     }
 }
 
-pub(crate) fn write_rows<K: Sink>(rows: &[Row], output: &mut K) -> Result<(), WriteEnd>
-    ensures { Prints (row_lines rows.now) (sink_of K.taken K.faults output.old) result (sink_of K.taken K.faults output.new) }
+pub(crate) fn write_rows<K: Sink>(
+    rows: &[Row],
+    page: &mut Page,
+    output: &mut K,
+) -> Result<(), WriteEnd>
+    ensures { Puts (row_lines rows.now) page.old.items (K.state output.old) result page.new.items (K.state output.new) }
 {
     for row in rows {
-        write_row(row, output)?;
+        write_row(row, page, output)?;
     }
     Ok(())
 }
 
 // A line with the name and the state.
-fn write_row<K: Sink>(row: &Row, output: &mut K) -> Result<(), WriteEnd>
-    ensures { Prints (row_text row.now) (sink_of K.taken K.faults output.old) result (sink_of K.taken K.faults output.new) }
+fn write_row<K: Sink>(row: &Row, page: &mut Page, output: &mut K) -> Result<(), WriteEnd>
+    ensures { Puts (row_text row.now) page.old.items (K.state output.old) result page.new.items (K.state output.new) }
 {
-    write_text(row.name.as_slice(), output)?;
-    write_state(row, output)?;
-    write_text(b"\n", output)
+    put(row.name.as_slice(), page, output)?;
+    write_state(row, page, output)?;
+    put(b"\n", page, output)
 }
 
-fn write_state<K: Sink>(row: &Row, output: &mut K) -> Result<(), WriteEnd>
-    ensures { Prints (row_state row.now) (sink_of K.taken K.faults output.old) result (sink_of K.taken K.faults output.new) }
+fn write_state<K: Sink>(row: &Row, page: &mut Page, output: &mut K) -> Result<(), WriteEnd>
+    ensures { Puts (row_state row.now) page.old.items (K.state output.old) result page.new.items (K.state output.new) }
 {
     if !row.attached {
-        return write_text(b" idle", output);
+        return put(b" idle", page, output);
     }
-    write_text(b" attached", output)?;
-    write_numbers(&[row.sectorsize.into(), row.sectors], output)
+    put(b" attached", page, output)?;
+    write_numbers(&[row.sectorsize.into(), row.sectors], page, output)
 }

@@ -1,3 +1,4 @@
+// What is printed for each reply, and in how many calls.
 ghost use Rattle.reply_text.specs.Text.{HasPayload};
 
 use super::*;
@@ -34,8 +35,12 @@ fn payloads(rt: HostRuntime) -> Result<(), Fail> {
     ] {
         let mut sink = MemSink::new(alloc, &[], &[], 64)?;
         let reply = Reply::Payload { length };
-        assert!(&rt; length <= 3);
-        assert_eq!(rt; write_reply(&reply, &payload, &mut sink), Ok(()));
+        assert!(&rt; length <= 3, "{length}");
+        assert_eq!(rt;
+            write_reply(&reply, &payload, &mut sink),
+            Ok(()),
+            "{length}"
+        );
         assert!(&rt; sink.bytes() == wanted.as_bytes(), "{length}");
     }
     Ok(())
@@ -291,10 +296,8 @@ fn refusals(rt: HostRuntime) -> Result<(), Fail> {
     Ok(())
 }
 
-#[test]
-fn metadata(rt: HostRuntime) -> Result<(), Fail> {
-    let alloc = rt.alloc();
-    let meta = Metadata {
+fn metadata() -> Metadata {
+    Metadata {
         version: 7,
         flags: 0x210,
         ealgo: 22,
@@ -306,7 +309,12 @@ fn metadata(rt: HostRuntime) -> Result<(), Fail> {
         iterations: -1,
         salt: [0xa5; 64],
         mkeys: [0x3c; 384],
-    };
+    }
+}
+
+#[test]
+fn dumps(rt: HostRuntime) -> Result<(), Fail> {
+    let alloc = rt.alloc();
     let mut text = String::from_str(
         alloc,
         "version: 7\nflags: 0x210\nealgo: 22\nkeylen: 256\naalgo: 18\nprovsize: 1048576\n\
@@ -320,7 +328,7 @@ fn metadata(rt: HostRuntime) -> Result<(), Fail> {
         text.push_str("3c")?;
     }
     text.push_str("\nok\n")?;
-    assert!(&rt; prints(alloc, &Reply::Dump(meta), &[], text.as_str())?);
+    assert!(&rt; prints(alloc, &Reply::Dump(metadata()), &[], text.as_str())?);
     Ok(())
 }
 
@@ -333,13 +341,13 @@ fn request(alloc: Global) -> Result<Vec<u8>, Fail> {
     Ok(bytes)
 }
 
-// A sink that takes all is called at most 80 times for the largest request: the 81st call would fail.
+// A sink that takes all is called this often for the largest request: the next call would fail.
 #[test]
 fn largest_payload_in_few_calls(rt: HostRuntime) -> Result<(), Fail> {
     let alloc = rt.alloc();
     let bytes = request(alloc)?;
     let reply = Reply::Payload { length: 131_072 };
-    let mut sink = MemSink::new(alloc, &[], &[81], 262_148)?;
+    let mut sink = MemSink::new(alloc, &[], &[18], 262_148)?;
     assert!(&rt; bytes.len() == 131_072);
     assert_eq!(rt; write_reply(&reply, bytes.as_slice(), &mut sink), Ok(()));
     let taken = sink.bytes();
@@ -350,11 +358,65 @@ fn largest_payload_in_few_calls(rt: HostRuntime) -> Result<(), Fail> {
     Ok(())
 }
 
-// What a sink took of a payload of 4,096 bytes, where its nth call failed.
+// Whether the sink is called once for the reply: the first call that fails is the last one too.
+fn takes_one_call(alloc: Global, reply: &Reply, payload: &[u8]) -> Result<bool, Fail>
+    requires { HasPayload reply.now payload.now }
+{
+    let mut first = MemSink::new(alloc, &[], &[1], 4096)?;
+    let mut second = MemSink::new(alloc, &[], &[2], 4096)?;
+    let fails = write_reply(reply, payload, &mut first).is_err();
+    Ok(fails && first.bytes().is_empty() && write_reply(reply, payload, &mut second).is_ok())
+}
+
+#[test]
+fn short_replies_in_one_call(rt: HostRuntime) -> Result<(), Fail> {
+    let alloc = rt.alloc();
+    assert!(&rt; takes_one_call(alloc, &Reply::Done, &[])?);
+    assert!(&rt; takes_one_call(alloc, &Reply::Payload { length: 0 }, &[])?);
+    assert!(&rt; takes_one_call(alloc, &Reply::Payload { length: 512 }, &[0x5a; 512])?);
+    assert!(&rt; takes_one_call(alloc, &Reply::Digest(DIGEST), &[])?);
+    assert!(&rt; takes_one_call(alloc, &Reply::Dump(metadata()), &[])?);
+    for (refusal, text) in &REFUSALS {
+        assert!(&rt;
+            takes_one_call(alloc, &Reply::Refused(*refusal), &[])?,
+            "{text}"
+        );
+    }
+    let mut rows = Vec::new(alloc);
+    rows.push(row(alloc, "a.img", true, 4096, 255)?)?;
+    rows.push(row(alloc, "b.img", false, 0, 0)?)?;
+    assert!(&rt; takes_one_call(alloc, &Reply::Rows(RowList::from_vec(rows)), &[])?);
+    Ok(())
+}
+
+// A name for which there is no room behind what stands before it, and one that is longer than what is gathered.
+#[test]
+fn long_names(rt: HostRuntime) -> Result<(), Fail> {
+    let alloc = rt.alloc();
+    let mut rows = Vec::new(alloc);
+    let mut text = String::new(alloc);
+    for length in [9000, 9000, 20_000] {
+        let mut name = String::new(alloc);
+        for _ in 0..length {
+            name.push_str("n")?;
+        }
+        rows.push(row(alloc, name.as_str(), false, 0, 0)?)?;
+        text.push_str(name.as_str())?;
+        text.push_str(" idle\n")?;
+    }
+    text.push_str("ok\n")?;
+    let mut sink = MemSink::new(alloc, &[], &[5], 40_000)?;
+    let reply = Reply::Rows(RowList::from_vec(rows));
+    assert_eq!(rt; write_reply(&reply, &[], &mut sink), Ok(()));
+    assert!(&rt; sink.bytes() == text.as_str().as_bytes());
+    Ok(())
+}
+
+// What a sink took of a payload of 12,288 bytes, where its nth call failed.
 fn taken_before(alloc: Global, nth: u64) -> Result<MemSink, Fail> {
-    let payload = [0x5a; 4096];
-    let reply = Reply::Payload { length: 4096 };
-    let mut sink = MemSink::new(alloc, &[], &[nth], 8196)?;
+    let payload = [0x5a; 12_288];
+    let reply = Reply::Payload { length: 12_288 };
+    let mut sink = MemSink::new(alloc, &[], &[nth], 24_580)?;
     let failed = write_reply(&reply, &payload, &mut sink);
     failed.err().ok_or("a failure")?;
     Ok(sink)
@@ -364,11 +426,11 @@ fn taken_before(alloc: Global, nth: u64) -> Result<MemSink, Fail> {
 #[test]
 fn failing_calls(rt: HostRuntime) -> Result<(), Fail> {
     let alloc = rt.alloc();
-    let whole = taken_before(alloc, 4)?;
-    for (nth, len) in [(1, 0), (2, 3), (3, 4099), (4, 8195)] {
+    let whole = taken_before(alloc, 3)?;
+    for (nth, len) in [(1, 0), (2, 8195), (3, 24_579)] {
         let sink = taken_before(alloc, nth)?;
-        assert_eq!(rt; sink.bytes().len(), len);
-        assert!(&rt; whole.bytes().starts_with(sink.bytes()));
+        assert!(&rt; sink.bytes().len() == len, "call {nth}");
+        assert!(&rt; whole.bytes().starts_with(sink.bytes()), "call {nth}");
     }
     assert!(&rt; whole.bytes().starts_with(b"ok 5a5a"));
     Ok(())

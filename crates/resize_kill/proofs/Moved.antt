@@ -8,8 +8,8 @@ use Rattle.block_traits.specs.Disk.{DiskState, FailsIn, FitsSize, Gives, GivesFr
 use Rattle.block_traits.specs.Moments.{AtEachMoment, HoldsOldOr, WaitsForFlush}
 use Rattle.block_traits.specs.Overwriting.{overwrite_events}
 use Rattle.block_traits.specs.Streams.{EntropyState}
-use Rattle.block_traits.specs.declared.Event.{Event}
-use Rattle.block_traits.specs.declared.Event.TheVariants.{Write, Flush}
+use Rattle.block_traits.specs.declared.disk.Event.{Event}
+use Rattle.block_traits.specs.declared.disk.Event.TheVariants.{Write, Flush}
 use Rattle.block_traits.proofs.Contents.{last_of-push, last_of-kept_values}
 use Rattle.block_traits.proofs.Images.{held_at_end, held_when_settled}
 use Rattle.block_traits.proofs.Keeping.{AllHold-one, AllHold-kept_after, AtEachMoment-part, HoldsOldOr-more, WaitsForFlush-more, WritesHere, flushed-more, kept_values-more}
@@ -17,7 +17,7 @@ use Rattle.block_traits.proofs.Logs.{FailsIn-then, Logs-then}
 use Rattle.block_traits.proofs.Overwritten.{WritesHere-overwrite}
 use Rattle.eli_metadata.specs.Format.{encoded, metadata_in}
 use Rattle.eli_metadata.specs.Place.{IsSectorOf}
-use Rattle.eli_metadata.specs.declared.Metadata.{Metadata}
+use Rattle.eli_metadata.specs.declared.metadata.Metadata.{Metadata}
 use Rattle.resize_kill.specs.Resizing.{FindsMetadata, HoldsOneOf, KeepsOneOf, Moves, MovesPart, Prepares, grown, move_events, old_place, size_refusal}
 use Rattle.resize_kill.specs.Trash.{TakesTrash, trash_sectors}
 

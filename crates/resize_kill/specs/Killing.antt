@@ -5,11 +5,11 @@ use Rattle.block_traits.specs.Disk.{DiskState, FailsIn, Logs, last_sector}
 use Rattle.block_traits.specs.Moments.{AtEachMoment, HoldsOnceFlushed}
 use Rattle.block_traits.specs.Overwriting.{overwrite_events}
 use Rattle.block_traits.specs.Streams.{EntropyState, TakesNone}
-use Rattle.block_traits.specs.declared.Event.{Event}
-use Rattle.eli_base.specs.declared.Refusal.{Refusal}
-use Rattle.eli_base.specs.declared.Refusal.TheVariants.{EntropyFault, DeviceFault, TooSmall}
+use Rattle.block_traits.specs.declared.disk.Event.{Event}
+use Rattle.eli_base.specs.declared.refusals.Refusal.{Refusal}
+use Rattle.eli_base.specs.declared.refusals.Refusal.TheVariants.{EntropyFault, DeviceFault, TooSmall}
 use Rattle.eli_metadata.specs.Format.{metadata_in}
-use Rattle.eli_metadata.specs.declared.MetaFault.TheVariants.{BadMagic}
+use Rattle.eli_metadata.specs.declared.metadata.MetaFault.TheVariants.{BadMagic}
 use Rattle.resize_kill.specs.Trash.{TakesTrash, trash_sectors}
 
 -- the last sector is written over in six passes
@@ -24,20 +24,22 @@ IsNoMetadata bytes = metadata_in bytes ≡ Err BadMagic
 abbrev pub HoldsNoMetadata : ℕ → Content → Content → Type 0
 HoldsNoMetadata n before now = HoldsOnceFlushed IsNoMetadata n before now
 
--- the last sector was written over with all of the events
+-- the last sector was written over with all of the events, and nothing was read
 pub record Destroys (disk : DiskState) (entropy : EntropyState) (disk' : DiskState) (entropy' : EntropyState) : Type 0 where
   pub enough : 2 ≤ disk.size
   pub random : List ℕ
   pub takes : TakesTrash random entropy entropy'
   pub logs : Logs (kill_events disk random) disk disk'
+  pub unasked : disk'.reads ≡ disk.reads
   pub gone : AtEachMoment (HoldsNoMetadata (last_sector disk)) disk.content disk'.content
 
--- the disk failed after a part of the events
+-- the disk failed after a part of the events, and nothing was read
 pub record DestroysPart (disk : DiskState) (entropy : EntropyState) (disk' : DiskState) (entropy' : EntropyState) : Type 0 where
   pub enough : 2 ≤ disk.size
   pub random : List ℕ
   pub takes : TakesTrash random entropy entropy'
   pub fails : FailsIn (kill_events disk random) disk disk'
+  pub unasked : disk'.reads ≡ disk.reads
   pub gone : AtEachMoment (HoldsNoMetadata (last_sector disk)) disk.content disk'.content
 
 -- there were no random bytes, and the disk is as it was

@@ -5,15 +5,15 @@ use Rattle.block_traits.specs.Disk.{DiskState, FailsIn, Gives, Logs, last_sector
 use Rattle.block_traits.specs.Moments.{AtEachMoment, IsFlushedSince, IsUnaltered, KeepsOldOr, WaitsForFlush}
 use Rattle.block_traits.specs.Overwriting.{overwrite_events}
 use Rattle.block_traits.specs.Streams.{EntropyState, TakesNone}
-use Rattle.block_traits.specs.declared.Event.{Event}
-use Rattle.eli_base.specs.declared.Refusal.{Refusal}
-use Rattle.eli_base.specs.declared.Refusal.TheVariants.{EntropyFault, DeviceFault}
-use Rattle.eli_base.specs.declared.Refusal.TheVariants as refusals
+use Rattle.block_traits.specs.declared.disk.Event.{Event}
+use Rattle.eli_base.specs.declared.refusals.Refusal.{Refusal}
+use Rattle.eli_base.specs.declared.refusals.Refusal.TheVariants.{EntropyFault, DeviceFault}
+use Rattle.eli_base.specs.declared.refusals.Refusal.TheVariants as refusals
 use Rattle.eli_metadata.specs.Format.{encoded, metadata_in}
 use Rattle.eli_metadata.specs.Place.{IsSectorOf, replace_events}
 use Rattle.eli_metadata.specs.Refusals.{refusal_of}
-use Rattle.eli_metadata.specs.declared.MetaFault.{MetaFault}
-use Rattle.eli_metadata.specs.declared.Metadata.{Metadata}
+use Rattle.eli_metadata.specs.declared.metadata.MetaFault.{MetaFault}
+use Rattle.eli_metadata.specs.declared.metadata.Metadata.{Metadata}
 use Rattle.resize_kill.specs.Trash.{TakesTrash, trash_sectors}
 
 -- the first refusal of the sizes: of an image of so many device sectors, and of an old size in bytes that isn't below its own

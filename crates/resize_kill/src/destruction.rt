@@ -1,6 +1,5 @@
 //! The end of a provider's metadata.
 
-ghost use Rattle.block_traits.specs.Streams.{entropy_of};
 ghost use Rattle.resize_kill.specs.Killing.{Kills};
 
 use crate::trash::{destroy, draw};
@@ -18,8 +17,8 @@ use eli_base::Refusal;
 /// is as it was; as `DeviceFault`, only where the disk failed, and then the first of the events were done,
 /// and no others. The random bytes are taken in one call, before the first event of the disk.
 pub fn kill<D: Disk, E: Entropy>(disk: &mut D, entropy: &mut E) -> Result<(), Refusal>
-    ensures { Kills (D.state disk.old) (entropy_of E.left E.faults entropy.old)
-        result (D.state disk.new) (entropy_of E.left E.faults entropy.new) }
+    ensures { Kills (D.state disk.old) (E.state entropy.old)
+        result (D.state disk.new) (E.state entropy.new) }
 {
     let sectors = disk.sectors();
     if sectors < 2 {

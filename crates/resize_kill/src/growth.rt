@@ -2,7 +2,6 @@
 
 ghost use Rattle.std.specs.Prelude.{◌≡◌, ◌<◌, ◌≤◌, ◌^◌, ◌*◌, ◌%◌, ◌+◌, Ok, None, Some, IsTrue, IfOk, IfErr, OnOk, OnErr};
 ghost use Rattle.block_traits.specs.Disk.{FailsIn, Logs};
-ghost use Rattle.block_traits.specs.Streams.{entropy_of};
 ghost use Rattle.eli_metadata.specs.Format.{encoded, is_served, metadata_in};
 ghost use Rattle.resize_kill.specs.Resizing.{FindsOld, Resizes, move_events, size_refusal};
 
@@ -90,8 +89,8 @@ pub fn resize<D: Disk, E: Entropy>(
 ) -> Result<(), Refusal>
     requires whole { oldsize % 512 ≡ 0 }
     requires least { 1024 ≤ oldsize }
-    ensures { Resizes oldsize (D.state disk.old) (entropy_of E.left E.faults entropy.old)
-        result (D.state disk.new) (entropy_of E.left E.faults entropy.new) }
+    ensures { Resizes oldsize (D.state disk.old) (E.state entropy.old)
+        result (D.state disk.new) (E.state entropy.new) }
 {
     let sectors = disk.sectors();
     check_sizes(sectors, oldsize)?;

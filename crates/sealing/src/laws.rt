@@ -1,4 +1,5 @@
-// What holds of sealing and opening whole logical sectors, with each authentication and without.
+//! What holds of sealing and opening whole logical sectors, with each authentication and without.
+
 ghost use Rattle.std.specs.Prelude.{◌≡◌, ◌≢◌, ℕ, ◌+◌, ◌*◌, ◌<◌, List, [], ◌∷◌, length, map, get_or, Ok, All};
 ghost use Rattle.aes_core.specs.Schedule.{AreBytes};
 ghost use Rattle.eli_base.specs.declared.algorithms.Auth.TheVariants.{Off};

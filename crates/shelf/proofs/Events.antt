@@ -5,9 +5,6 @@ use Rattle.block_traits.specs.Disk.{DiskState, FailsIn, Logs}
 use Rattle.block_traits.specs.declared.disk.Event.{Event}
 use Rattle.block_traits.specs.declared.disk.Event.TheVariants.{Flush}
 use Rattle.block_traits.proofs.Logs.{Logs-nothing, Logs-then}
-use Rattle.command_words.specs.Places.{bytes_at}
-use Rattle.command_words.specs.declared.commands.Command.{Command}
-use Rattle.command_words.specs.declared.commands.Command.TheVariants as commands
 use Rattle.command_words.specs.declared.spans.KeyWords.{KeyWords}
 use Rattle.command_words.specs.declared.spans.Span.{Span}
 use Rattle.eli_base.specs.declared.refusals.Refusal.{Refusal}
@@ -16,44 +13,42 @@ use Rattle.eli_metadata.specs.Place.{ReadsMetadata, replace_events}
 use Rattle.eli_metadata.specs.declared.metadata.Metadata.{Metadata}
 use Rattle.eli_metadata.specs.declared.place.ReadMetaFault.{ReadMetaFault}
 use Rattle.eli_metadata.specs.declared.place.ReadMetaFault.TheVariants.{TooSmall, DeviceFault, Meta}
-use Rattle.key_commands.specs.Init.{Inits}
+use Rattle.key_commands.specs.NewProvider.{Inits}
 use Rattle.key_commands.specs.declared.options.InitOptions.{InitOptions}
 use Rattle.provider.specs.Writing.{data_writes}
 use Rattle.user_key.specs.declared.components.Components.{Components}
-use Rattle.shelf.specs.Answer.{Answer}
-use Rattle.shelf.specs.Digits.{bytes_spelled}
-use Rattle.shelf.specs.Histories.{AreRowEvents, BreaksOff, EventsBy, WritesData, WritesMetadata, stores_last}
+use Rattle.shelf.specs.Histories.{BreaksOff, WritesData, WritesMetadata}
 use Rattle.shelf.specs.Steps.{Admits, Attaches, BacksUp, Decides, DoesEvents, GoesOn, LoadsComponents, NeedsAttached, NeedsIdle, NeedsSectors, NeedsWhole, NeedsWritable, ReadsLastSector, ReadsSectors, Then, WritesSectors, if_attached}
-use Rattle.shelf.specs.Turn.{AttachesUnless, AttachRow, DetachRow, FlushRow, InitRow, ReadRow, Serves, TryRow, WriteRow, done_or, dump_or, payload_or}
+use Rattle.shelf.specs.Turn.{AttachesUnless, AttachRow, DetachRow, FlushRow, InitRow, ReadRow, TryRow, WriteRow}
 use Rattle.shelf.specs.World.{Attachment, Holding, Idle, IsAttached, Reach}
 
 -- ---- steps without events
 
-abbrev Step : Type 0 → Type 1
+abbrev pub Step : Type 0 → Type 1
 Step A = Reach → Result A Refusal → Reach → Type 0
 
-abbrev Quiet : {A : Type 0} → Step A → Type 0
+abbrev pub Quiet : {A : Type 0} → Step A → Type 0
 Quiet {A} R = (old : Reach) (answer : Result A Refusal) (new : Reach) → R old answer new → Logs [] old.disk new.disk
 
-same_disk : (old new : DiskState) → new ≡ old → Logs [] old new
+pub same_disk : (old new : DiskState) → new ≡ old → Logs [] old new
 same_disk old new is = rw is (Logs-nothing old)
 
-quiet_failure : (old new : DiskState) → FailsIn [] old new → Logs [] old new
+pub quiet_failure : (old new : DiskState) → FailsIn [] old new → Logs [] old new
 quiet_failure old new f = let none : f.count ≡ 0 = omega (arith, f.within) in subst (λ (n : ℕ). Logs (take n []) old new) none f.logs
 
-quiet_metadata : (old new : DiskState) (read : Result Metadata ReadMetaFault) → ReadsMetadata old read new → Logs [] old new
+pub quiet_metadata : (old new : DiskState) (read : Result Metadata ReadMetaFault) → ReadsMetadata old read new → Logs [] old new
 quiet_metadata old new (Ok m) h = h.logs
 quiet_metadata old new (Err (TooSmall size)) h = same_disk old new h.2
 quiet_metadata old new (Err DeviceFault) h = quiet_failure old new h.1
 quiet_metadata old new (Err (Meta fault)) h = h.logs
 
-quiet_reading : Quiet ReadsLastSector
+pub quiet_reading : Quiet ReadsLastSector
 quiet_reading old answer new h = quiet_metadata old.disk new.disk h.reads.read h.reads.reads
 
-quiet_decision : {A : Type 0} (decided : Reach → Result A Refusal) (old : Reach) (answer : Result A Refusal) (new : Reach) → Decides (decided old) old answer new → Logs [] old.disk new.disk
+pub quiet_decision : {A : Type 0} (decided : Reach → Result A Refusal) (old : Reach) (answer : Result A Refusal) (new : Reach) → Decides (decided old) old answer new → Logs [] old.disk new.disk
 quiet_decision decided old answer new h = same_disk old.disk new.disk (ap (λ (r : Reach). r.disk) h.1)
 
-quiet_loading : (line : List ℕ) (words : KeyWords) → Quiet (LoadsComponents line words)
+pub quiet_loading : (line : List ℕ) (words : KeyWords) → Quiet (LoadsComponents line words)
 quiet_loading line words old answer new h = same_disk old.disk new.disk h.disk
 
 quiet_next : {A B : Type 0} (Next : A → Step B) (given : Result A Refusal) (middle : Reach) (answer : Result B Refusal) (new : Reach) → ((a : A) → Quiet (Next a)) → GoesOn Next given middle answer new
@@ -61,27 +56,27 @@ quiet_next : {A B : Type 0} (Next : A → Step B) (given : Result A Refusal) (mi
 quiet_next Next (Ok a) middle answer new quiet h = quiet a middle answer new h
 quiet_next Next (Err refusal) middle answer new quiet h = same_disk middle.disk new.disk (ap (λ (r : Reach). r.disk) h.1)
 
-quiet_then : {A B : Type 0} (First : Step A) (Next : A → Step B) → Quiet First → ((a : A) → Quiet (Next a)) → Quiet (Then First Next)
+pub quiet_then : {A B : Type 0} (First : Step A) (Next : A → Step B) → Quiet First → ((a : A) → Quiet (Next a)) → Quiet (Then First Next)
 quiet_then First Next first next old answer new h = Logs-then [] [] (first old h.given h.middle h.first) (quiet_next Next h.given h.middle answer new next h.next)
 
 -- ---- what a row did
 
-abbrev ResultEvents : {A : Type 0} → (List Event → Type 0) → Bool → Result A Refusal → List Event → Type 0
+abbrev pub ResultEvents : {A : Type 0} → (List Event → Type 0) → Bool → Result A Refusal → List Event → Type 0
 ResultEvents Row stores (Ok value) events = Row events
 ResultEvents Row stores (Err refusal) events = BreaksOff Row stores refusal events
 
-record Did {A : Type 0} (Row : List Event → Type 0) (stores : Bool) (old : DiskState) (answer : Result A Refusal) (new : DiskState) : Type 0 where
-  events : List Event
-  logs : Logs events old new
-  are : ResultEvents Row stores answer events
+pub record Did {A : Type 0} (Row : List Event → Type 0) (stores : Bool) (old : DiskState) (answer : Result A Refusal) (new : DiskState) : Type 0 where
+  pub events : List Event
+  pub logs : Logs events old new
+  pub are : ResultEvents Row stores answer events
 
-none_breaks : (Row : List Event → Type 0) (stores : Bool) (refusal : Refusal) → BreaksOff Row stores refusal []
+pub none_breaks : (Row : List Event → Type 0) (stores : Bool) (refusal : Refusal) → BreaksOff Row stores refusal []
 none_breaks Row stores refusals.DeviceFault = inl refl
 none_breaks Row true (refusals.CabinetFault word) = inl refl
 none_breaks Row true refusals.NoMemory = inl refl
 none_breaks Row stores refusal = refl
 
-nothing_done : {A : Type 0} (Row : List Event → Type 0) (stores : Bool) (refusal : Refusal) (old new : DiskState) → Logs [] old new → Did {A = A} Row stores old (Err refusal) new
+pub nothing_done : {A : Type 0} (Row : List Event → Type 0) (stores : Bool) (refusal : Refusal) (old new : DiskState) → Logs [] old new → Did {A = A} Row stores old (Err refusal) new
 nothing_done Row stores refusal old new logs = record { events = []; logs = logs; are = none_breaks Row stores refusal }
 
 -- a row that does nothing
@@ -89,7 +84,7 @@ quiet_are : {A : Type 0} (stores : Bool) (answer : Result A Refusal) → ResultE
 quiet_are stores (Ok value) = refl
 quiet_are stores (Err refusal) = none_breaks (λ events. events ≡ []) stores refusal
 
-quiet_did : {A : Type 0} (stores : Bool) (old : DiskState) (answer : Result A Refusal) (new : DiskState) → Logs [] old new → Did (λ events. events ≡ []) stores old answer new
+pub quiet_did : {A : Type 0} (stores : Bool) (old : DiskState) (answer : Result A Refusal) (new : DiskState) → Logs [] old new → Did (λ events. events ≡ []) stores old answer new
 quiet_did stores old answer new logs = record { events = []; logs = logs; are = quiet_are stores answer }
 
 -- events behind a step without events
@@ -101,14 +96,14 @@ did_next Row stores First Next old (Ok a) middle answer new quiet first next h =
 did_next Row stores First Next old (Err refusal) middle answer new quiet first next h =
     rw h.0 (nothing_done Row stores refusal old.disk new.disk (subst (λ (r : Reach). Logs [] old.disk r.disk) (sym h.1) quiet))
 
-did_then : {A B : Type 0} (Row : List Event → Type 0) (stores : Bool) (First : Step A) (Next : A → Step B) (old : Reach) (answer : Result B Refusal) (new : Reach) → Quiet First
+pub did_then : {A B : Type 0} (Row : List Event → Type 0) (stores : Bool) (First : Step A) (Next : A → Step B) (old : Reach) (answer : Result B Refusal) (new : Reach) → Quiet First
     → ((a : A) (middle : Reach) → First old (Ok a) middle → Next a middle answer new → Did Row stores middle.disk answer new.disk) → Then First Next old answer new → Did Row stores old.disk answer new.disk
 did_then Row stores First Next old answer new quiet next h =
     did_next Row stores First Next old h.given h.middle answer new (quiet old h.given h.middle h.first) h.first (λ a. next a h.middle) h.next
 
 -- ---- the rows
 
-does_did : (events : List Event) (stores : Bool) (old : DiskState) (answer : Result (Unit {0}) Refusal) (new : DiskState) → DoesEvents events old answer new → Did (λ found. found ≡ events) stores old answer new
+pub does_did : (events : List Event) (stores : Bool) (old : DiskState) (answer : Result (Unit {0}) Refusal) (new : DiskState) → DoesEvents events old answer new → Did (λ found. found ≡ events) stores old answer new
 does_did events stores old (Ok done) new h = record { events = events; logs = h; are = refl }
 does_did events stores old (Err refusals.DeviceFault) new h = record {
   events = take h.count events;
@@ -117,21 +112,21 @@ does_did events stores old (Err refusals.DeviceFault) new h = record {
 }
 does_did events stores old (Err refusal) new h = absurd h
 
-flushes_did : (old : Reach) (answer : Result (Unit {0}) Refusal) (new : Reach) → FlushRow old answer new → Did (λ events. events ≡ Flush ∷ []) false old.disk answer new.disk
+pub flushes_did : (old : Reach) (answer : Result (Unit {0}) Refusal) (new : Reach) → FlushRow old answer new → Did (λ events. events ≡ Flush ∷ []) false old.disk answer new.disk
 flushes_did old answer new h =
     did_then _ false NeedsAttached _ old answer new (quiet_decision (λ r. if_attached r.holding)) (λ a middle first next. does_did (Flush ∷ []) false middle.disk answer new.disk next.does) h
 
-detaches_did : (old : Reach) (answer : Result (Unit {0}) Refusal) (new : Reach) → DetachRow old answer new → Did (λ events. events ≡ Flush ∷ []) false old.disk answer new.disk
+pub detaches_did : (old : Reach) (answer : Result (Unit {0}) Refusal) (new : Reach) → DetachRow old answer new → Did (λ events. events ≡ Flush ∷ []) false old.disk answer new.disk
 detaches_did old answer new h =
     did_then _ false NeedsAttached _ old answer new (quiet_decision (λ r. if_attached r.holding)) (λ a middle first next. does_did (Flush ∷ []) false middle.disk answer new.disk next.flushes) h
 
-quiet_sectors : (a : Attachment) (sector count : ℕ) → Quiet (ReadsSectors a sector count)
+pub quiet_sectors : (a : Attachment) (sector count : ℕ) → Quiet (ReadsSectors a sector count)
 quiet_sectors a sector count old (Ok bytes) new h = h.reads.1
 quiet_sectors a sector count old (Err (refusals.Integrity offset)) new h = h.reads.logs
 quiet_sectors a sector count old (Err refusals.DeviceFault) new h = quiet_failure old.disk new.disk h.reads.fails
 quiet_sectors a sector count old (Err refusal) new h = absurd h.reads
 
-quiet_read_row : (sector count : ℕ) → Quiet (ReadRow sector count)
+pub quiet_read_row : (sector count : ℕ) → Quiet (ReadRow sector count)
 quiet_read_row sector count =
     quiet_then NeedsAttached _ (quiet_decision (λ r. if_attached r.holding))
     (λ a. quiet_then (NeedsWhole a (count * a.keying.sectorsize)) _ (λ old answer new h. same_disk old.disk new.disk (ap (λ (r : Reach). r.disk) h.1))
@@ -142,7 +137,7 @@ counted : (size bytes count : ℕ) (whole : Bool) (refusal : Refusal) → Ok cou
 counted size bytes count true refusal h = cc h
 counted size bytes count false refusal h = absurd (let no : ⊥ = cc h in no)
 
-attached_by : (holding : Holding) (a : Attachment) → Ok a ≡ if_attached holding → holding ≡ IsAttached a
+pub attached_by : (holding : Holding) (a : Attachment) → Ok a ≡ if_attached holding → holding ≡ IsAttached a
 attached_by Idle a h = absurd (let no : ⊥ = cc h in no)
 attached_by (IsAttached b) a h = cc h
 
@@ -156,7 +151,7 @@ inside_did a sector count bytes old answer new h =
     did_then (λ found. found ≡ data_writes a.keying sector count bytes) false (NeedsSectors a sector count) (λ _. WritesSectors a sector count bytes) old answer new
     (λ old answer new h. same_disk old.disk new.disk (ap (λ (r : Reach). r.disk) h.1)) (λ done middle first next. last_did a sector count bytes middle answer new next) h
 
-writable_did : (a : Attachment) (sector count : ℕ) (bytes : List ℕ) (old : Reach) (answer : Result (Unit {0}) Refusal) (new : Reach)
+pub writable_did : (a : Attachment) (sector count : ℕ) (bytes : List ℕ) (old : Reach) (answer : Result (Unit {0}) Refusal) (new : Reach)
     → Then (NeedsWritable a) (λ _. Then (NeedsSectors a sector count) (λ _. WritesSectors a sector count bytes)) old answer new
     → Did (λ found. found ≡ data_writes a.keying sector count bytes) false old.disk answer new.disk
 writable_did a sector count bytes old answer new h =
@@ -174,7 +169,7 @@ whole_did a sector bytes old answer new h =
     (writable_did a sector count bytes middle answer new next))
     h
 
-writes_did : (sector : ℕ) (bytes : List ℕ) (old : Reach) (answer : Result (Unit {0}) Refusal) (new : Reach) → WriteRow sector bytes old answer new → Did (WritesData old.holding sector bytes) false old.disk answer new.disk
+pub writes_did : (sector : ℕ) (bytes : List ℕ) (old : Reach) (answer : Result (Unit {0}) Refusal) (new : Reach) → WriteRow sector bytes old answer new → Did (WritesData old.holding sector bytes) false old.disk answer new.disk
 writes_did sector bytes old answer new h =
     did_then (WritesData old.holding sector bytes) false NeedsAttached _ old answer new (quiet_decision (λ r. if_attached r.holding))
     (λ a middle first next. rw (attached_by old.holding a first.0) (whole_did a sector bytes middle answer new next))
@@ -196,7 +191,7 @@ quiet_trial line slot readonly words =
     (λ settings. quiet_then (LoadsComponents line words) _ (quiet_loading line words)
     (λ parts old answer new h. same_disk old.disk new.disk (ap (λ (r : Reach). r.disk) h.1))))
 
-quiet_attach_row : (line : List ℕ) (only_check readonly : Bool) (slot : Option ℕ) (words : KeyWords) → Quiet (AttachRow line only_check readonly slot words)
+pub quiet_attach_row : (line : List ℕ) (only_check readonly : Bool) (slot : Option ℕ) (words : KeyWords) → Quiet (AttachRow line only_check readonly slot words)
 quiet_attach_row line only_check readonly slot words =
     quiet_then NeedsIdle _ (λ old answer new h. same_disk old.disk new.disk (ap (λ (r : Reach). r.disk) h.1))
     (λ _. quiet_then (TryRow line slot readonly words) _ (quiet_trial line slot readonly words)
@@ -232,7 +227,7 @@ made_did line options parts backup old (Err refusals.EntropyFault) middle answer
 made_did line options parts backup old (Err refusal) middle answer new inits next =
     rw (next.0, ap (λ (r : Reach). r.disk) next.1) (nothing_done _ (is_some backup) refusal old.disk middle.disk (same_disk old.disk middle.disk inits.disk_unchanged))
 
-init_did : (line : List ℕ) (options : InitOptions) (fresh : KeyWords) (backup : Option Span) (old : Reach) (answer : Result (Unit {0}) Refusal) (new : Reach) → InitRow line options fresh backup old answer new
+pub init_did : (line : List ℕ) (options : InitOptions) (fresh : KeyWords) (backup : Option Span) (old : Reach) (answer : Result (Unit {0}) Refusal) (new : Reach) → InitRow line options fresh backup old answer new
     → Did (WritesMetadata old.disk) (is_some backup) old.disk answer new.disk
 init_did line options fresh backup old answer new h =
     did_then (WritesMetadata old.disk) (is_some backup) NeedsIdle _ old answer new (λ old answer new h. same_disk old.disk new.disk (ap (λ (r : Reach). r.disk) h.1))
@@ -244,44 +239,3 @@ init_did line options fresh backup old answer new h =
     subst (λ (d : DiskState). Did (WritesMetadata d) (is_some backup) third.disk answer new.disk) two (made_did line options parts backup third then.given then.middle answer new then.first.inits then.next))
     next)
     h
-
--- ---- the lines
-
-done_by : (Row : List Event → Type 0) (stores : Bool) (answer : Result (Unit {0}) Refusal) (events : List Event) → ResultEvents Row stores answer events → EventsBy Row stores (done_or answer) events
-done_by Row stores (Ok done) events h = h
-done_by Row stores (Err refusal) events h = h
-
-dump_by : (Row : List Event → Type 0) (stores : Bool) (answer : Result Metadata Refusal) (events : List Event) → ResultEvents Row stores answer events → EventsBy Row stores (dump_or answer) events
-dump_by Row stores (Ok m) events h = h
-dump_by Row stores (Err refusal) events h = h
-
-payload_by : (Row : List Event → Type 0) (stores : Bool) (answer : Result (List ℕ) Refusal) (events : List Event) → ResultEvents Row stores answer events → EventsBy Row stores (payload_or answer) events
-payload_by Row stores (Ok bytes) events h = h
-payload_by Row stores (Err refusal) events h = h
-
--- what a line did to the disk of its drawer
-pub record LineDid (Row : List Event → Type 0) (stores : Bool) (answer : Answer) (old new : DiskState) : Type 0 where
-  pub events : List Event
-  pub logs : Logs events old new
-  pub are : EventsBy Row stores answer events
-
-done_line : (Row : List Event → Type 0) (stores : Bool) (answer : Result (Unit {0}) Refusal) (said : Answer) (old new : DiskState) → said ≡ done_or answer → Did Row stores old answer new → LineDid Row stores said old new
-done_line Row stores answer said old new is d = rw is (record { events = d.events; logs = d.logs; are = done_by Row stores answer d.events d.are })
-
-pub line_did : (line : List ℕ) (command : Command) (old : Reach) (said : Answer) (new : Reach) → Serves line command old said new
-    → LineDid (AreRowEvents line command old.disk old.holding) (stores_last command) said old.disk new.disk
-line_did line (commands.Dump prov) old said new h =
-    let d = quiet_did false old.disk h.answer new.disk (quiet_reading old h.answer new h.row) in
-    rw h.replied (record { events = d.events; logs = d.logs; are = dump_by _ false h.answer d.events d.are })
-line_did line (commands.Init prov cipher auth keylen sectorsize iterations autoresize fresh backup) old said new h =
-    done_line _ (is_some backup) h.answer said old.disk new.disk h.replied (init_did line _ fresh backup old h.answer new h.row)
-line_did line (commands.Attach prov only_check readonly slot words) old said new h =
-    done_line _ false h.answer said old.disk new.disk h.replied (quiet_did false old.disk h.answer new.disk (quiet_attach_row line only_check readonly slot words old h.answer new h.row))
-line_did line (commands.Detach prov) old said new h = done_line _ false h.answer said old.disk new.disk h.replied (detaches_did old h.answer new h.row)
-line_did line (commands.Read prov sector count) old said new h =
-    let d = quiet_did false old.disk h.answer new.disk (quiet_read_row sector count old h.answer new h.row) in
-    rw h.replied (record { events = d.events; logs = d.logs; are = payload_by _ false h.answer d.events d.are })
-line_did line (commands.Write prov sector hex) old said new h =
-    done_line _ false h.answer said old.disk new.disk h.replied (writes_did sector (bytes_spelled (bytes_at line hex)) old h.answer new h.row)
-line_did line (commands.Flush prov) old said new h = done_line _ false h.answer said old.disk new.disk h.replied (flushes_did old h.answer new h.row)
-line_did line _ old said new h = absurd h

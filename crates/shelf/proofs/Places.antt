@@ -1,15 +1,17 @@
 -- A drawer is taken out, changed and put back.
 use Rattle.std.proofs.Math.Seq.{take-append_seam}
-use Rattle.std.proofs.Common.{◌++◌, drop, subst, take, ◌≡◌, ℕ, ◌<◌, List, [], ◌∷◌, length, refl, ap, sym, arith, Bor, suc, zero, get_or, slice_get, Option, Some, None}
+use Rattle.std.proofs.Common.{◌∙◌, ◌++◌, drop, subst, take, map, Bool, true, false, ◌≡◌, ℕ, ◌<◌, List, [], ◌∷◌, length, refl, ap, sym, arith, Bor, suc, zero, get_or, slice_get, Option, Some, None}
 use Rattle.std.specs.Prelude.{is_some, option_copied}
 use Rattle.std.specs.List.{insert, remove}
 use Rattle.std.proofs.Math.ListN.{set}
 use Rattle.std.proofs.lemmas.List.{map-set}
 use Rattle.block_traits.specs.Disk.{DiskState}
 use Rattle.shelf.specs.declared.drawer.Drawer.{Drawer}
+use Rattle.command_words.specs.declared.commands.Command.{Command}
 use Rattle.shelf.specs.Answer.{Answer}
-use Rattle.shelf.specs.World.{Reach, World, drawer_of, drawers_of}
-use Rattle.shelf.specs.Turn.{ChangesAt, reach}
+use Rattle.shelf.specs.Answer as answers
+use Rattle.shelf.specs.World.{DrawerState, Reach, World, drawer_of, drawers_of}
+use Rattle.shelf.specs.Turn.{ChangesAt, Serves, ServesAt, reach, takes_out}
 
 pub insert-remove : {X : Type 0} (xs : List X) (i : ℕ) (y : X) → i < length xs → insert (remove xs i) i y ≡ set xs i y
 insert-remove [] i y small = absurd (omega arith)
@@ -34,6 +36,31 @@ ChangesAt-set state R old new reply drawers place before after small here name i
   step = step;
   others = rw (is_new, is_old) (map-set (drawer_of state) drawers place after);
 }
+
+map-remove : {X Y : Type 0} (f : X → Y) (xs : List X) (place : ℕ) → map f (remove xs place) ≡ remove (map f xs) place
+map-remove f [] zero = refl
+map-remove f [] (suc place) = refl
+map-remove f (x ∷ xs) zero = refl
+map-remove f (x ∷ xs) (suc place) = ap (λ (ys : List _). f x ∷ ys) (map-remove f xs place)
+
+-- a command that stays in the list goes through its row
+pub ServesAt-row : (line : List ℕ) (command : Command) (old : World) (reply : Answer) (new : World) (place : ℕ) → takes_out command ≡ false → ChangesAt (Serves line command) old reply new place
+    → ServesAt (takes_out command) line command old reply new place
+ServesAt-row line command old reply new place is h = subst (λ (out : Bool). ServesAt out line command old reply new place) (sym is) h
+
+-- a drawer is taken out
+pub ServesAt-out : {D : Type 0} (state : D → DiskState) (line : List ℕ) (command : Command) (old new : World) (drawers : List (Drawer D)) (place : ℕ) (before : Drawer D) → place < length drawers → before ≡ get_or drawers place before
+    → takes_out command ≡ true → old.drawers ≡ drawers_of state drawers → new ≡ record { drawers = drawers_of state (remove drawers place); cabinet = old.cabinet; entropy = old.entropy }
+    → ServesAt (takes_out command) line command old answers.Done new place
+ServesAt-out state line command old new drawers place before small here out is_old is_new =
+    subst (λ (out : Bool). ServesAt out line command old answers.Done new place) (sym out) (record {
+      before = drawer_of state before;
+      found = rw is_old (slice_get-drawers state drawers place before small here);
+      done = refl;
+      left =
+          is_new
+          ∙ ap (λ (l : List DrawerState). (let w : World = record { drawers = l; cabinet = old.cabinet; entropy = old.entropy } in w)) (map-remove (drawer_of state) drawers place ∙ ap (λ (l : List DrawerState). remove l place) (sym is_old));
+    })
 
 pub is_some-copied : {X : Type 0} (o : Option (Bor X)) → is_some (option_copied o) ≡ is_some o
 is_some-copied None = refl

@@ -89,7 +89,7 @@ read_behind : {D : Type 0} (state : D → DiskState) (cabinet : CabinetState) (e
     → Then (NeedsSectors (attachment_of old) sector count) (λ _. ReadsSectors (attachment_of old) sector count) (at state cabinet entropy old) (or_bytes bytes result) (at state cabinet entropy new)
 read_behind state cabinet entropy old new sector count bytes (Ok done) len kept h =
     Then-goes_on (NeedsSectors (attachment_of old) sector count) _ (at state cabinet entropy old) (at state cabinet entropy old) tt _ _ (sym (fits _ _ _ h.in_range), refl)
-    (record { reads = (len, h.logs, h.reads); holding = kept_holding old new kept; outside = record { cabinet = refl; entropy = refl } })
+    (record { reads = (len, h.logs, h.reads, h.asked); holding = kept_holding old new kept; outside = record { cabinet = refl; entropy = refl } })
 read_behind state cabinet entropy old new sector count bytes (Err (read.OutOfRange first asked there)) len kept h =
     let same : Err (refusals.OutOfRange first asked there) ≡ in_range sector count (media old.keying (state old.disk)) =
     ap (λ (n : ℕ). Err (refusals.OutOfRange n asked there)) h.0.sector ∙ ap (λ (n : ℕ). Err (refusals.OutOfRange sector n there)) h.0.count

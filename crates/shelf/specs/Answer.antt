@@ -1,11 +1,11 @@
 -- A reply whole: what is answered to one command, as data.
 use Rattle.std.specs.Prelude.{ℕ, ◌≤◌, List, take}
-use Rattle.eli_base.specs.declared.Refusal.{Refusal}
-use Rattle.eli_metadata.specs.declared.Metadata.{Metadata}
+use Rattle.eli_base.specs.declared.refusals.Refusal.{Refusal}
+use Rattle.eli_metadata.specs.declared.metadata.Metadata.{Metadata}
 use Rattle.reply_text.specs.Text.{bytes_text, dump_text, list_text, refusal_text}
-use Rattle.reply_text.specs.declared.Reply.{Reply}
-use Rattle.reply_text.specs.declared.Reply.TheVariants as replies
-use Rattle.reply_text.specs.declared.Row.{Row}
+use Rattle.reply_text.specs.declared.reply.Reply.{Reply}
+use Rattle.reply_text.specs.declared.reply.Reply.TheVariants as replies
+use Rattle.reply_text.specs.declared.rows.Row.{Row}
 use Rattle.std.specs.Prelude.{codes}
 
 -- it was done; bytes that were read; a digest; the drawers; the metadata; or it was refused

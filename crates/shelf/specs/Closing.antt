@@ -1,6 +1,6 @@
 -- The end of a run: each attached drawer is flushed, in order, and is idle then.
 use Rattle.std.specs.Prelude.{◌≡◌, ℕ, ◌+◌, List, [], ◌∷◌, Bool, true, false}
-use Rattle.block_traits.specs.declared.Event.TheVariants.{Flush}
+use Rattle.block_traits.specs.declared.disk.Event.TheVariants.{Flush}
 use Rattle.block_traits.specs.Disk.{DiskState, FailsIn, Logs}
 use Rattle.shelf.specs.World.{DrawerState, Holding, Idle, IsAttached, World}
 

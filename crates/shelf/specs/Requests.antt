@@ -17,6 +17,11 @@ write_refusal write.ReadOnly = refusals.ReadOnly
 write_refusal (write.OutOfRange sector count media) = refusals.OutOfRange sector count media
 write_refusal write.DeviceFault = refusals.DeviceFault
 
+-- these bytes, or the refusal
+abbrev pub handed_out : List ℕ → Result (Unit {0}) Refusal → Result (List ℕ) Refusal
+handed_out bytes (Ok done) = Ok bytes
+handed_out bytes (Err refusal) = Err refusal
+
 -- so many bytes at the front were read, or it was refused
 abbrev pub bytes_read : List ℕ → Result ℕ Refusal → Result (List ℕ) Refusal
 bytes_read buffer (Ok count) = Ok (take count buffer)

@@ -2,7 +2,9 @@
 use Rattle.std.specs.Prelude.{◌≡◌, ℕ, ◌+◌, ◌*◌, ◌/◌, ◌%◌, ◌≤◌, nat_le, Bool, true, false, ◌&&◌, ◌||◌, List, [], ◌∷◌, length, Option, Some, None, IfOk, IfErr, IfSome, Result, Ok, Err, if◌then◌else◌, ◌==◌}
 use Rattle.std.specs.Result.{result_err}
 use Rattle.block_traits.specs.Cabinet.{CabinetState, stored}
-use Rattle.block_traits.specs.Causes.{Rose}
+use Rattle.block_traits.specs.Causes.{Counted, Rose}
+use Rattle.block_traits.specs.declared.cabinet.StoreFault.{StoreFault}
+use Rattle.block_traits.specs.declared.cabinet.StoreFault.TheVariants as store
 use Rattle.block_traits.specs.Disk.{DiskState, FailsIn, Logs}
 use Rattle.block_traits.specs.declared.disk.Event.{Event}
 use Rattle.block_traits.specs.declared.disk.Event.TheVariants.{Flush}
@@ -21,7 +23,7 @@ use Rattle.eli_metadata.specs.Refusals.{read_refusal_of, refusal_of}
 use Rattle.eli_metadata.specs.declared.metadata.Metadata.{Metadata}
 use Rattle.eli_metadata.specs.declared.metadata.MetaFault.{MetaFault}
 use Rattle.eli_metadata.specs.declared.place.ReadMetaFault.{ReadMetaFault}
-use Rattle.key_commands.specs.Init.{Inits}
+use Rattle.key_commands.specs.NewProvider.{Inits}
 use Rattle.key_commands.specs.declared.options.InitOptions.{InitOptions}
 use Rattle.key_components.specs.Answers.{IsAnswer, IsReached, Loads, word_of}
 use Rattle.key_components.specs.Key.{FitsWords, components_of}
@@ -29,11 +31,12 @@ use Rattle.provider.specs.Attached.{media, opened}
 use Rattle.provider.specs.Reading.{ReadsAs}
 use Rattle.provider.specs.Reads.{RunFails, RunFault}
 use Rattle.provider.specs.Writing.{data_writes}
+use Rattle.user_key.specs.Refusals.{key_refusal_of}
 use Rattle.user_key.specs.UserKey.{user_key}
 use Rattle.user_key.specs.declared.components.Components.{Components}
 use Rattle.user_key.specs.declared.components.KeyFault.{KeyFault}
-use Rattle.user_key.specs.declared.components.KeyFault.TheVariants.{NoKeyComponents, PassphraseNeeded, PassphraseNotSet}
 use Rattle.user_key.specs.declared.components.UserKey.{UserKey}
+use Rattle.sealing.specs.Sectors.{units}
 use Rattle.shelf.specs.World.{Attachment, Holding, Idle, IsAttached, Reach}
 
 -- ---- one step after another
@@ -137,7 +140,7 @@ pub record MakesProvider (options : InitOptions) (parts : Components) (old : Rea
   pub holding : new.holding ≡ old.holding
   pub cabinet : new.cabinet ≡ old.cabinet
 
--- ---- the metadata are stored under the name at a place of the line, if there is one
+-- ---- bytes are stored under the name at a place of the line
 
 -- the files are as they were, and no count fell
 pub record KeepsFiles (old new : CabinetState) : Type 0 where
@@ -151,28 +154,29 @@ pub record StoresFile (name bytes : List ℕ) (old new : CabinetState) : Type 0 
   pub faults : old.faults ≤ new.faults
   pub misses : old.misses ≤ new.misses
 
+-- the refusal of the file that the word names, by what a store of it answers
+abbrev pub store_refusal : ℕ → StoreFault → Refusal
+store_refusal word store.Failed = refusals.CabinetFault word
+store_refusal word store.NoMemory = refusals.NoMemory
+
 abbrev pub StoreAnswers : List ℕ → Span → List ℕ → CabinetState → Result (Unit {0}) Refusal → CabinetState → Type 0
 StoreAnswers line span bytes old (Ok done) new = StoresFile (bytes_at line span) bytes old new
 StoreAnswers line span bytes old (Err (refusals.CabinetFault word)) new = (word ≡ span.word) × Rose old.faults new.faults × KeepsFiles old new
 StoreAnswers line span bytes old (Err refusals.NoMemory) new = KeepsFiles old new
 StoreAnswers line span bytes old (Err refusal) new = ⊥
 
-pub record StoresAt (line : List ℕ) (span : Span) (m : Metadata) (old : Reach) (answer : Result (Unit {0}) Refusal) (new : Reach) : Type 0 where
-  pub stores : StoreAnswers line span (encoded m) old.cabinet answer new.cabinet
+pub record StoresBytes (line : List ℕ) (span : Span) (bytes : List ℕ) (old : Reach) (answer : Result (Unit {0}) Refusal) (new : Reach) : Type 0 where
+  pub stores : StoreAnswers line span bytes old.cabinet answer new.cabinet
   pub disk : new.disk ≡ old.disk
   pub holding : new.holding ≡ old.holding
   pub entropy : new.entropy ≡ old.entropy
 
+-- the sector of the metadata is stored, if a place is given
 abbrev pub BacksUp : List ℕ → Option Span → Metadata → Reach → Result (Unit {0}) Refusal → Reach → Type 0
 BacksUp line None m old answer new = Decides (Ok tt) old answer new
-BacksUp line (Some span) m old answer new = StoresAt line span m old answer new
+BacksUp line (Some span) m old answer new = StoresBytes line span (encoded m) old answer new
 
 -- ---- a key is tried
-
-abbrev pub key_refusal_of : KeyFault → Refusal
-key_refusal_of PassphraseNotSet = refusals.PassphraseNotSet
-key_refusal_of PassphraseNeeded = refusals.PassphraseNeeded
-key_refusal_of NoKeyComponents = refusals.NoKeyComponents
 
 -- with what a provider is attached by these settings, with the master key of a slot
 abbrev pub attachment_by : Settings → Bool → MasterKey × ℕ → Attachment
@@ -245,10 +249,11 @@ in_range sector count there = if nat_le (sector + count) there then Ok tt else E
 abbrev pub NeedsSectors : Attachment → ℕ → ℕ → Reach → Result (Unit {0}) Refusal → Reach → Type 0
 NeedsSectors a sector count old answer new = Decides (in_range sector count (media a.keying old.disk)) old answer new
 
--- what the sectors read as, where the disk tells that; or the first unit whose tag differs; or the disk failed, all units before
+-- what the sectors read as, where the disk tells that, each unit of which was read once; or the first unit whose tag differs; or the disk failed, all units before
 -- having been accepted
 abbrev pub SectorsAnswer : Keying → ℕ → ℕ → DiskState → Result (List ℕ) Refusal → DiskState → Type 0
-SectorsAnswer k sector count old (Ok bytes) new = (length bytes ≡ count * k.sectorsize) × Logs [] old new × ReadsAs old k sector count (Ok bytes)
+SectorsAnswer k sector count old (Ok bytes) new =
+    (length bytes ≡ count * k.sectorsize) × Logs [] old new × ReadsAs old k sector count (Ok bytes) × Counted (count * units k) old.reads new.reads
 SectorsAnswer k sector count old (Err (refusals.Integrity offset)) new = RunFault k sector count offset old new
 SectorsAnswer k sector count old (Err refusals.DeviceFault) new = RunFails k sector count old new
 SectorsAnswer k sector count old (Err refusal) new = ⊥

@@ -1,23 +1,28 @@
 -- What a command does to the world: the rows of its verb (geli(8)).
 use Rattle.std.specs.Prelude.{◌≡◌, ℕ, ℤ, ◌*◌, negsuc, pos, Bool, true, false, List, [], ◌∷◌, map, length, Option, Some, None, MatchOption, unwrap_or, is_some, Result, Ok, Err, slice_get, slice_set, if◌then◌else◌}
-use Rattle.block_traits.specs.declared.Event.{Event}
-use Rattle.block_traits.specs.declared.Event.TheVariants.{Flush}
+use Rattle.std.specs.List.{remove}
+use Rattle.block_traits.specs.declared.disk.Event.{Event}
+use Rattle.block_traits.specs.declared.disk.Event.TheVariants.{Flush}
 use Rattle.block_traits.specs.Disk.{DiskState, IsHistory}
 use Rattle.command_words.specs.Places.{bytes_at, provider_of}
 use Rattle.command_words.specs.declared.commands.Command.{Command}
 use Rattle.command_words.specs.declared.commands.Command.TheVariants as commands
 use Rattle.command_words.specs.declared.spans.KeyWords.{KeyWords}
 use Rattle.command_words.specs.declared.spans.Span.{Span}
-use Rattle.eli_base.specs.declared.Refusal.{Refusal}
-use Rattle.eli_base.specs.declared.Refusal.TheVariants as refusals
-use Rattle.eli_metadata.specs.declared.Metadata.{Metadata}
+use Rattle.eli_base.specs.declared.refusals.Refusal.{Refusal}
+use Rattle.eli_base.specs.declared.refusals.Refusal.TheVariants as refusals
+use Rattle.eli_metadata.specs.declared.metadata.Metadata.{Metadata}
 use Rattle.key_commands.specs.declared.options.InitOptions.{InitOptions}
 use Rattle.provider.specs.Attached.{media}
-use Rattle.reply_text.specs.declared.Row.{Row}
+use Rattle.reply_text.specs.declared.rows.Row.{Row}
 use Rattle.shelf.specs.Answer.{Answer}
 use Rattle.shelf.specs.Answer as answers
 use Rattle.shelf.specs.Digits.{bytes_spelled}
+use Rattle.shelf.specs.Keys.{DelkeyRow, SetkeyRow}
+use Rattle.shelf.specs.Saving.{BackupRow, RestoreRow}
+use Rattle.shelf.specs.Sizes.{KillRow, ResizeRow}
 use Rattle.shelf.specs.Steps.{Admits, Attaches, BacksUp, Decides, Detaches, Does, LoadsComponents, MakesProvider, NeedsAttached, NeedsIdle, NeedsSectors, NeedsWhole, NeedsWritable, ReadsLastSector, ReadsSectors, Then, TriesKey, WritesSectors}
+use Rattle.shelf.specs.Workloads.{FillRow, SumRow}
 use Rattle.shelf.specs.World.{Attachment, DrawerState, Holding, Idle, IsAttached, Reach, World, place_of}
 
 -- ---- the rows
@@ -97,13 +102,17 @@ abbrev pub payload_or : Result (List ℕ) Refusal → Answer
 payload_or (Ok bytes) = answers.Payload bytes
 payload_or (Err refusal) = answers.Refused refusal
 
+abbrev pub digest_or : Result (List ℕ) Refusal → Answer
+digest_or (Ok digest) = answers.Digest digest
+digest_or (Err refusal) = answers.Refused refusal
+
 -- the row was gone through, and what it answers is answered so
 pub record Replies {A : Type 0} (answer_to : Result A Refusal → Answer) (Row : Reach → Result A Refusal → Reach → Type 0) (old : Reach) (reply : Answer) (new : Reach) : Type 0 where
   pub answer : Result A Refusal
   pub row : Row old answer new
   pub replied : reply ≡ answer_to answer
 
--- the row of a command that names a drawer; a command that isn't served has none
+-- the row of a command that names a drawer, which stays in the list
 abbrev pub Serves : List ℕ → Command → Reach → Answer → Reach → Type 0
 Serves line (commands.Dump prov) old reply new = Replies dump_or DumpRow old reply new
 Serves line (commands.Init prov cipher auth keylen sectorsize iterations autoresize fresh backup) old reply new =
@@ -114,6 +123,14 @@ Serves line (commands.Detach prov) old reply new = Replies done_or DetachRow old
 Serves line (commands.Read prov sector count) old reply new = Replies payload_or (ReadRow sector count) old reply new
 Serves line (commands.Write prov sector hex) old reply new = Replies done_or (WriteRow sector (bytes_spelled (bytes_at line hex))) old reply new
 Serves line (commands.Flush prov) old reply new = Replies done_or FlushRow old reply new
+Serves line (commands.Setkey prov iterations slot words fresh) old reply new = Replies done_or (SetkeyRow line iterations slot words fresh) old reply new
+Serves line (commands.Delkey prov all force slot) old reply new = Replies done_or (DelkeyRow all force slot) old reply new
+Serves line (commands.Kill prov) old reply new = Replies done_or KillRow old reply new
+Serves line (commands.Backup prov file) old reply new = Replies done_or (BackupRow line file) old reply new
+Serves line (commands.Restore file prov force) old reply new = Replies done_or (RestoreRow line file force) old reply new
+Serves line (commands.Resize prov oldsize) old reply new = Replies done_or (ResizeRow oldsize) old reply new
+Serves line (commands.Fill prov seed start count) old reply new = Replies done_or (FillRow seed start count) old reply new
+Serves line (commands.Sum prov start count) old reply new = Replies digest_or (SumRow start count) old reply new
 Serves line _ old reply new = ⊥
 
 -- ---- `list`
@@ -157,14 +174,35 @@ pub record IsUnknown (old : World) (reply : Answer) (new : World) : Type 0 where
   pub refused : reply ≡ answers.Refused refusals.UnknownProvider
   pub unchanged : new ≡ old
 
--- the drawer with this name changes so, and the others stay
-abbrev pub TurnOf : (Reach → Answer → Reach → Type 0) → List ℕ → World → Answer → World → Type 0
-TurnOf Step name old reply new = MatchOption (place_of name old.drawers) (IsUnknown old reply new) (ChangesAt Step old reply new)
+-- ---- `eject`
 
--- one command is served: the drawer of the provider that it names goes through the row of its verb
+-- whether a command takes the drawer that it names out of the list; it has no row then
+abbrev pub takes_out : Command → Bool
+takes_out (commands.Eject prov) = true
+takes_out command = false
+
+-- the drawer at a place is taken out with its disk, attached or not, and no call of the disk is made; those behind it move up
+pub record TakesOut (old : World) (reply : Answer) (new : World) (place : ℕ) : Type 0 where
+  pub before : DrawerState
+  pub found : slice_get old.drawers place ≡ Some before
+  pub done : reply ≡ answers.Done
+  pub left : new ≡ record { drawers = remove old.drawers place; cabinet = old.cabinet; entropy = old.entropy }
+
+-- what a command does to the drawer at a place, and leaves of the list
+abbrev pub ServesAt : Bool → List ℕ → Command → World → Answer → World → ℕ → Type 0
+ServesAt true line command old reply new place = TakesOut old reply new place
+ServesAt false line command old reply new place = ChangesAt (Serves line command) old reply new place
+
+-- ---- a command
+
+-- this is done at the place of the drawer with this name
+abbrev pub TurnOf : (World → Answer → World → ℕ → Type 0) → List ℕ → World → Answer → World → Type 0
+TurnOf At name old reply new = MatchOption (place_of name old.drawers) (IsUnknown old reply new) (At old reply new)
+
+-- one command is served: the drawer of the provider that it names goes through the row of its verb, or is taken out
 abbrev pub Turn : List ℕ → Command → World → Answer → World → Type 0
 Turn line command old reply new =
-    MatchOption (provider_of command) (Lists old reply new) (λ prov. TurnOf (Serves line command) (bytes_at line prov) old reply new)
+    MatchOption (provider_of command) (Lists old reply new) (λ prov. TurnOf (ServesAt (takes_out command) line command) (bytes_at line prov) old reply new)
 
 -- ---- the events
 

@@ -1,7 +1,7 @@
 //! `geli attach`: a key is tried, and the provider is attached unless it is only tried (geli(8), attach).
 
 ghost use Rattle.std.specs.Prelude.{◌≡◌, length};
-ghost use Rattle.block_traits.specs.Cabinet.{CabinetState, cabinet_of};
+ghost use Rattle.block_traits.specs.Cabinet.{CabinetState};
 ghost use Rattle.block_traits.specs.Streams.{EntropyState};
 ghost use Rattle.command_words.specs.Places.{KeyIsWithin};
 ghost use Rattle.shelf.specs.Trial.{IsOpening, attachment_in};
@@ -59,8 +59,8 @@ pub fn attach<D: Disk, C: Cabinet>(
     requires { KeyIsWithin (length line.now) words.now }
     ensures { (entropy : EntropyState) →
         AttachRow line.now only_check readonly slot words.now
-        (reach_of (D.state disk) Idle (cabinet_of C.files C.faults C.misses files.old) entropy) result.1
-        (reach_of (disk_in D.state result.0) (holding_of result.0) (cabinet_of C.files C.faults C.misses files.new) entropy) }
+        (reach_of (D.state disk) Idle (C.state files.old) entropy) result.1
+        (reach_of (disk_in D.state result.0) (holding_of result.0) (C.state files.new) entropy) }
 {
     let mut place = LastSector::new(disk);
     let tried = try_key(alloc, &mut place, line, slot, words, files);

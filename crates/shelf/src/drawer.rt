@@ -1,21 +1,22 @@
 // A named disk, and what is attached on it.
-ghost use Rattle.block_traits.specs.Cabinet.{CabinetState, cabinet_of};
-ghost use Rattle.block_traits.specs.Streams.{EntropyState, entropy_of};
 ghost use Rattle.command_words.specs.Bounds.{IsBounded};
 ghost use Rattle.command_words.specs.Places.{CommandIsWithin, provider_of};
 ghost use Rattle.shelf.specs.Answer.{FitsPayload, answer_of};
 ghost use Rattle.shelf.specs.Closing.{Closes};
 ghost use Rattle.shelf.specs.Requests.{bytes_read};
-ghost use Rattle.shelf.specs.Served.{is_served};
 ghost use Rattle.shelf.specs.Steps.{request_limit};
-ghost use Rattle.shelf.specs.Turn.{Serves, ShowsBy, done_or, dump_or, payload_or, row_of};
+ghost use Rattle.shelf.specs.Turn.{Serves, ShowsBy, digest_or, done_or, dump_or, payload_or, row_of, takes_out};
 ghost use Rattle.shelf.specs.World.{IsAttached, Idle, attachment_of, disk_in, drawer_of, holding_of, reach_of};
-ghost use Rattle.std.specs.Prelude.{◌≡◌, ◌≤◌, ℕ, List, IfOk, IsSome, IsTrue, length, option_copied};
+ghost use Rattle.std.specs.Prelude.{◌≡◌, ◌≤◌, ℕ, List, IfOk, IsSome, false, length, option_copied};
 
 use crate::attaching::attach;
+use crate::keys::{delkey, setkey_attached, setkey_idle};
 use crate::making::{init, iterations_of};
 use crate::reading::read_last;
 use crate::requests::{flush_answer, read, write};
+use crate::saving::{backup, restore};
+use crate::sizes::{kill, resize};
+use crate::workloads::{fill, sum};
 use block_traits::{ByteList, Cabinet, Disk, Entropy, Event, LastSector};
 use command_words::Command;
 use eli_base::Refusal;
@@ -57,19 +58,21 @@ impl<D: Disk> Drawer<D> {
     ) -> (Drawer<D>, Reply)
         requires within { CommandIsWithin (length line.now) command.now }
         requires bounds { IsBounded line.now command.now }
-        requires served { IsTrue (is_served command.now) }
         requires named { IsSome (provider_of command.now) }
+        requires stays { takes_out command.now ≡ false }
         requires room { length buffer.old ≡ request_limit }
         ensures name { result.0.name ≡ self.name }
         ensures serves { Serves line.now command.now
-            (reach_of (disk_in D.state self.held) (holding_of self.held) (cabinet_of C.files C.faults C.misses files.old) (entropy_of E.left E.faults entropy.old)) (answer_of buffer.new result.1)
-            (reach_of (disk_in D.state result.0.held) (holding_of result.0.held) (cabinet_of C.files C.faults C.misses files.new) (entropy_of E.left E.faults entropy.new)) }
+            (reach_of (disk_in D.state self.held) (holding_of self.held) (C.state files.old) (E.state entropy.old)) (answer_of buffer.new result.1)
+            (reach_of (disk_in D.state result.0.held) (holding_of result.0.held) (C.state files.new) (E.state entropy.new)) }
         ensures payload { FitsPayload request_limit result.1 }
     {
         let Drawer { name, held } = self;
         let (held, reply) = match held {
             Held::Idle(disk) => serve_idle(alloc, disk, line, command, files, entropy),
-            Held::Attached(provider) => serve_attached(provider, line, command, buffer),
+            Held::Attached(provider) => serve_attached(
+                alloc, provider, line, command, buffer, files, entropy,
+            ),
         };
         (Drawer { name, held }, reply)
     }
@@ -134,11 +137,12 @@ fn serve_idle<D: Disk, C: Cabinet, E: Entropy>(
     entropy: &mut E,
 ) -> (Held<D>, Reply)
     requires within { CommandIsWithin (length line.now) command.now }
-    requires served { IsTrue (is_served command.now) }
+    requires bounds { IsBounded line.now command.now }
     requires named { IsSome (provider_of command.now) }
+    requires stays { takes_out command.now ≡ false }
     ensures serves { (bytes : List ℕ) → Serves line.now command.now
-        (reach_of (D.state disk) Idle (cabinet_of C.files C.faults C.misses files.old) (entropy_of E.left E.faults entropy.old)) (answer_of bytes result.1)
-        (reach_of (disk_in D.state result.0) (holding_of result.0) (cabinet_of C.files C.faults C.misses files.new) (entropy_of E.left E.faults entropy.new)) }
+        (reach_of (D.state disk) Idle (C.state files.old) (E.state entropy.old)) (answer_of bytes result.1)
+        (reach_of (disk_in D.state result.0) (holding_of result.0) (C.state files.new) (E.state entropy.new)) }
     ensures payload { FitsPayload 0 result.1 }
 {
     match command {
@@ -191,29 +195,84 @@ fn serve_idle<D: Disk, C: Cabinet, E: Entropy>(
             );
             (held, done_or(answer))
         }
+        Command::Setkey {
+            iterations,
+            slot,
+            old,
+            fresh,
+            ..
+        } => {
+            let mut place = LastSector::new(disk);
+            let answer = setkey_idle(
+                alloc,
+                &mut place,
+                line,
+                *iterations,
+                *slot,
+                old,
+                fresh,
+                files,
+            );
+            (Held::Idle(place.into_disk()), done_or(answer))
+        }
+        Command::Delkey {
+            all,
+            force,
+            slot,
+            ..
+        } => {
+            let mut place = LastSector::new(disk);
+            let answer = delkey(&mut place, *all, *force, *slot, entropy);
+            (Held::Idle(place.into_disk()), done_or(answer))
+        }
+        Command::Kill { .. } => {
+            let mut disk = disk;
+            let answer = kill(&mut disk, entropy);
+            (Held::Idle(disk), done_or(answer))
+        }
+        Command::Backup { file, .. } => {
+            let mut place = LastSector::new(disk);
+            let answer = backup(alloc, &mut place, line, *file, files);
+            (Held::Idle(place.into_disk()), done_or(answer))
+        }
+        Command::Restore { file, force, .. } => {
+            let mut disk = disk;
+            let answer = restore(alloc, &mut disk, line, *file, *force, files);
+            (Held::Idle(disk), done_or(answer))
+        }
+        Command::Resize { oldsize, .. } => {
+            let mut disk = disk;
+            let answer = resize(&mut disk, *oldsize, entropy);
+            (Held::Idle(disk), done_or(answer))
+        }
         Command::Detach { .. } => (Held::Idle(disk), Reply::Refused(Refusal::NotAttached)),
         Command::Read { .. } => (Held::Idle(disk), Reply::Refused(Refusal::NotAttached)),
         Command::Write { .. } => (Held::Idle(disk), Reply::Refused(Refusal::NotAttached)),
         Command::Flush { .. } => (Held::Idle(disk), Reply::Refused(Refusal::NotAttached)),
-        _ => unreachable!(),
+        Command::Fill { .. } => (Held::Idle(disk), Reply::Refused(Refusal::NotAttached)),
+        Command::Sum { .. } => (Held::Idle(disk), Reply::Refused(Refusal::NotAttached)),
+        Command::List | Command::Eject { .. } => unreachable!(),
     }
 }
 
-// The same, on an attached drawer. The row reaches neither the cabinet nor the entropy.
-fn serve_attached<D: Disk>(
+// The same, on an attached drawer.
+fn serve_attached<D: Disk, C: Cabinet, E: Entropy>(
+    alloc: Global,
     provider: Provider<D>,
     line: &[u8],
     command: &Command,
     buffer: &mut [u8],
+    files: &mut C,
+    entropy: &mut E,
 ) -> (Held<D>, Reply)
     requires within { CommandIsWithin (length line.now) command.now }
     requires bounds { IsBounded line.now command.now }
-    requires served { IsTrue (is_served command.now) }
     requires named { IsSome (provider_of command.now) }
+    requires stays { takes_out command.now ≡ false }
     requires room { length buffer.old ≡ request_limit }
-    ensures serves { (cabinet : CabinetState) (entropy : EntropyState) → Serves line.now command.now
-        (reach_of (D.state provider.disk) (IsAttached (attachment_of provider)) cabinet entropy) (answer_of buffer.new result.1)
-        (reach_of (disk_in D.state result.0) (holding_of result.0) cabinet entropy) }
+    ensures serves { Serves line.now command.now
+        (reach_of (D.state provider.disk) (IsAttached (attachment_of provider)) (C.state files.old) (E.state entropy.old)) (answer_of buffer.new result.1)
+        (reach_of (disk_in D.state result.0) (holding_of result.0) (C.state files.new) (E.state entropy.new)) }
     ensures payload { FitsPayload request_limit result.1 }
 {
     let mut provider = provider;
@@ -228,6 +287,56 @@ fn serve_attached<D: Disk>(
             Reply::Refused(Refusal::StillAttached),
         ),
         Command::Attach { .. } => (
+            Held::Attached(provider),
+            Reply::Refused(Refusal::StillAttached),
+        ),
+        Command::Setkey {
+            iterations,
+            slot,
+            fresh,
+            ..
+        } => {
+            rest_tells_all();
+            let master = provider.master();
+            let target = slot.unwrap_or(provider.slot());
+            let answer = setkey_attached(
+                alloc,
+                &mut provider,
+                line,
+                *iterations,
+                target,
+                &master,
+                fresh,
+                files,
+            );
+            (Held::Attached(provider), done_or(answer))
+        }
+        Command::Delkey {
+            all,
+            force,
+            slot,
+            ..
+        } => {
+            rest_tells_all();
+            let slot = slot.or(Some(provider.slot()));
+            let answer = delkey(&mut provider, *all, *force, slot, entropy);
+            (Held::Attached(provider), done_or(answer))
+        }
+        Command::Kill { .. } => {
+            let mut disk = provider.withdraw();
+            let answer = kill(&mut disk, entropy);
+            (Held::Idle(disk), done_or(answer))
+        }
+        Command::Backup { file, .. } => {
+            rest_tells_all();
+            let answer = backup(alloc, &mut provider, line, *file, files);
+            (Held::Attached(provider), done_or(answer))
+        }
+        Command::Restore { .. } => (
+            Held::Attached(provider),
+            Reply::Refused(Refusal::StillAttached),
+        ),
+        Command::Resize { .. } => (
             Held::Attached(provider),
             Reply::Refused(Refusal::StillAttached),
         ),
@@ -247,7 +356,20 @@ fn serve_attached<D: Disk>(
             let answer = flush_answer(provider.flush());
             (Held::Attached(provider), done_or(answer))
         }
-        _ => unreachable!(),
+        Command::Fill {
+            seed,
+            start,
+            count,
+            ..
+        } => {
+            let answer = fill(&mut provider, *seed, *start, *count, buffer);
+            (Held::Attached(provider), done_or(answer))
+        }
+        Command::Sum { start, count, .. } => {
+            let answer = sum(&mut provider, *start, *count, buffer);
+            (Held::Attached(provider), digest_or(answer))
+        }
+        Command::List | Command::Eject { .. } => unreachable!(),
     }
 }
 
@@ -278,6 +400,16 @@ fn payload_or(answer: Result<u32, Refusal>) -> Reply
 {
     match answer {
         Ok(length) => Reply::Payload { length },
+        Err(refusal) => Reply::Refused(refusal),
+    }
+}
+
+fn digest_or(answer: Result<[u8; 32], Refusal>) -> Reply
+    ensures reply { (bytes : List ℕ) → answer_of bytes result ≡ digest_or answer }
+    ensures payload { FitsPayload 0 result }
+{
+    match answer {
+        Ok(digest) => Reply::Digest(digest),
         Err(refusal) => Reply::Refused(refusal),
     }
 }

@@ -1,15 +1,12 @@
 // The drawers in order of adding.
-ghost use Rattle.std.specs.Prelude.{◌≡◌, ◌<◌, ◌≤◌, ℕ, List, map, ◌∷◌, ◌++◌, [], IfOk, IfSome, IsTrue, MatchResult, length, option_copied, vec_capacity, vec_len};
+ghost use Rattle.std.specs.Prelude.{◌≡◌, ◌<◌, ◌≤◌, ℕ, List, map, ◌∷◌, ◌++◌, [], IfOk, IfSome, MatchResult, length, option_copied, vec_capacity, vec_len};
 ghost use Rattle.std.specs.List.{insert};
-ghost use Rattle.block_traits.specs.Cabinet.{cabinet_of};
-ghost use Rattle.block_traits.specs.Streams.{entropy_of};
 ghost use Rattle.command_words.specs.Bounds.{IsBounded};
 ghost use Rattle.command_words.specs.Places.{CommandIsWithin};
 ghost use Rattle.shelf.specs.Adding.{Adds, RefusesToAdd};
 ghost use Rattle.shelf.specs.Answer.{FitsPayload, answer_of};
 ghost use Rattle.shelf.specs.Closing.{Closing, failures};
-ghost use Rattle.shelf.specs.Served.{is_served};
-ghost use Rattle.shelf.specs.Turn.{ListsAs, Shows, Turn, row_of};
+ghost use Rattle.shelf.specs.Turn.{ListsAs, Shows, Turn, row_of, takes_out};
 ghost use Rattle.shelf.specs.World.{drawers_of, place_of, world_of};
 
 use crate::requests::REQUEST_LIMIT;
@@ -93,7 +90,7 @@ impl<D: Disk> Drawers<D> {
 
     /// Serves a command, whose places are those of the line: `UnknownProvider` exactly where no drawer has the name of
     /// its provider, and else what the drawer answers. The other drawers stay as they are. `list` answers a row for each
-    /// drawer, or that there was no memory.
+    /// drawer, or that there was no memory. `eject` takes the drawer out with its disk, of which no call is made.
     pub fn serve<C: Cabinet, E: Entropy>(
         &mut self,
         line: &[u8],
@@ -103,10 +100,9 @@ impl<D: Disk> Drawers<D> {
     ) -> Reply
         requires within { CommandIsWithin (length line.now) command.now }
         requires bounds { IsBounded line.now command.now }
-        requires served { IsTrue (is_served command.now) }
         ensures turn { Turn line.now command.now
-            (world_of D.state self.old (cabinet_of C.files C.faults C.misses files.old) (entropy_of E.left E.faults entropy.old)) (answer_of self.new.buffer result)
-            (world_of D.state self.new (cabinet_of C.files C.faults C.misses files.new) (entropy_of E.left E.faults entropy.new)) }
+            (world_of D.state self.old (C.state files.old) (E.state entropy.old)) (answer_of self.new.buffer result)
+            (world_of D.state self.new (C.state files.new) (E.state entropy.new)) }
         ensures payload { FitsPayload (length self.new.buffer) result }
     {
         let Some(prov) = command.provider() else {
@@ -118,6 +114,9 @@ impl<D: Disk> Drawers<D> {
         };
         let alloc = *self.drawers.allocator();
         let drawer = self.drawers.remove(place);
+        if takes_out(command) {
+            return Reply::Done;
+        }
         let buffer = self.buffer.as_mut_slice();
         let (drawer, reply) = drawer.serve(alloc, line, command, buffer, files, entropy);
         put_back(&mut self.drawers, place, drawer);
@@ -157,6 +156,13 @@ impl<D: Disk> Drawers<D> {
         let place = find(&self.drawers, name.as_bytes())?;
         self.drawers[place].events()
     }
+}
+
+// Whether the command takes the drawer that it names out of the list.
+fn takes_out(command: &Command) -> bool
+    ensures { result ≡ takes_out command.now }
+{
+    matches!(command, Command::Eject { .. })
 }
 
 // One where a flush failed.

@@ -5,8 +5,10 @@ ghost use Rattle.eli_base.specs.declared.refusals.Refusal.{Refusal};
 ghost use Rattle.eli_metadata.specs.declared.metadata.Metadata.{Metadata};
 ghost use Rattle.shelf.specs.Opening.{NamesSameKey, OpensOrFails};
 ghost use Rattle.shelf.specs.Steps.{LoadsComponents, MakesProvider};
+ghost use Rattle.shelf.specs.Stops.{LeavesOldOrNew};
 ghost use Rattle.shelf.specs.Answer.{Answer, Refused};
 ghost use Rattle.shelf.specs.Causes.{Caused};
+ghost use Rattle.shelf.specs.Counts.{CountsFailures};
 ghost use Rattle.shelf.specs.Histories.{OnlySteps};
 ghost use Rattle.shelf.specs.Turn.{TryRow, Turn};
 ghost use Rattle.shelf.specs.World.{Attachment, Reach, World};
@@ -27,21 +29,44 @@ pub fn what_init_makes_can_be_attached()
         TryRow line' slot readonly words start answer after → OpensOrFails start answer after }
 {}
 
-/// A line changes only the drawer that it names: the others keep their names, their disks and what they do with them. The
-/// history of its disk grows by the events of the line. A line that is served has those of its row: `init` writes metadata
-/// between two flushes, `write` the sealed sectors in ascending order, `flush` and `detach` flush, and the others do nothing. One
-/// that is refused has none; but where the disk failed the first ones, and where a backup isn't stored it may have all.
+/// A line changes only the drawer that it names: the others keep their names, their disks and what they do with them, and stay in
+/// order. `eject` takes it out of the list, and those behind it move up. Else the history of its disk grows by the events of the line.
+/// A line that is served has those of its row: `init` and `restore` write metadata between two flushes, `setkey` stores metadata,
+/// `delkey` and `kill` write over the last sector in six passes, `resize` moves metadata and writes over their old place, `write` and
+/// `fill` write the sealed sectors in ascending order, `flush` and `detach` flush, and the others do nothing. One that is refused has
+/// none; but where the disk failed the first ones, and where the backup of `init` isn't stored it may have all.
 pub fn a_line_changes_only_its_drawer()
     ensures { (line : List ℕ) (command : Command) (old : World) (answer : Answer) (new : World) →
         Turn line command old answer new → OnlySteps line command answer old.drawers new.drawers }
 {}
 
-/// Each refusal has its cause, and so a line that has none is served: `read`, `write`, `flush` and `detach` are refused only
-/// where the drawer is idle, where the provider is only read, by the length and the range, by a unit whose tag differs, or where
-/// the disk failed, whose count of faults rose. Want of memory is answered by `init`, `attach` and `list` alone. That the
-/// cabinet or the entropy failed, or a file was absent, shows in their counts. The other refusals are those of metadata,
-/// components and sizes, by `init`, `attach` and `dump` alone, whose rows say which.
+/// Each refusal has its cause. `detach`, `flush`, `read`, `write`, `fill` and `sum` are refused only where the drawer is idle, where the
+/// provider is only read (`write` and `fill`), by the length (`read` and `write`) and the range of what they ask for, by a unit whose
+/// tag differs, or where the disk failed, whose count of faults rose; so without such a cause they are served. `eject` is refused only
+/// where no drawer has the name. Only `init`, `attach`, `restore` and `resize` are refused because the drawer is attached. Want of
+/// memory is answered by `init`, `attach`, `setkey`, `backup`, `restore` and `list` alone. That the cabinet or the entropy failed, or a
+/// file was absent, shows in their counts. The other refusals are those of metadata, components, slots, backups and sizes, by `init`,
+/// `attach`, `setkey`, `delkey`, `kill`, `backup`, `restore`, `resize` and `dump` alone, whose rows say which.
 pub fn a_refusal_has_its_cause()
     ensures { (line : List ℕ) (command : Command) (old : World) (refusal : Refusal) (new : World) →
         Turn line command old (Refused refusal) new → Caused line command refusal old new }
+{}
+
+/// No line makes a count of the cabinet or the entropy fall. That the cabinet or the entropy failed is answered only where its count of faults
+/// rose, and that a file was absent or too long only where the count of misses did, but for passphrases that are longer than their own limit.
+pub fn a_line_counts_failures()
+    ensures { (line : List ℕ) (command : Command) (old : World) (answer : Answer) (new : World) →
+        Turn line command old answer new → CountsFailures old answer new }
+{}
+
+/// A line that changes metadata leaves the old or the new whenever power fails. At each moment of `setkey`, `init` and `restore` each
+/// value that the last sector of the named drawer may hold is one from before or the new metadata; once `setkey` is done, they are the
+/// only one. `setkey` leaves all but its slot, its bit and the iterations, which still make the other slot's key; so does `delkey` but for the slots that are
+/// named, which are clear in each value that may be held once a flush landed, and zeros once it's done. Until the first flush of `resize` landed, each value that a sector may
+/// hold is one from before; from then on, unless a sector is altered, the last sector has the new metadata or the old place the old ones.
+/// Once a flush of `kill` landed, no value that the last sector may hold is metadata. A line that is refused may have stopped at any event of these,
+/// or it leaves the content as it is.
+pub fn a_line_leaves_old_or_new()
+    ensures { (line : List ℕ) (command : Command) (old : World) (answer : Answer) (new : World) →
+        Turn line command old answer new → LeavesOldOrNew line command answer old new }
 {}

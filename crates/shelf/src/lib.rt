@@ -4,16 +4,19 @@
 mod attaching;
 mod drawer;
 mod drawers;
+mod keys;
 mod laws;
 mod making;
 mod reading;
 mod requests;
-mod served;
+mod saving;
+mod sizes;
 mod trying;
+mod workloads;
 
 pub use drawer::{Drawer, Held};
 pub use drawers::{AddFault, Drawers, Shelf};
 pub use laws::{
-    a_line_changes_only_its_drawer, a_refusal_has_its_cause, what_init_makes_can_be_attached,
+    a_line_changes_only_its_drawer, a_line_counts_failures, a_line_leaves_old_or_new,
+    a_refusal_has_its_cause, what_init_makes_can_be_attached,
 };
-pub use served::is_served;

@@ -1,15 +1,15 @@
 //! `geli init`: a provider is made, and its metadata are backed up (geli(8), init).
 
 ghost use Rattle.std.specs.Prelude.{◌≡◌, IfSome, length};
-ghost use Rattle.block_traits.specs.Cabinet.{cabinet_of};
 ghost use Rattle.block_traits.specs.Disk.{DiskState};
-ghost use Rattle.block_traits.specs.Streams.{EntropyState, entropy_of};
+ghost use Rattle.block_traits.specs.Streams.{EntropyState};
 ghost use Rattle.command_words.specs.Places.{IsWithin, KeyIsWithin};
 ghost use Rattle.shelf.specs.Steps.{BacksUp};
 ghost use Rattle.shelf.specs.Turn.{InitRow, iterations_of};
 ghost use Rattle.shelf.specs.World.{Holding, Idle, reach_of};
 
-use block_traits::{Cabinet, Disk, Entropy, StoreFault};
+use crate::saving::store_at;
+use block_traits::{Cabinet, Disk, Entropy};
 use command_words::{KeyWords, Span};
 use eli_base::Refusal;
 use eli_metadata::{Metadata, encode};
@@ -42,20 +42,15 @@ fn back_up<C: Cabinet>(
     requires { IfSome backup (IsWithin (length line.now)) }
     ensures { (disk : DiskState) (holding : Holding) (entropy : EntropyState) →
         BacksUp line.now backup meta.now
-        (reach_of disk holding (cabinet_of C.files C.faults C.misses files.old) entropy) result
-        (reach_of disk holding (cabinet_of C.files C.faults C.misses files.new) entropy) }
+        (reach_of disk holding (C.state files.old) entropy) result
+        (reach_of disk holding (C.state files.new) entropy) }
 {
     let Some(span) = backup else {
         return Ok(());
     };
     let mut sector = [0; 512];
     encode(meta, &mut sector);
-    let name = span.bytes_in(line);
-    match files.store(alloc, name, &sector) {
-        Ok(()) => Ok(()),
-        Err(StoreFault::Failed) => Err(Refusal::CabinetFault { word: span.word }),
-        Err(StoreFault::NoMemory) => Err(Refusal::NoMemory),
-    }
+    store_at(alloc, line, span, &sector, files)
 }
 
 /// Makes a provider of the disk of an idle drawer: loads the files of its key, writes its metadata, and then stores them as a backup where
@@ -73,8 +68,8 @@ pub fn init<D: Disk, C: Cabinet, E: Entropy>(
     requires key { KeyIsWithin (length line.now) fresh.now }
     requires backup { IfSome backup (IsWithin (length line.now)) }
     ensures { InitRow line.now options.now fresh.now backup
-        (reach_of (D.state disk.old) Idle (cabinet_of C.files C.faults C.misses files.old) (entropy_of E.left E.faults entropy.old)) result
-        (reach_of (D.state disk.new) Idle (cabinet_of C.files C.faults C.misses files.new) (entropy_of E.left E.faults entropy.new)) }
+        (reach_of (D.state disk.old) Idle (C.state files.old) (E.state entropy.old)) result
+        (reach_of (D.state disk.new) Idle (C.state files.new) (E.state entropy.new)) }
 {
     let parts = load_components(alloc, line, fresh, files)?;
     let meta = key_commands::init(disk, options, &parts, entropy)?;

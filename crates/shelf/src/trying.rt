@@ -1,11 +1,10 @@
 //! A key is tried on a provider (geli(8), attach).
 
 ghost use Rattle.std.specs.Prelude.{◌≡◌, ℕ, ◌<◌, ◌^◌, IfOk, OnOk, MatchResult, Bool, Ok, Err, length};
-ghost use Rattle.block_traits.specs.Cabinet.{cabinet_of};
 ghost use Rattle.block_traits.specs.Streams.{EntropyState};
 ghost use Rattle.command_words.specs.Places.{KeyIsWithin};
 ghost use Rattle.eli_metadata.specs.Check.{settings_of, size_matches, slot_matches, supported};
-ghost use Rattle.shelf.specs.Steps.{admitted, key_refusal_of, tried};
+ghost use Rattle.shelf.specs.Steps.{admitted, tried};
 ghost use Rattle.shelf.specs.Trial.{IsOpening, as_attachment};
 ghost use Rattle.shelf.specs.Turn.{TryRow};
 ghost use Rattle.shelf.specs.World.{Holding, reach_of};
@@ -19,7 +18,7 @@ use eli_metadata::{Metadata, check, size_gate, slot_gate};
 use key_components::load_components;
 use provider::opened;
 use std::alloc::Global;
-use user_key::{Components, KeyFault, UserKey, derive};
+use user_key::{Components, UserKey, derive};
 
 /// What was found of a provider that a key opens.
 #[derive(Drop)]
@@ -36,8 +35,8 @@ pub struct Opening {
     pub slot: u8,
 }
 
-// The parameters of metadata that an image of so many device sectors can have, and whose named slot is set.
-fn admit(meta: &Metadata, sectors: u64, slot: Option<u8>) -> Result<Params, Refusal>
+/// The parameters of metadata that an image of so many device sectors can have, and whose named slot is set.
+pub fn admit(meta: &Metadata, sectors: u64, slot: Option<u8>) -> Result<Params, Refusal>
     requires { sectors < 2 ^ 44 }
     ensures answer { MatchResult result
         (λ params. admitted meta.now sectors slot ≡ Ok (settings_of params))
@@ -52,16 +51,7 @@ fn admit(meta: &Metadata, sectors: u64, slot: Option<u8>) -> Result<Params, Refu
     Ok(params)
 }
 
-fn key_refusal(fault: KeyFault) -> Refusal
-    ensures { result ≡ key_refusal_of fault }
-{
-    match fault {
-        KeyFault::PassphraseNotSet => Refusal::PassphraseNotSet,
-        KeyFault::PassphraseNeeded => Refusal::PassphraseNeeded,
-        KeyFault::NoKeyComponents => Refusal::NoKeyComponents,
-    }
-}
-
+/// Why components make no key.
 // What the key of these components opens, of the slots that are asked for.
 fn try_components(
     meta: Metadata,
@@ -76,7 +66,7 @@ fn try_components(
 {
     let key = match derive(parts, &meta.salt, meta.iterations) {
         Ok(key) => key,
-        Err(fault) => return Err(key_refusal(fault)),
+        Err(fault) => return Err(Refusal::from(fault)),
     };
     if let Err(GeoFault::TooSmall { size }) = Geometry::of(&params) {
         return Err(Refusal::TooSmall { size });
@@ -106,8 +96,8 @@ pub fn try_key<P: MetaPlace, C: Cabinet>(
     requires { KeyIsWithin (length line.now) words.now }
     ensures row { (readonly : Bool) (holding : Holding) (entropy : EntropyState) →
         TryRow line.now slot readonly words.now
-        (reach_of (P.state place.old) holding (cabinet_of C.files C.faults C.misses files.old) entropy) (as_attachment readonly result)
-        (reach_of (P.state place.new) holding (cabinet_of C.files C.faults C.misses files.new) entropy) }
+        (reach_of (P.state place.old) holding (C.state files.old) entropy) (as_attachment readonly result)
+        (reach_of (P.state place.new) holding (C.state files.new) entropy) }
     ensures opening { IfOk result (IsOpening (P.state place.new).size slot) }
 {
     let meta = read_last(place)?;

@@ -1,2 +1,3 @@
 pub mod Passphrase
+pub mod Refusals
 pub mod UserKey

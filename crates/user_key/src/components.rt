@@ -1,6 +1,9 @@
-//! What a user key is made of.
+// What a user key is made of.
+ghost use Rattle.std.specs.Prelude.{◌≡◌};
+ghost use Rattle.user_key.specs.Refusals.{key_refusal_of};
 
 use block_traits::ByteList;
+use eli_base::Refusal;
 use thiserror::Error;
 
 /// What the options say of a passphrase.
@@ -44,4 +47,16 @@ pub enum KeyFault {
     /// The key is to have no passphrase, and no key file was given.
     #[error("no key components are given")]
     NoKeyComponents,
+}
+
+impl From<KeyFault> for Refusal {
+    ghost from_gives = { λ fault refusal. refusal ≡ key_refusal_of fault };
+
+    fn from(fault: KeyFault) -> Refusal {
+        match fault {
+            KeyFault::PassphraseNotSet => Refusal::PassphraseNotSet,
+            KeyFault::PassphraseNeeded => Refusal::PassphraseNeeded,
+            KeyFault::NoKeyComponents => Refusal::NoKeyComponents,
+        }
+    }
 }

@@ -1,3 +1,4 @@
+// User keys of other implementations, and what is refused.
 use crate::{Components, KeyFault, PassPart, derive, first_line};
 use block_traits::ByteList;
 use std::alloc::{AllocError, Global};
@@ -100,7 +101,7 @@ fn list_of(alloc: Global, bytes: &[u8]) -> Result<ByteList, AllocError> {
 
 #[test]
 fn published_keys(rt: HostRuntime) -> Result<(), Fail> {
-    for case in &KEY_CASES {
+    for (row, case) in KEY_CASES.iter().enumerate() {
         let parts = Components {
             keyfile_count: case.keyfile_count,
             keyfiles: list_of(rt.alloc(), case.keyfiles)?,
@@ -111,7 +112,7 @@ fn published_keys(rt: HostRuntime) -> Result<(), Fail> {
         };
         let key = derive(&parts, &SALT, case.iterations)?;
         let text = hex::encode(rt.alloc(), &key.bytes)?;
-        assert_eq!(rt; text.as_str(), case.key);
+        assert_eq!(rt; text.as_str(), case.key, "row {row}");
     }
     Ok(())
 }

@@ -1,4 +1,5 @@
-// What holds of XTS, whatever is sealed or opened.
+//! What holds of XTS, whatever is sealed or opened.
+
 ghost use Rattle.std.specs.Prelude.{◌≡◌, ℕ, ◌+◌, ◌*◌, ◌%◌, ◌≤◌, List, length};
 ghost use Rattle.aes_core.specs.Aes.{decrypt, encrypt};
 ghost use Rattle.aes_core.specs.Blocks.{block};

@@ -1,3 +1,5 @@
+//! The vectors of IEEE 1619, and texts of other lengths.
+
 use crate::{xts_open, xts_seal};
 use aes_core::Schedule;
 use sha2::{Digest, Sha256};
@@ -100,22 +102,22 @@ const VECTORS: [Vector; 5] = [
     },
 ];
 
-fn check_vector(rt: &impl Abort, vector: Vector) -> Result<(), Fail> {
-    assert!(rt; vector.key_length <= 32);
+fn check_vector(rt: &impl Abort, i: usize, vector: Vector) -> Result<(), Fail> {
+    assert!(rt; vector.key_length <= 32, "row {i}");
     let k1 = Schedule::new(&bytes_of(vector.first)[..vector.key_length]).ok_or("no key")?;
     let k2 = Schedule::new(&bytes_of(vector.second)[..vector.key_length]).ok_or("no key")?;
     let mut text = bytes_of(vector.plain);
     xts_seal(&k1, &k2, vector.unit, &mut text);
-    assert_eq!(rt; text, bytes_of(vector.cipher));
+    assert_eq!(rt; text, bytes_of(vector.cipher), "row {i}");
     xts_open(&k1, &k2, vector.unit, &mut text);
-    assert_eq!(rt; text, bytes_of(vector.plain));
+    assert_eq!(rt; text, bytes_of(vector.plain), "row {i}, opened");
     Ok(())
 }
 
 #[test]
 fn vectors_of_the_standard(rt: HostRuntime) -> Result<(), Fail> {
-    for vector in VECTORS {
-        check_vector(&rt, vector)?;
+    for (i, vector) in VECTORS.iter().enumerate() {
+        check_vector(&rt, i, *vector)?;
     }
     Ok(())
 }
@@ -245,10 +247,10 @@ fn fill(text: &mut [u8]) {
 }
 
 fn check_row(rt: &impl Abort, row: Row, text: &mut [u8]) -> Result<(), Fail> {
-    assert!(rt; row.key_length <= 32);
+    assert!(rt; row.key_length <= 32, "{}", row.length);
     let k1 = Schedule::new(&bytes_of(row.first)[..row.key_length]).ok_or("no key")?;
     let k2 = Schedule::new(&bytes_of(row.second)[..row.key_length]).ok_or("no key")?;
-    assert!(rt; text.len() % 16 == 0);
+    assert!(rt; text.len() % 16 == 0, "{}", row.length);
     xts_seal(&k1, &k2, row.tweak, text);
     assert_eq!(rt;
         Sha256::digest(text),
@@ -263,7 +265,7 @@ fn check_row(rt: &impl Abort, row: Row, text: &mut [u8]) -> Result<(), Fail> {
 fn as_another_implementation(rt: HostRuntime) -> Result<(), Fail> {
     let mut text = vec![in rt.alloc(); 0u8; 65536]?;
     for row in ROWS {
-        assert!(rt; row.length <= text.len());
+        assert!(rt; row.length <= text.len(), "{}", row.length);
         fill(&mut text);
         check_row(&rt, row, &mut text[..row.length])?;
     }

@@ -1,7 +1,7 @@
 use Rattle.std.proofs.Common.{◌≡◌, ℕ, ◌+◌, List, refl, sym, ap, subst, ◌∙◌, arith}
 use Rattle.aes_core.specs.Columns.{words_of}
 use Rattle.aes_core.specs.Aes.{xor, round_key, after_rounds, sub_bytes, shift_rows, mix_columns}
-use Rattle.aes_core.proofs.Inverse.{AreRoundKeys, IsState-after_rounds}
+use Rattle.aes_core.proofs.Inverse.{AreRoundKeys, IsState-after_rounds, IsState-sub_bytes, IsState-shift_rows, IsState-xor}
 use Rattle.aes_core.proofs.KeyBytes.{IsState-block}
 use Rattle.aes_core.proofs.Turns.{after_rounds_start, after_rounds_step}
 use Rattle.aes_core.proofs.rounds.encipher.Goals as goal
@@ -29,5 +29,8 @@ returns c =
     let state = IsState-after_rounds keys b 13 c.args.count (record { long = c.told-block; bytes = c.fits-block }) are (omega arith) in
     let done : c.loop-n.n ≡ c.args.count = omega arith in
     let held = subst (λ (m : ℕ). c.loop-n.w ≡ words_of (after_rounds keys b m)) done c.loop-n.invariant in
-    let s = c.state_of.ensures (after_rounds keys b c.args.count) state held in
-    c.add_round_key-2.ensures ∙ ap (λ (t : List ℕ). xor t (round_key keys (c.args.count + 1))) (c.shift_rows.ensures ∙ ap shift_rows (c.substituted.ensures ∙ ap sub_bytes s))
+    let key = IsState-block keys (c.args.count + 1) c.fits-keys (omega arith) in
+    let before : List ℕ = after_rounds keys b c.args.count in
+    let last = c.after_last_round.ensures before state held in
+    let out = IsState-xor (shift_rows (sub_bytes before)) (round_key keys (c.args.count + 1)) (IsState-shift_rows (sub_bytes before) (IsState-sub_bytes before state.long)) key in
+    c.state_of.ensures (xor (shift_rows (sub_bytes before)) (round_key keys (c.args.count + 1))) out last

@@ -1,6 +1,6 @@
 use Rattle.std.proofs.Common.{◌≡◌, take, sym, ◌∙◌, rules, string_bytes, Global}
 use Rattle.std.proofs.lemmas.List.{take_all}
-use Rattle.command_words.proofs.JoinLaws.{joined_first}
+use Rattle.command_words.proofs.Joining.{joined_first}
 use Rattle.command_words.proofs.images.joined.Goals as goal
 
 -- All other words were taken, so the line is that of the first and the others.

@@ -1,6 +1,6 @@
-use Rattle.command_words.proofs.BoundsLaws.{reading_bounded}
-use Rattle.command_words.proofs.PlacesLaws.{reading_within}
-use Rattle.command_words.proofs.TextLaws.{reading_text}
+use Rattle.command_words.proofs.Bounds.{reading_bounded}
+use Rattle.command_words.proofs.Places.{reading_within}
+use Rattle.command_words.proofs.Text.{reading_text}
 use Rattle.command_words.proofs.lines.read_line.Goals as goal
 
 pub returns-clause-places : goal.returns-clause-places

@@ -4,7 +4,7 @@ use Rattle.command_words.specs.declared.commands.Command.{Command}
 use Rattle.command_words.specs.declared.commands.Usage.{Usage}
 use Rattle.command_words.specs.Cursor.{left}
 use Rattle.command_words.specs.Reading.{complaint}
-use Rattle.command_words.proofs.OperandsLaws.{settled_taken}
+use Rattle.command_words.proofs.OperandsLemmas.{settled_taken}
 use Rattle.command_words.proofs.lines.settle.Goals as goal
 
 -- an error that was handed on

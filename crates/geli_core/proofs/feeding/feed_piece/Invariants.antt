@@ -1,6 +1,4 @@
 use Rattle.std.proofs.Common.{ℕ, ◌≤◌, List, ◌++◌, take, vec_capacity, vec_len}
-use Rattle.block_traits.specs.Cabinet.{cabinet_of}
-use Rattle.block_traits.specs.Streams.{entropy_of, sink_of}
 use Rattle.command_words.specs.Reading.{line_limit}
 use Rattle.shelf.specs.World.{world_of}
 use Rattle.geli_core.specs.Served.{IsServed, Site, site_of}
@@ -9,9 +7,9 @@ use Rattle.geli_core.proofs.feeding.feed_piece.Given as goal
 -- the bytes up to this place were looked at
 abbrev pub invariant-loop-byte : goal.invariant-loop-byte
 invariant-loop-byte g l =
-    let cabinet = cabinet_of g.C.Cabinet.files g.C.Cabinet.faults g.C.Cabinet.misses in
-    let entropy = entropy_of g.E.Entropy.left g.E.Entropy.faults in
-    let sink = sink_of g.K.Sink.taken g.K.Sink.faults in
+    let cabinet = g.C.Cabinet.state in
+    let entropy = g.E.Entropy.state in
+    let sink = g.K.Sink.state in
     let world = world_of g.D.Disk.state in
     record {
       room : line_limit ≤ vec_capacity l.line;

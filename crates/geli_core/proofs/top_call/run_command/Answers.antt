@@ -4,12 +4,12 @@ use Rattle.geli_core.proofs.top_call.run_command.Goals as goal
 
 pub returns-in-Ok-serve_line : goal.returns-in-Ok-serve_line
 returns-in-Ok-serve_line g c =
-    let said = rw (c.deref.ensures.value, c.in-Ok.ensures) at c.in-Some.ensures in
+    let said = rw (c.deref.ensures.value, c.in-Ok.ensures) at c.in-Some.ensures.said in
     let served = rw (c.deref-2.ensures.value, c.in-Ok.ensures) at c.in-Ok-serve_line.ensures in
     λ source. ran_command _ c.in-Some._command _ _ _ source c.in-Ok-serve_line.end c.is_refusal.result c.close_and_print.result (sym said) served c.is_refusal.ensures (c.close_and_print.ensures _ _)
 
 pub returns : goal.returns
 returns g c =
-    let said = rw (c.deref.ensures.value, c.in-Ok.ensures) at c.in-Some.ensures in
+    let said = rw (c.deref.ensures.value, c.in-Ok.ensures) at c.in-Some.ensures.said in
     let served = rw (c.deref-2.ensures.value, c.in-Ok.ensures) at c.in-Err.ensures in
     λ source. broke_command _ c.in-Some._command _ _ _ source c.in-Err.field-0 c.close.result (sym said) served (record { drawers = c.close.ensures; cabinet = refl; entropy = refl }) refl

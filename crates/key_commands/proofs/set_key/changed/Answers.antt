@@ -10,8 +10,8 @@ use Rattle.key_commands.proofs.set_key.changed.Goals as goal
 pub with_key-requires-clause-keylen : goal.with_key-requires-clause-keylen
 with_key-requires-clause-keylen c = IsKeyBits-supported c.args.meta.now c.requires.checked
 
-pub returns-in-Ok-clause-ok : goal.returns-in-Ok-clause-ok
-returns-in-Ok-clause-ok c =
+pub returns-clause-ok : goal.returns-clause-ok
+returns-clause-ok c =
     let asked : KeyChange =
     record { meta = c.args.meta.now; master = c.args.master.now.bytes; slot = c.args.slot; iterations = c.args.iterations; parts = c.args.parts.now } in
     let count = c.new_iterations-count.result in
@@ -24,5 +24,5 @@ returns-in-Ok-clause-ok c =
       | else-is_some-via-then-is_some+else-not-is_only_key w ↦ inr (search rules)
       | else-is_some-via-else-is_some w ↦ inl (search rules)
     ] in
-    MakesKey-with asked c.in-Ok.key c.with_key.result count c.requires.slot (rw same_kept at c.new_iterations-count.ensures) either (rw same at (sym c.in-Ok.ensures))
+    MakesKey-with asked c.in_ok-key.key c.with_key.result count c.requires.slot (rw same_kept at c.new_iterations-count.ensures) either (rw same at (sym c.in_ok-key.ensures))
     (rw same at c.with_key.ensures.fields) c.with_key.ensures.opens c.with_key.ensures.other

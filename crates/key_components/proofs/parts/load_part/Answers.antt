@@ -10,14 +10,14 @@ returns-in_err-piece-clause-answer g c =
     let p = err_from_is_err_and c.from_residual.result c.from_residual.ensures.1 in
     let used : c.len.result ≡ length c.loop-span.joined.items = search rules in
     rw (p.1, p.2)
-    (PartIs-stopped (taking_of c.args.part) (g.C.Cabinet.files c.args.files.now) (g.C.Cabinet.files c.loop-span.files) c.args.line.now c.args.spans.now c.loop-span.span-index (record { start = 0; end = 0; word = 0 })
+    (PartIs-stopped (taking_of c.args.part) (g.C.Cabinet.state c.args.files.now).files (g.C.Cabinet.state c.loop-span.files).files c.args.line.now c.args.spans.now c.loop-span.span-index (record { start = 0; end = 0; word = 0 })
     c.loop-span.joined.items c.len.result c.in_err-piece.field-0.0 c.loop-span-test.true c.loop-span.invariant.0 c.loop-span.invariant.2.files used c.in_err-piece.ensures.answer)
 
 pub returns-in_err-piece-clause-at : goal.returns-in_err-piece-clause-at
 returns-in_err-piece-clause-at g c =
     let p = err_from_is_err_and c.from_residual.result c.from_residual.ensures.1 in
     rw (p.1, p.2)
-    (IsAt-stopped (taking_of c.args.part) (g.C.Cabinet.files c.args.files.now) c.args.line.now c.args.spans.now c.loop-span.span-index (record { start = 0; end = 0; word = 0 })
+    (IsAt-stopped (taking_of c.args.part) (g.C.Cabinet.state c.args.files.now).files c.args.line.now c.args.spans.now c.loop-span.span-index (record { start = 0; end = 0; word = 0 })
     c.loop-span.joined.items c.in_err-piece.field-0.0 c.loop-span-test.true c.loop-span.invariant.0 c.in_err-piece.ensures.word)
 
 pub loop-span-preserved : goal.loop-span-preserved
@@ -26,7 +26,7 @@ loop-span-preserved g c =
     let items : c.extend_from_slice.new.self.items ≡ c.loop-span.joined.items ++ c.in_ok-piece.piece = rw (← c.as_slice.ensures) c.in-Ok.ensures.items in
     let sum : length c.extend_from_slice.new.self.items ≡ c.len.result + length c.in_ok-piece.piece = omega (arith, ap length items, length-append c.loop-span.joined.items c.in_ok-piece.piece) in (
       rw items
-          (TakenSo-next (taking_of c.args.part) (g.C.Cabinet.files c.args.files.now) (g.C.Cabinet.files c.loop-span.files) c.args.line.now c.args.spans.now c.loop-span.span-index (record { start = 0; end = 0; word = 0 })
+          (TakenSo-next (taking_of c.args.part) (g.C.Cabinet.state c.args.files.now).files (g.C.Cabinet.state c.loop-span.files).files c.args.line.now c.args.spans.now c.loop-span.span-index (record { start = 0; end = 0; word = 0 })
           c.loop-span.joined.items c.len.result c.in_ok-piece.piece c.loop-span-test.true c.loop-span.invariant.0 c.loop-span.invariant.2.files used c.in_ok-piece.ensures.answer),
       omega (arith, sum, c.in_ok-piece.ensures.within),
       Loads-then None c.loop-span.invariant.2 c.in_ok-piece.ensures.loads,

@@ -1,5 +1,4 @@
 use Rattle.std.proofs.Common.{◌≤◌, take, length, None}
-use Rattle.block_traits.specs.Cabinet.{cabinet_of}
 use Rattle.key_components.specs.Answers.{Loads}
 use Rattle.key_components.specs.Parts.{limit_of, taking_of}
 use Rattle.key_components.proofs.Taken.{TakenSo}
@@ -8,7 +7,7 @@ use Rattle.key_components.proofs.parts.load_part.Given as goal
 -- the files so far were loaded without a refusal
 abbrev pub invariant-loop-span : goal.invariant-loop-span
 invariant-loop-span g l =
-    let cabinet = cabinet_of g.C.Cabinet.files g.C.Cabinet.faults g.C.Cabinet.misses in
-    TakenSo (taking_of l.part) (g.C.Cabinet.files l.initial.files) l.line (take l.span-index l.spans) l.joined.items
+    let cabinet = g.C.Cabinet.state in
+    TakenSo (taking_of l.part) (g.C.Cabinet.state l.initial.files).files l.line (take l.span-index l.spans) l.joined.items
     × (length l.joined.items ≤ limit_of l.part)
     × Loads (cabinet l.initial.files) (cabinet l.files) None

@@ -1,5 +1,7 @@
-use Rattle.std.proofs.Common.{◌≡◌, ◌+◌, ◌-◌, ◌*◌, ◌/◌, ◌<◌, ◌≤◌, min, ℕ, [], length, take, drop, subst, sym, ap, ◌∙◌, arith}
+use Rattle.std.proofs.Common.{◌≡◌, ◌+◌, ◌-◌, ◌*◌, ◌/◌, ◌<◌, min, ℕ, [], length, take, drop, subst, sym, ap, refl, ◌∙◌, arith}
 use borrow.Rule.Slice.PartMut.{put_mid}
+use Rattle.block_traits.specs.Causes.{Counted}
+use Rattle.block_traits.proofs.Causes.{Counted-then}
 use Rattle.block_traits.proofs.Logs.{Logs-then, logged-none}
 use Rattle.eli_base.specs.declared.algorithms.Auth.{Auth}
 use Rattle.eli_base.specs.Units.{unit_bytes_of}
@@ -29,7 +31,7 @@ returns-in-Err-clause-answer g c =
     let within = unit.within in
     let bytes : length (take (end - start) (drop start c.loop-j.block)) ≡ end - start = length-between start end c.loop-j.block order (omega arith) in
     fault_next c.in-Err.fault (state c.args.disk.now) (state c.loop-j.disk) (state c.read_piece.new.disk) k c.loop-j.ring.keying c.args.sector j n _ start end c.loop-j.block c.read_piece.new.piece
-    (put_mid start (end - start) c.loop-j.block c.read_piece.new.piece) c.requires.on c.loop-j.invariant.keying c.loop-j.invariant.logs lt at bytes unit c.loop-j.invariant.reads c.in-Err.ensures.answer
+    (put_mid start (end - start) c.loop-j.block c.read_piece.new.piece) c.requires.on c.loop-j.invariant.keying c.loop-j.invariant.asked c.loop-j.invariant.logs lt at bytes unit c.loop-j.invariant.reads c.in-Err.ensures.answer
 
 pub loop-j-preserved : goal.loop-j-preserved
 loop-j-preserved g c =
@@ -56,6 +58,7 @@ loop-j-preserved g c =
     let put : length c.read_piece.new.piece ≡ end - start = omega (arith, bytes, c.read_piece.auto.piece) in
     record {
       keying = c.in-Ok.ensures.keying ∙ c.loop-j.invariant.keying;
+      asked = Counted-then j 1 (j + 1) refl c.loop-j.invariant.asked c.in-Ok.ensures.answer.asked;
       logs = Logs-then [] [] c.loop-j.invariant.logs c.in-Ok.ensures.answer.logs;
       start = unit.next ∙ ap (min (unit_bytes_of k.auth * (j + 1))) (sym long);
       reads = read_next (state c.args.disk.now).content (state c.loop-j.disk).content k c.loop-j.ring.keying c.args.sector j n _ start end c.loop-j.block c.read_piece.new.piece
@@ -72,6 +75,7 @@ returns-clause-answer g c =
     let count : (length c.args.block.now - 1) / c.data_bytes-width.result + 1 ≡ units k = (λ i. (long i - 1) / wide i + 1) in
     let here : c.loop-j.j ≡ (length c.args.block.now - 1) / c.data_bytes-width.result + 1 = omega arith in
     record {
+      asked = let P : ℕ → Type 0 = λ n. Counted n (state c.args.disk.now).reads (state c.loop-j.disk).reads in subst P (here ∙ count) c.loop-j.invariant.asked;
       logs = c.loop-j.invariant.logs;
       reads = read_all (state c.args.disk.now).content k c.args.sector c.loop-j.j c.loop-j.start c.loop-j.block c.requires.on (here ∙ count) (c.loop-j.invariant.start ∙ ap (min (unit_bytes_of k.auth * c.loop-j.j)) long) all c.loop-j.invariant.reads;
     }

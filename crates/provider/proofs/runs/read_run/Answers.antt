@@ -1,6 +1,8 @@
 use Rattle.std.proofs.Common.{◌≡◌, ◌+◌, ◌-◌, ◌*◌, ◌/◌, ◌≤◌, [], length, take, subst, ◌∙◌, arith, Option, Ok, IfSome}
 use borrow.Rule.Slice.PartMut.{put_mid}
+use Rattle.block_traits.specs.Causes.{Counted}
 use Rattle.block_traits.specs.Content.{Content}
+use Rattle.block_traits.proofs.Causes.{Counted-then}
 use Rattle.block_traits.proofs.Logs.{Logs-then, logged-none}
 use Rattle.eli_base.specs.Keying.{Keying}
 use Rattle.sealing.specs.Sectors.{units}
@@ -19,12 +21,14 @@ loop-i-preserved g c =
     let block = c.read_sector.new.block in
     let P : Keying → Type 0 = λ now. IfSome (g.D.Disk.state c.loop-i.disk).content (λ (told : Content). sector_reading now told here ≡ Ok block) in
     let Q : Option Content → Type 0 = λ told. IfSome told (λ (content : Content). sector_reading k content here ≡ Ok block) in
+    let R : Keying → Type 0 = λ now. Counted (units now) (g.D.Disk.state c.loop-i.disk).reads (g.D.Disk.state c.read_sector.new.disk).reads in
     let gives = subst Q (before.logs.content ∙ logged-none start.content) (subst P before.keying c.in-Ok.ensures.answer.reads) in
     let inside = bytes_inside (length c.args.into.now) c.args.size c.loop-i.i c.loop-i-test.true in
     let room : c.loop-i.i * c.args.size ≤ length c.loop-i.into = omega (arith, inside) in
     let len : length block ≡ c.args.size = omega (arith, inside) in
     record {
       keying = c.in-Ok.ensures.keying ∙ before.keying;
+      asked = Counted-then (c.loop-i.i * units k) (units k) ((c.loop-i.i + 1) * units k) (omega arith) before.asked (subst R before.keying c.in-Ok.ensures.answer.asked);
       logs = Logs-then [] [] before.logs c.in-Ok.ensures.answer.logs;
       reads = ReadsFrom-next start.content k c.args.sector c.loop-i.i c.args.size _ c.loop-i.into block before.reads gives len room;
     }
@@ -45,4 +49,4 @@ returns-in-Err-clause-answer g c =
     let size = c.args.size in
     run_fault c.in-Err.fault (state c.args.disk.now) (state c.loop-i.disk) (state c.read_sector.new.disk) k c.loop-i.ring.keying c.args.sector (length c.args.into.now / size) i
     (take (i * size) c.loop-i.into) c.read_sector.new.block (put_mid (i * size) (i * size + size - i * size) c.loop-i.into c.read_sector.new.block)
-    c.loop-i.invariant.keying c.loop-i.invariant.logs c.loop-i-test.true c.loop-i.invariant.reads c.in-Err.ensures.answer
+    c.loop-i.invariant.keying c.loop-i.invariant.asked c.loop-i.invariant.logs c.loop-i-test.true c.loop-i.invariant.reads c.in-Err.ensures.answer

@@ -1,5 +1,7 @@
 use Rattle.std.proofs.Common.{◌≡◌, ◌*◌, [], take, Ok}
+use Rattle.block_traits.specs.Causes.{Counted}
 use Rattle.block_traits.specs.Disk.{Logs}
+use Rattle.sealing.specs.Sectors.{units}
 use Rattle.provider.specs.Reading.{ReadsAs}
 use Rattle.provider.proofs.runs.read_run.Given as goal
 
@@ -8,6 +10,7 @@ invariant-loop-i g l =
     let state = g.D.Disk.state in
     record {
       keying : l.ring.keying ≡ l.initial.ring.keying;
+      asked : Counted (l.i * units l.initial.ring.keying) (state l.initial.disk).reads (state l.disk).reads;
       logs : Logs [] (state l.initial.disk) (state l.disk);
       reads : ReadsAs (state l.initial.disk) l.initial.ring.keying l.sector l.i (Ok (take (l.i * l.size) l.into));
     }

@@ -1,10 +1,10 @@
 use Rattle.std.proofs.Common.{take}
-use Rattle.block_traits.specs.Streams.{TookAll, sink_of}
+use Rattle.reply_text.specs.Output.{PutsAll}
 use Rattle.reply_text.specs.Text.{row_lines}
 use Rattle.reply_text.proofs.rows.write_rows.Given as goal
 
 -- the lines so far were printed
 abbrev pub invariant-loop-row : goal.invariant-loop-row
 invariant-loop-row g l =
-    let state = sink_of g.K.Sink.taken g.K.Sink.faults in
-    TookAll (row_lines (take l.row-index l.rows)) (state l.initial.output) (state l.output)
+    let state = g.K.Sink.state in
+    PutsAll (row_lines (take l.row-index l.rows)) l.initial.page.items (state l.initial.output) l.page.items (state l.output)

@@ -11,7 +11,7 @@ returns-in-Ok-destroy g c =
     let P : ℕ → Type 0 = λ sectors. Logs (overwrite_events (sectors - 1) (trash_sectors c.in-Ok.random)) disk (g.D.Disk.state c.destroy.new.disk) in
     let logs = subst P c.sectors-sectors.ensures c.in-Ok-destroy.ensures.ok in
     let enough : 2 ≤ disk.size = omega (arith, c.sectors-sectors.ensures) in
-    record { enough = enough; random = c.in-Ok.random; takes = c.in-Ok.ensures.ok; logs = logs; gone = gone-Logs c.in-Ok.random disk (g.D.Disk.state c.destroy.new.disk) logs }
+    record { enough = enough; random = c.in-Ok.random; takes = c.in-Ok.ensures.ok; logs = logs; unasked = c.destroy.ensures.unasked; gone = gone-Logs c.in-Ok.random disk (g.D.Disk.state c.destroy.new.disk) logs }
 
 pub returns-in-Err : goal.returns-in-Err
 returns-in-Err g c =
@@ -19,4 +19,4 @@ returns-in-Err g c =
     let P : ℕ → Type 0 = λ sectors. FailsIn (overwrite_events (sectors - 1) (trash_sectors c.in-Ok.random)) disk (g.D.Disk.state c.destroy.new.disk) in
     let fails = subst P c.sectors-sectors.ensures c.in-Err.ensures.err in
     let enough : 2 ≤ disk.size = omega (arith, c.sectors-sectors.ensures) in
-    record { enough = enough; random = c.in-Ok.random; takes = c.in-Ok.ensures.ok; fails = fails; gone = gone-FailsIn c.in-Ok.random disk (g.D.Disk.state c.destroy.new.disk) fails }
+    record { enough = enough; random = c.in-Ok.random; takes = c.in-Ok.ensures.ok; fails = fails; unasked = c.destroy.ensures.unasked; gone = gone-FailsIn c.in-Ok.random disk (g.D.Disk.state c.destroy.new.disk) fails }

@@ -1,11 +1,15 @@
-use Rattle.std.proofs.Common.{refl, Err, List, ℕ, ◌∷◌, [], subst}
+use Rattle.std.proofs.Common.{◌∙◌, refl, ap, Err, List, ℕ, ◌∷◌, [], Some, subst}
+use Rattle.std.specs.Prelude.{unwrap_or}
+use Rattle.std.specs.Option.{option_or}
 use Rattle.block_traits.specs.declared.disk.Event.TheVariants.{Flush}
 use Rattle.shelf.specs.Digits.{bytes_spelled}
 use Rattle.eli_base.specs.declared.refusals.Refusal.TheVariants as refusals
 use Rattle.shelf.specs.Requests.{bytes_read}
 use Rattle.shelf.specs.Steps.{Detaches, Does, NeedsAttached}
 use Rattle.shelf.specs.Turn.{WriteRow}
-use Rattle.shelf.specs.World.{attachment_of}
+use Rattle.shelf.specs.World.{IsAttached, attachment_of}
+use Rattle.shelf.proofs.KeyRows.{delkey_attached_row, setkey_attached_row}
+use Rattle.shelf.proofs.PlaceRows.{backup_attached_row, kill_attached_row}
 use Rattle.shelf.proofs.Rows.{Then-goes_on, Then-refused}
 use Rattle.shelf.proofs.Sectors.{at, flushed, kept_holding}
 use Rattle.shelf.proofs.Spelling.{spelled}
@@ -21,20 +25,20 @@ returns-in-Dump-clause-serves g c =
     let now = c.read_last.new.place in
     let then = c.args.provider in
     let told = c.rest_tells_all.ensures now.keying then.keying now.slot then.slot now.readonly then.readonly c.read_last.ensures.rest in
-    rw c.in-Dump.is (λ cabinet entropy. record {
+    rw c.in-Dump.is (record {
       answer = c.read_last.result;
       row = record { reads = c.read_last.ensures.reads; holding = kept_holding then now (record { keying = told.0; slot = told.1; readonly = told.2 }); cabinet = refl; entropy = refl };
       replied = c.dump_or-reply.ensures.reply c.args.buffer.now;
     })
 
 pub returns-in-Init-clause-serves : goal.returns-in-Init-clause-serves
-returns-in-Init-clause-serves g c = rw c.in-Init.is (λ cabinet entropy. record { answer = Err refusals.StillAttached; row = Then-refused _ _ _ _ _ (refl, refl); replied = refl })
+returns-in-Init-clause-serves g c = rw c.in-Init.is (record { answer = Err refusals.StillAttached; row = Then-refused _ _ _ _ _ (refl, refl); replied = refl })
 
 pub returns-in-Attach-clause-serves : goal.returns-in-Attach-clause-serves
-returns-in-Attach-clause-serves g c = rw c.in-Attach.is (λ cabinet entropy. record { answer = Err refusals.StillAttached; row = Then-refused _ _ _ _ _ (refl, refl); replied = refl })
+returns-in-Attach-clause-serves g c = rw c.in-Attach.is (record { answer = Err refusals.StillAttached; row = Then-refused _ _ _ _ _ (refl, refl); replied = refl })
 
 pub returns-in-Detach-clause-serves : goal.returns-in-Detach-clause-serves
-returns-in-Detach-clause-serves g c = rw c.in-Detach.is (λ cabinet entropy. record {
+returns-in-Detach-clause-serves g c = rw c.in-Detach.is (record {
   answer = c.flush_answer.result;
   row = Then-goes_on NeedsAttached (λ a. Detaches) _ _ (attachment_of c.args.provider) _ _ (refl, refl)
       (record {
@@ -42,26 +46,29 @@ returns-in-Detach-clause-serves g c = rw c.in-Detach.is (λ cabinet entropy. rec
         holding = refl;
         outside = record { cabinet = refl; entropy = refl };
       });
-  replied = c.done_or.ensures.reply _;
+  replied = c.done_or-in-Detach.ensures.reply _;
 })
 
 pub returns-in-Read-clause-serves : goal.returns-in-Read-clause-serves
-returns-in-Read-clause-serves g c = rw c.in-Read.is (λ cabinet entropy. record {
+returns-in-Read-clause-serves g c = rw c.in-Read.is (record {
   answer = bytes_read c.read-answer.new.buffer c.read-answer.result;
-  row = c.read-answer.ensures.row cabinet entropy;
+  row = c.read-answer.ensures.row _ _;
   replied = c.payload_or.ensures.reply c.read-answer.new.buffer;
 })
 
 pub returns-in-Write-clause-serves : goal.returns-in-Write-clause-serves
-returns-in-Write-clause-serves g c = rw c.in-Write.is (λ cabinet entropy. record {
-  answer = c.write-answer.result;
-  row = subst (λ (digits : List ℕ). WriteRow c.in-Write.sector (bytes_spelled digits) (at g.D.Disk.state cabinet entropy c.args.provider) c.write-answer.result (at g.D.Disk.state cabinet entropy c.write-answer.new.provider))
-      c.bytes_in.ensures (c.write-answer.ensures cabinet entropy);
-  replied = c.done_or-in-Write.ensures.reply _;
-})
+returns-in-Write-clause-serves g c =
+    let cabinet = g.C.Cabinet.state c.args.files.now in
+    let entropy = g.E.Entropy.state c.args.entropy.now in
+    rw c.in-Write.is (record {
+      answer = c.write-answer.result;
+      row = subst (λ (digits : List ℕ). WriteRow c.in-Write.sector (bytes_spelled digits) (at g.D.Disk.state cabinet entropy c.args.provider) c.write-answer.result (at g.D.Disk.state cabinet entropy c.write-answer.new.provider))
+          c.bytes_in.ensures (c.write-answer.ensures cabinet entropy);
+      replied = c.done_or-in-Write.ensures.reply _;
+    })
 
 pub returns-in-Flush-clause-serves : goal.returns-in-Flush-clause-serves
-returns-in-Flush-clause-serves g c = rw c.in-Flush.is (λ cabinet entropy. record {
+returns-in-Flush-clause-serves g c = rw c.in-Flush.is (record {
   answer = c.flush_answer-answer.result;
   row = Then-goes_on NeedsAttached (λ a. Does (Flush ∷ [])) _ _ (attachment_of c.args.provider) _ _ (refl, refl)
       (record {
@@ -71,3 +78,59 @@ returns-in-Flush-clause-serves g c = rw c.in-Flush.is (λ cabinet entropy. recor
       });
   replied = c.done_or-in-Flush.ensures.reply _;
 })
+
+pub returns-in-Setkey-clause-serves : goal.returns-in-Setkey-clause-serves
+returns-in-Setkey-clause-serves g c =
+    let now = c.setkey_attached-answer.new.place in
+    let then = c.args.provider in
+    let told = c.rest_tells_all-in-Setkey.ensures now.keying then.keying now.slot then.slot now.readonly then.readonly c.setkey_attached-answer.ensures.rest in
+    rw c.in-Setkey.is (record {
+      answer = c.setkey_attached-answer.result;
+      row = setkey_attached_row _ c.in-Setkey.iterations c.in-Setkey.slot _ _ _ _ _ _ _ _ _ _ _
+          (c.unwrap_or-target.ensures ∙ ap (λ (n : ℕ). unwrap_or c.in-Setkey.slot n) c.slot.ensures) c.master-master.ensures
+          (kept_holding then now (record { keying = told.0; slot = told.1; readonly = told.2 })) (c.setkey_attached-answer.ensures.row _ _);
+      replied = c.done_or.ensures.reply _;
+    })
+
+pub returns-in-Delkey-clause-serves : goal.returns-in-Delkey-clause-serves
+returns-in-Delkey-clause-serves g c =
+    let now = c.delkey-answer.new.place in
+    let then = c.args.provider in
+    let told = c.rest_tells_all-in-Delkey.ensures now.keying then.keying now.slot then.slot now.readonly then.readonly c.delkey-answer.ensures.rest in
+    rw c.in-Delkey.is (record {
+      answer = c.delkey-answer.result;
+      row = delkey_attached_row _ _ c.in-Delkey.slot _ _ _ _ _ _ _ _ _
+          (c.or-slot.ensures ∙ ap (λ (n : ℕ). option_or c.in-Delkey.slot (Some n)) c.slot-in-Delkey.ensures)
+          (kept_holding then now (record { keying = told.0; slot = told.1; readonly = told.2 })) (c.delkey-answer.ensures.row _ _);
+      replied = c.done_or-in-Delkey.ensures.reply _;
+    })
+
+pub returns-in-Kill-clause-serves : goal.returns-in-Kill-clause-serves
+returns-in-Kill-clause-serves g c = rw c.in-Kill.is (record {
+  answer = c.kill-answer.result;
+  row = kill_attached_row g.D.Disk.state _ _ _ _ _ _ _ _ c.withdraw-disk.ensures (c.kill-answer.ensures (IsAttached (attachment_of c.args.provider)) _);
+  replied = c.done_or-in-Kill.ensures.reply _;
+})
+
+pub returns-in-Backup-clause-serves : goal.returns-in-Backup-clause-serves
+returns-in-Backup-clause-serves g c =
+    let now = c.backup-answer.new.place in
+    let then = c.args.provider in
+    let told = c.rest_tells_all-in-Backup.ensures now.keying then.keying now.slot then.slot now.readonly then.readonly c.backup-answer.ensures.rest in
+    rw c.in-Backup.is (record {
+      answer = c.backup-answer.result;
+      row = backup_attached_row _ _ _ _ _ _ _ _ _ _ (kept_holding then now (record { keying = told.0; slot = told.1; readonly = told.2 })) (c.backup-answer.ensures.row _ _);
+      replied = c.done_or-in-Backup.ensures.reply _;
+    })
+
+pub returns-in-Restore-clause-serves : goal.returns-in-Restore-clause-serves
+returns-in-Restore-clause-serves g c = rw c.in-Restore.is (record { answer = Err refusals.StillAttached; row = Then-refused _ _ _ _ _ (refl, refl); replied = refl })
+
+pub returns-in-Resize-clause-serves : goal.returns-in-Resize-clause-serves
+returns-in-Resize-clause-serves g c = rw c.in-Resize.is (record { answer = Err refusals.StillAttached; row = Then-refused _ _ _ _ _ (refl, refl); replied = refl })
+
+pub returns-in-Fill-clause-serves : goal.returns-in-Fill-clause-serves
+returns-in-Fill-clause-serves g c = rw c.in-Fill.is (record { answer = c.fill-answer.result; row = c.fill-answer.ensures _ _; replied = c.done_or-in-Fill.ensures.reply _ })
+
+pub returns-in-Sum-clause-serves : goal.returns-in-Sum-clause-serves
+returns-in-Sum-clause-serves g c = rw c.in-Sum.is (record { answer = c.sum-answer.result; row = c.sum-answer.ensures _ _; replied = c.digest_or.ensures.reply _ })

@@ -1,6 +1,6 @@
 use Rattle.std.proofs.Common.{◌∙◌, ℕ, refl, subst, sym}
 use Rattle.shelf.specs.Answer.{FitsPayload}
-use Rattle.shelf.proofs.Places.{ChangesAt-set, insert-remove, whole_buffer}
+use Rattle.shelf.proofs.Places.{ChangesAt-set, ServesAt-out, ServesAt-row, insert-remove, whole_buffer}
 use Rattle.shelf.proofs.drawers.Drawers.serve.Goals as goal
 
 pub returns-clause-turn : goal.returns-clause-turn
@@ -10,8 +10,16 @@ returns-clause-turn g c =
     let len = c.serve-drawer.auto.buffer ∙ c.as_mut_slice-buffer.ensures.len in
     let whole = whole_buffer c.serve-drawer.new.buffer c.self.inside.buffer.items c.self.inside.buffer.len len in
     rw (← c.self.view_is, ← c.in-Some.ensures, ← found, c.put_back.ensures.items, c.remove-drawer.ensures.items, insert-remove c.self.inside.drawers.items c.in-Some-find.place c.serve-drawer.result.0 bound, whole)
+    (ServesAt-row _ _ _ _ _ _ (sym c.takes_out.ensures ∙ c.if-takes_out.false)
     (ChangesAt-set g.D.Disk.state _ _ _ _ c.self.inside.drawers.items c.in-Some-find.place c.remove-drawer.result c.serve-drawer.result.0 bound c.remove-drawer.ensures.value c.serve-drawer.ensures.name refl refl
-    c.serve-drawer.ensures.serves)
+    c.serve-drawer.ensures.serves))
+
+pub returns-then-takes_out-clause-turn : goal.returns-then-takes_out-clause-turn
+returns-then-takes_out-clause-turn g c =
+    let found = rw (c.deref.ensures.value, c.bytes_in-name.ensures) at c.in-Some-find.ensures.found in
+    let bound = rw c.deref.ensures.value at c.in-Some-find.ensures.bound in
+    rw (← c.self.view_is, ← c.in-Some.ensures, ← found, c.remove-drawer.ensures.items)
+    (ServesAt-out g.D.Disk.state _ _ _ _ c.self.inside.drawers.items c.in-Some-find.place c.remove-drawer.result bound c.remove-drawer.ensures.value (sym c.takes_out.ensures ∙ c.if-takes_out.true) refl refl)
 
 pub returns-clause-payload : goal.returns-clause-payload
 returns-clause-payload g c =

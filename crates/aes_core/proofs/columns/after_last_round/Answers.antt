@@ -1,0 +1,10 @@
+use Rattle.std.proofs.Common.{arith}
+use Rattle.aes_core.specs.Aes.{round_key}
+use Rattle.aes_core.proofs.KeyBytes.{IsState-block}
+use Rattle.aes_core.proofs.ColumnLaws.{last_round_is}
+use Rattle.aes_core.proofs.columns.after_last_round.Goals as goal
+
+pub returns : goal.returns
+returns c s state e =
+    last_round_is c.args.w s (round_key c.args.keys.now c.args.r) c.key_columns-key.result _ _ _ _ state (IsState-block c.args.keys.now c.args.r c.fits-keys (omega arith)) e c.key_columns-key.ensures
+    c.substituted.ensures c.substituted-2.ensures c.substituted-3.ensures c.substituted-4.ensures

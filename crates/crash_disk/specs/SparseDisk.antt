@@ -1,0 +1,31 @@
+-- What a disk in memory is that keeps written sectors alone.
+use Rattle.std.specs.Prelude.{ℕ, List, slice_set}
+use Rattle.block_traits.specs.Content.{Content}
+use Rattle.block_traits.specs.Disk.{DiskState, showing}
+use Rattle.crash_disk.specs.declared.sparse_disk.SparseDisk.{SparseDisk}
+use Rattle.crash_disk.specs.declared.write_log.WriteLog.{WriteLog}
+use Rattle.crash_disk.specs.MemDisk.{MemState}
+use Rattle.crash_disk.specs.Replay.{content}
+use Rattle.crash_disk.specs.Writes.{written}
+
+abbrev pub content_of : WriteLog → Content
+content_of log = content (written log.size log.first.items) log.events.items
+
+abbrev pub state_of : SparseDisk → MemState
+state_of disk = record {
+  content = content_of disk.log;
+  room = disk.log.room;
+  faults = disk.faults;
+  plan = disk.plan;
+}
+
+-- as a disk
+abbrev pub disk_of : SparseDisk → DiskState
+disk_of disk = showing (content_of disk.log) disk.faults disk.plan.reads disk.log.small disk.log.fits
+
+-- sector n held these bytes at first
+abbrev pub with_first : ℕ → List ℕ → Content → Content
+with_first n bytes c = content (slice_set c.base n bytes) c.history
+
+abbrev pub after_put : ℕ → List ℕ → MemState → MemState
+after_put n bytes state = record state { content = with_first n bytes state.content }

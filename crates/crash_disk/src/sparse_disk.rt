@@ -1,0 +1,195 @@
+// A disk in memory that keeps written sectors alone.
+ghost use Rattle.std.specs.Prelude.{◌≡◌, ◌<◌, ◌≤◌, ◌^◌, ◌∷◌, [], IfOk, OnOk, OnErr, is_err, get_or, length, replicate, take};
+ghost use Rattle.block_traits.specs.Content.{present};
+ghost use Rattle.crash_disk.specs.Image.{zero_sector};
+ghost use Rattle.crash_disk.specs.Replay.{replayed};
+ghost use Rattle.crash_disk.specs.Writes.{written};
+
+use crate::plan::{CallKind, FailAt, Plan};
+use crate::write_log::WriteLog;
+use block_traits::{Disk, DiskFailed, Event, NoMemory, Sector};
+use std::alloc::Global;
+
+/// A disk in memory of any size, which keeps written sectors alone: the others hold zeros. It tells
+/// its content and shows its events. A read looks at each write that was made.
+#[derive(Drop)]
+pub struct SparseDisk {
+    log: WriteLog,
+    plan: Plan,
+    faults: u64,
+}
+
+impl SparseDisk {
+    ghost use Rattle.block_traits.specs.Content.{IsEventOf};
+    ghost use Rattle.crash_disk.specs.Count.{one_more};
+    ghost use Rattle.crash_disk.specs.MemDisk.{after_change, change_fails, fresh, with_plan};
+    ghost use Rattle.crash_disk.specs.Plan.{no_plan, with_entries};
+    ghost use Rattle.crash_disk.specs.SparseDisk.{after_put, content_of, disk_of, state_of};
+
+    /// A disk of so many sectors of zeros, with room for so many events.
+    pub fn new(alloc: Global, sectors: u64, room: u64) -> Result<SparseDisk, NoMemory>
+        requires { sectors < 2 ^ 44 }
+        ensures { IfOk result (λ disk. state_of disk ≡ fresh (replicate sectors zero_sector) room) }
+    {
+        let log = WriteLog::new(alloc, sectors, Vec::new(alloc), room)?;
+        Ok(SparseDisk::of(alloc, log))
+    }
+
+    /// A disk that had from the start what this one had after its first events. It has the same room.
+    pub fn at(&self, alloc: Global, moment: usize) -> Result<SparseDisk, NoMemory>
+        requires { moment ≤ length (state_of self.now).content.history }
+        ensures { let content = (state_of self.now).content in
+            IfOk result (λ disk. state_of disk ≡ fresh (replayed content.base (take moment content.history)) (state_of self.now).room) }
+    {
+        Ok(SparseDisk::of(alloc, self.log.at(alloc, moment)?))
+    }
+
+    // A disk of these sectors, of which no call was made.
+    fn of(alloc: Global, log: WriteLog) -> SparseDisk
+        ensures { state_of result ≡ record { content = content_of log; room = log.room; faults = 0; plan = no_plan } }
+    {
+        SparseDisk {
+            log,
+            plan: Plan::new(alloc),
+            faults: 0,
+        }
+    }
+
+    /// Makes sector `n` hold these bytes at first. The history stays.
+    pub fn put(&mut self, n: u64, bytes: &Sector) -> Result<(), NoMemory>
+        requires { n < (disk_of self.old).size }
+        ensures ok { OnOk result (state_of self.new ≡ after_put n bytes.now (state_of self.old)) }
+        ensures err { OnErr result (state_of self.new ≡ state_of self.old) }
+    {
+        self.log.put(n, bytes)
+    }
+
+    /// Sets which calls fail from now on, by their numbers since the disk was made. Of two entries
+    /// for one call the first counts.
+    pub fn fail_calls(&mut self, list: &[FailAt]) -> Result<(), NoMemory>
+        ensures ok { OnOk result (state_of self.new ≡ with_plan (with_entries list.now (state_of self.old).plan) (state_of self.old)) }
+        ensures err { OnErr result (state_of self.new ≡ state_of self.old) }
+    {
+        self.plan.set(list)
+    }
+
+    /// What was done to the disk, the oldest event first.
+    pub fn history(&self) -> &[Event]
+        ensures { result.now ≡ (state_of self.now).content.history }
+    {
+        self.log.events()
+    }
+
+    /// What was written over zeros at first.
+    pub fn earlier(&self) -> &[Event]
+        ensures { written (disk_of self.now).size result.now ≡ (state_of self.now).content.base }
+    {
+        self.log.earlier()
+    }
+
+    /// What sector `n` held at first.
+    pub fn first(&self, n: u64) -> Sector
+        requires { n < (disk_of self.now).size }
+        ensures { result ≡ get_or (state_of self.now).content.base n [] }
+    {
+        self.log.first(n)
+    }
+
+    /// What stands in sector `n` now. This is no call that is counted.
+    pub fn get(&self, n: u64) -> Sector
+        requires { n < (disk_of self.now).size }
+        ensures { result ≡ present (state_of self.now).content n }
+    {
+        self.log.get(n)
+    }
+
+    /// How many events there is room for.
+    pub fn room(&self) -> u64
+        ensures { result ≡ (state_of self.now).room }
+    {
+        self.log.room()
+    }
+
+    // Appends an event, or fails, as the plan and the room say.
+    fn change(&mut self, kind: CallKind, event: Event) -> Result<(), DiskFailed>
+        requires { IsEventOf (disk_of self.old).size event }
+        ensures answer { is_err result ≡ change_fails kind (state_of self.old) }
+        ensures after { state_of self.new ≡ after_change kind event (state_of self.old) }
+        ensures later { self.old.faults ≤ self.new.faults }
+    {
+        match (self.log.is_full(), self.plan.next(kind)) {
+            (false, None) => {
+                self.log.append(event);
+                Ok(())
+            }
+            (false, Some(true)) => {
+                self.log.append(event);
+                Err(self.fail())
+            }
+            _ => Err(self.fail()),
+        }
+    }
+
+    // Counts a failure.
+    fn fail(&mut self) -> DiskFailed
+        ensures after { self.new ≡ record self.old { faults = one_more self.old.faults } }
+        ensures later { self.old.faults ≤ self.new.faults }
+    {
+        self.faults = self.faults.saturating_add(1);
+        DiskFailed
+    }
+}
+
+impl Disk for SparseDisk {
+    ghost use Rattle.block_traits.specs.Causes.{Counted};
+    ghost use Rattle.block_traits.specs.Disk.{FailsIn, Gives, Logs};
+    ghost use Rattle.crash_disk.specs.MemDisk.{after_change, after_read, change_fails, read_fails};
+    ghost use Rattle.crash_disk.specs.SparseDisk.{disk_of, state_of};
+
+    ghost state = { disk_of };
+
+    fn sectors(&self) -> u64 {
+        self.log.len()
+    }
+
+    fn read(&mut self, n: u64, into: &mut Sector) -> Result<(), DiskFailed>
+        requires { n < (disk_of self.old).size }
+        ensures bytes { OnOk result (Gives (disk_of self.old) n into.new) }
+        ensures ok { OnOk result (Logs [] (disk_of self.old) (disk_of self.new)) }
+        ensures err { OnErr result (FailsIn [] (disk_of self.old) (disk_of self.new)) }
+        ensures asked { Counted 1 (disk_of self.old).reads (disk_of self.new).reads }
+        ensures answer { is_err result ≡ read_fails (state_of self.old) }
+        ensures after { state_of self.new ≡ after_read (state_of self.old) }
+    {
+        if self.plan.next(CallKind::Read).is_some() {
+            return Err(self.fail());
+        }
+        *into = self.log.get(n);
+        Ok(())
+    }
+
+    fn write(&mut self, n: u64, from: &Sector) -> Result<(), DiskFailed>
+        requires { n < (disk_of self.old).size }
+        ensures ok { OnOk result (Logs (Event.Write n from.now ∷ []) (disk_of self.old) (disk_of self.new)) }
+        ensures err { OnErr result (FailsIn (Event.Write n from.now ∷ []) (disk_of self.old) (disk_of self.new)) }
+        ensures unasked { (disk_of self.new).reads ≡ (disk_of self.old).reads }
+        ensures answer { is_err result ≡ change_fails CallKind.Write (state_of self.old) }
+        ensures after { state_of self.new ≡ after_change CallKind.Write (Event.Write n from.now) (state_of self.old) }
+    {
+        self.change(CallKind::Write, Event::Write { n, bytes: *from })
+    }
+
+    fn flush(&mut self) -> Result<(), DiskFailed>
+        ensures ok { OnOk result (Logs (Event.Flush ∷ []) (disk_of self.old) (disk_of self.new)) }
+        ensures err { OnErr result (FailsIn (Event.Flush ∷ []) (disk_of self.old) (disk_of self.new)) }
+        ensures unasked { (disk_of self.new).reads ≡ (disk_of self.old).reads }
+        ensures answer { is_err result ≡ change_fails CallKind.Flush (state_of self.old) }
+        ensures after { state_of self.new ≡ after_change CallKind.Flush Event.Flush (state_of self.old) }
+    {
+        self.change(CallKind::Flush, Event::Flush)
+    }
+
+    fn events(&self) -> Option<&[Event]> {
+        Some(self.log.events())
+    }
+}

@@ -1,0 +1,126 @@
+-- How many refusals for a failure a run may print: at most as many as the count of such failures rose by.
+use Rattle.std.specs.Prelude.{◌≡◌, ◌⊎◌, ℕ, ◌+◌, ◌-◌, ◌^◌, ◌<◌, ◌≤◌, ◌==◌, ◌&&◌, not, if◌then◌else◌, Bool, true, false, List, [], ◌∷◌, ◌++◌, Option, None, Some, Result, Ok, slice_get}
+use Rattle.block_traits.specs.Causes.{Rose}
+use Rattle.command_words.specs.declared.commands.Command.{Command}
+use Rattle.command_words.specs.declared.commands.Usage.{Usage}
+use Rattle.command_words.specs.declared.spans.Sep.{Sep}
+use Rattle.eli_base.specs.declared.refusals.Refusal.TheVariants as refusals
+use Rattle.key_components.specs.Files.{passphrase_limit}
+use Rattle.shelf.specs.Answer.{Answer}
+use Rattle.shelf.specs.Answer as answers
+use Rattle.shelf.specs.Causes.{AttachedWith}
+use Rattle.shelf.specs.Turn.{takes_out}
+use Rattle.shelf.specs.World.{DrawerState, World, place_of}
+use Rattle.geli_core.specs.Histories.{ejects, names}
+use Rattle.geli_core.specs.Run.{Run}
+
+-- the drawer was attached, and its disk's count of faults rose, or stands at its last value
+pub record FailedAttached (old new : DrawerState) : Type 0 where
+  pub attached : AttachedWith old.holding (λ a. Unit {0})
+  pub rose : Rose old.disk.faults new.disk.faults
+
+-- one more than those behind, where this drawer failed
+pub record FailedToo (Behind : ℕ → Type 0) (many : ℕ) (old new : DrawerState) : Type 0 where
+  pub behind : ℕ
+  pub one_more : many ≡ 1 + behind
+  pub failed : FailedAttached old new
+  pub others : Behind behind
+
+-- of these drawers, before and after, so many failed, each counted once
+abbrev pub ManyFailed : ℕ → List DrawerState → List DrawerState → Type 0
+ManyFailed many [] [] = many ≡ 0
+ManyFailed many (old ∷ olds) (new ∷ news) = ManyFailed many olds news ⊎ FailedToo (λ behind. ManyFailed behind olds news) many old new
+ManyFailed many [] (new ∷ news) = ⊥
+ManyFailed many (old ∷ olds) [] = ⊥
+
+-- the lines were served, and then so many of the drawers failed while they were closed
+pub record ClosesWithFailures (sep : Sep) (old : World) (lines : List (List ℕ)) (answers : List (Option Answer)) (failed : ℕ) (new : World) : Type 0 where
+  pub middle : World
+  pub run : Run sep old lines answers middle
+  pub many : ManyFailed failed middle.drawers new.drawers
+
+-- ---- the replies to lines
+
+-- whether a line is answered that a disk failed
+abbrev pub is_device_fault : Option Answer → Bool
+is_device_fault (Some (answers.Refused refusals.DeviceFault)) = true
+is_device_fault answer = false
+
+-- so many lines that name a drawer were answered so
+abbrev pub device_faults : Sep → List ℕ → List (List ℕ) → List (Option Answer) → ℕ
+device_faults sep name (line ∷ lines) (answer ∷ answers) = (if names sep line name && is_device_fault answer then 1 else 0) + device_faults sep name lines answers
+device_faults sep name lines answers = 0
+
+-- a line takes no drawer out
+abbrev pub KeepsAll : Result (Option Command) Usage → Type 0
+KeepsAll (Ok (Some command)) = takes_out command ≡ false
+KeepsAll read = Unit {0}
+
+-- the drawer stands where it stood, and its disk's count of faults rose at least by as many, unless it stands at its last value
+pub record RisesBy (many : ℕ) (before : DrawerState) (place : ℕ) (new : World) : Type 0 where
+  pub after : DrawerState
+  pub there : slice_get new.drawers place ≡ Some after
+  pub later : before.disk.faults ≤ after.disk.faults
+  pub bound : after.disk.faults < 2 ^ 64 - 1 → before.disk.faults + many ≤ after.disk.faults
+
+-- ---- drawers that lines may take out
+
+-- no two drawers have one name
+abbrev pub NamesDiffer : List DrawerState → Type 0
+NamesDiffer [] = Unit {0}
+NamesDiffer (drawer ∷ drawers) = (place_of drawer.name drawers ≡ None) × NamesDiffer drawers
+
+-- the drawer has its name still, wherever it stands, and its disk's count of faults rose so
+pub record RisesNamed (many : ℕ) (before : DrawerState) (name : List ℕ) (new : World) : Type 0 where
+  pub place : ℕ
+  pub named : place_of name new.drawers ≡ Some place
+  pub rises : RisesBy many before place new
+
+-- one of the lines takes the drawer out, and it rose so before that line
+pub record RisesUntilOut (sep : Sep) (lines : List (List ℕ)) (answers : List (Option Answer)) (many : ℕ) (before : DrawerState) (name : List ℕ) (old new : World) : Type 0 where
+  pub served : List (List ℕ)
+  pub out : List ℕ
+  pub behind : List (List ℕ)
+  pub are : lines ≡ served ++ out ∷ behind
+  pub ejected : ejects sep out name ≡ true
+  pub said : List (Option Answer)
+  pub last : List (Option Answer)
+  pub answered : answers ≡ said ++ last
+  pub middle : World
+  pub run : Run sep old served said middle
+  pub goes_on : Run sep middle (out ∷ behind) last new
+  pub rises : RisesNamed many before name middle
+
+-- ---- the cabinet and the entropy
+
+-- whether a line is answered that the cabinet failed
+abbrev pub is_cabinet_fault : Option Answer → Bool
+is_cabinet_fault (Some (answers.Refused (refusals.CabinetFault word))) = true
+is_cabinet_fault answer = false
+
+-- that the entropy failed
+abbrev pub is_entropy_fault : Option Answer → Bool
+is_entropy_fault (Some (answers.Refused refusals.EntropyFault)) = true
+is_entropy_fault answer = false
+
+-- that a file was absent, or longer than a file may be; passphrases have a limit of their own
+abbrev pub is_miss : Option Answer → Bool
+is_miss (Some (answers.Refused (refusals.FileAbsent word))) = true
+is_miss (Some (answers.Refused (refusals.FileTooLong word limit))) = not (limit == passphrase_limit)
+is_miss answer = false
+
+-- how many answers are such
+abbrev pub how_many : (Option Answer → Bool) → List (Option Answer) → ℕ
+how_many is [] = 0
+how_many is (answer ∷ answers) = (if is answer then 1 else 0) + how_many is answers
+
+-- a count didn't fall, and rose at least by so many, unless it stands at its last value
+pub record RoseBy (many before now : ℕ) : Type 0 where
+  pub later : before ≤ now
+  pub bound : now < 2 ^ 64 - 1 → before + many ≤ now
+
+-- so it is with the counts of the cabinet and the entropy, and the answers for their failures
+pub record CountsOutside (answers : List (Option Answer)) (old new : World) : Type 0 where
+  pub cabinet : RoseBy (how_many is_cabinet_fault answers) old.cabinet.faults new.cabinet.faults
+  pub misses : RoseBy (how_many is_miss answers) old.cabinet.misses new.cabinet.misses
+  pub entropy : RoseBy (how_many is_entropy_fault answers) old.entropy.faults new.entropy.faults

@@ -1,0 +1,58 @@
+-- What the lines of a run leave of each drawer's disk if power fails at any moment of them.
+use Rattle.std.specs.Prelude.{◌≡◌, ◌⊎◌, ℕ, ◌<◌, List, Option, IfSome}
+use Rattle.std.specs.Option.{option_map}
+use Rattle.block_traits.specs.Content.{Content}
+use Rattle.command_words.specs.declared.spans.Sep.{Sep}
+use Rattle.eli_base.specs.Keying.{Keying}
+use Rattle.range_keys.specs.Ring.{IsKeying}
+use Rattle.readings.specs.Crashes.{Endures}
+use Rattle.readings.specs.Steps.{Step, after}
+use Rattle.readings.specs.Survivors.{AreSteps, media}
+use Rattle.shelf.specs.Answer.{Answer}
+use Rattle.shelf.specs.World.{DrawerState, World}
+use Rattle.geli_core.specs.Placing.{DrawerPlaces, DrawerPlacesAndCloses, HoldKeyings, IsAmong}
+use Rattle.geli_core.specs.Run.{RunsAndCloses}
+
+-- What is promised of steps that were done on a disk that had this content before: each of their writes has a number of its own, and at
+-- each moment of them each logical sector endures a crash, under each keying.
+pub record EnduresCrashes (steps : List Step) (c : Content) : Type 0 where
+  pub fit : AreSteps steps
+  pub endures : (t : ℕ) (k : Keying) (sector : ℕ) → IsKeying k → sector < media k c → Endures c steps t k sector
+
+-- A drawer that is there in the end was there before under its name, and did these steps line by line. Where its disk tells its content, the
+-- history grew by exactly the events of the steps, and they endure crashes.
+pub record SurvivesBy (Places : DrawerState → List Step → DrawerState → Type 0) (olds : List DrawerState) (new : DrawerState) : Type 0 where
+  pub before : DrawerState
+  pub was : IsAmong olds before
+  pub name : new.name ≡ before.name
+  pub steps : List Step
+  pub places : Places before steps new
+  pub content : new.disk.content ≡ option_map (after steps) before.disk.content
+  pub endures : IfSome before.disk.content (EnduresCrashes steps)
+
+-- the same of each drawer that is there after lines were served
+abbrev pub EachSurvives : Sep → List (List ℕ) → List (Option Answer) → World → World → Type 0
+EachSurvives sep lines answers old new = (drawer : DrawerState) → IsAmong new.drawers drawer → SurvivesBy (DrawerPlaces 0 sep old lines answers new) old.drawers drawer
+
+-- and after the drawers were closed
+abbrev pub EachSurvivesClosing : Sep → List (List ℕ) → List (Option Answer) → World → World → Type 0
+EachSurvivesClosing sep lines answers old new = (drawer : DrawerState) → IsAmong new.drawers drawer → SurvivesBy (DrawerPlacesAndCloses sep old lines answers) old.drawers drawer
+
+-- lines were served, and then the drawers were closed
+pub record Ran (old new : World) : Type 0 where
+  pub sep : Sep
+  pub lines : List (List ℕ)
+  pub answers : List (Option Answer)
+  pub failed : ℕ
+  pub runs : RunsAndCloses sep old lines answers failed new
+
+-- Nothing was done, or lines were served and the drawers closed; and by whatever lines that came about, each drawer that is there then
+-- endures crashes at each moment from entry to exit.
+pub record RunSurvives (old new : World) : Type 0 where
+  pub ran : (new ≡ old) ⊎ Ran old new
+  pub each : (sep : Sep) (lines : List (List ℕ)) (answers : List (Option Answer)) (failed : ℕ) → RunsAndCloses sep old lines answers failed new →
+      EachSurvivesClosing sep lines answers old new
+
+-- The headline of a run. Its premise: what is attached at entry has a keying that a provider may have.
+abbrev pub SurvivesCrashes : World → World → Type 0
+SurvivesCrashes old new = HoldKeyings old.drawers → RunSurvives old new

@@ -1,0 +1,37 @@
+// One line, with what holds of it whatever its row.
+ghost use Rattle.std.specs.Prelude.{◌≤◌, length};
+ghost use Rattle.command_words.specs.Reading.{line_limit};
+ghost use Rattle.shelf.specs.World.{world_of};
+ghost use Rattle.geli_core.specs.Laws.{ServesLawfully};
+
+use crate::serving;
+use crate::serving::LineEnd;
+use block_traits::{Cabinet, Disk, Entropy, Sink};
+use command_words::Sep;
+use reply_text::WriteEnd;
+use shelf::Drawers;
+
+/// Reads, serves and prints one line of at most 300,000 bytes. `Silent` comes exactly where the line says nothing, and
+/// `Refused` exactly where the printed reply is a refusal. `WriteEnd` comes only where the sink failed; the line was
+/// served all the same.
+///
+/// Of each such line holds, whatever its row, what the law `a_line_keeps_the_laws` says: why it's refused, that it is served where
+/// there is no cause of a refusal, which lines never answer want of memory, which drawer changes, and what its last sector may hold at
+/// each moment of a line that changes metadata, whenever power fails.
+pub fn serve_line<K: Sink, C: Cabinet, E: Entropy, D: Disk>(
+    shelf: &mut Drawers<D>,
+    line: &[u8],
+    sep: Sep,
+    output: &mut K,
+    files: &mut C,
+    entropy: &mut E,
+) -> Result<LineEnd, WriteEnd>
+    requires { length line.now ≤ line_limit }
+    ensures { ServesLawfully sep line.now
+        (world_of D.state shelf.old (C.state files.old) (E.state entropy.old))
+        (K.state output.old) result
+        (world_of D.state shelf.new (C.state files.new) (E.state entropy.new))
+        (K.state output.new) }
+{
+    serving::serve_line(shelf, line, sep, output, files, entropy)
+}

@@ -1,0 +1,30 @@
+// What a run leaves if power fails at any moment of it.
+ghost use Rattle.std.specs.Prelude.{ℕ, List, Option};
+ghost use Rattle.command_words.specs.declared.spans.Sep.{Sep};
+ghost use Rattle.geli_core.specs.Placing.{HoldKeyings};
+ghost use Rattle.geli_core.specs.Run.{Run, RunsAndCloses};
+ghost use Rattle.geli_core.specs.Survivors.{EachSurvives, EachSurvivesClosing};
+ghost use Rattle.shelf.specs.Answer.{Answer};
+ghost use Rattle.shelf.specs.World.{World};
+
+/// What is attached after some lines has a keying that a provider may have, where that was so before.
+pub fn lines_keep_keyings()
+    ensures { (sep : Sep) (lines : List (List ℕ)) (answers : List (Option Answer)) (old new : World) →
+        Run sep old lines answers new → HoldKeyings old.drawers → HoldKeyings new.drawers }
+{}
+
+/// Each drawer that is there after some lines was there before, and did the steps of its lines: a `write` placed the units of its
+/// logical sectors, or the first of them where the disk failed, with a number of its own and under the keying that was attached; all
+/// else is bytes that came in some other way. The history of its disk grew by exactly the events of the steps. So if power
+/// fails at any moment of the lines, each image that is left reads as `Endures` promises. Of a drawer that a line takes away the
+/// same holds after the lines before that one.
+pub fn lines_survive_crashes()
+    ensures { (sep : Sep) (lines : List (List ℕ)) (answers : List (Option Answer)) (old new : World) →
+        Run sep old lines answers new → HoldKeyings old.drawers → EachSurvives sep lines answers old new }
+{}
+
+/// The same of each drawer that is there after the drawers were closed, whose last step is the flush of that, or none.
+pub fn runs_survive_crashes()
+    ensures { (sep : Sep) (lines : List (List ℕ)) (answers : List (Option Answer)) (failed : ℕ) (old new : World) →
+        RunsAndCloses sep old lines answers failed new → HoldKeyings old.drawers → EachSurvivesClosing sep lines answers old new }
+{}

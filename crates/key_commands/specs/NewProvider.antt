@@ -1,0 +1,65 @@
+-- What `init` answers, and what it does to the disk and the entropy (geli(8), init).
+use Rattle.std.specs.Prelude.{◌≡◌, ℕ, List, length, None, Some, Result, Ok, Err}
+use Rattle.block_traits.specs.Disk.{DiskState, FailsIn, Logs, last_sector}
+use Rattle.block_traits.specs.Moments.{KeepsOldOr}
+use Rattle.block_traits.specs.Streams.{EntropyState, Takes, TakesNone}
+use Rattle.block_traits.specs.declared.disk.Event.{Event}
+use Rattle.eli_base.specs.declared.refusals.Refusal.{Refusal}
+use Rattle.eli_base.specs.declared.refusals.Refusal.TheVariants.{EntropyFault, DeviceFault}
+use Rattle.eli_metadata.specs.Place.{IsSectorOf, replace_events}
+use Rattle.eli_metadata.specs.declared.metadata.Metadata.{Metadata}
+use Rattle.user_key.specs.UserKey.{user_key}
+use Rattle.user_key.specs.declared.components.Components.{Components}
+use Rattle.user_key.specs.declared.components.UserKey.{UserKey}
+use Rattle.key_commands.specs.declared.options.InitOptions.{InitOptions}
+use Rattle.key_commands.specs.NewMetadata.{new_metadata}
+use Rattle.key_commands.specs.Options.{early_refusal}
+use Rattle.key_commands.specs.Random.{random_size, salt_in, master_key_in}
+use Rattle.key_commands.specs.Usable.{IsUsable}
+
+-- the metadata in the last sector are replaced
+abbrev pub init_events : DiskState → Metadata → List Event
+init_events disk m = replace_events disk m
+
+-- nothing is refused, the random bytes are taken, and the metadata are those that are made of them, which are of use: the
+-- user key of these components opens them to the master key among the random bytes
+pub record MakesMetadata (options : InitOptions) (parts : Components) (sectors : ℕ) (old : EntropyState) (m : Metadata) (new : EntropyState) : Type 0 where
+  pub served : early_refusal options parts sectors ≡ None
+  pub random : List ℕ
+  pub size : length random ≡ random_size
+  pub taken : Takes random old new
+  pub key : UserKey
+  pub derived : user_key parts (salt_in random) options.iterations ≡ Ok key
+  pub metadata : m ≡ new_metadata options sectors random key.bytes
+  pub usable : IsUsable options parts sectors m key (master_key_in random)
+
+-- the metadata were made, and written with all of the events
+pub record Writes (options : InitOptions) (parts : Components) (disk : DiskState) (entropy : EntropyState) (m : Metadata) (disk' : DiskState) (entropy' : EntropyState) : Type 0 where
+  pub makes : MakesMetadata options parts disk.size entropy m entropy'
+  pub logs : Logs (init_events disk m) disk disk'
+  pub kept : KeepsOldOr (IsSectorOf m) (last_sector disk) disk.content disk'.content
+
+-- the metadata were made, and the disk failed after a part of the events
+pub record WritesPart (options : InitOptions) (parts : Components) (disk : DiskState) (entropy : EntropyState) (disk' : DiskState) (entropy' : EntropyState) : Type 0 where
+  pub m : Metadata
+  pub makes : MakesMetadata options parts disk.size entropy m entropy'
+  pub fails : FailsIn (init_events disk m) disk disk'
+  pub kept : KeepsOldOr (IsSectorOf m) (last_sector disk) disk.content disk'.content
+
+-- there were no random bytes, and the disk is as it was
+pub record HasNoRandom (options : InitOptions) (parts : Components) (disk : DiskState) (entropy : EntropyState) (disk' : DiskState) (entropy' : EntropyState) : Type 0 where
+  pub served : early_refusal options parts disk.size ≡ None
+  pub none : TakesNone entropy entropy'
+  pub unchanged : disk' ≡ disk
+
+-- it is refused, and nothing was done
+pub record RefusesInit (options : InitOptions) (parts : Components) (disk : DiskState) (entropy : EntropyState) (refusal : Refusal) (disk' : DiskState) (entropy' : EntropyState) : Type 0 where
+  pub cause : early_refusal options parts disk.size ≡ Some refusal
+  pub disk_unchanged : disk' ≡ disk
+  pub entropy_unchanged : entropy' ≡ entropy
+
+abbrev pub Inits : InitOptions → Components → DiskState → EntropyState → Result Metadata Refusal → DiskState → EntropyState → Type 0
+Inits options parts disk entropy (Ok m) disk' entropy' = Writes options parts disk entropy m disk' entropy'
+Inits options parts disk entropy (Err DeviceFault) disk' entropy' = WritesPart options parts disk entropy disk' entropy'
+Inits options parts disk entropy (Err EntropyFault) disk' entropy' = HasNoRandom options parts disk entropy disk' entropy'
+Inits options parts disk entropy (Err refusal) disk' entropy' = RefusesInit options parts disk entropy refusal disk' entropy'

@@ -1,0 +1,35 @@
+// A page on which texts are gathered, so that the sink is given few pieces.
+ghost use Rattle.std.specs.Prelude.{◌≡◌, [], OnOk};
+ghost use Rattle.reply_text.specs.Output.{Prints, Puts};
+
+use crate::{WriteEnd, write_text};
+use arrayvec::ArrayVec;
+use block_traits::Sink;
+
+/// Texts that are still to be given to the sink, at most so many bytes of them.
+pub(crate) type Page = ArrayVec<u8, 16384>;
+
+/// Puts a text behind those on the page. Where the page has no room for it, the sink is given the page
+/// first.
+pub(crate) fn put<K: Sink>(text: &[u8], page: &mut Page, output: &mut K) -> Result<(), WriteEnd>
+    ensures { Puts text.now page.old.items (K.state output.old) result page.new.items (K.state output.new) }
+{
+    if page.try_extend_from_slice(text).is_ok() {
+        return Ok(());
+    }
+    give_page(page, output)?;
+    if page.try_extend_from_slice(text).is_ok() {
+        return Ok(());
+    }
+    write_text(text, output)
+}
+
+/// Gives the page to the sink, and clears it.
+pub(crate) fn give_page<K: Sink>(page: &mut Page, output: &mut K) -> Result<(), WriteEnd>
+    ensures printed { Prints page.old.items (K.state output.old) result (K.state output.new) }
+    ensures cleared { OnOk result (page.new.items ≡ []) }
+{
+    write_text(page.as_slice(), output)?;
+    page.clear();
+    Ok(())
+}

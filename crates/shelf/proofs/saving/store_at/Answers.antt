@@ -1,0 +1,13 @@
+use Rattle.std.proofs.Common.{refl}
+use Rattle.shelf.proofs.Storing.{store_failed}
+use Rattle.shelf.proofs.saving.store_at.Goals as goal
+
+pub returns-in-Err : goal.returns-in-Err
+returns-in-Err g c =
+    let e = c.in-Err.ensures in
+    λ disk holding entropy. rw c.store_refusal.ensures (record {
+      stores = store_failed c.args.line.now c.args.span c.args.bytes.now _ _ c.in-Err.fault (record { files = e.err; faults = e.later; misses = e.more_misses }) e.failed;
+      disk = refl;
+      holding = refl;
+      entropy = refl;
+    })

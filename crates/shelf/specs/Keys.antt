@@ -1,0 +1,141 @@
+-- The rows of the verbs that change keys, of an idle drawer and of an attached one: `setkey` and `delkey` (geli(8)).
+use Rattle.std.specs.Prelude.{◌≡◌, ℕ, ℤ, nat_le, Bool, true, false, List, Option, Some, None, unwrap_or, Result, Ok, Err, if◌then◌else◌}
+use Rattle.std.specs.Option.{option_or}
+use Rattle.command_words.specs.declared.spans.KeyWords.{KeyWords}
+use Rattle.eli_base.specs.declared.parameters.MasterKey.{MasterKey}
+use Rattle.eli_base.specs.declared.refusals.Refusal.{Refusal}
+use Rattle.eli_base.specs.declared.refusals.Refusal.TheVariants as refusals
+use Rattle.eli_metadata.specs.Check.{Settings, size_matches, supported}
+use Rattle.eli_metadata.specs.Refusals.{refusal_of}
+use Rattle.eli_metadata.specs.declared.metadata.Metadata.{Metadata}
+use Rattle.eli_metadata.specs.declared.metadata.MetaFault.{MetaFault}
+use Rattle.key_commands.specs.DeleteKeys.{DeletesKeys, Deletion}
+use Rattle.key_commands.specs.NewKey.{KeyChange}
+use Rattle.key_commands.specs.SetKey.{SetsKey}
+use Rattle.key_commands.specs.declared.overwriting.Which.{Which}
+use Rattle.key_commands.specs.declared.overwriting.Which.TheVariants as slots
+use Rattle.provider.specs.Attached.{opened}
+use Rattle.user_key.specs.UserKey.{user_key}
+use Rattle.user_key.specs.declared.components.Components.{Components}
+use Rattle.user_key.specs.declared.components.KeyFault.{KeyFault}
+use Rattle.user_key.specs.declared.components.UserKey.{UserKey}
+use Rattle.user_key.specs.Refusals.{key_refusal_of}
+use Rattle.shelf.specs.Steps.{Admits, Decides, LoadsComponents, ReadsLastSector, Then, after_slot, or_refusal}
+use Rattle.shelf.specs.World.{Holding, Idle, IsAttached, Reach}
+
+-- ---- steps
+
+-- a command of the crate below answers metadata; the row is done then
+abbrev pub without_value : {A : Type 0} → Result A Refusal → Result (Unit {0}) Refusal
+without_value (Ok value) = Ok tt
+without_value (Err refusal) = Err refusal
+
+-- a provider with these metadata can be used, in an image of this size, whether or not a slot holds a key
+abbrev pub with_size : Result Settings MetaFault → Result (Unit {0}) MetaFault → Result Settings MetaFault
+with_size (Ok settings) size = after_slot size settings
+with_size (Err fault) size = Err fault
+
+abbrev pub usable : Metadata → ℕ → Result Settings Refusal
+usable m sectors = or_refusal refusal_of (with_size (supported m) (size_matches m sectors))
+
+abbrev pub IsUsed : Metadata → Reach → Result Settings Refusal → Reach → Type 0
+IsUsed m old answer new = Decides (usable m old.disk.size) old answer new
+
+-- there is a slot of the number that is named, if one is
+abbrev pub if_there : Option ℕ → Result (Unit {0}) Refusal
+if_there None = Ok tt
+if_there (Some slot) = if nat_le slot 1 then Ok tt else Err (refusals.KeyNumberOutOfRange slot)
+
+abbrev pub NeedsSlot : Option ℕ → Reach → Result (Unit {0}) Refusal → Reach → Type 0
+NeedsSlot slot old answer new = Decides (if_there slot) old answer new
+
+-- the master key, and the first slot, that a user key opens
+abbrev pub or_wrong : Option (MasterKey × ℕ) → Result (MasterKey × ℕ) Refusal
+or_wrong None = Err refusals.WrongKey
+or_wrong (Some found) = Ok found
+
+abbrev pub opened_by : Metadata → Result UserKey KeyFault → Result (MasterKey × ℕ) Refusal
+opened_by m (Err fault) = Err (key_refusal_of fault)
+opened_by m (Ok key) = or_wrong (opened m key.bytes None)
+
+abbrev pub OpensSlot : Metadata → Components → Reach → Result (MasterKey × ℕ) Refusal → Reach → Type 0
+OpensSlot m parts old answer new = Decides (opened_by m (user_key parts m.salt m.iterations)) old answer new
+
+-- the new key is stored, and all else stays
+pub record StoresKey (asked : KeyChange) (old : Reach) (answer : Result (Unit {0}) Refusal) (new : Reach) : Type 0 where
+  pub made : Result Metadata Refusal
+  pub sets : SetsKey asked old.disk made new.disk
+  pub answered : answer ≡ without_value made
+  pub holding : new.holding ≡ old.holding
+  pub cabinet : new.cabinet ≡ old.cabinet
+  pub entropy : new.entropy ≡ old.entropy
+
+-- the slots that are named: both, or one
+abbrev pub named_slots : Bool → Option ℕ → Result Which Refusal
+named_slots true slot = Ok slots.All
+named_slots false (Some slot) = Ok (slots.One slot)
+named_slots false None = Err refusals.KeyNumberNeeded
+
+abbrev pub NamesSlots : Bool → Option ℕ → Reach → Result Which Refusal → Reach → Type 0
+NamesSlots all slot old answer new = Decides (named_slots all slot) old answer new
+
+-- the keys are taken out, and all else stays
+pub record TakesKeysOut (asked : Deletion) (old : Reach) (answer : Result (Unit {0}) Refusal) (new : Reach) : Type 0 where
+  pub made : Result Metadata Refusal
+  pub deletes : DeletesKeys asked old.disk old.entropy made new.disk new.entropy
+  pub answered : answer ≡ without_value made
+  pub holding : new.holding ≡ old.holding
+  pub cabinet : new.cabinet ≡ old.cabinet
+
+-- ---- `setkey`
+
+-- the new key is put where the named slot is, or else that which the old key opened
+abbrev pub SetsOpened : List ℕ → Option ℤ → Option ℕ → Metadata → Components → MasterKey × ℕ → Reach → Result (Unit {0}) Refusal → Reach → Type 0
+SetsOpened line iterations slot m fresh found old answer new =
+    StoresKey (record { meta = m; master = found.0.bytes; slot = unwrap_or slot found.1; iterations = iterations; parts = fresh }) old answer new
+
+-- of an idle drawer: the files of both keys are loaded, and the old key opens a slot
+abbrev pub SetkeyIdleRow : List ℕ → Option ℤ → Option ℕ → KeyWords → KeyWords → Reach → Result (Unit {0}) Refusal → Reach → Type 0
+SetkeyIdleRow line iterations slot words fresh old answer new =
+    Then ReadsLastSector
+    (λ m. Then (Admits m None)
+    (λ _. Then (NeedsSlot slot)
+    (λ _. Then (LoadsComponents line words)
+    (λ parts. Then (LoadsComponents line fresh)
+    (λ next. Then (OpensSlot m parts)
+    (λ found. SetsOpened line iterations slot m next found)))))) old answer new
+
+-- of an attached drawer, by this master key: the files of the new key alone are loaded, and it is put into this slot
+abbrev pub SetkeyAttachedRow : List ℕ → Option ℤ → ℕ → List ℕ → KeyWords → Reach → Result (Unit {0}) Refusal → Reach → Type 0
+SetkeyAttachedRow line iterations slot master fresh old answer new =
+    Then ReadsLastSector
+    (λ m. Then (IsUsed m)
+    (λ _. Then (NeedsSlot (Some slot))
+    (λ _. Then (LoadsComponents line fresh)
+    (λ parts. StoresKey (record { meta = m; master = master; slot = slot; iterations = iterations; parts = parts }))))) old answer new
+
+-- by what the drawer does with its disk; where no slot is named an attached drawer means that which gave its master key
+abbrev pub SetkeyBy : Holding → List ℕ → Option ℤ → Option ℕ → KeyWords → KeyWords → Reach → Result (Unit {0}) Refusal → Reach → Type 0
+SetkeyBy Idle line iterations slot words fresh old answer new = SetkeyIdleRow line iterations slot words fresh old answer new
+SetkeyBy (IsAttached a) line iterations slot words fresh old answer new = SetkeyAttachedRow line iterations (unwrap_or slot a.slot) a.keying.master fresh old answer new
+
+abbrev pub SetkeyRow : List ℕ → Option ℤ → Option ℕ → KeyWords → KeyWords → Reach → Result (Unit {0}) Refusal → Reach → Type 0
+SetkeyRow line iterations slot words fresh old answer new = SetkeyBy old.holding line iterations slot words fresh old answer new
+
+-- ---- `delkey`
+
+-- both slots, or the one of this number
+abbrev pub DeletesRow : Bool → Bool → Option ℕ → Reach → Result (Unit {0}) Refusal → Reach → Type 0
+DeletesRow all force slot old answer new =
+    Then ReadsLastSector
+    (λ m. Then (NamesSlots all slot)
+    (λ which. TakesKeysOut (record { meta = m; which = which; force = force }))) old answer new
+
+-- the slot that gave an attached provider its master key
+abbrev pub slot_of : Holding → Option ℕ
+slot_of Idle = None
+slot_of (IsAttached a) = Some a.slot
+
+-- where no slot is named an attached drawer means that one
+abbrev pub DelkeyRow : Bool → Bool → Option ℕ → Reach → Result (Unit {0}) Refusal → Reach → Type 0
+DelkeyRow all force slot old answer new = DeletesRow all force (option_or slot (slot_of old.holding)) old answer new

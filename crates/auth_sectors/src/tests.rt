@@ -215,7 +215,7 @@ fn ring_of(
     }
     assert!(rt;
         cipher.allows(keylen) && sector_size_ok(4_096),
-        "{keylen} bits"
+        "version {version} {auth:?} {cipher:?} {keylen}"
     );
     let params = Params::new(version, auth, cipher, keylen, 4_096, 0, false);
     Ok(KeyRing::new(alloc, &MasterKey { bytes }, &params)?)

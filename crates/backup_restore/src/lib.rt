@@ -3,10 +3,10 @@
 //! No call takes memory.
 #![tactic(auto)]
 
-mod saved;
+mod restoring;
+mod saving;
 #[cfg(test)]
 mod tests;
-mod written_back;
 
-pub use saved::backup;
-pub use written_back::restore;
+pub use restoring::restore;
+pub use saving::backup;

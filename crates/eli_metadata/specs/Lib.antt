@@ -1,4 +1,4 @@
-pub mod Check
+pub mod Checks
 pub mod Format
 pub mod Place
 pub mod Refusals

@@ -1,6 +1,6 @@
 // Whether a provider can be used by its metadata.
 ghost use Rattle.std.specs.Prelude.{◌≡◌, ◌<◌, ◌^◌, MatchResult, Ok, Err};
-ghost use Rattle.eli_metadata.specs.Check.{supported, settings_of, size_matches, slot_matches, cipher_of, auth_of, is_readonly};
+ghost use Rattle.eli_metadata.specs.Checks.{supported, settings_of, size_matches, slot_matches, cipher_of, auth_of, is_readonly};
 
 use crate::metadata::{FLAG_AUTH, FLAG_RO};
 use crate::{MetaFault, Metadata};

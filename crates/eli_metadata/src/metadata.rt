@@ -1,6 +1,6 @@
 // The fields of the metadata, and what may be wrong with them.
 ghost use Rattle.std.specs.Prelude.{◌≡◌, ◌<◌};
-ghost use Rattle.eli_metadata.specs.Check.{is_set};
+ghost use Rattle.eli_metadata.specs.Checks.{is_set};
 ghost use Rattle.eli_metadata.specs.Refusals.{refusal_of};
 
 use eli_base::Refusal;

@@ -19,14 +19,14 @@ use Rattle.eli_base.specs.declared.algorithms.Cipher.{Cipher}
 use Rattle.eli_base.specs.declared.parameters.MasterKey.{MasterKey}
 use Rattle.eli_base.specs.declared.refusals.Refusal.{Refusal}
 use Rattle.eli_base.specs.declared.refusals.Refusal.TheVariants as refusals
-use Rattle.eli_metadata.specs.Check.{Settings, auth_of, check_auth, check_cipher, check_size, cipher_of, size_matches, slot_matches, supported, unsupported_flags}
+use Rattle.eli_metadata.specs.Checks.{Settings, auth_of, check_auth, check_cipher, check_size, cipher_of, size_matches, slot_matches, supported, unsupported_flags}
 use Rattle.eli_metadata.specs.Refusals.{refusal_of}
 use Rattle.eli_metadata.specs.declared.metadata.Metadata.{Metadata}
 use Rattle.eli_metadata.specs.declared.metadata.MetaFault.{MetaFault}
 use Rattle.key_commands.specs.declared.options.InitOptions.{InitOptions}
 use Rattle.provider.specs.Attached.{opened}
 use Rattle.range_keys.specs.Ring.{IsKeying}
-use Rattle.user_key.specs.UserKey.{user_key}
+use Rattle.user_key.specs.Derivation.{user_key}
 use Rattle.user_key.specs.declared.components.KeyFault.{KeyFault}
 use Rattle.user_key.specs.declared.components.UserKey.{UserKey}
 use Rattle.shelf.specs.Answer.{Answer}

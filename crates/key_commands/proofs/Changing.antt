@@ -10,13 +10,13 @@ use Rattle.eli_base.specs.declared.algorithms.Cipher.{Cipher}
 use Rattle.eli_base.specs.declared.algorithms.Cipher.TheVariants.{AesCbc, AesXts}
 use Rattle.eli_base.specs.declared.refusals.Refusal.{Refusal}
 use Rattle.eli_base.specs.declared.refusals.Refusal.TheVariants as refusals
-use Rattle.eli_metadata.specs.Check.{are_clear, check_auth, check_cipher, auth_of, cipher_of, is_set, named_slot_opens, slot_matches, supported}
+use Rattle.eli_metadata.specs.Checks.{are_clear, check_auth, check_cipher, auth_of, cipher_of, is_set, named_slot_opens, slot_matches, supported}
 use Rattle.eli_metadata.specs.declared.metadata.Metadata.{Metadata}
 use Rattle.eli_metadata.specs.declared.metadata.MetaFault.{MetaFault}
 use Rattle.eli_metadata.specs.declared.metadata.MetaFault.TheVariants.{NoValidKeys}
 use Rattle.key_slots.specs.Slots.{IsKeyBits, Opens, SameSlot, with_slot, wrapped}
 use Rattle.key_slots.proofs.Changes.{OpensAsBefore-same}
-use Rattle.user_key.specs.UserKey.{user_key}
+use Rattle.user_key.specs.Derivation.{user_key}
 use Rattle.user_key.specs.declared.components.Components.{Components}
 use Rattle.user_key.specs.declared.components.KeyFault.{KeyFault}
 use Rattle.user_key.specs.declared.components.KeyFault.TheVariants.{PassphraseNotSet}

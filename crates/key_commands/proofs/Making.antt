@@ -16,7 +16,7 @@ use Rattle.key_commands.specs.declared.random.RandomParts.{RandomParts}
 use Rattle.key_commands.proofs.Keys.{inside-early_refusal}
 use Rattle.key_commands.proofs.Usable.{IsAccepted-metadata_of, OpensFirst-Opens, IsServed-early_refusal}
 use Rattle.key_slots.specs.Slots.{Opens, wrapped}
-use Rattle.user_key.specs.UserKey.{user_key}
+use Rattle.user_key.specs.Derivation.{user_key}
 use Rattle.user_key.specs.declared.components.Components.{Components}
 use Rattle.user_key.specs.declared.components.UserKey.{UserKey}
 

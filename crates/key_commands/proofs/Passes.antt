@@ -8,7 +8,7 @@ use Rattle.block_traits.specs.Disk.{DiskState, Logs, FailsIn, last_sector}
 use Rattle.block_traits.specs.Moments.{KeepsAlone}
 use Rattle.block_traits.specs.Overwriting.{passes_of, zeros}
 use Rattle.block_traits.proofs.Overwritten.{KeepsAlone-overwrite, KeepsOldOr-overwrite, KeepsOldOr-overwrite_part, flushed-overwrite, flushed-overwrite_part, length-passes_of}
-use Rattle.eli_metadata.specs.Check.{is_set}
+use Rattle.eli_metadata.specs.Checks.{is_set}
 use Rattle.eli_metadata.specs.Format.{IsInRange, encoded, is_served, metadata_in}
 use Rattle.eli_metadata.specs.declared.metadata.Metadata.{Metadata}
 use Rattle.eli_metadata.proofs.Laws.{metadata_in-encoded}

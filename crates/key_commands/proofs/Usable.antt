@@ -12,7 +12,7 @@ use Rattle.eli_base.specs.declared.algorithms.Cipher.TheVariants.{AesCbc, AesXts
 use Rattle.eli_base.specs.declared.parameters.MasterKey.{MasterKey}
 use Rattle.eli_base.specs.declared.refusals.Refusal.{Refusal}
 use Rattle.eli_base.specs.declared.refusals.Refusal.TheVariants as refusals
-use Rattle.eli_metadata.specs.Check.{Settings, supported}
+use Rattle.eli_metadata.specs.Checks.{Settings, supported}
 use Rattle.eli_metadata.specs.declared.metadata.MetaFault.{MetaFault}
 use Rattle.eli_metadata.specs.declared.metadata.Metadata.{Metadata}
 use Rattle.hmac_kdf.specs.Hmac.{hmac512}
@@ -20,7 +20,7 @@ use Rattle.hmac_kdf.proofs.Lengths.{length-hmac512}
 use Rattle.key_slots.specs.Slots.{IsSlotOf, Opens, check_code, deciphered, master_in, numbered, slot_bytes, unwrapped}
 use Rattle.key_slots.proofs.Parts.{take_front}
 use Rattle.key_slots.proofs.Texts.{master_of_text}
-use Rattle.user_key.specs.UserKey.{user_key}
+use Rattle.user_key.specs.Derivation.{user_key}
 use Rattle.user_key.specs.declared.components.Components.{Components}
 use Rattle.key_commands.specs.NewMetadata.{metadata_of}
 use Rattle.key_commands.specs.Options.{early_refusal, key_refusal}

@@ -6,7 +6,7 @@ use Rattle.block_traits.specs.Overwriting.{zeros}
 use Rattle.block_traits.specs.Streams.{EntropyState, Takes, TakesNone}
 use Rattle.eli_base.specs.declared.refusals.Refusal.{Refusal}
 use Rattle.eli_base.specs.declared.refusals.Refusal.TheVariants.{EntropyFault, DeviceFault}
-use Rattle.eli_metadata.specs.Check.{is_set}
+use Rattle.eli_metadata.specs.Checks.{is_set}
 use Rattle.eli_metadata.specs.Format.{encoded, is_served, metadata_in}
 use Rattle.eli_metadata.specs.declared.metadata.Metadata.{Metadata}
 use Rattle.key_slots.specs.Slots.{slot_bytes}

@@ -3,10 +3,10 @@ use Rattle.std.specs.Prelude.{◌≡◌, ◌≢◌, ℕ, ◌^◌, ◌<◌, ℤ, 
 use Rattle.std.specs.Int.{is_negative}
 use Rattle.eli_base.specs.declared.refusals.Refusal.{Refusal}
 use Rattle.eli_base.specs.declared.refusals.Refusal.TheVariants.{IterationsNeedOneKey}
-use Rattle.eli_metadata.specs.Check.{is_set, size_matches, slot_matches, supported}
+use Rattle.eli_metadata.specs.Checks.{is_set, size_matches, slot_matches, supported}
 use Rattle.eli_metadata.specs.declared.metadata.Metadata.{Metadata}
 use Rattle.key_slots.specs.Slots.{Opens, OpensAsBefore, SameSlot, with_slot, wrapped}
-use Rattle.user_key.specs.UserKey.{user_key}
+use Rattle.user_key.specs.Derivation.{user_key}
 use Rattle.user_key.specs.declared.components.Components.{Components}
 use Rattle.user_key.specs.declared.components.KeyFault.{KeyFault}
 use Rattle.user_key.specs.declared.components.PassPart.{PassPart}

@@ -6,7 +6,7 @@ use Rattle.block_traits.specs.Overwriting.{overwrite_events, passes_of}
 use Rattle.block_traits.specs.declared.disk.Event.{Event}
 use Rattle.eli_base.specs.declared.refusals.Refusal.{Refusal}
 use Rattle.eli_base.specs.declared.refusals.Refusal.TheVariants.{KeyNumberOutOfRange, KeyNotSet, LastKey}
-use Rattle.eli_metadata.specs.Check.{is_set}
+use Rattle.eli_metadata.specs.Checks.{is_set}
 use Rattle.eli_metadata.specs.Format.{IsInRange, encoded, is_served, metadata_in}
 use Rattle.eli_metadata.specs.declared.metadata.Metadata.{Metadata}
 use Rattle.key_slots.specs.Slots.{without_slot}

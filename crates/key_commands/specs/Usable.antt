@@ -2,11 +2,11 @@
 -- (g_eli.h, eli_metadata_decode and eli_metadata_crypto_supported; geli(8), init and attach).
 use Rattle.std.specs.Prelude.{◌≡◌, ◌≤◌, ℕ, ◌*◌, List, false, None, Some, Ok}
 use Rattle.eli_base.specs.Units.{media_sectors}
-use Rattle.eli_metadata.specs.Check.{Settings, supported, size_matches, slot_matches}
+use Rattle.eli_metadata.specs.Checks.{Settings, supported, size_matches, slot_matches}
 use Rattle.eli_metadata.specs.Format.{encoded, metadata_in}
 use Rattle.eli_metadata.specs.declared.metadata.Metadata.{Metadata}
 use Rattle.key_slots.specs.Slots.{unwrapped, unwrapped_any}
-use Rattle.user_key.specs.UserKey.{user_key}
+use Rattle.user_key.specs.Derivation.{user_key}
 use Rattle.user_key.specs.declared.components.Components.{Components}
 use Rattle.user_key.specs.declared.components.UserKey.{UserKey}
 use Rattle.key_commands.specs.declared.options.InitOptions.{InitOptions}

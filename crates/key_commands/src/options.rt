@@ -5,7 +5,7 @@ ghost use Rattle.eli_base.specs.Algorithms.{allows_length};
 ghost use Rattle.eli_base.specs.SectorSize.{is_sector_size};
 ghost use Rattle.eli_base.specs.Units.{media_sectors};
 ghost use Rattle.key_slots.specs.Slots.{IsKeyBits};
-ghost use Rattle.user_key.specs.UserKey.{user_key};
+ghost use Rattle.user_key.specs.Derivation.{user_key};
 ghost use Rattle.key_commands.specs.Options.{early_refusal, key_refusal};
 
 use eli_base::{Auth, Cipher, Geometry, Params, Refusal, sector_size_ok};

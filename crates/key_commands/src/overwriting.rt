@@ -1,7 +1,7 @@
 // Slots that are cleared and overwritten.
 ghost use Rattle.std.specs.Prelude.{◌≡◌, ◌<◌, ◌≤◌, IfNone, length};
 ghost use Rattle.block_traits.specs.Overwriting.{zeros};
-ghost use Rattle.eli_metadata.specs.Check.{is_set};
+ghost use Rattle.eli_metadata.specs.Checks.{is_set};
 ghost use Rattle.key_commands.specs.Overwriting.{IsThere, IsThere-prop, IsWhole, deletion_refusal, filler_size, named_size, pass_sectors, without_keys};
 
 use crate::set_key::is_only_key;

@@ -1,6 +1,6 @@
 // A new key in a slot.
 ghost use Rattle.std.specs.Prelude.{◌≡◌, ◌≢◌, ◌==◌, ◌<◌, ◌^◌, ℕ, bit_and, IfErr, IfOk, IsOk, Some};
-ghost use Rattle.eli_metadata.specs.Check.{supported};
+ghost use Rattle.eli_metadata.specs.Checks.{supported};
 ghost use Rattle.key_commands.specs.NewKey.{KeyChange, MakesKey, change_refusal, new_iterations};
 ghost use Rattle.key_commands.specs.SetKey.{SetsKey};
 ghost use Rattle.key_slots.specs.Slots.{IsKeyBits, Opens, SameSlot, with_slot, wrapped};

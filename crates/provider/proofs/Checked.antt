@@ -12,7 +12,7 @@ use Rattle.eli_base.specs.declared.parameters.Params.{Params}
 use Rattle.eli_base.specs.Keying.{Keying, keying_of}
 use Rattle.eli_base.specs.SectorSize.{is_sector_size}
 use Rattle.eli_base.specs.Units.{media_sectors}
-use Rattle.eli_metadata.specs.Check.{Settings, settings_of, supported, check_cipher, check_auth, check_sector, check_size, cipher_of, auth_of, is_readonly, size_matches}
+use Rattle.eli_metadata.specs.Checks.{Settings, settings_of, supported, check_cipher, check_auth, check_sector, check_size, cipher_of, auth_of, is_readonly, size_matches}
 use Rattle.eli_metadata.specs.declared.metadata.Metadata.{Metadata}
 use Rattle.eli_metadata.specs.declared.metadata.MetaFault.{MetaFault}
 use Rattle.eli_metadata.specs.declared.metadata.MetaFault.TheVariants.{BadSize}

@@ -5,7 +5,7 @@ use Rattle.block_traits.specs.Disk.{DiskState, FailsIn, Logs}
 use Rattle.eli_base.specs.declared.parameters.Params.{Params}
 use Rattle.eli_base.specs.Keying.{Keying, keying_of}
 use Rattle.eli_base.specs.Units.{media_sectors}
-use Rattle.eli_metadata.specs.Check.{is_readonly}
+use Rattle.eli_metadata.specs.Checks.{is_readonly}
 use Rattle.eli_metadata.specs.declared.metadata.Metadata.{Metadata}
 use Rattle.sealing.specs.Sectors.{units}
 use Rattle.provider.specs.declared.faults.AttachFault.{AttachFault}

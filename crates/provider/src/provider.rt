@@ -2,7 +2,7 @@
 ghost use Rattle.std.specs.Prelude.{◌≡◌, ℕ, ◌+◌, ◌*◌, ◌/◌, ◌%◌, ◌<◌, ◌≤◌, ◌↔◌, ◌∷◌, [], List, IsTrue, OnOk, OnErr, length, replicate};
 ghost use Rattle.block_traits.specs.Disk.{DiskState, FailsIn, Logs};
 ghost use Rattle.eli_base.specs.Units.{media_sectors};
-ghost use Rattle.eli_metadata.specs.Check.{settings_of, size_matches, slot_matches, supported};
+ghost use Rattle.eli_metadata.specs.Checks.{settings_of, size_matches, slot_matches, supported};
 ghost use Rattle.provider.specs.Answers.{AttachAnswers, Means, ReadAnswers, Target, WriteAnswers, request};
 ghost use Rattle.provider.specs.Attached.{IsKept, media};
 ghost use Rattle.provider.specs.Rest.{rest_of};

@@ -11,7 +11,7 @@ use Rattle.eli_base.specs.declared.parameters.MasterKey.{MasterKey}
 use Rattle.eli_base.specs.declared.parameters.Params.{Params}
 use Rattle.eli_base.specs.Keying.{Keying, keying_of}
 use Rattle.eli_base.specs.Units.{media_sectors}
-use Rattle.eli_metadata.specs.Check.{are_clear, is_set, slot_matches}
+use Rattle.eli_metadata.specs.Checks.{are_clear, is_set, slot_matches}
 use Rattle.eli_metadata.specs.declared.metadata.Metadata.{Metadata}
 use Rattle.eli_metadata.specs.declared.metadata.MetaFault.TheVariants.{NoValidKeys}
 use Rattle.hmac_kdf.proofs.Lengths.{length-hmac512}

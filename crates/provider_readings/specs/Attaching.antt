@@ -5,7 +5,7 @@ use Rattle.block_traits.specs.Disk.{DiskState}
 use Rattle.eli_base.specs.declared.parameters.Params.{Params}
 use Rattle.eli_base.specs.Keying.{Keying, keying_of}
 use Rattle.eli_base.specs.Units.{media_sectors}
-use Rattle.eli_metadata.specs.Check.{settings_of, size_matches, supported}
+use Rattle.eli_metadata.specs.Checks.{settings_of, size_matches, supported}
 use Rattle.eli_metadata.specs.Format.{metadata_in}
 use Rattle.eli_metadata.specs.declared.metadata.Metadata.{Metadata}
 use Rattle.key_slots.specs.Slots.{IsFirstToOpen}

@@ -4,11 +4,11 @@
 //! grown and destroys the old ones. No call takes memory.
 #![tactic(auto)]
 
-mod destruction;
-mod growth;
+mod killing;
+mod resizing;
 #[cfg(test)]
 mod tests;
 mod trash;
 
-pub use destruction::kill;
-pub use growth::resize;
+pub use killing::kill;
+pub use resizing::resize;

@@ -17,7 +17,7 @@ use Rattle.command_words.specs.declared.spans.Span.{Span}
 use Rattle.eli_base.specs.declared.refusals.Refusal.{Refusal}
 use Rattle.eli_base.specs.declared.refusals.Refusal.TheVariants as refusals
 use Rattle.eli_base.specs.declared.parameters.MasterKey.{MasterKey}
-use Rattle.eli_metadata.specs.Check.{Settings}
+use Rattle.eli_metadata.specs.Checks.{Settings}
 use Rattle.eli_metadata.specs.Place.{ReadsMetadata}
 use Rattle.eli_metadata.specs.Refusals.{read_refusal_of, refusal_of}
 use Rattle.eli_metadata.specs.declared.metadata.Metadata.{Metadata}
@@ -30,7 +30,7 @@ use Rattle.key_commands.specs.NewProvider.{Inits}
 use Rattle.key_commands.specs.Options.{key_refusal}
 use Rattle.key_commands.specs.declared.options.InitOptions.{InitOptions}
 use Rattle.key_components.specs.Answers.{MayRefuse}
-use Rattle.user_key.specs.UserKey.{user_key}
+use Rattle.user_key.specs.Derivation.{user_key}
 use Rattle.user_key.specs.declared.components.Components.{Components}
 use Rattle.user_key.specs.declared.components.KeyFault.{KeyFault}
 use Rattle.user_key.specs.declared.components.KeyFault.TheVariants.{NoKeyComponents, PassphraseNeeded, PassphraseNotSet}

@@ -19,7 +19,7 @@ use Rattle.command_words.specs.declared.spans.Span.{Span}
 use Rattle.eli_base.specs.declared.parameters.MasterKey.{MasterKey}
 use Rattle.eli_base.specs.declared.refusals.Refusal.{Refusal}
 use Rattle.eli_base.specs.declared.refusals.Refusal.TheVariants as refusals
-use Rattle.eli_metadata.specs.Check.{Settings}
+use Rattle.eli_metadata.specs.Checks.{Settings}
 use Rattle.eli_metadata.specs.Refusals.{read_refusal_of, refusal_of}
 use Rattle.eli_metadata.specs.declared.metadata.Metadata.{Metadata}
 use Rattle.eli_metadata.specs.declared.metadata.MetaFault.{MetaFault}
@@ -40,7 +40,7 @@ use Rattle.resize_kill.specs.Killing.{Kills}
 use Rattle.resize_kill.specs.Resizing.{RefusesOld, RefusesSizes, Resizes, old_refusal, size_refusal}
 use Rattle.sha2.specs.Sha256.{sha256}
 use Rattle.user_key.specs.Refusals.{key_refusal_of}
-use Rattle.user_key.specs.UserKey.{user_key}
+use Rattle.user_key.specs.Derivation.{user_key}
 use Rattle.user_key.specs.declared.components.Components.{Components}
 use Rattle.user_key.specs.declared.components.KeyFault.{KeyFault}
 use Rattle.user_key.specs.declared.components.KeyFault.TheVariants.{NoKeyComponents, PassphraseNeeded, PassphraseNotSet}

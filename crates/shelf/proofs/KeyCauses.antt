@@ -28,7 +28,7 @@ use Rattle.key_commands.specs.SetKey.{SetsKey}
 use Rattle.key_commands.specs.declared.overwriting.Which.{Which}
 use Rattle.key_commands.specs.declared.overwriting.Which.TheVariants as slots
 use Rattle.key_components.specs.Answers.{MayRefuse}
-use Rattle.user_key.specs.UserKey.{user_key}
+use Rattle.user_key.specs.Derivation.{user_key}
 use Rattle.user_key.specs.declared.components.Components.{Components}
 use Rattle.user_key.specs.declared.components.KeyFault.{KeyFault}
 use Rattle.user_key.specs.declared.components.KeyFault.TheVariants.{NoKeyComponents, PassphraseNeeded, PassphraseNotSet}

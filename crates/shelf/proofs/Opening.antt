@@ -17,7 +17,7 @@ use Rattle.eli_base.specs.declared.algorithms.Auth.{Auth}
 use Rattle.eli_base.specs.declared.parameters.MasterKey.{MasterKey}
 use Rattle.eli_base.specs.declared.refusals.Refusal.{Refusal}
 use Rattle.eli_base.specs.declared.refusals.Refusal.TheVariants as refusals
-use Rattle.eli_metadata.specs.Check.{Settings, slot_matches}
+use Rattle.eli_metadata.specs.Checks.{Settings, slot_matches}
 use Rattle.eli_metadata.specs.Format.{encoded, metadata_in}
 use Rattle.eli_metadata.specs.Place.{ReadsMetadata}
 use Rattle.eli_metadata.specs.Refusals.{read_refusal_of, refusal_of}
@@ -33,7 +33,7 @@ use Rattle.key_components.specs.Answers.{IsAnswer, IsRefusal, MayRefuse}
 use Rattle.key_slots.specs.Slots.{numbered}
 use Rattle.key_components.specs.Key.{components_of}
 use Rattle.provider.specs.Attached.{opened}
-use Rattle.user_key.specs.UserKey.{user_key}
+use Rattle.user_key.specs.Derivation.{user_key}
 use Rattle.user_key.specs.declared.components.Components.{Components}
 use Rattle.user_key.specs.declared.components.UserKey.{UserKey}
 use Rattle.shelf.specs.Opening.{NamesSameKey, OpensOrFails}

@@ -12,13 +12,13 @@ use Rattle.block_traits.specs.Cabinet.{CabinetState}
 use Rattle.block_traits.specs.Streams.{EntropyState}
 use Rattle.eli_base.specs.Units.{media_sectors}
 use Rattle.eli_base.specs.declared.refusals.Refusal.TheVariants as refusals
-use Rattle.eli_metadata.specs.Check.{Settings}
+use Rattle.eli_metadata.specs.Checks.{Settings}
 use Rattle.eli_metadata.specs.declared.metadata.Metadata.{Metadata}
 use Rattle.user_key.specs.declared.components.KeyFault.{KeyFault}
 use Rattle.user_key.specs.declared.components.UserKey.{UserKey}
 use Rattle.shelf.specs.Steps.{or_wrong_key, tried}
 use Rattle.shelf.proofs.Opening.{has_room}
-use Rattle.shelf.specs.Trial.{IsOpening, attachment_in}
+use Rattle.shelf.specs.Trying.{IsOpening, attachment_in}
 use Rattle.shelf.specs.World.{Attachment, IsAttached, attachment_of, reach_of}
 use Rattle.shelf.specs.declared.trying.Opening.{Opening}
 

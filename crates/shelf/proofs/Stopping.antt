@@ -36,7 +36,7 @@ use Rattle.shelf.specs.Stops.{ClearsKeys, Destroys, HasMetadata, MovesToEnd, Put
 use Rattle.shelf.specs.Turn.{InitRow}
 use Rattle.shelf.specs.World.{Holding, Idle, IsAttached, Reach}
 use Rattle.shelf.proofs.Events.{Quiet, Step, quiet_failure, quiet_loading, quiet_reading, same_disk}
-use Rattle.user_key.specs.UserKey.{user_key}
+use Rattle.user_key.specs.Derivation.{user_key}
 use Rattle.user_key.specs.declared.components.Components.{Components}
 use Rattle.user_key.specs.declared.components.KeyFault.{KeyFault}
 use Rattle.user_key.specs.declared.components.UserKey.{UserKey}

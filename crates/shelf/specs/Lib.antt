@@ -13,7 +13,7 @@ pub mod Shelved
 pub mod Sizes
 pub mod Steps
 pub mod Stops
-pub mod Trial
+pub mod Trying
 pub mod Turn
 pub mod Workloads
 pub mod World

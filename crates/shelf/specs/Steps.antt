@@ -16,7 +16,7 @@ use Rattle.eli_base.specs.Units.{media_sectors}
 use Rattle.eli_base.specs.declared.parameters.MasterKey.{MasterKey}
 use Rattle.eli_base.specs.declared.refusals.Refusal.{Refusal}
 use Rattle.eli_base.specs.declared.refusals.Refusal.TheVariants as refusals
-use Rattle.eli_metadata.specs.Check.{Settings, size_matches, slot_matches, supported}
+use Rattle.eli_metadata.specs.Checks.{Settings, size_matches, slot_matches, supported}
 use Rattle.eli_metadata.specs.Format.{encoded}
 use Rattle.eli_metadata.specs.Place.{ReadsMetadata}
 use Rattle.eli_metadata.specs.Refusals.{read_refusal_of, refusal_of}
@@ -32,7 +32,7 @@ use Rattle.provider.specs.Reading.{ReadsAs}
 use Rattle.provider.specs.Reads.{RunFails, RunFault}
 use Rattle.provider.specs.Writing.{data_writes}
 use Rattle.user_key.specs.Refusals.{key_refusal_of}
-use Rattle.user_key.specs.UserKey.{user_key}
+use Rattle.user_key.specs.Derivation.{user_key}
 use Rattle.user_key.specs.declared.components.Components.{Components}
 use Rattle.user_key.specs.declared.components.KeyFault.{KeyFault}
 use Rattle.user_key.specs.declared.components.UserKey.{UserKey}

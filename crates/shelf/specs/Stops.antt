@@ -24,7 +24,7 @@ use Rattle.shelf.specs.Answer as answers
 use Rattle.shelf.specs.Keys.{named_slots, slot_of}
 use Rattle.shelf.specs.Turn.{iterations_of, takes_out}
 use Rattle.shelf.specs.World.{DrawerState, Holding, Idle, IsAttached, World, place_of}
-use Rattle.user_key.specs.UserKey.{user_key}
+use Rattle.user_key.specs.Derivation.{user_key}
 use Rattle.user_key.specs.declared.components.Components.{Components}
 use Rattle.user_key.specs.declared.components.UserKey.{UserKey}
 

@@ -4,7 +4,7 @@ ghost use Rattle.std.specs.Prelude.{◌≡◌, length};
 ghost use Rattle.block_traits.specs.Cabinet.{CabinetState};
 ghost use Rattle.block_traits.specs.Streams.{EntropyState};
 ghost use Rattle.command_words.specs.Places.{KeyIsWithin};
-ghost use Rattle.shelf.specs.Trial.{IsOpening, attachment_in};
+ghost use Rattle.shelf.specs.Trying.{IsOpening, attachment_in};
 ghost use Rattle.shelf.specs.Steps.{Attaches};
 ghost use Rattle.shelf.specs.Turn.{AttachRow};
 ghost use Rattle.shelf.specs.World.{Idle, disk_in, holding_of, reach_of};

@@ -4,11 +4,11 @@ ghost use Rattle.std.specs.Prelude.{◌≡◌, ◌<◌, ◌^◌, ℕ, IfOk, IsOk
 ghost use Rattle.block_traits.specs.Cabinet.{CabinetState};
 ghost use Rattle.block_traits.specs.Streams.{EntropyState};
 ghost use Rattle.command_words.specs.Places.{KeyIsWithin};
-ghost use Rattle.eli_metadata.specs.Check.{settings_of, supported};
+ghost use Rattle.eli_metadata.specs.Checks.{settings_of, supported};
 ghost use Rattle.key_commands.specs.NewKey.{KeyChange};
 ghost use Rattle.shelf.specs.Keys.{DeletesRow, SetkeyAttachedRow, SetkeyIdleRow, StoresKey, if_there, named_slots, opened_by, usable};
 ghost use Rattle.shelf.specs.World.{Holding, reach_of};
-ghost use Rattle.user_key.specs.UserKey.{user_key};
+ghost use Rattle.user_key.specs.Derivation.{user_key};
 
 use crate::reading::read_last;
 use crate::trying::admit;

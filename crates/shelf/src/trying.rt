@@ -3,12 +3,12 @@
 ghost use Rattle.std.specs.Prelude.{◌≡◌, ℕ, ◌<◌, ◌^◌, IfOk, OnOk, MatchResult, Bool, Ok, Err, length};
 ghost use Rattle.block_traits.specs.Streams.{EntropyState};
 ghost use Rattle.command_words.specs.Places.{KeyIsWithin};
-ghost use Rattle.eli_metadata.specs.Check.{settings_of, size_matches, slot_matches, supported};
+ghost use Rattle.eli_metadata.specs.Checks.{settings_of, size_matches, slot_matches, supported};
 ghost use Rattle.shelf.specs.Steps.{admitted, tried};
-ghost use Rattle.shelf.specs.Trial.{IsOpening, as_attachment};
+ghost use Rattle.shelf.specs.Trying.{IsOpening, as_attachment};
 ghost use Rattle.shelf.specs.Turn.{TryRow};
 ghost use Rattle.shelf.specs.World.{Holding, reach_of};
-ghost use Rattle.user_key.specs.UserKey.{user_key};
+ghost use Rattle.user_key.specs.Derivation.{user_key};
 
 use crate::reading::read_last;
 use block_traits::{Cabinet, MetaPlace};
@@ -51,7 +51,6 @@ pub fn admit(meta: &Metadata, sectors: u64, slot: Option<u8>) -> Result<Params, 
     Ok(params)
 }
 
-/// Why components make no key.
 // What the key of these components opens, of the slots that are asked for.
 fn try_components(
     meta: Metadata,

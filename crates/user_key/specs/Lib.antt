@@ -1,3 +1,3 @@
+pub mod Derivation
 pub mod Passphrase
 pub mod Refusals
-pub mod UserKey

@@ -1,7 +1,7 @@
 // The user key that components make.
 ghost use Rattle.std.specs.Prelude.{◌≡◌, [], ◌++◌};
 ghost use Rattle.hmac_kdf.specs.Hmac.{hmac512};
-ghost use Rattle.user_key.specs.UserKey.{user_key};
+ghost use Rattle.user_key.specs.Derivation.{user_key};
 
 use crate::components::{Components, KeyFault, PassPart, UserKey};
 use hmac_kdf::{Hmac512, pbkdf2_sha512};

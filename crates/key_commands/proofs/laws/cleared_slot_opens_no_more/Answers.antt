@@ -1,5 +1,5 @@
 use Rattle.std.proofs.Common.{◌≡◌, true, false}
-use Rattle.eli_metadata.specs.Check.{is_set}
+use Rattle.eli_metadata.specs.Checks.{is_set}
 use Rattle.key_commands.specs.Overwriting.{without_keys}
 use Rattle.key_commands.proofs.Passes.{is_set-without}
 use Rattle.key_commands.proofs.laws.cleared_slot_opens_no_more.Goals as goal

@@ -1,5 +1,5 @@
 use Rattle.std.proofs.Common.{◌≡◌, length, true, sym, ◌∙◌, arith, rules}
-use Rattle.eli_metadata.specs.Check.{is_set}
+use Rattle.eli_metadata.specs.Checks.{is_set}
 use Rattle.key_slots.proofs.Texts.{master_of_text, text_of_master}
 use Rattle.key_slots.proofs.opening.unwrap.Goals as goal
 

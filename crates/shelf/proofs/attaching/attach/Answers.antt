@@ -1,5 +1,5 @@
 use Rattle.std.proofs.Common.{refl}
-use Rattle.shelf.specs.Trial.{attachment_in}
+use Rattle.shelf.specs.Trying.{attachment_in}
 use Rattle.shelf.specs.World.{Idle}
 use Rattle.shelf.proofs.Rows.{Then-goes_on, Then-refused}
 use Rattle.shelf.proofs.attaching.attach.Goals as goal

@@ -1,5 +1,5 @@
 use Rattle.std.proofs.Common.{refl, subst, sym}
-use Rattle.eli_metadata.specs.Check.{settings_of}
+use Rattle.eli_metadata.specs.Checks.{settings_of}
 use Rattle.key_slots.specs.Slots.{IsKeyBits}
 use Rattle.provider.proofs.Checked.{bits_allowed, said}
 use Rattle.shelf.proofs.keys.open.Goals as goal

@@ -1,6 +1,6 @@
 use Rattle.std.proofs.Common.{◌≡◌, ℕ, Err, None, Ok, refl, subst, sym}
 use Rattle.std.proofs.lemmas.Result.{err_from_is_err_and}
-use Rattle.eli_metadata.specs.Check.{settings_of}
+use Rattle.eli_metadata.specs.Checks.{settings_of}
 use Rattle.shelf.specs.Steps.{admitted}
 use Rattle.shelf.proofs.Rows.{Then-goes_on, Then-refused, loaded}
 use Rattle.shelf.proofs.keys.setkey_idle.Goals as goal

@@ -1,7 +1,7 @@
 use Rattle.std.proofs.Common.{FitsSigned, None, Some, rules, subst, sym, w32}
 use Rattle.std.proofs.lemmas.Int.{to_z-of_z}
 use Rattle.shelf.proofs.Openings.{tried_as}
-use Rattle.eli_metadata.specs.Check.{settings_of}
+use Rattle.eli_metadata.specs.Checks.{settings_of}
 use Rattle.key_slots.specs.Slots.{IsKeyBits}
 use Rattle.provider.proofs.Checked.{bits_allowed, said}
 use Rattle.shelf.proofs.trying.try_components.Goals as goal

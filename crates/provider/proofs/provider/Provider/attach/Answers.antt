@@ -1,5 +1,5 @@
 use Rattle.std.proofs.Common.{◌||◌, Bool, IsSome, refl, subst, sym, ap, ◌∙◌, arith}
-use Rattle.eli_metadata.specs.Check.{is_readonly}
+use Rattle.eli_metadata.specs.Checks.{is_readonly}
 use Rattle.key_slots.specs.Slots.{IsKeyBits}
 use Rattle.provider.proofs.Checked.{bits_allowed, checked, keyed_as, opened_as}
 use Rattle.provider.proofs.provider.Provider.attach.Goals as goal

@@ -4,7 +4,7 @@ use Rattle.block_traits.proofs.Logs.{FailsIn-more, FailsIn-then, Logs-then}
 use Rattle.block_traits.specs.Overwriting.{overwrite_events}
 use Rattle.eli_metadata.specs.Place.{replace_events}
 use Rattle.resize_kill.specs.Trash.{trash_sectors}
-use Rattle.resize_kill.proofs.growth.move_metadata.Goals as goal
+use Rattle.resize_kill.proofs.resizing.move_metadata.Goals as goal
 
 pub returns-in_err-replace_metadata-clause-err : goal.returns-in_err-replace_metadata-clause-err
 returns-in_err-replace_metadata-clause-err g c =

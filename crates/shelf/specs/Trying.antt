@@ -2,7 +2,7 @@
 use Rattle.std.specs.Prelude.{◌≡◌, ℕ, ◌≤◌, Bool, Option, Some, Result, Ok, Err}
 use Rattle.eli_base.specs.Units.{media_sectors}
 use Rattle.eli_base.specs.declared.refusals.Refusal.{Refusal}
-use Rattle.eli_metadata.specs.Check.{settings_of, size_matches, slot_matches, supported}
+use Rattle.eli_metadata.specs.Checks.{settings_of, size_matches, slot_matches, supported}
 use Rattle.provider.specs.Attached.{opened}
 use Rattle.shelf.specs.declared.trying.Opening.{Opening}
 use Rattle.shelf.specs.Steps.{attachment_by}

@@ -3,7 +3,7 @@ use Rattle.block_traits.specs.Disk.{FailsIn, Logs}
 use Rattle.block_traits.specs.Overwriting.{overwrite_events}
 use Rattle.resize_kill.specs.Trash.{trash_sectors}
 use Rattle.resize_kill.proofs.Destroyed.{gone-Logs, gone-FailsIn}
-use Rattle.resize_kill.proofs.destruction.kill.Goals as goal
+use Rattle.resize_kill.proofs.killing.kill.Goals as goal
 
 pub returns-in-Ok-destroy : goal.returns-in-Ok-destroy
 returns-in-Ok-destroy g c =

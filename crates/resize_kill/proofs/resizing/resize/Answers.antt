@@ -6,7 +6,7 @@ use Rattle.block_traits.specs.Disk.{FailsIn, Logs}
 use Rattle.eli_metadata.specs.Format.{encoded, metadata_in}
 use Rattle.resize_kill.specs.Resizing.{grown, move_events, old_place, size_refusal}
 use Rattle.resize_kill.proofs.Moved.{moves, moves_part}
-use Rattle.resize_kill.proofs.growth.resize.Goals as goal
+use Rattle.resize_kill.proofs.resizing.resize.Goals as goal
 
 pub returns-in-Ok-move_metadata : goal.returns-in-Ok-move_metadata
 returns-in-Ok-move_metadata g c =

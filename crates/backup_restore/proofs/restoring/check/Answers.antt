@@ -2,7 +2,7 @@ use Rattle.std.proofs.Common.{◌≡◌, ◌≤◌, ℕ, List, [], ◌∷◌, �
 use Rattle.std.proofs.Math.Seq.{take-append_seam}
 use Rattle.std.proofs.lemmas.List.{length-take-le}
 use Rattle.backup_restore.specs.Restoring.{backed_up_sector}
-use Rattle.backup_restore.proofs.written_back.check.Goals as goal
+use Rattle.backup_restore.proofs.restoring.check.Goals as goal
 
 -- the sector of a backup begins with its first 511 bytes
 first_511 : (bytes : List ℕ) → 511 ≤ length bytes → take 511 (backed_up_sector bytes) ≡ take 511 bytes

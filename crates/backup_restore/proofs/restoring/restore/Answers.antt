@@ -3,7 +3,7 @@ use Rattle.block_traits.specs.Disk.{FailsIn, Logs}
 use Rattle.eli_metadata.specs.Place.{replace_events}
 use Rattle.eli_metadata.proofs.Replaced.{KeepsOldOr-replace, KeepsOldOr-replace_part}
 use Rattle.backup_restore.specs.Restoring.{GivesMetadata, restored}
-use Rattle.backup_restore.proofs.written_back.restore.Goals as goal
+use Rattle.backup_restore.proofs.restoring.restore.Goals as goal
 
 pub returns-in-Ok : goal.returns-in-Ok
 returns-in-Ok g c =

@@ -1,5 +1,5 @@
 -- Vectors as numbers, and the constant of the S-box.
-use Rattle.std.proofs.Common.{◌≡◌, ℕ, suc, ◌+◌, ◌*◌, ◌/◌, ◌%◌, ◌^◌, ◌<◌, List, [], ◌∷◌, get_or, length, bit_xor, replicate, refl, sym, ap, ◌∙◌, arith}
+use Rattle.std.proofs.Common.{◌≡◌, ℕ, ◌+◌, ◌*◌, ◌/◌, ◌%◌, ◌^◌, ◌<◌, List, length, bit_xor, replicate, refl, sym, ap, ◌∙◌, arith}
 use Rattle.std.specs.Simd.Lanes.{zip2, digits_l, number_l}
 use Rattle.aes_core.specs.State.{IsState}
 use Rattle.aes_core.proofs.ColumnLaws.{digits_number}

@@ -20,6 +20,9 @@ pub mod WorkloadRows
 pub mod Lines
 pub mod Untouched
 pub mod Causing
+pub mod Plain
+pub mod Grounding
+pub mod ProviderCauses
 pub mod KeyCauses
 pub mod LineCauses
 pub mod Counting

@@ -25,6 +25,7 @@ pub mod Grounding
 pub mod ProviderCauses
 pub mod KeyCauses
 pub mod LineCauses
+pub mod Fitting
 pub mod Counting
 pub mod Stopping
 pub mod Stopped

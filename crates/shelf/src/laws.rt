@@ -1,7 +1,11 @@
 // What holds of one command after another.
 ghost use Rattle.std.specs.Prelude.{◌≡◌, ℕ, Bool, List, Option, Result, Ok, IfSome, IsSome};
+ghost use Rattle.command_words.specs.Places.{bytes_at};
 ghost use Rattle.command_words.specs.declared.commands.Command.{Command};
+ghost use Rattle.command_words.specs.declared.commands.Command.TheVariants.{Attach, Dump};
+ghost use Rattle.command_words.specs.declared.spans.Span.{Span};
 ghost use Rattle.eli_base.specs.declared.refusals.Refusal.{Refusal};
+ghost use Rattle.eli_base.specs.declared.refusals.Refusal.TheVariants.{NoMemory};
 ghost use Rattle.eli_metadata.specs.declared.metadata.Metadata.{Metadata};
 ghost use Rattle.shelf.specs.Opening.{NamesSameKey, OpensOrFails};
 ghost use Rattle.shelf.specs.Steps.{LoadsComponents, MakesProvider};
@@ -9,6 +13,7 @@ ghost use Rattle.shelf.specs.Stops.{LeavesOldOrNew};
 ghost use Rattle.shelf.specs.Answer.{Answer, Refused};
 ghost use Rattle.shelf.specs.Causes.{Caused};
 ghost use Rattle.shelf.specs.Counts.{CountsFailures};
+ghost use Rattle.shelf.specs.Fits.{FindsAt, FindsKey, FindsMetadata};
 ghost use Rattle.shelf.specs.Histories.{OnlySteps};
 ghost use Rattle.shelf.specs.Turn.{TryRow, Turn};
 ghost use Rattle.shelf.specs.World.{Attachment, Reach, World};
@@ -40,16 +45,37 @@ pub fn a_line_changes_only_its_drawer()
         Turn line command old answer new → OnlySteps line command answer old.drawers new.drawers }
 {}
 
-/// Each refusal has its cause. `detach`, `flush`, `read`, `write`, `fill` and `sum` are refused only where the drawer is idle, where the
-/// provider is only read (`write` and `fill`), by the length (`read` and `write`) and the range of what they ask for, by a unit whose
-/// tag differs, or where the disk failed, whose count of faults rose; so without such a cause they are served. `eject` is refused only
-/// where no drawer has the name. Only `init`, `attach`, `restore` and `resize` are refused because the drawer is attached. Want of
-/// memory is answered by `init`, `attach`, `setkey`, `backup`, `restore` and `list` alone. That the cabinet or the entropy failed, or a
-/// file was absent, shows in their counts. The other refusals are those of metadata, components, slots, backups and sizes, by `init`,
-/// `attach`, `setkey`, `delkey`, `kill`, `backup`, `restore`, `resize` and `dump` alone, whose rows say which.
+/// Each refusal has its cause, so a line without one is served. `detach`, `flush`, `read`, `write`, `fill` and `sum` are refused only where
+/// the drawer is idle, where the provider is only read (`write` and `fill`), by the length (`read` and `write`) and the range of what they
+/// ask for, or by a unit whose tag differs. `eject` is refused only where no drawer has the name. Only `init`, `attach`, `restore` and
+/// `resize` are refused because the drawer is attached. Want of memory is answered by `init`, `attach`, `setkey`, `backup`, `restore` and
+/// `list` alone. That the disk, the cabinet or the entropy failed shows in their counts.
+///
+/// The verbs on metadata are refused besides only for what they find and are told, said of the disk and the cabinet as they were before:
+/// - `dump`, `attach`, `setkey`, `delkey`, `backup`: the image has fewer than two sectors, or its last sector has no metadata.
+/// - `init`, `attach`, `setkey`, `restore`: the file that is refused is the first wrong one of those that a key, or the backup, names.
+/// - `init`: the options, the image or the components of the key make no provider.
+/// - `attach`: the metadata aren't admitted for the image and the slot that is named, the components make no user key, or it opens no
+///   slot that is asked for.
+/// - `setkey`: the metadata aren't admitted, the slot isn't there, the old key opens none, or the new key is refused.
+/// - `delkey`: no slot is named, or the slot that is named isn't there, has no key or the last one.
+/// - `kill`: the image has fewer than two sectors. `restore`: the image or the backup is refused.
+/// - `resize`: the sizes are refused, or what the old place holds.
 pub fn a_refusal_has_its_cause()
     ensures { (line : List ℕ) (command : Command) (old : World) (refusal : Refusal) (new : World) →
         Turn line command old (Refused refusal) new → Caused line command refusal old new }
+{}
+
+/// The law above says when a line is served, since its causes can be ruled out. Where the drawer that the line names tells its content,
+/// whose last sector is read as metadata, and no count of faults rises, `dump` has no cause to be refused. Where besides the drawer is idle,
+/// the metadata are admitted and the cabinet tells files by which the words name a key that opens a slot that is asked for, `attach` has none
+/// but want of memory.
+pub fn no_cause_is_left_where_all_is_found()
+    ensures attach { (line : List ℕ) (prov : Span) (only_check readonly : Bool) (slot : Option ℕ) (words : KeyWords) (old new : World) (refusal : Refusal) →
+        FindsAt (bytes_at line prov) (FindsKey line slot readonly words) old new →
+        Caused line (Attach prov only_check readonly slot words) refusal old new → refusal ≡ NoMemory }
+    ensures dump { (line : List ℕ) (prov : Span) (old new : World) (refusal : Refusal) →
+        FindsAt (bytes_at line prov) FindsMetadata old new → ¬ Caused line (Dump prov) refusal old new }
 {}
 
 /// No line makes a count of the cabinet or the entropy fall. That the cabinet or the entropy failed is answered only where its count of faults

@@ -1,5 +1,5 @@
 -- That nothing refuses a line that finds what it needs.
-use Rattle.std.proofs.Common.{◌≡◌, ◌∙◌, ◌⊎◌, ℕ, List, refl, ap, sym, subst, inl, inr, arith, Bool, Option, None, Some, Result, Ok, Err}
+use Rattle.std.proofs.Common.{◌≡◌, ◌∙◌, ◌⊎◌, ℕ, List, refl, ap, sym, subst, inl, inr, arith, Bool, Option, Some, Result, Ok, Err}
 use Rattle.std.specs.Prelude.{IfSome, MatchOption}
 use Rattle.block_traits.specs.Cabinet.{CabinetState, Files}
 use Rattle.block_traits.specs.Content.{Content}
@@ -11,7 +11,6 @@ use Rattle.command_words.specs.declared.spans.KeyWords.{KeyWords}
 use Rattle.command_words.specs.declared.spans.Span.{Span}
 use Rattle.eli_base.specs.declared.refusals.Refusal.{Refusal}
 use Rattle.eli_base.specs.declared.refusals.Refusal.TheVariants as refusals
-use Rattle.eli_metadata.specs.Checks.{Settings}
 use Rattle.eli_metadata.specs.Format.{metadata_in}
 use Rattle.eli_metadata.specs.declared.metadata.Metadata.{Metadata}
 use Rattle.eli_metadata.specs.declared.metadata.MetaFault.{MetaFault}
@@ -20,7 +19,7 @@ use Rattle.user_key.specs.Derivation.{user_key}
 use Rattle.user_key.specs.declared.components.Components.{Components}
 use Rattle.shelf.specs.Causes.{AttachedWith, Caused, CausedAt, HasCause}
 use Rattle.shelf.specs.Fits.{FailsNowhere, FindsAt, FindsKey, FindsMetadata, ShowsMetadata}
-use Rattle.shelf.specs.Grounds.{AreComponents, HasMetadata, IsReadAs, LacksMetadata, RefusesAttach, RefusesFiles, RefusesTrial}
+use Rattle.shelf.specs.Grounds.{AreComponents, IsReadAs, LacksMetadata, RefusesAttach, RefusesFiles, RefusesTrial}
 use Rattle.shelf.specs.Steps.{admitted, tried}
 use Rattle.shelf.specs.Turn.{reach}
 use Rattle.shelf.specs.World.{Attachment, DrawerState, Holding, Idle, IsAttached, Reach, World, place_of}

@@ -7,7 +7,6 @@ use Rattle.command_words.specs.declared.commands.Command.{Command}
 use Rattle.command_words.specs.declared.commands.Command.TheVariants as commands
 use Rattle.command_words.specs.declared.spans.KeyWords.{KeyWords}
 use Rattle.command_words.specs.declared.spans.Span.{Span}
-use Rattle.eli_base.specs.declared.parameters.MasterKey.{MasterKey}
 use Rattle.eli_base.specs.declared.refusals.Refusal.{Refusal}
 use Rattle.eli_base.specs.declared.refusals.Refusal.TheVariants as refusals
 use Rattle.eli_metadata.specs.declared.metadata.Metadata.{Metadata}
@@ -18,10 +17,10 @@ use Rattle.key_commands.specs.SetKey.{SetsKey}
 use Rattle.user_key.specs.Derivation.{user_key}
 use Rattle.user_key.specs.declared.components.Components.{Components}
 use Rattle.shelf.specs.Causes.{may_lack_memory}
-use Rattle.shelf.specs.Grounds.{AreComponents, FindsBadFile, HasMetadata, LacksMetadata, RefusesBoth, RefusesChange, RefusesDelkey, RefusesFiles, RefusesNewKey, RefusesNext, RefusesOldKey, RefusesSetkey, RefusesSlots}
-use Rattle.shelf.specs.Keys.{DeletesRow, DelkeyRow, IsUsed, NamesSlots, NeedsSlot, OpensSlot, SetkeyAttachedRow, SetkeyBy, SetkeyIdleRow, SetkeyRow, SetsOpened, StoresKey, TakesKeysOut, if_there, named_slots, opened_by, slot_of, usable, without_value}
+use Rattle.shelf.specs.Grounds.{AreComponents, HasMetadata, LacksMetadata, RefusesBoth, RefusesChange, RefusesFiles, RefusesNewKey, RefusesSlots}
+use Rattle.shelf.specs.Keys.{DelkeyRow, IsUsed, NamesSlots, NeedsSlot, OpensSlot, SetkeyAttachedRow, SetkeyBy, SetkeyIdleRow, SetkeyRow, SetsOpened, StoresKey, TakesKeysOut, if_there, named_slots, opened_by, slot_of, usable, without_value}
 use Rattle.shelf.specs.Steps.{Admits, LoadsComponents, ReadsLastSector, Then, admitted}
-use Rattle.shelf.specs.World.{Attachment, Holding, Idle, IsAttached, Reach}
+use Rattle.shelf.specs.World.{Holding, Idle, IsAttached, Reach}
 use Rattle.shelf.proofs.Causing.{Why, then_since, then_why}
 use Rattle.shelf.proofs.Grounding.{BadFiles, Grounds, Since, decides_why, loading_parts, loading_since, loading_why, plain_cause, reading_has, reading_since, reading_why, since_same}
 use Rattle.shelf.proofs.Plain.{change_plain, deletion_plain, named_plain, opened_plain, or_plain, plain_some, there_plain}

@@ -8,7 +8,6 @@ use Rattle.command_words.specs.declared.spans.Span.{Span}
 use Rattle.eli_base.specs.declared.refusals.Refusal.{Refusal}
 use Rattle.eli_base.specs.declared.refusals.Refusal.TheVariants as refusals
 use Rattle.eli_metadata.specs.declared.metadata.Metadata.{Metadata}
-use Rattle.shelf.specs.Answer.{Answer}
 use Rattle.shelf.specs.Answer as answers
 use Rattle.shelf.specs.Causes.{Caused, CausedAt, CausedBy, HasCause}
 use Rattle.shelf.specs.Turn.{ChangesAt, IsUnknown, Lists, ListsAs, Serves, ServesAt, Turn, TurnOf, digest_or, done_or, dump_or, payload_or, reach, takes_out}

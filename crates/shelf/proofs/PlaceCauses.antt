@@ -1,10 +1,8 @@
 -- Why `backup`, `restore`, `resize` and `kill` are refused.
-use Rattle.std.proofs.Common.{◌≡◌, ◌⊎◌, ℕ, ◌≤◌, List, refl, ap, sym, subst, inl, inr, arith, Bool, true, None, Some, Result, Ok, Err}
+use Rattle.std.proofs.Common.{◌≡◌, ◌⊎◌, ℕ, List, refl, ap, sym, subst, inl, inr, arith, Bool, Result, Ok, Err}
 use Rattle.std.specs.Prelude.{IfSome}
 use Rattle.backup_restore.specs.Restoring.{Restores, restored}
 use Rattle.backup_restore.specs.Saving.{Saves}
-use Rattle.block_traits.specs.Cabinet.{Files}
-use Rattle.block_traits.specs.Disk.{DiskState}
 use Rattle.block_traits.proofs.Causes.{Rose-earlier}
 use Rattle.command_words.specs.Places.{bytes_at}
 use Rattle.command_words.specs.declared.commands.Command.{Command}
@@ -18,7 +16,7 @@ use Rattle.key_components.specs.Files.{file_limit}
 use Rattle.resize_kill.specs.Killing.{Kills}
 use Rattle.resize_kill.specs.Resizing.{RefusesOld, RefusesSizes, Resizes, old_refusal, size_refusal}
 use Rattle.shelf.specs.Causes.{HasCause}
-use Rattle.shelf.specs.Grounds.{HoldsNone, LacksMetadata, LacksRoom, RefusesBackup, RefusesFile, RefusesOldPlace}
+use Rattle.shelf.specs.Grounds.{HoldsNone, LacksMetadata, RefusesFile}
 use Rattle.shelf.specs.Requests.{handed_out}
 use Rattle.shelf.specs.Saving.{BackupRow, FindsLastSector, LoadsFile, RestoreRow, WritesBack}
 use Rattle.shelf.specs.Sizes.{DestroysMetadata, KillRow, MovesMetadata, ResizeRow, Withdraws}

@@ -1,5 +1,5 @@
 -- That nothing refuses a line that finds what it needs.
-use Rattle.std.proofs.Common.{◌≡◌, ◌∙◌, ◌⊎◌, ℕ, List, refl, ap, sym, subst, inl, inr, arith, Bool, Option, Some, Result, Ok, Err}
+use Rattle.std.proofs.Common.{◌≡◌, ◌∙◌, ◌⊎◌, ℕ, List, refl, ap, sym, subst, inl, inr, arith, Bool, false, Option, Some, Result, Ok, Err}
 use Rattle.std.specs.Prelude.{IfSome, MatchOption}
 use Rattle.block_traits.specs.Cabinet.{CabinetState, Files}
 use Rattle.block_traits.specs.Content.{Content}
@@ -17,12 +17,16 @@ use Rattle.eli_metadata.specs.declared.metadata.MetaFault.{MetaFault}
 use Rattle.key_components.specs.Key.{components_of}
 use Rattle.user_key.specs.Derivation.{user_key}
 use Rattle.user_key.specs.declared.components.Components.{Components}
+use Rattle.shelf.specs.Answer.{Answer}
+use Rattle.shelf.specs.Answer as answers
 use Rattle.shelf.specs.Causes.{AttachedWith, Caused, CausedAt, HasCause}
 use Rattle.shelf.specs.Fits.{FailsNowhere, FindsAt, FindsKey, FindsMetadata, ShowsMetadata}
 use Rattle.shelf.specs.Grounds.{AreComponents, IsReadAs, LacksMetadata, RefusesAttach, RefusesFiles, RefusesTrial}
 use Rattle.shelf.specs.Steps.{admitted, tried}
-use Rattle.shelf.specs.Turn.{reach}
+use Rattle.shelf.specs.Turn.{ChangesAt, DumpRow, IsUnknown, Serves, ServesAt, Turn, TurnOf, done_or, dump_or, reach, takes_out}
 use Rattle.shelf.specs.World.{Attachment, DrawerState, Holding, Idle, IsAttached, Reach, World, place_of}
+use Rattle.shelf.proofs.Grounding.{reading_has}
+use Rattle.shelf.proofs.LineCauses.{refusal_caused}
 
 -- ---- what is told decides
 
@@ -124,6 +128,42 @@ attach_unrefused line prov only_check readonly slot words old new refusal f h =
     attach_cause line prov only_check readonly slot words (reach f.before old) refusal (reach f.after new) f.finds f.unfailed
     (caused_at line (commands.Attach prov only_check readonly slot words) (bytes_at line prov) (FindsKey line slot readonly words) refusal old new f h)
 
-pub dump_unrefused : (line : List ℕ) (prov : Span) (old new : World) (refusal : Refusal) → FindsAt (bytes_at line prov) FindsMetadata old new → Caused line (commands.Dump prov) refusal old new → ⊥
-dump_unrefused line prov old new refusal f h =
-    no_dump_cause line prov f.finds.0 (reach f.before old) refusal (reach f.after new) f.finds.1 f.unfailed (caused_at line (commands.Dump prov) (bytes_at line prov) FindsMetadata refusal old new f h)
+pub dump_unrefused : (line : List ℕ) (prov : Span) (m : Metadata) (old new : World) (refusal : Refusal) → FindsAt (bytes_at line prov) (FindsMetadata m) old new → Caused line (commands.Dump prov) refusal old new → ⊥
+dump_unrefused line prov m old new refusal f h =
+    no_dump_cause line prov m (reach f.before old) refusal (reach f.after new) f.finds f.unfailed (caused_at line (commands.Dump prov) (bytes_at line prov) (FindsMetadata m) refusal old new f h)
+
+-- ---- the answers
+
+-- the row that a line of the named drawer goes through
+row_at : (line : List ℕ) (command : Command) (name : List ℕ) (Finds : Reach → Type 0) (old : World) (answer : Answer) (new : World) (f : FindsAt name Finds old new) → takes_out command ≡ false → TurnOf (ServesAt (takes_out command) line command) name old answer new
+    → ChangesAt (Serves line command) old answer new f.place
+row_at line command name Finds old answer new f stays h =
+    let at : ServesAt (takes_out command) line command old answer new f.place = subst (λ (o : Option ℕ). MatchOption o (IsUnknown old answer new) (ServesAt (takes_out command) line command old answer new)) f.named h in
+    subst (λ (out : Bool). ServesAt out line command old answer new f.place) stays at
+
+done_unless : (answer : Result (Unit {0}) Refusal) (reply : Answer) → reply ≡ done_or answer → ((refusal : Refusal) → reply ≡ answers.Refused refusal → refusal ≡ refusals.NoMemory) → (reply ≡ answers.Done) ⊎ (reply ≡ answers.Refused refusals.NoMemory)
+done_unless (Ok done) reply is memory = inl is
+done_unless (Err refusal) reply is memory = inr (is ∙ ap (λ (r : Refusal). answers.Refused r) (memory refusal is))
+
+pub attach_answers : (line : List ℕ) (prov : Span) (only_check readonly : Bool) (slot : Option ℕ) (words : KeyWords) (old : World) (answer : Answer) (new : World) → FindsAt (bytes_at line prov) (FindsKey line slot readonly words) old new
+    → Turn line (commands.Attach prov only_check readonly slot words) old answer new → (answer ≡ answers.Done) ⊎ (answer ≡ answers.Refused refusals.NoMemory)
+attach_answers line prov only_check readonly slot words old answer new f h =
+    let command : Command = commands.Attach prov only_check readonly slot words in
+    let row = (row_at line command (bytes_at line prov) (FindsKey line slot readonly words) old answer new f refl h).step in
+    done_unless row.answer answer row.replied
+    (λ refusal is. attach_unrefused line prov only_check readonly slot words old new refusal f (refusal_caused line command old refusal new (subst (λ (a : Answer). Turn line command old a new) is h)))
+
+dumps : (m : Metadata) (old : Reach) (answer : Result Metadata Refusal) (new : Reach) (reply : Answer) → ShowsMetadata old.disk m → DumpRow old answer new → reply ≡ dump_or answer → ((refusal : Refusal) → reply ≡ answers.Refused refusal → ⊥) → reply ≡ answers.Dump m
+dumps m old (Ok found) new reply shows row is refused =
+    let same : Ok found ≡ Ok m = reads_same old.disk m (Ok found) shows (reading_has old found new row).found in
+    let same : found ≡ m = cc same in
+    is ∙ ap (λ (x : Metadata). answers.Dump x) same
+dumps m old (Err refusal) new reply shows row is refused = absurd (refused refusal is)
+
+pub dump_answers : (line : List ℕ) (prov : Span) (m : Metadata) (old : World) (answer : Answer) (new : World) → FindsAt (bytes_at line prov) (FindsMetadata m) old new → Turn line (commands.Dump prov) old answer new → answer ≡ answers.Dump m
+dump_answers line prov m old answer new f h =
+    let command : Command = commands.Dump prov in
+    let at = row_at line command (bytes_at line prov) (FindsMetadata m) old answer new f refl h in
+    let before : at.before ≡ f.before = cc (at.found, f.found) in
+    dumps m (reach at.before old) at.step.answer (reach at.after new) answer (subst (λ (d : DrawerState). ShowsMetadata d.disk m) (sym before) f.finds) at.step.row at.step.replied
+    (λ refusal is. dump_unrefused line prov m old new refusal f (refusal_caused line command old refusal new (subst (λ (a : Answer). Turn line command old a new) is h)))

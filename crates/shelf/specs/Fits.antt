@@ -22,8 +22,8 @@ pub record ShowsMetadata (disk : DiskState) (m : Metadata) : Type 0 where
   pub told : disk.content ≡ Some content
   pub read : metadata_in (present content (last_sector disk)) ≡ Ok m
 
-abbrev pub FindsMetadata : Reach → Type 0
-FindsMetadata old = (m : Metadata) × ShowsMetadata old.disk m
+abbrev pub FindsMetadata : Metadata → Reach → Type 0
+FindsMetadata m old = ShowsMetadata old.disk m
 
 -- the drawer is idle, its metadata are admitted, and the key of the told files that the words name opens a slot that is asked for
 pub record FindsKey (line : List ℕ) (slot : Option ℕ) (readonly : Bool) (words : KeyWords) (old : Reach) : Type 0 where

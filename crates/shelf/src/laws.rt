@@ -1,8 +1,8 @@
 // What holds of one command after another.
-ghost use Rattle.std.specs.Prelude.{◌≡◌, ℕ, Bool, List, Option, Result, Ok, IfSome, IsSome};
+ghost use Rattle.std.specs.Prelude.{◌≡◌, ◌⊎◌, ℕ, Bool, List, Option, Result, Ok, IfSome, IsSome};
 ghost use Rattle.command_words.specs.Places.{bytes_at};
 ghost use Rattle.command_words.specs.declared.commands.Command.{Command};
-ghost use Rattle.command_words.specs.declared.commands.Command.TheVariants.{Attach, Dump};
+ghost use Rattle.command_words.specs.declared.commands.Command.TheVariants as commands;
 ghost use Rattle.command_words.specs.declared.spans.Span.{Span};
 ghost use Rattle.eli_base.specs.declared.refusals.Refusal.{Refusal};
 ghost use Rattle.eli_base.specs.declared.refusals.Refusal.TheVariants.{NoMemory};
@@ -10,7 +10,7 @@ ghost use Rattle.eli_metadata.specs.declared.metadata.Metadata.{Metadata};
 ghost use Rattle.shelf.specs.Opening.{NamesSameKey, OpensOrFails};
 ghost use Rattle.shelf.specs.Steps.{LoadsComponents, MakesProvider};
 ghost use Rattle.shelf.specs.Stops.{LeavesOldOrNew};
-ghost use Rattle.shelf.specs.Answer.{Answer, Refused};
+ghost use Rattle.shelf.specs.Answer.{Answer, Done, Dump, Refused};
 ghost use Rattle.shelf.specs.Causes.{Caused};
 ghost use Rattle.shelf.specs.Counts.{CountsFailures};
 ghost use Rattle.shelf.specs.Fits.{FindsAt, FindsKey, FindsMetadata};
@@ -67,15 +67,20 @@ pub fn a_refusal_has_its_cause()
 {}
 
 /// The law above says when a line is served, since its causes can be ruled out. Where the drawer that the line names tells its content,
-/// whose last sector is read as metadata, and no count of faults rises, `dump` has no cause to be refused. Where besides the drawer is idle,
-/// the metadata are admitted and the cabinet tells files by which the words name a key that opens a slot that is asked for, `attach` has none
-/// but want of memory.
+/// whose last sector is read as metadata, and no count of faults rises, `dump` has no cause to be refused, and answers them. Where
+/// besides the drawer is idle, the metadata are admitted and the cabinet tells files by which the words name a key that opens a slot that
+/// is asked for, `attach` has none but want of memory: it is done, or there was no memory.
 pub fn no_cause_is_left_where_all_is_found()
     ensures attach { (line : List ℕ) (prov : Span) (only_check readonly : Bool) (slot : Option ℕ) (words : KeyWords) (old new : World) (refusal : Refusal) →
         FindsAt (bytes_at line prov) (FindsKey line slot readonly words) old new →
-        Caused line (Attach prov only_check readonly slot words) refusal old new → refusal ≡ NoMemory }
-    ensures dump { (line : List ℕ) (prov : Span) (old new : World) (refusal : Refusal) →
-        FindsAt (bytes_at line prov) FindsMetadata old new → ¬ Caused line (Dump prov) refusal old new }
+        Caused line (commands.Attach prov only_check readonly slot words) refusal old new → refusal ≡ NoMemory }
+    ensures dump { (line : List ℕ) (prov : Span) (m : Metadata) (old new : World) (refusal : Refusal) →
+        FindsAt (bytes_at line prov) (FindsMetadata m) old new → ¬ Caused line (commands.Dump prov) refusal old new }
+    ensures attach_answers { (line : List ℕ) (prov : Span) (only_check readonly : Bool) (slot : Option ℕ) (words : KeyWords) (old : World) (answer : Answer) (new : World) →
+        FindsAt (bytes_at line prov) (FindsKey line slot readonly words) old new →
+        Turn line (commands.Attach prov only_check readonly slot words) old answer new → (answer ≡ Done) ⊎ (answer ≡ Refused NoMemory) }
+    ensures dump_answers { (line : List ℕ) (prov : Span) (m : Metadata) (old : World) (answer : Answer) (new : World) →
+        FindsAt (bytes_at line prov) (FindsMetadata m) old new → Turn line (commands.Dump prov) old answer new → answer ≡ Dump m }
 {}
 
 /// No line makes a count of the cabinet or the entropy fall. That the cabinet or the entropy failed is answered only where its count of faults

@@ -1,115 +1,243 @@
 -- That nothing refuses a line that finds what it needs.
-use Rattle.std.proofs.Common.{◌≡◌, ◌∙◌, ◌⊎◌, ℕ, List, refl, ap, sym, subst, inl, inr, arith, Bool, false, Option, Some, Result, Ok, Err}
-use Rattle.std.specs.Prelude.{IfSome, MatchOption}
+use Rattle.std.proofs.Common.{◌≡◌, ◌∙◌, ◌⊎◌, ℕ, List, refl, ap, sym, subst, inl, inr, arith, Bool, true, false, Option, None, Some, Result, Ok, Err}
+use Rattle.std.specs.Prelude.{ℤ, IfSome, IsTrue, MatchOption, unwrap_or}
+use Rattle.std.specs.Option.{option_or}
+use Rattle.backup_restore.specs.Restoring.{restored}
 use Rattle.block_traits.specs.Cabinet.{CabinetState, Files}
-use Rattle.block_traits.specs.Content.{Content}
+use Rattle.block_traits.specs.Content.{Content, present}
 use Rattle.block_traits.specs.Disk.{DiskState, GivesFrom, last_sector}
-use Rattle.command_words.specs.Places.{bytes_at}
+use Rattle.command_words.specs.Places.{bytes_at, provider_of}
 use Rattle.command_words.specs.declared.commands.Command.{Command}
 use Rattle.command_words.specs.declared.commands.Command.TheVariants as commands
 use Rattle.command_words.specs.declared.spans.KeyWords.{KeyWords}
 use Rattle.command_words.specs.declared.spans.Span.{Span}
+use Rattle.eli_base.specs.declared.parameters.MasterKey.{MasterKey}
 use Rattle.eli_base.specs.declared.refusals.Refusal.{Refusal}
 use Rattle.eli_base.specs.declared.refusals.Refusal.TheVariants as refusals
 use Rattle.eli_metadata.specs.Format.{metadata_in}
 use Rattle.eli_metadata.specs.declared.metadata.Metadata.{Metadata}
 use Rattle.eli_metadata.specs.declared.metadata.MetaFault.{MetaFault}
+use Rattle.key_commands.specs.NewKey.{change_refusal}
+use Rattle.key_commands.specs.Options.{early_refusal}
+use Rattle.key_commands.specs.Overwriting.{deletion_refusal}
+use Rattle.key_commands.specs.declared.options.InitOptions.{InitOptions}
+use Rattle.key_commands.specs.declared.overwriting.Which.{Which}
+use Rattle.key_components.specs.Answers.{file_answer}
+use Rattle.key_components.specs.Files.{file_limit}
 use Rattle.key_components.specs.Key.{components_of}
+use Rattle.resize_kill.specs.Resizing.{old_place, old_refusal, size_refusal}
 use Rattle.user_key.specs.Derivation.{user_key}
 use Rattle.user_key.specs.declared.components.Components.{Components}
-use Rattle.shelf.specs.Answer.{Answer}
 use Rattle.shelf.specs.Answer as answers
-use Rattle.shelf.specs.Causes.{AttachedWith, Caused, CausedAt, HasCause}
-use Rattle.shelf.specs.Fits.{FailsNowhere, FindsAt, FindsKey, FindsMetadata, ShowsMetadata}
-use Rattle.shelf.specs.Grounds.{AreComponents, IsReadAs, LacksMetadata, RefusesAttach, RefusesFiles, RefusesTrial}
+use Rattle.shelf.specs.Causes.{AsksBytes, AsksSectors, AttachedWith, Caused, CausedAt, CausedBy, FindsFault, HasCause, may_lack_memory, needs_attached, needs_idle, writes_data}
+use Rattle.shelf.specs.Fits.{FailsNowhere, FindsAt, FindsAttached, FindsBackup, FindsChange, FindsKey, FindsNew, FindsNewKey, FindsOldKey, FindsOldPlace, FindsSetkey, FindsSlots, Fits, NamesParts, ShowsAt, ShowsMetadata}
+use Rattle.shelf.specs.Grounds.{AreComponents, FindsBadFile, HasGround, HasMetadata, IsFile, IsReadAs, LacksMetadata, RefusesAttach, RefusesBackup, RefusesBoth, RefusesChange, RefusesDelkey, RefusesFile, RefusesFiles, RefusesNew, RefusesNewKey, RefusesOldPlace, RefusesSetkey, RefusesSlots, RefusesTrial}
+use Rattle.shelf.specs.Keys.{named_slots, opened_by, slot_of}
 use Rattle.shelf.specs.Steps.{admitted, tried}
-use Rattle.shelf.specs.Turn.{ChangesAt, DumpRow, IsUnknown, Serves, ServesAt, Turn, TurnOf, done_or, dump_or, reach, takes_out}
+use Rattle.shelf.specs.Turn.{Turn, reach}
 use Rattle.shelf.specs.World.{Attachment, DrawerState, Holding, Idle, IsAttached, Reach, World, place_of}
-use Rattle.shelf.proofs.Grounding.{reading_has}
 use Rattle.shelf.proofs.LineCauses.{refusal_caused}
 
 -- ---- what is told decides
 
-reads_same : (disk : DiskState) (m : Metadata) (found : Result Metadata MetaFault) → ShowsMetadata disk m → IsReadAs disk (last_sector disk) found → found ≡ Ok m
-reads_same disk m found shows read =
-    let bytes : read.bytes ≡ _ = subst (λ (o : Option Content). GivesFrom o (last_sector disk) read.bytes) shows.told read.told in
+reads_same : (disk : DiskState) (place : ℕ) (m : Metadata) (found : Result Metadata MetaFault) → ShowsAt disk place m → IsReadAs disk place found → found ≡ Ok m
+reads_same disk place m found shows read =
+    let bytes : read.bytes ≡ present shows.content place = subst (λ (o : Option Content). GivesFrom o place read.bytes) shows.told read.told in
     sym read.read ∙ (ap metadata_in bytes ∙ shows.read)
 
-none_lacks : (disk : DiskState) (m : Metadata) (refusal : Refusal) → ShowsMetadata disk m → LacksMetadata disk refusal → ⊥
-none_lacks disk m refusal shows (inl h) = omega (arith, shows.enough, h.0)
-none_lacks disk m refusal shows (inr h) = let is : Err h.fault ≡ Ok m = reads_same disk m (Err h.fault) shows h.found in let none : ⊥ = cc is in none
+has_same : (disk : DiskState) (m found : Metadata) → ShowsMetadata disk m → HasMetadata disk found → found ≡ m
+has_same disk m found shows has = let same : Ok found ≡ Ok m = reads_same disk (last_sector disk) m (Ok found) shows.shown has.found in cc same
 
-parts_same : (told : Option Files) (files : Files) (line : List ℕ) (words : KeyWords) (parts named : Components) → told ≡ Some files → components_of files line words ≡ Ok parts → AreComponents told line words named → named ≡ parts
-parts_same told files line words parts named is good h =
-    let other : components_of files line words ≡ Ok named = subst (λ (o : Option Files). IfSome o (λ f. components_of f line words ≡ Ok named)) is h.named in
-    cc (good, other)
+has_metadata : (disk : DiskState) (m : Metadata) (refusal : Refusal) → ShowsMetadata disk m → LacksMetadata disk refusal → ⊥
+has_metadata disk m refusal shows (inl h) = omega (arith, shows.enough, h.0)
+has_metadata disk m refusal shows (inr h) = let is : Err h.fault ≡ Ok m = reads_same disk (last_sector disk) m (Err h.fault) shows.shown h.found in let none : ⊥ = cc is in none
+
+parts_same : (line : List ℕ) (words : KeyWords) (cabinet : CabinetState) (parts named : Components) → NamesParts line words cabinet parts → AreComponents cabinet.files line words named → named ≡ parts
+parts_same line words cabinet parts named names h =
+    let other : components_of names.files line words ≡ Ok named = subst (λ (o : Option Files). IfSome o (λ f. components_of f line words ≡ Ok named)) names.told h.named in
+    cc (names.named, other)
+
+no_bad_file : (line : List ℕ) (words : KeyWords) (parts : Components) (old : CabinetState) (refusal : Refusal) (new : CabinetState) → NamesParts line words old parts → RefusesFiles line words old refusal new → ⊥
+no_bad_file line words parts old refusal new names h =
+    let bad : components_of names.files line words ≡ Err refusal = subst (λ (o : Option Files). IfSome o (λ files. components_of files line words ≡ Err refusal)) names.told h.first in
+    let none : ⊥ = cc (bad, names.named) in
+    none
+
+-- what is answered isn't refused
+not_both : {A : Type 0} (answer : Result A Refusal) (value : A) (refusal : Refusal) → answer ≡ Ok value → answer ≡ Err refusal → ⊥
+not_both answer value refusal ok err = let none : ⊥ = cc (ok, err) in none
+
+not_some : (found : Option Refusal) (refusal : Refusal) → found ≡ None → found ≡ Some refusal → ⊥
+not_some found refusal none some = let none : ⊥ = cc (none, some) in none
+
+-- ---- the grounds
 
 trial_fits : (line : List ℕ) (slot : Option ℕ) (readonly : Bool) (words : KeyWords) (old : Reach) (f : FindsKey line slot readonly words old) (refusal : Refusal) → RefusesTrial line slot readonly words f.m old refusal → ⊥
 trial_fits line slot readonly words old f refusal h =
     let settings : h.settings ≡ f.settings = cc (h.admits, f.admits) in
-    let parts : h.parts ≡ f.parts = parts_same old.cabinet.files f.files line words f.parts h.parts f.told f.named h.named in
+    let parts : h.parts ≡ f.parts = parts_same line words old.cabinet f.parts h.parts f.names h.named in
     let refused : tried f.m f.settings slot readonly (user_key f.parts f.m.salt f.m.iterations) ≡ Err refusal = rw (← settings, ← parts) h.refused in
-    let none : ⊥ = cc (refused, f.opens) in
-    none
+    not_both _ f.a refusal f.opens refused
+
+attach_by : (line : List ℕ) (slot : Option ℕ) (readonly : Bool) (words : KeyWords) (old : Reach) (f : FindsKey line slot readonly words old) (refusal : Refusal)
+    → (admitted f.m old.disk.size slot ≡ Err refusal) ⊎ RefusesTrial line slot readonly words f.m old refusal → ⊥
+attach_by line slot readonly words old f refusal (inl h) = not_both _ f.settings refusal f.admits h
+attach_by line slot readonly words old f refusal (inr h) = trial_fits line slot readonly words old f refusal h
 
 attach_fits : (line : List ℕ) (slot : Option ℕ) (readonly : Bool) (words : KeyWords) (old : Reach) (f : FindsKey line slot readonly words old) (refusal : Refusal)
-    → (admitted f.m old.disk.size slot ≡ Err refusal) ⊎ RefusesTrial line slot readonly words f.m old refusal → ⊥
-attach_fits line slot readonly words old f refusal (inl h) = let none : ⊥ = cc (h, f.admits) in none
-attach_fits line slot readonly words old f refusal (inr h) = trial_fits line slot readonly words old f refusal h
+    → LacksMetadata old.disk refusal ⊎ RefusesAttach line slot readonly words old refusal → ⊥
+attach_fits line slot readonly words old f refusal (inl h) = has_metadata old.disk f.m refusal f.shows h
+attach_fits line slot readonly words old f refusal (inr h) =
+    attach_by line slot readonly words old f refusal
+    (subst (λ (m : Metadata). (admitted m old.disk.size slot ≡ Err refusal) ⊎ RefusesTrial line slot readonly words m old refusal) (has_same old.disk f.m h.m f.shows h.found) h.refused)
 
-no_ground : (line : List ℕ) (slot : Option ℕ) (readonly : Bool) (words : KeyWords) (old : Reach) (refusal : Refusal) → FindsKey line slot readonly words old → LacksMetadata old.disk refusal ⊎ RefusesAttach line slot readonly words old refusal → ⊥
-no_ground line slot readonly words old refusal f (inl h) = none_lacks old.disk f.m refusal f.shows h
-no_ground line slot readonly words old refusal f (inr h) =
-    let read : Ok h.m ≡ Ok f.m = reads_same old.disk f.m (Ok h.m) f.shows h.found.found in
-    let same : h.m ≡ f.m = cc read in
-    attach_fits line slot readonly words old f refusal
-    (subst (λ (m : Metadata). (admitted m old.disk.size slot ≡ Err refusal) ⊎ RefusesTrial line slot readonly words m old refusal) same h.refused)
+init_fits : (line : List ℕ) (options : InitOptions) (fresh : KeyWords) (old : Reach) (f : FindsNew line options fresh old) (refusal : Refusal) → RefusesNew line options fresh old refusal → ⊥
+init_fits line options fresh old f refusal h =
+    let parts : h.parts ≡ f.parts = parts_same line fresh old.cabinet f.parts h.parts f.names h.named in
+    not_some _ refusal f.served (subst (λ (p : Components). early_refusal options p old.disk.size ≡ Some refusal) parts h.refused)
 
-no_bad_file : (line : List ℕ) (slot : Option ℕ) (readonly : Bool) (words : KeyWords) (old : Reach) (refusal : Refusal) (new : CabinetState) → FindsKey line slot readonly words old → RefusesFiles line words old.cabinet refusal new → ⊥
-no_bad_file line slot readonly words old refusal new f h =
-    let bad : components_of f.files line words ≡ Err refusal = subst (λ (o : Option Files). IfSome o (λ files. components_of files line words ≡ Err refusal)) f.told h.first in
-    let none : ⊥ = cc (bad, f.named) in
-    none
+new_key_fits : (line : List ℕ) (iterations : Option ℤ) (slot : ℕ) (master : List ℕ) (fresh : KeyWords) (m : Metadata) (old : Reach) (f : FindsNewKey line iterations slot master fresh m old) (refusal : Refusal)
+    → RefusesNewKey line iterations slot master fresh m old refusal → ⊥
+new_key_fits line iterations slot master fresh m old f refusal h =
+    let parts : h.parts ≡ f.parts = parts_same line fresh old.cabinet f.parts h.parts f.names h.named in
+    not_some _ refusal f.served (subst (λ (p : Components). change_refusal (record { meta = m; master = master; slot = slot; iterations = iterations; parts = p }) ≡ Some refusal) parts h.refused)
 
-idle_has_none : (Holds : Attachment → Type 0) (holding : Holding) → holding ≡ Idle → AttachedWith holding Holds → ⊥
-idle_has_none Holds holding is h = subst (λ (x : Holding). AttachedWith x Holds) is h
+old_key_fits : (line : List ℕ) (iterations : Option ℤ) (slot : Option ℕ) (words fresh : KeyWords) (m : Metadata) (old : Reach) (f : FindsOldKey line iterations slot words fresh m old) (refusal : Refusal)
+    → RefusesChange Idle line iterations slot words fresh m old refusal → ⊥
+old_key_fits line iterations slot words fresh m old f refusal (inl h) = not_both _ f.settings refusal f.admits h
+old_key_fits line iterations slot words fresh m old f refusal (inr (inl h)) = not_both _ tt refusal f.there h
+old_key_fits line iterations slot words fresh m old f refusal (inr (inr (inl h))) =
+    let parts : h.parts ≡ f.parts = parts_same line words old.cabinet f.parts h.parts f.names h.named in
+    not_both _ f.found refusal f.opens (subst (λ (p : Components). opened_by m (user_key p m.salt m.iterations) ≡ Err refusal) parts h.refused)
+old_key_fits line iterations slot words fresh m old f refusal (inr (inr (inr h))) =
+    let parts : h.parts ≡ f.parts = parts_same line words old.cabinet f.parts h.parts f.names h.named in
+    let opens : opened_by m (user_key f.parts m.salt m.iterations) ≡ Ok h.found = subst (λ (p : Components). opened_by m (user_key p m.salt m.iterations) ≡ Ok h.found) parts h.opens in
+    let found : h.found ≡ f.found = cc (f.opens, opens) in
+    new_key_fits line iterations (unwrap_or slot f.found.1) f.found.0.bytes fresh m old f.next refusal
+    (subst (λ (k : MasterKey × ℕ). RefusesNewKey line iterations (unwrap_or slot k.1) k.0.bytes fresh m old refusal) found h.refuses)
+
+attached_fits : (line : List ℕ) (iterations : Option ℤ) (slot : Option ℕ) (words fresh : KeyWords) (a : Attachment) (m : Metadata) (old : Reach)
+    → FindsAttached line iterations (unwrap_or slot a.slot) a.keying.master fresh m old → (refusal : Refusal) → RefusesChange (IsAttached a) line iterations slot words fresh m old refusal → ⊥
+attached_fits line iterations slot words fresh a m old f refusal (inl h) = not_both _ f.settings refusal f.uses h
+attached_fits line iterations slot words fresh a m old f refusal (inr (inl h)) = not_both _ tt refusal f.there h
+attached_fits line iterations slot words fresh a m old f refusal (inr (inr h)) = new_key_fits line iterations (unwrap_or slot a.slot) a.keying.master fresh m old f.next refusal h
+
+change_fits : (holding : Holding) (line : List ℕ) (iterations : Option ℤ) (slot : Option ℕ) (words fresh : KeyWords) (m : Metadata) (old : Reach) → FindsChange holding line iterations slot words fresh m old → (refusal : Refusal)
+    → RefusesChange holding line iterations slot words fresh m old refusal → ⊥
+change_fits Idle line iterations slot words fresh m old f refusal h = old_key_fits line iterations slot words fresh m old f refusal h
+change_fits (IsAttached a) line iterations slot words fresh m old f refusal h = attached_fits line iterations slot words fresh a m old f refusal h
+
+setkey_fits : (line : List ℕ) (iterations : Option ℤ) (slot : Option ℕ) (words fresh : KeyWords) (old : Reach) (f : FindsSetkey line iterations slot words fresh old) (refusal : Refusal)
+    → LacksMetadata old.disk refusal ⊎ RefusesSetkey line iterations slot words fresh old refusal → ⊥
+setkey_fits line iterations slot words fresh old f refusal (inl h) = has_metadata old.disk f.m refusal f.shows h
+setkey_fits line iterations slot words fresh old f refusal (inr h) =
+    change_fits old.holding line iterations slot words fresh f.m old f.change refusal
+    (subst (λ (m : Metadata). RefusesChange old.holding line iterations slot words fresh m old refusal) (has_same old.disk f.m h.m f.shows h.found) h.refused)
+
+both_load : (holding : Holding) (line : List ℕ) (iterations : Option ℤ) (slot : Option ℕ) (words fresh : KeyWords) (m : Metadata) (old : Reach) → FindsChange holding line iterations slot words fresh m old → (refusal : Refusal) (new : CabinetState)
+    → RefusesBoth holding line words fresh old.cabinet refusal new → ⊥
+both_load Idle line iterations slot words fresh m old f refusal new (inl h) = no_bad_file line words f.parts old.cabinet refusal new f.names h
+both_load Idle line iterations slot words fresh m old f refusal new (inr h) = no_bad_file line fresh f.next.parts old.cabinet refusal new f.next.names h
+both_load (IsAttached a) line iterations slot words fresh m old f refusal new h = no_bad_file line fresh f.next.parts old.cabinet refusal new f.next.names h
+
+slots_by : (all force : Bool) (slot : Option ℕ) (old : Reach) (f : FindsSlots all force slot old) (refusal : Refusal) → (named_slots all slot ≡ Err refusal) ⊎ RefusesSlots all force slot f.m refusal → ⊥
+slots_by all force slot old f refusal (inl h) = not_both _ f.which refusal f.names h
+slots_by all force slot old f refusal (inr h) =
+    let which : h.which ≡ f.which = cc (h.names, f.names) in
+    not_some _ refusal f.served (subst (λ (w : Which). deletion_refusal f.m w force ≡ Some refusal) which h.refused)
+
+delkey_fits : (all force : Bool) (slot : Option ℕ) (old : Reach) (f : FindsSlots all force (option_or slot (slot_of old.holding)) old) (refusal : Refusal) → LacksMetadata old.disk refusal ⊎ RefusesDelkey all force slot old refusal → ⊥
+delkey_fits all force slot old f refusal (inl h) = has_metadata old.disk f.m refusal f.shows h
+delkey_fits all force slot old f refusal (inr h) =
+    let named : Option ℕ = option_or slot (slot_of old.holding) in
+    slots_by all force named old f refusal
+    (subst (λ (m : Metadata). (named_slots all named ≡ Err refusal) ⊎ RefusesSlots all force named m refusal) (has_same old.disk f.m h.m f.shows h.found) h.refused)
+
+restore_fits : (line : List ℕ) (file : Span) (force : Bool) (old : Reach) (f : FindsBackup line file force old) (refusal : Refusal) → RefusesBackup line file force old refusal → ⊥
+restore_fits line file force old f refusal h =
+    let loads : file_answer file.word file_limit (f.files (bytes_at line file)) ≡ Ok h.bytes = subst (λ (o : Option Files). IsFile o line file h.bytes) f.told h.named in
+    let bytes : h.bytes ≡ f.bytes = cc (f.loads, loads) in
+    not_both _ f.m refusal f.served (subst (λ (b : List ℕ). restored b force old.disk.size ≡ Err refusal) bytes h.refused)
+
+file_loads : (line : List ℕ) (file : Span) (force : Bool) (old : Reach) (f : FindsBackup line file force old) (refusal : Refusal) (new : CabinetState) → RefusesFile line file old.cabinet refusal new → ⊥
+file_loads line file force old f refusal new h =
+    let bad : file_answer file.word file_limit (f.files (bytes_at line file)) ≡ Err refusal = subst (λ (o : Option Files). IfSome o (λ files. file_answer file.word file_limit (files (bytes_at line file)) ≡ Err refusal)) f.told h.first in
+    not_both _ f.bytes refusal f.loads bad
+
+resize_fits : (oldsize : ℕ) (old : Reach) (f : FindsOldPlace oldsize old) (refusal : Refusal) → (size_refusal old.disk.size oldsize ≡ Some refusal) ⊎ RefusesOldPlace oldsize old refusal → ⊥
+resize_fits oldsize old f refusal (inl h) = not_some _ refusal f.sizes h
+resize_fits oldsize old f refusal (inr h) =
+    let found : h.found ≡ Ok f.m = reads_same old.disk (old_place oldsize) f.m h.found f.shows h.read in
+    not_some _ refusal f.served (subst (λ (r : Result Metadata MetaFault). old_refusal r oldsize ≡ Some refusal) found h.refused)
 
 -- ---- the causes
 
-attach_cause : (line : List ℕ) (prov : Span) (only_check readonly : Bool) (slot : Option ℕ) (words : KeyWords) (old : Reach) (refusal : Refusal) (new : Reach) → FindsKey line slot readonly words old → FailsNowhere old new
-    → HasCause line (commands.Attach prov only_check readonly slot words) old refusal new → refusal ≡ refusals.NoMemory
-attach_cause line prov only_check readonly slot words old refusals.NotAttached new f fails h = absurd (let none : ⊥ = cc (h.0) in none)
-attach_cause line prov only_check readonly slot words old refusals.StillAttached new f fails h = absurd (idle_has_none _ old.holding f.idle h.1)
-attach_cause line prov only_check readonly slot words old refusals.ReadOnly new f fails h = absurd (let none : ⊥ = cc (h.0) in none)
-attach_cause line prov only_check readonly slot words old (refusals.OutOfRange sector count there) new f fails h = absurd (idle_has_none _ old.holding f.idle h)
-attach_cause line prov only_check readonly slot words old (refusals.BadLength given size) new f fails h = absurd (idle_has_none _ old.holding f.idle h)
-attach_cause line prov only_check readonly slot words old (refusals.Integrity offset) new f fails h = absurd (idle_has_none _ old.holding f.idle h)
-attach_cause line prov only_check readonly slot words old refusals.DeviceFault new f fails h = absurd (fails.disk h)
-attach_cause line prov only_check readonly slot words old refusals.EntropyFault new f fails h = absurd (fails.entropy h)
-attach_cause line prov only_check readonly slot words old (refusals.CabinetFault word) new f fails h = absurd (fails.cabinet h)
-attach_cause line prov only_check readonly slot words old (refusals.FileAbsent word) new f fails h = absurd (no_bad_file line slot readonly words old (refusals.FileAbsent word) new.cabinet f h)
-attach_cause line prov only_check readonly slot words old (refusals.FileTooLong word limit) new f fails h = absurd (no_bad_file line slot readonly words old (refusals.FileTooLong word limit) new.cabinet f h)
-attach_cause line prov only_check readonly slot words old refusals.NoMemory new f fails h = refl
-attach_cause line prov only_check readonly slot words old refusal new f fails h = absurd (no_ground line slot readonly words old refusal f h)
+-- no request on the data of an attached provider
+record IsApart (line : List ℕ) (command : Command) : Type 0 where
+  attached : needs_attached command ≡ false
+  writes : writes_data command ≡ false
+  bytes : (count : ℕ) (a : Attachment) → AsksBytes line command count a → ⊥
+  sectors : (first many : ℕ) (a : Attachment) → AsksSectors line command first many a → ⊥
+  faults : (disk : DiskState) (offset : ℕ) (a : Attachment) → FindsFault command disk offset a → ⊥
+
+never_true : (b : Bool) → b ≡ false → IsTrue b → ⊥
+never_true b is h = let none : ⊥ = cc (is, h) in none
 
 never_asked : (Holds : Attachment → Type 0) (holding : Holding) → ((a : Attachment) → Holds a → ⊥) → AttachedWith holding Holds → ⊥
 never_asked Holds Idle never h = h
 never_asked Holds (IsAttached a) never h = never a h
 
-no_dump_cause : (line : List ℕ) (prov : Span) (m : Metadata) (old : Reach) (refusal : Refusal) (new : Reach) → ShowsMetadata old.disk m → FailsNowhere old new → HasCause line (commands.Dump prov) old refusal new → ⊥
-no_dump_cause line prov m old refusals.NotAttached new shows fails h = let none : ⊥ = cc (h.0) in none
-no_dump_cause line prov m old refusals.StillAttached new shows fails h = let none : ⊥ = cc (h.0) in none
-no_dump_cause line prov m old refusals.ReadOnly new shows fails h = let none : ⊥ = cc (h.0) in none
-no_dump_cause line prov m old (refusals.OutOfRange sector count there) new shows fails h = never_asked _ old.holding (λ a passes. passes.asked) h
-no_dump_cause line prov m old (refusals.BadLength given size) new shows fails h = never_asked _ old.holding (λ a bad. bad.asked) h
-no_dump_cause line prov m old (refusals.Integrity offset) new shows fails h = never_asked _ old.holding (λ a fault. fault) h
-no_dump_cause line prov m old refusals.DeviceFault new shows fails h = fails.disk h
-no_dump_cause line prov m old refusals.EntropyFault new shows fails h = fails.entropy h
-no_dump_cause line prov m old (refusals.CabinetFault word) new shows fails h = fails.cabinet h
-no_dump_cause line prov m old (refusals.FileAbsent word) new shows fails h = h
-no_dump_cause line prov m old (refusals.FileTooLong word limit) new shows fails h = h
-no_dump_cause line prov m old refusals.NoMemory new shows fails h = let none : ⊥ = cc h in none
-no_dump_cause line prov m old refusal new shows fails h = none_lacks old.disk m refusal shows h
+idle_has_none : (Holds : Attachment → Type 0) (holding : Holding) → holding ≡ Idle → AttachedWith holding Holds → ⊥
+idle_has_none Holds holding is h = subst (λ (x : Holding). AttachedWith x Holds) is h
+
+only_memory : (line : List ℕ) (command : Command) (old : Reach) (refusal : Refusal) (new : Reach) → IsApart line command → (needs_idle command ≡ true → old.holding ≡ Idle) → FailsNowhere old new
+    → ((found : Refusal) (cabinet : CabinetState) → FindsBadFile line command old.holding old.cabinet found cabinet → ⊥) → ((found : Refusal) → HasGround line command old found → ⊥) → HasCause line command old refusal new → refusal ≡ refusals.NoMemory
+only_memory line command old refusals.NotAttached new apart idle fails files ground h = absurd (never_true (needs_attached command) apart.attached h.0)
+only_memory line command old refusals.StillAttached new apart idle fails files ground h = absurd (idle_has_none _ old.holding (idle h.0) h.1)
+only_memory line command old refusals.ReadOnly new apart idle fails files ground h = absurd (never_true (writes_data command) apart.writes h.0)
+only_memory line command old (refusals.OutOfRange sector count there) new apart idle fails files ground h = absurd (never_asked _ old.holding (λ a passes. apart.sectors sector count a passes.asked) h)
+only_memory line command old (refusals.BadLength given size) new apart idle fails files ground h = absurd (never_asked _ old.holding (λ a bad. apart.bytes given a bad.asked) h)
+only_memory line command old (refusals.Integrity offset) new apart idle fails files ground h = absurd (never_asked _ old.holding (λ a fault. apart.faults old.disk offset a fault) h)
+only_memory line command old refusals.DeviceFault new apart idle fails files ground h = absurd (fails.disk h)
+only_memory line command old refusals.EntropyFault new apart idle fails files ground h = absurd (fails.entropy h)
+only_memory line command old (refusals.CabinetFault word) new apart idle fails files ground h = absurd (fails.cabinet h)
+only_memory line command old (refusals.FileAbsent word) new apart idle fails files ground h = absurd (files (refusals.FileAbsent word) new.cabinet h)
+only_memory line command old (refusals.FileTooLong word limit) new apart idle fails files ground h = absurd (files (refusals.FileTooLong word limit) new.cabinet h)
+only_memory line command old refusals.NoMemory new apart idle fails files ground h = refl
+only_memory line command old refusal new apart idle fails files ground h = absurd (ground refusal h)
+
+never : false ≡ true → (old : Reach) → old.holding ≡ Idle
+never is old = absurd (let none : ⊥ = cc is in none)
+
+fits_cause : (line : List ℕ) (command : Command) (old : Reach) (refusal : Refusal) (new : Reach) → Fits line command old → FailsNowhere old new → HasCause line command old refusal new → refusal ≡ refusals.NoMemory
+fits_cause line (commands.Dump prov) old refusal new f fails h =
+    only_memory line (commands.Dump prov) old refusal new (record { attached = refl; writes = refl; bytes = λ n a x. x; sectors = λ n k a x. x; faults = λ d n a x. x }) (λ is. never is old) fails (λ found cabinet x. x)
+    (λ found x. has_metadata old.disk f.m found f.shows x) h
+fits_cause line (commands.Init prov cipher auth keylen sectorsize iterations autoresize fresh backup) old refusal new f fails h =
+    only_memory line (commands.Init prov cipher auth keylen sectorsize iterations autoresize fresh backup) old refusal new (record { attached = refl; writes = refl; bytes = λ n a x. x; sectors = λ n k a x. x; faults = λ d n a x. x })
+    (λ is. f.idle) fails (λ found cabinet x. no_bad_file line fresh f.parts old.cabinet found cabinet f.names x) (λ found x. init_fits line _ fresh old f found x) h
+fits_cause line (commands.Attach prov only_check readonly slot words) old refusal new f fails h =
+    only_memory line (commands.Attach prov only_check readonly slot words) old refusal new (record { attached = refl; writes = refl; bytes = λ n a x. x; sectors = λ n k a x. x; faults = λ d n a x. x })
+    (λ is. f.idle) fails (λ found cabinet x. no_bad_file line words f.parts old.cabinet found cabinet f.names x) (λ found x. attach_fits line slot readonly words old f found x) h
+fits_cause line (commands.Setkey prov iterations slot words fresh) old refusal new f fails h =
+    only_memory line (commands.Setkey prov iterations slot words fresh) old refusal new (record { attached = refl; writes = refl; bytes = λ n a x. x; sectors = λ n k a x. x; faults = λ d n a x. x }) (λ is. never is old) fails
+    (λ found cabinet x. both_load old.holding line iterations slot words fresh f.m old f.change found cabinet x) (λ found x. setkey_fits line iterations slot words fresh old f found x) h
+fits_cause line (commands.Delkey prov all force slot) old refusal new f fails h =
+    only_memory line (commands.Delkey prov all force slot) old refusal new (record { attached = refl; writes = refl; bytes = λ n a x. x; sectors = λ n k a x. x; faults = λ d n a x. x }) (λ is. never is old) fails (λ found cabinet x. x)
+    (λ found x. delkey_fits all force slot old f found x) h
+fits_cause line (commands.Kill prov) old refusal new f fails h =
+    only_memory line (commands.Kill prov) old refusal new (record { attached = refl; writes = refl; bytes = λ n a x. x; sectors = λ n k a x. x; faults = λ d n a x. x }) (λ is. never is old) fails (λ found cabinet x. x)
+    (λ found x. omega (arith, f, x.0)) h
+fits_cause line (commands.Backup prov file) old refusal new f fails h =
+    only_memory line (commands.Backup prov file) old refusal new (record { attached = refl; writes = refl; bytes = λ n a x. x; sectors = λ n k a x. x; faults = λ d n a x. x }) (λ is. never is old) fails (λ found cabinet x. x)
+    (λ found x. has_metadata old.disk f.m found f.shows x) h
+fits_cause line (commands.Restore file prov force) old refusal new f fails h =
+    only_memory line (commands.Restore file prov force) old refusal new (record { attached = refl; writes = refl; bytes = λ n a x. x; sectors = λ n k a x. x; faults = λ d n a x. x }) (λ is. f.idle) fails
+    (λ found cabinet x. file_loads line file force old f found cabinet x) (λ found x. restore_fits line file force old f found x) h
+fits_cause line (commands.Resize prov oldsize) old refusal new f fails h =
+    only_memory line (commands.Resize prov oldsize) old refusal new (record { attached = refl; writes = refl; bytes = λ n a x. x; sectors = λ n k a x. x; faults = λ d n a x. x }) (λ is. f.idle) fails (λ found cabinet x. x)
+    (λ found x. resize_fits oldsize old f found x) h
+fits_cause line command old refusal new f fails h = absurd f
 
 -- ---- a line
 
@@ -122,48 +250,16 @@ caused_at line command name Finds refusal old new f h =
     subst (λ (d : DrawerState). HasCause line command (reach d old) refusal (reach f.after new)) before
     (subst (λ (d : DrawerState). HasCause line command (reach at.before old) refusal (reach d new)) after at.cause)
 
-pub attach_unrefused : (line : List ℕ) (prov : Span) (only_check readonly : Bool) (slot : Option ℕ) (words : KeyWords) (old new : World) (refusal : Refusal) → FindsAt (bytes_at line prov) (FindsKey line slot readonly words) old new
-    → Caused line (commands.Attach prov only_check readonly slot words) refusal old new → refusal ≡ refusals.NoMemory
-attach_unrefused line prov only_check readonly slot words old new refusal f h =
-    attach_cause line prov only_check readonly slot words (reach f.before old) refusal (reach f.after new) f.finds f.unfailed
-    (caused_at line (commands.Attach prov only_check readonly slot words) (bytes_at line prov) (FindsKey line slot readonly words) refusal old new f h)
+pub fits_unrefused : (line : List ℕ) (command : Command) (prov : Span) (refusal : Refusal) (old new : World) → provider_of command ≡ Some prov → FindsAt (bytes_at line prov) (Fits line command) old new → Caused line command refusal old new
+    → refusal ≡ refusals.NoMemory
+fits_unrefused line command prov refusal old new names f h =
+    let caused : CausedBy (Some prov) line command refusal old new = subst (λ (o : Option Span). CausedBy o line command refusal old new) names h in
+    fits_cause line command (reach f.before old) refusal (reach f.after new) f.finds f.unfailed (caused_at line command (bytes_at line prov) (Fits line command) refusal old new f caused)
 
-pub dump_unrefused : (line : List ℕ) (prov : Span) (m : Metadata) (old new : World) (refusal : Refusal) → FindsAt (bytes_at line prov) (FindsMetadata m) old new → Caused line (commands.Dump prov) refusal old new → ⊥
-dump_unrefused line prov m old new refusal f h =
-    no_dump_cause line prov m (reach f.before old) refusal (reach f.after new) f.finds f.unfailed (caused_at line (commands.Dump prov) (bytes_at line prov) (FindsMetadata m) refusal old new f h)
-
--- ---- the answers
-
--- the row that a line of the named drawer goes through
-row_at : (line : List ℕ) (command : Command) (name : List ℕ) (Finds : Reach → Type 0) (old : World) (answer : Answer) (new : World) (f : FindsAt name Finds old new) → takes_out command ≡ false → TurnOf (ServesAt (takes_out command) line command) name old answer new
-    → ChangesAt (Serves line command) old answer new f.place
-row_at line command name Finds old answer new f stays h =
-    let at : ServesAt (takes_out command) line command old answer new f.place = subst (λ (o : Option ℕ). MatchOption o (IsUnknown old answer new) (ServesAt (takes_out command) line command old answer new)) f.named h in
-    subst (λ (out : Bool). ServesAt out line command old answer new f.place) stays at
-
-done_unless : (answer : Result (Unit {0}) Refusal) (reply : Answer) → reply ≡ done_or answer → ((refusal : Refusal) → reply ≡ answers.Refused refusal → refusal ≡ refusals.NoMemory) → (reply ≡ answers.Done) ⊎ (reply ≡ answers.Refused refusals.NoMemory)
-done_unless (Ok done) reply is memory = inl is
-done_unless (Err refusal) reply is memory = inr (is ∙ ap (λ (r : Refusal). answers.Refused r) (memory refusal is))
-
-pub attach_answers : (line : List ℕ) (prov : Span) (only_check readonly : Bool) (slot : Option ℕ) (words : KeyWords) (old : World) (answer : Answer) (new : World) → FindsAt (bytes_at line prov) (FindsKey line slot readonly words) old new
-    → Turn line (commands.Attach prov only_check readonly slot words) old answer new → (answer ≡ answers.Done) ⊎ (answer ≡ answers.Refused refusals.NoMemory)
-attach_answers line prov only_check readonly slot words old answer new f h =
-    let command : Command = commands.Attach prov only_check readonly slot words in
-    let row = (row_at line command (bytes_at line prov) (FindsKey line slot readonly words) old answer new f refl h).step in
-    done_unless row.answer answer row.replied
-    (λ refusal is. attach_unrefused line prov only_check readonly slot words old new refusal f (refusal_caused line command old refusal new (subst (λ (a : Answer). Turn line command old a new) is h)))
-
-dumps : (m : Metadata) (old : Reach) (answer : Result Metadata Refusal) (new : Reach) (reply : Answer) → ShowsMetadata old.disk m → DumpRow old answer new → reply ≡ dump_or answer → ((refusal : Refusal) → reply ≡ answers.Refused refusal → ⊥) → reply ≡ answers.Dump m
-dumps m old (Ok found) new reply shows row is refused =
-    let same : Ok found ≡ Ok m = reads_same old.disk m (Ok found) shows (reading_has old found new row).found in
-    let same : found ≡ m = cc same in
-    is ∙ ap (λ (x : Metadata). answers.Dump x) same
-dumps m old (Err refusal) new reply shows row is refused = absurd (refused refusal is)
-
-pub dump_answers : (line : List ℕ) (prov : Span) (m : Metadata) (old : World) (answer : Answer) (new : World) → FindsAt (bytes_at line prov) (FindsMetadata m) old new → Turn line (commands.Dump prov) old answer new → answer ≡ answers.Dump m
-dump_answers line prov m old answer new f h =
-    let command : Command = commands.Dump prov in
-    let at = row_at line command (bytes_at line prov) (FindsMetadata m) old answer new f refl h in
-    let before : at.before ≡ f.before = cc (at.found, f.found) in
-    dumps m (reach at.before old) at.step.answer (reach at.after new) answer (subst (λ (d : DrawerState). ShowsMetadata d.disk m) (sym before) f.finds) at.step.row at.step.replied
-    (λ refusal is. dump_unrefused line prov m old new refusal f (refusal_caused line command old refusal new (subst (λ (a : Answer). Turn line command old a new) is h)))
+pub fits_refused : (line : List ℕ) (command : Command) (prov : Span) (refusal : Refusal) (old new : World) → provider_of command ≡ Some prov → FindsAt (bytes_at line prov) (Fits line command) old new
+    → Turn line command old (answers.Refused refusal) new → (refusal ≡ refusals.NoMemory) × IsTrue (may_lack_memory command)
+fits_refused line command prov refusal old new names f h =
+    let caused : CausedBy (Some prov) line command refusal old new = subst (λ (o : Option Span). CausedBy o line command refusal old new) names (refusal_caused line command old refusal new h) in
+    let cause = caused_at line command (bytes_at line prov) (Fits line command) refusal old new f caused in
+    let is : refusal ≡ refusals.NoMemory = fits_cause line command (reach f.before old) refusal (reach f.after new) f.finds f.unfailed cause in
+    (is, subst (λ (r : Refusal). HasCause line command (reach f.before old) r (reach f.after new)) is cause)

@@ -1,8 +1,7 @@
 // What holds of one command after another.
-ghost use Rattle.std.specs.Prelude.{◌≡◌, ◌⊎◌, ℕ, Bool, List, Option, Result, Ok, IfSome, IsSome};
-ghost use Rattle.command_words.specs.Places.{bytes_at};
+ghost use Rattle.std.specs.Prelude.{◌≡◌, ℕ, Bool, List, Option, Result, Ok, Some, IfSome, IsSome, IsTrue};
+ghost use Rattle.command_words.specs.Places.{bytes_at, provider_of};
 ghost use Rattle.command_words.specs.declared.commands.Command.{Command};
-ghost use Rattle.command_words.specs.declared.commands.Command.TheVariants as commands;
 ghost use Rattle.command_words.specs.declared.spans.Span.{Span};
 ghost use Rattle.eli_base.specs.declared.refusals.Refusal.{Refusal};
 ghost use Rattle.eli_base.specs.declared.refusals.Refusal.TheVariants.{NoMemory};
@@ -10,10 +9,10 @@ ghost use Rattle.eli_metadata.specs.declared.metadata.Metadata.{Metadata};
 ghost use Rattle.shelf.specs.Opening.{NamesSameKey, OpensOrFails};
 ghost use Rattle.shelf.specs.Steps.{LoadsComponents, MakesProvider};
 ghost use Rattle.shelf.specs.Stops.{LeavesOldOrNew};
-ghost use Rattle.shelf.specs.Answer.{Answer, Done, Dump, Refused};
-ghost use Rattle.shelf.specs.Causes.{Caused};
+ghost use Rattle.shelf.specs.Answer.{Answer, Refused};
+ghost use Rattle.shelf.specs.Causes.{Caused, may_lack_memory};
 ghost use Rattle.shelf.specs.Counts.{CountsFailures};
-ghost use Rattle.shelf.specs.Fits.{FindsAt, FindsKey, FindsMetadata};
+ghost use Rattle.shelf.specs.Fits.{FindsAt, Fits};
 ghost use Rattle.shelf.specs.Histories.{OnlySteps};
 ghost use Rattle.shelf.specs.Turn.{TryRow, Turn};
 ghost use Rattle.shelf.specs.World.{Attachment, Reach, World};
@@ -66,21 +65,17 @@ pub fn a_refusal_has_its_cause()
         Turn line command old (Refused refusal) new → Caused line command refusal old new }
 {}
 
-/// The law above says when a line is served, since its causes can be ruled out. Where the drawer that the line names tells its content,
-/// whose last sector is read as metadata, and no count of faults rises, `dump` has no cause to be refused, and answers them. Where
-/// besides the drawer is idle, the metadata are admitted and the cabinet tells files by which the words name a key that opens a slot that
-/// is asked for, `attach` has none but want of memory: it is done, or there was no memory.
+/// The law above says when a line is served, since its causes can be ruled out: where a verb on metadata finds what it needs (`Fits`) in a
+/// drawer and, if it loads files, a cabinet that tell what they hold, and no count of faults rises, no cause is left but want of memory.
+/// So it is refused for that alone, and only where its verb may lack memory. `dump` and `backup` need metadata in the last sector. `attach`
+/// needs an idle drawer, metadata that are admitted, and files by which the words name a key that opens a slot that is asked for.
 pub fn no_cause_is_left_where_all_is_found()
-    ensures attach { (line : List ℕ) (prov : Span) (only_check readonly : Bool) (slot : Option ℕ) (words : KeyWords) (old new : World) (refusal : Refusal) →
-        FindsAt (bytes_at line prov) (FindsKey line slot readonly words) old new →
-        Caused line (commands.Attach prov only_check readonly slot words) refusal old new → refusal ≡ NoMemory }
-    ensures dump { (line : List ℕ) (prov : Span) (m : Metadata) (old new : World) (refusal : Refusal) →
-        FindsAt (bytes_at line prov) (FindsMetadata m) old new → ¬ Caused line (commands.Dump prov) refusal old new }
-    ensures attach_answers { (line : List ℕ) (prov : Span) (only_check readonly : Bool) (slot : Option ℕ) (words : KeyWords) (old : World) (answer : Answer) (new : World) →
-        FindsAt (bytes_at line prov) (FindsKey line slot readonly words) old new →
-        Turn line (commands.Attach prov only_check readonly slot words) old answer new → (answer ≡ Done) ⊎ (answer ≡ Refused NoMemory) }
-    ensures dump_answers { (line : List ℕ) (prov : Span) (m : Metadata) (old : World) (answer : Answer) (new : World) →
-        FindsAt (bytes_at line prov) (FindsMetadata m) old new → Turn line (commands.Dump prov) old answer new → answer ≡ Dump m }
+    ensures cause { (line : List ℕ) (command : Command) (prov : Span) (refusal : Refusal) (old new : World) →
+        provider_of command ≡ Some prov → FindsAt (bytes_at line prov) (Fits line command) old new →
+        Caused line command refusal old new → refusal ≡ NoMemory }
+    ensures answer { (line : List ℕ) (command : Command) (prov : Span) (refusal : Refusal) (old new : World) →
+        provider_of command ≡ Some prov → FindsAt (bytes_at line prov) (Fits line command) old new →
+        Turn line command old (Refused refusal) new → (refusal ≡ NoMemory) × IsTrue (may_lack_memory command) }
 {}
 
 /// No line makes a count of the cabinet or the entropy fall. That the cabinet or the entropy failed is answered only where its count of faults

@@ -54,10 +54,11 @@ pub fn a_line_changes_only_its_drawer()
 /// - `dump`, `attach`, `setkey`, `delkey`, `backup`: the image has fewer than two sectors, or its last sector has no metadata.
 /// - `init`, `attach`, `setkey`, `restore`: the file that is refused is the first wrong one of those that a key, or the backup, names.
 /// - `init`: the options, the image or the components of the key make no provider.
-/// - `attach`: the metadata aren't admitted for the image and the slot that is named, the components make no user key, or it opens no
-///   slot that is asked for.
-/// - `setkey`: the metadata aren't admitted, the slot isn't there, the old key opens none, or the new key is refused.
-/// - `delkey`: no slot is named, or the slot that is named isn't there, has no key or the last one.
+/// - `attach`: the metadata aren't admitted for the image and the slot that is named, the components make no user key, the provider has no
+///   sector, or the key opens no slot that is asked for.
+/// - `setkey`: the metadata aren't admitted (of an attached provider: can't be used), the slot isn't there, the old key of an idle drawer
+///   opens none, or the new key is refused for the slot.
+/// - `delkey`: no slot is named, or the slot that is named isn't there, has no key or, without `-f`, the last one.
 /// - `kill`: the image has fewer than two sectors. `restore`: the image or the backup is refused.
 /// - `resize`: the sizes are refused, or what the old place holds.
 pub fn a_refusal_has_its_cause()

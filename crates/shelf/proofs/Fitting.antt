@@ -1,5 +1,5 @@
 -- That nothing refuses a line that finds what it needs.
-use Rattle.std.proofs.Common.{◌≡◌, ◌∙◌, ◌⊎◌, ℕ, List, refl, ap, sym, subst, inl, inr, arith, Bool, true, false, Option, None, Some, Result, Ok, Err}
+use Rattle.std.proofs.Common.{◌≡◌, ◌∙◌, ◌⊎◌, ℕ, ◌+◌, ◌*◌, ◌<◌, ◌≤◌, List, length, refl, ap, sym, subst, inl, inr, arith, Bool, true, false, Option, None, Some, Result, Ok, Err}
 use Rattle.std.specs.Prelude.{ℤ, IfSome, IsTrue, MatchOption, unwrap_or}
 use Rattle.std.specs.Option.{option_or}
 use Rattle.backup_restore.specs.Restoring.{restored}
@@ -25,15 +25,18 @@ use Rattle.key_commands.specs.declared.overwriting.Which.{Which}
 use Rattle.key_components.specs.Answers.{file_answer}
 use Rattle.key_components.specs.Files.{file_limit}
 use Rattle.key_components.specs.Key.{components_of}
+use Rattle.provider.specs.Attached.{media}
+use Rattle.provider.specs.Reading.{ReadsAs}
 use Rattle.resize_kill.specs.Resizing.{old_place, old_refusal, size_refusal}
 use Rattle.user_key.specs.Derivation.{user_key}
 use Rattle.user_key.specs.declared.components.Components.{Components}
 use Rattle.shelf.specs.Answer as answers
-use Rattle.shelf.specs.Causes.{AsksBytes, AsksSectors, AttachedWith, Caused, CausedAt, CausedBy, FindsFault, HasCause, may_lack_memory, needs_attached, needs_idle, writes_data}
-use Rattle.shelf.specs.Fits.{FailsNowhere, FindsAt, FindsAttached, FindsBackup, FindsChange, FindsKey, FindsNew, FindsNewKey, FindsOldKey, FindsOldPlace, FindsSetkey, FindsSlots, Fits, NamesParts, ShowsAt, ShowsMetadata}
+use Rattle.shelf.specs.Causes.{AsksBytes, AsksSectors, AttachedWith, Caused, CausedAt, CausedBy, FindsFault, HasBadLength, HasCause, PassesEnd, may_lack_memory, needs_attached, needs_idle, writes_data}
+use Rattle.shelf.specs.Digits.{bytes_spelled}
+use Rattle.shelf.specs.Fits.{FailsNowhere, FindsAt, FindsAttached, FindsBackup, FindsChange, FindsKey, FindsNew, FindsNewKey, FindsOldKey, FindsOldPlace, FindsSetkey, FindsSlots, Fits, FitsFill, FitsRead, FitsSum, FitsWrite, NamesParts, ShowsAt, ShowsMetadata}
 use Rattle.shelf.specs.Grounds.{AreComponents, FindsBadFile, HasGround, HasMetadata, IsFile, IsReadAs, LacksMetadata, RefusesAttach, RefusesBackup, RefusesBoth, RefusesChange, RefusesDelkey, RefusesFile, RefusesFiles, RefusesNew, RefusesNewKey, RefusesOldPlace, RefusesSetkey, RefusesSlots, RefusesTrial}
 use Rattle.shelf.specs.Keys.{named_slots, opened_by, slot_of}
-use Rattle.shelf.specs.Steps.{admitted, tried}
+use Rattle.shelf.specs.Steps.{admitted, tried, whole_sectors}
 use Rattle.shelf.specs.Turn.{Turn, reach}
 use Rattle.shelf.specs.World.{Attachment, DrawerState, Holding, Idle, IsAttached, Reach, World, place_of}
 use Rattle.shelf.proofs.LineCauses.{refusal_caused}
@@ -172,72 +175,167 @@ resize_fits oldsize old f refusal (inr h) =
 
 -- ---- the causes
 
--- no request on the data of an attached provider
+-- each cause but want of memory is ruled out
+record RulesOut (line : List ℕ) (command : Command) (old : Reach) : Type 0 where
+  idle : IsTrue (needs_attached command) → old.holding ≡ Idle → ⊥
+  attached : IsTrue (needs_idle command) → AttachedWith old.holding (λ a. Unit {0}) → ⊥
+  readonly : IsTrue (writes_data command) → AttachedWith old.holding (λ a. a.readonly ≡ true) → ⊥
+  range : (sector count there : ℕ) → AttachedWith old.holding (PassesEnd line command old.disk sector count there) → ⊥
+  bytes : (given size : ℕ) → AttachedWith old.holding (HasBadLength line command given size) → ⊥
+  faults : (offset : ℕ) → AttachedWith old.holding (FindsFault command old.disk offset) → ⊥
+  files : (refusal : Refusal) (cabinet : CabinetState) → FindsBadFile line command old.holding old.cabinet refusal cabinet → ⊥
+  ground : (refusal : Refusal) → HasGround line command old refusal → ⊥
+
+only_memory : (line : List ℕ) (command : Command) (old : Reach) (refusal : Refusal) (new : Reach) → RulesOut line command old → FailsNowhere old new → HasCause line command old refusal new → refusal ≡ refusals.NoMemory
+only_memory line command old refusals.NotAttached new out fails h = absurd (out.idle h.0 h.1)
+only_memory line command old refusals.StillAttached new out fails h = absurd (out.attached h.0 h.1)
+only_memory line command old refusals.ReadOnly new out fails h = absurd (out.readonly h.0 h.1)
+only_memory line command old (refusals.OutOfRange sector count there) new out fails h = absurd (out.range sector count there h)
+only_memory line command old (refusals.BadLength given size) new out fails h = absurd (out.bytes given size h)
+only_memory line command old (refusals.Integrity offset) new out fails h = absurd (out.faults offset h)
+only_memory line command old refusals.DeviceFault new out fails h = absurd (fails.disk h)
+only_memory line command old refusals.EntropyFault new out fails h = absurd (fails.entropy h)
+only_memory line command old (refusals.CabinetFault word) new out fails h = absurd (fails.cabinet h)
+only_memory line command old (refusals.FileAbsent word) new out fails h = absurd (out.files (refusals.FileAbsent word) new.cabinet h)
+only_memory line command old (refusals.FileTooLong word limit) new out fails h = absurd (out.files (refusals.FileTooLong word limit) new.cabinet h)
+only_memory line command old refusals.NoMemory new out fails h = refl
+only_memory line command old refusal new out fails h = absurd (out.ground refusal h)
+
+false_is_true : false ≡ true → ⊥
+false_is_true h = let none : ⊥ = cc h in none
+
+idle_has_none : (Holds : Attachment → Type 0) (holding : Holding) → holding ≡ Idle → AttachedWith holding Holds → ⊥
+idle_has_none Holds holding is h = subst (λ (x : Holding). AttachedWith x Holds) is h
+
+never_holds : (Holds : Attachment → Type 0) (holding : Holding) → ((a : Attachment) → Holds a → ⊥) → AttachedWith holding Holds → ⊥
+never_holds Holds Idle never h = h
+never_holds Holds (IsAttached a) never h = never a h
+
+never_both : (Fit Holds : Attachment → Type 0) (holding : Holding) → AttachedWith holding Fit → ((a : Attachment) → Fit a → Holds a → ⊥) → AttachedWith holding Holds → ⊥
+never_both Fit Holds Idle f never h = h
+never_both Fit Holds (IsAttached a) f never h = never a f h
+
+-- ---- verbs that ask for no sectors
+
 record IsApart (line : List ℕ) (command : Command) : Type 0 where
-  attached : needs_attached command ≡ false
   writes : writes_data command ≡ false
   bytes : (count : ℕ) (a : Attachment) → AsksBytes line command count a → ⊥
   sectors : (first many : ℕ) (a : Attachment) → AsksSectors line command first many a → ⊥
   faults : (disk : DiskState) (offset : ℕ) (a : Attachment) → FindsFault command disk offset a → ⊥
 
-never_true : (b : Bool) → b ≡ false → IsTrue b → ⊥
-never_true b is h = let none : ⊥ = cc (is, h) in none
+apart_out : (line : List ℕ) (command : Command) (old : Reach) → IsApart line command → (IsTrue (needs_attached command) → old.holding ≡ Idle → ⊥) → (IsTrue (needs_idle command) → AttachedWith old.holding (λ a. Unit {0}) → ⊥)
+    → ((refusal : Refusal) (cabinet : CabinetState) → FindsBadFile line command old.holding old.cabinet refusal cabinet → ⊥) → ((refusal : Refusal) → HasGround line command old refusal → ⊥) → RulesOut line command old
+apart_out line command old apart idle attached files ground = record {
+  idle = idle;
+  attached = attached;
+  readonly = λ writes h. false_is_true (sym apart.writes ∙ writes);
+  range = λ sector count there h. never_holds _ old.holding (λ a over. apart.sectors sector count a over.asked) h;
+  bytes = λ given size h. never_holds _ old.holding (λ a bad. apart.bytes given a bad.asked) h;
+  faults = λ offset h. never_holds _ old.holding (λ a fault. apart.faults old.disk offset a fault) h;
+  files = files;
+  ground = ground;
+}
 
-never_asked : (Holds : Attachment → Type 0) (holding : Holding) → ((a : Attachment) → Holds a → ⊥) → AttachedWith holding Holds → ⊥
-never_asked Holds Idle never h = h
-never_asked Holds (IsAttached a) never h = never a h
+-- ---- requests on an attached provider
 
-idle_has_none : (Holds : Attachment → Type 0) (holding : Holding) → holding ≡ Idle → AttachedWith holding Holds → ⊥
-idle_has_none Holds holding is h = subst (λ (x : Holding). AttachedWith x Holds) is h
+passes : (first many there sector sectors end : ℕ) → first ≡ sector → many ≡ sectors → there ≡ end → there < first + many → sector + sectors ≤ end → ⊥
+passes first many there sector sectors end first_is many_is there_is over within = omega arith
 
-only_memory : (line : List ℕ) (command : Command) (old : Reach) (refusal : Refusal) (new : Reach) → IsApart line command → (needs_idle command ≡ true → old.holding ≡ Idle) → FailsNowhere old new
-    → ((found : Refusal) (cabinet : CabinetState) → FindsBadFile line command old.holding old.cabinet found cabinet → ⊥) → ((found : Refusal) → HasGround line command old found → ⊥) → HasCause line command old refusal new → refusal ≡ refusals.NoMemory
-only_memory line command old refusals.NotAttached new apart idle fails files ground h = absurd (never_true (needs_attached command) apart.attached h.0)
-only_memory line command old refusals.StillAttached new apart idle fails files ground h = absurd (idle_has_none _ old.holding (idle h.0) h.1)
-only_memory line command old refusals.ReadOnly new apart idle fails files ground h = absurd (never_true (writes_data command) apart.writes h.0)
-only_memory line command old (refusals.OutOfRange sector count there) new apart idle fails files ground h = absurd (never_asked _ old.holding (λ a passes. apart.sectors sector count a passes.asked) h)
-only_memory line command old (refusals.BadLength given size) new apart idle fails files ground h = absurd (never_asked _ old.holding (λ a bad. apart.bytes given a bad.asked) h)
-only_memory line command old (refusals.Integrity offset) new apart idle fails files ground h = absurd (never_asked _ old.holding (λ a fault. apart.faults old.disk offset a fault) h)
-only_memory line command old refusals.DeviceFault new apart idle fails files ground h = absurd (fails.disk h)
-only_memory line command old refusals.EntropyFault new apart idle fails files ground h = absurd (fails.entropy h)
-only_memory line command old (refusals.CabinetFault word) new apart idle fails files ground h = absurd (fails.cabinet h)
-only_memory line command old (refusals.FileAbsent word) new apart idle fails files ground h = absurd (files (refusals.FileAbsent word) new.cabinet h)
-only_memory line command old (refusals.FileTooLong word limit) new apart idle fails files ground h = absurd (files (refusals.FileTooLong word limit) new.cabinet h)
-only_memory line command old refusals.NoMemory new apart idle fails files ground h = refl
-only_memory line command old refusal new apart idle fails files ground h = absurd (ground refusal h)
+read_out : (line : List ℕ) (prov : Span) (sector count : ℕ) (old : Reach) → AttachedWith old.holding (FitsRead sector count old.disk) → RulesOut line (commands.Read prov sector count) old
+read_out line prov sector count old f = record {
+  idle = λ needs is. idle_has_none _ old.holding is f;
+  attached = λ needs h. false_is_true needs;
+  readonly = λ writes h. false_is_true writes;
+  range = λ first many there h. never_both _ _ old.holding f
+      (λ a fits over. let same : many ≡ fits.sectors = cc (over.asked.1, fits.whole) in passes first many there sector fits.sectors (media a.keying old.disk) over.asked.0 same over.has over.passes fits.within) h;
+  bytes = λ given size h. never_both _ _ old.holding f
+      (λ a fits bad. let is : whole_sectors a.keying.sectorsize (count * a.keying.sectorsize) ≡ Err (refusals.BadLength given size) = subst (λ (n : ℕ). whole_sectors a.keying.sectorsize n ≡ Err (refusals.BadLength given size)) bad.asked bad.bad in
+      not_both _ fits.sectors (refusals.BadLength given size) fits.whole is) h;
+  faults = λ offset h. never_both _ _ old.holding f
+      (λ a fits fault. let same : fault.sectors ≡ fits.sectors = cc (fault.whole, fits.whole) in fits.right offset (subst (λ (n : ℕ). ReadsAs old.disk a.keying sector n (Err offset)) same fault.reads)) h;
+  files = λ refusal cabinet h. h;
+  ground = λ refusal h. h;
+}
 
-never : false ≡ true → (old : Reach) → old.holding ≡ Idle
-never is old = absurd (let none : ⊥ = cc is in none)
+write_out : (line : List ℕ) (prov : Span) (sector : ℕ) (hex : Span) (old : Reach) → AttachedWith old.holding (FitsWrite sector (bytes_spelled (bytes_at line hex)) old.disk) → RulesOut line (commands.Write prov sector hex) old
+write_out line prov sector hex old f = record {
+  idle = λ needs is. idle_has_none _ old.holding is f;
+  attached = λ needs h. false_is_true needs;
+  readonly = λ writes h. never_both _ _ old.holding f (λ a fits only. false_is_true (sym fits.writable ∙ only)) h;
+  range = λ first many there h. never_both _ _ old.holding f
+      (λ a fits over. let same : many ≡ fits.sectors = cc (over.asked.1, fits.whole) in passes first many there sector fits.sectors (media a.keying old.disk) over.asked.0 same over.has over.passes fits.within) h;
+  bytes = λ given size h. never_both _ _ old.holding f
+      (λ a fits bad. let is : whole_sectors a.keying.sectorsize (length (bytes_spelled (bytes_at line hex))) ≡ Err (refusals.BadLength given size) = subst (λ (n : ℕ). whole_sectors a.keying.sectorsize n ≡ Err (refusals.BadLength given size)) bad.asked bad.bad in
+      not_both _ fits.sectors (refusals.BadLength given size) fits.whole is) h;
+  faults = λ offset h. never_holds _ old.holding (λ a fault. fault) h;
+  files = λ refusal cabinet h. h;
+  ground = λ refusal h. h;
+}
+
+fill_out : (line : List ℕ) (prov : Span) (seed start count : ℕ) (old : Reach) → AttachedWith old.holding (FitsFill start count old.disk) → RulesOut line (commands.Fill prov seed start count) old
+fill_out line prov seed start count old f = record {
+  idle = λ needs is. idle_has_none _ old.holding is f;
+  attached = λ needs h. false_is_true needs;
+  readonly = λ writes h. never_both _ _ old.holding f (λ a fits only. false_is_true (sym fits.writable ∙ only)) h;
+  range = λ first many there h. never_both _ _ old.holding f (λ a fits over. passes first many there start count (media a.keying old.disk) over.asked.0 over.asked.1 over.has over.passes fits.within) h;
+  bytes = λ given size h. never_holds _ old.holding (λ a bad. bad.asked) h;
+  faults = λ offset h. never_holds _ old.holding (λ a fault. fault) h;
+  files = λ refusal cabinet h. h;
+  ground = λ refusal h. h;
+}
+
+sum_out : (line : List ℕ) (prov : Span) (start count : ℕ) (old : Reach) → AttachedWith old.holding (FitsSum start count old.disk) → RulesOut line (commands.Sum prov start count) old
+sum_out line prov start count old f = record {
+  idle = λ needs is. idle_has_none _ old.holding is f;
+  attached = λ needs h. false_is_true needs;
+  readonly = λ writes h. false_is_true writes;
+  range = λ first many there h. never_both _ _ old.holding f (λ a fits over. passes first many there start count (media a.keying old.disk) over.asked.0 over.asked.1 over.has over.passes fits.within) h;
+  bytes = λ given size h. never_holds _ old.holding (λ a bad. bad.asked) h;
+  faults = λ offset h. never_both _ _ old.holding f (λ a fits fault. fits.right offset fault) h;
+  files = λ refusal cabinet h. h;
+  ground = λ refusal h. h;
+}
+
+-- ---- by the verb
+
+fits_out : (line : List ℕ) (command : Command) (old : Reach) → Fits line command old → RulesOut line command old
+fits_out line (commands.Dump prov) old f =
+    apart_out line (commands.Dump prov) old (record { writes = refl; bytes = λ n a x. x; sectors = λ n k a x. x; faults = λ d n a x. x }) (λ needs is. false_is_true needs) (λ needs x. false_is_true needs) (λ refusal cabinet x. x) (λ refusal x. has_metadata old.disk f.m refusal f.shows x)
+fits_out line (commands.Init prov cipher auth keylen sectorsize iterations autoresize fresh backup) old f =
+    apart_out line (commands.Init prov cipher auth keylen sectorsize iterations autoresize fresh backup) old (record { writes = refl; bytes = λ n a x. x; sectors = λ n k a x. x; faults = λ d n a x. x }) (λ needs is. false_is_true needs) (λ needs x. idle_has_none _ old.holding f.idle x)
+    (λ refusal cabinet x. no_bad_file line fresh f.parts old.cabinet refusal cabinet f.names x) (λ refusal x. init_fits line _ fresh old f refusal x)
+fits_out line (commands.Attach prov only_check readonly slot words) old f =
+    apart_out line (commands.Attach prov only_check readonly slot words) old (record { writes = refl; bytes = λ n a x. x; sectors = λ n k a x. x; faults = λ d n a x. x }) (λ needs is. false_is_true needs) (λ needs x. idle_has_none _ old.holding f.idle x)
+    (λ refusal cabinet x. no_bad_file line words f.parts old.cabinet refusal cabinet f.names x) (λ refusal x. attach_fits line slot readonly words old f refusal x)
+fits_out line (commands.Setkey prov iterations slot words fresh) old f =
+    apart_out line (commands.Setkey prov iterations slot words fresh) old (record { writes = refl; bytes = λ n a x. x; sectors = λ n k a x. x; faults = λ d n a x. x }) (λ needs is. false_is_true needs) (λ needs x. false_is_true needs)
+    (λ refusal cabinet x. both_load old.holding line iterations slot words fresh f.m old f.change refusal cabinet x) (λ refusal x. setkey_fits line iterations slot words fresh old f refusal x)
+fits_out line (commands.Delkey prov all force slot) old f =
+    apart_out line (commands.Delkey prov all force slot) old (record { writes = refl; bytes = λ n a x. x; sectors = λ n k a x. x; faults = λ d n a x. x }) (λ needs is. false_is_true needs) (λ needs x. false_is_true needs) (λ refusal cabinet x. x)
+    (λ refusal x. delkey_fits all force slot old f refusal x)
+fits_out line (commands.Kill prov) old f =
+    apart_out line (commands.Kill prov) old (record { writes = refl; bytes = λ n a x. x; sectors = λ n k a x. x; faults = λ d n a x. x }) (λ needs is. false_is_true needs) (λ needs x. false_is_true needs) (λ refusal cabinet x. x) (λ refusal x. omega (arith, f, x.0))
+fits_out line (commands.Backup prov file) old f =
+    apart_out line (commands.Backup prov file) old (record { writes = refl; bytes = λ n a x. x; sectors = λ n k a x. x; faults = λ d n a x. x }) (λ needs is. false_is_true needs) (λ needs x. false_is_true needs) (λ refusal cabinet x. x)
+    (λ refusal x. has_metadata old.disk f.m refusal f.shows x)
+fits_out line (commands.Restore file prov force) old f =
+    apart_out line (commands.Restore file prov force) old (record { writes = refl; bytes = λ n a x. x; sectors = λ n k a x. x; faults = λ d n a x. x }) (λ needs is. false_is_true needs) (λ needs x. idle_has_none _ old.holding f.idle x) (λ refusal cabinet x. file_loads line file force old f refusal cabinet x)
+    (λ refusal x. restore_fits line file force old f refusal x)
+fits_out line (commands.Resize prov oldsize) old f =
+    apart_out line (commands.Resize prov oldsize) old (record { writes = refl; bytes = λ n a x. x; sectors = λ n k a x. x; faults = λ d n a x. x }) (λ needs is. false_is_true needs) (λ needs x. idle_has_none _ old.holding f.idle x) (λ refusal cabinet x. x)
+    (λ refusal x. resize_fits oldsize old f refusal x)
+fits_out line (commands.Detach prov) old f =
+    apart_out line (commands.Detach prov) old (record { writes = refl; bytes = λ n a x. x; sectors = λ n k a x. x; faults = λ d n a x. x }) (λ needs is. idle_has_none _ old.holding is f) (λ needs x. false_is_true needs) (λ refusal cabinet x. x) (λ refusal x. x)
+fits_out line (commands.Flush prov) old f =
+    apart_out line (commands.Flush prov) old (record { writes = refl; bytes = λ n a x. x; sectors = λ n k a x. x; faults = λ d n a x. x }) (λ needs is. idle_has_none _ old.holding is f) (λ needs x. false_is_true needs) (λ refusal cabinet x. x) (λ refusal x. x)
+fits_out line (commands.Read prov sector count) old f = read_out line prov sector count old f
+fits_out line (commands.Write prov sector hex) old f = write_out line prov sector hex old f
+fits_out line (commands.Fill prov seed start count) old f = fill_out line prov seed start count old f
+fits_out line (commands.Sum prov start count) old f = sum_out line prov start count old f
+fits_out line command old f = absurd f
 
 fits_cause : (line : List ℕ) (command : Command) (old : Reach) (refusal : Refusal) (new : Reach) → Fits line command old → FailsNowhere old new → HasCause line command old refusal new → refusal ≡ refusals.NoMemory
-fits_cause line (commands.Dump prov) old refusal new f fails h =
-    only_memory line (commands.Dump prov) old refusal new (record { attached = refl; writes = refl; bytes = λ n a x. x; sectors = λ n k a x. x; faults = λ d n a x. x }) (λ is. never is old) fails (λ found cabinet x. x)
-    (λ found x. has_metadata old.disk f.m found f.shows x) h
-fits_cause line (commands.Init prov cipher auth keylen sectorsize iterations autoresize fresh backup) old refusal new f fails h =
-    only_memory line (commands.Init prov cipher auth keylen sectorsize iterations autoresize fresh backup) old refusal new (record { attached = refl; writes = refl; bytes = λ n a x. x; sectors = λ n k a x. x; faults = λ d n a x. x })
-    (λ is. f.idle) fails (λ found cabinet x. no_bad_file line fresh f.parts old.cabinet found cabinet f.names x) (λ found x. init_fits line _ fresh old f found x) h
-fits_cause line (commands.Attach prov only_check readonly slot words) old refusal new f fails h =
-    only_memory line (commands.Attach prov only_check readonly slot words) old refusal new (record { attached = refl; writes = refl; bytes = λ n a x. x; sectors = λ n k a x. x; faults = λ d n a x. x })
-    (λ is. f.idle) fails (λ found cabinet x. no_bad_file line words f.parts old.cabinet found cabinet f.names x) (λ found x. attach_fits line slot readonly words old f found x) h
-fits_cause line (commands.Setkey prov iterations slot words fresh) old refusal new f fails h =
-    only_memory line (commands.Setkey prov iterations slot words fresh) old refusal new (record { attached = refl; writes = refl; bytes = λ n a x. x; sectors = λ n k a x. x; faults = λ d n a x. x }) (λ is. never is old) fails
-    (λ found cabinet x. both_load old.holding line iterations slot words fresh f.m old f.change found cabinet x) (λ found x. setkey_fits line iterations slot words fresh old f found x) h
-fits_cause line (commands.Delkey prov all force slot) old refusal new f fails h =
-    only_memory line (commands.Delkey prov all force slot) old refusal new (record { attached = refl; writes = refl; bytes = λ n a x. x; sectors = λ n k a x. x; faults = λ d n a x. x }) (λ is. never is old) fails (λ found cabinet x. x)
-    (λ found x. delkey_fits all force slot old f found x) h
-fits_cause line (commands.Kill prov) old refusal new f fails h =
-    only_memory line (commands.Kill prov) old refusal new (record { attached = refl; writes = refl; bytes = λ n a x. x; sectors = λ n k a x. x; faults = λ d n a x. x }) (λ is. never is old) fails (λ found cabinet x. x)
-    (λ found x. omega (arith, f, x.0)) h
-fits_cause line (commands.Backup prov file) old refusal new f fails h =
-    only_memory line (commands.Backup prov file) old refusal new (record { attached = refl; writes = refl; bytes = λ n a x. x; sectors = λ n k a x. x; faults = λ d n a x. x }) (λ is. never is old) fails (λ found cabinet x. x)
-    (λ found x. has_metadata old.disk f.m found f.shows x) h
-fits_cause line (commands.Restore file prov force) old refusal new f fails h =
-    only_memory line (commands.Restore file prov force) old refusal new (record { attached = refl; writes = refl; bytes = λ n a x. x; sectors = λ n k a x. x; faults = λ d n a x. x }) (λ is. f.idle) fails
-    (λ found cabinet x. file_loads line file force old f found cabinet x) (λ found x. restore_fits line file force old f found x) h
-fits_cause line (commands.Resize prov oldsize) old refusal new f fails h =
-    only_memory line (commands.Resize prov oldsize) old refusal new (record { attached = refl; writes = refl; bytes = λ n a x. x; sectors = λ n k a x. x; faults = λ d n a x. x }) (λ is. f.idle) fails (λ found cabinet x. x)
-    (λ found x. resize_fits oldsize old f found x) h
-fits_cause line command old refusal new f fails h = absurd f
+fits_cause line command old refusal new f fails h = only_memory line command old refusal new (fits_out line command old f) fails h
 
 -- ---- a line
 

@@ -68,7 +68,7 @@ pub record Since (start now : Reach) : Type 0 where
 pub since_here : (old : Reach) → Since old old
 since_here old = record { size = refl; files = refl; disk = omega arith; cabinet = omega arith; misses = omega arith; entropy = omega arith }
 
-pub since_then : (start middle now : Reach) → Since start middle → Since middle now → Since start now
+since_then : (start middle now : Reach) → Since start middle → Since middle now → Since start now
 since_then start middle now a b = record {
   size = b.size ∙ a.size;
   files = b.files ∙ a.files;
@@ -83,7 +83,7 @@ pub since_same : (start middle now : Reach) → Since start middle → now ≡ m
 since_same start middle now since is = subst (λ (r : Reach). Since start r) (sym is) since
 
 -- the disk alone changed, and its size stays
-pub since_disk : (old now : Reach) → now.disk.size ≡ old.disk.size → old.disk.faults ≤ now.disk.faults → now.cabinet ≡ old.cabinet → now.entropy ≡ old.entropy → Since old now
+since_disk : (old now : Reach) → now.disk.size ≡ old.disk.size → old.disk.faults ≤ now.disk.faults → now.cabinet ≡ old.cabinet → now.entropy ≡ old.entropy → Since old now
 since_disk old now size disk cabinet entropy =
     let faults : now.cabinet.faults ≡ old.cabinet.faults = ap (λ (c : CabinetState). c.faults) cabinet in
     let misses : now.cabinet.misses ≡ old.cabinet.misses = ap (λ (c : CabinetState). c.misses) cabinet in

@@ -77,7 +77,7 @@ or_plain (Err fault) = meta_plain fault
 
 -- ---- keys
 
-pub key_plain : (fault : KeyFault) → IsPlain (key_refusal_of fault)
+key_plain : (fault : KeyFault) → IsPlain (key_refusal_of fault)
 key_plain PassphraseNotSet = tt
 key_plain PassphraseNeeded = tt
 key_plain NoKeyComponents = tt

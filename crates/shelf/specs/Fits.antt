@@ -1,5 +1,5 @@
--- What a line on metadata finds where nothing refuses it, in a drawer and a cabinet that tell what they hold.
-use Rattle.std.specs.Prelude.{◌≡◌, ℕ, ℤ, ◌≤◌, Bool, List, Option, Some, None, unwrap_or, Ok, slice_get}
+-- What a line finds where nothing refuses it, in a drawer and a cabinet that tell what they hold.
+use Rattle.std.specs.Prelude.{◌≡◌, ℕ, ℤ, ◌+◌, ◌*◌, ◌≤◌, Bool, false, List, length, Option, Some, None, unwrap_or, Ok, Err, slice_get}
 use Rattle.std.specs.Option.{option_or}
 use Rattle.backup_restore.specs.Restoring.{restored}
 use Rattle.block_traits.specs.Cabinet.{CabinetState, Files}
@@ -23,11 +23,15 @@ use Rattle.key_commands.specs.declared.overwriting.Which.{Which}
 use Rattle.key_components.specs.Answers.{file_answer}
 use Rattle.key_components.specs.Files.{file_limit}
 use Rattle.key_components.specs.Key.{components_of}
+use Rattle.provider.specs.Attached.{media}
+use Rattle.provider.specs.Reading.{ReadsAs}
 use Rattle.resize_kill.specs.Resizing.{old_place, old_refusal, size_refusal}
 use Rattle.user_key.specs.Derivation.{user_key}
 use Rattle.user_key.specs.declared.components.Components.{Components}
+use Rattle.shelf.specs.Causes.{AttachedWith}
+use Rattle.shelf.specs.Digits.{bytes_spelled}
 use Rattle.shelf.specs.Keys.{if_there, named_slots, opened_by, slot_of, usable}
-use Rattle.shelf.specs.Steps.{admitted, tried}
+use Rattle.shelf.specs.Steps.{admitted, tried, whole_sectors}
 use Rattle.shelf.specs.Turn.{iterations_of, reach}
 use Rattle.shelf.specs.World.{Attachment, DrawerState, Holding, Idle, IsAttached, Reach, World, place_of}
 
@@ -131,7 +135,28 @@ pub record FindsOldPlace (oldsize : ℕ) (old : Reach) : Type 0 where
   pub shows : ShowsAt old.disk (old_place oldsize) m
   pub served : old_refusal (Ok m) oldsize ≡ None
 
--- by the verb
+-- requests on an attached provider: they are whole sectors that are there, the provider may be written, and the tags of what is read fit
+pub record FitsRead (sector count : ℕ) (disk : DiskState) (a : Attachment) : Type 0 where
+  pub sectors : ℕ
+  pub whole : whole_sectors a.keying.sectorsize (count * a.keying.sectorsize) ≡ Ok sectors
+  pub within : sector + sectors ≤ media a.keying disk
+  pub right : (offset : ℕ) → ¬ ReadsAs disk a.keying sector sectors (Err offset)
+
+pub record FitsWrite (sector : ℕ) (bytes : List ℕ) (disk : DiskState) (a : Attachment) : Type 0 where
+  pub writable : a.readonly ≡ false
+  pub sectors : ℕ
+  pub whole : whole_sectors a.keying.sectorsize (length bytes) ≡ Ok sectors
+  pub within : sector + sectors ≤ media a.keying disk
+
+pub record FitsFill (start count : ℕ) (disk : DiskState) (a : Attachment) : Type 0 where
+  pub writable : a.readonly ≡ false
+  pub within : start + count ≤ media a.keying disk
+
+pub record FitsSum (start count : ℕ) (disk : DiskState) (a : Attachment) : Type 0 where
+  pub within : start + count ≤ media a.keying disk
+  pub right : (offset : ℕ) → ¬ ReadsAs disk a.keying start count (Err offset)
+
+-- by the verb; `list` names no drawer, and `eject` has no row
 abbrev pub Fits : List ℕ → Command → Reach → Type 0
 Fits line (commands.Dump prov) old = FindsMetadata old
 Fits line (commands.Init prov cipher auth keylen sectorsize iterations autoresize fresh backup) old =
@@ -144,6 +169,12 @@ Fits line (commands.Kill prov) old = 2 ≤ old.disk.size
 Fits line (commands.Backup prov file) old = FindsMetadata old
 Fits line (commands.Restore file prov force) old = FindsBackup line file force old
 Fits line (commands.Resize prov oldsize) old = FindsOldPlace oldsize old
+Fits line (commands.Detach prov) old = AttachedWith old.holding (λ a. Unit {0})
+Fits line (commands.Flush prov) old = AttachedWith old.holding (λ a. Unit {0})
+Fits line (commands.Read prov sector count) old = AttachedWith old.holding (FitsRead sector count old.disk)
+Fits line (commands.Write prov sector hex) old = AttachedWith old.holding (FitsWrite sector (bytes_spelled (bytes_at line hex)) old.disk)
+Fits line (commands.Fill prov seed start count) old = AttachedWith old.holding (FitsFill start count old.disk)
+Fits line (commands.Sum prov start count) old = AttachedWith old.holding (FitsSum start count old.disk)
 Fits line command old = ⊥
 
 -- no count of faults rose

@@ -66,10 +66,11 @@ pub fn a_refusal_has_its_cause()
         Turn line command old (Refused refusal) new → Caused line command refusal old new }
 {}
 
-/// The law above says when a line is served, since its causes can be ruled out: where a verb on metadata finds what it needs (`Fits`) in a
-/// drawer and, if it loads files, a cabinet that tell what they hold, and no count of faults rises, no cause is left but want of memory.
-/// So it is refused for that alone, and only where its verb may lack memory. `dump` and `backup` need metadata in the last sector. `attach`
-/// needs an idle drawer, metadata that are admitted, and files by which the words name a key that opens a slot that is asked for.
+/// The law above says when a line is served, since its causes can be ruled out: where a line finds what its verb needs (`Fits`) in a drawer
+/// and, if it loads files, a cabinet that tell what they hold, and no count of faults rises, no cause is left but want of memory. So it is
+/// refused for that alone, and only where its verb may lack memory. `dump` and `backup` need metadata in the last sector. `attach` needs an
+/// idle drawer, metadata that are admitted, and files by which the words name a key that opens a slot that is asked for. `read` needs an
+/// attached provider that has the sectors, whose tags fit.
 pub fn no_cause_is_left_where_all_is_found()
     ensures cause { (line : List ℕ) (command : Command) (prov : Span) (refusal : Refusal) (old new : World) →
         provider_of command ≡ Some prov → FindsAt (bytes_at line prov) (Fits line command) old new →

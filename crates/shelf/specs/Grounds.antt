@@ -17,7 +17,7 @@ use Rattle.eli_metadata.specs.Format.{metadata_in}
 use Rattle.eli_metadata.specs.Refusals.{refusal_of}
 use Rattle.eli_metadata.specs.declared.metadata.Metadata.{Metadata}
 use Rattle.eli_metadata.specs.declared.metadata.MetaFault.{MetaFault}
-use Rattle.key_commands.specs.NewKey.{KeyChange, change_refusal}
+use Rattle.key_commands.specs.NewKey.{change_refusal}
 use Rattle.key_commands.specs.Options.{early_refusal}
 use Rattle.key_commands.specs.Overwriting.{deletion_refusal}
 use Rattle.key_commands.specs.declared.options.InitOptions.{InitOptions}

@@ -1,9 +1,9 @@
 -- Each row keeps the counts of the cabinet and the entropy from falling, and answers their failures only where they rose.
-use Rattle.std.proofs.Common.{◌≡◌, ◌⊎◌, inl, inr, ℕ, ◌*◌, ◌/◌, ◌≤◌, ◌==◌, List, [], ◌∷◌, length, ap, sym, subst, arith, Bool, true, false, cond, Option, None, Some, Result, Ok, Err, nat_lt, nat_le}
+use Rattle.std.proofs.Common.{◌≡◌, ◌⊎◌, inl, inr, ℕ, ◌*◌, ◌/◌, ◌≤◌, List, [], ◌∷◌, length, ap, sym, subst, arith, Bool, true, false, cond, Option, None, Some, Result, Ok, Err}
 use Rattle.std.specs.Prelude.{ℤ, IfSome, MatchOption, unwrap_or}
 use Rattle.std.specs.Option.{option_or}
 use Rattle.std.specs.Result.{result_err}
-use Rattle.backup_restore.specs.Restoring.{Restores, fitted, unless_fault}
+use Rattle.backup_restore.specs.Restoring.{Restores, restored}
 use Rattle.backup_restore.specs.Saving.{Saves}
 use Rattle.block_traits.specs.Cabinet.{CabinetState}
 use Rattle.block_traits.specs.Disk.{DiskState}
@@ -16,75 +16,74 @@ use Rattle.command_words.specs.declared.commands.Command.{Command}
 use Rattle.command_words.specs.declared.commands.Command.TheVariants as commands
 use Rattle.command_words.specs.declared.spans.KeyWords.{KeyWords}
 use Rattle.command_words.specs.declared.spans.Span.{Span}
-use Rattle.eli_base.specs.declared.parameters.MasterKey.{MasterKey}
 use Rattle.eli_base.specs.declared.refusals.Refusal.{Refusal}
 use Rattle.eli_base.specs.declared.refusals.Refusal.TheVariants as refusals
 use Rattle.eli_metadata.specs.Checks.{Settings}
 use Rattle.eli_metadata.specs.Refusals.{read_refusal_of, refusal_of}
 use Rattle.eli_metadata.specs.declared.metadata.Metadata.{Metadata}
-use Rattle.eli_metadata.specs.declared.metadata.MetaFault.{MetaFault}
-use Rattle.eli_metadata.specs.declared.metadata.MetaFault.TheVariants.{BadMagic, BadVersion, BadHash, UnsupportedFlags, UnsupportedCipher, BadKeyLength, UnsupportedAuth, BadSectorSize, BadSize, NoValidKeys, KeyNumberOutOfRange, KeyNotSet}
 use Rattle.eli_metadata.specs.declared.place.ReadMetaFault.{ReadMetaFault}
 use Rattle.eli_metadata.specs.declared.place.ReadMetaFault.TheVariants.{TooSmall, DeviceFault, Meta}
 use Rattle.key_commands.specs.DeleteKeys.{DeletesKeys, Deletion}
 use Rattle.key_commands.specs.NewKey.{KeyChange, change_refusal}
 use Rattle.key_commands.specs.NewProvider.{Inits}
-use Rattle.key_commands.specs.Options.{early_refusal, key_refusal}
+use Rattle.key_commands.specs.Options.{early_refusal}
 use Rattle.key_commands.specs.Overwriting.{deletion_refusal}
 use Rattle.key_commands.specs.SetKey.{SetsKey}
 use Rattle.key_commands.specs.declared.options.InitOptions.{InitOptions}
-use Rattle.key_commands.specs.declared.overwriting.Which.{Which}
-use Rattle.key_commands.specs.declared.overwriting.Which.TheVariants as slots
 use Rattle.key_components.specs.Answers.{MayRefuse}
 use Rattle.resize_kill.specs.Killing.{Kills}
 use Rattle.resize_kill.specs.Resizing.{RefusesOld, RefusesSizes, Resizes, old_refusal, size_refusal}
 use Rattle.sha2.specs.Sha256.{sha256}
-use Rattle.user_key.specs.Refusals.{key_refusal_of}
 use Rattle.user_key.specs.Derivation.{user_key}
 use Rattle.user_key.specs.declared.components.Components.{Components}
-use Rattle.user_key.specs.declared.components.KeyFault.{KeyFault}
-use Rattle.user_key.specs.declared.components.KeyFault.TheVariants.{NoKeyComponents, PassphraseNeeded, PassphraseNotSet}
-use Rattle.user_key.specs.declared.components.UserKey.{UserKey}
 use Rattle.shelf.specs.Answer.{Answer}
 use Rattle.shelf.specs.Answer as answers
 use Rattle.shelf.specs.Counts.{CountsAnswer, CountsFailures, CountsRefusal}
 use Rattle.shelf.specs.Digits.{bytes_spelled}
-use Rattle.shelf.specs.Keys.{DeletesRow, DelkeyRow, IsUsed, NamesSlots, NeedsSlot, OpensSlot, SetkeyAttachedRow, SetkeyBy, SetkeyIdleRow, SetkeyRow, StoresKey, TakesKeysOut, if_there, named_slots, opened_by, or_wrong, slot_of, without_value}
+use Rattle.shelf.specs.Keys.{DeletesRow, DelkeyRow, IsUsed, NamesSlots, NeedsSlot, OpensSlot, SetkeyAttachedRow, SetkeyBy, SetkeyIdleRow, SetkeyRow, StoresKey, TakesKeysOut, if_there, named_slots, slot_of, without_value}
 use Rattle.shelf.specs.Requests.{handed_out}
 use Rattle.shelf.specs.Saving.{BackupRow, FindsLastSector, LoadsFile, RestoreRow, WritesBack}
 use Rattle.shelf.specs.Sizes.{DestroysMetadata, KillRow, MovesMetadata, ResizeRow, Withdraws}
-use Rattle.shelf.specs.Steps.{Admits, Attaches, BacksUp, Decides, Detaches, Does, DoesEvents, GoesOn, LoadsComponents, MakesProvider, NeedsAttached, NeedsIdle, NeedsSectors, NeedsWhole, NeedsWritable, ReadsLastSector, ReadsSectors, SectorsAnswer, StoreAnswers, StoresBytes, Then, TriesKey, if_attached, if_idle, if_writable, in_range, or_refusal, or_wrong_key, tried, whole_sectors}
+use Rattle.shelf.specs.Steps.{Admits, Attaches, BacksUp, Decides, Detaches, Does, DoesEvents, GoesOn, LoadsComponents, MakesProvider, NeedsAttached, NeedsIdle, NeedsSectors, NeedsWhole, NeedsWritable, ReadsLastSector, ReadsSectors, SectorsAnswer, StoreAnswers, StoresBytes, Then, TriesKey, if_attached, if_idle, if_writable, in_range, or_refusal, whole_sectors}
 use Rattle.shelf.specs.Turn.{AttachRow, AttachesUnless, DetachRow, FlushRow, InitRow, IsUnknown, Lists, ListsAs, ReadRow, Replies, Serves, ServesAt, TryRow, Turn, TurnOf, WriteRow, digest_or, done_or, dump_or, payload_or, reach, takes_out}
 use Rattle.shelf.specs.Workloads.{FillRow, SumRow}
 use Rattle.shelf.specs.World.{Attachment, DrawerState, Holding, Idle, IsAttached, Reach, World, place_of}
 use Rattle.shelf.proofs.Causing.{Step}
+use Rattle.shelf.proofs.Plain.{IsPlain, PlainAnswer, PlainOption, change_plain, deletion_plain, early_plain, meta_plain, named_plain, old_plain, opened_plain, or_plain, plain_err, plain_some, restored_plain, sizes_plain, there_plain, tried_plain}
 
 -- ---- refusals that are no failure of the cabinet or the entropy
 
-abbrev pub Plain : Refusal → Type 0
-Plain (refusals.CabinetFault word) = ⊥
-Plain refusals.EntropyFault = ⊥
-Plain (refusals.FileAbsent word) = ⊥
-Plain (refusals.FileTooLong word limit) = ⊥
-Plain refusal = Unit {0}
+abbrev pub Uncounted : Refusal → Type 0
+Uncounted (refusals.CabinetFault word) = ⊥
+Uncounted refusals.EntropyFault = ⊥
+Uncounted (refusals.FileAbsent word) = ⊥
+Uncounted (refusals.FileTooLong word limit) = ⊥
+Uncounted refusal = Unit {0}
 
-abbrev pub PlainAnswer : {A : Type 0} → Result A Refusal → Type 0
-PlainAnswer (Ok value) = Unit {0}
-PlainAnswer (Err refusal) = Plain refusal
+abbrev pub UncountedAnswer : {A : Type 0} → Result A Refusal → Type 0
+UncountedAnswer (Ok value) = Unit {0}
+UncountedAnswer (Err refusal) = Uncounted refusal
 
-abbrev pub PlainOption : Option Refusal → Type 0
-PlainOption None = Unit {0}
-PlainOption (Some refusal) = Plain refusal
+plain_uncounted : (refusal : Refusal) → IsPlain refusal → Uncounted refusal
+plain_uncounted (refusals.CabinetFault word) h = absurd h
+plain_uncounted refusals.EntropyFault h = absurd h
+plain_uncounted (refusals.FileAbsent word) h = absurd h
+plain_uncounted (refusals.FileTooLong word limit) h = absurd h
+plain_uncounted refusal h = tt
 
-plain_some : (found : Option Refusal) (refusal : Refusal) → PlainOption found → found ≡ Some refusal → Plain refusal
-plain_some found refusal plain is = subst (λ (o : Option Refusal). PlainOption o) is plain
+by_plain : {A : Type 0} (answer : Result A Refusal) → PlainAnswer answer → UncountedAnswer answer
+by_plain (Ok value) h = tt
+by_plain (Err refusal) h = plain_uncounted refusal h
 
-plain_counts : (cabinet : CabinetState) (entropy : EntropyState) (refusal : Refusal) (cabinet' : CabinetState) (entropy' : EntropyState) → Plain refusal → CountsRefusal cabinet entropy refusal cabinet' entropy'
-plain_counts cabinet entropy (refusals.CabinetFault word) cabinet' entropy' h = absurd h
-plain_counts cabinet entropy refusals.EntropyFault cabinet' entropy' h = absurd h
-plain_counts cabinet entropy (refusals.FileAbsent word) cabinet' entropy' h = absurd h
-plain_counts cabinet entropy (refusals.FileTooLong word limit) cabinet' entropy' h = absurd h
-plain_counts cabinet entropy refusal cabinet' entropy' h = tt
+some_uncounted : (found : Option Refusal) (refusal : Refusal) → PlainOption found → found ≡ Some refusal → Uncounted refusal
+some_uncounted found refusal plain is = plain_uncounted refusal (plain_some found refusal plain is)
+
+uncounted_counts : (cabinet : CabinetState) (entropy : EntropyState) (refusal : Refusal) (cabinet' : CabinetState) (entropy' : EntropyState) → Uncounted refusal → CountsRefusal cabinet entropy refusal cabinet' entropy'
+uncounted_counts cabinet entropy (refusals.CabinetFault word) cabinet' entropy' h = absurd h
+uncounted_counts cabinet entropy refusals.EntropyFault cabinet' entropy' h = absurd h
+uncounted_counts cabinet entropy (refusals.FileAbsent word) cabinet' entropy' h = absurd h
+uncounted_counts cabinet entropy (refusals.FileTooLong word limit) cabinet' entropy' h = absurd h
+uncounted_counts cabinet entropy refusal cabinet' entropy' h = tt
 
 -- ---- steps
 
@@ -121,19 +120,19 @@ undrawn old new faults misses entropy =
     let drawn : new.entropy.faults ≡ old.entropy.faults = ap (λ (e : EntropyState). e.faults) entropy in
     record { faults = faults; misses = misses; entropy = omega (arith, drawn) }
 
-plain_result : {A : Type 0} (old : Reach) (answer : Result A Refusal) (new : Reach) → PlainAnswer answer → CountsResult old answer new
-plain_result old (Ok value) new h = tt
-plain_result old (Err refusal) new h = plain_counts old.cabinet old.entropy refusal new.cabinet new.entropy h
+uncounted_result : {A : Type 0} (old : Reach) (answer : Result A Refusal) (new : Reach) → UncountedAnswer answer → CountsResult old answer new
+uncounted_result old (Ok value) new h = tt
+uncounted_result old (Err refusal) new h = uncounted_counts old.cabinet old.entropy refusal new.cabinet new.entropy h
 
 -- both stay
-plain_step : {A : Type 0} (old : Reach) (answer : Result A Refusal) (new : Reach) → PlainAnswer answer → new.cabinet ≡ old.cabinet → new.entropy ≡ old.entropy → CountsResult old answer new × Later old new
-plain_step old answer new plain cabinet entropy =
+uncounted_step : {A : Type 0} (old : Reach) (answer : Result A Refusal) (new : Reach) → UncountedAnswer answer → new.cabinet ≡ old.cabinet → new.entropy ≡ old.entropy → CountsResult old answer new × Later old new
+uncounted_step old answer new plain cabinet entropy =
     let drawn : new.entropy.faults ≡ old.entropy.faults = ap (λ (e : EntropyState). e.faults) entropy in
-    (plain_result old answer new plain, beside old new cabinet (omega (arith, drawn)))
+    (uncounted_result old answer new plain, beside old new cabinet (omega (arith, drawn)))
 
-decision_counts : {A : Type 0} (decided : Result A Refusal) (old : Reach) (answer : Result A Refusal) (new : Reach) → PlainAnswer decided → Decides decided old answer new → CountsResult old answer new × Later old new
+decision_counts : {A : Type 0} (decided : Result A Refusal) (old : Reach) (answer : Result A Refusal) (new : Reach) → UncountedAnswer decided → Decides decided old answer new → CountsResult old answer new × Later old new
 decision_counts {A} decided old answer new plain h =
-    plain_step old answer new (subst (λ (r : Result A Refusal). PlainAnswer r) (sym h.0) plain) (ap (λ (r : Reach). r.cabinet) h.1) (ap (λ (r : Reach). r.entropy) h.1)
+    uncounted_step old answer new (subst (λ (r : Result A Refusal). UncountedAnswer r) (sym h.0) plain) (ap (λ (r : Reach). r.cabinet) h.1) (ap (λ (r : Reach). r.entropy) h.1)
 
 counts_later : (old middle : Reach) (refusal : Refusal) (new : Reach) → Later old middle → CountsRefusal middle.cabinet middle.entropy refusal new.cabinet new.entropy → CountsRefusal old.cabinet old.entropy refusal new.cabinet new.entropy
 counts_later old middle (refusals.CabinetFault word) new later h = Rose-earlier old.cabinet.faults middle.cabinet.faults new.cabinet.faults later.faults h
@@ -159,23 +158,23 @@ then_counts First Next first next old answer new h = counts_next Next old h.give
 
 -- ---- what the drawer does with its disk
 
-idle_plain : (holding : Holding) → PlainAnswer (if_idle holding)
-idle_plain Idle = tt
-idle_plain (IsAttached a) = tt
+idle_uncounted : (holding : Holding) → UncountedAnswer (if_idle holding)
+idle_uncounted Idle = tt
+idle_uncounted (IsAttached a) = tt
 
 idle_counts : Counts NeedsIdle
-idle_counts old answer new h = decision_counts (if_idle old.holding) old answer new (idle_plain old.holding) h
+idle_counts old answer new h = decision_counts (if_idle old.holding) old answer new (idle_uncounted old.holding) h
 
-attached_plain : (holding : Holding) → PlainAnswer (if_attached holding)
-attached_plain Idle = tt
-attached_plain (IsAttached a) = tt
+attached_uncounted : (holding : Holding) → UncountedAnswer (if_attached holding)
+attached_uncounted Idle = tt
+attached_uncounted (IsAttached a) = tt
 
 attached_counts : Counts NeedsAttached
-attached_counts old answer new h = decision_counts (if_attached old.holding) old answer new (attached_plain old.holding) h
+attached_counts old answer new h = decision_counts (if_attached old.holding) old answer new (attached_uncounted old.holding) h
 
 attaching_counts : (a : Attachment) → Counts (Attaches a)
-attaching_counts a old (Ok done) new h = plain_step {A = Unit {0}} old (Ok done) new tt (ap (λ (r : Reach). r.cabinet) h) (ap (λ (r : Reach). r.entropy) h)
-attaching_counts a old (Err refusals.NoMemory) new h = plain_step {A = Unit {0}} old (Err refusals.NoMemory) new tt (ap (λ (r : Reach). r.cabinet) h) (ap (λ (r : Reach). r.entropy) h)
+attaching_counts a old (Ok done) new h = uncounted_step {A = Unit {0}} old (Ok done) new tt (ap (λ (r : Reach). r.cabinet) h) (ap (λ (r : Reach). r.entropy) h)
+attaching_counts a old (Err refusals.NoMemory) new h = uncounted_step {A = Unit {0}} old (Err refusals.NoMemory) new tt (ap (λ (r : Reach). r.cabinet) h) (ap (λ (r : Reach). r.entropy) h)
 attaching_counts a old (Err refusal) new h = absurd h
 
 unless_counts : (only_check : Bool) (a : Attachment) → Counts (AttachesUnless only_check a)
@@ -184,86 +183,68 @@ unless_counts false a old answer new h = attaching_counts a old answer new h
 
 withdrawing_counts : Counts Withdraws
 withdrawing_counts old answer new h =
-    plain_step old answer new (subst (λ (r : Result (Unit {0}) Refusal). PlainAnswer r) (sym h.0) tt) (ap (λ (r : Reach). r.cabinet) h.1) (ap (λ (r : Reach). r.entropy) h.1)
+    uncounted_step old answer new (subst (λ (r : Result (Unit {0}) Refusal). UncountedAnswer r) (sym h.0) tt) (ap (λ (r : Reach). r.cabinet) h.1) (ap (λ (r : Reach). r.entropy) h.1)
 
 -- ---- the disk
 
-does_plain : (events : List Event) (old : DiskState) (answer : Result (Unit {0}) Refusal) (new : DiskState) → DoesEvents events old answer new → PlainAnswer answer
-does_plain events old (Ok done) new h = tt
-does_plain events old (Err refusals.DeviceFault) new h = tt
-does_plain events old (Err refusal) new h = absurd h
+does_uncounted : (events : List Event) (old : DiskState) (answer : Result (Unit {0}) Refusal) (new : DiskState) → DoesEvents events old answer new → UncountedAnswer answer
+does_uncounted events old (Ok done) new h = tt
+does_uncounted events old (Err refusals.DeviceFault) new h = tt
+does_uncounted events old (Err refusal) new h = absurd h
 
 does_counts : (events : List Event) → Counts (Does events)
-does_counts events old answer new h = plain_step old answer new (does_plain events old.disk answer new.disk h.does) h.outside.cabinet h.outside.entropy
+does_counts events old answer new h = uncounted_step old answer new (does_uncounted events old.disk answer new.disk h.does) h.outside.cabinet h.outside.entropy
 
 detaching_counts : Counts Detaches
-detaching_counts old answer new h = plain_step old answer new (does_plain (Flush ∷ []) old.disk answer new.disk h.flushes) h.outside.cabinet h.outside.entropy
+detaching_counts old answer new h = uncounted_step old answer new (does_uncounted (Flush ∷ []) old.disk answer new.disk h.flushes) h.outside.cabinet h.outside.entropy
 
-sectors_plain : (a : Attachment) (sector count : ℕ) (old : DiskState) (answer : Result (List ℕ) Refusal) (new : DiskState) → SectorsAnswer a.keying sector count old answer new → PlainAnswer answer
-sectors_plain a sector count old (Ok bytes) new h = tt
-sectors_plain a sector count old (Err (refusals.Integrity offset)) new h = tt
-sectors_plain a sector count old (Err refusals.DeviceFault) new h = tt
-sectors_plain a sector count old (Err refusal) new h = absurd h
+sectors_uncounted : (a : Attachment) (sector count : ℕ) (old : DiskState) (answer : Result (List ℕ) Refusal) (new : DiskState) → SectorsAnswer a.keying sector count old answer new → UncountedAnswer answer
+sectors_uncounted a sector count old (Ok bytes) new h = tt
+sectors_uncounted a sector count old (Err (refusals.Integrity offset)) new h = tt
+sectors_uncounted a sector count old (Err refusals.DeviceFault) new h = tt
+sectors_uncounted a sector count old (Err refusal) new h = absurd h
 
 sectors_counts : (a : Attachment) (sector count : ℕ) → Counts (ReadsSectors a sector count)
-sectors_counts a sector count old answer new h = plain_step old answer new (sectors_plain a sector count old.disk answer new.disk h.reads) h.outside.cabinet h.outside.entropy
+sectors_counts a sector count old answer new h = uncounted_step old answer new (sectors_uncounted a sector count old.disk answer new.disk h.reads) h.outside.cabinet h.outside.entropy
 
-whole_plain : (size bytes : ℕ) (whole : Bool) → PlainAnswer {A = ℕ} (cond whole (Ok (bytes / size)) (Err (refusals.BadLength bytes size)))
-whole_plain size bytes true = tt
-whole_plain size bytes false = tt
+whole_uncounted : (size bytes : ℕ) (whole : Bool) → UncountedAnswer {A = ℕ} (cond whole (Ok (bytes / size)) (Err (refusals.BadLength bytes size)))
+whole_uncounted size bytes true = tt
+whole_uncounted size bytes false = tt
 
 whole_counts : (a : Attachment) (bytes : ℕ) → Counts (NeedsWhole a bytes)
-whole_counts a bytes old answer new h = decision_counts (whole_sectors a.keying.sectorsize bytes) old answer new (whole_plain a.keying.sectorsize bytes _) h
+whole_counts a bytes old answer new h = decision_counts (whole_sectors a.keying.sectorsize bytes) old answer new (whole_uncounted a.keying.sectorsize bytes _) h
 
-writable_plain : (readonly : Bool) → PlainAnswer (if_writable readonly)
-writable_plain true = tt
-writable_plain false = tt
+writable_uncounted : (readonly : Bool) → UncountedAnswer (if_writable readonly)
+writable_uncounted true = tt
+writable_uncounted false = tt
 
 writable_counts : (a : Attachment) → Counts (NeedsWritable a)
-writable_counts a old answer new h = decision_counts (if_writable a.readonly) old answer new (writable_plain a.readonly) h
+writable_counts a old answer new h = decision_counts (if_writable a.readonly) old answer new (writable_uncounted a.readonly) h
 
-range_plain : (sector count there : ℕ) (fits : Bool) → PlainAnswer {A = Unit {0}} (cond fits (Ok tt) (Err (refusals.OutOfRange sector count there)))
-range_plain sector count there true = tt
-range_plain sector count there false = tt
+range_uncounted : (sector count there : ℕ) (fits : Bool) → UncountedAnswer {A = Unit {0}} (cond fits (Ok tt) (Err (refusals.OutOfRange sector count there)))
+range_uncounted sector count there true = tt
+range_uncounted sector count there false = tt
 
 range_counts : (a : Attachment) (sector count : ℕ) → Counts (NeedsSectors a sector count)
-range_counts a sector count old answer new h = decision_counts (in_range sector count _) old answer new (range_plain sector count _ _) h
+range_counts a sector count old answer new h = decision_counts (in_range sector count _) old answer new (range_uncounted sector count _ _) h
 
 -- ---- the metadata
 
-meta_plain : (fault : MetaFault) → Plain (refusal_of fault)
-meta_plain BadMagic = tt
-meta_plain (BadVersion found) = tt
-meta_plain BadHash = tt
-meta_plain (UnsupportedFlags mask) = tt
-meta_plain (UnsupportedCipher found) = tt
-meta_plain (BadKeyLength found) = tt
-meta_plain (UnsupportedAuth found) = tt
-meta_plain (BadSectorSize found) = tt
-meta_plain (BadSize kept found) = tt
-meta_plain NoValidKeys = tt
-meta_plain (KeyNumberOutOfRange given) = tt
-meta_plain (KeyNotSet slot) = tt
-
-or_plain : {A : Type 0} (found : Result A MetaFault) → PlainAnswer (or_refusal refusal_of found)
-or_plain (Ok value) = tt
-or_plain (Err fault) = meta_plain fault
-
-read_plain : (read : Result Metadata ReadMetaFault) → PlainAnswer (or_refusal read_refusal_of read)
-read_plain (Ok m) = tt
-read_plain (Err (TooSmall size)) = tt
-read_plain (Err DeviceFault) = tt
-read_plain (Err (Meta fault)) = meta_plain fault
+read_uncounted : (read : Result Metadata ReadMetaFault) → UncountedAnswer (or_refusal read_refusal_of read)
+read_uncounted (Ok m) = tt
+read_uncounted (Err (TooSmall size)) = tt
+read_uncounted (Err DeviceFault) = tt
+read_uncounted (Err (Meta fault)) = plain_uncounted (refusal_of fault) (meta_plain fault)
 
 reading_counts : Counts ReadsLastSector
 reading_counts old answer new h =
-    plain_step old answer new (subst (λ (r : Result Metadata Refusal). PlainAnswer r) (sym h.reads.answered) (read_plain h.reads.read)) h.cabinet h.entropy
+    uncounted_step old answer new (subst (λ (r : Result Metadata Refusal). UncountedAnswer r) (sym h.reads.answered) (read_uncounted h.reads.read)) h.cabinet h.entropy
 
 admitting_counts : (m : Metadata) (slot : Option ℕ) → Counts (Admits m slot)
-admitting_counts m slot old answer new h = decision_counts _ old answer new (or_plain _) h
+admitting_counts m slot old answer new h = decision_counts _ old answer new (by_plain _ (or_plain _)) h
 
 using_counts : (m : Metadata) → Counts (IsUsed m)
-using_counts m old answer new h = decision_counts _ old answer new (or_plain _) h
+using_counts m old answer new h = decision_counts _ old answer new (by_plain _ (or_plain _)) h
 
 -- ---- the files
 
@@ -295,173 +276,82 @@ backing_counts : (line : List ℕ) (backup : Option Span) (m : Metadata) → Cou
 backing_counts line None m old answer new h = decision_counts {A = Unit {0}} (Ok tt) old answer new tt h
 backing_counts line (Some span) m old answer new h = storing_counts line span _ old answer new h
 
-saved_plain : (old : DiskState) (before : List ℕ) (read : Result (Unit {0}) Refusal) (bytes : List ℕ) (new : DiskState) → Saves old before read bytes new → PlainAnswer (handed_out bytes read)
-saved_plain old before (Ok done) bytes new h = tt
-saved_plain old before (Err (refusals.TooSmall size)) bytes new h = tt
-saved_plain old before (Err refusals.DeviceFault) bytes new h = tt
-saved_plain old before (Err refusal) bytes new h = subst (λ (r : Refusal). Plain r) (sym h.cause) (meta_plain h.fault)
+saved_uncounted : (old : DiskState) (before : List ℕ) (read : Result (Unit {0}) Refusal) (bytes : List ℕ) (new : DiskState) → Saves old before read bytes new → UncountedAnswer (handed_out bytes read)
+saved_uncounted old before (Ok done) bytes new h = tt
+saved_uncounted old before (Err (refusals.TooSmall size)) bytes new h = tt
+saved_uncounted old before (Err refusals.DeviceFault) bytes new h = tt
+saved_uncounted old before (Err refusal) bytes new h = subst (λ (r : Refusal). Uncounted r) (sym h.cause) (plain_uncounted (refusal_of h.fault) (meta_plain h.fault))
 
 finding_counts : Counts FindsLastSector
 finding_counts old answer new h =
-    plain_step old answer new (subst (λ (r : Result (List ℕ) Refusal). PlainAnswer r) (sym h.finds.answered) (saved_plain old.disk h.finds.before h.finds.read h.finds.bytes new.disk h.finds.saves)) h.outside.cabinet h.outside.entropy
+    uncounted_step old answer new (subst (λ (r : Result (List ℕ) Refusal). UncountedAnswer r) (sym h.finds.answered) (saved_uncounted old.disk h.finds.before h.finds.read h.finds.bytes new.disk h.finds.saves)) h.outside.cabinet h.outside.entropy
 
-unless_plain : (found : Result (Unit {0}) MetaFault) (m : Metadata) → PlainAnswer (unless_fault found m)
-unless_plain (Ok done) m = tt
-unless_plain (Err fault) m = meta_plain fault
-
-fitted_plain : (found : Result Metadata MetaFault) (force : Bool) (sectors : ℕ) → PlainAnswer (fitted found force sectors)
-fitted_plain (Err fault) force sectors = meta_plain fault
-fitted_plain (Ok m) true sectors = tt
-fitted_plain (Ok m) false sectors = unless_plain _ m
-
-early_plain : (small short : Bool) (size count : ℕ) (fit : Result Metadata Refusal) → PlainAnswer fit → PlainAnswer (cond small (Err (refusals.TooSmall size)) (cond short (Err (refusals.BackupTooShort count)) fit))
-early_plain true short size count fit h = tt
-early_plain false true size count fit h = tt
-early_plain false false size count fit h = h
-
-restored_plain : (bytes : List ℕ) (force : Bool) (old : DiskState) (made : Result Metadata Refusal) (new : DiskState) → Restores bytes force old made new → PlainAnswer made
-restored_plain bytes force old (Ok m) new h = tt
-restored_plain bytes force old (Err refusals.DeviceFault) new h = tt
-restored_plain bytes force old (Err refusal) new h =
-    subst (λ (r : Result Metadata Refusal). PlainAnswer r) h.cause (early_plain (nat_lt old.size 2) (nat_lt (length bytes) 511) (512 * old.size) (length bytes) _ (fitted_plain _ force old.size))
+restored_uncounted : (bytes : List ℕ) (force : Bool) (old : DiskState) (made : Result Metadata Refusal) (new : DiskState) → Restores bytes force old made new → UncountedAnswer made
+restored_uncounted bytes force old (Ok m) new h = tt
+restored_uncounted bytes force old (Err refusals.DeviceFault) new h = tt
+restored_uncounted bytes force old (Err refusal) new h = plain_uncounted refusal (plain_err (restored bytes force old.size) refusal (restored_plain bytes force old.size) h.cause)
 
 writing_counts : (bytes : List ℕ) (force : Bool) → Counts (WritesBack bytes force)
-writing_counts bytes force old answer new h = plain_step old answer new (restored_plain bytes force old.disk answer new.disk h.restores) h.outside.cabinet h.outside.entropy
+writing_counts bytes force old answer new h = uncounted_step old answer new (restored_uncounted bytes force old.disk answer new.disk h.restores) h.outside.cabinet h.outside.entropy
 
 -- ---- keys
 
-key_plain : (fault : KeyFault) → Plain (key_refusal_of fault)
-key_plain PassphraseNotSet = tt
-key_plain PassphraseNeeded = tt
-key_plain NoKeyComponents = tt
-
-key_option : (key : Result UserKey KeyFault) → PlainOption (key_refusal key)
-key_option (Ok key) = tt
-key_option (Err fault) = key_plain fault
-
-there_plain : (slot : ℕ) (there : Bool) → PlainAnswer {A = Unit {0}} (cond there (Ok tt) (Err (refusals.KeyNumberOutOfRange slot)))
-there_plain slot true = tt
-there_plain slot false = tt
-
-if_there_plain : (slot : Option ℕ) → PlainAnswer (if_there slot)
-if_there_plain None = tt
-if_there_plain (Some slot) = there_plain slot (nat_le slot 1)
-
 slot_counts : (slot : Option ℕ) → Counts (NeedsSlot slot)
-slot_counts slot old answer new h = decision_counts (if_there slot) old answer new (if_there_plain slot) h
-
-wrong_plain : (found : Option (MasterKey × ℕ)) → PlainAnswer (or_wrong found)
-wrong_plain None = tt
-wrong_plain (Some found) = tt
-
-opened_plain : (m : Metadata) (key : Result UserKey KeyFault) → PlainAnswer (opened_by m key)
-opened_plain m (Err fault) = key_plain fault
-opened_plain m (Ok key) = wrong_plain _
+slot_counts slot old answer new h = decision_counts (if_there slot) old answer new (by_plain (if_there slot) (there_plain slot)) h
 
 opening_counts : (m : Metadata) (parts : Components) → Counts (OpensSlot m parts)
-opening_counts m parts old answer new h = decision_counts _ old answer new (opened_plain m (user_key parts m.salt m.iterations)) h
-
-named_plain : (all : Bool) (slot : Option ℕ) → PlainAnswer (named_slots all slot)
-named_plain true slot = tt
-named_plain false (Some slot) = tt
-named_plain false None = tt
+opening_counts m parts old answer new h = decision_counts _ old answer new (by_plain _ (opened_plain m (user_key parts m.salt m.iterations))) h
 
 naming_counts : (all : Bool) (slot : Option ℕ) → Counts (NamesSlots all slot)
-naming_counts all slot old answer new h = decision_counts (named_slots all slot) old answer new (named_plain all slot) h
-
-or_wrong_plain : (s : Settings) (readonly : Bool) (found : Option (MasterKey × ℕ)) → PlainAnswer (or_wrong_key s readonly found)
-or_wrong_plain s readonly None = tt
-or_wrong_plain s readonly (Some found) = tt
-
-small_plain : (s : Settings) (readonly small : Bool) (found : Option (MasterKey × ℕ)) → PlainAnswer (cond small (Err (refusals.TooSmall s.provsize)) (or_wrong_key s readonly found))
-small_plain s readonly true found = tt
-small_plain s readonly false found = or_wrong_plain s readonly found
-
-tried_plain : (m : Metadata) (s : Settings) (slot : Option ℕ) (readonly : Bool) (key : Result UserKey KeyFault) → PlainAnswer (tried m s slot readonly key)
-tried_plain m s slot readonly (Err fault) = key_plain fault
-tried_plain m s slot readonly (Ok key) = small_plain s readonly _ _
+naming_counts all slot old answer new h = decision_counts (named_slots all slot) old answer new (by_plain (named_slots all slot) (named_plain all slot)) h
 
 trying_counts : (m : Metadata) (s : Settings) (slot : Option ℕ) (readonly : Bool) (parts : Components) → Counts (TriesKey m s slot readonly parts)
-trying_counts m s slot readonly parts old answer new h = decision_counts _ old answer new (tried_plain m s slot readonly (user_key parts m.salt m.iterations)) h
+trying_counts m s slot readonly parts old answer new h = decision_counts _ old answer new (by_plain _ (tried_plain m s slot readonly (user_key parts m.salt m.iterations))) h
 
-change_plain : (given : Bool) (key : Result UserKey KeyFault) → PlainOption (cond given (Some refusals.IterationsNeedOneKey) (key_refusal key))
-change_plain true key = tt
-change_plain false key = key_option key
-
-set_plain : (asked : KeyChange) (disk : DiskState) (made : Result Metadata Refusal) (disk' : DiskState) → SetsKey asked disk made disk' → PlainAnswer (without_value made)
-set_plain asked disk (Ok m) disk' h = tt
-set_plain asked disk (Err refusals.DeviceFault) disk' h = tt
-set_plain asked disk (Err refusal) disk' h = plain_some (change_refusal asked) refusal (change_plain _ _) h.cause
+set_uncounted : (asked : KeyChange) (disk : DiskState) (made : Result Metadata Refusal) (disk' : DiskState) → SetsKey asked disk made disk' → UncountedAnswer (without_value made)
+set_uncounted asked disk (Ok m) disk' h = tt
+set_uncounted asked disk (Err refusals.DeviceFault) disk' h = tt
+set_uncounted asked disk (Err refusal) disk' h = some_uncounted (change_refusal asked) refusal (change_plain asked) h.cause
 
 setting_counts : (asked : KeyChange) → Counts (StoresKey asked)
 setting_counts asked old answer new h =
-    plain_step old answer new (subst (λ (r : Result (Unit {0}) Refusal). PlainAnswer r) (sym h.answered) (set_plain asked old.disk h.made new.disk h.sets)) h.cabinet h.entropy
+    uncounted_step old answer new (subst (λ (r : Result (Unit {0}) Refusal). UncountedAnswer r) (sym h.answered) (set_uncounted asked old.disk h.made new.disk h.sets)) h.cabinet h.entropy
 
 -- ---- rows that draw random bytes
-
-last_plain : (one two three : Bool) (slot : ℕ) → PlainOption (cond one (Some (refusals.KeyNumberOutOfRange slot)) (cond two (Some (refusals.KeyNotSet slot)) (cond three (Some (refusals.LastKey slot)) None)))
-last_plain true two three slot = tt
-last_plain false true three slot = tt
-last_plain false false true slot = tt
-last_plain false false false slot = tt
-
-deletion_plain : (m : Metadata) (which : Which) (force : Bool) → PlainOption (deletion_refusal m which force)
-deletion_plain m slots.All force = tt
-deletion_plain m (slots.One slot) force = last_plain _ _ _ slot
 
 delete_counts : (asked : Deletion) (old new : Reach) (made : Result Metadata Refusal) → DeletesKeys asked old.disk old.entropy made new.disk new.entropy → new.cabinet ≡ old.cabinet → CountsResult old (without_value made) new × Later old new
 delete_counts asked old new (Ok m) h same = (tt, beside old new same h.draws.taken.later)
 delete_counts asked old new (Err refusals.DeviceFault) h same = (tt, beside old new same h.draws.taken.later)
 delete_counts asked old new (Err refusals.EntropyFault) h same = (h.none.rose, beside old new same h.none.later)
 delete_counts asked old new (Err refusal) h same =
-    plain_step {A = Unit {0}} old (Err refusal) new (plain_some (deletion_refusal asked.meta asked.which asked.force) refusal (deletion_plain asked.meta asked.which asked.force) h.cause) same h.entropy_unchanged
+    uncounted_step {A = Unit {0}} old (Err refusal) new (some_uncounted (deletion_refusal asked.meta asked.which asked.force) refusal (deletion_plain asked.meta asked.which asked.force) h.cause) same h.entropy_unchanged
 
 deleting_counts : (asked : Deletion) → Counts (TakesKeysOut asked)
 deleting_counts asked old answer new h =
     subst (λ (r : Result (Unit {0}) Refusal). CountsResult old r new × Later old new) (sym h.answered) (delete_counts asked old new h.made h.deletes h.cabinet)
-
-early_option : (one two three : Bool) (keylen sectorsize size : ℕ) (key : Result UserKey KeyFault)
-    → PlainOption (cond one (Some (refusals.BadKeyLength keylen)) (cond two (Some (refusals.BadSectorSize sectorsize)) (cond three (Some (refusals.TooSmall size)) (key_refusal key))))
-early_option true two three keylen sectorsize size key = tt
-early_option false true three keylen sectorsize size key = tt
-early_option false false true keylen sectorsize size key = tt
-early_option false false false keylen sectorsize size key = key_option key
 
 made_counts : (options : InitOptions) (parts : Components) (old new : Reach) (made : Result Metadata Refusal) → Inits options parts old.disk old.entropy made new.disk new.entropy → new.cabinet ≡ old.cabinet → CountsResult old made new × Later old new
 made_counts options parts old new (Ok m) h same = (tt, beside old new same h.makes.taken.later)
 made_counts options parts old new (Err refusals.DeviceFault) h same = (tt, beside old new same h.makes.taken.later)
 made_counts options parts old new (Err refusals.EntropyFault) h same = (h.none.rose, beside old new same h.none.later)
 made_counts options parts old new (Err refusal) h same =
-    plain_step {A = Metadata} old (Err refusal) new
-    (plain_some (early_refusal options parts old.disk.size) refusal (early_option _ _ _ options.keylen options.sectorsize (512 * old.disk.size) (user_key parts [] options.iterations)) h.cause) same h.entropy_unchanged
+    uncounted_step {A = Metadata} old (Err refusal) new
+    (some_uncounted (early_refusal options parts old.disk.size) refusal (early_plain options parts old.disk.size) h.cause) same h.entropy_unchanged
 
 making_counts : (options : InitOptions) (parts : Components) → Counts (MakesProvider options parts)
 making_counts options parts old answer new h = made_counts options parts old new answer h.inits h.cabinet
 
-sizes_plain : (small grown : Bool) (size given : ℕ) → PlainOption (cond small (Some (refusals.TooSmall size)) (cond grown (Some (refusals.NotGrown size given)) None))
-sizes_plain true grown size given = tt
-sizes_plain false true size given = tt
-sizes_plain false false size given = tt
-
-other_plain : (same : Bool) (kept given : ℕ) → PlainOption (cond same None (Some (refusals.OldSizeMismatch kept given)))
-other_plain true kept given = tt
-other_plain false kept given = tt
-
-found_plain : (found : Result Metadata MetaFault) (oldsize : ℕ) → PlainOption (old_refusal found oldsize)
-found_plain (Err fault) oldsize = meta_plain fault
-found_plain (Ok m) oldsize = other_plain (m.provsize == oldsize) m.provsize oldsize
-
 unmoved_counts : (oldsize : ℕ) (old new : Reach) (refusal : Refusal) → RefusesSizes oldsize old.disk old.entropy refusal new.disk new.entropy ⊎ RefusesOld oldsize old.disk old.entropy refusal new.disk new.entropy → new.cabinet ≡ old.cabinet
     → CountsResult {A = Unit {0}} old (Err refusal) new × Later old new
 unmoved_counts oldsize old new refusal (inl h) same =
-    plain_step {A = Unit {0}} old (Err refusal) new
-    (plain_some (size_refusal old.disk.size oldsize) refusal (sizes_plain (nat_lt old.disk.size 2) (nat_le (512 * old.disk.size) oldsize) (512 * old.disk.size) oldsize) h.cause) same h.entropy_unchanged
+    uncounted_step {A = Unit {0}} old (Err refusal) new
+    (some_uncounted (size_refusal old.disk.size oldsize) refusal (sizes_plain old.disk.size oldsize) h.cause) same h.entropy_unchanged
 unmoved_counts oldsize old new refusal (inr h) same =
-    plain_step {A = Unit {0}} old (Err refusal) new (plain_some (old_refusal h.finds.found oldsize) refusal (found_plain h.finds.found oldsize) h.finds.cause) same h.unchanged
+    uncounted_step {A = Unit {0}} old (Err refusal) new (some_uncounted (old_refusal h.finds.found oldsize) refusal (old_plain h.finds.found oldsize) h.finds.cause) same h.unchanged
 
 moved_counts : (oldsize : ℕ) (old new : Reach) (answer : Result (Unit {0}) Refusal) → Resizes oldsize old.disk old.entropy answer new.disk new.entropy → new.cabinet ≡ old.cabinet → CountsResult old answer new × Later old new
 moved_counts oldsize old new (Ok done) h same = (tt, beside old new same h.prepares.takes.taken.later)
-moved_counts oldsize old new (Err refusals.DeviceFault) (inl h) same = plain_step {A = Unit {0}} old (Err refusals.DeviceFault) new tt same h.unchanged
+moved_counts oldsize old new (Err refusals.DeviceFault) (inl h) same = uncounted_step {A = Unit {0}} old (Err refusals.DeviceFault) new tt same h.unchanged
 moved_counts oldsize old new (Err refusals.DeviceFault) (inr h) same = (tt, beside old new same h.prepares.takes.taken.later)
 moved_counts oldsize old new (Err refusals.EntropyFault) h same = (h.none.rose, beside old new same h.none.later)
 moved_counts oldsize old new (Err refusal) h same = unmoved_counts oldsize old new refusal h same
@@ -473,7 +363,7 @@ killed_counts : (old new : Reach) (answer : Result (Unit {0}) Refusal) → Kills
 killed_counts old new (Ok done) h same = (tt, beside old new same h.takes.taken.later)
 killed_counts old new (Err refusals.DeviceFault) h same = (tt, beside old new same h.takes.taken.later)
 killed_counts old new (Err refusals.EntropyFault) h same = (h.none.rose, beside old new same h.none.later)
-killed_counts old new (Err (refusals.TooSmall size)) h same = plain_step {A = Unit {0}} old (Err (refusals.TooSmall size)) new tt same h.entropy_unchanged
+killed_counts old new (Err (refusals.TooSmall size)) h same = uncounted_step {A = Unit {0}} old (Err (refusals.TooSmall size)) new tt same h.entropy_unchanged
 killed_counts old new (Err refusal) h same = absurd h
 
 killing_counts : Counts DestroysMetadata

@@ -20,8 +20,12 @@ pub mod WorkloadRows
 pub mod Lines
 pub mod Untouched
 pub mod Causing
+pub mod Plain
+pub mod Grounding
+pub mod ProviderCauses
 pub mod KeyCauses
 pub mod LineCauses
+pub mod Fitting
 pub mod Counting
 pub mod Stopping
 pub mod Stopped

@@ -8,14 +8,14 @@ use Rattle.command_words.specs.declared.spans.Span.{Span}
 use Rattle.eli_base.specs.declared.refusals.Refusal.{Refusal}
 use Rattle.eli_base.specs.declared.refusals.Refusal.TheVariants as refusals
 use Rattle.eli_metadata.specs.declared.metadata.Metadata.{Metadata}
-use Rattle.shelf.specs.Answer.{Answer}
 use Rattle.shelf.specs.Answer as answers
 use Rattle.shelf.specs.Causes.{Caused, CausedAt, CausedBy, HasCause}
 use Rattle.shelf.specs.Turn.{ChangesAt, IsUnknown, Lists, ListsAs, Serves, ServesAt, Turn, TurnOf, digest_or, done_or, dump_or, payload_or, reach, takes_out}
 use Rattle.shelf.specs.World.{DrawerState, Reach, World, place_of}
-use Rattle.shelf.proofs.Causing.{Why, attach_why, detach_why, flush_why, init_why, read_why, reading_why, write_why}
+use Rattle.shelf.proofs.Causing.{Why, detach_why, flush_why, read_why, write_why}
 use Rattle.shelf.proofs.KeyCauses.{delkey_why, setkey_why}
 use Rattle.shelf.proofs.PlaceCauses.{backup_why, kill_why, resize_why, restore_why}
+use Rattle.shelf.proofs.ProviderCauses.{attach_why, dump_why, init_why}
 use Rattle.shelf.proofs.WorkloadCauses.{fill_why, sum_why}
 use Rattle.shelf.proofs.Untouched.{get-set}
 
@@ -38,13 +38,13 @@ digest_refused line command old (Ok bytes) new refusal is h = absurd (let none :
 digest_refused line command old (Err found) new refusal is h = let same : found ≡ refusal = cc is in subst (λ (r : Refusal). HasCause line command old r new) same h
 
 serves_why : (line : List ℕ) (command : Command) (old : Reach) (refusal : Refusal) (new : Reach) → Serves line command old (answers.Refused refusal) new → HasCause line command old refusal new
-serves_why line (commands.Dump prov) old refusal new h = dump_refused line (commands.Dump prov) old h.answer new refusal h.replied (reading_why line (commands.Dump prov) old h.answer new refl h.row)
+serves_why line (commands.Dump prov) old refusal new h = dump_refused line (commands.Dump prov) old h.answer new refusal h.replied (dump_why line prov old h.answer new h.row)
 serves_why line (commands.Init prov cipher auth keylen sectorsize iterations autoresize fresh backup) old refusal new h =
     let command : Command = commands.Init prov cipher auth keylen sectorsize iterations autoresize fresh backup in
-    done_refused line command old h.answer new refusal h.replied (init_why command line _ fresh backup old h.answer new (record { metadata = refl; memory = refl; idle = refl }) h.row)
+    done_refused line command old h.answer new refusal h.replied (init_why line command _ fresh backup old h.answer new refl refl (λ r found cabinet bad. bad) (λ r found ground. ground) h.row)
 serves_why line (commands.Attach prov only_check readonly slot words) old refusal new h =
     let command : Command = commands.Attach prov only_check readonly slot words in
-    done_refused line command old h.answer new refusal h.replied (attach_why command line only_check readonly slot words old h.answer new (record { metadata = refl; memory = refl; idle = refl }) h.row)
+    done_refused line command old h.answer new refusal h.replied (attach_why line prov only_check readonly slot words old h.answer new h.row)
 serves_why line (commands.Detach prov) old refusal new h = done_refused line (commands.Detach prov) old h.answer new refusal h.replied (detach_why line (commands.Detach prov) old h.answer new refl h.row)
 serves_why line (commands.Read prov sector count) old refusal new h =
     payload_refused line (commands.Read prov sector count) old h.answer new refusal h.replied (read_why line prov sector count old h.answer new h.row)
@@ -53,20 +53,20 @@ serves_why line (commands.Write prov sector hex) old refusal new h =
 serves_why line (commands.Flush prov) old refusal new h = done_refused line (commands.Flush prov) old h.answer new refusal h.replied (flush_why line (commands.Flush prov) old h.answer new refl h.row)
 serves_why line (commands.Setkey prov iterations slot words fresh) old refusal new h =
     let command : Command = commands.Setkey prov iterations slot words fresh in
-    done_refused line command old h.answer new refusal h.replied (setkey_why command line iterations slot words fresh old h.answer new refl refl h.row)
+    done_refused line command old h.answer new refusal h.replied (setkey_why line prov iterations slot words fresh old h.answer new h.row)
 serves_why line (commands.Delkey prov all force slot) old refusal new h =
     let command : Command = commands.Delkey prov all force slot in
-    done_refused line command old h.answer new refusal h.replied (delkey_why line command all force slot old h.answer new refl h.row)
-serves_why line (commands.Kill prov) old refusal new h = done_refused line (commands.Kill prov) old h.answer new refusal h.replied (kill_why line (commands.Kill prov) old h.answer new refl h.row)
+    done_refused line command old h.answer new refusal h.replied (delkey_why line prov all force slot old h.answer new h.row)
+serves_why line (commands.Kill prov) old refusal new h = done_refused line (commands.Kill prov) old h.answer new refusal h.replied (kill_why line prov old h.answer new h.row)
 serves_why line (commands.Backup prov file) old refusal new h =
     let command : Command = commands.Backup prov file in
-    done_refused line command old h.answer new refusal h.replied (backup_why command line file old h.answer new refl refl h.row)
+    done_refused line command old h.answer new refusal h.replied (backup_why line prov file old h.answer new h.row)
 serves_why line (commands.Restore file prov force) old refusal new h =
     let command : Command = commands.Restore file prov force in
-    done_refused line command old h.answer new refusal h.replied (restore_why command line file force old h.answer new refl refl refl h.row)
+    done_refused line command old h.answer new refusal h.replied (restore_why line file prov force old h.answer new h.row)
 serves_why line (commands.Resize prov oldsize) old refusal new h =
     let command : Command = commands.Resize prov oldsize in
-    done_refused line command old h.answer new refusal h.replied (resize_why line command oldsize old h.answer new refl refl h.row)
+    done_refused line command old h.answer new refusal h.replied (resize_why line prov oldsize old h.answer new h.row)
 serves_why line (commands.Fill prov seed start count) old refusal new h =
     done_refused line (commands.Fill prov seed start count) old h.answer new refusal h.replied (fill_why line prov seed start count old h.answer new h.row)
 serves_why line (commands.Sum prov start count) old refusal new h = digest_refused line (commands.Sum prov start count) old h.answer new refusal h.replied (sum_why line prov start count old h.answer new h.row)

@@ -1,227 +1,137 @@
 -- Why `backup`, `restore`, `resize` and `kill` are refused.
-use Rattle.std.proofs.Common.{◌≡◌, ℕ, refl, ◌≤◌, ◌*◌, ◌==◌, ◌⊎◌, List, ap, sym, subst, inl, inr, arith, Bool, true, false, cond, IfSome, None, Some, Result, Ok, Err, length, nat_lt, nat_le}
-use Rattle.std.specs.Result.{result_err}
-use Rattle.backup_restore.specs.Restoring.{Restores, fitted, restored, unless_fault}
+use Rattle.std.proofs.Common.{◌≡◌, ◌⊎◌, ℕ, List, refl, ap, sym, subst, inl, inr, arith, Bool, Result, Ok, Err}
+use Rattle.std.specs.Prelude.{IfSome}
+use Rattle.backup_restore.specs.Restoring.{Restores, restored}
 use Rattle.backup_restore.specs.Saving.{Saves}
-use Rattle.block_traits.specs.Cabinet.{CabinetState}
-use Rattle.block_traits.specs.Disk.{DiskState}
-use Rattle.block_traits.specs.Streams.{EntropyState}
+use Rattle.block_traits.proofs.Causes.{Rose-earlier}
+use Rattle.command_words.specs.Places.{bytes_at}
 use Rattle.command_words.specs.declared.commands.Command.{Command}
+use Rattle.command_words.specs.declared.commands.Command.TheVariants as commands
 use Rattle.command_words.specs.declared.spans.Span.{Span}
 use Rattle.eli_base.specs.declared.refusals.Refusal.{Refusal}
 use Rattle.eli_base.specs.declared.refusals.Refusal.TheVariants as refusals
-use Rattle.eli_metadata.specs.Refusals.{refusal_of}
 use Rattle.eli_metadata.specs.declared.metadata.Metadata.{Metadata}
-use Rattle.eli_metadata.specs.declared.metadata.MetaFault.{MetaFault}
-use Rattle.key_components.specs.Answers.{MayRefuse}
+use Rattle.key_components.specs.Answers.{file_answer}
+use Rattle.key_components.specs.Files.{file_limit}
 use Rattle.resize_kill.specs.Killing.{Kills}
-use Rattle.resize_kill.specs.Resizing.{RefusesOld, RefusesSizes, Resizes, old_refusal}
-use Rattle.shelf.specs.Causes.{asks_metadata, may_lack_memory, needs_idle}
+use Rattle.resize_kill.specs.Resizing.{RefusesOld, RefusesSizes, Resizes, old_refusal, size_refusal}
+use Rattle.shelf.specs.Causes.{HasCause}
+use Rattle.shelf.specs.Grounds.{HoldsNone, LacksMetadata, RefusesFile}
 use Rattle.shelf.specs.Requests.{handed_out}
 use Rattle.shelf.specs.Saving.{BackupRow, FindsLastSector, LoadsFile, RestoreRow, WritesBack}
 use Rattle.shelf.specs.Sizes.{DestroysMetadata, KillRow, MovesMetadata, ResizeRow, Withdraws}
-use Rattle.shelf.specs.Steps.{Decides, NeedsIdle, StoreAnswers, StoresBytes, Then}
+use Rattle.shelf.specs.Steps.{Decides, NeedsIdle, StoresBytes, Then}
 use Rattle.shelf.specs.World.{Reach}
-use Rattle.shelf.proofs.Causing.{Why, needs_idle_why, then_why}
-use Rattle.shelf.proofs.KeyCauses.{Fair, FairAnswer, FairStep, Later, fair_why, later_by, meta_fair, then_fair}
-
-fault_fair : (memory : Bool) (old new : Reach) (fault : MetaFault) (refusal : Refusal) → refusal ≡ refusal_of fault → Fair memory old refusal new
-fault_fair memory old new fault refusal is = subst (λ (r : Refusal). Fair memory old r new) (sym is) (meta_fair memory old new fault)
+use Rattle.shelf.proofs.Causing.{Why, needs_idle_why, then_since, then_why}
+use Rattle.shelf.proofs.Grounding.{Grounds, Since, plain_cause, since_cabinet, storing_why, told_sym}
+use Rattle.shelf.proofs.Plain.{IsPlain, meta_plain, old_plain, plain_err, plain_some, restored_plain, sizes_plain}
 
 -- ---- `backup`
 
-saved_fair : (memory : Bool) (old new : Reach) (before : List ℕ) (read : Result (Unit {0}) Refusal) (bytes : List ℕ) → Saves old.disk before read bytes new.disk → FairAnswer memory old (handed_out bytes read) new
-saved_fair memory old new before (Ok done) bytes h = tt
-saved_fair memory old new before (Err (refusals.TooSmall size)) bytes h = tt
-saved_fair memory old new before (Err refusals.DeviceFault) bytes h = h.1.rose
-saved_fair memory old new before (Err refusal) bytes h = fault_fair memory old new h.fault refusal h.cause
+saves_why : (line : List ℕ) (command : Command) (old : Reach) (before : List ℕ) (read : Result (Unit {0}) Refusal) (bytes : List ℕ) (new : Reach) → Grounds line command old (LacksMetadata old.disk) → Saves old.disk before read bytes new.disk
+    → Why line command old (handed_out bytes read) new
+saves_why line command old before (Ok done) bytes new lacks h = tt
+saves_why line command old before (Err (refusals.TooSmall size)) bytes new lacks h = lacks (refusals.TooSmall size) (inl (h.small, ap (λ (n : ℕ). refusals.TooSmall n) h.bytes))
+saves_why line command old before (Err refusals.DeviceFault) bytes new lacks h = h.1.rose
+saves_why line command old before (Err refusal) bytes new lacks h =
+    let found : HoldsNone old.disk refusal = record { enough = h.reads.enough; fault = h.fault; found = record { bytes = bytes; whole = h.reads.whole; told = h.reads.told; read = h.is }; refused = h.cause } in
+    plain_cause line command old refusal new (subst (λ (r : Refusal). IsPlain r) (sym h.cause) (meta_plain h.fault)) (lacks refusal (inr found))
 
-saved_later : (old : DiskState) (before : List ℕ) (read : Result (Unit {0}) Refusal) (bytes : List ℕ) (new : DiskState) → Saves old before read bytes new → old.faults ≤ new.faults
-saved_later old before (Ok done) bytes new h = h.reads.logs.faults
-saved_later old before (Err (refusals.TooSmall size)) bytes new h = rw h.unchanged (omega arith)
-saved_later old before (Err refusals.DeviceFault) bytes new h = h.1.logs.faults
-saved_later old before (Err refusal) bytes new h = h.reads.logs.faults
+finding_why : (line : List ℕ) (command : Command) (old : Reach) (answer : Result (List ℕ) Refusal) (new : Reach) → Grounds line command old (LacksMetadata old.disk) → FindsLastSector old answer new → Why line command old answer new
+finding_why line command old answer new lacks h =
+    subst (λ (r : Result (List ℕ) Refusal). Why line command old r new) (sym h.finds.answered) (saves_why line command old h.finds.before h.finds.read h.finds.bytes new lacks h.finds.saves)
 
-finding_fair : FairStep true FindsLastSector
-finding_fair old answer new h = (
-  subst (λ (r : Result (List ℕ) Refusal). FairAnswer true old r new) (sym h.finds.answered) (saved_fair true old new h.finds.before h.finds.read h.finds.bytes h.finds.saves),
-  later_by old new (saved_later old.disk h.finds.before h.finds.read h.finds.bytes new.disk h.finds.saves) h.outside.cabinet h.outside.entropy,
-)
-
-stored_fair : (line : List ℕ) (file : Span) (bytes : List ℕ) (old new : Reach) (answer : Result (Unit {0}) Refusal) → StoreAnswers line file bytes old.cabinet answer new.cabinet → FairAnswer true old answer new
-stored_fair line file bytes old new (Ok done) h = tt
-stored_fair line file bytes old new (Err (refusals.CabinetFault word)) h = h.1
-stored_fair line file bytes old new (Err refusals.NoMemory) h = refl
-stored_fair line file bytes old new (Err refusal) h = absurd h
-
-stored_later : (line : List ℕ) (file : Span) (bytes : List ℕ) (old new : CabinetState) (answer : Result (Unit {0}) Refusal) → StoreAnswers line file bytes old answer new → (old.faults ≤ new.faults) × (old.misses ≤ new.misses)
-stored_later line file bytes old new (Ok done) h = (h.faults, h.misses)
-stored_later line file bytes old new (Err (refusals.CabinetFault word)) h = (h.2.faults, h.2.misses)
-stored_later line file bytes old new (Err refusals.NoMemory) h = (h.faults, h.misses)
-stored_later line file bytes old new (Err refusal) h = absurd h
-
-storing_fair : (line : List ℕ) (file : Span) (bytes : List ℕ) → FairStep true (StoresBytes line file bytes)
-storing_fair line file bytes old answer new h =
-    let disk : new.disk.faults ≡ old.disk.faults = ap (λ (d : DiskState). d.faults) h.disk in
-    let drawn : new.entropy.faults ≡ old.entropy.faults = ap (λ (e : EntropyState). e.faults) h.entropy in
-    let later = stored_later line file bytes old.cabinet new.cabinet answer h.stores in
-    (stored_fair line file bytes old new answer h.stores, record { disk = omega (arith, disk); cabinet = later.0; misses = later.1; entropy = omega (arith, drawn) })
-
-pub backup_why : (command : Command) (line : List ℕ) (file : Span) (old : Reach) (answer : Result (Unit {0}) Refusal) (new : Reach) → asks_metadata command ≡ true → may_lack_memory command ≡ true → BackupRow line file old answer new
-    → Why line command old answer new
-backup_why command line file old answer new asks lacks h =
-    fair_why line command true old answer new asks (λ memory. lacks) (then_fair true FindsLastSector (λ bytes. StoresBytes line file bytes) finding_fair (λ bytes. storing_fair line file bytes) old answer new h).0
+pub backup_why : (line : List ℕ) (prov file : Span) (old : Reach) (answer : Result (Unit {0}) Refusal) (new : Reach) → BackupRow line file old answer new → Why line (commands.Backup prov file) old answer new
+backup_why line prov file old answer new h =
+    let command : Command = commands.Backup prov file in
+    then_why line command FindsLastSector (λ bytes. StoresBytes line file bytes) old answer new (λ given middle first. finding_why line command old given middle (λ refusal lacks. lacks) first)
+    (λ bytes middle first next. storing_why line command file bytes old middle answer new refl (rw first.outside.cabinet (omega arith)) next.stores) h
 
 -- ---- `restore`
 
-file_fair : (old new : Reach) (answer : Result (List ℕ) Refusal) → IfSome (result_err answer) (MayRefuse old.cabinet new.cabinet) → FairAnswer true old answer new
-file_fair old new (Ok bytes) h = tt
-file_fair old new (Err (refusals.CabinetFault word)) h = h
-file_fair old new (Err (refusals.FileAbsent word)) h = h
-file_fair old new (Err (refusals.FileTooLong word limit)) h = tt
-file_fair old new (Err refusals.NoMemory) h = refl
-file_fair old new (Err refusal) h = absurd h
+-- the one file that a step finds wrong
+wrong_file : (line : List ℕ) (file : Span) (old : Reach) (refusal : Refusal) (new : Reach) → IfSome old.cabinet.files (λ files. Err refusal ≡ file_answer file.word file_limit (files (bytes_at line file))) → LoadsFile line file old (Err refusal) new
+    → RefusesFile line file old.cabinet refusal new.cabinet
+wrong_file line file old refusal new told h =
+    record { first = told_sym old.cabinet.files (λ files. file_answer file.word file_limit (files (bytes_at line file))) (Err refusal) told; named = h.word; cause = h.loads.cause }
 
-loading_fair : (line : List ℕ) (file : Span) → FairStep true (LoadsFile line file)
-loading_fair line file old answer new h =
-    let disk : new.disk.faults ≡ old.disk.faults = ap (λ (d : DiskState). d.faults) h.disk in
-    let drawn : new.entropy.faults ≡ old.entropy.faults = ap (λ (e : EntropyState). e.faults) h.entropy in
-    (file_fair old new answer h.loads.cause, record { disk = omega (arith, disk); cabinet = h.loads.faults; misses = h.loads.misses; entropy = omega (arith, drawn) })
+file_why : (line : List ℕ) (file prov : Span) (force : Bool) (old : Reach) (answer : Result (List ℕ) Refusal) (new : Reach) → LoadsFile line file old answer new → Why line (commands.Restore file prov force) old answer new
+file_why line file prov force old (Ok bytes) new h = tt
+file_why line file prov force old (Err (refusals.CabinetFault word)) new h = h.loads.cause
+file_why line file prov force old (Err (refusals.FileAbsent word)) new h = wrong_file line file old (refusals.FileAbsent word) new h.told h
+file_why line file prov force old (Err (refusals.FileTooLong word limit)) new h = wrong_file line file old (refusals.FileTooLong word limit) new h.told h
+file_why line file prov force old (Err refusals.NoMemory) new h = refl
+file_why line file prov force old (Err refusal) new h = absurd h.loads.cause
 
-unless_fair : (memory : Bool) (old new : Reach) (found : Result (Unit {0}) MetaFault) (m : Metadata) → FairAnswer memory old (unless_fault found m) new
-unless_fair memory old new (Ok done) m = tt
-unless_fair memory old new (Err fault) m = meta_fair memory old new fault
+restores_why : (line : List ℕ) (command : Command) (bytes : List ℕ) (force : Bool) (start old : Reach) (made : Result Metadata Refusal) (new : Reach) → Grounds line command start (λ refusal. restored bytes force start.disk.size ≡ Err refusal) → Since start old
+    → Restores bytes force old.disk made new.disk → Why line command start made new
+restores_why line command bytes force start old (Ok m) new ground since h = tt
+restores_why line command bytes force start old (Err refusals.DeviceFault) new ground since h = Rose-earlier start.disk.faults old.disk.faults new.disk.faults since.disk h.fails.rose
+restores_why line command bytes force start old (Err refusal) new ground since h =
+    plain_cause line command start refusal new (plain_err (restored bytes force old.disk.size) refusal (restored_plain bytes force old.disk.size) h.cause)
+    (ground refusal (subst (λ (n : ℕ). restored bytes force n ≡ Err refusal) since.size h.cause))
 
-fitted_fair : (memory : Bool) (old new : Reach) (found : Result Metadata MetaFault) (force : Bool) (sectors : ℕ) → FairAnswer memory old (fitted found force sectors) new
-fitted_fair memory old new (Err fault) force sectors = meta_fair memory old new fault
-fitted_fair memory old new (Ok m) true sectors = tt
-fitted_fair memory old new (Ok m) false sectors = unless_fair memory old new _ m
+writes_why : (line : List ℕ) (command : Command) (bytes : List ℕ) (force : Bool) (start old : Reach) (answer : Result (Unit {0}) Refusal) (new : Reach) → Grounds line command start (λ refusal. restored bytes force start.disk.size ≡ Err refusal) → Since start old
+    → Then (WritesBack bytes force) (λ m. Decides {A = Unit {0}} (Ok tt)) old answer new → Why line command start answer new
+writes_why line command bytes force start old answer new ground since h =
+    then_since line command start (WritesBack bytes force) (λ m. Decides {A = Unit {0}} (Ok tt)) old answer new (λ made middle first. restores_why line command bytes force start old made middle ground since first.restores)
+    (λ m middle first next. rw next.0 tt) h
 
-early_fair : (memory : Bool) (old new : Reach) (small short : Bool) (size count : ℕ) (fit : Result Metadata Refusal) → FairAnswer memory old fit new
-    → FairAnswer memory old (cond small (Err (refusals.TooSmall size)) (cond short (Err (refusals.BackupTooShort count)) fit)) new
-early_fair memory old new true short size count fit h = tt
-early_fair memory old new false true size count fit h = tt
-early_fair memory old new false false size count fit h = h
+filed_why : (line : List ℕ) (file prov : Span) (force : Bool) (old : Reach) (answer : Result (Unit {0}) Refusal) (new : Reach)
+    → Then (LoadsFile line file) (λ bytes. Then (WritesBack bytes force) (λ m. Decides {A = Unit {0}} (Ok tt))) old answer new → Why line (commands.Restore file prov force) old answer new
+filed_why line file prov force old answer new h =
+    let command : Command = commands.Restore file prov force in
+    then_why line command (LoadsFile line file) (λ bytes. Then (WritesBack bytes force) (λ m. Decides {A = Unit {0}} (Ok tt))) old answer new (λ given middle first. file_why line file prov force old given middle first)
+    (λ bytes middle first next. writes_why line command bytes force old middle answer new
+    (λ refusal is. record { bytes = bytes; named = told_sym old.cabinet.files (λ files. file_answer file.word file_limit (files (bytes_at line file))) (Ok bytes) first.told; refused = is })
+    (since_cabinet old middle first.disk first.entropy first.loads.files first.loads.faults first.loads.misses) next) h
 
-refused_fair : (memory : Bool) (old new : Reach) (bytes : List ℕ) (force : Bool) (sectors : ℕ) (refusal : Refusal) → restored bytes force sectors ≡ Err refusal → Fair memory old refusal new
-refused_fair memory old new bytes force sectors refusal is =
-    subst (λ (r : Result Metadata Refusal). FairAnswer memory old r new) is
-    (early_fair memory old new (nat_lt sectors 2) (nat_lt (length bytes) 511) (512 * sectors) (length bytes) _ (fitted_fair memory old new _ force sectors))
-
-restored_fair : (memory : Bool) (bytes : List ℕ) (force : Bool) (old new : Reach) (made : Result Metadata Refusal) → Restores bytes force old.disk made new.disk → FairAnswer memory old made new
-restored_fair memory bytes force old new (Ok m) h = tt
-restored_fair memory bytes force old new (Err refusals.DeviceFault) h = h.fails.rose
-restored_fair memory bytes force old new (Err refusal) h = refused_fair memory old new bytes force old.disk.size refusal h.cause
-
-restored_later : (bytes : List ℕ) (force : Bool) (old new : DiskState) (made : Result Metadata Refusal) → Restores bytes force old made new → old.faults ≤ new.faults
-restored_later bytes force old new (Ok m) h = h.logs.faults
-restored_later bytes force old new (Err refusals.DeviceFault) h = h.fails.logs.faults
-restored_later bytes force old new (Err refusal) h = rw h.unchanged (omega arith)
-
-writing_fair : (bytes : List ℕ) (force : Bool) → FairStep true (WritesBack bytes force)
-writing_fair bytes force old answer new h =
-    (restored_fair true bytes force old new answer h.restores, later_by old new (restored_later bytes force old.disk new.disk answer h.restores) h.outside.cabinet h.outside.entropy)
-
-done_fair : {A : Type 0} (memory : Bool) (value : A) → FairStep memory (Decides (Ok value))
-done_fair memory value old answer new h =
-    (rw h.0 tt, rw h.1 (record { disk = omega arith; cabinet = omega arith; misses = omega arith; entropy = omega arith }))
-
-restoring_fair : (line : List ℕ) (file : Span) (force : Bool) → FairStep true (Then (LoadsFile line file) (λ bytes. Then (WritesBack bytes force) (λ m. Decides {A = Unit {0}} (Ok tt))))
-restoring_fair line file force =
-    then_fair true (LoadsFile line file) (λ bytes. Then (WritesBack bytes force) (λ m. Decides {A = Unit {0}} (Ok tt))) (loading_fair line file)
-    (λ bytes. then_fair true (WritesBack bytes force) (λ m. Decides {A = Unit {0}} (Ok tt)) (writing_fair bytes force)
-    (λ m. done_fair true tt))
-
-pub restore_why : (command : Command) (line : List ℕ) (file : Span) (force : Bool) (old : Reach) (answer : Result (Unit {0}) Refusal) (new : Reach) → needs_idle command ≡ true → asks_metadata command ≡ true → may_lack_memory command ≡ true
-    → RestoreRow line file force old answer new → Why line command old answer new
-restore_why command line file force old answer new needs asks lacks h =
-    then_why line command NeedsIdle (λ _. Then (LoadsFile line file) (λ bytes. Then (WritesBack bytes force) (λ m. Decides {A = Unit {0}} (Ok tt)))) old answer new (λ given middle. needs_idle_why line command old given middle needs)
-    (λ done middle first next. subst (λ (r : Reach). Why line command r answer new) first.1
-    (fair_why line command true middle answer new asks (λ memory. lacks) (restoring_fair line file force middle answer new next).0)) h
+pub restore_why : (line : List ℕ) (file prov : Span) (force : Bool) (old : Reach) (answer : Result (Unit {0}) Refusal) (new : Reach) → RestoreRow line file force old answer new → Why line (commands.Restore file prov force) old answer new
+restore_why line file prov force old answer new h =
+    let command : Command = commands.Restore file prov force in
+    then_why line command NeedsIdle (λ _. Then (LoadsFile line file) (λ bytes. Then (WritesBack bytes force) (λ m. Decides {A = Unit {0}} (Ok tt)))) old answer new (λ given middle. needs_idle_why line command old given middle refl)
+    (λ done middle first next. subst (λ (r : Reach). Why line command r answer new) first.1 (filed_why line file prov force middle answer new next)) h
 
 -- ---- `resize`
 
-sizes_fair : (memory : Bool) (old new : Reach) (small grown : Bool) (size given : ℕ) (refusal : Refusal)
-    → cond small (Some (refusals.TooSmall size)) (cond grown (Some (refusals.NotGrown size given)) None) ≡ Some refusal → Fair memory old refusal new
-sizes_fair memory old new true grown size given refusal h = let is : refusals.TooSmall size ≡ refusal = cc h in rw (← is) tt
-sizes_fair memory old new false true size given refusal h = let is : refusals.NotGrown size given ≡ refusal = cc h in rw (← is) tt
-sizes_fair memory old new false false size given refusal h = absurd (let none : ⊥ = cc h in none)
+unmoved_why : (line : List ℕ) (prov : Span) (oldsize : ℕ) (old : Reach) (refusal : Refusal) (new : Reach)
+    → RefusesSizes oldsize old.disk old.entropy refusal new.disk new.entropy ⊎ RefusesOld oldsize old.disk old.entropy refusal new.disk new.entropy → HasCause line (commands.Resize prov oldsize) old refusal new
+unmoved_why line prov oldsize old refusal new (inl h) =
+    plain_cause line (commands.Resize prov oldsize) old refusal new (plain_some (size_refusal old.disk.size oldsize) refusal (sizes_plain old.disk.size oldsize) h.cause) (inl h.cause)
+unmoved_why line prov oldsize old refusal new (inr h) =
+    let finds = h.finds.finds in
+    plain_cause line (commands.Resize prov oldsize) old refusal new (plain_some (old_refusal h.finds.found oldsize) refusal (old_plain h.finds.found oldsize) h.finds.cause)
+    (inr (record {
+      sizes = h.sizes;
+      found = h.finds.found;
+      read = record { bytes = finds.bytes; whole = finds.whole; told = finds.told; read = sym finds.answered };
+      refused = h.finds.cause;
+    }))
 
-other_fair : (memory : Bool) (old new : Reach) (same : Bool) (kept given : ℕ) (refusal : Refusal) → cond same None (Some (refusals.OldSizeMismatch kept given)) ≡ Some refusal → Fair memory old refusal new
-other_fair memory old new true kept given refusal h = absurd (let none : ⊥ = cc h in none)
-other_fair memory old new false kept given refusal h = let is : refusals.OldSizeMismatch kept given ≡ refusal = cc h in rw (← is) tt
+moves_why : (line : List ℕ) (prov : Span) (oldsize : ℕ) (old : Reach) (answer : Result (Unit {0}) Refusal) (new : Reach) → Resizes oldsize old.disk old.entropy answer new.disk new.entropy → Why line (commands.Resize prov oldsize) old answer new
+moves_why line prov oldsize old (Ok done) new h = tt
+moves_why line prov oldsize old (Err refusals.DeviceFault) new (inl h) = h.fails.rose
+moves_why line prov oldsize old (Err refusals.DeviceFault) new (inr h) = h.fails.rose
+moves_why line prov oldsize old (Err refusals.EntropyFault) new h = h.none.rose
+moves_why line prov oldsize old (Err refusal) new h = unmoved_why line prov oldsize old refusal new h
 
-found_fair : (memory : Bool) (old new : Reach) (found : Result Metadata MetaFault) (oldsize : ℕ) (refusal : Refusal) → old_refusal found oldsize ≡ Some refusal → Fair memory old refusal new
-found_fair memory old new (Err fault) oldsize refusal h = let is : refusal_of fault ≡ refusal = cc h in fault_fair memory old new fault refusal (sym is)
-found_fair memory old new (Ok m) oldsize refusal h = other_fair memory old new (m.provsize == oldsize) m.provsize oldsize refusal h
-
-unmoved_fair : (memory : Bool) (oldsize : ℕ) (old new : Reach) (refusal : Refusal) → RefusesSizes oldsize old.disk old.entropy refusal new.disk new.entropy ⊎ RefusesOld oldsize old.disk old.entropy refusal new.disk new.entropy
-    → Fair memory old refusal new
-unmoved_fair memory oldsize old new refusal (inl h) = sizes_fair memory old new (nat_lt old.disk.size 2) (nat_le (512 * old.disk.size) oldsize) (512 * old.disk.size) oldsize refusal h.cause
-unmoved_fair memory oldsize old new refusal (inr h) = found_fair memory old new h.finds.found oldsize refusal h.finds.cause
-
-unmoved_later : (oldsize : ℕ) (disk : DiskState) (entropy : EntropyState) (refusal : Refusal) (disk' : DiskState) (entropy' : EntropyState)
-    → RefusesSizes oldsize disk entropy refusal disk' entropy' ⊎ RefusesOld oldsize disk entropy refusal disk' entropy' → (disk.faults ≤ disk'.faults) × (entropy.faults ≤ entropy'.faults)
-unmoved_later oldsize disk entropy refusal disk' entropy' (inl h) = (rw h.disk_unchanged (omega arith), rw h.entropy_unchanged (omega arith))
-unmoved_later oldsize disk entropy refusal disk' entropy' (inr h) = (h.finds.finds.logs.faults, rw h.unchanged (omega arith))
-
-moved_fair : (memory : Bool) (oldsize : ℕ) (old new : Reach) (answer : Result (Unit {0}) Refusal) → Resizes oldsize old.disk old.entropy answer new.disk new.entropy → FairAnswer memory old answer new
-moved_fair memory oldsize old new (Ok done) h = tt
-moved_fair memory oldsize old new (Err refusals.DeviceFault) (inl h) = h.fails.rose
-moved_fair memory oldsize old new (Err refusals.DeviceFault) (inr h) = h.fails.rose
-moved_fair memory oldsize old new (Err refusals.EntropyFault) h = h.none.rose
-moved_fair memory oldsize old new (Err refusal) h = unmoved_fair memory oldsize old new refusal h
-
-moved_later : (oldsize : ℕ) (disk : DiskState) (entropy : EntropyState) (answer : Result (Unit {0}) Refusal) (disk' : DiskState) (entropy' : EntropyState) → Resizes oldsize disk entropy answer disk' entropy'
-    → (disk.faults ≤ disk'.faults) × (entropy.faults ≤ entropy'.faults)
-moved_later oldsize disk entropy (Ok done) disk' entropy' h = (h.logs.faults, h.prepares.takes.taken.later)
-moved_later oldsize disk entropy (Err refusals.DeviceFault) disk' entropy' (inl h) = (h.fails.logs.faults, rw h.unchanged (omega arith))
-moved_later oldsize disk entropy (Err refusals.DeviceFault) disk' entropy' (inr h) = (h.fails.logs.faults, h.prepares.takes.taken.later)
-moved_later oldsize disk entropy (Err refusals.EntropyFault) disk' entropy' h = (h.finds.finds.logs.faults, h.none.later)
-moved_later oldsize disk entropy (Err refusal) disk' entropy' h = unmoved_later oldsize disk entropy refusal disk' entropy' h
-
--- the cabinet stays
-outside_later : (old new : Reach) → (old.disk.faults ≤ new.disk.faults) × (old.entropy.faults ≤ new.entropy.faults) → new.cabinet ≡ old.cabinet → Later old new
-outside_later old new later cabinet =
-    let faults : new.cabinet.faults ≡ old.cabinet.faults = ap (λ (c : CabinetState). c.faults) cabinet in
-    let misses : new.cabinet.misses ≡ old.cabinet.misses = ap (λ (c : CabinetState). c.misses) cabinet in
-    record { disk = later.0; cabinet = omega (arith, faults); misses = omega (arith, misses); entropy = later.1 }
-
-moving_fair : (oldsize : ℕ) → FairStep false (MovesMetadata oldsize)
-moving_fair oldsize old answer new h =
-    (moved_fair false oldsize old new answer h.resizes, outside_later old new (moved_later oldsize old.disk old.entropy answer new.disk new.entropy h.resizes) h.cabinet)
-
-pub resize_why : (line : List ℕ) (command : Command) (oldsize : ℕ) (old : Reach) (answer : Result (Unit {0}) Refusal) (new : Reach) → needs_idle command ≡ true → asks_metadata command ≡ true → ResizeRow oldsize old answer new → Why line command old answer new
-resize_why line command oldsize old answer new needs asks h =
-    then_why line command NeedsIdle (λ _. MovesMetadata oldsize) old answer new (λ given middle. needs_idle_why line command old given middle needs)
-    (λ done middle first next. subst (λ (r : Reach). Why line command r answer new) first.1
-    (fair_why line command false middle answer new asks (λ memory. absurd (let none : ⊥ = cc memory in none)) (moving_fair oldsize middle answer new next).0)) h
+pub resize_why : (line : List ℕ) (prov : Span) (oldsize : ℕ) (old : Reach) (answer : Result (Unit {0}) Refusal) (new : Reach) → ResizeRow oldsize old answer new → Why line (commands.Resize prov oldsize) old answer new
+resize_why line prov oldsize old answer new h =
+    let command : Command = commands.Resize prov oldsize in
+    then_why line command NeedsIdle (λ _. MovesMetadata oldsize) old answer new (λ given middle. needs_idle_why line command old given middle refl)
+    (λ done middle first next. subst (λ (r : Reach). Why line command r answer new) first.1 (moves_why line prov oldsize middle answer new next.resizes)) h
 
 -- ---- `kill`
 
-killed_fair : (memory : Bool) (old new : Reach) (answer : Result (Unit {0}) Refusal) → Kills old.disk old.entropy answer new.disk new.entropy → FairAnswer memory old answer new
-killed_fair memory old new (Ok done) h = tt
-killed_fair memory old new (Err refusals.DeviceFault) h = h.fails.rose
-killed_fair memory old new (Err refusals.EntropyFault) h = h.none.rose
-killed_fair memory old new (Err (refusals.TooSmall size)) h = tt
-killed_fair memory old new (Err refusal) h = absurd h
+kills_why : (line : List ℕ) (prov : Span) (old : Reach) (answer : Result (Unit {0}) Refusal) (new : Reach) → Kills old.disk old.entropy answer new.disk new.entropy → Why line (commands.Kill prov) old answer new
+kills_why line prov old (Ok done) new h = tt
+kills_why line prov old (Err refusals.DeviceFault) new h = h.fails.rose
+kills_why line prov old (Err refusals.EntropyFault) new h = h.none.rose
+kills_why line prov old (Err (refusals.TooSmall size)) new h = (h.small, ap (λ (n : ℕ). refusals.TooSmall n) h.bytes)
+kills_why line prov old (Err refusal) new h = absurd h
 
-killed_later : (disk : DiskState) (entropy : EntropyState) (answer : Result (Unit {0}) Refusal) (disk' : DiskState) (entropy' : EntropyState) → Kills disk entropy answer disk' entropy'
-    → (disk.faults ≤ disk'.faults) × (entropy.faults ≤ entropy'.faults)
-killed_later disk entropy (Ok done) disk' entropy' h = (h.logs.faults, h.takes.taken.later)
-killed_later disk entropy (Err refusals.DeviceFault) disk' entropy' h = (h.fails.logs.faults, h.takes.taken.later)
-killed_later disk entropy (Err refusals.EntropyFault) disk' entropy' h = (rw h.unchanged (omega arith), h.none.later)
-killed_later disk entropy (Err (refusals.TooSmall size)) disk' entropy' h = (rw h.disk_unchanged (omega arith), rw h.entropy_unchanged (omega arith))
-killed_later disk entropy (Err refusal) disk' entropy' h = absurd h
-
-killing_fair : FairStep false DestroysMetadata
-killing_fair old answer new h =
-    (killed_fair false old new answer h.kills, outside_later old new (killed_later old.disk old.entropy answer new.disk new.entropy h.kills) h.cabinet)
-
-withdrawing_fair : FairStep false Withdraws
-withdrawing_fair old answer new h =
-    (rw h.0 tt, rw h.1 (record { disk = omega arith; cabinet = omega arith; misses = omega arith; entropy = omega arith }))
-
-pub kill_why : (line : List ℕ) (command : Command) (old : Reach) (answer : Result (Unit {0}) Refusal) (new : Reach) → asks_metadata command ≡ true → KillRow old answer new → Why line command old answer new
-kill_why line command old answer new asks h =
-    fair_why line command false old answer new asks (λ memory. absurd (let none : ⊥ = cc memory in none)) (then_fair false Withdraws (λ _. DestroysMetadata) withdrawing_fair (λ _. killing_fair) old answer new h).0
+-- detaching first leaves the disk and the entropy as they are
+pub kill_why : (line : List ℕ) (prov : Span) (old : Reach) (answer : Result (Unit {0}) Refusal) (new : Reach) → KillRow old answer new → Why line (commands.Kill prov) old answer new
+kill_why line prov old answer new h =
+    then_why line (commands.Kill prov) Withdraws (λ _. DestroysMetadata) old answer new (λ given middle first. rw first.0 tt)
+    (λ done middle first next. kills_why line prov old answer new (subst (λ (r : Reach). Kills r.disk r.entropy answer new.disk new.entropy) first.1 next.kills)) h

@@ -11,6 +11,7 @@ use Rattle.eli_base.specs.declared.refusals.Refusal.TheVariants as refusals
 use Rattle.provider.specs.Attached.{media}
 use Rattle.provider.specs.Reading.{ReadsAs}
 use Rattle.shelf.specs.Digits.{bytes_spelled}
+use Rattle.shelf.specs.Grounds.{FindsBadFile, HasGround}
 use Rattle.shelf.specs.Steps.{whole_sectors}
 use Rattle.shelf.specs.Turn.{reach}
 use Rattle.shelf.specs.World.{Attachment, DrawerState, Holding, Idle, IsAttached, Reach, World, place_of}
@@ -24,19 +25,6 @@ may_lack_memory (commands.Backup prov file) = true
 may_lack_memory (commands.Restore file prov force) = true
 may_lack_memory commands.List = true
 may_lack_memory command = false
-
--- whether a command is refused by what metadata, key components, slots, a backup, or the numbers of a provider or an image are like
-abbrev pub asks_metadata : Command → Bool
-asks_metadata (commands.Init prov cipher auth keylen sectorsize iterations autoresize fresh backup) = true
-asks_metadata (commands.Attach prov only_check readonly slot words) = true
-asks_metadata (commands.Setkey prov iterations slot old fresh) = true
-asks_metadata (commands.Delkey prov all force slot) = true
-asks_metadata (commands.Kill prov) = true
-asks_metadata (commands.Backup prov file) = true
-asks_metadata (commands.Restore file prov force) = true
-asks_metadata (commands.Resize prov oldsize) = true
-asks_metadata (commands.Dump prov) = true
-asks_metadata command = false
 
 -- whether a command is refused where the drawer is attached
 abbrev pub needs_idle : Command → Bool
@@ -114,9 +102,10 @@ HasCause line command old (refusals.Integrity offset) new = AttachedWith old.hol
 HasCause line command old refusals.DeviceFault new = Rose old.disk.faults new.disk.faults
 HasCause line command old refusals.EntropyFault new = Rose old.entropy.faults new.entropy.faults
 HasCause line command old (refusals.CabinetFault word) new = Rose old.cabinet.faults new.cabinet.faults
-HasCause line command old (refusals.FileAbsent word) new = Rose old.cabinet.misses new.cabinet.misses
+HasCause line command old (refusals.FileAbsent word) new = FindsBadFile line command old.holding old.cabinet (refusals.FileAbsent word) new.cabinet
+HasCause line command old (refusals.FileTooLong word limit) new = FindsBadFile line command old.holding old.cabinet (refusals.FileTooLong word limit) new.cabinet
 HasCause line command old refusals.NoMemory new = IsTrue (may_lack_memory command)
-HasCause line command old refusal new = IsTrue (asks_metadata command)
+HasCause line command old refusal new = HasGround line command old refusal
 
 -- the same of the drawer at a place
 pub record CausedAt (line : List ℕ) (command : Command) (refusal : Refusal) (old new : World) (place : ℕ) : Type 0 where

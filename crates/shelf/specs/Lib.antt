@@ -4,6 +4,8 @@ pub mod Causes
 pub mod Closing
 pub mod Counts
 pub mod Digits
+pub mod Fits
+pub mod Grounds
 pub mod Histories
 pub mod Keys
 pub mod Opening

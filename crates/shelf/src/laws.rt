@@ -1,14 +1,18 @@
 // What holds of one command after another.
-ghost use Rattle.std.specs.Prelude.{◌≡◌, ℕ, Bool, List, Option, Result, Ok, IfSome, IsSome};
+ghost use Rattle.std.specs.Prelude.{◌≡◌, ℕ, Bool, List, Option, Result, Ok, Some, IfSome, IsSome, IsTrue};
+ghost use Rattle.command_words.specs.Places.{bytes_at, provider_of};
 ghost use Rattle.command_words.specs.declared.commands.Command.{Command};
+ghost use Rattle.command_words.specs.declared.spans.Span.{Span};
 ghost use Rattle.eli_base.specs.declared.refusals.Refusal.{Refusal};
+ghost use Rattle.eli_base.specs.declared.refusals.Refusal.TheVariants.{NoMemory};
 ghost use Rattle.eli_metadata.specs.declared.metadata.Metadata.{Metadata};
 ghost use Rattle.shelf.specs.Opening.{NamesSameKey, OpensOrFails};
 ghost use Rattle.shelf.specs.Steps.{LoadsComponents, MakesProvider};
 ghost use Rattle.shelf.specs.Stops.{LeavesOldOrNew};
 ghost use Rattle.shelf.specs.Answer.{Answer, Refused};
-ghost use Rattle.shelf.specs.Causes.{Caused};
+ghost use Rattle.shelf.specs.Causes.{Caused, may_lack_memory};
 ghost use Rattle.shelf.specs.Counts.{CountsFailures};
+ghost use Rattle.shelf.specs.Fits.{FindsAt, Fits};
 ghost use Rattle.shelf.specs.Histories.{OnlySteps};
 ghost use Rattle.shelf.specs.Turn.{TryRow, Turn};
 ghost use Rattle.shelf.specs.World.{Attachment, Reach, World};
@@ -40,16 +44,40 @@ pub fn a_line_changes_only_its_drawer()
         Turn line command old answer new → OnlySteps line command answer old.drawers new.drawers }
 {}
 
-/// Each refusal has its cause. `detach`, `flush`, `read`, `write`, `fill` and `sum` are refused only where the drawer is idle, where the
-/// provider is only read (`write` and `fill`), by the length (`read` and `write`) and the range of what they ask for, by a unit whose
-/// tag differs, or where the disk failed, whose count of faults rose; so without such a cause they are served. `eject` is refused only
-/// where no drawer has the name. Only `init`, `attach`, `restore` and `resize` are refused because the drawer is attached. Want of
-/// memory is answered by `init`, `attach`, `setkey`, `backup`, `restore` and `list` alone. That the cabinet or the entropy failed, or a
-/// file was absent, shows in their counts. The other refusals are those of metadata, components, slots, backups and sizes, by `init`,
-/// `attach`, `setkey`, `delkey`, `kill`, `backup`, `restore`, `resize` and `dump` alone, whose rows say which.
+/// Each refusal has its cause, so a line without one is served. `detach`, `flush`, `read`, `write`, `fill` and `sum` are refused only where
+/// the drawer is idle, where the provider is only read (`write` and `fill`), by the length (`read` and `write`) and the range of what they
+/// ask for, or by a unit whose tag differs. `eject` is refused only where no drawer has the name. Only `init`, `attach`, `restore` and
+/// `resize` are refused because the drawer is attached. Want of memory is answered by `init`, `attach`, `setkey`, `backup`, `restore` and
+/// `list` alone. That the disk, the cabinet or the entropy failed shows in their counts.
+///
+/// The verbs on metadata are refused besides only for what they find and are told, said of the disk and the cabinet as they were before:
+/// - `dump`, `attach`, `setkey`, `delkey`, `backup`: the image has fewer than two sectors, or its last sector has no metadata.
+/// - `init`, `attach`, `setkey`, `restore`: the file that is refused is the first wrong one of those that a key, or the backup, names.
+/// - `init`: the options, the image or the components of the key make no provider.
+/// - `attach`: the metadata aren't admitted for the image and the slot that is named, the components make no user key, the provider has no
+///   sector, or the key opens no slot that is asked for.
+/// - `setkey`: the metadata aren't admitted (of an attached provider: can't be used), the slot isn't there, the old key of an idle drawer
+///   opens none, or the new key is refused for the slot.
+/// - `delkey`: no slot is named, or the slot that is named isn't there, has no key or, without `-f`, the last one.
+/// - `kill`: the image has fewer than two sectors. `restore`: the image or the backup is refused.
+/// - `resize`: the sizes are refused, or what the old place holds.
 pub fn a_refusal_has_its_cause()
     ensures { (line : List ℕ) (command : Command) (old : World) (refusal : Refusal) (new : World) →
         Turn line command old (Refused refusal) new → Caused line command refusal old new }
+{}
+
+/// The law above says when a line is served, since its causes can be ruled out: where a line finds what its verb needs (`Fits`) in a drawer
+/// and, if it loads files, a cabinet that tell what they hold, and no count of faults rises, no cause is left but want of memory. So it is
+/// refused for that alone, and only where its verb may lack memory. `dump` and `backup` need metadata in the last sector. `attach` needs an
+/// idle drawer, metadata that are admitted, and files by which the words name a key that opens a slot that is asked for. `read` needs an
+/// attached provider that has the sectors, whose tags fit.
+pub fn no_cause_is_left_where_all_is_found()
+    ensures cause { (line : List ℕ) (command : Command) (prov : Span) (refusal : Refusal) (old new : World) →
+        provider_of command ≡ Some prov → FindsAt (bytes_at line prov) (Fits line command) old new →
+        Caused line command refusal old new → refusal ≡ NoMemory }
+    ensures answer { (line : List ℕ) (command : Command) (prov : Span) (refusal : Refusal) (old new : World) →
+        provider_of command ≡ Some prov → FindsAt (bytes_at line prov) (Fits line command) old new →
+        Turn line command old (Refused refusal) new → (refusal ≡ NoMemory) × IsTrue (may_lack_memory command) }
 {}
 
 /// No line makes a count of the cabinet or the entropy fall. That the cabinet or the entropy failed is answered only where its count of faults

@@ -18,5 +18,5 @@ pub use drawer::{Drawer, Held};
 pub use drawers::{AddFault, Drawers, Shelf};
 pub use laws::{
     a_line_changes_only_its_drawer, a_line_counts_failures, a_line_leaves_old_or_new,
-    a_refusal_has_its_cause, what_init_makes_can_be_attached,
+    a_refusal_has_its_cause, no_cause_is_left_where_all_is_found, what_init_makes_can_be_attached,
 };

@@ -1,0 +1,195 @@
+-- What a line finds where nothing refuses it, in a drawer and a cabinet that tell what they hold.
+use Rattle.std.specs.Prelude.{◌≡◌, ℕ, ℤ, ◌+◌, ◌*◌, ◌≤◌, Bool, false, List, length, Option, Some, None, unwrap_or, Ok, Err, slice_get}
+use Rattle.std.specs.Option.{option_or}
+use Rattle.backup_restore.specs.Restoring.{restored}
+use Rattle.block_traits.specs.Cabinet.{CabinetState, Files}
+use Rattle.block_traits.specs.Causes.{Rose}
+use Rattle.block_traits.specs.Content.{Content, present}
+use Rattle.block_traits.specs.Disk.{DiskState, last_sector}
+use Rattle.command_words.specs.Places.{bytes_at}
+use Rattle.command_words.specs.declared.commands.Command.{Command}
+use Rattle.command_words.specs.declared.commands.Command.TheVariants as commands
+use Rattle.command_words.specs.declared.spans.KeyWords.{KeyWords}
+use Rattle.command_words.specs.declared.spans.Span.{Span}
+use Rattle.eli_base.specs.declared.parameters.MasterKey.{MasterKey}
+use Rattle.eli_metadata.specs.Checks.{Settings}
+use Rattle.eli_metadata.specs.Format.{metadata_in}
+use Rattle.eli_metadata.specs.declared.metadata.Metadata.{Metadata}
+use Rattle.key_commands.specs.NewKey.{change_refusal}
+use Rattle.key_commands.specs.Options.{early_refusal}
+use Rattle.key_commands.specs.Overwriting.{deletion_refusal}
+use Rattle.key_commands.specs.declared.options.InitOptions.{InitOptions}
+use Rattle.key_commands.specs.declared.overwriting.Which.{Which}
+use Rattle.key_components.specs.Answers.{file_answer}
+use Rattle.key_components.specs.Files.{file_limit}
+use Rattle.key_components.specs.Key.{components_of}
+use Rattle.provider.specs.Attached.{media}
+use Rattle.provider.specs.Reading.{ReadsAs}
+use Rattle.resize_kill.specs.Resizing.{old_place, old_refusal, size_refusal}
+use Rattle.user_key.specs.Derivation.{user_key}
+use Rattle.user_key.specs.declared.components.Components.{Components}
+use Rattle.shelf.specs.Causes.{AttachedWith}
+use Rattle.shelf.specs.Digits.{bytes_spelled}
+use Rattle.shelf.specs.Keys.{if_there, named_slots, opened_by, slot_of, usable}
+use Rattle.shelf.specs.Steps.{admitted, tried, whole_sectors}
+use Rattle.shelf.specs.Turn.{iterations_of, reach}
+use Rattle.shelf.specs.World.{Attachment, DrawerState, Holding, Idle, IsAttached, Reach, World, place_of}
+
+-- the disk tells its content, of which a sector is read as these metadata
+pub record ShowsAt (disk : DiskState) (place : ℕ) (m : Metadata) : Type 0 where
+  pub content : Content
+  pub told : disk.content ≡ Some content
+  pub read : metadata_in (present content place) ≡ Ok m
+
+-- the last sector is
+pub record ShowsMetadata (disk : DiskState) (m : Metadata) : Type 0 where
+  pub enough : 2 ≤ disk.size
+  pub shown : ShowsAt disk (last_sector disk) m
+
+-- the cabinet tells its files, by which the words of a key name these components
+pub record NamesParts (line : List ℕ) (words : KeyWords) (cabinet : CabinetState) (parts : Components) : Type 0 where
+  pub files : Files
+  pub told : cabinet.files ≡ Some files
+  pub named : components_of files line words ≡ Ok parts
+
+-- `dump` and `backup`
+pub record FindsMetadata (old : Reach) : Type 0 where
+  pub m : Metadata
+  pub shows : ShowsMetadata old.disk m
+
+-- `init`: the drawer is idle, and a provider can be made
+pub record FindsNew (line : List ℕ) (options : InitOptions) (fresh : KeyWords) (old : Reach) : Type 0 where
+  pub idle : old.holding ≡ Idle
+  pub parts : Components
+  pub names : NamesParts line fresh old.cabinet parts
+  pub served : early_refusal options parts old.disk.size ≡ None
+
+-- `attach`: the drawer is idle, its metadata are admitted, and the key opens a slot that is asked for
+pub record FindsKey (line : List ℕ) (slot : Option ℕ) (readonly : Bool) (words : KeyWords) (old : Reach) : Type 0 where
+  pub idle : old.holding ≡ Idle
+  pub m : Metadata
+  pub shows : ShowsMetadata old.disk m
+  pub settings : Settings
+  pub admits : admitted m old.disk.size slot ≡ Ok settings
+  pub parts : Components
+  pub names : NamesParts line words old.cabinet parts
+  pub a : Attachment
+  pub opens : tried m settings slot readonly (user_key parts m.salt m.iterations) ≡ Ok a
+
+-- `setkey`: the new key can be put into the slot
+pub record FindsNewKey (line : List ℕ) (iterations : Option ℤ) (slot : ℕ) (master : List ℕ) (fresh : KeyWords) (m : Metadata) (old : Reach) : Type 0 where
+  pub parts : Components
+  pub names : NamesParts line fresh old.cabinet parts
+  pub served : change_refusal (record { meta = m; master = master; slot = slot; iterations = iterations; parts = parts }) ≡ None
+
+-- of an idle drawer: the metadata are admitted, and the old key opens a slot
+pub record FindsOldKey (line : List ℕ) (iterations : Option ℤ) (slot : Option ℕ) (words fresh : KeyWords) (m : Metadata) (old : Reach) : Type 0 where
+  pub settings : Settings
+  pub admits : admitted m old.disk.size None ≡ Ok settings
+  pub there : if_there slot ≡ Ok tt
+  pub parts : Components
+  pub names : NamesParts line words old.cabinet parts
+  pub found : MasterKey × ℕ
+  pub opens : opened_by m (user_key parts m.salt m.iterations) ≡ Ok found
+  pub next : FindsNewKey line iterations (unwrap_or slot found.1) found.0.bytes fresh m old
+
+-- of an attached drawer: the metadata can be used
+pub record FindsAttached (line : List ℕ) (iterations : Option ℤ) (slot : ℕ) (master : List ℕ) (fresh : KeyWords) (m : Metadata) (old : Reach) : Type 0 where
+  pub settings : Settings
+  pub uses : usable m old.disk.size ≡ Ok settings
+  pub there : if_there (Some slot) ≡ Ok tt
+  pub next : FindsNewKey line iterations slot master fresh m old
+
+abbrev pub FindsChange : Holding → List ℕ → Option ℤ → Option ℕ → KeyWords → KeyWords → Metadata → Reach → Type 0
+FindsChange Idle line iterations slot words fresh m old = FindsOldKey line iterations slot words fresh m old
+FindsChange (IsAttached a) line iterations slot words fresh m old = FindsAttached line iterations (unwrap_or slot a.slot) a.keying.master fresh m old
+
+pub record FindsSetkey (line : List ℕ) (iterations : Option ℤ) (slot : Option ℕ) (words fresh : KeyWords) (old : Reach) : Type 0 where
+  pub m : Metadata
+  pub shows : ShowsMetadata old.disk m
+  pub change : FindsChange old.holding line iterations slot words fresh m old
+
+-- `delkey`: the slots that are named may be cleared
+pub record FindsSlots (all force : Bool) (slot : Option ℕ) (old : Reach) : Type 0 where
+  pub m : Metadata
+  pub shows : ShowsMetadata old.disk m
+  pub which : Which
+  pub names : named_slots all slot ≡ Ok which
+  pub served : deletion_refusal m which force ≡ None
+
+-- `restore`: the drawer is idle, and the told file has metadata for the image
+pub record FindsBackup (line : List ℕ) (file : Span) (force : Bool) (old : Reach) : Type 0 where
+  pub idle : old.holding ≡ Idle
+  pub files : Files
+  pub told : old.cabinet.files ≡ Some files
+  pub bytes : List ℕ
+  pub loads : file_answer file.word file_limit (files (bytes_at line file)) ≡ Ok bytes
+  pub m : Metadata
+  pub served : restored bytes force old.disk.size ≡ Ok m
+
+-- `resize`: the drawer is idle, the image grew, and the old place has metadata of the old size
+pub record FindsOldPlace (oldsize : ℕ) (old : Reach) : Type 0 where
+  pub idle : old.holding ≡ Idle
+  pub sizes : size_refusal old.disk.size oldsize ≡ None
+  pub m : Metadata
+  pub shows : ShowsAt old.disk (old_place oldsize) m
+  pub served : old_refusal (Ok m) oldsize ≡ None
+
+-- requests on an attached provider: they are whole sectors that are there, the provider may be written, and the tags of what is read fit
+pub record FitsRead (sector count : ℕ) (disk : DiskState) (a : Attachment) : Type 0 where
+  pub sectors : ℕ
+  pub whole : whole_sectors a.keying.sectorsize (count * a.keying.sectorsize) ≡ Ok sectors
+  pub within : sector + sectors ≤ media a.keying disk
+  pub right : (offset : ℕ) → ¬ ReadsAs disk a.keying sector sectors (Err offset)
+
+pub record FitsWrite (sector : ℕ) (bytes : List ℕ) (disk : DiskState) (a : Attachment) : Type 0 where
+  pub writable : a.readonly ≡ false
+  pub sectors : ℕ
+  pub whole : whole_sectors a.keying.sectorsize (length bytes) ≡ Ok sectors
+  pub within : sector + sectors ≤ media a.keying disk
+
+pub record FitsFill (start count : ℕ) (disk : DiskState) (a : Attachment) : Type 0 where
+  pub writable : a.readonly ≡ false
+  pub within : start + count ≤ media a.keying disk
+
+pub record FitsSum (start count : ℕ) (disk : DiskState) (a : Attachment) : Type 0 where
+  pub within : start + count ≤ media a.keying disk
+  pub right : (offset : ℕ) → ¬ ReadsAs disk a.keying start count (Err offset)
+
+-- by the verb; `list` names no drawer, and `eject` has no row
+abbrev pub Fits : List ℕ → Command → Reach → Type 0
+Fits line (commands.Dump prov) old = FindsMetadata old
+Fits line (commands.Init prov cipher auth keylen sectorsize iterations autoresize fresh backup) old =
+    let options : InitOptions = record { cipher = cipher; auth = auth; keylen = keylen; sectorsize = sectorsize; iterations = iterations_of fresh iterations; autoresize = autoresize } in
+    FindsNew line options fresh old
+Fits line (commands.Attach prov only_check readonly slot words) old = FindsKey line slot readonly words old
+Fits line (commands.Setkey prov iterations slot words fresh) old = FindsSetkey line iterations slot words fresh old
+Fits line (commands.Delkey prov all force slot) old = FindsSlots all force (option_or slot (slot_of old.holding)) old
+Fits line (commands.Kill prov) old = 2 ≤ old.disk.size
+Fits line (commands.Backup prov file) old = FindsMetadata old
+Fits line (commands.Restore file prov force) old = FindsBackup line file force old
+Fits line (commands.Resize prov oldsize) old = FindsOldPlace oldsize old
+Fits line (commands.Detach prov) old = AttachedWith old.holding (λ a. Unit {0})
+Fits line (commands.Flush prov) old = AttachedWith old.holding (λ a. Unit {0})
+Fits line (commands.Read prov sector count) old = AttachedWith old.holding (FitsRead sector count old.disk)
+Fits line (commands.Write prov sector hex) old = AttachedWith old.holding (FitsWrite sector (bytes_spelled (bytes_at line hex)) old.disk)
+Fits line (commands.Fill prov seed start count) old = AttachedWith old.holding (FitsFill start count old.disk)
+Fits line (commands.Sum prov start count) old = AttachedWith old.holding (FitsSum start count old.disk)
+Fits line command old = ⊥
+
+-- no count of faults rose
+pub record FailsNowhere (old new : Reach) : Type 0 where
+  pub disk : ¬ Rose old.disk.faults new.disk.faults
+  pub cabinet : ¬ Rose old.cabinet.faults new.cabinet.faults
+  pub entropy : ¬ Rose old.entropy.faults new.entropy.faults
+
+-- the drawer with this name finds such, and nothing fails
+pub record FindsAt (name : List ℕ) (Finds : Reach → Type 0) (old new : World) : Type 0 where
+  pub place : ℕ
+  pub named : place_of name old.drawers ≡ Some place
+  pub before : DrawerState
+  pub found : slice_get old.drawers place ≡ Some before
+  pub after : DrawerState
+  pub there : slice_get new.drawers place ≡ Some after
+  pub finds : Finds (reach before old)
+  pub unfailed : FailsNowhere (reach before old) (reach after new)

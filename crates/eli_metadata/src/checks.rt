@@ -15,7 +15,7 @@ const UNSUPPORTED_FLAGS: u32 = 0xFFFF_FC01;
 /// `UnsupportedCipher`; `BadKeyLength`; `UnsupportedAuth`, where the flag AUTH is set; `BadSectorSize`;
 /// `BadSize`, with `found` 0, where the size is 2^53 bytes or more. Of the flags only AUTH and RO are
 /// acted on.
-#[tactic(auto, unfolding(crate::specs::Check::supported))]
+#[tactic(auto, unfolding(crate::specs::Checks::supported))]
 pub fn check(meta: &Metadata) -> Result<Params, MetaFault>
     ensures { MatchResult result (λ params. supported meta.now ≡ Ok (settings_of params)) (λ fault. supported meta.now ≡ Err fault) }
 {

@@ -34,7 +34,7 @@ use Rattle.key_components.specs.Key.{components_of}
 use Rattle.resize_kill.specs.Killing.{HoldsNoMetadata, Kills}
 use Rattle.resize_kill.specs.Resizing.{HoldsOneOf, KeepsOneOf, RefusesOld, RefusesSizes, Resizes, grown, old_place}
 use Rattle.shelf.specs.Grounds.{AreComponents, HasMetadata, IsFile}
-use Rattle.shelf.specs.Keys.{DeletesRow, DelkeyRow, IsUsed, NamesSlots, NeedsSlot, OpensSlot, SetkeyAttachedRow, SetkeyBy, SetkeyIdleRow, SetkeyRow, StoresKey, TakesKeysOut, named_slots, opened_by, or_wrong, slot_of, without_value}
+use Rattle.shelf.specs.Keys.{DeletesRow, DelkeyRow, IsUsed, NamesSlots, NeedsSlot, OpensSlot, SetkeyAttachedRow, SetkeyBy, SetkeyIdleRow, SetkeyRow, TakesKeysOut, named_slots, opened_by, or_wrong, slot_of, without_value}
 use Rattle.shelf.specs.Saving.{LoadsFile, RestoreRow}
 use Rattle.shelf.specs.Sizes.{KillRow, ResizeRow, Withdraws}
 use Rattle.shelf.specs.Steps.{Admits, BacksUp, Decides, GoesOn, LoadsComponents, NeedsIdle, ReadsLastSector, Then, or_refusal}

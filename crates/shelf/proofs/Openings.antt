@@ -1,82 +1,119 @@
--- A provider that is attached, as the row of `attach`.
-use Rattle.std.proofs.Common.{◌≡◌, ◌∙◌, ℕ, ◌≤◌, ap, sym, arith, subst, Bool, Result, Ok, Err, Option, Some, None}
-use Rattle.std.specs.Prelude.{◌||◌}
+-- A provider that is attached, or refused, as the row of `attach`.
+use Rattle.std.proofs.Common.{◌≡◌, ◌∙◌, ℕ, ◌≤◌, ap, refl, sym, subst, Bool, true, Result, Ok, Err, Option, Some, None}
+use Rattle.std.specs.Prelude.{◌||◌, ◌==◌, IsSome, if◌then◌else◌}
 use Rattle.block_traits.specs.Disk.{DiskState}
 use Rattle.eli_base.specs.Keying.{Keying, keying_of}
 use Rattle.eli_base.specs.declared.parameters.MasterKey.{MasterKey}
 use Rattle.provider.specs.Answers as answers
-use Rattle.provider.specs.Answers.{Means, OpensToNone, Target, target_media}
+use Rattle.provider.specs.Answers.{Means, Target, target_media}
 use Rattle.provider.specs.Attached.{Attached, opened}
+use Rattle.provider.specs.declared.faults.AttachFault.{AttachFault}
+use Rattle.provider.specs.declared.faults.AttachFault.TheVariants as attach
 use Rattle.provider.proofs.Checked.{checked}
 use Rattle.block_traits.specs.Cabinet.{CabinetState}
 use Rattle.block_traits.specs.Streams.{EntropyState}
 use Rattle.eli_base.specs.Units.{media_sectors}
+use Rattle.eli_base.specs.declared.refusals.Refusal.{Refusal}
 use Rattle.eli_base.specs.declared.refusals.Refusal.TheVariants as refusals
-use Rattle.eli_metadata.specs.Checks.{Settings}
+use Rattle.eli_metadata.specs.Checks.{Settings, settings_of}
 use Rattle.eli_metadata.specs.declared.metadata.Metadata.{Metadata}
+use Rattle.user_key.specs.Refusals.{key_refusal_of}
 use Rattle.user_key.specs.declared.components.KeyFault.{KeyFault}
 use Rattle.user_key.specs.declared.components.UserKey.{UserKey}
-use Rattle.shelf.specs.Steps.{or_wrong_key, tried}
+use Rattle.shelf.specs.Keys.{without_value}
+use Rattle.shelf.specs.Steps.{Attaches, GoesOn, attachment_by, or_refusal, or_wrong_key, tried}
 use Rattle.shelf.proofs.Opening.{has_room}
-use Rattle.shelf.specs.Trying.{IsOpening, attachment_in}
-use Rattle.shelf.specs.World.{Attachment, IsAttached, attachment_of, reach_of}
-use Rattle.shelf.specs.declared.trying.Opening.{Opening}
+use Rattle.shelf.specs.Trying.{IsTrial, attach_refusal, tried_in}
+use Rattle.shelf.specs.Turn.{AttachesUnless}
+use Rattle.shelf.specs.World.{Attachment, Idle, IsAttached, Reach, attachment_of, reach_of}
+use Rattle.shelf.specs.declared.trying.Trial.{Trial}
 
-abbrev pub target : Opening → DiskState → Target
-target o disk = record { meta = o.meta; params = o.params; disk = disk }
+abbrev pub target : Trial → DiskState → Target
+target t disk = record { meta = t.meta; params = t.params; disk = disk }
 
-abbrev pub means : Opening → Option ℕ → Bool → Means
-means o slot readonly = record { key = o.key.bytes; named = slot; readonly = readonly }
+abbrev pub means : Trial → Option ℕ → Bool → Means
+means t slot readonly = record { key = t.key.bytes; named = slot; readonly = readonly }
 
-same_some : {A : Type 0} (a b : A) → Some a ≡ Some b → a ≡ b
-same_some a b h = cc
+-- ---- what a key that was derived comes to
 
-not_none : {A : Type 0} (a : A) → Some a ≡ None → ⊥
-not_none a h = cc
+-- it was refused
+pub refused_key : (m : Metadata) (s : Settings) (slot : Option ℕ) (readonly : Bool) (derived : Result UserKey KeyFault) (refusal : Refusal) → Err refusal ≡ or_refusal key_refusal_of derived
+    → Err refusal ≡ tried m s slot readonly derived
+refused_key m s slot readonly (Ok key) refusal h = absurd (let no : ⊥ = cc h in no)
+refused_key m s slot readonly (Err fault) refusal h = let same : refusal ≡ key_refusal_of fault = cc h in ap (λ (r : Refusal). Err r) same
 
-same_attachment : (s s' : ℕ) (k k' : Keying) (r r' : Bool) → s ≡ s' → k ≡ k' → r ≡ r'
-    → (let a : Attachment = record { slot = s; keying = k; readonly = r } in a) ≡ (let a : Attachment = record { slot = s'; keying = k'; readonly = r' } in a)
-same_attachment s s' k k' r r' p q t = cc
-
-same_reach : (d d' : DiskState) (a a' : Attachment) (cabinet : CabinetState) (entropy : EntropyState) → d ≡ d' → a ≡ a' → reach_of d (IsAttached a) cabinet entropy ≡ reach_of d' (IsAttached a') cabinet entropy
-same_reach d d' a a' cabinet entropy p q = cc
+-- it is tried
+pub tried_key : (m : Metadata) (s : Settings) (slot : Option ℕ) (readonly : Bool) (derived : Result UserKey KeyFault) (key : UserKey) → Ok key ≡ or_refusal key_refusal_of derived
+    → tried m s slot readonly (Ok key) ≡ tried m s slot readonly derived
+tried_key m s slot readonly (Ok other) key h = let same : key ≡ other = cc h in ap (λ (k : UserKey). tried m s slot readonly (Ok k)) same
+tried_key m s slot readonly (Err fault) key h = absurd (let no : ⊥ = cc h in no)
 
 -- the provider has a sector
-room : (o : Opening) (slot : Option ℕ) (disk : DiskState) → IsOpening disk.size slot o → 1 ≤ target_media (target o disk)
-room o slot disk is = subst (λ (n : ℕ). 1 ≤ n) (checked o.meta o.params disk.size is.checked is.size).media is.room
+pub tried_as : (t : Trial) (slot : Option ℕ) (readonly : Bool) (found : Option (MasterKey × ℕ)) → 1 ≤ media_sectors t.params.auth t.params.sectorsize t.params.provsize → opened t.meta t.key.bytes slot ≡ found
+    → tried_in slot readonly t ≡ or_wrong_key (settings_of t.params) readonly found
+tried_as t slot readonly found room opens =
+    has_room (media_sectors t.params.auth t.params.sectorsize t.params.provsize) (Err (refusals.TooSmall t.params.provsize)) (or_wrong_key (settings_of t.params) readonly (opened t.meta t.key.bytes slot)) room
+    ∙ ap (or_wrong_key (settings_of t.params) readonly) opens
 
--- what is attached is what was opened
-pub attached_as : {D : Type 0} (o : Opening) (slot : Option ℕ) (readonly : Bool) (disk : DiskState) (given : D) (p : Attached D) → IsOpening disk.size slot o
-    → answers.IsAttached (target o disk) (means o slot readonly) given p → attachment_of p ≡ attachment_in readonly o
-attached_as o slot readonly disk given p is attached =
-    let found : MasterKey × ℕ = (record { bytes = p.keying.master }, p.slot) in
-    let there : MasterKey × ℕ = (o.master, o.slot) in
-    let pair : found ≡ there = same_some found there (sym attached.opened ∙ is.opened) in
-    let key : record { bytes = p.keying.master } ≡ o.master = ap (λ (f : MasterKey × ℕ). f.0) pair in
-    same_attachment p.slot o.slot p.keying (keying_of o.params o.master) p.readonly (readonly || o.params.readonly)
-    (ap (λ (f : MasterKey × ℕ). f.1) pair)
-    (attached.keying ∙ ap (keying_of o.params) key)
-    (attached.readonly ∙ ap (λ (b : Bool). readonly || b) (checked o.meta o.params disk.size is.checked is.size).readonly)
+-- it has none
+pub tried_small : (t : Trial) (slot : Option ℕ) (readonly : Bool) → media_sectors t.params.auth t.params.sectorsize t.params.provsize ≡ 0 → tried_in slot readonly t ≡ Err (refusals.TooSmall t.params.provsize)
+tried_small t slot readonly none =
+    let by : ℕ → Result Attachment Refusal = λ n. if n == 0 then Err (refusals.TooSmall t.params.provsize) else or_wrong_key (settings_of t.params) readonly (opened t.meta t.key.bytes slot) in
+    ap by none
 
--- what the drawer holds then
-pub taken_over : {D : Type 0} (state : D → DiskState) (o : Opening) (slot : Option ℕ) (readonly : Bool) (given : D) (p : Attached D) (cabinet : CabinetState) (entropy : EntropyState) → IsOpening (state given).size slot o
-    → answers.IsAttached (target o (state given)) (means o slot readonly) given p
-    → reach_of (state p.disk) (IsAttached (attachment_of p)) cabinet entropy ≡ reach_of (state given) (IsAttached (attachment_in readonly o)) cabinet entropy
-taken_over state o slot readonly given p cabinet entropy is attached =
-    same_reach _ _ _ _ cabinet entropy (ap state attached.disk) (attached_as o slot readonly (state given) given p is attached)
+-- the sectors of the settings are those of the disk
+room : (t : Trial) (slot : Option ℕ) (disk : DiskState) → IsTrial disk.size slot t → 1 ≤ target_media (target t disk) → 1 ≤ media_sectors t.params.auth t.params.sectorsize t.params.provsize
+room t slot disk is some = subst (λ (n : ℕ). 1 ≤ n) (sym (checked t.meta t.params disk.size is.checked is.size).media) some
 
--- it isn't too small
-pub not_too_small : (o : Opening) (slot : Option ℕ) (disk : DiskState) → IsOpening disk.size slot o → target_media (target o disk) ≡ 0 → ⊥
-not_too_small o slot disk is none = let some = room o slot disk is in omega arith
+-- ---- the drawer then
 
--- the key isn't wrong
-pub not_wrong : (o : Opening) (slot : Option ℕ) (size : ℕ) → IsOpening size slot o → opened o.meta o.key.bytes slot ≡ None → ⊥
-not_wrong o slot size is none = not_none (o.master, o.slot) (sym is.opened ∙ none)
+same_attachment : (s : ℕ) (k k' : Keying) (r r' : Bool) → k ≡ k' → r ≡ r'
+    → (let a : Attachment = record { slot = s; keying = k; readonly = r } in a) ≡ (let a : Attachment = record { slot = s; keying = k'; readonly = r' } in a)
+same_attachment s k k' r r' p q = cc
 
--- what a key comes to that was derived, where the provider has a sector
-pub tried_as : (m : Metadata) (s : Settings) (slot : Option ℕ) (readonly : Bool) (derived : Result UserKey KeyFault) (key : UserKey) (found : Option (MasterKey × ℕ)) → derived ≡ Ok key
-    → 1 ≤ media_sectors s.auth s.sectorsize s.provsize → opened m key.bytes slot ≡ found → tried m s slot readonly derived ≡ or_wrong_key s readonly found
-tried_as m s slot readonly derived key found is room opens =
-    ap (tried m s slot readonly) is
-    ∙ has_room (media_sectors s.auth s.sectorsize s.provsize) (Err (refusals.TooSmall s.provsize)) (or_wrong_key s readonly (opened m key.bytes slot)) room
-    ∙ ap (or_wrong_key s readonly) opens
+-- what is attached is what the key opens
+attached_as : {D : Type 0} (t : Trial) (slot : Option ℕ) (readonly : Bool) (disk : DiskState) (given : D) (p : Attached D) → IsTrial disk.size slot t → answers.IsAttached (target t disk) (means t slot readonly) given p
+    → attachment_by (settings_of t.params) readonly (record { bytes = p.keying.master }, p.slot) ≡ attachment_of p
+attached_as t slot readonly disk given p is attached =
+    sym (same_attachment p.slot p.keying (keying_of t.params (record { bytes = p.keying.master })) p.readonly (readonly || t.params.readonly) attached.keying
+    (attached.readonly ∙ ap (λ (b : Bool). readonly || b) (checked t.meta t.params disk.size is.checked is.size).readonly))
+
+answered_as : (given answer : Result Attachment Refusal) (old : Reach) (said : Result (Unit {0}) Refusal) (new : Reach) → given ≡ answer → GoesOn Attaches answer old said new → GoesOn Attaches given old said new
+answered_as given answer old said new is h = subst (λ (g : Result Attachment Refusal). GoesOn Attaches g old said new) (sym is) h
+
+pub taken_over : {D : Type 0} (state : D → DiskState) (t : Trial) (slot : Option ℕ) (readonly : Bool) (given : D) (p : Attached D) (cabinet : CabinetState) (entropy : EntropyState) → IsTrial (state given).size slot t
+    → answers.IsAttached (target t (state given)) (means t slot readonly) given p
+    → GoesOn Attaches (tried_in slot readonly t) (reach_of (state given) Idle cabinet entropy) (Ok tt) (reach_of (state p.disk) (IsAttached (attachment_of p)) cabinet entropy)
+taken_over {D = D} state t slot readonly given p cabinet entropy is attached =
+    let opens : tried_in slot readonly t ≡ Ok (attachment_of p) =
+    tried_as t slot readonly (Some (record { bytes = p.keying.master }, p.slot)) (room t slot (state given) is attached.room) attached.opened ∙ ap (λ (a : Attachment). Ok a) (attached_as t slot readonly (state given) given p is attached) in
+    answered_as _ (Ok (attachment_of p)) _ (Ok tt) _ opens (ap (λ (d : D). reach_of (state d) (IsAttached (attachment_of p)) cabinet entropy) attached.disk)
+
+no_memory : (s : Settings) (readonly : Bool) (found : Option (MasterKey × ℕ)) (old : Reach) → IsSome found → GoesOn Attaches (or_wrong_key s readonly found) old (Err refusals.NoMemory) old
+no_memory s readonly None old h = absurd (let no : ⊥ = cc h in no)
+no_memory s readonly (Some found) old h = refl
+
+fails_as : (t : Trial) (slot : Option ℕ) (readonly : Bool) (disk : DiskState) (fault : AttachFault) (old : Reach) → IsTrial disk.size slot t → answers.AttachFails (target t disk) (means t slot readonly) fault
+    → GoesOn Attaches (tried_in slot readonly t) old (Err (attach_refusal fault)) old
+fails_as t slot readonly disk (attach.TooSmall size) old is h =
+    let c = checked t.meta t.params disk.size is.checked is.size in
+    let bytes : t.params.provsize ≡ size = c.provsize ∙ sym h.1 in
+    answered_as _ (Err (refusals.TooSmall size)) old _ old (tried_small t slot readonly (c.media ∙ h.0) ∙ ap (λ (n : ℕ). Err (refusals.TooSmall n)) bytes) (refl, refl)
+fails_as t slot readonly disk attach.WrongKey old is h = answered_as _ (Err refusals.WrongKey) old _ old (tried_as t slot readonly None (room t slot disk is h.0) h.1) (refl, refl)
+fails_as t slot readonly disk attach.NoMemory old is h =
+    let found = opened t.meta t.key.bytes slot in
+    answered_as _ (or_wrong_key (settings_of t.params) readonly found) old _ old (tried_as t slot readonly found (room t slot disk is h.0) refl) (no_memory (settings_of t.params) readonly found old h.1)
+
+-- none is attached, and the disk comes back
+pub not_taken : {D : Type 0} (state : D → DiskState) (t : Trial) (slot : Option ℕ) (readonly : Bool) (given disk : D) (fault : AttachFault) (cabinet : CabinetState) (entropy : EntropyState) → IsTrial (state given).size slot t
+    → answers.AttachAnswers (target t (state given)) (means t slot readonly) given (Err (disk, fault))
+    → GoesOn Attaches (tried_in slot readonly t) (reach_of (state given) Idle cabinet entropy) (Err (attach_refusal fault)) (reach_of (state disk) Idle cabinet entropy)
+not_taken {D = D} state t slot readonly given disk fault cabinet entropy is h =
+    let old : Reach = reach_of (state given) Idle cabinet entropy in
+    let back : reach_of (state disk) Idle cabinet entropy ≡ old = ap (λ (d : D). reach_of (state d) Idle cabinet entropy) h.0 in
+    subst (λ (r : Reach). GoesOn Attaches (tried_in slot readonly t) old (Err (attach_refusal fault)) r) (sym back) (fails_as t slot readonly (state given) fault old is h.1)
+
+-- with `-C` the provider isn't attached
+pub only_tried : (given : Result Attachment Refusal) (answer : Result (Unit {0}) Refusal) (r : Reach) → answer ≡ without_value given → GoesOn (λ a. AttachesUnless true a) given r answer r
+only_tried (Ok a) answer r is = (is, refl)
+only_tried (Err refusal) answer r is = (is, refl)

@@ -25,17 +25,22 @@ nothing_to_say : (Changes : DiskState → Bool → DiskState → Type 0) (said :
 nothing_to_say Changes (answers.Refused refusal) old new h = inr (h false)
 nothing_to_say Changes said old new h = h true
 
-line_left : (line : List ℕ) (command : Command) (old : Reach) (said : Answer) (new : Reach) → Serves line command old said new → ChangesOrStays (ChangesMetadata command old.holding) said old.disk new.disk
+line_left : (line : List ℕ) (command : Command) (old : Reach) (said : Answer) (new : Reach) → Serves line command old said new → ChangesOrStays (ChangesMetadata line command old.cabinet.files old.holding) said old.disk new.disk
 line_left line (commands.Init prov cipher auth keylen sectorsize iterations autoresize fresh backup) old said new h =
-    done_left (ChangesMetadata (commands.Init prov cipher auth keylen sectorsize iterations autoresize fresh backup) old.holding) old.disk h.answer said new.disk h.replied (init_left line _ fresh backup old h.answer new h.row)
-line_left line (commands.Setkey prov iterations slot words fresh) old said new h = done_left (ChangesMetadata (commands.Setkey prov iterations slot words fresh) old.holding) old.disk h.answer said new.disk h.replied (setkey_left line iterations slot words fresh old h.answer new h.row)
-line_left line (commands.Delkey prov all force slot) old said new h = done_left (ChangesMetadata (commands.Delkey prov all force slot) old.holding) old.disk h.answer said new.disk h.replied (delkey_left all force slot old h.answer new h.row)
-line_left line (commands.Kill prov) old said new h = done_left (ChangesMetadata (commands.Kill prov) old.holding) old.disk h.answer said new.disk h.replied (kill_left old h.answer new h.row)
-line_left line (commands.Restore file prov force) old said new h = done_left (ChangesMetadata (commands.Restore file prov force) old.holding) old.disk h.answer said new.disk h.replied (restore_left line file force old h.answer new h.row)
-line_left line (commands.Resize prov oldsize) old said new h = done_left (ChangesMetadata (commands.Resize prov oldsize) old.holding) old.disk h.answer said new.disk h.replied (resize_left oldsize old h.answer new h.row)
-line_left line command old said new h = nothing_to_say (ChangesMetadata command old.holding) said old.disk new.disk (λ done. tt)
+    done_left (ChangesMetadata line (commands.Init prov cipher auth keylen sectorsize iterations autoresize fresh backup) old.cabinet.files old.holding) old.disk h.answer said new.disk h.replied
+    (init_left line _ fresh backup old h.answer new h.row)
+line_left line (commands.Setkey prov iterations slot words fresh) old said new h =
+    done_left (ChangesMetadata line (commands.Setkey prov iterations slot words fresh) old.cabinet.files old.holding) old.disk h.answer said new.disk h.replied (setkey_left line iterations slot words fresh old h.answer new h.row)
+line_left line (commands.Delkey prov all force slot) old said new h =
+    done_left (ChangesMetadata line (commands.Delkey prov all force slot) old.cabinet.files old.holding) old.disk h.answer said new.disk h.replied (delkey_left all force slot old h.answer new h.row)
+line_left line (commands.Kill prov) old said new h = done_left (ChangesMetadata line (commands.Kill prov) old.cabinet.files old.holding) old.disk h.answer said new.disk h.replied (kill_left old h.answer new h.row)
+line_left line (commands.Restore file prov force) old said new h =
+    done_left (ChangesMetadata line (commands.Restore file prov force) old.cabinet.files old.holding) old.disk h.answer said new.disk h.replied (restore_left line file force old h.answer new h.row)
+line_left line (commands.Resize prov oldsize) old said new h =
+    done_left (ChangesMetadata line (commands.Resize prov oldsize) old.cabinet.files old.holding) old.disk h.answer said new.disk h.replied (resize_left oldsize old h.answer new h.row)
+line_left line command old said new h = nothing_to_say (ChangesMetadata line command old.cabinet.files old.holding) said old.disk new.disk (λ done. tt)
 
-served_left : (out : Bool) (line : List ℕ) (command : Command) (answer : Answer) (old new : World) (place : ℕ) → ServesAt out line command old answer new place → LeavesUnless out command answer old new place
+served_left : (out : Bool) (line : List ℕ) (command : Command) (answer : Answer) (old new : World) (place : ℕ) → ServesAt out line command old answer new place → LeavesUnless out line command answer old new place
 served_left true line command answer old new place h = tt
 served_left false line command answer old new place h =
     record {
@@ -47,13 +52,13 @@ served_left false line command answer old new place h =
     }
 
 by_place : (line : List ℕ) (command : Command) (answer : Answer) (old new : World) (place : Option ℕ) → MatchOption place (IsUnknown old answer new) (ServesAt (takes_out command) line command old answer new)
-    → MatchOption place (Unit {0}) (LeavesUnless (takes_out command) command answer old new)
+    → MatchOption place (Unit {0}) (LeavesUnless (takes_out command) line command answer old new)
 by_place line command answer old new None h = tt
 by_place line command answer old new (Some place) h = served_left (takes_out command) line command answer old new place h
 
 by_provider : (line : List ℕ) (command : Command) (answer : Answer) (old new : World) (named : Option Span)
     → MatchOption named (Lists old answer new) (λ prov. TurnOf (ServesAt (takes_out command) line command) (bytes_at line prov) old answer new)
-    → MatchOption named (Unit {0}) (λ prov. MatchOption (place_of (bytes_at line prov) old.drawers) (Unit {0}) (LeavesUnless (takes_out command) command answer old new))
+    → MatchOption named (Unit {0}) (λ prov. MatchOption (place_of (bytes_at line prov) old.drawers) (Unit {0}) (LeavesUnless (takes_out command) line command answer old new))
 by_provider line command answer old new None h = tt
 by_provider line command answer old new (Some prov) h = by_place line command answer old new (place_of (bytes_at line prov) old.drawers) h
 

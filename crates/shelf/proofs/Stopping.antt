@@ -1,13 +1,15 @@
 -- What the disk may hold at each moment of a row.
-use Rattle.std.proofs.Common.{◌≡◌, ◌∙◌, ◌⊎◌, ℕ, ◌-◌, List, [], refl, ap, sym, subst, inl, inr, Bool, true, false, Option, None, Some, Result, Ok, Err}
-use Rattle.std.specs.Prelude.{ℤ, unwrap_or}
+use Rattle.std.proofs.Common.{◌≡◌, ◌∙◌, ◌⊎◌, ℕ, ◌-◌, List, [], refl, ap, sym, subst, inl, inr, arith, Bool, true, false, Option, None, Some, Result, Ok, Err}
+use Rattle.std.specs.Prelude.{ℤ, unwrap_or, IfSome}
 use Rattle.std.specs.Option.{option_or}
 use Rattle.backup_restore.specs.Restoring.{GivesMetadata, Restores}
+use Rattle.block_traits.specs.Cabinet.{CabinetState, Files}
 use Rattle.block_traits.specs.Content.{Content}
 use Rattle.block_traits.specs.Disk.{DiskState, GivesFrom, Logs, last_sector}
 use Rattle.block_traits.specs.Moments.{AtEachMoment, HoldsOldOr, HoldsOnceFlushed, KeepsAlone, WaitsForFlush}
 use Rattle.block_traits.specs.Streams.{EntropyState}
 use Rattle.block_traits.proofs.Logs.{logged-none}
+use Rattle.command_words.specs.Places.{bytes_at}
 use Rattle.command_words.specs.declared.spans.KeyWords.{KeyWords}
 use Rattle.command_words.specs.declared.spans.Span.{Span}
 use Rattle.eli_base.specs.declared.parameters.MasterKey.{MasterKey}
@@ -26,16 +28,20 @@ use Rattle.key_commands.specs.Random.{master_key_in}
 use Rattle.key_commands.specs.SetKey.{SetsKey}
 use Rattle.key_commands.specs.Usable.{IsUsable}
 use Rattle.key_commands.specs.declared.options.InitOptions.{InitOptions}
+use Rattle.key_components.specs.Answers.{IsAnswer, file_answer}
+use Rattle.key_components.specs.Files.{file_limit}
+use Rattle.key_components.specs.Key.{components_of}
 use Rattle.resize_kill.specs.Killing.{HoldsNoMetadata, Kills}
 use Rattle.resize_kill.specs.Resizing.{HoldsOneOf, KeepsOneOf, RefusesOld, RefusesSizes, Resizes, grown, old_place}
-use Rattle.shelf.specs.Keys.{DeletesRow, DelkeyRow, IsUsed, NamesSlots, NeedsSlot, OpensSlot, SetkeyAttachedRow, SetkeyBy, SetkeyIdleRow, SetkeyRow, StoresKey, TakesKeysOut, named_slots, opened_by, or_wrong, slot_of, without_value}
+use Rattle.shelf.specs.Grounds.{AreComponents, HasMetadata, IsFile}
+use Rattle.shelf.specs.Keys.{DeletesRow, DelkeyRow, IsUsed, NamesSlots, NeedsSlot, OpensSlot, SetkeyAttachedRow, SetkeyBy, SetkeyIdleRow, SetkeyRow, TakesKeysOut, named_slots, opened_by, or_wrong, slot_of, without_value}
 use Rattle.shelf.specs.Saving.{LoadsFile, RestoreRow}
 use Rattle.shelf.specs.Sizes.{KillRow, ResizeRow, Withdraws}
 use Rattle.shelf.specs.Steps.{Admits, BacksUp, Decides, GoesOn, LoadsComponents, NeedsIdle, ReadsLastSector, Then, or_refusal}
-use Rattle.shelf.specs.Stops.{ClearsKeys, Destroys, HasMetadata, MovesToEnd, PutsBack, PutsKey, PutsNew, WrapsKey, WrapsOpened}
+use Rattle.shelf.specs.Stops.{ClearsKeys, Destroys, MovesToEnd, PutsBack, PutsKey, PutsNew, WrapsKey, WrapsOpened}
 use Rattle.shelf.specs.Turn.{InitRow}
 use Rattle.shelf.specs.World.{Holding, Idle, IsAttached, Reach}
-use Rattle.shelf.proofs.Events.{Quiet, Step, quiet_failure, quiet_loading, quiet_reading, same_disk}
+use Rattle.shelf.proofs.Events.{Step, quiet_failure, quiet_loading, quiet_reading, same_disk}
 use Rattle.user_key.specs.Derivation.{user_key}
 use Rattle.user_key.specs.declared.components.Components.{Components}
 use Rattle.user_key.specs.declared.components.KeyFault.{KeyFault}
@@ -56,6 +62,34 @@ same_content old new h = h.content ∙ logged-none old.content
 same_then : (start old new : DiskState) → Same start old → Logs [] old new → Same start new
 same_then start old new same h = record { size = h.size ∙ same.size; content = same_content old new h ∙ same.content }
 
+-- the disk holds what it held at the start of a row, and the cabinet has the files that it had
+record Before (start now : Reach) : Type 0 where
+  same : Same start.disk now.disk
+  files : now.cabinet.files ≡ start.cabinet.files
+
+before_all : (start : Reach) → Before start start
+before_all start = record { same = same_self start.disk; files = refl }
+
+-- a step without an event that leaves the files as they are
+record Leads (old new : Reach) : Type 0 where
+  quiet : Logs [] old.disk new.disk
+  files : new.cabinet.files ≡ old.cabinet.files
+
+abbrev Early : {A : Type 0} → Step A → Type 0
+Early {A} R = (old : Reach) (answer : Result A Refusal) (new : Reach) → R old answer new → Leads old new
+
+before_then : (start old new : Reach) → Before start old → Leads old new → Before start new
+before_then start old new before h = record { same = same_then start.disk old.disk new.disk before.same h.quiet; files = h.files ∙ before.files }
+
+early_decision : {A : Type 0} (old : Reach) (decided answer : Result A Refusal) (new : Reach) → Decides decided old answer new → Leads old new
+early_decision old decided answer new h = record { quiet = same_disk old.disk new.disk (ap (λ (r : Reach). r.disk) h.1); files = ap (λ (r : Reach). r.cabinet.files) h.1 }
+
+early_reading : Early ReadsLastSector
+early_reading old answer new h = record { quiet = quiet_reading old answer new h; files = ap (λ (c : CabinetState). c.files) h.cabinet }
+
+early_loading : (line : List ℕ) (words : KeyWords) → Early (LoadsComponents line words)
+early_loading line words old answer new h = record { quiet = quiet_loading line words old answer new h; files = h.loads.files }
+
 abbrev Change : Type 1
 Change = DiskState → Bool → DiskState → Type 0
 
@@ -68,14 +102,11 @@ left_next : {A B : Type 0} (Changes : Change) (start : DiskState) (First : Step 
 left_next Changes start First Next old (Ok a) middle answer new same first next h = next a first h
 left_next Changes start First Next old (Err refusal) middle answer new same first next h = rw h.0 (inl (ap (λ (r : Reach). r.disk.content) h.1 ∙ same.content))
 
-left_then : {A B : Type 0} (Changes : Change) (start : DiskState) (First : Step A) (Next : A → Step B) (old : Reach) (answer : Result B Refusal) (new : Reach) → Same start old.disk → Quiet First
-    → ((a : A) (middle : Reach) → Same start middle.disk → First old (Ok a) middle → Next a middle answer new → Left Changes start answer new.disk) → Then First Next old answer new → Left Changes start answer new.disk
-left_then Changes start First Next old answer new same quiet next h =
-    let there = same_then start old.disk h.middle.disk same (quiet old h.given h.middle h.first) in
-    left_next Changes start First Next old h.given h.middle answer new there h.first (λ a. next a h.middle there) h.next
-
-quiet_same : {A : Type 0} (old : Reach) (decided answer : Result A Refusal) (new : Reach) → Decides decided old answer new → Logs [] old.disk new.disk
-quiet_same old decided answer new h = same_disk old.disk new.disk (ap (λ (r : Reach). r.disk) h.1)
+left_then : {A B : Type 0} (Changes : Change) (start : Reach) (First : Step A) (Next : A → Step B) (old : Reach) (answer : Result B Refusal) (new : Reach) → Before start old → Early First
+    → ((a : A) (middle : Reach) → Before start middle → First old (Ok a) middle → Next a middle answer new → Left Changes start.disk answer new.disk) → Then First Next old answer new → Left Changes start.disk answer new.disk
+left_then Changes start First Next old answer new before early next h =
+    let there = before_then start old h.middle before (early old h.given h.middle h.first) in
+    left_next Changes start.disk First Next old h.given h.middle answer new there.same h.first (λ a. next a h.middle there) h.next
 
 -- ---- the same moments
 
@@ -96,104 +127,138 @@ not_done h = absurd (let no : ⊥ = cc h in no)
 
 -- ---- the metadata as they were read
 
-read_metadata : (start old new : DiskState) (m : Metadata) (read : Result Metadata ReadMetaFault) → Same start old → ReadsMetadata old read new → Ok m ≡ or_refusal read_refusal_of read → HasMetadata start (last_sector start) m
+read_metadata : (start old new : DiskState) (m : Metadata) (read : Result Metadata ReadMetaFault) → Same start old → ReadsMetadata old read new → Ok m ≡ or_refusal read_refusal_of read → HasMetadata start m
 read_metadata start old new m (Ok found) same h is =
     let one : found ≡ m = cc is in
-    record { bytes = h.bytes; told = gives_last h.bytes start old same h.told; read = subst (λ (x : Metadata). metadata_in h.bytes ≡ Ok x) one (sym h.answered) }
+    let size = same.size in
+    let enough = h.enough in
+    record {
+      enough = omega arith;
+      found = record { bytes = h.bytes; whole = h.whole; told = gives_last h.bytes start old same h.told; read = subst (λ (x : Metadata). metadata_in h.bytes ≡ Ok x) one (sym h.answered) };
+    }
 read_metadata start old new m (Err fault) same h is = absurd (let no : ⊥ = cc is in no)
 
-has_metadata : (start : DiskState) (m : Metadata) (old new : Reach) → Same start old.disk → ReadsLastSector old (Ok m) new → HasMetadata start (last_sector start) m
-has_metadata start m old new same h = read_metadata start old.disk new.disk m h.reads.read same h.reads.reads h.reads.answered
+has_metadata : (m : Metadata) (old new : Reach) → ReadsLastSector old (Ok m) new → HasMetadata old.disk m
+has_metadata m old new h = read_metadata old.disk old.disk new.disk m h.reads.read (same_self old.disk) h.reads.reads h.reads.answered
+
+-- ---- what was loaded is what the words name
+
+answered : {T : Type 0} (answer_of : Files → Result T Refusal) (value : T) (told : Option Files) → IfSome told (λ files. IsAnswer (answer_of files) (Ok value)) → IfSome told (λ files. answer_of files ≡ Ok value)
+answered answer_of value None h = tt
+answered answer_of value (Some files) h = sym h
+
+named_first : {T : Type 0} (answer_of : Files → Result T Refusal) (value : T) (start old : Reach) → Before start old → IfSome old.cabinet.files (λ files. IsAnswer (answer_of files) (Ok value))
+    → IfSome start.cabinet.files (λ files. answer_of files ≡ Ok value)
+named_first answer_of value start old before told = subst (λ (told : Option Files). IfSome told (λ files. answer_of files ≡ Ok value)) before.files (answered answer_of value old.cabinet.files told)
+
+named_parts : (line : List ℕ) (words : KeyWords) (parts : Components) (start old new : Reach) → Before start old → LoadsComponents line words old (Ok parts) new → AreComponents start.cabinet.files line words parts
+named_parts line words parts start old new before h =
+    record { named = named_first (λ files. components_of files line words) parts start old before h.told; fits = h.fits }
+
+named_bytes : (line : List ℕ) (file : Span) (bytes : List ℕ) (start old new : Reach) → Before start old → LoadsFile line file old (Ok bytes) new → IsFile start.cabinet.files line file bytes
+named_bytes line file bytes start old new before h = named_first (λ files. file_answer file.word file_limit (files (bytes_at line file))) bytes start old before h.told
 
 -- ---- `setkey`
 
-stored_left : (holding : Holding) (iterations : Option ℤ) (slot : Option ℕ) (asked : KeyChange) (start disk : DiskState) (made : Result Metadata Refusal) (disk' : DiskState) (answer : Result (Unit {0}) Refusal) → Same start disk
-    → HasMetadata start (last_sector start) asked.meta → WrapsKey holding slot asked → asked.iterations ≡ iterations → SetsKey asked disk made disk' → answer ≡ without_value made
-    → Left (PutsKey holding iterations slot) start answer disk'
-stored_left holding iterations slot asked start disk (Ok m) disk' answer same found wraps given h is =
+-- what a change of a key stands on
+record Begins (holding : Holding) (told : Option Files) (line : List ℕ) (iterations : Option ℤ) (slot : Option ℕ) (words fresh : KeyWords) (start : DiskState) (asked : KeyChange) : Type 0 where
+  found : HasMetadata start asked.meta
+  wraps : WrapsKey holding told line words slot asked
+  named : AreComponents told line fresh asked.parts
+  given : asked.iterations ≡ iterations
+
+stored_left : (holding : Holding) (told : Option Files) (line : List ℕ) (iterations : Option ℤ) (slot : Option ℕ) (words fresh : KeyWords) (asked : KeyChange) (start disk : DiskState) (made : Result Metadata Refusal) (disk' : DiskState)
+    (answer : Result (Unit {0}) Refusal) → Same start disk → Begins holding told line iterations slot words fresh start asked → SetsKey asked disk made disk' → answer ≡ without_value made
+    → Left (PutsKey holding told line iterations slot words fresh) start answer disk'
+stored_left holding told line iterations slot words fresh asked start disk (Ok m) disk' answer same begins h is =
     rw is (record {
       asked = asked;
-      found = found;
-      wraps = wraps;
-      given = given;
+      found = begins.found;
+      wraps = begins.wraps;
+      named = begins.named;
+      given = begins.given;
       m = m;
       makes = h.makes;
       kept = moments_from (λ n. HoldsOldOr (IsSectorOf m) n) start disk disk'.content same h.kept;
       alone = λ done. alone_from (encoded m) start disk disk'.content same h.alone;
     })
-stored_left holding iterations slot asked start disk (Err refusals.DeviceFault) disk' answer same found wraps given h is =
+stored_left holding told line iterations slot words fresh asked start disk (Err refusals.DeviceFault) disk' answer same begins h is =
     rw is (inr (record {
       asked = asked;
-      found = found;
-      wraps = wraps;
-      given = given;
+      found = begins.found;
+      wraps = begins.wraps;
+      named = begins.named;
+      given = begins.given;
       m = h.m;
       makes = h.makes;
       kept = moments_from (λ n. HoldsOldOr (IsSectorOf h.m) n) start disk disk'.content same h.kept;
       alone = λ done. not_done done;
     }))
-stored_left holding iterations slot asked start disk (Err refusal) disk' answer same found wraps given h is =
+stored_left holding told line iterations slot words fresh asked start disk (Err refusal) disk' answer same begins h is =
     rw is (inl (ap (λ (d : DiskState). d.content) h.unchanged ∙ same.content))
-
-stores_left : (holding : Holding) (iterations : Option ℤ) (slot : Option ℕ) (asked : KeyChange) (start : DiskState) (old : Reach) (answer : Result (Unit {0}) Refusal) (new : Reach) → Same start old.disk
-    → HasMetadata start (last_sector start) asked.meta → WrapsKey holding slot asked → asked.iterations ≡ iterations → StoresKey asked old answer new → Left (PutsKey holding iterations slot) start answer new.disk
-stores_left holding iterations slot asked start old answer new same found wraps given h =
-    stored_left holding iterations slot asked start old.disk h.made new.disk answer same found wraps given h.sets h.answered
 
 opened_as : (found : MasterKey × ℕ) (o : Option (MasterKey × ℕ)) → Ok found ≡ or_wrong o → o ≡ Some found
 opened_as found None h = absurd (let no : ⊥ = cc h in no)
 opened_as found (Some other) h = cc h
 
-wraps_opened : (slot : Option ℕ) (asked : KeyChange) (parts : Components) (found : MasterKey × ℕ) (derived : Result UserKey KeyFault) → user_key parts asked.meta.salt asked.meta.iterations ≡ derived
-    → Ok found ≡ opened_by asked.meta derived → asked.master ≡ found.0.bytes → asked.slot ≡ unwrap_or slot found.1 → WrapsOpened slot asked
-wraps_opened slot asked parts found (Err fault) is h master target = absurd (let no : ⊥ = cc h in no)
-wraps_opened slot asked parts found (Ok key) is h master target =
-    record { parts = parts; key = key; derived = is; found = found; opens = opened_as found _ h; master = master; target = target }
+wraps_opened : (told : Option Files) (line : List ℕ) (words : KeyWords) (slot : Option ℕ) (asked : KeyChange) (parts : Components) (found : MasterKey × ℕ) (derived : Result UserKey KeyFault) → AreComponents told line words parts
+    → user_key parts asked.meta.salt asked.meta.iterations ≡ derived → Ok found ≡ opened_by asked.meta derived → asked.master ≡ found.0.bytes → asked.slot ≡ unwrap_or slot found.1
+    → WrapsOpened told line words slot asked
+wraps_opened told line words slot asked parts found (Err fault) named is h master target = absurd (let no : ⊥ = cc h in no)
+wraps_opened told line words slot asked parts found (Ok key) named is h master target =
+    record { parts = parts; named = named; key = key; derived = is; found = found; opens = opened_as found _ h; master = master; target = target }
 
 setkey_idle_left : (line : List ℕ) (iterations : Option ℤ) (slot : Option ℕ) (words fresh : KeyWords) (old : Reach) (answer : Result (Unit {0}) Refusal) (new : Reach) → SetkeyIdleRow line iterations slot words fresh old answer new
-    → Left (PutsKey Idle iterations slot) old.disk answer new.disk
+    → Left (PutsKey Idle old.cabinet.files line iterations slot words fresh) old.disk answer new.disk
 setkey_idle_left line iterations slot words fresh old answer new h =
-    let Changes : Change = PutsKey Idle iterations slot in
-    left_then Changes old.disk ReadsLastSector _ old answer new (same_self old.disk) quiet_reading
-    (λ m r1 s1 f1 n1. left_then Changes old.disk (Admits m None) _ r1 answer new s1 (λ o a n q. quiet_same o _ a n q)
-    (λ settings r2 s2 f2 n2. left_then Changes old.disk (NeedsSlot slot) _ r2 answer new s2 (λ o a n q. quiet_same o _ a n q)
-    (λ done r3 s3 f3 n3. left_then Changes old.disk (LoadsComponents line words) _ r3 answer new s3 (quiet_loading line words)
-    (λ parts r4 s4 f4 n4. left_then Changes old.disk (LoadsComponents line fresh) _ r4 answer new s4 (quiet_loading line fresh)
-    (λ next r5 s5 f5 n5. left_then Changes old.disk (OpensSlot m parts) _ r5 answer new s5 (λ o a n q. quiet_same o _ a n q)
-    (λ found r6 s6 f6 n6.
+    let Changes : Change = PutsKey Idle old.cabinet.files line iterations slot words fresh in
+    left_then Changes old ReadsLastSector _ old answer new (before_all old) early_reading
+    (λ m r1 b1 f1 n1. left_then Changes old (Admits m None) _ r1 answer new b1 (λ o a n q. early_decision o _ a n q)
+    (λ settings r2 b2 f2 n2. left_then Changes old (NeedsSlot slot) _ r2 answer new b2 (λ o a n q. early_decision o _ a n q)
+    (λ done r3 b3 f3 n3. left_then Changes old (LoadsComponents line words) _ r3 answer new b3 (early_loading line words)
+    (λ parts r4 b4 f4 n4. left_then Changes old (LoadsComponents line fresh) _ r4 answer new b4 (early_loading line fresh)
+    (λ next r5 b5 f5 n5. left_then Changes old (OpensSlot m parts) _ r5 answer new b5 (λ o a n q. early_decision o _ a n q)
+    (λ found r6 b6 f6 n6.
     let asked : KeyChange = record { meta = m; master = found.0.bytes; slot = unwrap_or slot found.1; iterations = iterations; parts = next } in
-    stores_left Idle iterations slot asked old.disk r6 answer new s6 (has_metadata old.disk m old r1 (same_self old.disk) f1)
-    (wraps_opened slot asked parts found (user_key parts m.salt m.iterations) refl f6.0 refl refl) refl n6)
+    let begins : Begins Idle old.cabinet.files line iterations slot words fresh old.disk asked = record {
+      found = has_metadata m old r1 f1;
+      wraps = wraps_opened old.cabinet.files line words slot asked parts found (user_key parts m.salt m.iterations) (named_parts line words parts old r3 r4 b3 f4) refl f6.0 refl refl;
+      named = named_parts line fresh next old r4 r5 b4 f5;
+      given = refl;
+    } in
+    stored_left Idle old.cabinet.files line iterations slot words fresh asked old.disk r6.disk n6.made new.disk answer b6.same begins n6.sets n6.answered)
     n5) n4) n3) n2) n1) h
 
-setkey_attached_left : (line : List ℕ) (iterations : Option ℤ) (slot : Option ℕ) (holding : Holding) (target : ℕ) (master : List ℕ) (fresh : KeyWords) (old : Reach) (answer : Result (Unit {0}) Refusal) (new : Reach)
-    → ((asked : KeyChange) → asked.master ≡ master → asked.slot ≡ target → WrapsKey holding slot asked)
-    → SetkeyAttachedRow line iterations target master fresh old answer new → Left (PutsKey holding iterations slot) old.disk answer new.disk
-setkey_attached_left line iterations slot holding target master fresh old answer new wraps h =
-    let Changes : Change = PutsKey holding iterations slot in
-    left_then Changes old.disk ReadsLastSector _ old answer new (same_self old.disk) quiet_reading
-    (λ m r1 s1 f1 n1. left_then Changes old.disk (IsUsed m) _ r1 answer new s1 (λ o a n q. quiet_same o _ a n q)
-    (λ settings r2 s2 f2 n2. left_then Changes old.disk (NeedsSlot (Some target)) _ r2 answer new s2 (λ o a n q. quiet_same o _ a n q)
-    (λ done r3 s3 f3 n3. left_then Changes old.disk (LoadsComponents line fresh) _ r3 answer new s3 (quiet_loading line fresh)
-    (λ parts r4 s4 f4 n4.
+setkey_attached_left : (line : List ℕ) (iterations : Option ℤ) (slot : Option ℕ) (holding : Holding) (target : ℕ) (master : List ℕ) (words fresh : KeyWords) (old : Reach) (answer : Result (Unit {0}) Refusal) (new : Reach)
+    → ((asked : KeyChange) → asked.master ≡ master → asked.slot ≡ target → WrapsKey holding old.cabinet.files line words slot asked)
+    → SetkeyAttachedRow line iterations target master fresh old answer new → Left (PutsKey holding old.cabinet.files line iterations slot words fresh) old.disk answer new.disk
+setkey_attached_left line iterations slot holding target master words fresh old answer new wraps h =
+    let Changes : Change = PutsKey holding old.cabinet.files line iterations slot words fresh in
+    left_then Changes old ReadsLastSector _ old answer new (before_all old) early_reading
+    (λ m r1 b1 f1 n1. left_then Changes old (IsUsed m) _ r1 answer new b1 (λ o a n q. early_decision o _ a n q)
+    (λ settings r2 b2 f2 n2. left_then Changes old (NeedsSlot (Some target)) _ r2 answer new b2 (λ o a n q. early_decision o _ a n q)
+    (λ done r3 b3 f3 n3. left_then Changes old (LoadsComponents line fresh) _ r3 answer new b3 (early_loading line fresh)
+    (λ parts r4 b4 f4 n4.
     let asked : KeyChange = record { meta = m; master = master; slot = target; iterations = iterations; parts = parts } in
-    stores_left holding iterations slot asked old.disk r4 answer new s4 (has_metadata old.disk m old r1 (same_self old.disk) f1) (wraps asked refl refl) refl n4)
+    let begins : Begins holding old.cabinet.files line iterations slot words fresh old.disk asked =
+    record { found = has_metadata m old r1 f1; wraps = wraps asked refl refl; named = named_parts line fresh parts old r3 r4 b3 f4; given = refl } in
+    stored_left holding old.cabinet.files line iterations slot words fresh asked old.disk r4.disk n4.made new.disk answer b4.same begins n4.sets n4.answered)
     n3) n2) n1) h
 
 setkey_by_left : (holding : Holding) (line : List ℕ) (iterations : Option ℤ) (slot : Option ℕ) (words fresh : KeyWords) (old : Reach) (answer : Result (Unit {0}) Refusal) (new : Reach)
-    → SetkeyBy holding line iterations slot words fresh old answer new → Left (PutsKey holding iterations slot) old.disk answer new.disk
+    → SetkeyBy holding line iterations slot words fresh old answer new → Left (PutsKey holding old.cabinet.files line iterations slot words fresh) old.disk answer new.disk
 setkey_by_left Idle line iterations slot words fresh old answer new h = setkey_idle_left line iterations slot words fresh old answer new h
 setkey_by_left (IsAttached a) line iterations slot words fresh old answer new h =
-    setkey_attached_left line iterations slot (IsAttached a) (unwrap_or slot a.slot) a.keying.master fresh old answer new (λ asked master target. (master, target)) h
+    setkey_attached_left line iterations slot (IsAttached a) (unwrap_or slot a.slot) a.keying.master words fresh old answer new (λ asked master target. (master, target)) h
 
 pub setkey_left : (line : List ℕ) (iterations : Option ℤ) (slot : Option ℕ) (words fresh : KeyWords) (old : Reach) (answer : Result (Unit {0}) Refusal) (new : Reach)
-    → SetkeyRow line iterations slot words fresh old answer new → Left (PutsKey old.holding iterations slot) old.disk answer new.disk
+    → SetkeyRow line iterations slot words fresh old answer new → Left (PutsKey old.holding old.cabinet.files line iterations slot words fresh) old.disk answer new.disk
 setkey_left line iterations slot words fresh old answer new h = setkey_by_left old.holding line iterations slot words fresh old answer new h
 
 -- ---- `delkey`
 
 deleted_left : (holding : Holding) (all force : Bool) (slot : Option ℕ) (asked : Deletion) (start disk : DiskState) (entropy : EntropyState) (made : Result Metadata Refusal) (disk' : DiskState) (entropy' : EntropyState)
-    (answer : Result (Unit {0}) Refusal) → Same start disk → HasMetadata start (last_sector start) asked.meta → named_slots all (option_or slot (slot_of holding)) ≡ Ok asked.which → asked.force ≡ force
+    (answer : Result (Unit {0}) Refusal) → Same start disk → HasMetadata start asked.meta → named_slots all (option_or slot (slot_of holding)) ≡ Ok asked.which → asked.force ≡ force
     → DeletesKeys asked disk entropy made disk' entropy' → answer ≡ without_value made → Left (ClearsKeys holding all force slot) start answer disk'
 deleted_left holding all force slot asked start disk entropy (Ok m) disk' entropy' answer same found named forced h is =
     rw is (record {
@@ -221,7 +286,7 @@ deleted_left holding all force slot asked start disk entropy (Err refusal) disk'
     rw is (inl (ap (λ (d : DiskState). d.content) h.disk_unchanged ∙ same.content))
 
 deletes_left : (holding : Holding) (all force : Bool) (slot : Option ℕ) (asked : Deletion) (start : DiskState) (old : Reach) (answer : Result (Unit {0}) Refusal) (new : Reach) → Same start old.disk
-    → HasMetadata start (last_sector start) asked.meta → named_slots all (option_or slot (slot_of holding)) ≡ Ok asked.which → asked.force ≡ force
+    → HasMetadata start asked.meta → named_slots all (option_or slot (slot_of holding)) ≡ Ok asked.which → asked.force ≡ force
     → TakesKeysOut asked old answer new → Left (ClearsKeys holding all force slot) start answer new.disk
 deletes_left holding all force slot asked start old answer new same found named forced h =
     deleted_left holding all force slot asked start old.disk old.entropy h.made new.disk new.entropy answer same found named forced h.deletes h.answered
@@ -230,11 +295,11 @@ delkey_by_left : (holding : Holding) (all force : Bool) (slot : Option ℕ) (old
     → Left (ClearsKeys holding all force slot) old.disk answer new.disk
 delkey_by_left holding all force slot old answer new h =
     let Changes : Change = ClearsKeys holding all force slot in
-    left_then Changes old.disk ReadsLastSector _ old answer new (same_self old.disk) quiet_reading
-    (λ m r1 s1 f1 n1. left_then Changes old.disk (NamesSlots all (option_or slot (slot_of holding))) _ r1 answer new s1 (λ o a n q. quiet_same o _ a n q)
-    (λ which r2 s2 f2 n2.
+    left_then Changes old ReadsLastSector _ old answer new (before_all old) early_reading
+    (λ m r1 b1 f1 n1. left_then Changes old (NamesSlots all (option_or slot (slot_of holding))) _ r1 answer new b1 (λ o a n q. early_decision o _ a n q)
+    (λ which r2 b2 f2 n2.
     let asked : Deletion = record { meta = m; which = which; force = force } in
-    deletes_left holding all force slot asked old.disk r2 answer new s2 (has_metadata old.disk m old r1 (same_self old.disk) f1) (sym f2.0) refl n2)
+    deletes_left holding all force slot asked old.disk r2 answer new b2.same (has_metadata m old r1 f1) (sym f2.0) refl n2)
     n1) h
 
 pub delkey_left : (all force : Bool) (slot : Option ℕ) (old : Reach) (answer : Result (Unit {0}) Refusal) (new : Reach) → DelkeyRow all force slot old answer new → Left (ClearsKeys old.holding all force slot) old.disk answer new.disk
@@ -249,12 +314,14 @@ left_backed Changes line None m start old answer new changes h = rw (h.0, ap (λ
 left_backed Changes line (Some span) m start old (Ok done) new changes h = rw h.disk (changes true)
 left_backed Changes line (Some span) m start old (Err refusal) new changes h = rw h.disk (inr (changes false))
 
-made_left : (line : List ℕ) (options : InitOptions) (parts : Components) (backup : Option Span) (start : DiskState) (old : Reach) (made : Result Metadata Refusal) (middle : Reach) (answer : Result (Unit {0}) Refusal) (new : Reach)
-    → Same start old.disk → Inits options parts old.disk old.entropy made middle.disk middle.entropy → GoesOn (λ m. BacksUp line backup m) made middle answer new → Left (PutsNew options) start answer new.disk
-made_left line options parts backup start old (Ok m) middle answer new same h next =
-    left_backed (PutsNew options) line backup m start middle answer new
+made_left : (told : Option Files) (line : List ℕ) (options : InitOptions) (fresh : KeyWords) (parts : Components) (backup : Option Span) (start : DiskState) (old : Reach) (made : Result Metadata Refusal) (middle : Reach)
+    (answer : Result (Unit {0}) Refusal) (new : Reach) → Same start old.disk → AreComponents told line fresh parts → Inits options parts old.disk old.entropy made middle.disk middle.entropy
+    → GoesOn (λ m. BacksUp line backup m) made middle answer new → Left (PutsNew told line options fresh) start answer new.disk
+made_left told line options fresh parts backup start old (Ok m) middle answer new same named h next =
+    left_backed (PutsNew told line options fresh) line backup m start middle answer new
     (λ done. record {
       parts = parts;
+      named = named;
       m = m;
       key = h.makes.key;
       master = master_key_in h.makes.random;
@@ -262,54 +329,64 @@ made_left line options parts backup start old (Ok m) middle answer new same h ne
       kept = moments_from (λ n. HoldsOldOr (IsSectorOf m) n) start old.disk middle.disk.content same h.kept;
     })
     next
-made_left line options parts backup start old (Err refusals.DeviceFault) middle answer new same h next =
+made_left told line options fresh parts backup start old (Err refusals.DeviceFault) middle answer new same named h next =
     rw (next.0, ap (λ (r : Reach). r.disk) next.1) (inr (record {
       parts = parts;
+      named = named;
       m = h.m;
       key = h.makes.key;
       master = master_key_in h.makes.random;
       usable = subst (λ (n : ℕ). IsUsable options parts n h.m h.makes.key (master_key_in h.makes.random)) same.size h.makes.usable;
       kept = moments_from (λ n. HoldsOldOr (IsSectorOf h.m) n) start old.disk middle.disk.content same h.kept;
     }))
-made_left line options parts backup start old (Err refusals.EntropyFault) middle answer new same h next =
+made_left told line options fresh parts backup start old (Err refusals.EntropyFault) middle answer new same named h next =
     rw (next.0, ap (λ (r : Reach). r.disk) next.1) (inl (ap (λ (d : DiskState). d.content) h.unchanged ∙ same.content))
-made_left line options parts backup start old (Err refusal) middle answer new same h next =
+made_left told line options fresh parts backup start old (Err refusal) middle answer new same named h next =
     rw (next.0, ap (λ (r : Reach). r.disk) next.1) (inl (ap (λ (d : DiskState). d.content) h.disk_unchanged ∙ same.content))
 
 pub init_left : (line : List ℕ) (options : InitOptions) (fresh : KeyWords) (backup : Option Span) (old : Reach) (answer : Result (Unit {0}) Refusal) (new : Reach) → InitRow line options fresh backup old answer new
-    → Left (PutsNew options) old.disk answer new.disk
+    → Left (PutsNew old.cabinet.files line options fresh) old.disk answer new.disk
 init_left line options fresh backup old answer new h =
-    left_then (PutsNew options) old.disk NeedsIdle _ old answer new (same_self old.disk) (λ o a n q. quiet_same o _ a n q)
-    (λ done r1 s1 f1 n1. left_then (PutsNew options) old.disk (LoadsComponents line fresh) _ r1 answer new s1 (quiet_loading line fresh)
-    (λ parts r2 s2 f2 n2. made_left line options parts backup old.disk r2 n2.given n2.middle answer new s2 n2.first.inits n2.next)
+    let Changes : Change = PutsNew old.cabinet.files line options fresh in
+    left_then Changes old NeedsIdle _ old answer new (before_all old) (λ o a n q. early_decision o _ a n q)
+    (λ done r1 b1 f1 n1. left_then Changes old (LoadsComponents line fresh) _ r1 answer new b1 (early_loading line fresh)
+    (λ parts r2 b2 f2 n2. made_left old.cabinet.files line options fresh parts backup old.disk r2 n2.given n2.middle answer new b2.same (named_parts line fresh parts old r1 r2 b1 f2) n2.first.inits n2.next)
     n1) h
 
 -- ---- `restore`
 
-written_left : (bytes : List ℕ) (force : Bool) (start : DiskState) (old : Reach) (made : Result Metadata Refusal) (middle : Reach) (answer : Result (Unit {0}) Refusal) (new : Reach) → Same start old.disk
-    → Restores bytes force old.disk made middle.disk → GoesOn (λ m. Decides {A = Unit {0}} (Ok tt)) made middle answer new → Left (PutsBack force) start answer new.disk
-written_left bytes force start old (Ok m) middle answer new same h next =
+written_left : (told : Option Files) (line : List ℕ) (file : Span) (bytes : List ℕ) (force : Bool) (start : DiskState) (old : Reach) (made : Result Metadata Refusal) (middle : Reach) (answer : Result (Unit {0}) Refusal) (new : Reach)
+    → Same start old.disk → IsFile told line file bytes → Restores bytes force old.disk made middle.disk → GoesOn (λ m. Decides {A = Unit {0}} (Ok tt)) made middle answer new
+    → Left (PutsBack told line file force) start answer new.disk
+written_left told line file bytes force start old (Ok m) middle answer new same named h next =
     rw (next.0, ap (λ (r : Reach). r.disk) next.1) (record {
       bytes = bytes;
+      named = named;
       m = m;
       gives = subst (λ (n : ℕ). GivesMetadata bytes force n m) same.size h.gives;
       kept = moments_from (λ n. HoldsOldOr (IsSectorOf m) n) start old.disk middle.disk.content same h.kept;
     })
-written_left bytes force start old (Err refusals.DeviceFault) middle answer new same h next =
+written_left told line file bytes force start old (Err refusals.DeviceFault) middle answer new same named h next =
     rw (next.0, ap (λ (r : Reach). r.disk) next.1) (inr (record {
       bytes = bytes;
+      named = named;
       m = h.m;
       gives = subst (λ (n : ℕ). GivesMetadata bytes force n h.m) same.size h.gives;
       kept = moments_from (λ n. HoldsOldOr (IsSectorOf h.m) n) start old.disk middle.disk.content same h.kept;
     }))
-written_left bytes force start old (Err refusal) middle answer new same h next =
+written_left told line file bytes force start old (Err refusal) middle answer new same named h next =
     rw (next.0, ap (λ (r : Reach). r.disk) next.1) (inl (ap (λ (d : DiskState). d.content) h.unchanged ∙ same.content))
 
-pub restore_left : (line : List ℕ) (file : Span) (force : Bool) (old : Reach) (answer : Result (Unit {0}) Refusal) (new : Reach) → RestoreRow line file force old answer new → Left (PutsBack force) old.disk answer new.disk
+early_file : (line : List ℕ) (file : Span) → Early (LoadsFile line file)
+early_file line file old answer new h = record { quiet = same_disk old.disk new.disk h.disk; files = h.loads.files }
+
+pub restore_left : (line : List ℕ) (file : Span) (force : Bool) (old : Reach) (answer : Result (Unit {0}) Refusal) (new : Reach) → RestoreRow line file force old answer new
+    → Left (PutsBack old.cabinet.files line file force) old.disk answer new.disk
 restore_left line file force old answer new h =
-    left_then (PutsBack force) old.disk NeedsIdle _ old answer new (same_self old.disk) (λ o a n q. quiet_same o _ a n q)
-    (λ done r1 s1 f1 n1. left_then (PutsBack force) old.disk (LoadsFile line file) _ r1 answer new s1 (λ o a n q. same_disk o.disk n.disk q.disk)
-    (λ bytes r2 s2 f2 n2. written_left bytes force old.disk r2 n2.given n2.middle answer new s2 n2.first.restores n2.next)
+    let Changes : Change = PutsBack old.cabinet.files line file force in
+    left_then Changes old NeedsIdle _ old answer new (before_all old) (λ o a n q. early_decision o _ a n q)
+    (λ done r1 b1 f1 n1. left_then Changes old (LoadsFile line file) _ r1 answer new b1 (early_file line file)
+    (λ bytes r2 b2 f2 n2. written_left old.cabinet.files line file bytes force old.disk r2 n2.given n2.middle answer new b2.same (named_bytes line file bytes old r1 r2 b1 f2) n2.first.restores n2.next)
     n1) h
 
 -- ---- `resize`
@@ -335,7 +412,7 @@ moved_left : (oldsize : ℕ) (start disk : DiskState) (entropy : EntropyState) (
 moved_left oldsize start disk entropy (Ok done) disk' entropy' same h =
     record {
       m = h.old;
-      found = record { bytes = h.prepares.bytes; told = gives_from (old_place oldsize) h.prepares.bytes start disk same h.prepares.told; read = h.prepares.found };
+      found = record { bytes = h.prepares.bytes; whole = h.prepares.whole; told = gives_from (old_place oldsize) h.prepares.bytes start disk same h.prepares.told; read = h.prepares.found };
       size = h.prepares.size;
       keeps = one_from (grown h.old disk.size) (grown h.old start.size) h.old (old_place oldsize) start disk disk' same (ap (λ (n : ℕ). grown h.old n) same.size) h.keeps;
     }
@@ -343,7 +420,7 @@ moved_left oldsize start disk entropy (Err refusals.DeviceFault) disk' entropy' 
 moved_left oldsize start disk entropy (Err refusals.DeviceFault) disk' entropy' same (inr h) =
     inr (record {
       m = h.old;
-      found = record { bytes = h.prepares.bytes; told = gives_from (old_place oldsize) h.prepares.bytes start disk same h.prepares.told; read = h.prepares.found };
+      found = record { bytes = h.prepares.bytes; whole = h.prepares.whole; told = gives_from (old_place oldsize) h.prepares.bytes start disk same h.prepares.told; read = h.prepares.found };
       size = h.prepares.size;
       keeps = one_from (grown h.old disk.size) (grown h.old start.size) h.old (old_place oldsize) start disk disk' same (ap (λ (n : ℕ). grown h.old n) same.size) h.keeps;
     })
@@ -352,8 +429,8 @@ moved_left oldsize start disk entropy (Err refusal) disk' entropy' same h = inl 
 
 pub resize_left : (oldsize : ℕ) (old : Reach) (answer : Result (Unit {0}) Refusal) (new : Reach) → ResizeRow oldsize old answer new → Left (MovesToEnd oldsize) old.disk answer new.disk
 resize_left oldsize old answer new h =
-    left_then (MovesToEnd oldsize) old.disk NeedsIdle _ old answer new (same_self old.disk) (λ o a n q. quiet_same o _ a n q)
-    (λ done r1 s1 f1 n1. moved_left oldsize old.disk r1.disk r1.entropy answer new.disk new.entropy s1 n1.resizes) h
+    left_then (MovesToEnd oldsize) old NeedsIdle _ old answer new (before_all old) (λ o a n q. early_decision o _ a n q)
+    (λ done r1 b1 f1 n1. moved_left oldsize old.disk r1.disk r1.entropy answer new.disk new.entropy b1.same n1.resizes) h
 
 -- ---- `kill`
 
@@ -364,10 +441,10 @@ killed_left start disk entropy (Err refusals.EntropyFault) disk' entropy' same h
 killed_left start disk entropy (Err (refusals.TooSmall bytes)) disk' entropy' same h = inl (ap (λ (d : DiskState). d.content) h.disk_unchanged ∙ same.content)
 killed_left start disk entropy (Err refusal) disk' entropy' same h = absurd h
 
-quiet_withdrawal : Quiet Withdraws
-quiet_withdrawal old answer new h = same_disk old.disk new.disk (ap (λ (r : Reach). r.disk) h.1)
+early_withdrawal : Early Withdraws
+early_withdrawal old answer new h = record { quiet = same_disk old.disk new.disk (ap (λ (r : Reach). r.disk) h.1); files = ap (λ (r : Reach). r.cabinet.files) h.1 }
 
 pub kill_left : (old : Reach) (answer : Result (Unit {0}) Refusal) (new : Reach) → KillRow old answer new → Left Destroys old.disk answer new.disk
 kill_left old answer new h =
-    left_then Destroys old.disk Withdraws _ old answer new (same_self old.disk) quiet_withdrawal
-    (λ done r1 s1 f1 n1. killed_left old.disk r1.disk r1.entropy answer new.disk new.entropy s1 n1.kills) h
+    left_then Destroys old Withdraws _ old answer new (before_all old) early_withdrawal
+    (λ done r1 b1 f1 n1. killed_left old.disk r1.disk r1.entropy answer new.disk new.entropy b1.same n1.kills) h

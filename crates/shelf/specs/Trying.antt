@@ -1,25 +1,30 @@
--- A key that was tried, and opens a provider.
-use Rattle.std.specs.Prelude.{◌≡◌, ℕ, ◌≤◌, Bool, Option, Some, Result, Ok, Err}
-use Rattle.eli_base.specs.Units.{media_sectors}
+-- A key that is tried on a provider.
+use Rattle.std.specs.Prelude.{◌≡◌, ℕ, Bool, Option, Result, Ok, Err}
 use Rattle.eli_base.specs.declared.refusals.Refusal.{Refusal}
+use Rattle.eli_base.specs.declared.refusals.Refusal.TheVariants as refusals
 use Rattle.eli_metadata.specs.Checks.{settings_of, size_matches, slot_matches, supported}
-use Rattle.provider.specs.Attached.{opened}
-use Rattle.shelf.specs.declared.trying.Opening.{Opening}
-use Rattle.shelf.specs.Steps.{attachment_by}
+use Rattle.provider.specs.declared.faults.AttachFault.{AttachFault}
+use Rattle.provider.specs.declared.faults.AttachFault.TheVariants as attach
+use Rattle.shelf.specs.declared.trying.Trial.{Trial}
+use Rattle.shelf.specs.Steps.{tried}
 use Rattle.shelf.specs.World.{Attachment}
 
--- with what the provider would be attached
-abbrev pub attachment_in : Bool → Opening → Attachment
-attachment_in readonly o = attachment_by (settings_of o.params) readonly (o.master, o.slot)
+-- with what the provider would be attached, or why it isn't
+abbrev pub tried_in : Option ℕ → Bool → Trial → Result Attachment Refusal
+tried_in slot readonly t = tried t.meta (settings_of t.params) slot readonly (Ok t.key)
 
-abbrev pub as_attachment : Bool → Result Opening Refusal → Result Attachment Refusal
-as_attachment readonly (Ok o) = Ok (attachment_in readonly o)
-as_attachment readonly (Err refusal) = Err refusal
+abbrev pub tried_by : Option ℕ → Bool → Result Trial Refusal → Result Attachment Refusal
+tried_by slot readonly (Ok t) = tried_in slot readonly t
+tried_by slot readonly (Err refusal) = Err refusal
 
--- the metadata are admitted for an image of so many device sectors and for this slot, and the key opens them
-pub record IsOpening (sectors : ℕ) (slot : Option ℕ) (o : Opening) : Type 0 where
-  pub checked : supported o.meta ≡ Ok (settings_of o.params)
-  pub size : size_matches o.meta sectors ≡ Ok tt
-  pub named : slot_matches o.meta slot ≡ Ok tt
-  pub room : 1 ≤ media_sectors o.params.auth o.params.sectorsize o.params.provsize
-  pub opened : opened o.meta o.key.bytes slot ≡ Some (o.master, o.slot)
+-- the metadata are admitted for an image of so many device sectors and for this slot
+pub record IsTrial (sectors : ℕ) (slot : Option ℕ) (t : Trial) : Type 0 where
+  pub checked : supported t.meta ≡ Ok (settings_of t.params)
+  pub size : size_matches t.meta sectors ≡ Ok tt
+  pub named : slot_matches t.meta slot ≡ Ok tt
+
+-- the refusal of a fault of attaching
+abbrev pub attach_refusal : AttachFault → Refusal
+attach_refusal (attach.TooSmall size) = refusals.TooSmall size
+attach_refusal attach.WrongKey = refusals.WrongKey
+attach_refusal attach.NoMemory = refusals.NoMemory

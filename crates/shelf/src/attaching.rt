@@ -4,44 +4,47 @@ ghost use Rattle.std.specs.Prelude.{◌≡◌, length};
 ghost use Rattle.block_traits.specs.Cabinet.{CabinetState};
 ghost use Rattle.block_traits.specs.Streams.{EntropyState};
 ghost use Rattle.command_words.specs.Places.{KeyIsWithin};
-ghost use Rattle.shelf.specs.Trying.{IsOpening, attachment_in};
-ghost use Rattle.shelf.specs.Steps.{Attaches};
+ghost use Rattle.shelf.specs.Trying.{IsTrial, attach_refusal, tried_in};
+ghost use Rattle.shelf.specs.Steps.{Attaches, GoesOn};
 ghost use Rattle.shelf.specs.Turn.{AttachRow};
 ghost use Rattle.shelf.specs.World.{Idle, disk_in, holding_of, reach_of};
 
 use crate::Held;
-use crate::trying::{Opening, try_key};
+use crate::trying::{Trial, prepare, try_key};
 use block_traits::{Cabinet, Disk, LastSector};
 use command_words::KeyWords;
 use eli_base::Refusal;
 use provider::{AttachFault, Provider};
 use std::alloc::Global;
 
-// Attaches the provider that a key opens.
+fn attach_refusal(fault: AttachFault) -> Refusal
+    ensures { result ≡ attach_refusal fault }
+{
+    match fault {
+        AttachFault::TooSmall { size } => Refusal::TooSmall { size },
+        AttachFault::WrongKey => Refusal::WrongKey,
+        AttachFault::NoMemory => Refusal::NoMemory,
+    }
+}
+
+// Attaches the provider, if the key opens it. This alone opens a slot.
 fn take_over<D: Disk>(
     alloc: Global,
     disk: D,
-    opening: &Opening,
+    trial: &Trial,
     slot: Option<u8>,
     readonly: bool,
 ) -> (Held<D>, Result<(), Refusal>)
-    requires { IsOpening (D.state disk).size slot opening.now }
+    requires { IsTrial (D.state disk).size slot trial.now }
     ensures { (cabinet : CabinetState) (entropy : EntropyState) →
-        Attaches (attachment_in readonly opening.now)
+        GoesOn Attaches (tried_in slot readonly trial.now)
         (reach_of (D.state disk) Idle cabinet entropy) result.1
         (reach_of (disk_in D.state result.0) (holding_of result.0) cabinet entropy) }
 {
-    let Opening {
-        meta,
-        params,
-        key,
-        ..
-    } = opening;
+    let Trial { meta, params, key } = trial;
     match Provider::attach(alloc, disk, meta, params, key, slot, readonly) {
         Ok(provider) => (Held::Attached(provider), Ok(())),
-        Err((disk, AttachFault::NoMemory)) => (Held::Idle(disk), Err(Refusal::NoMemory)),
-        Err((_, AttachFault::TooSmall { .. })) => unreachable!(),
-        Err((_, AttachFault::WrongKey)) => unreachable!(),
+        Err((disk, fault)) => (Held::Idle(disk), Err(attach_refusal(fault))),
     }
 }
 
@@ -63,15 +66,15 @@ pub fn attach<D: Disk, C: Cabinet>(
         (reach_of (disk_in D.state result.0) (holding_of result.0) (C.state files.new) entropy) }
 {
     let mut place = LastSector::new(disk);
-    let tried = try_key(alloc, &mut place, line, slot, words, files);
+    let prepared = prepare(alloc, &mut place, line, slot, words, files);
     let disk = place.into_disk();
-    match tried {
+    match prepared {
         Err(refusal) => (Held::Idle(disk), Err(refusal)),
-        Ok(opening) => {
+        Ok(trial) => {
             if only_check {
-                (Held::Idle(disk), Ok(()))
+                (Held::Idle(disk), try_key(&trial, slot))
             } else {
-                take_over(alloc, disk, &opening, slot, readonly)
+                take_over(alloc, disk, &trial, slot, readonly)
             }
         }
     }

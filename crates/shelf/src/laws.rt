@@ -89,7 +89,9 @@ pub fn a_line_counts_failures()
 
 /// A line that changes metadata leaves the old or the new whenever power fails. At each moment of `setkey`, `init` and `restore` each
 /// value that the last sector of the named drawer may hold is one from before or the new metadata; once `setkey` is done, they are the
-/// only one. `setkey` leaves all but its slot, its bit and the iterations, which still make the other slot's key; so does `delkey` but for the slots that are
+/// only one. The new metadata are made of what the line names: the key of `init` and the new key of `setkey` are of the components that its words
+/// name, and so is the old key of an idle drawer; those of `restore` are the backup in the named file. This is said of the files from
+/// before the line, where the cabinet tells them. `setkey` leaves all but its slot, its bit and the iterations, which still make the other slot's key; so does `delkey` but for the slots that are
 /// named, which are clear in each value that may be held once a flush landed, and zeros once it's done. Until the first flush of `resize` landed, each value that a sector may
 /// hold is one from before; from then on, unless a sector is altered, the last sector has the new metadata or the old place the old ones.
 /// Once a flush of `kill` landed, no value that the last sector may hold is metadata. A line that is refused may have stopped at any event of these,

@@ -1,38 +1,36 @@
 //! A key is tried on a provider (geli(8), attach).
 
-ghost use Rattle.std.specs.Prelude.{◌≡◌, ℕ, ◌<◌, ◌^◌, IfOk, OnOk, MatchResult, Bool, Ok, Err, length};
+ghost use Rattle.std.specs.Prelude.{◌≡◌, ◌<◌, ◌^◌, IfOk, OnOk, MatchResult, Bool, Ok, Err, length};
 ghost use Rattle.block_traits.specs.Streams.{EntropyState};
 ghost use Rattle.command_words.specs.Places.{KeyIsWithin};
 ghost use Rattle.eli_metadata.specs.Checks.{settings_of, size_matches, slot_matches, supported};
-ghost use Rattle.shelf.specs.Steps.{admitted, tried};
-ghost use Rattle.shelf.specs.Trying.{IsOpening, as_attachment};
+ghost use Rattle.shelf.specs.Keys.{without_value};
+ghost use Rattle.shelf.specs.Steps.{admitted, or_refusal};
+ghost use Rattle.shelf.specs.Trying.{IsTrial, tried_by, tried_in};
 ghost use Rattle.shelf.specs.Turn.{TryRow};
 ghost use Rattle.shelf.specs.World.{Holding, reach_of};
 ghost use Rattle.user_key.specs.Derivation.{user_key};
+ghost use Rattle.user_key.specs.Refusals.{key_refusal_of};
 
 use crate::reading::read_last;
 use block_traits::{Cabinet, MetaPlace};
 use command_words::KeyWords;
-use eli_base::{GeoFault, Geometry, MasterKey, Params, Refusal};
+use eli_base::{GeoFault, Geometry, Params, Refusal};
 use eli_metadata::{Metadata, check, size_gate, slot_gate};
 use key_components::load_components;
 use provider::opened;
 use std::alloc::Global;
 use user_key::{Components, UserKey, derive};
 
-/// What was found of a provider that a key opens.
+/// A provider, and the user key that is tried on it.
 #[derive(Drop)]
-pub struct Opening {
+pub struct Trial {
     /// Its metadata.
     pub meta: Metadata,
     /// Its parameters.
     pub params: Params,
     /// The user key.
     pub key: UserKey,
-    /// The master key.
-    pub master: MasterKey,
-    /// The number of the slot that gave it.
-    pub slot: u8,
 }
 
 /// The parameters of metadata that an image of so many device sectors can have, and whose named slot is set.
@@ -51,56 +49,51 @@ pub fn admit(meta: &Metadata, sectors: u64, slot: Option<u8>) -> Result<Params, 
     Ok(params)
 }
 
-// What the key of these components opens, of the slots that are asked for.
-fn try_components(
-    meta: Metadata,
-    params: Params,
-    slot: Option<u8>,
-    parts: &Components,
-) -> Result<Opening, Refusal>
-    requires checked { supported meta ≡ Ok (settings_of params) }
-    requires slot { slot_matches meta slot ≡ Ok tt }
-    ensures answer { (readonly : Bool) → as_attachment readonly result ≡ tried meta (settings_of params) slot readonly (user_key parts.now meta.salt meta.iterations) }
-    ensures opening { IfOk result (λ o. (sectors : ℕ) → size_matches meta sectors ≡ Ok tt → IsOpening sectors slot o) }
+// The user key that the components of a key make for these metadata.
+fn make_key(meta: &Metadata, parts: &Components) -> Result<UserKey, Refusal>
+    ensures { result ≡ or_refusal key_refusal_of (user_key parts.now meta.now.salt meta.now.iterations) }
 {
-    let key = match derive(parts, &meta.salt, meta.iterations) {
-        Ok(key) => key,
-        Err(fault) => return Err(Refusal::from(fault)),
-    };
-    if let Err(GeoFault::TooSmall { size }) = Geometry::of(&params) {
-        return Err(Refusal::TooSmall { size });
-    }
-    match opened(&meta, &key, slot) {
-        Some((master, slot)) => Ok(Opening {
-            meta,
-            params,
-            key,
-            master,
-            slot,
-        }),
-        None => Err(Refusal::WrongKey),
+    match derive(parts, &meta.salt, meta.iterations) {
+        Ok(key) => Ok(key),
+        Err(fault) => Err(Refusal::from(fault)),
     }
 }
 
-/// Tries a key on the provider of an idle drawer, by the slot that is named or else by any. The files of the key are
-/// loaded once the metadata are admitted.
-pub fn try_key<P: MetaPlace, C: Cabinet>(
+/// Makes the key that is to be tried on the provider of an idle drawer, by the slot that is named or else by any. The files of
+/// the key are loaded once the metadata are admitted.
+pub fn prepare<P: MetaPlace, C: Cabinet>(
     alloc: Global,
     place: &mut P,
     line: &[u8],
     slot: Option<u8>,
     words: &KeyWords,
     files: &mut C,
-) -> Result<Opening, Refusal>
+) -> Result<Trial, Refusal>
     requires { KeyIsWithin (length line.now) words.now }
     ensures row { (readonly : Bool) (holding : Holding) (entropy : EntropyState) →
         TryRow line.now slot readonly words.now
-        (reach_of (P.state place.old) holding (C.state files.old) entropy) (as_attachment readonly result)
+        (reach_of (P.state place.old) holding (C.state files.old) entropy) (tried_by slot readonly result)
         (reach_of (P.state place.new) holding (C.state files.new) entropy) }
-    ensures opening { IfOk result (IsOpening (P.state place.new).size slot) }
+    ensures trial { IfOk result (IsTrial (P.state place.new).size slot) }
 {
     let meta = read_last(place)?;
     let params = admit(&meta, place.sectors(), slot)?;
     let parts = load_components(alloc, line, words, files)?;
-    try_components(meta, params, slot, &parts)
+    let key = make_key(&meta, &parts)?;
+    Ok(Trial { meta, params, key })
+}
+
+/// Refuses a key that opens no slot of those that are asked for, and a provider without a sector.
+pub fn try_key(trial: &Trial, slot: Option<u8>) -> Result<(), Refusal>
+    requires checked { supported trial.now.meta ≡ Ok (settings_of trial.now.params) }
+    requires slot { slot_matches trial.now.meta slot ≡ Ok tt }
+    ensures { (readonly : Bool) → result ≡ without_value (tried_in slot readonly trial.now) }
+{
+    if let Err(GeoFault::TooSmall { size }) = Geometry::of(&trial.params) {
+        return Err(Refusal::TooSmall { size });
+    }
+    match opened(&trial.meta, &trial.key, slot) {
+        Some(_) => Ok(()),
+        None => Err(Refusal::WrongKey),
+    }
 }

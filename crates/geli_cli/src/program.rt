@@ -96,8 +96,8 @@ pub fn exit_code(status: Status) -> ExitCode
     ExitCode::from(status.number())
 }
 
-/// Runs what the words ask for over the images that they name, each opened under its name. The status is by the words,
-/// `WriteFault` only where the output failed, or `NoMemory`.
+/// Runs what the words ask for over the images that they name, each opened under its name. The status is by the words:
+/// `ReadFault` only where the input failed, `WriteFault` only where the output did; or `NoMemory`.
 pub fn run_words<O: Opener<File = File> + Drop, R: Read + Drop, W: Write + Drop>(
     alloc: Global,
     words: &[String],
@@ -106,7 +106,8 @@ pub fn run_words<O: Opener<File = File> + Drop, R: Read + Drop, W: Write + Drop>
     output: &mut OutputSink<W>,
 ) -> Status
     ensures ends { Ends (map string_bytes words.now) result }
-    ensures cause { result ≡ Status.WriteFault → Rose output.old.faults output.new.faults }
+    ensures read { result ≡ Status.ReadFault → Rose input.old.faults input.new.faults }
+    ensures write { result ≡ Status.WriteFault → Rose output.old.faults output.new.faults }
 {
     match try_words(alloc, words, opener, input, output) {
         Ok(status) => status,
@@ -122,7 +123,8 @@ fn try_words<O: Opener<File = File> + Drop, R: Read + Drop, W: Write + Drop>(
     output: &mut OutputSink<W>,
 ) -> Result<Status, NoMemory>
     ensures ends { IfOk result (Ends (map string_bytes words.now)) }
-    ensures cause { IfOk result (λ status. status ≡ Status.WriteFault → Rose output.old.faults output.new.faults) }
+    ensures read { IfOk result (λ status. status ≡ Status.ReadFault → Rose input.old.faults input.new.faults) }
+    ensures write { IfOk result (λ status. status ≡ Status.WriteFault → Rose output.old.faults output.new.faults) }
 {
     let mut shelf = Shelf::new(alloc)?;
     let images = images_of(alloc, words)?;

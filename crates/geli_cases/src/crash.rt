@@ -45,6 +45,9 @@ impl Choices {
         let mut front = Vec::new(alloc);
         line.bytes(alloc, Form::Hex, &mut front)?;
         let mut bytes = [0; 512];
+        if front.len() > bytes.len() {
+            return Err(Fault::Bad("more bytes than a sector has"));
+        }
         for (into, byte) in bytes.iter_mut().zip(front.as_slice()) {
             *into = *byte;
         }

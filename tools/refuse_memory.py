@@ -5,9 +5,9 @@
 
 PROGRAM is the built program, and not the script ./geli, whose own memory would be refused.
 
-A session is a few runs of `geli script` over files. Each run is played once with all its memory, and then once for each of
-its allocations, from the same files, with that one refused (tools/refuse_memory.c says which calls are counted). A line is
-given when the one before it is answered, so that what is done to files is known of each line. What must hold of each run:
+A session is a few runs of `geli script`, or of `geli` with one command, over files. Each run is played once with all its memory, and
+then once for each of its allocations, from the same files, with that one refused (tools/refuse_memory.c says which calls are counted).
+A line is given when the one before it is answered, so that what is done to files is known of each line. What must hold of each run:
 
 - the replies, and the writes and syncs of the image by each line, are those of the whole run, up to the first
   `error 33 NoMemory`, which may stand on any line but those with the verbs of NEVER; or nothing is printed, with status 5;
@@ -56,7 +56,7 @@ WITHOUT_PASSPHRASE = [
 NEW_KEY = f"setkey -n 1 {KEYS} -K k -J q a.img"
 OPENS = [f"attach -C {KEYS} s.img", "attach -C -k k -j q s.img", "attach -C -n 1 -k k -j q s.img", f"attach {KEYS} s.img", "list"]
 ATTACHED = "s.img attached 512 2047\nok"
-# A session: runs of an image and its lines, and copies of the first BYTES of a file, with zeros behind a shorter one.
+# A session: runs of an image and its lines, runs of one command on an image, and copies of the first BYTES of a file, with zeros behind a shorter one.
 SESSIONS = {
     "ordinary-session": [("run", "a.img", ORDINARY)],
     "attach-refusals": [
@@ -101,6 +101,16 @@ SESSIONS = {
             ("dump a.img", None), ("delkey -f -n 1 a.img", "ok"), ("kill a.img", "ok"), ("dump a.img", "error 5 BadMagic"),
         ]),
     ],
+    "single-commands": [
+        ("one", "a.img", f"init -B b {SET} a.img", "ok"), ("one", "a.img", f"attach -C {KEYS} a.img", "ok"),
+        ("one", "a.img", f"attach {KEYS} a.img", "ok"), ("one", "a.img", "attach -C -k k -j q a.img", "error 15 WrongKey"),
+        ("one", "a.img", "dump a.img", None), ("one", "a.img", NEW_KEY, "ok"), ("one", "a.img", "delkey -n 0 a.img", "ok"),
+        ("one", "a.img", "backup a.img c", "ok"), ("one", "a.img", "kill a.img", "ok"), ("one", "a.img", "restore b a.img", "ok"),
+        ("one", "a.img", "restore none a.img", "error 27 FileAbsent 1"), ("copy", "d.img", "a.img", 1 << 21),
+        ("one", "d.img", "resize -s 1048576 d.img", "ok"), ("one", "d.img", f"attach -C {KEYS} d.img", "ok"),
+        ("one", "a.img", "read a.img 0 1", "error 3 NotAttached"), ("one", "a.img", "eject a.img", "ok"), ("one", "a.img", "list", "ok"),
+        ("one", "a.img", "detach", "usage: geli script IMAGE... or geli VERB ..."),
+    ],
 }
 FILES = {"k": bytes(range(64)), "p": b"abc\n", "q": b"abd", "a.img": bytes(1 << 20), "c.img": bytes(1 << 21)}
 
@@ -108,12 +118,12 @@ FILES = {"k": bytes(range(64)), "p": b"abc\n", "q": b"abd", "a.img": bytes(1 << 
 class Run:
     """A run of the program with one refused allocation, or none: what each line answered, did and left."""
 
-    def __init__(self, program, folder, image, lines, number):
+    def __init__(self, program, folder, image, lines, number, alone):
         self.folder, self.notes = folder, tempfile.NamedTemporaryFile(mode="r")
         inode = str(os.stat(os.path.join(folder, image)).st_ino)
         told = {"LD_PRELOAD": SHIM, "REFUSE": str(number), "NOTES": self.notes.name}
         process = subprocess.Popen(
-            [program, "script", image],
+            [program] + (lines[0].split() if alone else ["script", image]),
             cwd=folder, env=told, stdin=subprocess.PIPE, stdout=subprocess.PIPE, stderr=subprocess.DEVNULL,
         )
         self.begun, self.refused, self.refused_in, self.count = False, None, None, 0
@@ -123,7 +133,7 @@ class Run:
             try:
                 if line is None:
                     process.stdin.close()
-                else:
+                elif not alone:
                     process.stdin.write(line.encode() + b"\n")
                     process.stdin.flush()
             except BrokenPipeError:
@@ -215,11 +225,13 @@ def play(program, folder, name):
             with open(os.path.join(here, step[2]), "rb") as source, open(os.path.join(here, step[1]), "wb") as out:
                 out.write(source.read(step[3]).ljust(step[3], b"\0"))
             continue
-        image, lines = step[1], [line for line, _ in step[2]]
+        alone, image = step[0] == "one", step[1]
+        told = [step[2:]] if alone else step[2]
+        lines = [line for line, _ in told]
         number_of_runs += 1
         shutil.copytree(here, kept)
-        whole = Run(program, here, image, lines, 0)
-        for (line, reply), found in zip(step[2], whole.replies):
+        whole = Run(program, here, image, lines, 0, alone)
+        for (line, reply), found in zip(told, whole.replies):
             assert reply is None or reply == found, f"with all its memory {line[:60]!r} answered {found[:60]!r}"
         after = os.path.join(folder, "after")
         os.rename(here, after)
@@ -228,7 +240,7 @@ def play(program, folder, name):
         while True:
             number += 1
             restore(here, kept)
-            run = Run(program, here, image, lines, number)
+            run = Run(program, here, image, lines, number, alone)
             if run.refused is None:
                 judge(whole, run, lines)
                 break

@@ -5,6 +5,7 @@ use Rattle.block_traits.specs.Cabinet.{CabinetState, Files}
 use Rattle.block_traits.specs.Disk.{DiskState}
 use Rattle.block_traits.specs.Streams.{EntropyState}
 use Rattle.block_traits.proofs.Causes.{Rose-earlier}
+use Rattle.command_words.specs.Places.{bytes_at}
 use Rattle.command_words.specs.declared.commands.Command.{Command}
 use Rattle.command_words.specs.declared.spans.KeyWords.{KeyWords}
 use Rattle.command_words.specs.declared.spans.Span.{Span}
@@ -15,11 +16,13 @@ use Rattle.eli_metadata.specs.Refusals.{read_refusal_of, refusal_of}
 use Rattle.eli_metadata.specs.declared.metadata.Metadata.{Metadata}
 use Rattle.eli_metadata.specs.declared.place.ReadMetaFault.{ReadMetaFault}
 use Rattle.eli_metadata.specs.declared.place.ReadMetaFault.TheVariants.{TooSmall, DeviceFault, Meta}
-use Rattle.key_components.specs.Answers.{IsReached, MayRefuse, word_of}
+use Rattle.key_components.specs.Answers.{IsReached, MayRefuse, file_answer, word_of}
+use Rattle.key_components.specs.Files.{file_limit}
 use Rattle.key_components.specs.Key.{components_of}
 use Rattle.user_key.specs.declared.components.Components.{Components}
 use Rattle.shelf.specs.Causes.{HasCause, may_lack_memory}
-use Rattle.shelf.specs.Grounds.{AreComponents, FindsBadFile, HasGround, HasMetadata, HoldsNone, LacksMetadata, RefusesFiles}
+use Rattle.shelf.specs.Grounds.{AreComponents, FindsBadFile, HasGround, HasMetadata, HoldsNone, IsFile, LacksMetadata, RefusesFiles}
+use Rattle.shelf.specs.Saving.{LoadsFile}
 use Rattle.shelf.specs.Steps.{Decides, LoadsComponents, ReadsLastSector, StoreAnswers, or_refusal}
 use Rattle.shelf.specs.World.{Reach}
 use Rattle.shelf.proofs.Causing.{Why}
@@ -163,10 +166,16 @@ loading_why line command words start old (Err refusal) new memory bad since h = 
 pub loading_since : (line : List ℕ) (words : KeyWords) (start old : Reach) (answer : Result Components Refusal) (new : Reach) → Since start old → LoadsComponents line words old answer new → Since start new
 loading_since line words start old answer new since h = since_then start old new since (since_cabinet old new h.disk h.entropy h.loads.files h.loads.faults h.loads.misses)
 
-pub loading_parts : (line : List ℕ) (words : KeyWords) (start old : Reach) (parts : Components) (new : Reach) → Since start old → LoadsComponents line words old (Ok parts) new → AreComponents start.cabinet.files line words parts
-loading_parts line words start old parts new since h =
+-- what was loaded is what the words name in the files that there were at first
+pub loading_parts : (line : List ℕ) (words : KeyWords) (start old : Reach) (parts : Components) (new : Reach) → old.cabinet.files ≡ start.cabinet.files → LoadsComponents line words old (Ok parts) new → AreComponents start.cabinet.files line words parts
+loading_parts line words start old parts new files h =
     let named = told_sym old.cabinet.files (λ files. components_of files line words) (Ok parts) h.told in
-    subst (λ (f : Option Files). AreComponents f line words parts) since.files (record { named = named; fits = h.fits })
+    subst (λ (f : Option Files). AreComponents f line words parts) files (record { named = named; fits = h.fits })
+
+pub loading_bytes : (line : List ℕ) (file : Span) (start old : Reach) (bytes : List ℕ) (new : Reach) → old.cabinet.files ≡ start.cabinet.files → LoadsFile line file old (Ok bytes) new → IsFile start.cabinet.files line file bytes
+loading_bytes line file start old bytes new files h =
+    let named = told_sym old.cabinet.files (λ files. file_answer file.word file_limit (files (bytes_at line file))) (Ok bytes) h.told in
+    subst (λ (f : Option Files). IsFile f line file bytes) files named
 
 -- ---- a file is stored
 

@@ -64,7 +64,7 @@ fresh_why : (line : List ℕ) (command : Command) (iterations : Option ℤ) (slo
 fresh_why line command iterations slot words fresh m parts start old answer new memory bad ground named since h =
     then_since line command start (LoadsComponents line fresh) (λ next. Then (OpensSlot m parts) (λ found. SetsOpened line iterations slot m next found)) old answer new
     (λ given middle first. loading_why line command fresh start old given middle memory (λ refusal cabinet refuses. bad refusal cabinet (inr refuses)) since first)
-    (λ next_parts middle first next. opens_why line command iterations slot words fresh m parts next_parts start middle answer new ground named (loading_parts line fresh start old next_parts middle since first)
+    (λ next_parts middle first next. opens_why line command iterations slot words fresh m parts next_parts start middle answer new ground named (loading_parts line fresh start old next_parts middle since.files first)
     (loading_since line fresh start old (Ok next_parts) middle since first) next) h
 
 both_why : (line : List ℕ) (command : Command) (iterations : Option ℤ) (slot : Option ℕ) (words fresh : KeyWords) (m : Metadata) (start old : Reach) (answer : Result (Unit {0}) Refusal) (new : Reach) → may_lack_memory command ≡ true
@@ -73,7 +73,7 @@ both_why : (line : List ℕ) (command : Command) (iterations : Option ℤ) (slot
 both_why line command iterations slot words fresh m start old answer new memory bad ground since h =
     then_since line command start (LoadsComponents line words) (λ parts. Then (LoadsComponents line fresh) (λ next. Then (OpensSlot m parts) (λ found. SetsOpened line iterations slot m next found))) old answer new
     (λ given middle first. loading_why line command words start old given middle memory (λ refusal cabinet refuses. bad refusal cabinet (inl refuses)) since first)
-    (λ parts middle first next. fresh_why line command iterations slot words fresh m parts start middle answer new memory bad ground (loading_parts line words start old parts middle since first)
+    (λ parts middle first next. fresh_why line command iterations slot words fresh m parts start middle answer new memory bad ground (loading_parts line words start old parts middle since.files first)
     (loading_since line words start old (Ok parts) middle since first) next) h
 
 slot_why : (line : List ℕ) (command : Command) (iterations : Option ℤ) (slot : Option ℕ) (words fresh : KeyWords) (m : Metadata) (start old : Reach) (answer : Result (Unit {0}) Refusal) (new : Reach) → may_lack_memory command ≡ true
@@ -115,7 +115,7 @@ puts_why line command iterations slot master fresh m start old answer new memory
     then_since line command start (LoadsComponents line fresh) (λ parts. StoresKey (record { meta = m; master = master; slot = slot; iterations = iterations; parts = parts })) old answer new
     (λ given middle first. loading_why line command fresh start old given middle memory bad since first)
     (λ parts middle first next. stores_why line command _ start middle answer new
-    (λ refusal is. ground refusal (record { parts = parts; named = loading_parts line fresh start old parts middle since first; refused = is })) (loading_since line fresh start old (Ok parts) middle since first) next) h
+    (λ refusal is. ground refusal (record { parts = parts; named = loading_parts line fresh start old parts middle since.files first; refused = is })) (loading_since line fresh start old (Ok parts) middle since first) next) h
 
 -- what is refused of an attached drawer, for this slot and master key
 abbrev ChangesAttached : List ℕ → Option ℤ → ℕ → List ℕ → KeyWords → Metadata → Reach → Refusal → Type 0

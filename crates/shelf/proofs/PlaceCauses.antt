@@ -23,7 +23,7 @@ use Rattle.shelf.specs.Sizes.{DestroysMetadata, KillRow, MovesMetadata, ResizeRo
 use Rattle.shelf.specs.Steps.{Decides, NeedsIdle, StoresBytes, Then}
 use Rattle.shelf.specs.World.{Reach}
 use Rattle.shelf.proofs.Causing.{Why, needs_idle_why, then_since, then_why}
-use Rattle.shelf.proofs.Grounding.{Grounds, Since, plain_cause, since_cabinet, storing_why, told_sym}
+use Rattle.shelf.proofs.Grounding.{Grounds, Since, loading_bytes, plain_cause, since_cabinet, storing_why, told_sym}
 use Rattle.shelf.proofs.Plain.{IsPlain, meta_plain, old_plain, plain_err, plain_some, restored_plain, sizes_plain}
 
 -- ---- `backup`
@@ -83,7 +83,7 @@ filed_why line file prov force old answer new h =
     let command : Command = commands.Restore file prov force in
     then_why line command (LoadsFile line file) (λ bytes. Then (WritesBack bytes force) (λ m. Decides {A = Unit {0}} (Ok tt))) old answer new (λ given middle first. file_why line file prov force old given middle first)
     (λ bytes middle first next. writes_why line command bytes force old middle answer new
-    (λ refusal is. record { bytes = bytes; named = told_sym old.cabinet.files (λ files. file_answer file.word file_limit (files (bytes_at line file))) (Ok bytes) first.told; refused = is })
+    (λ refusal is. record { bytes = bytes; named = loading_bytes line file old old bytes middle refl first; refused = is })
     (since_cabinet old middle first.disk first.entropy first.loads.files first.loads.faults first.loads.misses) next) h
 
 pub restore_why : (line : List ℕ) (file prov : Span) (force : Bool) (old : Reach) (answer : Result (Unit {0}) Refusal) (new : Reach) → RestoreRow line file force old answer new → Why line (commands.Restore file prov force) old answer new

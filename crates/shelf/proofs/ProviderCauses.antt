@@ -36,7 +36,7 @@ loading_trial_why : (line : List ℕ) (command : Command) (slot : Option ℕ) (r
 loading_trial_why line command slot readonly words m settings start old answer new memory bad ground admits since h =
     then_since line command start (LoadsComponents line words) (λ parts. TriesKey m settings slot readonly parts) old answer new (λ given middle first. loading_why line command words start old given middle memory bad since first)
     (λ parts middle first next. decides_why line command start (tried m settings slot readonly (user_key parts m.salt m.iterations)) middle answer new (tried_plain m settings slot readonly _)
-    (λ refusal is. ground refusal (record { settings = settings; admits = admits; parts = parts; named = loading_parts line words start old parts middle since first; refused = is })) next) h
+    (λ refusal is. ground refusal (record { settings = settings; admits = admits; parts = parts; named = loading_parts line words start old parts middle since.files first; refused = is })) next) h
 
 admitting_why : (line : List ℕ) (command : Command) (slot : Option ℕ) (readonly : Bool) (words : KeyWords) (m : Metadata) (start old : Reach) (answer : Result Attachment Refusal) (new : Reach) → may_lack_memory command ≡ true
     → BadFiles line command start (RefusesFiles line words start.cabinet) → Grounds line command start (λ refusal. (admitted m start.disk.size slot ≡ Err refusal) ⊎ RefusesTrial line slot readonly words m start refusal) → Since start old
@@ -111,7 +111,7 @@ filling_why : (line : List ℕ) (command : Command) (options : InitOptions) (fre
 filling_why line command options fresh backup old answer new memory bad ground h =
     then_why line command (LoadsComponents line fresh) (λ parts. Then (MakesProvider options parts) (λ m. BacksUp line backup m)) old answer new
     (λ given middle first. loading_why line command fresh old old given middle memory bad (since_here old) first)
-    (λ parts middle first next. making_why line command options fresh backup parts old middle answer new memory ground (loading_parts line fresh old old parts middle (since_here old) first)
+    (λ parts middle first next. making_why line command options fresh backup parts old middle answer new memory ground (loading_parts line fresh old old parts middle refl first)
     (loading_since line fresh old old (Ok parts) middle (since_here old) first) next) h
 
 pub init_why : (line : List ℕ) (command : Command) (options : InitOptions) (fresh : KeyWords) (backup : Option Span) (old : Reach) (answer : Result (Unit {0}) Refusal) (new : Reach) → needs_idle command ≡ true → may_lack_memory command ≡ true

@@ -1,6 +1,6 @@
 -- What the disk may hold at each moment of a row.
-use Rattle.std.proofs.Common.{◌≡◌, ◌∙◌, ◌⊎◌, ℕ, ◌-◌, List, [], refl, ap, sym, subst, inl, inr, arith, Bool, true, false, Option, None, Some, Result, Ok, Err}
-use Rattle.std.specs.Prelude.{ℤ, unwrap_or, IfSome}
+use Rattle.std.proofs.Common.{◌≡◌, ◌∙◌, ◌⊎◌, ℕ, ◌-◌, List, [], refl, ap, sym, subst, inl, inr, Bool, true, false, Option, None, Some, Result, Ok, Err}
+use Rattle.std.specs.Prelude.{ℤ, unwrap_or}
 use Rattle.std.specs.Option.{option_or}
 use Rattle.backup_restore.specs.Restoring.{GivesMetadata, Restores}
 use Rattle.block_traits.specs.Cabinet.{CabinetState, Files}
@@ -9,17 +9,14 @@ use Rattle.block_traits.specs.Disk.{DiskState, GivesFrom, Logs, last_sector}
 use Rattle.block_traits.specs.Moments.{AtEachMoment, HoldsOldOr, HoldsOnceFlushed, KeepsAlone, WaitsForFlush}
 use Rattle.block_traits.specs.Streams.{EntropyState}
 use Rattle.block_traits.proofs.Logs.{logged-none}
-use Rattle.command_words.specs.Places.{bytes_at}
 use Rattle.command_words.specs.declared.spans.KeyWords.{KeyWords}
 use Rattle.command_words.specs.declared.spans.Span.{Span}
 use Rattle.eli_base.specs.declared.parameters.MasterKey.{MasterKey}
 use Rattle.eli_base.specs.declared.refusals.Refusal.{Refusal}
 use Rattle.eli_base.specs.declared.refusals.Refusal.TheVariants as refusals
-use Rattle.eli_metadata.specs.Format.{encoded, metadata_in}
-use Rattle.eli_metadata.specs.Place.{IsSectorOf, ReadsMetadata}
-use Rattle.eli_metadata.specs.Refusals.{read_refusal_of}
+use Rattle.eli_metadata.specs.Format.{encoded}
+use Rattle.eli_metadata.specs.Place.{IsSectorOf}
 use Rattle.eli_metadata.specs.declared.metadata.Metadata.{Metadata}
-use Rattle.eli_metadata.specs.declared.place.ReadMetaFault.{ReadMetaFault}
 use Rattle.key_commands.specs.DeleteKeys.{DeletesKeys, Deletion}
 use Rattle.key_commands.specs.NewKey.{KeyChange}
 use Rattle.key_commands.specs.NewProvider.{Inits}
@@ -28,20 +25,18 @@ use Rattle.key_commands.specs.Random.{master_key_in}
 use Rattle.key_commands.specs.SetKey.{SetsKey}
 use Rattle.key_commands.specs.Usable.{IsUsable}
 use Rattle.key_commands.specs.declared.options.InitOptions.{InitOptions}
-use Rattle.key_components.specs.Answers.{IsAnswer, file_answer}
-use Rattle.key_components.specs.Files.{file_limit}
-use Rattle.key_components.specs.Key.{components_of}
 use Rattle.resize_kill.specs.Killing.{HoldsNoMetadata, Kills}
 use Rattle.resize_kill.specs.Resizing.{HoldsOneOf, KeepsOneOf, RefusesOld, RefusesSizes, Resizes, grown, old_place}
 use Rattle.shelf.specs.Grounds.{AreComponents, HasMetadata, IsFile}
 use Rattle.shelf.specs.Keys.{DeletesRow, DelkeyRow, IsUsed, NamesSlots, NeedsSlot, OpensSlot, SetkeyAttachedRow, SetkeyBy, SetkeyIdleRow, SetkeyRow, TakesKeysOut, named_slots, opened_by, or_wrong, slot_of, without_value}
 use Rattle.shelf.specs.Saving.{LoadsFile, RestoreRow}
 use Rattle.shelf.specs.Sizes.{KillRow, ResizeRow, Withdraws}
-use Rattle.shelf.specs.Steps.{Admits, BacksUp, Decides, GoesOn, LoadsComponents, NeedsIdle, ReadsLastSector, Then, or_refusal}
+use Rattle.shelf.specs.Steps.{Admits, BacksUp, Decides, GoesOn, LoadsComponents, NeedsIdle, ReadsLastSector, Then}
 use Rattle.shelf.specs.Stops.{ClearsKeys, Destroys, MovesToEnd, PutsBack, PutsKey, PutsNew, WrapsKey, WrapsOpened}
 use Rattle.shelf.specs.Turn.{InitRow}
 use Rattle.shelf.specs.World.{Holding, Idle, IsAttached, Reach}
 use Rattle.shelf.proofs.Events.{Step, quiet_failure, quiet_loading, quiet_reading, same_disk}
+use Rattle.shelf.proofs.Grounding.{loading_bytes, loading_parts, reading_has}
 use Rattle.user_key.specs.Derivation.{user_key}
 use Rattle.user_key.specs.declared.components.Components.{Components}
 use Rattle.user_key.specs.declared.components.KeyFault.{KeyFault}
@@ -118,45 +113,8 @@ moments_from Holds start disk after same h =
 alone_from : (bytes : List ℕ) (start disk : DiskState) (after : Option Content) → Same start disk → KeepsAlone bytes (last_sector disk) after → KeepsAlone bytes (last_sector start) after
 alone_from bytes start disk after same h = subst (λ (n : ℕ). KeepsAlone bytes (n - 1) after) same.size h
 
-gives_last : (bytes : List ℕ) (start disk : DiskState) → Same start disk → GivesFrom disk.content (last_sector disk) bytes → GivesFrom start.content (last_sector start) bytes
-gives_last bytes start disk same h =
-    subst (λ (n : ℕ). GivesFrom start.content (n - 1) bytes) same.size (subst (λ (told : Option Content). GivesFrom told (last_sector disk) bytes) same.content h)
-
 not_done : {P : Type 0} → false ≡ true → P
 not_done h = absurd (let no : ⊥ = cc h in no)
-
--- ---- the metadata as they were read
-
-read_metadata : (start old new : DiskState) (m : Metadata) (read : Result Metadata ReadMetaFault) → Same start old → ReadsMetadata old read new → Ok m ≡ or_refusal read_refusal_of read → HasMetadata start m
-read_metadata start old new m (Ok found) same h is =
-    let one : found ≡ m = cc is in
-    let size = same.size in
-    let enough = h.enough in
-    record {
-      enough = omega arith;
-      found = record { bytes = h.bytes; whole = h.whole; told = gives_last h.bytes start old same h.told; read = subst (λ (x : Metadata). metadata_in h.bytes ≡ Ok x) one (sym h.answered) };
-    }
-read_metadata start old new m (Err fault) same h is = absurd (let no : ⊥ = cc is in no)
-
-has_metadata : (m : Metadata) (old new : Reach) → ReadsLastSector old (Ok m) new → HasMetadata old.disk m
-has_metadata m old new h = read_metadata old.disk old.disk new.disk m h.reads.read (same_self old.disk) h.reads.reads h.reads.answered
-
--- ---- what was loaded is what the words name
-
-answered : {T : Type 0} (answer_of : Files → Result T Refusal) (value : T) (told : Option Files) → IfSome told (λ files. IsAnswer (answer_of files) (Ok value)) → IfSome told (λ files. answer_of files ≡ Ok value)
-answered answer_of value None h = tt
-answered answer_of value (Some files) h = sym h
-
-named_first : {T : Type 0} (answer_of : Files → Result T Refusal) (value : T) (start old : Reach) → Before start old → IfSome old.cabinet.files (λ files. IsAnswer (answer_of files) (Ok value))
-    → IfSome start.cabinet.files (λ files. answer_of files ≡ Ok value)
-named_first answer_of value start old before told = subst (λ (told : Option Files). IfSome told (λ files. answer_of files ≡ Ok value)) before.files (answered answer_of value old.cabinet.files told)
-
-named_parts : (line : List ℕ) (words : KeyWords) (parts : Components) (start old new : Reach) → Before start old → LoadsComponents line words old (Ok parts) new → AreComponents start.cabinet.files line words parts
-named_parts line words parts start old new before h =
-    record { named = named_first (λ files. components_of files line words) parts start old before h.told; fits = h.fits }
-
-named_bytes : (line : List ℕ) (file : Span) (bytes : List ℕ) (start old new : Reach) → Before start old → LoadsFile line file old (Ok bytes) new → IsFile start.cabinet.files line file bytes
-named_bytes line file bytes start old new before h = named_first (λ files. file_answer file.word file_limit (files (bytes_at line file))) bytes start old before h.told
 
 -- ---- `setkey`
 
@@ -221,9 +179,9 @@ setkey_idle_left line iterations slot words fresh old answer new h =
     (λ found r6 b6 f6 n6.
     let asked : KeyChange = record { meta = m; master = found.0.bytes; slot = unwrap_or slot found.1; iterations = iterations; parts = next } in
     let begins : Begins Idle old.cabinet.files line iterations slot words fresh old.disk asked = record {
-      found = has_metadata m old r1 f1;
-      wraps = wraps_opened old.cabinet.files line words slot asked parts found (user_key parts m.salt m.iterations) (named_parts line words parts old r3 r4 b3 f4) refl f6.0 refl refl;
-      named = named_parts line fresh next old r4 r5 b4 f5;
+      found = reading_has old m r1 f1;
+      wraps = wraps_opened old.cabinet.files line words slot asked parts found (user_key parts m.salt m.iterations) (loading_parts line words old r3 parts r4 b3.files f4) refl f6.0 refl refl;
+      named = loading_parts line fresh old r4 next r5 b4.files f5;
       given = refl;
     } in
     stored_left Idle old.cabinet.files line iterations slot words fresh asked old.disk r6.disk n6.made new.disk answer b6.same begins n6.sets n6.answered)
@@ -241,7 +199,7 @@ setkey_attached_left line iterations slot holding target master words fresh old 
     (λ parts r4 b4 f4 n4.
     let asked : KeyChange = record { meta = m; master = master; slot = target; iterations = iterations; parts = parts } in
     let begins : Begins holding old.cabinet.files line iterations slot words fresh old.disk asked =
-    record { found = has_metadata m old r1 f1; wraps = wraps asked refl refl; named = named_parts line fresh parts old r3 r4 b3 f4; given = refl } in
+    record { found = reading_has old m r1 f1; wraps = wraps asked refl refl; named = loading_parts line fresh old r3 parts r4 b3.files f4; given = refl } in
     stored_left holding old.cabinet.files line iterations slot words fresh asked old.disk r4.disk n4.made new.disk answer b4.same begins n4.sets n4.answered)
     n3) n2) n1) h
 
@@ -299,7 +257,7 @@ delkey_by_left holding all force slot old answer new h =
     (λ m r1 b1 f1 n1. left_then Changes old (NamesSlots all (option_or slot (slot_of holding))) _ r1 answer new b1 (λ o a n q. early_decision o _ a n q)
     (λ which r2 b2 f2 n2.
     let asked : Deletion = record { meta = m; which = which; force = force } in
-    deletes_left holding all force slot asked old.disk r2 answer new b2.same (has_metadata m old r1 f1) (sym f2.0) refl n2)
+    deletes_left holding all force slot asked old.disk r2 answer new b2.same (reading_has old m r1 f1) (sym f2.0) refl n2)
     n1) h
 
 pub delkey_left : (all force : Bool) (slot : Option ℕ) (old : Reach) (answer : Result (Unit {0}) Refusal) (new : Reach) → DelkeyRow all force slot old answer new → Left (ClearsKeys old.holding all force slot) old.disk answer new.disk
@@ -350,7 +308,7 @@ init_left line options fresh backup old answer new h =
     let Changes : Change = PutsNew old.cabinet.files line options fresh in
     left_then Changes old NeedsIdle _ old answer new (before_all old) (λ o a n q. early_decision o _ a n q)
     (λ done r1 b1 f1 n1. left_then Changes old (LoadsComponents line fresh) _ r1 answer new b1 (early_loading line fresh)
-    (λ parts r2 b2 f2 n2. made_left old.cabinet.files line options fresh parts backup old.disk r2 n2.given n2.middle answer new b2.same (named_parts line fresh parts old r1 r2 b1 f2) n2.first.inits n2.next)
+    (λ parts r2 b2 f2 n2. made_left old.cabinet.files line options fresh parts backup old.disk r2 n2.given n2.middle answer new b2.same (loading_parts line fresh old r1 parts r2 b1.files f2) n2.first.inits n2.next)
     n1) h
 
 -- ---- `restore`
@@ -386,7 +344,7 @@ restore_left line file force old answer new h =
     let Changes : Change = PutsBack old.cabinet.files line file force in
     left_then Changes old NeedsIdle _ old answer new (before_all old) (λ o a n q. early_decision o _ a n q)
     (λ done r1 b1 f1 n1. left_then Changes old (LoadsFile line file) _ r1 answer new b1 (early_file line file)
-    (λ bytes r2 b2 f2 n2. written_left old.cabinet.files line file bytes force old.disk r2 n2.given n2.middle answer new b2.same (named_bytes line file bytes old r1 r2 b1 f2) n2.first.restores n2.next)
+    (λ bytes r2 b2 f2 n2. written_left old.cabinet.files line file bytes force old.disk r2 n2.given n2.middle answer new b2.same (loading_bytes line file old r1 bytes r2 b1.files f2) n2.first.restores n2.next)
     n1) h
 
 -- ---- `resize`

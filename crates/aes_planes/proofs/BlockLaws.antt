@@ -14,7 +14,7 @@ use Rattle.aes_core.proofs.Boxes.{agree_at}
 use Rattle.aes_core.proofs.Inverse.{IsState-xor, IsState-shift_rows, IsState-mix_columns, IsState-after_rounds, AreRoundKeys}
 use Rattle.aes_planes.proofs.RowLaws.{by_rows, mixed_rows_are, rows_xor, round_by_half, last_by_half}
 use Rattle.aes_planes.specs.Circuit.{run, outputs, sbox_gates, sbox_outputs}
-use Rattle.aes_planes.specs.Network.{on_vectors, transposing, transposed_places, steps_of}
+use Rattle.aes_planes.specs.Transposition.{on_vectors, transposing, transposed_places, steps_of}
 use Rattle.aes_planes.specs.Planes.{vector_ops, planes_of, with_next, others, mixed_planes, mixed_rows, rows, shift_in, shift_between, shift_out, turned, half_sub, AreLong}
 use Rattle.aes_planes.specs.Blocks.{from_bits, bit_in, block_at, vector_at, AreStates, added, AreOf}
 use Rattle.aes_planes.specs.declared.vectors.Planes.{Planes}

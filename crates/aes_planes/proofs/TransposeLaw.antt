@@ -13,7 +13,7 @@ use Rattle.aes_core.proofs.Boxes.{agree_at}
 use Rattle.aes_core.proofs.Inverse.{IsState, xor_swap}
 use Rattle.aes_planes.specs.Planes.{planes_of}
 use Rattle.aes_planes.specs.declared.vectors.Planes.{Planes}
-use Rattle.aes_planes.specs.Network.{Step, Add, Right, Left, Keep, Linear, step_of, steps_of, places_of, on_bytes, on_vectors, transposing, transposed_places}
+use Rattle.aes_planes.specs.Transposition.{Step, Add, Right, Left, Keep, Linear, step_of, steps_of, places_of, on_bytes, on_vectors, transposing, transposed_places}
 use Rattle.aes_planes.proofs.Truth.{bits_of}
 use Rattle.aes_planes.proofs.Hom.{Every, Every-get, Every-push, get_or-map_default, map-push}
 use Rattle.aes_planes.proofs.SubLaw.{from_bits, bit_in, block_at, bits_back, agree_lists}

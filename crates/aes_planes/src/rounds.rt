@@ -13,7 +13,7 @@ use crate::sboxes::{inverse_sub_bytes, sub_bytes};
 use crate::transposition::transposed;
 use crate::vectors::Planes;
 
-/// Enciphers eight blocks, one in each vector, with `count` rounds between the first and the last two.
+/// Enciphers eight blocks, one in each vector, with `count` rounds between the first and the last.
 #[inline(always)]
 pub fn encipher(round_keys: &[u8; 240], keys: &[KeyPlanes; 15], count: usize, q: Planes) -> Planes
     requires few { count < 13 }

@@ -2,7 +2,7 @@
 
 ghost use Rattle.std.specs.Prelude.{◌≡◌};
 ghost use Rattle.aes_planes.specs.Planes.{planes_of};
-ghost use Rattle.aes_planes.specs.Network.{on_vectors, transposing, transposed_places, steps_of, places_of};
+ghost use Rattle.aes_planes.specs.Transposition.{on_vectors, transposing, transposed_places, steps_of, places_of};
 
 use crate::vectors::Planes;
 use std::simd::prelude::*;

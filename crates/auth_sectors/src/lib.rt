@@ -1,7 +1,7 @@
 //! Device sectors of a GELI provider with authentication (geli(8), "DATA AUTHENTICATION"; g_eli_integrity.c).
 //!
 //! A piece is the part of a logical sector that stands in one device sector: a tag, the cipher text of the piece's plain
-//! bytes, and zeros, all under the keys of the device sector's own byte offset. No call takes memory.
+//! bytes, and zeros, all under the keys of the device sector's own byte offset. No call fails for want of memory.
 #![tactic(auto)]
 
 ghost use Rattle.std.specs.Prelude.{◌≡◌, ◌≢◌, ◌≤◌, ◌%◌, Ok, Err, MatchResult, length, replicate};

@@ -221,7 +221,7 @@ fn ring_of(
     Ok(KeyRing::new(alloc, &MasterKey { bytes }, &params)?)
 }
 
-// The plain bytes of a piece of `length` bytes at this offset.
+// The plain bytes of a piece at this offset.
 fn plain_bytes(offset: u64) -> [u8; 480] {
     let mut plain = [0u8; 480];
     for (i, byte) in plain.iter_mut().enumerate() {
@@ -317,7 +317,10 @@ fn turned_bits(rt: HostRuntime) -> Result<(), Fail> {
             assert!(rt; place < 512, "{auth:?} at {place}");
             turned[place] ^= 0x10;
             let mut out = [0xff; 32];
-            assert!(rt; ring.auth() != Auth::Off && 32 <= ring.auth().data_bytes());
+            assert!(rt;
+                ring.auth() != Auth::Off && 32 <= ring.auth().data_bytes(),
+                "{auth:?} at {place}"
+            );
             let answer = open_piece(&mut ring, 512, &turned, &mut out);
             assert_eq!(rt; answer.is_err(), is_looked_at, "{auth:?} at {place}");
             if let Err(mismatch) = answer {

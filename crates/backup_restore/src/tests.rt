@@ -79,8 +79,8 @@ fn the_first_511_bytes_come_back(rt: HostRuntime) -> Result<(), Fail> {
         let short = Refusal::BackupTooShort {
             length: length as u64,
         };
-        assert_eq!(rt; restore(&mut disk, &bytes, false), Err(short));
-        assert_eq!(rt; disk.history().len(), 0);
+        assert_eq!(rt; restore(&mut disk, &bytes, false), Err(short), "{length}");
+        assert_eq!(rt; disk.history().len(), 0, "{length}");
     }
     // The last byte of the sector isn't read.
     for (last, length) in [(0, 511), (0, 512), (0xff, 512), (0xff, 1_048_577)] {
@@ -168,7 +168,7 @@ fn failing_calls_leave_the_old_or_the_new(rt: HostRuntime) -> Result<(), Fail> {
     for (number, (kind, nth)) in calls.into_iter().enumerate() {
         for lands in [false, true] {
             let mut disk = MemDisk::new(alloc, 4, 8)?;
-            assert_eq!(rt; disk.sectors(), 4);
+            assert_eq!(rt; disk.sectors(), 4, "call {number}");
             let _ = disk.write(3, &OLD);
             disk.fail_calls(&[FailAt { kind, nth, lands }])?;
             let answer = restore(&mut disk, &sector(2048), false);
@@ -213,7 +213,7 @@ fn a_backup_is_the_last_sector(rt: HostRuntime) -> Result<(), Fail> {
     assert_eq!(rt; backup(&mut place, &mut out), Err(Refusal::DeviceFault));
     for (sectors, refusal) in [(1, Refusal::TooSmall { size: 512 }), (2, Refusal::BadMagic)] {
         let mut place = LastSector::new(MemDisk::new(alloc, sectors, 8)?);
-        assert_eq!(rt; backup(&mut place, &mut out), Err(refusal));
+        assert_eq!(rt; backup(&mut place, &mut out), Err(refusal), "{sectors}");
     }
     Ok(())
 }

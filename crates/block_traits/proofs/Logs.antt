@@ -1,6 +1,6 @@
 -- Events that are logged one after another.
 use Rattle.std.proofs.Common.{◌≡◌, ◌+◌, List, [], ◌∷◌, ◌++◌, length, take, refl, ap, ◌∙◌, sym, append_assoc, append-nil, arith, Option, Some, None, length-append}
-use Rattle.std.proofs.Math.Seq.{take-append-add, take-nil}
+use Rattle.std.proofs.Math.Seq.{take-append-add}
 use Rattle.std.proofs.lemmas.List.{take-append-le}
 use Rattle.block_traits.specs.declared.disk.Event.{Event}
 use Rattle.block_traits.specs.Content.{Content, logged}
@@ -74,6 +74,3 @@ FailsIn-part events left all {middle} {start} {new} continues fails = continues.
 -- where nothing is logged the content stays
 pub content-Logs : (old new : DiskState) → Logs [] old new → new.content ≡ old.content
 content-Logs old new logs = logs.content ∙ logged-none old.content
-
-pub content-FailsIn : (old new : DiskState) → FailsIn [] old new → new.content ≡ old.content
-content-FailsIn old new fails = content-Logs old new (rw (take-nil fails.count) at fails.logs)

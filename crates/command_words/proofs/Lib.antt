@@ -1,5 +1,4 @@
 mod Bounds
-pub mod Cuts
 mod Joining
 mod Numbers
 mod OperandsLemmas

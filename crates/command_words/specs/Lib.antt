@@ -9,5 +9,4 @@ pub mod Reading
 pub mod Pass
 pub mod Places
 pub mod Bounds
-pub mod Lines
 pub mod Images

@@ -6,7 +6,6 @@ mod commands;
 mod cursor;
 mod images;
 mod kinds;
-mod laws;
 mod lines;
 mod operands;
 mod pass;
@@ -17,7 +16,6 @@ mod values;
 
 pub use commands::{Command, Usage};
 pub use images::{ImageNames, images_of, joined, script_images};
-pub use laws::lines_are_cut;
 pub use lines::{command_in, read_line};
 pub use spans::{KeyWords, Sep, Span, SpanList};
 

@@ -1,9 +1,9 @@
-pub mod CabinetLemmas
+pub mod Cabinets
 pub mod ImageLemmas
-pub mod KeepingLemmas
+pub mod Keeping
 pub mod PlanLemmas
-pub mod ReplayLemmas
-pub mod StreamLemmas
+pub mod Replay
+pub mod Streams
 pub mod SurvivorLemmas
-pub mod TornLemmas
-pub mod WriteLemmas
+pub mod Tears
+pub mod Writes

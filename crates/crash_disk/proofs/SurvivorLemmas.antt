@@ -11,8 +11,8 @@ use Rattle.block_traits.proofs.Contents.{last_of-kept_values, some-kept_after}
 use Rattle.block_traits.proofs.Images.{IsTorn-image}
 use Rattle.crash_disk.specs.declared.survivor.Pick.{Pick}
 use Rattle.crash_disk.specs.Replay.{replayed}
-use Rattle.crash_disk.specs.Survivor.{AllGood, IsBad, IsGood, choice_of, is_picked, place_in}
-use Rattle.crash_disk.proofs.ReplayLemmas.{get_or-replayed, length-replayed}
+use Rattle.crash_disk.specs.Survivor.{AllGood, IsBad, IsGood, choice_of, is_picked, picked_place}
+use Rattle.crash_disk.proofs.Replay.{get_or-replayed, length-replayed}
 
 some-kept_values : (c : Content) (n : ℕ) → 0 < length (kept_values c n)
 some-kept_values c n = some-kept_after c.history n (get_or c.base n [] ∷ []) (omega arith)
@@ -34,35 +34,35 @@ IsImage-start c image is = record {
       ∙ ap (λ (bytes : List ℕ). Some bytes) (last_of-kept_values c n ∙ sym (ap (λ (l : List (List ℕ)). get_or l n []) is ∙ get_or-replayed c.base c.history n small));
 }
 
-place_in-append : (picks more : List Pick) (n other : ℕ) → place_in (picks ++ more) n other ≡ place_in picks n (place_in more n other)
-place_in-append [] more n other = refl
-place_in-append (pick ∷ picks) more n other = ap (cond (pick.n == n) pick.place) (place_in-append picks more n other)
+picked_place-append : (picks more : List Pick) (n other : ℕ) → picked_place (picks ++ more) n other ≡ picked_place picks n (picked_place more n other)
+picked_place-append [] more n other = refl
+picked_place-append (pick ∷ picks) more n other = ap (cond (pick.n == n) pick.place) (picked_place-append picks more n other)
 
 unpicked_at : (here later : Bool) (place rest other : ℕ) → (here || later) ≡ false → (later ≡ false → rest ≡ other) → cond here place rest ≡ other
 unpicked_at true later place rest other not_in behind = cc
 unpicked_at false later place rest other not_in behind = behind not_in
 
-place_in-unpicked : (picks : List Pick) (n other : ℕ) → is_picked n picks ≡ false → place_in picks n other ≡ other
-place_in-unpicked [] n other not_in = refl
-place_in-unpicked (pick ∷ picks) n other not_in = unpicked_at (pick.n == n) (is_picked n picks) pick.place (place_in picks n other) other not_in (place_in-unpicked picks n other)
+picked_place-unpicked : (picks : List Pick) (n other : ℕ) → is_picked n picks ≡ false → picked_place picks n other ≡ other
+picked_place-unpicked [] n other not_in = refl
+picked_place-unpicked (pick ∷ picks) n other not_in = unpicked_at (pick.n == n) (is_picked n picks) pick.place (picked_place picks n other) other not_in (picked_place-unpicked picks n other)
 
-place_in-more : (picks : List Pick) (i n other : ℕ) (pick : Pick) → i < length picks → pick ≡ get_or picks i pick → place_in (take (i + 1) picks) n other ≡ place_in (take i picks) n (cond (pick.n == n) pick.place other)
-place_in-more picks i n other pick small here =
-    ap (λ (ps : List Pick). place_in ps n other) (take_more picks i pick small ∙ ap (λ (p : Pick). take i picks ++ p ∷ []) (sym here))
-    ∙ place_in-append (take i picks) (pick ∷ []) n other
+picked_place-more : (picks : List Pick) (i n other : ℕ) (pick : Pick) → i < length picks → pick ≡ get_or picks i pick → picked_place (take (i + 1) picks) n other ≡ picked_place (take i picks) n (cond (pick.n == n) pick.place other)
+picked_place-more picks i n other pick small here =
+    ap (λ (ps : List Pick). picked_place ps n other) (take_more picks i pick small ∙ ap (λ (p : Pick). take i picks ++ p ∷ []) (sym here))
+    ∙ picked_place-append (take i picks) (pick ∷ []) n other
 
 choice_of-here : (c : Content) (picks : List Pick) (i : ℕ) (pick : Pick) → i < length picks → pick ≡ get_or picks i pick → is_picked pick.n (take i picks) ≡ false → choice_of c (take (i + 1) picks) pick.n ≡ pick.place
 choice_of-here c picks i pick small here not_in =
     let last = length (kept_values c pick.n) - 1 in
-    place_in-more picks i pick.n last pick small here
-    ∙ place_in-unpicked (take i picks) pick.n (cond (pick.n == pick.n) pick.place last) not_in
+    picked_place-more picks i pick.n last pick small here
+    ∙ picked_place-unpicked (take i picks) pick.n (cond (pick.n == pick.n) pick.place last) not_in
     ∙ cond-true (pick.n == pick.n) pick.place last (eq-eqb pick.n pick.n refl)
 
 choice_of-other : (c : Content) (picks : List Pick) (i n : ℕ) (pick : Pick) → i < length picks → pick ≡ get_or picks i pick → (pick.n ≡ n → ⊥) → choice_of c (take (i + 1) picks) n ≡ choice_of c (take i picks) n
 choice_of-other c picks i n pick small here other =
     let last = length (kept_values c n) - 1 in
-    place_in-more picks i n last pick small here
-    ∙ ap (place_in (take i picks) n) (cond-false (pick.n == n) pick.place last (ne_eqb pick.n n other))
+    picked_place-more picks i n last pick small here
+    ∙ ap (picked_place (take i picks) n) (cond-false (pick.n == n) pick.place last (ne_eqb pick.n n other))
 
 -- the next pick, which isn't bad
 pub IsImage-more : (c : Content) (picks : List Pick) (image : List (List ℕ)) (i : ℕ) (pick : Pick) (bytes : List ℕ) → i < length picks → pick ≡ get_or picks i pick

@@ -1,7 +1,6 @@
 pub mod Calls
 pub mod Count
 pub mod Image
-pub mod Keeping
 pub mod MemCabinet
 pub mod MemDisk
 pub mod Plan

@@ -2,7 +2,7 @@
 use Rattle.std.specs.Prelude.{◌≡◌, [], ◌∷◌}
 use Rattle.block_traits.specs.declared.disk.Event.{Event}
 use Rattle.block_traits.specs.Content.{Content, with_events}
-use Rattle.crash_disk.specs.declared.sectors.SectorLog.{SectorLog}
+use Rattle.crash_disk.specs.declared.sector_log.SectorLog.{SectorLog}
 use Rattle.crash_disk.specs.Replay.{content}
 
 abbrev pub content_of : SectorLog → Content

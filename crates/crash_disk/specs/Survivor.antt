@@ -1,6 +1,7 @@
 -- What a crash leaves of a disk in memory, where one value is picked in some sectors.
 use Rattle.std.specs.Prelude.{◌≡◌, ◌⊎◌, ℕ, ◌+◌, ◌-◌, ◌<◌, ◌≤◌, ◌==◌, ◌||◌, Bool, false, IsTrue, List, [], ◌∷◌, length, take, slice_get, get_or, Some, if◌then◌else◌}
-use Rattle.block_traits.specs.Content.{Content, kept_values}
+use Rattle.block_traits.specs.Content.{Content, kept_values, last_of}
+use Rattle.crash_disk.specs.declared.survivor.Keeping.{Keeping}
 use Rattle.crash_disk.specs.declared.survivor.Pick.{Pick}
 use Rattle.crash_disk.specs.declared.survivor.Torn.{Torn}
 use Rattle.crash_disk.specs.declared.survivor.SurvivorFault.{SurvivorFault}
@@ -12,13 +13,13 @@ is_picked n [] = false
 is_picked n (pick ∷ picks) = (pick.n == n) || is_picked n picks
 
 -- the place that is picked in sector n, or another
-abbrev pub place_in : List Pick → ℕ → ℕ → ℕ
-place_in [] n other = other
-place_in (pick ∷ picks) n other = if pick.n == n then pick.place else place_in picks n other
+abbrev pub picked_place : List Pick → ℕ → ℕ → ℕ
+picked_place [] n other = other
+picked_place (pick ∷ picks) n other = if pick.n == n then pick.place else picked_place picks n other
 
 -- the place of the value that is left in sector n: the one that is picked, or the last
 abbrev pub choice_of : Content → List Pick → ℕ → ℕ
-choice_of c picks n = place_in picks n (length (kept_values c n) - 1)
+choice_of c picks n = picked_place picks n (length (kept_values c n) - 1)
 
 -- its sector is past the end, was picked before, or has no value at the place
 abbrev pub IsBad : Content → List Pick → Pick → Type 0
@@ -82,3 +83,10 @@ abbrev pub IsFault : Content → List Pick → List Torn → SurvivorFault → T
 IsFault c picks torn (BadPick index) = IsFirstBad c picks index
 IsFault c picks torn (BadTorn index) = IsFirstBadTear c picks torn index
 IsFault c picks torn NoMemory = Unit {0}
+
+-- the last of these values, how many they are, and the one at a place: what is kept of a sector's values while its events are read
+pub record KeepsOf (values : List (List ℕ)) (place : ℕ) (keeping : Keeping) : Type 0 where
+  pub some : 0 < length values
+  pub last : keeping.last ≡ last_of values
+  pub count : keeping.count ≡ length values
+  pub found : keeping.found ≡ slice_get values place

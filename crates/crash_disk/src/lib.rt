@@ -11,7 +11,7 @@ mod mem_entropy;
 mod mem_sink;
 mod mem_source;
 mod plan;
-mod sectors;
+mod sector_log;
 mod sparse_crash;
 mod sparse_disk;
 mod survivor;

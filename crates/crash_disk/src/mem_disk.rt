@@ -5,7 +5,7 @@ ghost use Rattle.crash_disk.specs.Replay.{replayed};
 
 use crate::image::{image_sectors, zero_sectors};
 use crate::plan::{CallKind, FailAt, Plan};
-use crate::sectors::SectorLog;
+use crate::sector_log::SectorLog;
 use block_traits::{Disk, DiskFailed, Event, NoMemory, Sector};
 use std::alloc::{AllocError, Global};
 

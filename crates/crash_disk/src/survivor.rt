@@ -4,7 +4,7 @@ ghost use Rattle.std.specs.Bool.{OnTrue, OnFalse};
 ghost use Rattle.block_traits.specs.Content.{IsSector, at_moment, kept_after};
 ghost use Rattle.block_traits.specs.Crash.{IsImage, IsTorn};
 ghost use Rattle.crash_disk.specs.Replay.{content};
-ghost use Rattle.crash_disk.specs.Survivor.{AllGood, AllGoodTears, IsBad, IsBadTear, IsFault, IsGood, IsGoodTear, IsTornImage, choice_of, is_picked, is_torn};
+ghost use Rattle.crash_disk.specs.Survivor.{AllGood, AllGoodTears, IsBad, IsBadTear, IsFault, IsGood, IsGoodTear, IsTornImage, KeepsOf, choice_of, is_picked, is_torn};
 ghost use Rattle.crash_disk.specs.MemDisk.{fresh, state_of};
 ghost use Rattle.crash_disk.specs.declared.survivor.Torn.{Torn};
 
@@ -210,8 +210,6 @@ struct Keeping {
 }
 
 impl Keeping {
-    ghost use Rattle.crash_disk.specs.Keeping.{KeepsOf};
-
     fn new(value: Sector, place: u64) -> Keeping
         ensures { KeepsOf (value ∷ []) place result }
     {

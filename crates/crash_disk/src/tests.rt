@@ -47,8 +47,8 @@ fn disk_fails_at_its_listed_calls_and_without_room(rt: HostRuntime) -> Result<()
         (Step::Write(0), false),
         (Step::Flush, false),
     ];
-    for (step, done) in steps {
-        assert_eq!(rt; is_done(&mut disk, step), done);
+    for (number, (step, done)) in steps.into_iter().enumerate() {
+        assert_eq!(rt; is_done(&mut disk, step), done, "step {number}");
     }
     let nines = [9; 512];
     assert_eq!(rt;
@@ -74,12 +74,13 @@ fn streams_go_by_their_cuts(rt: HostRuntime) -> Result<(), Fail> {
         let given = source.take(&mut into).ok();
         assert_eq!(rt;
             given.and_then(|count| into.get(..count)),
-            want.map(|text| text.as_bytes())
+            want.map(|text| text.as_bytes()),
+            "{want:?}"
         );
     }
     let mut sink = MemSink::new(alloc, &[2, 0], &[3], 5)?;
     for want in [Some(2), Some(1), None, Some(2), None] {
-        assert_eq!(rt; sink.give(b"abc").ok(), want);
+        assert_eq!(rt; sink.give(b"abc").ok(), want, "{want:?}");
     }
     assert_eq!(rt; sink.give(b"").ok(), Some(0));
     assert_eq!(rt; sink.bytes(), b"abaab".as_slice());
@@ -111,7 +112,11 @@ fn cabinet_keeps_its_files(rt: HostRuntime) -> Result<(), Fail> {
     cabinet.fail_calls(&[2, 3])?;
     let loads = [("k", 4, None), ("k", 4, Some(LoadFault::Failed))];
     for (name, limit, fault) in loads {
-        assert_eq!(rt; cabinet.load(alloc, name.as_bytes(), limit).err(), fault);
+        assert_eq!(rt;
+            cabinet.load(alloc, name.as_bytes(), limit).err(),
+            fault,
+            "{name} {limit}"
+        );
     }
     assert_eq!(rt; cabinet.store(alloc, b"new", b"x"), Err(StoreFault::Failed));
     let loads = [
@@ -120,7 +125,11 @@ fn cabinet_keeps_its_files(rt: HostRuntime) -> Result<(), Fail> {
         ("k", 4, None),
     ];
     for (name, limit, fault) in loads {
-        assert_eq!(rt; cabinet.load(alloc, name.as_bytes(), limit).err(), fault);
+        assert_eq!(rt;
+            cabinet.load(alloc, name.as_bytes(), limit).err(),
+            fault,
+            "{name} {limit}"
+        );
     }
     assert_eq!(rt; cabinet.store(alloc, b"new", b"y"), Ok(()));
     assert!(rt; has(&cabinet, "new", "y"));
@@ -156,8 +165,9 @@ fn left(
 fn crash_leaves_what_is_picked_or_torn(rt: HostRuntime) -> Result<(), Fail> {
     let alloc = rt.alloc();
     let mut disk = MemDisk::new(alloc, 3, 8)?;
-    for step in [Step::Write(0), Step::Flush, Step::Write(1)] {
-        assert!(rt; is_done(&mut disk, step));
+    let steps = [Step::Write(0), Step::Flush, Step::Write(1)];
+    for (number, step) in steps.into_iter().enumerate() {
+        assert!(rt; is_done(&mut disk, step), "step {number}");
     }
     let pick = |n, place| Pick { n, place };
     let tear = |n| Torn { n, bytes: [5; 512] };

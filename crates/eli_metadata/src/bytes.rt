@@ -1,5 +1,5 @@
 // Little-endian numbers and bytes at places of a sector, read, and put there from its start on.
-ghost use Rattle.std.specs.Prelude.{◌≡◌, ◌<◌, ◌≤◌, ◌+◌, ◌^◌, ◌++◌, length, take, FitsSigned};
+ghost use Rattle.std.specs.Prelude.{◌≡◌, ◌<◌, ◌≤◌, ◌+◌, ◌^◌, ◌++◌, drop, length, take, FitsSigned};
 ghost use Rattle.std.specs.Int.{w32};
 ghost use Rattle.eli_metadata.specs.Format.{number_at, number_bytes, signed_at, signed_bytes};
 
@@ -42,10 +42,11 @@ pub fn u64_at(from: &Sector, place: usize) -> u64
     LittleEndian::read_u64(&from[place..place + 8])
 }
 
-/// Puts bytes at a place. What stands before them stays.
+/// Puts bytes at a place. What stands before and behind them stays.
 pub fn put(into: &mut [u8], place: usize, bytes: &[u8])
     requires { place + length bytes.now ≤ length into.old }
-    ensures { take (place + length bytes.now) into.new ≡ take place into.old ++ bytes.now }
+    ensures bytes { take (place + length bytes.now) into.new ≡ take place into.old ++ bytes.now }
+    ensures behind { drop (place + length bytes.now) into.new ≡ drop (place + length bytes.now) into.old }
 {
     into[place..place + bytes.len()].copy_from_slice(bytes);
 }

@@ -1,6 +1,6 @@
 pub mod Asked
 pub mod FileDisk
-pub mod Files
+pub mod FileCabinet
 pub mod Found
 pub mod ImageFile
 pub mod Kept

@@ -2,7 +2,7 @@
 ghost use Rattle.std.specs.Prelude.{◌≡◌, ◌≤◌, None, IfOk, IsErrOf, length};
 ghost use Rattle.std.specs.IoError.{error_kind};
 ghost use Rattle.block_traits.specs.Causes.{Rose};
-ghost use Rattle.file_edge.specs.Files.{LoadsNamed, ReadAnswers, fault_of};
+ghost use Rattle.file_edge.specs.FileCabinet.{LoadsNamed, ReadAnswers, fault_of};
 ghost use Rattle.file_edge.specs.Storing.{StoresFile};
 
 use crate::found::{FileId, is_image};

@@ -68,7 +68,7 @@ fn a_file_is_a_disk(rt: HostRuntime) -> Result<(), Fail> {
             2 => 3,
             _ => 7,
         };
-        assert_eq!(rt; *byte, expected);
+        assert_eq!(rt; *byte, expected, "byte {place}");
     }
     fs::remove_file(&rt, name)?;
     let mut absent = disk_of(&mut files, "no_such_file");
@@ -232,10 +232,13 @@ fn an_image_is_no_file_of_the_cabinet(rt: HostRuntime) -> Result<(), Fail> {
     }
     let mut files = FileCabinet::new(opener, images);
     for name in ["spared_test.soft", "spared_test.hard", "spared_test.img"] {
-        assert!(rt; files.store(alloc, name.as_bytes(), b"new").is_err());
+        assert!(rt;
+            files.store(alloc, name.as_bytes(), b"new").is_err(),
+            "{name}"
+        );
         let loaded = files.load(alloc, name.as_bytes(), 4096);
-        assert_eq!(rt; loaded.err(), Some(LoadFault::Failed));
-        assert_eq!(rt; fs::read(&rt, name)?.as_slice(), bytes.as_slice());
+        assert_eq!(rt; loaded.err(), Some(LoadFault::Failed), "{name}");
+        assert_eq!(rt; fs::read(&rt, name)?.as_slice(), bytes.as_slice(), "{name}");
         fs::remove_file(&rt, name)?;
     }
     Ok(())
@@ -499,7 +502,8 @@ fn a_store_stops_at_the_first_failure(rt: HostRuntime) -> Result<(), Fail> {
             asked: Vec::new(alloc),
             refusals: 0,
         };
-        assert_eq!(rt; store_file(&mut files, alloc, &[], b"a", b"bytes"), ended);
+        let stored = store_file(&mut files, alloc, &[], b"a", b"bytes");
+        assert_eq!(rt; stored, ended, "{asked}");
         let mut letters = Vec::new(alloc);
         for kept in &files.asked {
             letters.push(letter(&kept.ask))?;

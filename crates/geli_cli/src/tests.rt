@@ -64,7 +64,11 @@ fn an_image_that_another_run_holds_is_only_read(rt: HostRuntime) -> Result<(), F
         (makes, Status::SomeRefused),
     ] {
         assert_eq!(rt; status_of(&rt, line)?, status, "at {line}");
-        assert_eq!(rt; fs::read(&rt, "held.img")?.as_slice(), made.as_slice());
+        assert_eq!(rt;
+            fs::read(&rt, "held.img")?.as_slice(),
+            made.as_slice(),
+            "at {line}"
+        );
     }
     fs::remove_file(&rt, "held.img")?;
     fs::remove_file(&rt, "held.key")?;
@@ -85,16 +89,20 @@ fn an_image_is_no_key_and_no_backup(rt: HostRuntime) -> Result<(), Fail> {
         "init -P -K spared.hard spared.img",
         "init -P -K spared.soft spared.img",
     ] {
-        assert_eq!(rt; status_of(&rt, line)?, Status::SomeRefused);
-        assert_eq!(rt; fs::read(&rt, "spared.img")?.as_slice(), zeros.as_slice());
+        assert_eq!(rt; status_of(&rt, line)?, Status::SomeRefused, "at {line}");
+        assert_eq!(rt;
+            fs::read(&rt, "spared.img")?.as_slice(),
+            zeros.as_slice(),
+            "at {line}"
+        );
     }
     for line in [
         "init -P -K spared.key -B spared.img spared.img",
         "init -P -K spared.key -B spared.hard spared.img",
         "init -P -K spared.key -B spared.soft spared.img",
     ] {
-        assert_eq!(rt; status_of(&rt, line)?, Status::SomeRefused);
-        assert_eq!(rt; fs::read(&rt, "spared.img")?.len(), 1536);
+        assert_eq!(rt; status_of(&rt, line)?, Status::SomeRefused, "at {line}");
+        assert_eq!(rt; fs::read(&rt, "spared.img")?.len(), 1536, "at {line}");
     }
     let line = "init -P -K spared.key -B spared.old spared.img";
     assert_eq!(rt; status_of(&rt, line)?, Status::Done);

@@ -66,12 +66,24 @@ fn flipped(byte: usize, place: u32) -> Sector {
 fn each_bit_is_refused_by_its_table(rt: HostRuntime) -> Result<(), Fail> {
     for bit in 0..4096usize {
         let sector = flipped(bit / 8, (bit % 8) as u32);
-        assert_eq!(rt; Some(number_of(&sector)), expected(&AS_THEY_STAND, bit));
+        assert_eq!(rt;
+            Some(number_of(&sector)),
+            expected(&AS_THEY_STAND, bit),
+            "bit {bit}"
+        );
         if bit < 3960 {
             let anew = hashed(&sector);
-            assert_eq!(rt; Some(number_of(&anew)), expected(&HASHED_ANEW, bit));
+            assert_eq!(rt;
+                Some(number_of(&anew)),
+                expected(&HASHED_ANEW, bit),
+                "bit {bit}"
+            );
         } else {
-            assert_eq!(rt; Some(number_of(&sector)), expected(&HASHED_ANEW, bit));
+            assert_eq!(rt;
+                Some(number_of(&sector)),
+                expected(&HASHED_ANEW, bit),
+                "bit {bit}"
+            );
         }
     }
     Ok(())

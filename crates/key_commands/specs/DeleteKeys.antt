@@ -32,7 +32,7 @@ pub record Overwrites (asked : Deletion) (disk disk' : DiskState) : Type 0 where
   pub kept : KeepsOldOr (HasNoKey asked.meta asked.which) (last_sector disk) disk.content disk'.content
   pub flushed : AtEachMoment (HoldsOnceFlushed (HasNoKey asked.meta asked.which) (last_sector disk)) disk.content disk'.content
 
--- these are the metadata with zeros in the named slots, which are clear; they are read again, and the other slot is kept
+-- these are the metadata with zeros in the named slots, which are clear; they are read again where their version is one that is read, and the other slot is kept
 pub record IsWithout (asked : Deletion) (m : Metadata) : Type 0 where
   pub metadata : m ≡ without_keys asked.meta asked.which (zeros (named_size asked.which))
   pub read : IsTrue (is_served m.version m.flags) → metadata_in (encoded m) ≡ Ok m

@@ -1,7 +1,7 @@
 //! An attached GELI provider over any disk: what is written is sealed sector by sector, and what is read is
 //! opened (geli(8); g_eli.c).
 //!
-//! Data may be authenticated or not. No call after `attach` takes memory.
+//! Data may be authenticated or not. No call after `attach` fails for want of memory.
 #![tactic(auto)]
 
 mod attaching;

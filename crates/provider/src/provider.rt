@@ -70,8 +70,8 @@ impl<D: Disk> Provider<D> {
     /// `params` are those that `check` gave of the metadata, and both gates let this disk and this slot through.
     ///
     /// The disk comes back with the fault. In this order: `TooSmall`, exactly where the disk has no whole logical sector;
-    /// `WrongKey`, exactly where no slot that is asked for opens; `NoMemory`. No call of the disk is made. The memory of
-    /// all later calls is reserved here: the keys, and without authentication a buffer of one logical sector.
+    /// `WrongKey`, exactly where no slot that is asked for opens; `NoMemory`. No call of the disk is made. The memory that
+    /// later calls can't do without is reserved here: the keys, and without authentication a buffer of one logical sector.
     pub fn attach(
         alloc: Global,
         disk: D,

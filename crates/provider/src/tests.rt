@@ -484,11 +484,16 @@ fn third_write_fails(rt: HostRuntime) -> Result<(), Fail> {
         let mut provider = attached(&rt, alloc, disk, &meta, false);
         assert_eq!(rt;
             write(&rt, &mut provider, 0, &[7; 4096]),
-            Err(WriteFault::DeviceFault)
+            Err(WriteFault::DeviceFault),
+            "lands {lands}"
         );
-        assert_eq!(rt; write(&rt, &mut provider, 0, &[7; 4096]), Ok(()));
+        assert_eq!(rt;
+            write(&rt, &mut provider, 0, &[7; 4096]),
+            Ok(()),
+            "lands {lands}"
+        );
         let disk = provider.withdraw();
-        assert!(rt; are_writes_of(disk.history(), numbers));
+        assert!(rt; are_writes_of(disk.history(), numbers), "lands {lands}");
     }
     Ok(())
 }
@@ -561,8 +566,8 @@ fn digest_of(rt: &impl Abort, disk: &mut MemDisk, sectors: u64) -> [u8; 32] {
     let mut digest = Sha256::new();
     let mut bytes = [0; 512];
     for n in 0..sectors {
-        assert!(rt; n < disk.sectors());
-        assert!(rt; disk.read(n, &mut bytes).is_ok());
+        assert!(rt; n < disk.sectors(), "sector {n}");
+        assert!(rt; disk.read(n, &mut bytes).is_ok(), "sector {n}");
         digest.update(&bytes);
     }
     digest.finalize()
@@ -615,7 +620,7 @@ fn images_by_another_program(rt: HostRuntime) -> Result<(), Fail> {
     for (aalgo, ealgo, keylen, digests) in IMAGES {
         let mut size = 512;
         for expected in digests {
-            assert!(rt; size <= plain.len());
+            assert!(rt; size <= plain.len(), "{size}");
             let found = image_of(&rt, alloc, aalgo, ealgo, keylen, &plain[..size])?;
             assert_eq!(rt; found, expected, "{aalgo} {ealgo} {keylen} {size}");
             size *= 2;
@@ -665,7 +670,10 @@ fn read_back_by_each_slot(rt: HostRuntime) -> Result<(), Fail> {
     ] {
         for aalgo in [0, 18, 19, 20] {
             let units = units_of(aalgo, 1024);
-            assert!(rt; units < 10 && (keylen == 128 || keylen == 192 || keylen == 256));
+            assert!(rt;
+                units < 10 && (keylen == 128 || keylen == 192 || keylen == 256),
+                "{aalgo} {ealgo} {keylen}"
+            );
             let meta = tagged(keyed(ealgo, keylen, 1024, 512 * (2 * units + 1)), aalgo);
             let disk: Box<dyn Disk> = Box::new(alloc, MemDisk::new(alloc, 2 * units + 1, 64)?)?;
             let disk = rewritten(&rt, alloc, disk, &meta, 0, false, None, 1);
@@ -673,7 +681,10 @@ fn read_back_by_each_slot(rt: HostRuntime) -> Result<(), Fail> {
             let disk = rewritten(&rt, alloc, disk, &meta, 1, false, Some(2), 3);
             let disk = rewritten(&rt, alloc, disk, &meta, 1, true, Some(3), 4);
             let wrong = attached_by(&rt, alloc, disk, &meta, &OTHER_KEY, Some(0), false);
-            assert!(rt; matches!(wrong, Err(AttachFault::WrongKey)));
+            assert!(rt;
+                matches!(wrong, Err(AttachFault::WrongKey)),
+                "{aalgo} {ealgo} {keylen}"
+            );
         }
     }
     Ok(())
@@ -765,9 +776,10 @@ fn fresh_units(rt: HostRuntime) -> Result<(), Fail> {
         let mut two = [9; 1024];
         assert_eq!(rt;
             read(&rt, &mut provider, sector, &mut two),
-            Err(ReadFault::Integrity { offset })
+            Err(ReadFault::Integrity { offset }),
+            "sector {sector}"
         );
-        assert!(rt; two == [0; 1024]);
+        assert!(rt; two == [0; 1024], "sector {sector}");
     }
     assert!(rt; are_writes_of(provider.withdraw().history(), &[2, 3]));
     Ok(())
@@ -831,7 +843,7 @@ fn turned_bits(rt: HostRuntime) -> Result<(), Fail> {
         (20, 2, Some(192), false),
         (20, 2, None, true),
     ] {
-        assert!(rt; n < 4);
+        assert!(rt; n < 4, "sector {n}");
         let expected = if is_looked_at {
             Err(ReadFault::Integrity { offset: 512 * n })
         } else {
@@ -870,14 +882,18 @@ fn faults_in_order(rt: HostRuntime) -> Result<(), Fail> {
             lands: false,
         }])?;
         let mut provider = attached(&rt, alloc, disk, &meta, false);
-        assert_eq!(rt; write(&rt, &mut provider, 0, &[7; 1024]), Ok(()));
+        assert_eq!(rt;
+            write(&rt, &mut provider, 0, &[7; 1024]),
+            Ok(()),
+            "read {nth}"
+        );
         let mut into = [9; 1536];
         assert_eq!(rt;
             read(&rt, &mut provider, 0, &mut into),
             Err(first),
             "read {nth}"
         );
-        assert!(rt; into == [0; 1536]);
+        assert!(rt; into == [0; 1536], "read {nth}");
         assert_eq!(rt;
             read(&rt, &mut provider, 0, &mut into),
             Err(second),

@@ -4,11 +4,11 @@ use Rattle.block_traits.specs.Content.{Content, IsContentOf}
 use Rattle.block_traits.specs.Crash.{IsTorn, IsUnsettled}
 use Rattle.eli_base.specs.Keying.{Keying}
 use Rattle.range_keys.specs.Ring.{IsKeying}
-use Rattle.sealing.specs.Sectors.{units}
+use Rattle.sealing.specs.Sectors.{unit_place, units}
 use Rattle.readings.specs.Writings.{PutUnit, Writing, Put}
 use Rattle.readings.specs.Steps.{Step, cell}
 use Rattle.readings.specs.Read.{Matches, read_unit, writing_in}
-use Rattle.readings.specs.Survivors.{AreSteps, ReadFromCells, ReadsAsPut, media, moment, place_of}
+use Rattle.readings.specs.Survivors.{AreSteps, ReadFromCells, ReadsAsPut, media, moment}
 use Rattle.readings.specs.Ever.{ever}
 use Rattle.readings.specs.Crashes.{Endures, IsFlushed, ReadsWithCauses, image_unit}
 use Rattle.readings.proofs.Readings.{unit_readings-read}
@@ -29,14 +29,14 @@ causes k sector cells may known image is fits from = record {
   fault = λ j offset lt e.
       let c = fault-cause k sector j from.writings offset is from.fits lt (sym (unit-from k sector j cells may image is lt from) ∙ e) in
       record { tagged = c.1; place = c.2; writing = writing_in from.writings j; stands = from.each j lt; not_put = c.0 };
-  accepted = λ on j lt. tagged-image k sector j image (known (place_of k sector j)) on fits lt;
+  accepted = λ on j lt. tagged-image k sector j image (known (unit_place k sector j)) on fits lt;
 }
 
 flushed-reads : (c : Content) (steps : List Step) (t : ℕ) (k : Keying) (sector j : ℕ) (p : PutUnit) (image : List (List ℕ))
-    → IsContentOf (length c.base) c → AreSteps steps → IsKeying k → sector < media k c → j < units k → IsFlushed (take t steps) (place_of k sector j) (Put p)
+    → IsContentOf (length c.base) c → AreSteps steps → IsKeying k → sector < media k c → j < units k → IsFlushed (take t steps) (unit_place k sector j) (Put p)
     → Matches k sector j (Put p) p → IsTorn (moment t steps c) image → ReadsAsPut k p (image_unit k sector image j)
 flushed-reads c steps t k sector j p image content are is below lt f m torn =
-    let n : ℕ = place_of k sector j in
+    let n : ℕ = unit_place k sector j in
     let one : cell c (take t steps) n ≡ Put p ∷ [] = ap (λ (l : List Step). cell c l n) f.are ∙ cell-flushed c f.earlier f.between f.since n (Put p) f.last f.still in
     settled-reads c (take t steps) image k sector j p content (AreSteps-take t steps are) is below lt
     (subst (λ (d : Content). IsTorn d image) (moment-after t steps c) torn) one m

@@ -14,13 +14,13 @@ use Rattle.block_traits.proofs.Contents.{last_of-kept_values}
 use Rattle.range_keys.specs.Ring.{IsKeying}
 use Rattle.sealing.specs.Runs.{opened_run}
 use Rattle.sealing.specs.Pieces.{kept_tag, tag_of}
-use Rattle.sealing.specs.Sectors.{units, piece_reading, unit_readings}
+use Rattle.sealing.specs.Sectors.{unit_place, units, piece_reading, unit_readings}
 use Rattle.sealing.proofs.Pieces.{unit_reading-piece}
 use Rattle.readings.specs.Writings.{PutUnit, Writing, Put, Raw, AreWritings, device_bytes, all_device_bytes, plain_bytes}
 use Rattle.readings.specs.Steps.{Step, Place, Flush, after, last_writing, cell_after, cell}
 use Rattle.readings.specs.Read.{Matches, matching, writing_in, opened_unit, bytes_of, are_chained, loses_front, unit_from, read_unit, read}
 use Rattle.readings.specs.Ever.{placed_at, cipher_text_at, is_accepted, ReadsAsOneOf, IsForged}
-use Rattle.readings.specs.Survivors.{place_of, sectors_in, sectors_now, last_writings, media, placed, AreSteps, IsOfCell, IsStrange, ReadsAsPut}
+use Rattle.readings.specs.Survivors.{sectors_in, sectors_now, last_writings, media, placed, AreSteps, IsOfCell, IsStrange, ReadsAsPut}
 use Rattle.readings.proofs.Cells.{kept_values-cell, last_of-device_bytes}
 use Rattle.readings.proofs.Matching.{matching-matches}
 use Rattle.readings.proofs.Plain.{opened_unit-off}
@@ -74,15 +74,15 @@ map-each f g (j ∷ js) same = λ i. same j i ∷ map-each f g js same i
 pub now-reads : (c : Content) (steps : List Step) (k : Keying) (sector : ℕ) → IsContentOf (length c.base) c → AreSteps steps → IsKeying k → sector < media k c
     → unit_readings k sector (sectors_now k sector (after steps c)) ≡ read k sector (last_writings k sector (cell c steps))
 now-reads c steps k sector content are is below =
-    let last : ℕ → Writing = λ j. last_writing (cell c steps (place_of k sector j)) in
+    let last : ℕ → Writing = λ j. last_writing (cell c steps (unit_place k sector j)) in
     let ws : List Writing = last_writings k sector (cell c steps) in
     let fits = room (units k) sector (length c.base) (some-units k is) below in
     let count : length ws ≡ units k = length-map-range_with_len last 0 (units k) in
     let all : All (Fits (placed steps)) ws = All-from_get_or (Fits (placed steps)) ws (Raw []) (λ j lt.
     let inside : j < units k = omega arith in
     subst (Fits (placed steps)) (sym (get_or-map-range_with_len last 0 (units k) j j (Raw []) inside (omega arith)))
-    (All-last (Fits (placed steps)) (cell c steps (place_of k sector j)) (some-cell c steps (place_of k sector j)) (Fits-cell c steps (place_of k sector j) content (omega arith) are))) in
-    ap (unit_readings k sector) (map-each (λ j. present (after steps c) (place_of k sector j)) last (range_with_len 0 (units k)) (λ j. present-cell c steps (place_of k sector j)))
+    (All-last (Fits (placed steps)) (cell c steps (unit_place k sector j)) (some-cell c steps (unit_place k sector j)) (Fits-cell c steps (unit_place k sector j) content (omega arith) are))) in
+    ap (unit_readings k sector) (map-each (λ j. present (after steps c) (unit_place k sector j)) last (range_with_len 0 (units k)) (λ j. present-cell c steps (unit_place k sector j)))
     ∙ unit_readings-read k sector ws is (AreWritings-fit k steps ws are count all)
 
 -- ---- what was flushed
@@ -140,12 +140,12 @@ only-stands c steps n p there w one (inr h) =
 
 pub settled-reads : (c : Content) (steps : List Step) (image : List (List ℕ)) (k : Keying) (sector j : ℕ) (p : PutUnit)
     → IsContentOf (length c.base) c → AreSteps steps → IsKeying k → sector < media k c → j < units k → IsTorn (after steps c) image
-    → cell c steps (place_of k sector j) ≡ Put p ∷ [] → Matches k sector j (Put p) p
+    → cell c steps (unit_place k sector j) ≡ Put p ∷ [] → Matches k sector j (Put p) p
     → ReadsAsPut k p (get_or (unit_readings k sector (sectors_in k sector image)) j (Ok []))
 settled-reads c steps image k sector j p content are is below lt torn one m =
     let r = torn-reads c (after steps c) steps image k sector refl content are is below torn in
     let ws : List Writing = r.writings in
-    let stands = only-stands c steps (place_of k sector j) p (get_or image (place_of k sector j) []) (writing_in ws j) one (r.each j lt) in
+    let stands = only-stands c steps (unit_place k sector j) p (get_or image (unit_place k sector j) []) (writing_in ws j) one (r.each j lt) in
     let matches : Matches k sector j (writing_in ws j) p = record { is = stands; keying = m.keying; of_sector = m.of_sector; unit = m.unit } in
     subst (λ (l : List (Result (List ℕ) ℕ)). ReadsAsPut k p (get_or l j (Ok []))) (unit_readings-read k sector ws is r.fits ∙ sym r.readings)
     (put-reads k sector j ws p is r.fits lt matches)
@@ -162,18 +162,18 @@ fault-offset true plain own offset r is e = absurd (cc (is, e))
 fault-offset false plain own offset r is e = cc (is, e)
 
 tagged_alone : (k : Keying) (sector j : ℕ) (ws : List Writing) (offset : ℕ) → j < units k → length ws ≡ units k → opened_unit k sector ws j ≡ Err offset
-    → (k.auth ≢ Off) × (offset ≡ 512 * place_of k sector j)
+    → (k.auth ≢ Off) × (offset ≡ 512 * unit_place k sector j)
 tagged_alone k sector j ws offset lt count e = elim (off_or_not k.auth) [
   | inl off ↦ absurd (cc (opened_unit-off k sector j ws off lt, e))
   | inr on ↦
-      let n : ℕ = place_of k sector j in
+      let n : ℕ = unit_place k sector j in
       let bytes : List ℕ = get_or (all_device_bytes ws) j [] in
       let piece = unit_reading-piece k sector j (all_device_bytes ws) on (length-map ws device_bytes ∙ count) lt in
       (on, fault-offset (is_accepted k n bytes) (opened_run k (512 * n) (cipher_text_at k n bytes)) (512 * n) offset (opened_unit k sector ws j) piece e)
 ]
 
 pub fault-cause : (k : Keying) (sector j : ℕ) (ws : List Writing) (offset : ℕ) → IsKeying k → AreWritings k ws → j < units k → read_unit k sector ws j ≡ Err offset
-    → (matching k sector j (writing_in ws j) ≡ None) × (k.auth ≢ Off) × (offset ≡ 512 * place_of k sector j)
+    → (matching k sector j (writing_in ws j) ≡ None) × (k.auth ≢ Off) × (offset ≡ 512 * unit_place k sector j)
 fault-cause k sector j ws offset is are lt e =
     let tagged = tagged_alone k sector j ws offset lt are.count (opened_unit-read k sector j ws is are lt ∙ e) in
     (ok_is_no_fault k j (matching k sector j (writing_in ws j)) (matching k sector (j - 1) (writing_in ws (j - 1))) (opened_unit k sector ws j) offset e, tagged.0, tagged.1)
@@ -181,10 +181,10 @@ fault-cause k sector j ws offset is are lt e =
 -- ---- any image, with authentication
 
 pub tagged-image : (k : Keying) (sector j : ℕ) (image : List (List ℕ)) (ever : List Writing) → k.auth ≢ Off → sector * units k + units k ≤ length image → j < units k
-    → let n = place_of k sector j in let there = get_or image n [] in let reading = get_or (unit_readings k sector (sectors_in k sector image)) j (Ok []) in
+    → let n = unit_place k sector j in let there = get_or image n [] in let reading = get_or (unit_readings k sector (sectors_in k sector image)) j (Ok []) in
     (reading ≡ Err (512 * n)) ⊎ ((reading ≡ piece_reading k n there) × (ReadsAsOneOf k n there ever ⊎ IsForged k n there ever))
 tagged-image k sector j image ever on fits lt =
-    let n : ℕ = place_of k sector j in
+    let n : ℕ = unit_place k sector j in
     let there : List ℕ = get_or image n [] in
     let rest : List (List ℕ) = drop (sector * units k) image in
     let left = length-drop (sector * units k) image in

@@ -13,11 +13,11 @@ use Rattle.block_traits.specs.Crash.{HoldsKept, IsUnsettled, IsImage, IsTorn, Is
 use Rattle.block_traits.proofs.Contents.{All-kept_values, some-kept_after}
 use Rattle.eli_base.specs.Keying.{Keying}
 use Rattle.range_keys.specs.Ring.{IsKeying}
-use Rattle.sealing.specs.Sectors.{units, unit_readings}
+use Rattle.sealing.specs.Sectors.{unit_place, units, unit_readings}
 use Rattle.readings.specs.Writings.{PutUnit, Writing, Put, Raw, IsWriting, AreWritings, device_bytes, all_device_bytes}
 use Rattle.readings.specs.Steps.{Step, Place, Flush, event_of, events_of, after, last_writing, cell_after, cell}
 use Rattle.readings.specs.Read.{read, writing_in}
-use Rattle.readings.specs.Survivors.{place_of, sectors_in, media, moment, placed, AreSteps, chosen, IsOfCell, IsStrange, ReadFromCells}
+use Rattle.readings.specs.Survivors.{sectors_in, media, moment, placed, AreSteps, chosen, IsOfCell, IsStrange, ReadFromCells}
 use Rattle.readings.proofs.Cells.{kept_values-cell}
 use Rattle.readings.proofs.Forged.{same_bytes, found}
 use Rattle.readings.proofs.Readings.{unit_readings-read}
@@ -96,7 +96,7 @@ pub some-units : (k : Keying) → IsKeying k → 0 < units k
 some-units k is = omega arith
 
 all_bytes-there : (k : Keying) (sector : ℕ) (image : List (List ℕ)) (ws : List Writing) → sector * units k + units k ≤ length image → length ws ≡ units k
-    → ((j : ℕ) → j < units k → device_bytes (writing_in ws j) ≡ get_or image (place_of k sector j) []) → sectors_in k sector image ≡ all_device_bytes ws
+    → ((j : ℕ) → j < units k → device_bytes (writing_in ws j) ≡ get_or image (unit_place k sector j) []) → sectors_in k sector image ≡ all_device_bytes ws
 all_bytes-there k sector image ws fits count each =
     let rest : List (List ℕ) = drop (sector * units k) image in
     let left = length-drop (sector * units k) image in
@@ -109,7 +109,7 @@ all_bytes-there k sector image ws fits count each =
     ∙ sym (get_or-map device_bytes ws j (Raw []) [] (omega arith) ∙ each j small))
 
 reads : (k : Keying) (sector : ℕ) (image : List (List ℕ)) (steps : List Step) (ws : List Writing) → IsKeying k → AreSteps steps → sector * units k + units k ≤ length image
-    → length ws ≡ units k → All (Fits (placed steps)) ws → ((j : ℕ) → j < units k → device_bytes (writing_in ws j) ≡ get_or image (place_of k sector j) [])
+    → length ws ≡ units k → All (Fits (placed steps)) ws → ((j : ℕ) → j < units k → device_bytes (writing_in ws j) ≡ get_or image (unit_place k sector j) [])
     → unit_readings k sector (sectors_in k sector image) ≡ read k sector ws
 reads k sector image steps ws is are fits count all each =
     ap (unit_readings k sector) (all_bytes-there k sector image ws fits count each)
@@ -136,20 +136,20 @@ pub image-reads : (c now : Content) (steps : List Step) (choice : ℕ → ℕ) (
     → unit_readings k sector (sectors_in k sector image) ≡ read k sector (chosen k sector (cell c steps) choice)
 image-reads c now steps choice image k sector is_now content are is below image_is =
     let ws : List Writing = chosen k sector (cell c steps) choice in
-    let pick : ℕ → Writing = λ j. writing_in (cell c steps (place_of k sector j)) (choice (place_of k sector j)) in
+    let pick : ℕ → Writing = λ j. writing_in (cell c steps (unit_place k sector j)) (choice (unit_place k sector j)) in
     let base : length now.base ≡ length c.base = ap (λ (d : Content). length d.base) is_now in
     let fits = room (units k) sector (length c.base) (some-units k is) below in
     let size = image_is.size in
     let count : length ws ≡ units k = length-map-range_with_len pick 0 (units k) in
     let at = λ (j : ℕ) (lt : j < units k). let same : writing_in ws j ≡ pick j = get_or-map-range_with_len pick 0 (units k) j j (Raw []) lt (omega arith) in same in
-    let small = λ (j : ℕ) (lt : j < units k). let h : place_of k sector j < length c.base = omega arith in h in
-    let there = λ (j : ℕ) (lt : j < units k). chosen-there c now steps choice image (place_of k sector j) is_now image_is (omega (arith, small j lt)) in
+    let small = λ (j : ℕ) (lt : j < units k). let h : unit_place k sector j < length c.base = omega arith in h in
+    let there = λ (j : ℕ) (lt : j < units k). chosen-there c now steps choice image (unit_place k sector j) is_now image_is (omega (arith, small j lt)) in
     reads k sector image steps ws is are (omega arith) count
     (All-from_get_or (Fits (placed steps)) ws (Raw []) (λ j lt.
     let inside : j < units k = omega arith in
     subst (Fits (placed steps)) (sym (at j inside))
-    (All-get_or (Fits (placed steps)) (cell c steps (place_of k sector j)) (choice (place_of k sector j)) (Raw []) (there j inside).0
-    (Fits-cell c steps (place_of k sector j) content (small j inside) are))))
+    (All-get_or (Fits (placed steps)) (cell c steps (unit_place k sector j)) (choice (unit_place k sector j)) (Raw []) (there j inside).0
+    (Fits-cell c steps (unit_place k sector j) content (small j inside) are))))
     (λ j lt. ap device_bytes (at j lt) ∙ (there j lt).1)
 
 -- ---- any moment
@@ -222,26 +222,26 @@ pub image-from_cells : (c : Content) (steps : List Step) (image : List (List ℕ
     → ((n : ℕ) → n + 1 < length c.base → Contains (all_device_bytes (cell c steps n)) (get_or image n []) ⊎ may n)
     → ReadFromCells k sector (cell c steps) may image
 image-from_cells c steps image k sector may content are is below size sectors kept =
-    let pick : ℕ → Writing = λ j. (held (cell c steps (place_of k sector j)) (get_or image (place_of k sector j) [])).writing in
+    let pick : ℕ → Writing = λ j. (held (cell c steps (unit_place k sector j)) (get_or image (unit_place k sector j) [])).writing in
     let ws : List Writing = map pick (range_with_len 0 (units k)) in
     let fits = room (units k) sector (length c.base) (some-units k is) below in
     let count : length ws ≡ units k = length-map-range_with_len pick 0 (units k) in
     let at = λ (j : ℕ) (lt : j < units k). let same : writing_in ws j ≡ pick j = get_or-map-range_with_len pick 0 (units k) j j (Raw []) lt (omega arith) in same in
-    let small = λ (j : ℕ) (lt : j < units k). let h : place_of k sector j + 1 < length c.base = omega arith in h in
+    let small = λ (j : ℕ) (lt : j < units k). let h : unit_place k sector j + 1 < length c.base = omega arith in h in
     let how = λ (j : ℕ) (lt : j < units k).
-    subst (λ (w : Writing). IsOfCell (cell c steps (place_of k sector j)) (get_or image (place_of k sector j) []) w ⊎ IsStrange (cell c steps (place_of k sector j)) (get_or image (place_of k sector j) []) w)
-    (sym (at j lt)) (held (cell c steps (place_of k sector j)) (get_or image (place_of k sector j) [])).how in
+    subst (λ (w : Writing). IsOfCell (cell c steps (unit_place k sector j)) (get_or image (unit_place k sector j) []) w ⊎ IsStrange (cell c steps (unit_place k sector j)) (get_or image (unit_place k sector j) []) w)
+    (sym (at j lt)) (held (cell c steps (unit_place k sector j)) (get_or image (unit_place k sector j) [])).how in
     let all : All (Fits (placed steps)) ws = All-from_get_or (Fits (placed steps)) ws (Raw []) (λ j lt.
     let inside : j < units k = omega arith in
-    held-fits (placed steps) (cell c steps (place_of k sector j)) (get_or image (place_of k sector j) []) (writing_in ws j)
-    (Fits-cell c steps (place_of k sector j) content (omega (arith, small j inside)) are)
-    (All-get_or IsSector image (place_of k sector j) [] (omega (arith, small j inside)) sectors) (how j inside)) in
+    held-fits (placed steps) (cell c steps (unit_place k sector j)) (get_or image (unit_place k sector j) []) (writing_in ws j)
+    (Fits-cell c steps (unit_place k sector j) content (omega (arith, small j inside)) are)
+    (All-get_or IsSector image (unit_place k sector j) [] (omega (arith, small j inside)) sectors) (how j inside)) in
     record {
       writings = ws;
       fits = AreWritings-fit k steps ws are count all;
-      each = λ j lt. held-may (cell c steps (place_of k sector j)) (get_or image (place_of k sector j) []) (writing_in ws j) (may (place_of k sector j)) (kept (place_of k sector j) (small j lt)) (how j lt);
+      each = λ j lt. held-may (cell c steps (unit_place k sector j)) (get_or image (unit_place k sector j) []) (writing_in ws j) (may (unit_place k sector j)) (kept (unit_place k sector j) (small j lt)) (how j lt);
       readings = reads k sector image steps ws is are (omega arith) count all
-          (λ j lt. held-bytes (cell c steps (place_of k sector j)) (get_or image (place_of k sector j) []) (writing_in ws j) (how j lt));
+          (λ j lt. held-bytes (cell c steps (unit_place k sector j)) (get_or image (unit_place k sector j) []) (writing_in ws j) (how j lt));
     }
 
 -- ---- torn and altered images

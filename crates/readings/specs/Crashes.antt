@@ -4,11 +4,11 @@ use Rattle.block_traits.specs.Content.{Content}
 use Rattle.block_traits.specs.Crash.{IsAltered, IsImage, IsTorn, IsUnsettled}
 use Rattle.eli_base.specs.declared.algorithms.Auth.TheVariants.{Off}
 use Rattle.eli_base.specs.Keying.{Keying}
-use Rattle.sealing.specs.Sectors.{units, unit_readings, piece_reading}
+use Rattle.sealing.specs.Sectors.{unit_place, units, unit_readings, piece_reading}
 use Rattle.readings.specs.Writings.{PutUnit, Writing, Put}
 use Rattle.readings.specs.Steps.{Step, Place, Flush, cell}
 use Rattle.readings.specs.Read.{Matches, matching, read}
-use Rattle.readings.specs.Survivors.{IsOfCell, IsStrange, ReadFromCells, ReadsAsPut, chosen, moment, place_of, sectors_in}
+use Rattle.readings.specs.Survivors.{IsOfCell, IsStrange, ReadFromCells, ReadsAsPut, chosen, moment, sectors_in}
 use Rattle.readings.specs.Ever.{IsForged, ReadsAsOneOf, ever, placed_at}
 
 -- what each unit of a logical sector of an image opens to under a keying
@@ -30,9 +30,9 @@ StandsThere cells may_be_strange image n w =
 -- device sector, and what stands there wasn't put there as this unit under this keying
 pub record HasFaultCause (k : Keying) (sector j : ℕ) (cells : ℕ → List Writing) (may_be_strange : ℕ → Type 0) (image : List (List ℕ)) (offset : ℕ) : Type 0 where
   pub tagged : k.auth ≢ Off
-  pub place : offset ≡ 512 * place_of k sector j
+  pub place : offset ≡ 512 * unit_place k sector j
   pub writing : Writing
-  pub stands : StandsThere cells may_be_strange image (place_of k sector j) writing
+  pub stands : StandsThere cells may_be_strange image (unit_place k sector j) writing
   pub not_put : matching k sector j writing ≡ None
 
 -- ---- a unit that is accepted
@@ -41,7 +41,7 @@ pub record HasFaultCause (k : Keying) (sector j : ℕ) (cells : ℕ → List Wri
 -- accepted there and has its cipher text, or its bytes are forged
 abbrev pub FaultsOrIsKnownOrForged : Keying → ℕ → ℕ → List (List ℕ) → List Writing → Type 0
 FaultsOrIsKnownOrForged k sector j image known =
-    let n = place_of k sector j in let there = get_or image n [] in
+    let n = unit_place k sector j in let there = get_or image n [] in
     (image_unit k sector image j ≡ Err (512 * n))
     ⊎ ((image_unit k sector image j ≡ piece_reading k n there) × (ReadsAsOneOf k n there known ⊎ IsForged k n there known))
 
@@ -52,7 +52,7 @@ FaultsOrIsKnownOrForged k sector j image known =
 pub record ReadsWithCauses (k : Keying) (sector : ℕ) (cells : ℕ → List Writing) (may_be_strange : ℕ → Type 0) (known : ℕ → List Writing) (image : List (List ℕ)) : Type 0 where
   pub from : ReadFromCells k sector cells may_be_strange image
   pub fault : (j offset : ℕ) → j < units k → image_unit k sector image j ≡ Err offset → HasFaultCause k sector j cells may_be_strange image offset
-  pub accepted : k.auth ≢ Off → (j : ℕ) → j < units k → FaultsOrIsKnownOrForged k sector j image (known (place_of k sector j))
+  pub accepted : k.auth ≢ Off → (j : ℕ) → j < units k → FaultsOrIsKnownOrForged k sector j image (known (unit_place k sector j))
 
 -- the last that was placed in device sector n before a flush is this writing, and nothing was placed there since
 pub record IsFlushed (steps : List Step) (n : ℕ) (w : Writing) : Type 0 where
@@ -75,5 +75,5 @@ pub record Endures (c : Content) (steps : List Step) (t : ℕ) (k : Keying) (sec
       ReadsWithCauses k sector (cell c (take t steps)) (IsUnsettled (moment t steps c)) (ever c (take t steps)) image
   pub altered : (image : List (List ℕ)) → IsAltered (moment t steps c) image →
       ReadsWithCauses k sector (cell c (take t steps)) (λ n. Unit {0}) (ever c (take t steps)) image
-  pub flushed : (j : ℕ) (p : PutUnit) → j < units k → IsFlushed (take t steps) (place_of k sector j) (Put p) → Matches k sector j (Put p) p →
+  pub flushed : (j : ℕ) (p : PutUnit) → j < units k → IsFlushed (take t steps) (unit_place k sector j) (Put p) → Matches k sector j (Put p) p →
       (image : List (List ℕ)) → IsTorn (moment t steps c) image → ReadsAsPut k p (image_unit k sector image j)

@@ -8,11 +8,11 @@ ghost use Rattle.eli_base.specs.declared.algorithms.Auth.TheVariants.{Off};
 ghost use Rattle.eli_base.specs.Keying.{Keying};
 ghost use Rattle.range_keys.specs.Ring.{IsKeying};
 ghost use Rattle.sealing.specs.Pieces.{kept_tag, tag_of};
-ghost use Rattle.sealing.specs.Sectors.{piece_reading, seal, unit_readings, units};
+ghost use Rattle.sealing.specs.Sectors.{piece_reading, seal, unit_readings, unit_place, units};
 ghost use Rattle.readings.specs.Writings.{AreWritings, Put, PutUnit, Writing, all_device_bytes};
 ghost use Rattle.readings.specs.Steps.{Flush, Place, Step, after, cell, events_of};
 ghost use Rattle.readings.specs.Read.{Matches, matching, opened_unit, read, read_unit, writing_in};
-ghost use Rattle.readings.specs.Survivors.{AreSteps, ReadFromCells, ReadsAsPut, chosen, media, moment, place_of, sectors_in, sectors_now, last_writings};
+ghost use Rattle.readings.specs.Survivors.{AreSteps, ReadFromCells, ReadsAsPut, chosen, media, moment, sectors_in, sectors_now, last_writings};
 ghost use Rattle.readings.specs.Writes.{AreStepsBelow, data_steps, puts_of, raw_steps};
 ghost use Rattle.readings.specs.Crashes.{Endures};
 ghost use Rattle.readings.specs.Ever.{CollidesWithOneOf, HasNewTag, IsForged, ReadsAsOneOf, cipher_text_at, ever, placed_at};
@@ -42,7 +42,7 @@ pub fn matching_units_read_as_put()
 pub fn faults_are_of_units_that_do_not_match()
     ensures { (k : Keying) (sector j : ℕ) (ws : List Writing) (offset : ℕ) → IsKeying k → AreWritings k ws → j < units k →
         read_unit k sector ws j ≡ Err offset →
-        (matching k sector j (writing_in ws j) ≡ None) × (k.auth ≢ Off) × (offset ≡ 512 * place_of k sector j) }
+        (matching k sector j (writing_in ws j) ≡ None) × (k.auth ≢ Off) × (offset ≡ 512 * unit_place k sector j) }
 {}
 
 /// What matches in unit j of a logical sector under a keying is a unit that was put there as just that.
@@ -113,7 +113,7 @@ pub fn flushed_writing_is_alone()
 pub fn settled_unit_reads_as_put()
     ensures { (c : Content) (steps : List Step) (image : List (List ℕ)) (k : Keying) (sector j : ℕ) (p : PutUnit) →
         IsContentOf (length c.base) c → AreSteps steps → IsKeying k → sector < media k c → j < units k →
-        IsTorn (after steps c) image → cell c steps (place_of k sector j) ≡ Put p ∷ [] → Matches k sector j (Put p) p →
+        IsTorn (after steps c) image → cell c steps (unit_place k sector j) ≡ Put p ∷ [] → Matches k sector j (Put p) p →
         ReadsAsPut k p (get_or (unit_readings k sector (sectors_in k sector image)) j (Ok [])) }
 {}
 
@@ -128,7 +128,7 @@ pub fn cells_were_ever_there()
 pub fn tagged_units_fault_or_are_known_or_forged()
     ensures { (k : Keying) (sector j : ℕ) (image : List (List ℕ)) (ever : List Writing) → k.auth ≢ Off →
         sector * units k + units k ≤ length image → j < units k →
-        let n = place_of k sector j in let there = get_or image n [] in
+        let n = unit_place k sector j in let there = get_or image n [] in
         let reading = get_or (unit_readings k sector (sectors_in k sector image)) j (Ok []) in
         (reading ≡ Err (512 * n))
         ⊎ ((reading ≡ piece_reading k n there) × (ReadsAsOneOf k n there ever ⊎ IsForged k n there ever)) }

@@ -70,8 +70,7 @@ pub fn xts_open_sliced(k1: &SlicedSchedule, k2: &Schedule, tweak: u64, block: &m
 
 /// A law: whatever is sealed opens to what it was, under every two keys and every tweak.
 pub fn xts_open_undoes_xts_seal(key1: &[u8], key2: &[u8], tweak: u64, plain: &[u8])
-    requires key1 { IsKeyLength (length key1.now) }
-    requires key2 { IsKeyLength (length key2.now) }
+    requires key { IsKeyLength (length key1.now) }
     requires plain { length plain.now % 16 ≡ 0 }
     ensures { xts_open key1.now key2.now tweak (xts_seal key1.now key2.now tweak plain.now) ≡ plain.now }
 {}

@@ -7,4 +7,4 @@ pub returns : goal.returns
 returns c =
     let key_bytes : AreBytes c.args.key1.now = λ k. omega (arith, c.type_inv.key1 k) in
     let plain_bytes : AreBytes c.args.plain.now = λ k. omega (arith, c.type_inv.plain k) in
-    xts_open-xts_seal c.args.key1.now c.args.key2.now c.args.plain.now c.args.tweak (record { long = c.requires.key1; bytes = key_bytes }) plain_bytes c.requires.plain
+    xts_open-xts_seal c.args.key1.now c.args.key2.now c.args.plain.now c.args.tweak (record { long = c.requires.key; bytes = key_bytes }) plain_bytes c.requires.plain

@@ -1,6 +1,6 @@
 use Rattle.std.proofs.Common.{ap, ◌∙◌, sym, get_or, option_map, Some, [], List, ℕ}
 use Rattle.crash_disk.specs.declared.mem_cabinet.NamedFile.{NamedFile}
-use Rattle.crash_disk.proofs.CabinetLemmas.{file_in-place_in}
+use Rattle.crash_disk.proofs.Cabinets.{file_in-place_in}
 use Rattle.crash_disk.proofs.mem_cabinet.find.Goals as goal
 
 pub returns-in_err-place : goal.returns-in_err-place

@@ -1,6 +1,6 @@
 use Rattle.std.proofs.Common.{Some, None, ap, ◌∙◌}
 use Rattle.crash_disk.specs.MemCabinet.{place_in}
-use Rattle.crash_disk.proofs.CabinetLemmas.{files_of-put_at}
+use Rattle.crash_disk.proofs.Cabinets.{files_of-put_at}
 use Rattle.crash_disk.proofs.mem_cabinet.put.Goals as goal
 
 pub returns-in-Some-clause-ok : goal.returns-in-Some-clause-ok

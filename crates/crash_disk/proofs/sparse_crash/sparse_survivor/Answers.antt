@@ -7,7 +7,7 @@ use Rattle.crash_disk.specs.MemDisk.{MemState, fresh}
 use Rattle.crash_disk.specs.SparseDisk.{after_put, content_of, state_of}
 use Rattle.crash_disk.specs.Survivor.{choice_of}
 use Rattle.crash_disk.proofs.SurvivorLemmas.{IsContentOf-at_moment}
-use Rattle.crash_disk.proofs.TornLemmas.{AllGoodTears-more, IsTorn-more, IsTornImage-more, IsTornImage-start}
+use Rattle.crash_disk.proofs.Tears.{AllGoodTears-more, IsTorn-more, IsTornImage-more, IsTornImage-start}
 use Rattle.crash_disk.proofs.sparse_crash.sparse_survivor.Goals as goal
 
 pub returns-in_err-made-clause-bad : goal.returns-in_err-made-clause-bad

@@ -1,6 +1,6 @@
 use Rattle.std.proofs.Common.{arith, [], ◌∷◌}
 use Rattle.block_traits.specs.declared.disk.Event.TheVariants.{Write}
-use Rattle.crash_disk.proofs.KeepingLemmas.{kept_after-more}
+use Rattle.crash_disk.proofs.Keeping.{kept_after-more}
 use Rattle.crash_disk.proofs.survivor.kept_value.Goals as goal
 
 pub loop-event-preserved : goal.loop-event-preserved

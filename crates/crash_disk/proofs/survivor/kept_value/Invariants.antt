@@ -1,6 +1,6 @@
 use Rattle.std.proofs.Common.{◌+◌, ◌≤◌, take, [], ◌∷◌}
 use Rattle.block_traits.specs.Content.{kept_after}
-use Rattle.crash_disk.specs.Keeping.{KeepsOf}
+use Rattle.crash_disk.specs.Survivor.{KeepsOf}
 use Rattle.crash_disk.proofs.survivor.kept_value.Given as goal
 
 abbrev pub invariant-loop-event : goal.invariant-loop-event

@@ -6,7 +6,7 @@ use Rattle.block_traits.proofs.Images.{IsTorn-image}
 use Rattle.crash_disk.specs.SectorLog.{content_of}
 use Rattle.crash_disk.specs.Survivor.{choice_of}
 use Rattle.crash_disk.proofs.SurvivorLemmas.{IsContentOf-at_moment}
-use Rattle.crash_disk.proofs.TornLemmas.{AllGoodTears-more, IsTorn-more, IsTornImage-more, IsTornImage-start}
+use Rattle.crash_disk.proofs.Tears.{AllGoodTears-more, IsTorn-more, IsTornImage-more, IsTornImage-start}
 use Rattle.crash_disk.proofs.survivor.survivor_torn.Goals as goal
 
 pub returns-in_err-image-clause-bad : goal.returns-in_err-image-clause-bad

@@ -7,5 +7,5 @@ pub returns-clause-bytes : goal.returns-clause-bytes
 unfolding number_fields
 returns-clause-bytes c =
     let fits : FitsSigned w32 c.args.meta.now.iterations = search rules in
-    rw (c.put_i32.ensures.bytes, c.put.ensures, c.put_u32-3.ensures.bytes, c.put_u64.ensures.bytes, c.put_u16-3.ensures.bytes, c.put_u16-2.ensures.bytes, c.put_u16.ensures.bytes, c.put_u32-2.ensures.bytes, c.put_u32.ensures.bytes, c.put_magic.ensures, to_z-of_z w32 c.args.meta.now.iterations fits)
+    rw (c.put_i32.ensures.bytes, c.put.ensures.bytes, c.put_u32-3.ensures.bytes, c.put_u64.ensures.bytes, c.put_u16-3.ensures.bytes, c.put_u16-2.ensures.bytes, c.put_u16.ensures.bytes, c.put_u32-2.ensures.bytes, c.put_u32.ensures.bytes, c.put_magic.ensures, to_z-of_z w32 c.args.meta.now.iterations fits)
     refl

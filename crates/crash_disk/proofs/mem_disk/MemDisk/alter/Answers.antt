@@ -2,7 +2,7 @@ use Rattle.std.proofs.Common.{ap, ap₂, ◌∙◌, [], List, ℕ, set}
 use Rattle.block_traits.specs.Content.{Content}
 use Rattle.crash_disk.specs.MemDisk.{MemState}
 use Rattle.crash_disk.specs.Replay.{content}
-use Rattle.crash_disk.proofs.ReplayLemmas.{replayed-present}
+use Rattle.crash_disk.proofs.Replay.{replayed-present}
 use Rattle.crash_disk.proofs.mem_disk.MemDisk.alter.Goals as goal
 
 pub returns-clause-after : goal.returns-clause-after

@@ -1,6 +1,6 @@
 use Rattle.std.proofs.Common.{ap, ◌∙◌, sym, length, take, drop, List, ℕ}
 use Rattle.std.proofs.lemmas.List.{take_rest}
-use Rattle.crash_disk.proofs.StreamLemmas.{left_split}
+use Rattle.crash_disk.proofs.Streams.{left_split}
 use Rattle.crash_disk.proofs.mem_entropy.MemEntropyEntropy.fill.Goals as goal
 
 pub returns-clause-ok : goal.returns-clause-ok

@@ -1,7 +1,7 @@
 use Rattle.std.proofs.Common.{arith, ap, ◌∙◌, ◌≡◌, ◌≤◌, length, take, drop, List, ℕ}
 use Rattle.std.proofs.lemmas.List.{take_at, take_rest, length-take-le}
 use Rattle.std.proofs.lemmas.Grind.{common_steps}
-use Rattle.crash_disk.proofs.StreamLemmas.{left_split}
+use Rattle.crash_disk.proofs.Streams.{left_split}
 use Rattle.crash_disk.proofs.mem_source.MemSourceSource.take.Goals as goal
 
 pub returns-clause-bytes : goal.returns-clause-bytes

@@ -1,6 +1,6 @@
 use Rattle.std.proofs.Common.{ap, ◌∙◌, ℕ}
 use Rattle.crash_disk.specs.Writes.{written}
-use Rattle.crash_disk.proofs.WriteLemmas.{length-written}
+use Rattle.crash_disk.proofs.Writes.{length-written}
 use Rattle.crash_disk.proofs.sparse_disk.SparseDisk.earlier.Goals as goal
 
 pub returns : goal.returns

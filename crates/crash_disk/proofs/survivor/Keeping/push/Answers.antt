@@ -1,4 +1,4 @@
-use Rattle.crash_disk.proofs.KeepingLemmas.{KeepsOf-here, KeepsOf-other}
+use Rattle.crash_disk.proofs.Keeping.{KeepsOf-here, KeepsOf-other}
 use Rattle.crash_disk.proofs.survivor.Keeping.push.Goals as goal
 use Rattle.crash_disk.proofs.survivor.Keeping.push.Goals.{then-self-place, else-self-place}
 

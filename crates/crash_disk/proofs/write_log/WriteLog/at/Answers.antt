@@ -1,7 +1,7 @@
 use Rattle.std.proofs.Common.{arith, ◌≡◌, ◌++◌, take}
 use Rattle.std.proofs.lemmas.Grind.{common_steps}
 use Rattle.crash_disk.specs.Writes.{written}
-use Rattle.crash_disk.proofs.WriteLemmas.{All-at, length-written, written-append}
+use Rattle.crash_disk.proofs.Writes.{All-at, length-written, written-append}
 use Rattle.crash_disk.proofs.write_log.WriteLog.at.Goals as goal
 
 pub new-requires-clause-small : goal.new-requires-clause-small

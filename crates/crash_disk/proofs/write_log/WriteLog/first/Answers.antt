@@ -1,7 +1,7 @@
 use Rattle.std.proofs.Common.{ap, ◌∙◌, sym, List}
 use Rattle.block_traits.specs.declared.disk.Event.{Event}
 use Rattle.block_traits.specs.Content.{present_after}
-use Rattle.crash_disk.proofs.WriteLemmas.{get_or-written}
+use Rattle.crash_disk.proofs.Writes.{get_or-written}
 use Rattle.crash_disk.proofs.write_log.WriteLog.first.Goals as goal
 
 pub returns : goal.returns

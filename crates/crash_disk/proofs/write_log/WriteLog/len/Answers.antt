@@ -1,5 +1,5 @@
 use Rattle.std.proofs.Common.{sym}
-use Rattle.crash_disk.proofs.WriteLemmas.{length-written}
+use Rattle.crash_disk.proofs.Writes.{length-written}
 use Rattle.crash_disk.proofs.write_log.WriteLog.len.Goals as goal
 
 pub returns : goal.returns

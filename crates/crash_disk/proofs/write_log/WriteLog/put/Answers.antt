@@ -5,7 +5,7 @@ use Rattle.block_traits.specs.declared.disk.Event.TheVariants.{Write}
 use Rattle.block_traits.specs.Content.{IsContentOf, IsSector}
 use Rattle.crash_disk.specs.Replay.{content}
 use Rattle.crash_disk.specs.Writes.{written}
-use Rattle.crash_disk.proofs.WriteLemmas.{written-put}
+use Rattle.crash_disk.proofs.Writes.{written-put}
 use Rattle.crash_disk.proofs.write_log.WriteLog.put.Goals as goal
 
 pub invariant_of-self-2 : goal.invariant_of-self-2

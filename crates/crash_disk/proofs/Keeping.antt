@@ -6,7 +6,7 @@ use Rattle.block_traits.specs.declared.disk.Event.{Event}
 use Rattle.block_traits.specs.Content.{kept_after}
 use Rattle.block_traits.proofs.Contents.{last_of-push, kept_after-append}
 use Rattle.crash_disk.specs.declared.survivor.Keeping.{Keeping}
-use Rattle.crash_disk.specs.Keeping.{KeepsOf}
+use Rattle.crash_disk.specs.Survivor.{KeepsOf}
 
 slice_get-last : (values : List (List ℕ)) (value : List ℕ) → slice_get (values ++ value ∷ []) (length values) ≡ Some value
 slice_get-last [] value = refl

@@ -5,8 +5,8 @@ use Rattle.std.proofs.lemmas.Grind.{common_steps}
 use Rattle.block_traits.specs.Content.{IsEventOf}
 use Rattle.block_traits.proofs.Contents.{IsContentOf-more}
 use Rattle.crash_disk.specs.Replay.{content, replayed}
-use Rattle.crash_disk.proofs.ReplayLemmas.{length-replayed, replayed-append}
-use Rattle.crash_disk.proofs.sectors.SectorLog.append.Goals as goal
+use Rattle.crash_disk.proofs.Replay.{length-replayed, replayed-append}
+use Rattle.crash_disk.proofs.sector_log.SectorLog.append.Goals as goal
 
 pub apply-requires : goal.apply-requires
 apply-requires c =

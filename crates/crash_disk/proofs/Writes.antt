@@ -8,7 +8,7 @@ use Rattle.block_traits.specs.Content.{IsContentOf, IsEventOf, IsSector, present
 use Rattle.crash_disk.specs.Image.{zero_sector}
 use Rattle.crash_disk.specs.Replay.{content, replayed}
 use Rattle.crash_disk.specs.Writes.{written}
-use Rattle.crash_disk.proofs.ReplayLemmas.{All-replayed, get_or-replayed, length-replayed, replayed-append}
+use Rattle.crash_disk.proofs.Replay.{All-replayed, get_or-replayed, length-replayed, replayed-append}
 
 pub length-written : (size : ℕ) (events : List Event) → length (written size events) ≡ size
 length-written size events = length-replayed (replicate size zero_sector) events ∙ length-replicate size zero_sector

@@ -1,6 +1,6 @@
 use Rattle.std.proofs.Common.{◌≡◌, length, drop, take}
 use Rattle.crash_disk.specs.Replay.{replayed}
-use Rattle.crash_disk.proofs.sectors.SectorLog.at.Given as goal
+use Rattle.crash_disk.proofs.sector_log.SectorLog.at.Given as goal
 
 abbrev pub invariant-loop-event : goal.invariant-loop-event
 invariant-loop-event l = record {

@@ -1,7 +1,7 @@
 use Rattle.std.proofs.Common.{arith, length, get_or, ap, ◌<◌, ◌≡◌, ◌∙◌, List, ℕ, []}
 use Rattle.std.proofs.lemmas.List.{get_or_read}
-use Rattle.crash_disk.proofs.ReplayLemmas.{length-replayed, get_or-replayed}
-use Rattle.crash_disk.proofs.sectors.SectorLog.get.Goals as goal
+use Rattle.crash_disk.proofs.Replay.{length-replayed, get_or-replayed}
+use Rattle.crash_disk.proofs.sector_log.SectorLog.get.Goals as goal
 
 pub index-requires : goal.index-requires
 index-requires c =

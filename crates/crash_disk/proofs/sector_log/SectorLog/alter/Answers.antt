@@ -3,8 +3,8 @@ use Rattle.std.proofs.lemmas.Grind.{common_steps}
 use Rattle.std.proofs.lemmas.List.Elements.{All-nil, All-set}
 use Rattle.block_traits.specs.Content.{IsContentOf, IsEventOf, IsSector}
 use Rattle.crash_disk.specs.Replay.{content}
-use Rattle.crash_disk.proofs.ReplayLemmas.{All-replayed, length-replayed}
-use Rattle.crash_disk.proofs.sectors.SectorLog.alter.Goals as goal
+use Rattle.crash_disk.proofs.Replay.{All-replayed, length-replayed}
+use Rattle.crash_disk.proofs.sector_log.SectorLog.alter.Goals as goal
 
 pub index_mut-requires : goal.index_mut-requires
 index_mut-requires c =

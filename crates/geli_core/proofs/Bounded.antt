@@ -1,25 +1,17 @@
 -- What a run answers of failures is counted by what failed, the closing of the drawers with it.
-use Rattle.std.proofs.Common.{◌≡◌, ◌∙◌, ◌⊎◌, inl, inr, ℕ, ◌+◌, ◌-◌, ◌≤◌, zero, suc, List, [], ◌∷◌, refl, ap, sym, subst, arith, Bool, true, false, cond, Option, None, Some, slice_get}
+use Rattle.std.proofs.Common.{◌≡◌, ◌∙◌, ◌⊎◌, inl, inr, ℕ, ◌+◌, ◌-◌, ◌≤◌, zero, suc, List, [], ◌∷◌, refl, ap, sym, subst, arith, Bool, true, false, cond, Option, Some, slice_get}
 use Rattle.std.specs.Prelude.{◌<◌, ◌^◌}
 use Rattle.std.specs.Option.{option_map}
 use Rattle.std.specs.Str.{bytes_eq}
 use Rattle.block_traits.specs.Cabinet.{CabinetState}
 use Rattle.block_traits.specs.Disk.{DiskState}
 use Rattle.block_traits.specs.Streams.{EntropyState}
-use Rattle.command_words.specs.Images.{line_of, script_images}
-use Rattle.command_words.specs.Reading.{command_in}
-use Rattle.command_words.specs.declared.commands.Command.{Command}
 use Rattle.command_words.specs.declared.spans.Sep.{Sep}
-use Rattle.command_words.specs.declared.spans.Sep.TheVariants.{Blanks, Zeros}
 use Rattle.shelf.specs.Answer.{Answer}
 use Rattle.shelf.specs.Closing.{ClosesAs, ClosesWorld, Closing, Flushes}
 use Rattle.shelf.specs.World.{DrawerState, Holding, Idle, IsAttached, World, place_of}
-use Rattle.geli_core.specs.Bounded.{BoundsReplies, CountsAll}
+use Rattle.geli_core.specs.Bounded.{BoundsReplies}
 use Rattle.geli_core.specs.Bounds.{CountsOutside, RisesNamed, RisesUntilOut, RoseBy, device_faults, how_many, is_cabinet_fault, is_entropy_fault, is_miss}
-use Rattle.geli_core.specs.Run.{RunsAndCloses}
-use Rattle.geli_core.specs.Script.{Runs, RunsAs, RunsLine, Whole}
-use Rattle.geli_core.specs.declared.status.Status.{Status}
-use Rattle.geli_core.specs.declared.status.Status.TheVariants.{Done, SomeRefused, BadWords, ReadFault, WriteFault, NoMemory, LineTooLong, ScriptTooLong}
 use Rattle.geli_core.proofs.Bounding.{closing_failed}
 use Rattle.geli_core.proofs.Counting.{run_rises_or}
 use Rattle.geli_core.proofs.Drawn.{same_some}
@@ -94,46 +86,10 @@ disk_closed : (sep : Sep) (lines : List (List ℕ)) (answers : List (Option Answ
 disk_closed sep lines answers many before name old middle failed new h (inl r) = inl (rises_closed many before name middle failed new h r)
 disk_closed sep lines answers many before name old middle failed new h (inr r) = inr r
 
-pub counts_all : (sep : Sep) (lines : List (List ℕ)) (answers : List (Option Answer)) (failed : ℕ) (old new : World) → RunsAndCloses sep old lines answers failed new → CountsAll sep lines answers failed old new
-counts_all sep lines answers failed old new h = record {
+pub bounds_replies : (old new : World) → BoundsReplies old new
+bounds_replies old new sep lines answers failed h = record {
   outside = outside_closed answers old h.middle failed new h.closes (run_counts sep lines answers old h.middle h.run);
   closing = record { middle = h.middle; run = h.run; many = closing_failed h.middle.drawers failed new.drawers h.closes.drawers };
   disks = λ differ name place before stands found.
       disk_closed sep lines answers (device_faults sep name lines answers) before name old h.middle failed new h.closes (run_rises_or sep lines answers old h.middle name place before h.run differ stands found);
 }
-
--- ---- the words
-
-line_counted : (line : List ℕ) (command : Option Command) (old new : Whole) (status : Status) → RunsLine line command old status new → BoundsReplies old status new
-line_counted line None old new status h = inl h.world
-line_counted line (Some command) old new status h = inr (record {
-  sep = Zeros;
-  lines = line ∷ [];
-  answers = Some h.answer ∷ [];
-  failed = h.failed;
-  runs = h.runs;
-  prints = h.prints;
-  counts = counts_all Zeros (line ∷ []) (Some h.answer ∷ []) h.failed old.world new.world h.runs;
-})
-
-as_counted : (asks : Option (List (List ℕ))) (words : List (List ℕ)) (old new : Whole) (status : Status) → RunsAs asks words old status new → BoundsReplies old status new
-as_counted (Some names) words old new status h = inr (record {
-  sep = Blanks;
-  lines = h.served;
-  answers = h.answers;
-  failed = h.failed;
-  runs = h.runs;
-  prints = h.prints;
-  counts = counts_all Blanks h.served h.answers h.failed old.world new.world h.runs;
-})
-as_counted None words old new status h = line_counted (line_of words) (command_in (line_of words)) old new status h
-
-pub runs_counted : (words : List (List ℕ)) (old new : Whole) (status : Status) → Runs words old status new → BoundsReplies old status new
-runs_counted words old new NoMemory h = inl (ap (λ (w : Whole). w.world) h)
-runs_counted words old new Done h = as_counted (script_images words) words old new Done h
-runs_counted words old new SomeRefused h = as_counted (script_images words) words old new SomeRefused h
-runs_counted words old new BadWords h = as_counted (script_images words) words old new BadWords h
-runs_counted words old new ReadFault h = as_counted (script_images words) words old new ReadFault h
-runs_counted words old new WriteFault h = as_counted (script_images words) words old new WriteFault h
-runs_counted words old new LineTooLong h = as_counted (script_images words) words old new LineTooLong h
-runs_counted words old new ScriptTooLong h = as_counted (script_images words) words old new ScriptTooLong h

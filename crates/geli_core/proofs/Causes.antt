@@ -7,7 +7,7 @@ use Rattle.std.proofs.lemmas.List.Folds.{list_any-append}
 use Rattle.std.proofs.Common.{◌∙◌, ◌⊎◌, ◌++◌, ◌≡◌, inl, inr, ℕ, List, [], ◌∷◌, Bool, true, false, Option, None, Some, ap, refl, subst}
 use Rattle.block_traits.specs.Causes.{Rose}
 use Rattle.block_traits.proofs.Causes.{Rose-earlier}
-use Rattle.block_traits.specs.Streams.{SinkState, SourceState}
+use Rattle.block_traits.specs.Streams.{SinkState}
 use Rattle.command_words.specs.Reading.{command_in}
 use Rattle.command_words.specs.Images.{line_of, script_images}
 use Rattle.command_words.specs.declared.commands.Command.{Command}
@@ -24,17 +24,6 @@ use Rattle.shelf.specs.Answer.{Answer}
 pub rose_prints : (answers : List (Option Answer)) (failed : ℕ) (old new : SinkState) → Prints answers failed old WriteFault new → Rose old.faults new.faults
 rose_prints answers failed old new (inl part) = Rose-earlier old.faults part.middle.faults new.faults part.before.later part.part.rose
 rose_prints answers failed old new (inr part) = Rose-earlier old.faults part.middle.faults new.faults part.before.later part.part.rose
-
-rose_line : (line : List ℕ) (command : Option Command) (old new : Whole) → RunsLine line command old WriteFault new → Rose old.sink.faults new.sink.faults
-rose_line line None old new h = h.prints.rose
-rose_line line (Some command) old new h = rose_prints (Some h.answer ∷ []) h.failed old.sink new.sink h.prints
-
-rose_as : (asks : Option (List (List ℕ))) (words : List (List ℕ)) (old new : Whole) → RunsAs asks words old WriteFault new → Rose old.sink.faults new.sink.faults
-rose_as (Some names) words old new h = rose_prints h.answers h.failed old.sink new.sink h.prints
-rose_as None words old new h = rose_line (line_of words) (command_in (line_of words)) old new h
-
-pub write_fault_rose : (words : List (List ℕ)) (old new : Whole) (status : Status) → Runs words old status new → status ≡ WriteFault → Rose old.sink.faults new.sink.faults
-write_fault_rose words old new status h is = rose_as (script_images words) words old new (subst (λ (s : Status). Runs words old s new) is h)
 
 -- ---- how the run ended
 
@@ -87,16 +76,16 @@ any_given : (served lines more : List (List ℕ)) (name : List ℕ) → (served 
 any_given served lines more name (inl is) h = any_before Blanks lines more name (subst (λ (l : List (List ℕ)). AnyEjects Blanks l name) is h)
 any_given served lines more name (inr is) h = subst (λ (l : List (List ℕ)). AnyEjects Blanks l name) is h
 
-served_lines : (taken : Taken) (served : List (List ℕ)) (old : SourceState) (status : Status) (new : SourceState) → ServesUpTo taken served old status new → (served ≡ taken.lines) ⊎ (served ≡ taken.lines ++ last_line taken.rest)
-served_lines taken served old Done new h = inr h.all
-served_lines taken served old SomeRefused new h = inr h.all
-served_lines taken served old WriteFault new (inl h) = inl h
-served_lines taken served old WriteFault new (inr h) = inr h.all
-served_lines taken served old ReadFault new h = inl h.0
-served_lines taken served old LineTooLong new h = inl h.0
-served_lines taken served old ScriptTooLong new h = inl h.0
-served_lines taken served old BadWords new h = absurd h
-served_lines taken served old NoMemory new h = absurd h
+served_lines : (taken : Taken) (served : List (List ℕ)) (answers : List (Option Answer)) (old : Whole) (status : Status) (new : Whole) → ServesUpTo taken served answers old status new → (served ≡ taken.lines) ⊎ (served ≡ taken.lines ++ last_line taken.rest)
+served_lines taken served answers old Done new h = inr h.all
+served_lines taken served answers old SomeRefused new h = inr h.all
+served_lines taken served answers old WriteFault new (inl h) = inl h.0
+served_lines taken served answers old WriteFault new (inr h) = inr h.all
+served_lines taken served answers old ReadFault new h = inl h.0.whole
+served_lines taken served answers old LineTooLong new h = inl h.0
+served_lines taken served answers old ScriptTooLong new h = inl h.0.whole
+served_lines taken served answers old BadWords new h = absurd h
+served_lines taken served answers old NoMemory new h = absurd h
 
 script_grew : (old new : Whole) (status : Status) → RunsScript old status new → EachGrew (GaveEject old.source new.source) old.world.drawers new.world.drawers
 script_grew old new status h =
@@ -105,7 +94,7 @@ script_grew old new status h =
       taken = h.taken;
       gave = h.gave;
       cut = h.cut;
-      ejected = any_given h.served h.taken.lines (last_line h.taken.rest) name (served_lines h.taken h.served old.source status new.source h.up_to) any;
+      ejected = any_given h.served h.taken.lines (last_line h.taken.rest) name (served_lines h.taken h.served h.answers old status new h.up_to) any;
     })
     (closed_run_grew Blanks old.world h.served h.answers h.failed new.world h.runs)
 
@@ -148,8 +137,8 @@ script_caused old new ReadFault h = h.up_to.2
 script_caused old new LineTooLong h = record { taken = h.taken; gave = h.gave; cut = h.cut; long = h.up_to.1 }
 script_caused old new ScriptTooLong h = record {
   read = h.taken.read;
-  gave = h.gave ∙ ap (λ (l : List ℕ). prepend_known (h.taken.read ++ l) new.source.left) h.up_to.1 ∙ ap (λ (l : List ℕ). prepend_known l new.source.left) (append-nil h.taken.read);
-  size = h.up_to.2;
+  gave = h.gave ∙ ap (λ (l : List ℕ). prepend_known (h.taken.read ++ l) new.source.left) h.up_to.0.unread ∙ ap (λ (l : List ℕ). prepend_known l new.source.left) (append-nil h.taken.read);
+  size = h.up_to.1;
 }
 
 command_caused : (line : List ℕ) (old new : Whole) (status : Status) → RunsCommand line old status new → HasCause status old new

@@ -1,7 +1,7 @@
 -- Runs in which nothing failed go to their end.
 use Rattle.std.specs.Io.KnownBytes.{prepend_known}
 use Rattle.std.proofs.lemmas.List.{append-nil}
-use Rattle.std.proofs.Common.{◌∙◌, ◌++◌, ◌≡◌, ◌<◌, ◌≤◌, ℕ, List, [], ◌∷◌, length, Bool, Option, None, Some, ap, refl, sym, subst, true, false, arith}
+use Rattle.std.proofs.Common.{◌∙◌, ◌++◌, ◌≡◌, ◌+◌, ◌<◌, ◌≤◌, ℕ, List, [], ◌∷◌, length, Bool, Option, None, Some, ap, refl, sym, subst, true, false, arith}
 use Rattle.block_traits.specs.Causes.{Rose}
 use Rattle.block_traits.specs.Streams.{TookAll, SourceState}
 use Rattle.command_words.specs.Images.{line_of, script_images}
@@ -52,12 +52,12 @@ ended_script old new status taken served answers failed refused gave cut end run
 }
 
 -- a line of too many bytes is not within the limits
-no_long_line : (old new : SourceState) (taken : Taken) → old.left ≡ prepend_known (taken.read ++ taken.unread) new.left → CutsInto taken.read taken.lines taken.rest → line_limit < length taken.rest
+no_long_line : (old new : SourceState) (taken : Taken) → old.left ≡ prepend_known (taken.read ++ taken.unread) new.left → CutsInto taken.read taken.lines taken.rest → length taken.rest ≡ line_limit + 1
     → GaveWithinLimits old new → ⊥
 no_long_line old new taken gave cut long limits =
     let parts : taken.read ++ taken.unread ≡ flat_map ended taken.lines ++ taken.rest ++ taken.unread =
     ap (λ (l : List ℕ). l ++ taken.unread) cut.whole in
-    not_both line_limit (length taken.rest) long ((limits.within (taken.read ++ taken.unread) gave).short (flat_map ended taken.lines) taken.rest taken.unread parts cut.behind)
+    not_both line_limit (length taken.rest) (omega (arith, long)) ((limits.within (taken.read ++ taken.unread) gave).short (flat_map ended taken.lines) taken.rest taken.unread parts cut.behind)
 
 script_complete : (old new : Whole) (status : Status) → (Rose old.sink.faults new.sink.faults → ⊥) → GaveWithinLimits old.source new.source
     → RunsUnless RunsScript old status new → RunsUnless ScriptToEnd old status new
@@ -69,7 +69,7 @@ script_complete old new WriteFault quiet limits h = absurd (quiet (rose_prints h
 script_complete old new ReadFault quiet limits h = absurd (limits.quiet h.up_to.2)
 script_complete old new LineTooLong quiet limits h = absurd (no_long_line old.source new.source h.taken h.gave h.cut h.up_to.1 limits)
 script_complete old new ScriptTooLong quiet limits h =
-    absurd (not_below (length h.taken.read) script_limit h.up_to.2 (limits.within h.taken.read (all_given old.source new.source h.taken h.gave h.up_to.1)).small)
+    absurd (not_below (length h.taken.read) script_limit h.up_to.1 (limits.within h.taken.read (all_given old.source new.source h.taken h.gave h.up_to.0.unread)).small)
 
 -- ---- one command
 

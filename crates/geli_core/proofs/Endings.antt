@@ -82,6 +82,9 @@ all_unprinted-line bytes old middle new line refused failed some short h s = rec
 gave_all : (bytes : List ℕ) (source after : SourceState) → source.left ≡ prepend_known bytes after.left → source.left ≡ prepend_known (bytes ++ []) after.left
 gave_all bytes source after gave = rw (append-nil bytes) gave
 
+limit_all : (bytes : List ℕ) → length bytes ≤ script_limit → length (bytes ++ []) ≤ script_limit
+limit_all bytes limit = rw (append-nil bytes) limit
+
 any_all : (said : List (Option Answer)) (failed : ℕ) (refused : Bool) → any_refused said ≡ refused → any_refused (said ++ closing_answers failed) ≡ (refused || any_refused (closing_answers failed))
 any_all said failed refused was = list_any-append refuses said (closing_answers failed) ∙ ap (λ (b : Bool). b || any_refused (closing_answers failed)) was
 
@@ -92,6 +95,7 @@ ended_by : (bytes : List ℕ) (old middle new : Site) (source after : SourceStat
 ended_by bytes old middle new source after h failed false small end gave closes refused took = record {
   taken = record { read = bytes; lines = h.lines; rest = h.rest; unread = [] };
   gave = gave_all bytes source after gave;
+  limit = limit_all bytes (omega (arith, small));
   cut = h.cut;
   served = h.lines ++ last_line h.rest;
   short = h.short;
@@ -104,6 +108,7 @@ ended_by bytes old middle new source after h failed false small end gave closes 
 ended_by bytes old middle new source after h failed true small end gave closes refused took = record {
   taken = record { read = bytes; lines = h.lines; rest = h.rest; unread = [] };
   gave = gave_all bytes source after gave;
+  limit = limit_all bytes (omega (arith, small));
   cut = h.cut;
   served = h.lines ++ last_line h.rest;
   short = h.short;
@@ -132,6 +137,7 @@ ended_part bytes old middle new source after refused failed h small end gave clo
     record {
       taken = record { read = bytes; lines = h.serves.lines; rest = h.serves.rest; unread = [] };
       gave = gave_all bytes source after gave;
+      limit = limit_all bytes (omega (arith, small));
       cut = h.serves.cut;
       served = h.serves.lines ++ last_line h.serves.rest;
       short = h.serves.short;
@@ -159,6 +165,7 @@ pub ended_unprinted : (bytes : List ℕ) (old middle new : Site) (source after :
 ended_unprinted bytes old middle new source after failed h small end gave closes same = record {
   taken = record { read = bytes; lines = h.serves.lines; rest = h.serves.rest; unread = [] };
   gave = gave_all bytes source after gave;
+  limit = limit_all bytes (omega (arith, small));
   cut = h.serves.cut;
   served = h.serves.lines ++ last_line h.serves.rest;
   short = h.serves.short;
@@ -170,15 +177,16 @@ ended_unprinted bytes old middle new source after failed h small end gave closes
 }
 
 -- the source failed
-pub ended_failed : (bytes : List ℕ) (old middle new : Site) (source after : SourceState) (rest : List ℕ) (refused : Bool) (failed : ℕ) → IsTaken bytes old source rest refused middle after → Rose source.faults after.faults
+pub ended_failed : (bytes : List ℕ) (old middle new : Site) (source after : SourceState) (rest : List ℕ) (refused : Bool) (failed : ℕ) → IsTaken bytes old source rest refused middle after → length bytes < script_limit → Rose source.faults after.faults
     → ClosesWorld middle.world failed new.world → new.sink ≡ middle.sink → RunsScript (whole_of old source) ReadFault (whole_of new after)
-ended_failed bytes old middle new source after rest refused failed h rose closes same = record {
+ended_failed bytes old middle new source after rest refused failed h small rose closes same = record {
   taken = record { read = bytes; lines = h.served.serves.lines; rest = rest; unread = [] };
   gave = gave_all bytes source after h.gave;
+  limit = limit_all bytes (omega (arith, small));
   cut = h.served.serves.cut;
   served = h.served.serves.lines;
   short = h.served.serves.short;
-  up_to = (refl, refl, rose);
+  up_to = (record { whole = refl; unread = refl; short = h.short }, small, rose);
   answers = h.served.serves.answers;
   failed = failed;
   runs = record { middle = middle.world; run = h.served.serves.run; closes = closes };
@@ -191,10 +199,11 @@ pub ended_full : (bytes : List ℕ) (old middle new : Site) (source after : Sour
 ended_full bytes old middle new source after rest refused failed h full closes same = record {
   taken = record { read = bytes; lines = h.served.serves.lines; rest = rest; unread = [] };
   gave = gave_all bytes source after h.gave;
+  limit = limit_all bytes (omega (arith, full));
   cut = h.served.serves.cut;
   served = h.served.serves.lines;
   short = h.served.serves.short;
-  up_to = (refl, refl, full);
+  up_to = (record { whole = refl; unread = refl; short = h.short }, full);
   answers = h.served.serves.answers;
   failed = failed;
   runs = record { middle = middle.world; run = h.served.serves.run; closes = closes };
@@ -202,11 +211,12 @@ ended_full bytes old middle new source after rest refused failed h full closes s
 }
 
 -- a line was too long
-pub ended_long : (bytes : List ℕ) (old middle new : Site) (source after : SourceState) (failed : ℕ) → StopsWithin bytes old TooLong middle → source.left ≡ prepend_known bytes after.left
+pub ended_long : (bytes : List ℕ) (old middle new : Site) (source after : SourceState) (failed : ℕ) → StopsWithin bytes old TooLong middle → length bytes ≤ script_limit → source.left ≡ prepend_known bytes after.left
     → ClosesWorld middle.world failed new.world → new.sink ≡ middle.sink → RunsScript (whole_of old source) LineTooLong (whole_of new after)
-ended_long bytes old middle new source after failed h gave closes same = record {
+ended_long bytes old middle new source after failed h limit gave closes same = record {
   taken = record { read = h.read; lines = h.stops.served.serves.lines; rest = h.stops.rest; unread = h.unread };
   gave = subst (λ (l : List ℕ). source.left ≡ prepend_known l after.left) h.whole gave;
+  limit = subst (λ (l : List ℕ). length l ≤ script_limit) h.whole limit;
   cut = h.stops.served.serves.cut;
   served = h.stops.served.serves.lines;
   short = h.stops.served.serves.short;
@@ -218,20 +228,23 @@ ended_long bytes old middle new source after failed h gave closes same = record 
 }
 
 -- an answer was not printed
-pub ended_broken : (bytes : List ℕ) (old middle new : Site) (source after : SourceState) (failed : ℕ) → StopsWithin bytes old Unprinted middle → source.left ≡ prepend_known bytes after.left
+pub ended_broken : (bytes : List ℕ) (old middle new : Site) (source after : SourceState) (failed : ℕ) → StopsWithin bytes old Unprinted middle → length bytes ≤ script_limit → source.left ≡ prepend_known bytes after.left
     → ClosesWorld middle.world failed new.world → new.sink ≡ middle.sink → RunsScript (whole_of old source) WriteFault (whole_of new after)
-ended_broken bytes old middle new source after failed h gave closes same = record {
-  taken = record { read = h.read; lines = h.stops.serves.lines; rest = []; unread = h.unread };
-  gave = subst (λ (l : List ℕ). source.left ≡ prepend_known l after.left) h.whole gave;
-  cut = h.stops.serves.cut;
-  served = h.stops.serves.lines;
-  short = h.stops.serves.short;
-  up_to = inl refl;
-  answers = h.stops.serves.answers;
-  failed = failed;
-  runs = record { middle = middle.world; run = h.stops.serves.run; closes = closes };
-  prints = inl (subst (λ (s : SinkState). FailsInLast h.stops.serves.answers old.sink s) (sym same) h.stops.printed);
-}
+ended_broken bytes old middle new source after failed h limit gave closes same =
+    let failed_last = subst (λ (s : SinkState). FailsInLast h.stops.serves.answers old.sink s) (sym same) h.stops.printed in
+    record {
+      taken = record { read = h.read; lines = h.stops.serves.lines; rest = []; unread = h.unread };
+      gave = subst (λ (l : List ℕ). source.left ≡ prepend_known l after.left) h.whole gave;
+      limit = subst (λ (l : List ℕ). length l ≤ script_limit) h.whole limit;
+      cut = h.stops.serves.cut;
+      served = h.stops.serves.lines;
+      short = h.stops.serves.short;
+      up_to = inl (refl, refl, failed_last);
+      answers = h.stops.serves.answers;
+      failed = failed;
+      runs = record { middle = middle.world; run = h.stops.serves.run; closes = closes };
+      prints = inl failed_last;
+    }
 
 -- ---- the refusals of the closing
 

@@ -36,10 +36,9 @@ use Rattle.shelf.specs.Sizes.{KillRow, ResizeRow, Withdraws}
 use Rattle.shelf.specs.Workloads.{FillRow, SumRow}
 use Rattle.shelf.specs.Steps.{Admits, BacksUp, Decides, GoesOn, LoadsComponents, MakesProvider, NeedsAttached, NeedsIdle, NeedsSectors, NeedsWhole, NeedsWritable, ReadsLastSector, ReadsSectors, Then, admitted, after_check, after_size, after_slot, attachment_by, or_refusal, or_wrong_key, tried}
 use Rattle.shelf.specs.Turn.{AttachRow, AttachesUnless, ChangesAt, DetachRow, FlushRow, InitRow, IsUnknown, Lists, ReadRow, Serves, ServesAt, TryRow, TurnOf, WriteRow, reach, takes_out}
-use Rattle.shelf.specs.World.{Attachment, DrawerState, Holding, Idle, IsAttached, Reach, World, place_of}
+use Rattle.shelf.specs.World.{Attachment, DrawerState, HoldKeyings, Holding, HoldsKeying, Idle, IsAmong, IsAttached, Reach, World, place_of}
 use Rattle.shelf.proofs.Untouched.{get-set, get-set_other}
 use Rattle.command_words.specs.Reading.{reading}
-use Rattle.geli_core.specs.Placing.{HoldKeyings, HoldsKeying, IsAmong}
 use Rattle.geli_core.specs.Run.{ServesLine, ServesReading}
 use Rattle.geli_core.proofs.Drawn.{here_or, same_some}
 

@@ -45,12 +45,12 @@ use Rattle.shelf.specs.Answer as answers
 use Rattle.shelf.specs.Closing.{Closes, ClosesAs, Closing, Flushes}
 use Rattle.shelf.specs.Digits.{bytes_spelled, decoded}
 use Rattle.shelf.specs.Histories.{AreFirst, AreRowEvents, BreaksOff, EventsBy, ChangesBy, OnlyAt, StepsAt, StepsBy, WritesData, WritesWorkload, place_named, stores_last}
-use Rattle.shelf.specs.World.{DrawerState, Holding, Idle, IsAttached, World, place_of}
+use Rattle.shelf.specs.World.{DrawerState, HoldKeyings, Holding, HoldsKeying, Idle, IsAmong, IsAttached, World, place_of}
 use Rattle.shelf.specs.Turn.{takes_out}
 use Rattle.shelf.proofs.Untouched.{get-set, get-set_other, turn_only_steps}
 use Rattle.command_words.specs.Reading.{reading}
 use Rattle.geli_core.specs.Histories.{DrawerSteps, names_by, says_name}
-use Rattle.geli_core.specs.Placing.{ClosesWith, DrawerPlaces, HoldKeyings, HoldsKeying, IsAmong, asked_steps, command_steps, fill_steps, line_steps, write_steps}
+use Rattle.geli_core.specs.Placing.{ClosesWith, DrawerPlaces, asked_steps, command_steps, fill_steps, line_steps, write_steps}
 use Rattle.geli_core.specs.Run.{Run, RunsAndCloses, ServesLine, ServesReading}
 use Rattle.geli_core.specs.Survivors.{EachSurvives, EachSurvivesClosing, EnduresCrashes}
 use Rattle.geli_core.proofs.Drawn.{here_or, named_more, same_some, step_logs, step_name}

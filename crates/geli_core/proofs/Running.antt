@@ -127,7 +127,7 @@ IsUnprinted-line bytes old middle new line refused failed short h s = record {
   printed = failed_more h.serves.answers s.answer old.sink middle.sink new.sink h.printed s.prints;
 }
 
-pub IsTooLong-byte : (bytes : List ℕ) (old new : Site) (rest : List ℕ) (refused : Bool) (b : ℕ) → b ≢ newline → line_limit ≤ length rest → IsServed bytes old rest refused new
+pub IsTooLong-byte : (bytes : List ℕ) (old new : Site) (rest : List ℕ) (refused : Bool) (b : ℕ) → b ≢ newline → length rest ≡ line_limit → IsServed bytes old rest refused new
     → IsTooLong (bytes ++ b ∷ []) old new
 IsTooLong-byte bytes old new rest refused b other full h = record {
   rest = rest ++ b ∷ [];

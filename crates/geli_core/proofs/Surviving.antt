@@ -4,6 +4,7 @@ use Rattle.command_words.specs.Images.{line_of, script_images}
 use Rattle.command_words.specs.declared.commands.Command.{Command}
 use Rattle.command_words.specs.declared.spans.Sep.TheVariants.{Blanks, Zeros}
 use Rattle.command_words.specs.Reading.{command_in}
+use Rattle.shelf.specs.World.{HoldKeyings}
 use Rattle.geli_core.specs.Script.{Runs, RunsAs, RunsLine, Whole}
 use Rattle.geli_core.specs.Survivors.{Ran, SurvivesCrashes}
 use Rattle.geli_core.specs.declared.status.Status.{Status}
@@ -28,7 +29,7 @@ runs_ran words old new WriteFault h = as_ran (script_images words) words old new
 runs_ran words old new LineTooLong h = as_ran (script_images words) words old new LineTooLong h
 runs_ran words old new ScriptTooLong h = as_ran (script_images words) words old new ScriptTooLong h
 
-pub runs_survive : (words : List (List ℕ)) (old new : Whole) (status : Status) → Runs words old status new → SurvivesCrashes old.world new.world
+pub runs_survive : (words : List (List ℕ)) (old new : Whole) (status : Status) → Runs words old status new → HoldKeyings old.world.drawers → SurvivesCrashes old.world new.world
 runs_survive words old new status h keyed = record {
   ran = runs_ran words old new status h;
   each = λ sep lines answers failed runs. each_survives_closing sep lines answers failed old.world new.world runs keyed;

@@ -1,6 +1,6 @@
 -- What lines do to a drawer, as steps on its disk: a write or a fill places the units of its logical sectors, and whatever else a line logs is
 -- bytes that came in some other way.
-use Rattle.std.specs.Prelude.{◌≡◌, ℕ, ◌+◌, ◌/◌, List, [], ◌∷◌, ◌++◌, length, take, Bool, Option, Some, Result, Ok, slice_get}
+use Rattle.std.specs.Prelude.{◌≡◌, ℕ, ◌+◌, ◌/◌, List, [], ◌∷◌, ◌++◌, length, take, Bool, Option, Some, Result, Ok}
 use Rattle.block_traits.specs.Disk.{Logs}
 use Rattle.block_traits.specs.declared.disk.Event.{Event}
 use Rattle.command_words.specs.Places.{bytes_at}
@@ -8,14 +8,13 @@ use Rattle.command_words.specs.declared.commands.Command.{Command}
 use Rattle.command_words.specs.declared.commands.Command.TheVariants as commands
 use Rattle.command_words.specs.declared.commands.Usage.{Usage}
 use Rattle.command_words.specs.declared.spans.Sep.{Sep}
-use Rattle.range_keys.specs.Ring.{IsKeying}
 use Rattle.readings.specs.Steps.{Step}
 use Rattle.readings.specs.Writes.{data_steps, raw_steps}
 use Rattle.shelf.specs.Answer.{Answer}
 use Rattle.shelf.specs.Closing.{Closes}
 use Rattle.shelf.specs.Digits.{bytes_spelled}
 use Rattle.shelf.specs.Workloads.{words_of, workload}
-use Rattle.shelf.specs.World.{DrawerState, Holding, Idle, IsAttached, World}
+use Rattle.shelf.specs.World.{DrawerState, Holding, Idle, IsAmong, IsAttached, World}
 use Rattle.command_words.specs.Reading.{reading}
 use Rattle.geli_core.specs.Histories.{DrawerSteps}
 use Rattle.geli_core.specs.Run.{ServesLine}
@@ -50,10 +49,6 @@ line_steps number sep line holding events = asked_steps number line (reading sep
 
 -- ---- lines
 
--- it is one of the drawers
-abbrev pub IsAmong : List DrawerState → DrawerState → Type 0
-IsAmong drawers drawer = (place : ℕ) × (slice_get drawers place ≡ Some drawer)
-
 -- a drawer while lines are served between two worlds, the first of which has this number: between two lines it is one of the drawers of the
 -- world there, and the steps are those of its lines, one after the other
 abbrev pub DrawerPlaces : ℕ → Sep → World → List (List ℕ) → List (Option Answer) → World → DrawerState → List Step → DrawerState → Type 0
@@ -81,13 +76,3 @@ pub record DrawerPlacesAndCloses (sep : Sep) (start : World) (lines : List (List
   pub last : List Event
   pub closes : ClosesWith middle last new
   pub are : steps ≡ served ++ raw_steps last
-
--- ---- what is attached
-
--- what is attached has a keying that a provider may have
-abbrev pub HoldsKeying : Holding → Type 0
-HoldsKeying Idle = Unit {0}
-HoldsKeying (IsAttached a) = IsKeying a.keying
-
-abbrev pub HoldKeyings : List DrawerState → Type 0
-HoldKeyings drawers = (drawer : DrawerState) → IsAmong drawers drawer → HoldsKeying drawer.holding

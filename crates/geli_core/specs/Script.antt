@@ -1,5 +1,5 @@
 -- The run of the words of the command line, and the status with which it ends.
-use Rattle.std.specs.Prelude.{◌≡◌, ◌≢◌, ◌⊎◌, ℕ, ◌^◌, ◌<◌, ◌≤◌, List, [], ◌∷◌, ◌++◌, length, true, false, Option, Some, None, codes}
+use Rattle.std.specs.Prelude.{◌≡◌, ◌≢◌, ◌⊎◌, ℕ, ◌+◌, ◌^◌, ◌<◌, ◌≤◌, List, [], ◌∷◌, ◌++◌, length, true, false, Option, Some, None, codes}
 use Rattle.std.specs.List.{AllByRecursion}
 use Rattle.std.specs.Io.KnownBytes.{IsAtEnd, prepend_known}
 use Rattle.block_traits.specs.Causes.{Rose}
@@ -58,27 +58,34 @@ pub record IsReadToEnd (taken : Taken) (served : List (List ℕ)) (after : Sourc
   pub unread : taken.unread ≡ []
   pub end : IsAtEnd after.left
 
--- how far a script was served, by the status
-abbrev pub ServesUpTo : Taken → List (List ℕ) → SourceState → Status → SourceState → Type 0
-ServesUpTo taken served old Done new = IsReadToEnd taken served new
-ServesUpTo taken served old SomeRefused new = IsReadToEnd taken served new
-ServesUpTo taken served old WriteFault new = (served ≡ taken.lines) ⊎ IsReadToEnd taken served new
-ServesUpTo taken served old ReadFault new = (served ≡ taken.lines) × (taken.unread ≡ []) × Rose old.faults new.faults
-ServesUpTo taken served old LineTooLong new = (served ≡ taken.lines) × (line_limit < length taken.rest)
-ServesUpTo taken served old ScriptTooLong new = (served ≡ taken.lines) × (taken.unread ≡ []) × (length taken.read ≡ script_limit)
-ServesUpTo taken served old BadWords new = ⊥
-ServesUpTo taken served old NoMemory new = ⊥
+-- all bytes that the source gave were read, no line among them is too long, and the whole ones were served
+pub record IsReadSoFar (taken : Taken) (served : List (List ℕ)) : Type 0 where
+  pub whole : served ≡ taken.lines
+  pub unread : taken.unread ≡ []
+  pub short : length taken.rest ≤ line_limit
+
+-- how far a script was served, by the status: the first that is met of the end of the input, a failure and a limit ends it
+abbrev pub ServesUpTo : Taken → List (List ℕ) → List (Option Answer) → Whole → Status → Whole → Type 0
+ServesUpTo taken served answers old Done new = IsReadToEnd taken served new.source
+ServesUpTo taken served answers old SomeRefused new = IsReadToEnd taken served new.source
+ServesUpTo taken served answers old WriteFault new = ((served ≡ taken.lines) × (taken.rest ≡ []) × FailsInLast answers old.sink new.sink) ⊎ IsReadToEnd taken served new.source
+ServesUpTo taken served answers old ReadFault new = IsReadSoFar taken served × (length taken.read < script_limit) × Rose old.source.faults new.source.faults
+ServesUpTo taken served answers old LineTooLong new = (served ≡ taken.lines) × (length taken.rest ≡ line_limit + 1)
+ServesUpTo taken served answers old ScriptTooLong new = IsReadSoFar taken served × (length taken.read ≡ script_limit)
+ServesUpTo taken served answers old BadWords new = ⊥
+ServesUpTo taken served answers old NoMemory new = ⊥
 
 -- a script was run: the source gave bytes, lines among them were served and answered, the drawers were closed, and the answers
--- were printed
+-- were printed; no more bytes are taken from the source than make a script too long
 pub record RunsScript (old : Whole) (status : Status) (new : Whole) : Type 0 where
   pub taken : Taken
   pub gave : old.source.left ≡ prepend_known (taken.read ++ taken.unread) new.source.left
+  pub limit : length (taken.read ++ taken.unread) ≤ script_limit
   pub cut : CutsInto taken.read taken.lines taken.rest
   pub served : List (List ℕ)
   pub short : AllByRecursion (λ line. length line ≤ line_limit) served
-  pub up_to : ServesUpTo taken served old.source status new.source
   pub answers : List (Option Answer)
+  pub up_to : ServesUpTo taken served answers old status new
   pub failed : ℕ
   pub runs : RunsAndCloses Blanks old.world served answers failed new.world
   pub prints : Prints answers failed old.sink status new.sink
@@ -142,12 +149,12 @@ Ends words status = EndsBy (script_images words) (command_in (line_of words)) st
 
 -- ---- why a run broke off
 
--- the source gave a line of too many bytes
+-- the source gave a line up to the byte that makes it too long
 pub record GaveLongLine (old new : SourceState) : Type 0 where
   pub taken : Taken
   pub gave : old.left ≡ prepend_known (taken.read ++ taken.unread) new.left
   pub cut : CutsInto taken.read taken.lines taken.rest
-  pub long : line_limit < length taken.rest
+  pub long : length taken.rest ≡ line_limit + 1
 
 -- the source gave as many bytes as are too many for a script
 pub record GaveTooMuch (old new : SourceState) : Type 0 where

@@ -1,5 +1,5 @@
 -- A script while it is served: what the loops over its bytes keep. What a run comes to stands in `Script`.
-use Rattle.std.specs.Prelude.{◌≡◌, ℕ, ◌<◌, ◌≤◌, List, [], ◌++◌, length, Option, Bool, true, false, ◌||◌, Result, Ok, Err}
+use Rattle.std.specs.Prelude.{◌≡◌, ℕ, ◌+◌, ◌<◌, ◌≤◌, List, [], ◌++◌, length, Option, Bool, true, false, ◌||◌, Result, Ok, Err}
 use Rattle.std.specs.List.{AllByRecursion}
 use Rattle.block_traits.specs.Streams.{SinkState, TookAll, TookPart, SourceState}
 use Rattle.command_words.specs.Reading.{line_limit}
@@ -47,12 +47,12 @@ pub record IsUnprinted (bytes : List ℕ) (old : Site) (new : Site) : Type 0 whe
   pub serves : ServesLines bytes old [] new
   pub printed : FailsInLast serves.answers old.sink new.sink
 
--- a line has too many bytes
+-- the last of these bytes makes a line too long
 pub record IsTooLong (bytes : List ℕ) (old : Site) (new : Site) : Type 0 where
   pub rest : List ℕ
   pub refused : Bool
   pub served : IsServed bytes old rest refused new
-  pub long : line_limit < length rest
+  pub long : length rest ≡ line_limit + 1
 
 -- why no more bytes are looked at
 abbrev pub StopsBy : List ℕ → Site → Stop → Site → Type 0
@@ -86,15 +86,15 @@ pub record IsTaken (bytes : List ℕ) (old : Site) (source : SourceState) (rest 
   pub short : length rest ≤ line_limit
 
 -- the input was looked at up to its end, up to a failure, or up to the limit; or it stopped before
-abbrev pub EndsBy : List ℕ → Site → SourceState → Ending → List ℕ → Bool → Site → SourceState → Type 0
-EndsBy bytes old source AtEnd rest refused new after = IsTaken bytes old source rest refused new after × (length bytes < script_limit) × IsAtEnd after.left
-EndsBy bytes old source SourceFailed rest refused new after = IsTaken bytes old source rest refused new after × Rose source.faults after.faults
-EndsBy bytes old source Full rest refused new after = IsTaken bytes old source rest refused new after × (length bytes ≡ script_limit)
-EndsBy bytes old source (Stopped stop) rest refused new after = StopsWithin bytes old stop new × (source.left ≡ prepend_known bytes after.left)
+abbrev pub FeedsUpTo : List ℕ → Site → SourceState → Ending → List ℕ → Bool → Site → SourceState → Type 0
+FeedsUpTo bytes old source AtEnd rest refused new after = IsTaken bytes old source rest refused new after × (length bytes < script_limit) × IsAtEnd after.left
+FeedsUpTo bytes old source SourceFailed rest refused new after = IsTaken bytes old source rest refused new after × (length bytes < script_limit) × Rose source.faults after.faults
+FeedsUpTo bytes old source Full rest refused new after = IsTaken bytes old source rest refused new after × (length bytes ≡ script_limit)
+FeedsUpTo bytes old source (Stopped stop) rest refused new after = StopsWithin bytes old stop new × (length bytes ≤ script_limit) × (source.left ≡ prepend_known bytes after.left)
 
-pub record Ends (old : Site) (source : SourceState) (ending : Ending) (rest : List ℕ) (refused : Bool) (new : Site) (after : SourceState) : Type 0 where
+pub record FeedsSource (old : Site) (source : SourceState) (ending : Ending) (rest : List ℕ) (refused : Bool) (new : Site) (after : SourceState) : Type 0 where
   pub bytes : List ℕ
-  pub by : EndsBy bytes old source ending rest refused new after
+  pub up_to : FeedsUpTo bytes old source ending rest refused new after
 
 -- ---- the end
 

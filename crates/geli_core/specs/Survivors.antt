@@ -9,8 +9,8 @@ use Rattle.readings.specs.Crashes.{Endures}
 use Rattle.readings.specs.Steps.{Step, after}
 use Rattle.readings.specs.Survivors.{AreSteps, media}
 use Rattle.shelf.specs.Answer.{Answer}
-use Rattle.shelf.specs.World.{DrawerState, World}
-use Rattle.geli_core.specs.Placing.{DrawerPlaces, DrawerPlacesAndCloses, HoldKeyings, IsAmong}
+use Rattle.shelf.specs.World.{DrawerState, IsAmong, World}
+use Rattle.geli_core.specs.Placing.{DrawerPlaces, DrawerPlacesAndCloses}
 use Rattle.geli_core.specs.Run.{RunsAndCloses}
 
 -- What is promised of steps that were done on a disk that had this content before: each of their writes has a number of its own, and at
@@ -46,13 +46,9 @@ pub record Ran (old new : World) : Type 0 where
   pub failed : ℕ
   pub runs : RunsAndCloses sep old lines answers failed new
 
--- Nothing was done, or lines were served and the drawers closed; and by whatever lines that came about, each drawer that is there then
--- endures crashes at each moment from entry to exit.
-pub record RunSurvives (old new : World) : Type 0 where
+-- The headline of a run. Nothing was done, or lines were served and the drawers closed; and by whatever lines that came about, each drawer that is there
+-- then endures crashes at each moment from entry to exit.
+pub record SurvivesCrashes (old new : World) : Type 0 where
   pub ran : (new ≡ old) ⊎ Ran old new
   pub each : (sep : Sep) (lines : List (List ℕ)) (answers : List (Option Answer)) (failed : ℕ) → RunsAndCloses sep old lines answers failed new →
       EachSurvivesClosing sep lines answers old new
-
--- The headline of a run. Its premise: what is attached at entry has a keying that a provider may have.
-abbrev pub SurvivesCrashes : World → World → Type 0
-SurvivesCrashes old new = HoldKeyings old.drawers → RunSurvives old new

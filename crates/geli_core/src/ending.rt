@@ -7,8 +7,8 @@ ghost use Rattle.command_words.specs.Reading.{line_limit};
 ghost use Rattle.reply_text.specs.Output.{Prints};
 ghost use Rattle.shelf.specs.World.{world_of};
 ghost use Rattle.geli_core.specs.Run.{answers_text, closing_answers};
-ghost use Rattle.geli_core.specs.Script.{RunsScript};
-ghost use Rattle.geli_core.specs.Served.{ClosesAndPrints, EndsBy, EndsLines, IsServed, Site, StopsWithin, site_of, status_by, whole_of};
+ghost use Rattle.geli_core.specs.Script.{RunsScript, script_limit};
+ghost use Rattle.geli_core.specs.Served.{ClosesAndPrints, EndsLines, FeedsUpTo, IsServed, Site, StopsWithin, site_of, status_by, whole_of};
 
 use crate::Status;
 use crate::feeding::{Ending, Stop};
@@ -93,7 +93,7 @@ pub(crate) fn end_script<K: Sink, C: Cabinet, E: Entropy, D: Disk>(
 ) -> Status
     requires { length line.now ≤ line_limit }
     ensures { (bytes : List ℕ) (old : Site) (source after : SourceState) →
-        EndsBy bytes old source ending line.now refused
+        FeedsUpTo bytes old source ending line.now refused
         (site_of (world_of D.state shelf.old (C.state files.old) (E.state entropy.old)) (K.state output.old)) after →
         RunsScript (whole_of old source) result
         (whole_of (site_of (world_of D.state shelf.new (C.state files.new) (E.state entropy.new)) (K.state output.new)) after) }
@@ -115,7 +115,7 @@ pub(crate) fn end_script<K: Sink, C: Cabinet, E: Entropy, D: Disk>(
 // Ends a script that stopped within its input.
 fn end_stopped<D: Disk>(shelf: &mut Drawers<D>, stop: Stop) -> Status
     ensures { (bytes : List ℕ) (old : Site) (source after : SourceState) (cabinet : CabinetState) (entropy : EntropyState) (sink : SinkState) →
-        StopsWithin bytes old stop (site_of (world_of D.state shelf.old cabinet entropy) sink) → source.left ≡ prepend_known bytes after.left →
+        StopsWithin bytes old stop (site_of (world_of D.state shelf.old cabinet entropy) sink) → length bytes ≤ script_limit → source.left ≡ prepend_known bytes after.left →
         RunsScript (whole_of old source) result (whole_of (site_of (world_of D.state shelf.new cabinet entropy) sink) after) }
 {
     shelf.close();
@@ -136,7 +136,7 @@ fn end_lines<K: Sink, C: Cabinet, E: Entropy, D: Disk>(
 ) -> Status
     requires { length line.now ≤ line_limit }
     ensures { (bytes : List ℕ) (old : Site) (source after : SourceState) →
-        EndsBy bytes old source Ending.AtEnd line.now refused
+        FeedsUpTo bytes old source Ending.AtEnd line.now refused
         (site_of (world_of D.state shelf.old (C.state files.old) (E.state entropy.old)) (K.state output.old)) after →
         RunsScript (whole_of old source) result
         (whole_of (site_of (world_of D.state shelf.new (C.state files.new) (E.state entropy.new)) (K.state output.new)) after) }

@@ -2,7 +2,7 @@
 ghost use Rattle.std.specs.Prelude.{◌≡◌, ◌≤◌, ◌∷◌, ◌++◌, [], ℕ, List, false, vec_capacity, vec_len};
 ghost use Rattle.command_words.specs.Reading.{line_limit};
 ghost use Rattle.shelf.specs.World.{world_of};
-ghost use Rattle.geli_core.specs.Served.{Ends, FeedsByte, FeedsPiece, IsServed, Site, site_of};
+ghost use Rattle.geli_core.specs.Served.{FeedsByte, FeedsPiece, FeedsSource, IsServed, Site, site_of};
 
 use crate::serving::{either, serve_line};
 use block_traits::{Cabinet, Disk, Entropy, Sink, Source};
@@ -117,7 +117,7 @@ pub(crate) fn feed_source<S: Source, K: Sink, C: Cabinet, E: Entropy, D: Disk>(
     requires empty { line.old.items ≡ [] }
     requires nothing { refused.old ≡ false }
     ensures short { vec_len line.new ≤ line_limit }
-    ensures ends { Ends
+    ensures feeds { FeedsSource
         (site_of (world_of D.state shelf.old (C.state files.old) (E.state entropy.old)) (K.state output.old))
         (S.state input.old) result line.new.items refused.new
         (site_of (world_of D.state shelf.new (C.state files.new) (E.state entropy.new)) (K.state output.new))

@@ -1,7 +1,8 @@
 // One line is read, served and printed.
 ghost use Rattle.std.specs.Prelude.{◌≡◌, ◌≤◌, ◌||◌, ℕ, List, Some, length};
 ghost use Rattle.command_words.specs.Reading.{line_limit};
-ghost use Rattle.shelf.specs.Answer.{FitsPayload, answer_of};
+ghost use Rattle.reply_text.specs.Text.{FitsPayload};
+ghost use Rattle.shelf.specs.Answer.{answer_of};
 ghost use Rattle.shelf.specs.World.{world_of};
 ghost use Rattle.geli_core.specs.Run.{PrintsAnswer, ServesAndPrints, end_of, is_refusal};
 

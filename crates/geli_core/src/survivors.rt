@@ -1,13 +1,13 @@
 // What a run leaves if power fails at any moment of it.
 ghost use Rattle.std.specs.Prelude.{ℕ, List, Option};
 ghost use Rattle.command_words.specs.declared.spans.Sep.{Sep};
-ghost use Rattle.geli_core.specs.Placing.{HoldKeyings};
 ghost use Rattle.geli_core.specs.Run.{Run, RunsAndCloses};
 ghost use Rattle.geli_core.specs.Survivors.{EachSurvives, EachSurvivesClosing};
 ghost use Rattle.shelf.specs.Answer.{Answer};
-ghost use Rattle.shelf.specs.World.{World};
+ghost use Rattle.shelf.specs.World.{HoldKeyings, World};
 
-/// What is attached after some lines has a keying that a provider may have, where that was so before.
+/// What is attached after some lines has a keying that a provider may have, where that was so before. It is so of the drawers of every shelf, as
+/// the law `Drawers::hold_keyings` says; these laws are about any two worlds, and so must say it.
 pub fn lines_keep_keyings()
     ensures { (sep : Sep) (lines : List (List ℕ)) (answers : List (Option Answer)) (old new : World) →
         Run sep old lines answers new → HoldKeyings old.drawers → HoldKeyings new.drawers }

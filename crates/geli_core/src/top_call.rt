@@ -1,13 +1,13 @@
 // The run: the words are read, and a script or one command is served.
-ghost use Rattle.std.specs.Prelude.{◌≡◌, map, string_bytes};
-ghost use Rattle.block_traits.specs.Causes.{Rose};
+ghost use Rattle.std.specs.Prelude.{map, string_bytes};
 ghost use Rattle.command_words.specs.Reading.{command_in};
 ghost use Rattle.command_words.specs.Images.{line_of};
 ghost use Rattle.shelf.specs.World.{world_of};
 ghost use Rattle.geli_core.specs.Bounded.{BoundsReplies};
 ghost use Rattle.geli_core.specs.Complete.{Completes};
 ghost use Rattle.geli_core.specs.Histories.{KeepsDrawers};
-ghost use Rattle.geli_core.specs.Script.{Ends, HasCause, PrintsUsage, Runs, RunsLine, RunsScript, usage_text};
+ghost use Rattle.geli_core.specs.Laws.{LinesKeepLaws};
+ghost use Rattle.geli_core.specs.Script.{Ends, HasCause, PrintsUsage, Runs, RunsLine, RunsScript};
 ghost use Rattle.geli_core.specs.Served.{RunsUnless, site_of, whole_of};
 ghost use Rattle.block_traits.specs.Streams.{SourceState};
 ghost use Rattle.geli_core.specs.Survivors.{SurvivesCrashes};
@@ -47,7 +47,6 @@ pub fn geli_main<S: Source, K: Sink, C: Cabinet, E: Entropy>(
     ensures cause { HasCause result
         (whole_of (site_of (world_of (⟦<Box<dyn Disk> as Disk>⟧).state shelf.old (C.state files.old) (E.state entropy.old)) (K.state output.old)) (S.state input.old))
         (whole_of (site_of (world_of (⟦<Box<dyn Disk> as Disk>⟧).state shelf.new (C.state files.new) (E.state entropy.new)) (K.state output.new)) (S.state input.new)) }
-    ensures write_fault { result ≡ Status.WriteFault → Rose (K.state output.old).faults (K.state output.new).faults }
 
     // A script or one command that is served goes to its end where the sink didn't fail, nor the source of a script, which gave
     // fewer than 2^40 bytes and no line of more than 300,000: all is served and printed, and the status is Done or SomeRefused, by
@@ -56,18 +55,26 @@ pub fn geli_main<S: Source, K: Sink, C: Cabinet, E: Entropy>(
         (whole_of (site_of (world_of (⟦<Box<dyn Disk> as Disk>⟧).state shelf.old (C.state files.old) (E.state entropy.old)) (K.state output.old)) (S.state input.old)) result
         (whole_of (site_of (world_of (⟦<Box<dyn Disk> as Disk>⟧).state shelf.new (C.state files.new) (E.state entropy.new)) (K.state output.new)) (S.state input.new)) }
 
+    // By whatever lines the run came about, of each that says a command: a refusal has its cause; where nothing but want of memory can be one,
+    // it is served or there was no memory, which only the verbs that may lack it answer; only the drawer that it names changes or is taken out, and
+    // its disk logs events of the line; and a line that changes metadata leaves the old or the new whenever power fails, `setkey` the old slot
+    // or the new, `delkey` the old slots or some without a key, and `kill` no metadata once a flush landed.
+    ensures lines { LinesKeepLaws
+        (world_of (⟦<Box<dyn Disk> as Disk>⟧).state shelf.old (C.state files.old) (E.state entropy.old))
+        (world_of (⟦<Box<dyn Disk> as Disk>⟧).state shelf.new (C.state files.new) (E.state entropy.new)) }
+
     // If power fails at any moment, before or within any write of a device sector: of each drawer that is there in the end, each image that is
     // left, whole, torn or altered, reads unit by unit as the lines' writes placed it.
     ensures survivors { SurvivesCrashes
         (world_of (⟦<Box<dyn Disk> as Disk>⟧).state shelf.old (C.state files.old) (E.state entropy.old))
         (world_of (⟦<Box<dyn Disk> as Disk>⟧).state shelf.new (C.state files.new) (E.state entropy.new)) }
 
-    // Of the answers that were printed: those that the cabinet failed, that a file was absent or longer than a file may be, and that the entropy failed
-    // are each at most as many as the count of such failures rose by; those to the lines that name a drawer that its disk failed at most as many
-    // as that disk's count of faults; and each refusal of the closing has its drawer.
+    // By whatever lines the run came about, of the answers to them: those that the cabinet failed, that a file was absent or longer than a file may
+    // be, and that the entropy failed are each at most as many as the count of such failures rose by; those to the lines that name a drawer that its
+    // disk failed at most as many as that disk's count of faults; and each refusal of the closing has its drawer.
     ensures bounds { BoundsReplies
-        (whole_of (site_of (world_of (⟦<Box<dyn Disk> as Disk>⟧).state shelf.old (C.state files.old) (E.state entropy.old)) (K.state output.old)) (S.state input.old)) result
-        (whole_of (site_of (world_of (⟦<Box<dyn Disk> as Disk>⟧).state shelf.new (C.state files.new) (E.state entropy.new)) (K.state output.new)) (S.state input.new)) }
+        (world_of (⟦<Box<dyn Disk> as Disk>⟧).state shelf.old (C.state files.old) (E.state entropy.old))
+        (world_of (⟦<Box<dyn Disk> as Disk>⟧).state shelf.new (C.state files.new) (E.state entropy.new)) }
 
     // How the run may end, by what the words ask for.
     ensures ends { Ends (map string_bytes words.now) result }
@@ -97,21 +104,25 @@ pub fn run<S: Source, K: Sink, C: Cabinet, E: Entropy, D: Disk>(
     ensures cause { HasCause result
         (whole_of (site_of (world_of D.state shelf.old (C.state files.old) (E.state entropy.old)) (K.state output.old)) (S.state input.old))
         (whole_of (site_of (world_of D.state shelf.new (C.state files.new) (E.state entropy.new)) (K.state output.new)) (S.state input.new)) }
-    ensures write_fault { result ≡ Status.WriteFault → Rose (K.state output.old).faults (K.state output.new).faults }
     ensures complete { Completes (map string_bytes words.now)
         (whole_of (site_of (world_of D.state shelf.old (C.state files.old) (E.state entropy.old)) (K.state output.old)) (S.state input.old)) result
         (whole_of (site_of (world_of D.state shelf.new (C.state files.new) (E.state entropy.new)) (K.state output.new)) (S.state input.new)) }
+    ensures lines { LinesKeepLaws
+        (world_of D.state shelf.old (C.state files.old) (E.state entropy.old))
+        (world_of D.state shelf.new (C.state files.new) (E.state entropy.new)) }
     ensures survivors { SurvivesCrashes
         (world_of D.state shelf.old (C.state files.old) (E.state entropy.old))
         (world_of D.state shelf.new (C.state files.new) (E.state entropy.new)) }
     ensures bounds { BoundsReplies
-        (whole_of (site_of (world_of D.state shelf.old (C.state files.old) (E.state entropy.old)) (K.state output.old)) (S.state input.old)) result
-        (whole_of (site_of (world_of D.state shelf.new (C.state files.new) (E.state entropy.new)) (K.state output.new)) (S.state input.new)) }
+        (world_of D.state shelf.old (C.state files.old) (E.state entropy.old))
+        (world_of D.state shelf.new (C.state files.new) (E.state entropy.new)) }
     ensures ends { Ends (map string_bytes words.now) result }
     ensures histories { KeepsDrawers (map string_bytes words.now)
         (whole_of (site_of (world_of D.state shelf.old (C.state files.old) (E.state entropy.old)) (K.state output.old)) (S.state input.old))
         (whole_of (site_of (world_of D.state shelf.new (C.state files.new) (E.state entropy.new)) (K.state output.new)) (S.state input.new)) }
 {
+    // Clause `survivors` rests on what is attached at entry.
+    shelf.hold_keyings();
     match script_images(words) {
         Some(_) => run_script(alloc, input, output, files, entropy, shelf),
         None => run_command(alloc, words, output, files, entropy, shelf),

@@ -96,21 +96,35 @@ pub record IsBehind (told : Option Files) (line : List ℕ) (words : KeyWords) (
   pub keys : IfSome told (λ files. first_fault key_files files line 0 words.files ≡ None)
   pub at : IsAt passphrase_files told line words.pass word
 
--- the same among all files of a key
-abbrev pub IsReached : Option Files → List ℕ → KeyWords → ℕ → Type 0
-IsReached told line words word = IsAt key_files told line words.files word ⊎ IsBehind told line words word
-
--- whether such a refusal may come, by what the cabinet was before and is now; no other refusal comes
-abbrev pub MayRefuse : CabinetState → CabinetState → Refusal → Type 0
-MayRefuse old new (CabinetFault word) = Rose old.faults new.faults
-MayRefuse old new (FileAbsent word) = Rose old.misses new.misses
-MayRefuse old new (FileTooLong word limit) = ((limit ≡ file_limit) × Rose old.misses new.misses) ⊎ (limit ≡ passphrase_limit)
-MayRefuse old new NoMemory = Unit {0}
-MayRefuse old new refusal = ⊥
-
--- The files are as they were, no count fell, and a refusal has its cause.
-pub record Loads (old new : CabinetState) (refusal : Option Refusal) : Type 0 where
+-- the files are as they were, and no count fell
+pub record KeepsFiles (old new : CabinetState) : Type 0 where
   pub files : new.files ≡ old.files
   pub faults : old.faults ≤ new.faults
   pub misses : old.misses ≤ new.misses
-  pub cause : IfSome refusal (MayRefuse old new)
+
+-- whether one file may be refused so, by what the cabinet was before and is now; no other refusal comes
+abbrev pub MayRefuse : CabinetState → CabinetState → Refusal → Type 0
+MayRefuse old new (CabinetFault word) = Rose old.faults new.faults
+MayRefuse old new (FileAbsent word) = Rose old.misses new.misses
+MayRefuse old new (FileTooLong word limit) = (limit ≡ file_limit) × Rose old.misses new.misses
+MayRefuse old new NoMemory = Unit {0}
+MayRefuse old new refusal = ⊥
+
+-- the same of a passphrase file, whose first line may be too long besides: of that the cabinet counts nothing
+abbrev pub MayRefusePassphrase : CabinetState → CabinetState → Refusal → Type 0
+MayRefusePassphrase old new (FileTooLong word limit) = MayRefuse old new (FileTooLong word limit) ⊎ (limit ≡ passphrase_limit)
+MayRefusePassphrase old new refusal = MayRefuse old new refusal
+
+-- loading stopped at a key file that was reached, with a refusal that may come there
+pub record StopsAtKeyFile (line : List ℕ) (words : KeyWords) (old : CabinetState) (refusal : Refusal) (new : CabinetState) : Type 0 where
+  pub word : IfSome (word_of refusal) (IsAt key_files old.files line words.files)
+  pub cause : MayRefuse old new refusal
+
+-- it stopped so at a passphrase file
+pub record StopsAtPassphraseFile (line : List ℕ) (words : KeyWords) (old : CabinetState) (refusal : Refusal) (new : CabinetState) : Type 0 where
+  pub word : IfSome (word_of refusal) (IsBehind old.files line words)
+  pub cause : MayRefusePassphrase old new refusal
+
+-- it stopped so at one of the files of a key
+abbrev pub StopsAtFile : List ℕ → KeyWords → CabinetState → Refusal → CabinetState → Type 0
+StopsAtFile line words old refusal new = StopsAtKeyFile line words old refusal new ⊎ StopsAtPassphraseFile line words old refusal new

@@ -1,15 +1,22 @@
 -- The two kinds of files of a key.
 use Rattle.std.specs.Prelude.{ℕ, ◌+◌, nat_lt, List, length, Option, None, Some, if◌then◌else◌}
+use Rattle.block_traits.specs.Cabinet.{CabinetState}
 use Rattle.eli_base.specs.declared.refusals.Refusal.{Refusal}
 use Rattle.eli_base.specs.declared.refusals.Refusal.TheVariants.{FileTooLong}
 use Rattle.user_key.specs.Passphrase.{first_line}
 use Rattle.key_components.specs.declared.parts.Part.{Part}
 use Rattle.key_components.specs.declared.parts.Part.TheVariants.{KeyFiles, Passphrase}
+use Rattle.key_components.specs.Answers.{MayRefuse, MayRefusePassphrase}
 use Rattle.key_components.specs.Files.{Taking, file_limit, key_files, passphrase_files, passphrase_limit}
 
 abbrev pub taking_of : Part → Taking
 taking_of KeyFiles = key_files
 taking_of Passphrase = passphrase_files
+
+-- whether a file of the kind may be refused so
+abbrev pub MayRefuseOf : Part → CabinetState → CabinetState → Refusal → Type 0
+MayRefuseOf KeyFiles = MayRefuse
+MayRefuseOf Passphrase = MayRefusePassphrase
 
 -- what is wrong with the first line of a file, where so many bytes counted before it
 abbrev pub line_fault : ℕ → ℕ → List ℕ → Option Refusal

@@ -1,8 +1,7 @@
 // One file of a key.
 ghost use Rattle.std.specs.Prelude.{◌≡◌, ◌≤◌, length, IfOk, IfErr, IfSome};
-ghost use Rattle.std.specs.Result.{result_err};
 ghost use Rattle.command_words.specs.Places.{IsWithin, bytes_at};
-ghost use Rattle.key_components.specs.Answers.{IsAnswer, Loads, file_answer, refusal_of, word_of};
+ghost use Rattle.key_components.specs.Answers.{IsAnswer, KeepsFiles, MayRefuse, file_answer, refusal_of, word_of};
 
 use block_traits::{ByteList, Cabinet, LoadFault};
 use command_words::Span;
@@ -39,7 +38,8 @@ pub fn load_file<C: Cabinet>(
     ensures answer { IfSome (C.state files.old).files (λ told. IsAnswer (file_answer span.word limit (told (bytes_at line.now span))) result) }
     ensures within { IfOk result (λ bytes. length bytes ≤ limit) }
     ensures word { IfErr result (λ refusal. IfSome (word_of refusal) (λ word. span.word ≡ word)) }
-    ensures loads { Loads (C.state files.old) (C.state files.new) (result_err result) }
+    ensures cause { IfErr result (MayRefuse (C.state files.old) (C.state files.new)) }
+    ensures keeps { KeepsFiles (C.state files.old) (C.state files.new) }
 {
     match files.load(alloc, span.bytes_in(line), limit as u64) {
         Ok(bytes) => Ok(bytes),

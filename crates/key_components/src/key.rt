@@ -1,8 +1,7 @@
 // The components of a key.
 ghost use Rattle.std.specs.Prelude.{◌≡◌, ◌+◌, ◌≤◌, length, IfOk, IfErr, IfSome};
-ghost use Rattle.std.specs.Result.{result_err};
 ghost use Rattle.command_words.specs.Places.{KeyIsWithin};
-ghost use Rattle.key_components.specs.Answers.{IsAnswer, IsReached, Loads, word_of};
+ghost use Rattle.key_components.specs.Answers.{IsAnswer, KeepsFiles, StopsAtFile};
 ghost use Rattle.key_components.specs.Key.{FitsWords, components_of, passphrase_of};
 
 use crate::parts::{Part, load_part};
@@ -49,14 +48,14 @@ pub fn load_components<C: Cabinet>(
     // In any case the components are of the kind that the words want, and within the limits.
     ensures fits { IfOk result (FitsWords words.now) }
 
-    // A refusal names the word of a file that was reached.
-    ensures reached { IfErr result (λ refusal. IfSome (word_of refusal) (IsReached (C.state files.old).files line.now words.now)) }
+    // A refusal names the word of a file that was reached, and has the cause of such a file.
+    ensures stops { IfErr result (λ refusal. StopsAtFile line.now words.now (C.state files.old) refusal (C.state files.new)) }
 
     // Where no file is named nothing is refused.
     ensures named { IfErr result (λ _. 1 ≤ length words.now.files + length words.now.pass) }
 
-    // Each refusal has its cause, and no file changes.
-    ensures loads { Loads (C.state files.old) (C.state files.new) (result_err result) }
+    // No file changes, and no count falls.
+    ensures keeps { KeepsFiles (C.state files.old) (C.state files.new) }
 {
     let keyfiles = load_part(alloc, line, Part::KeyFiles, words.files.as_slice(), files)?;
     let passphrase = load_part(alloc, line, Part::Passphrase, words.pass.as_slice(), files)?;

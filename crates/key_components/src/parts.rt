@@ -1,11 +1,10 @@
 // The files of one option of a key.
 ghost use Rattle.std.specs.Prelude.{◌≡◌, ◌+◌, ◌≤◌, ◌⊎◌, All, length, IfOk, IfErr, IfSome};
-ghost use Rattle.std.specs.Result.{result_err};
 ghost use Rattle.command_words.specs.Places.{IsWithin, bytes_at};
 ghost use Rattle.user_key.specs.Passphrase.{first_line};
-ghost use Rattle.key_components.specs.Answers.{IsAnswer, IsAt, Loads, unless_refused, word_of};
+ghost use Rattle.key_components.specs.Answers.{IsAnswer, IsAt, KeepsFiles, unless_refused, word_of};
 ghost use Rattle.key_components.specs.Files.{content, first_fault, joined, passphrase_limit};
-ghost use Rattle.key_components.specs.Parts.{limit_of, line_fault, taking_of};
+ghost use Rattle.key_components.specs.Parts.{MayRefuseOf, limit_of, line_fault, taking_of};
 
 use crate::files::{FILE_LIMIT, load_file};
 use block_traits::{ByteList, Cabinet};
@@ -62,7 +61,8 @@ impl Part {
             IsAnswer (unless_refused ((taking_of self).fault span.word used (told (bytes_at line.now span))) ((taking_of self).piece (content told line.now span))) result) }
         ensures within { IfOk result (λ piece. used + length piece ≤ limit_of self) }
         ensures word { IfErr result (λ refusal. IfSome (word_of refusal) (λ word. span.word ≡ word)) }
-        ensures loads { Loads (C.state files.old) (C.state files.new) (result_err result) }
+        ensures cause { IfErr result (MayRefuseOf self (C.state files.old) (C.state files.new)) }
+        ensures keeps { KeepsFiles (C.state files.old) (C.state files.new) }
     {
         match self {
             Part::KeyFiles => load_file(alloc, line, span, FILE_LIMIT - used, files),
@@ -88,7 +88,8 @@ pub fn load_part<C: Cabinet>(
     ensures within { IfOk result (λ bytes. length bytes ≤ limit_of part) }
     ensures at { IfErr result (λ refusal. IfSome (word_of refusal) (IsAt (taking_of part) (C.state files.old).files line.now spans.now)) }
     ensures named { IfErr result (λ _. 1 ≤ length spans.now) }
-    ensures loads { Loads (C.state files.old) (C.state files.new) (result_err result) }
+    ensures cause { IfErr result (MayRefuseOf part (C.state files.old) (C.state files.new)) }
+    ensures keeps { KeepsFiles (C.state files.old) (C.state files.new) }
 {
     let mut joined = Vec::new(alloc);
     for span in spans {

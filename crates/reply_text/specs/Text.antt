@@ -174,10 +174,10 @@ row_lines rows = concat (map row_text rows)
 abbrev pub list_text : List Row → List ℕ
 list_text rows = row_lines rows ++ codes "ok\n"
 
--- whether the payload has the bytes of a reply
-abbrev pub HasPayload : Reply → List ℕ → Type 0
-HasPayload (Payload count) payload = count ≤ length payload
-HasPayload _ payload = Unit {0}
+-- the payload of a reply, if it has one, is at most so long
+abbrev pub FitsPayload : ℕ → Reply → Type 0
+FitsPayload len (Payload count) = count ≤ len
+FitsPayload len _ = Unit {0}
 
 -- the text of a reply, whose bytes are the first ones of the payload
 abbrev pub reply_text : Reply → List ℕ → List ℕ

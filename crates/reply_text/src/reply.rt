@@ -1,7 +1,7 @@
 // What is answered to a command, and how it is printed.
-ghost use Rattle.std.specs.Prelude.{◌≡◌, ◌++◌, ◌∷◌, []};
+ghost use Rattle.std.specs.Prelude.{◌≡◌, ◌++◌, ◌∷◌, [], length};
 ghost use Rattle.reply_text.specs.Output.{Prints, Puts};
-ghost use Rattle.reply_text.specs.Text.{HasPayload, reply_text, list_text, refusal_text, refusal_fields, number_fields, reason_name, refusal_head, field};
+ghost use Rattle.reply_text.specs.Text.{FitsPayload, reply_text, list_text, refusal_text, refusal_fields, number_fields, reason_name, refusal_head, field};
 ghost use Rattle.std.specs.Fmt.{decimal};
 
 use crate::WriteEnd;
@@ -39,7 +39,7 @@ pub enum Reply {
 /// Prints a reply. `WriteEnd` comes only where the sink's count of faults rose, and the sink then took
 /// the first bytes of the reply's text and no others. Takes no memory.
 pub fn write_reply<K: Sink>(reply: &Reply, payload: &[u8], output: &mut K) -> Result<(), WriteEnd>
-    requires { HasPayload reply.now payload.now }
+    requires { FitsPayload (length payload.now) reply.now }
     ensures { Prints (reply_text reply.now payload.now) (K.state output.old) result (K.state output.new) }
 {
     let mut page = Page::new();
@@ -54,7 +54,7 @@ fn write_whole<K: Sink>(
     page: &mut Page,
     output: &mut K,
 ) -> Result<(), WriteEnd>
-    requires { HasPayload reply.now payload.now }
+    requires { FitsPayload (length payload.now) reply.now }
     ensures { Puts (reply_text reply.now payload.now) page.old.items (K.state output.old) result page.new.items (K.state output.new) }
 {
     match reply {

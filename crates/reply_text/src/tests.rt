@@ -1,5 +1,6 @@
 // What is printed for each reply, and in how many calls.
-ghost use Rattle.reply_text.specs.Text.{HasPayload};
+ghost use Rattle.std.specs.Prelude.{length};
+ghost use Rattle.reply_text.specs.Text.{FitsPayload};
 
 use super::*;
 use block_traits::ByteList;
@@ -11,7 +12,7 @@ use std::test::Fail;
 
 // Whether the reply is printed so, whole and cut into small pieces.
 fn prints(alloc: Global, reply: &Reply, payload: &[u8], wanted: &str) -> Result<bool, Fail>
-    requires { HasPayload reply.now payload.now }
+    requires { FitsPayload (length payload.now) reply.now }
 {
     let mut whole = MemSink::new(alloc, &[], &[], 4096)?;
     let mut cut = MemSink::new(alloc, &[1, 2, 0, 3, 5, 1, 1], &[], 4096)?;
@@ -360,7 +361,7 @@ fn largest_payload_in_few_calls(rt: HostRuntime) -> Result<(), Fail> {
 
 // Whether the sink is called once for the reply: the first call that fails is the last one too.
 fn takes_one_call(alloc: Global, reply: &Reply, payload: &[u8]) -> Result<bool, Fail>
-    requires { HasPayload reply.now payload.now }
+    requires { FitsPayload (length payload.now) reply.now }
 {
     let mut first = MemSink::new(alloc, &[], &[1], 4096)?;
     let mut second = MemSink::new(alloc, &[], &[2], 4096)?;

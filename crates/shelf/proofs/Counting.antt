@@ -1,8 +1,7 @@
 -- Each row keeps the counts of the cabinet and the entropy from falling, and answers their failures only where they rose.
 use Rattle.std.proofs.Common.{◌≡◌, ◌⊎◌, inl, inr, ℕ, ◌*◌, ◌/◌, ◌≤◌, List, [], ◌∷◌, length, ap, sym, subst, arith, Bool, true, false, cond, Option, None, Some, Result, Ok, Err}
-use Rattle.std.specs.Prelude.{ℤ, IfSome, MatchOption, unwrap_or}
+use Rattle.std.specs.Prelude.{ℤ, IfErr, MatchOption, unwrap_or}
 use Rattle.std.specs.Option.{option_or}
-use Rattle.std.specs.Result.{result_err}
 use Rattle.backup_restore.specs.Restoring.{Restores, restored}
 use Rattle.backup_restore.specs.Saving.{Saves}
 use Rattle.block_traits.specs.Cabinet.{CabinetState}
@@ -30,7 +29,7 @@ use Rattle.key_commands.specs.Options.{early_refusal}
 use Rattle.key_commands.specs.Overwriting.{deletion_refusal}
 use Rattle.key_commands.specs.SetKey.{SetsKey}
 use Rattle.key_commands.specs.declared.options.InitOptions.{InitOptions}
-use Rattle.key_components.specs.Answers.{MayRefuse}
+use Rattle.key_components.specs.Answers.{MayRefuse, StopsAtFile}
 use Rattle.resize_kill.specs.Killing.{Kills}
 use Rattle.resize_kill.specs.Resizing.{RefusesOld, RefusesSizes, Resizes, old_refusal, size_refusal}
 use Rattle.sha2.specs.Sha256.{sha256}
@@ -248,20 +247,25 @@ using_counts m old answer new h = decision_counts _ old answer new (by_plain _ (
 
 -- ---- the files
 
-loaded_counts : {A : Type 0} (old new : Reach) (answer : Result A Refusal) → IfSome (result_err answer) (MayRefuse old.cabinet new.cabinet) → CountsResult old answer new
+loaded_counts : {A : Type 0} (old new : Reach) (answer : Result A Refusal) → IfErr answer (MayRefuse old.cabinet new.cabinet) → CountsResult old answer new
 loaded_counts old new (Ok value) h = tt
 loaded_counts old new (Err (refusals.CabinetFault word)) h = h
 loaded_counts old new (Err (refusals.FileAbsent word)) h = h
-loaded_counts old new (Err (refusals.FileTooLong word limit)) (inl h) = inr h.1
-loaded_counts old new (Err (refusals.FileTooLong word limit)) (inr h) = inl h
+loaded_counts old new (Err (refusals.FileTooLong word limit)) h = inr h.1
 loaded_counts old new (Err refusals.NoMemory) h = tt
 loaded_counts old new (Err refusal) h = absurd h
 
+stopped_counts : (line : List ℕ) (words : KeyWords) (old new : Reach) (answer : Result Components Refusal) → IfErr answer (λ refusal. StopsAtFile line words old.cabinet refusal new.cabinet) → CountsResult old answer new
+stopped_counts line words old new (Ok parts) h = tt
+stopped_counts line words old new (Err refusal) (inl h) = loaded_counts {A = Components} old new (Err refusal) h.cause
+stopped_counts line words old new (Err (refusals.FileTooLong word limit)) (inr h) = elim h.cause [ inl long ↦ inr long.1 | inr own ↦ inl own ]
+stopped_counts line words old new (Err refusal) (inr h) = loaded_counts {A = Components} old new (Err refusal) h.cause
+
 components_counts : (line : List ℕ) (words : KeyWords) → Counts (LoadsComponents line words)
-components_counts line words old answer new h = (loaded_counts old new answer h.loads.cause, undrawn old new h.loads.faults h.loads.misses h.entropy)
+components_counts line words old answer new h = (stopped_counts line words old new answer h.stops, undrawn old new h.keeps.faults h.keeps.misses h.entropy)
 
 file_counts : (line : List ℕ) (file : Span) → Counts (LoadsFile line file)
-file_counts line file old answer new h = (loaded_counts old new answer h.loads.cause, undrawn old new h.loads.faults h.loads.misses h.entropy)
+file_counts line file old answer new h = (loaded_counts old new answer h.cause, undrawn old new h.keeps.faults h.keeps.misses h.entropy)
 
 stored_counts : (line : List ℕ) (file : Span) (bytes : List ℕ) (old new : Reach) (answer : Result (Unit {0}) Refusal) → StoreAnswers line file bytes old.cabinet answer new.cabinet → new.entropy ≡ old.entropy → CountsResult old answer new × Later old new
 stored_counts line file bytes old new (Ok done) h same = (tt, undrawn old new h.faults h.misses same)

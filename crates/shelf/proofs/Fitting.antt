@@ -33,7 +33,7 @@ use Rattle.user_key.specs.declared.components.Components.{Components}
 use Rattle.shelf.specs.Answer as answers
 use Rattle.shelf.specs.Causes.{AsksBytes, AsksSectors, AttachedWith, Caused, CausedAt, CausedBy, FindsFault, HasBadLength, HasCause, PassesEnd, may_lack_memory, needs_attached, needs_idle, writes_data}
 use Rattle.shelf.specs.Digits.{bytes_spelled}
-use Rattle.shelf.specs.Fits.{FailsNowhere, FindsAt, FindsAttached, FindsBackup, FindsChange, FindsKey, FindsNew, FindsNewKey, FindsOldKey, FindsOldPlace, FindsSetkey, FindsSlots, Fits, FitsFill, FitsRead, FitsSum, FitsWrite, NamesParts, ShowsAt, ShowsMetadata}
+use Rattle.shelf.specs.Fits.{FailsNowhere, FindsAt, FindsAttached, FindsBackup, FindsChange, FindsKey, FindsNew, FindsNewKey, FindsOldKey, FindsOldPlace, FindsSetkey, FindsSlots, Fits, FitsFill, FitsRead, FitsSum, FitsWrite, NamesParts, ShowsMetadata, ShowsMetadataAt}
 use Rattle.shelf.specs.Grounds.{AreComponents, FindsBadFile, HasGround, HasMetadata, IsFile, IsReadAs, LacksMetadata, RefusesAttach, RefusesBackup, RefusesBoth, RefusesChange, RefusesDelkey, RefusesFile, RefusesFiles, RefusesNew, RefusesNewKey, RefusesOldPlace, RefusesSetkey, RefusesSlots, RefusesTrial}
 use Rattle.shelf.specs.Keys.{named_slots, opened_by, slot_of}
 use Rattle.shelf.specs.Steps.{admitted, tried, whole_sectors}
@@ -43,7 +43,7 @@ use Rattle.shelf.proofs.LineCauses.{refusal_caused}
 
 -- ---- what is told decides
 
-reads_same : (disk : DiskState) (place : ℕ) (m : Metadata) (found : Result Metadata MetaFault) → ShowsAt disk place m → IsReadAs disk place found → found ≡ Ok m
+reads_same : (disk : DiskState) (place : ℕ) (m : Metadata) (found : Result Metadata MetaFault) → ShowsMetadataAt disk place m → IsReadAs disk place found → found ≡ Ok m
 reads_same disk place m found shows read =
     let bytes : read.bytes ≡ present shows.content place = subst (λ (o : Option Content). GivesFrom o place read.bytes) shows.told read.told in
     sym read.read ∙ (ap metadata_in bytes ∙ shows.read)

@@ -16,9 +16,10 @@ use Rattle.eli_metadata.specs.Refusals.{read_refusal_of, refusal_of}
 use Rattle.eli_metadata.specs.declared.metadata.Metadata.{Metadata}
 use Rattle.eli_metadata.specs.declared.place.ReadMetaFault.{ReadMetaFault}
 use Rattle.eli_metadata.specs.declared.place.ReadMetaFault.TheVariants.{TooSmall, DeviceFault, Meta}
-use Rattle.key_components.specs.Answers.{IsReached, MayRefuse, file_answer, word_of}
+use Rattle.key_components.specs.Answers.{file_answer}
 use Rattle.key_components.specs.Files.{file_limit}
 use Rattle.key_components.specs.Key.{components_of}
+use Rattle.key_components.proofs.Causes.{StopsAtFile-cause, StopsAtFile-earlier}
 use Rattle.user_key.specs.declared.components.Components.{Components}
 use Rattle.shelf.specs.Causes.{HasCause, may_lack_memory}
 use Rattle.shelf.specs.Grounds.{AreComponents, FindsBadFile, HasGround, HasMetadata, HoldsNone, IsFile, LacksMetadata, RefusesFiles}
@@ -135,36 +136,27 @@ pub told_sym : {T : Type 0} (told : Option Files) (answer : Files → T) (value 
 told_sym None answer value h = tt
 told_sym (Some files) answer value h = sym h
 
-may_since : (start old new : CabinetState) (refusal : Refusal) → start.faults ≤ old.faults → start.misses ≤ old.misses → MayRefuse old new refusal → MayRefuse start new refusal
-may_since start old new (refusals.CabinetFault word) faults misses h = Rose-earlier start.faults old.faults new.faults faults h
-may_since start old new (refusals.FileAbsent word) faults misses h = Rose-earlier start.misses old.misses new.misses misses h
-may_since start old new (refusals.FileTooLong word limit) faults misses (inl h) = inl (h.0, Rose-earlier start.misses old.misses new.misses misses h.1)
-may_since start old new (refusals.FileTooLong word limit) faults misses (inr h) = inr h
-may_since start old new refusals.NoMemory faults misses h = tt
-may_since start old new refusal faults misses h = absurd h
-
 -- the files of a key that a step finds wrong were so at first
 wrong_files : (line : List ℕ) (words : KeyWords) (start old : Reach) (refusal : Refusal) (new : Reach) → IfSome old.cabinet.files (λ files. Err refusal ≡ components_of files line words) → Since start old → LoadsComponents line words old (Err refusal) new
     → RefusesFiles line words start.cabinet refusal new.cabinet
 wrong_files line words start old refusal new told since h = record {
   first = subst (λ (f : Option Files). IfSome f (λ files. components_of files line words ≡ Err refusal)) since.files (told_sym old.cabinet.files (λ files. components_of files line words) (Err refusal) told);
-  reached = subst (λ (f : Option Files). IfSome (word_of refusal) (IsReached f line words)) since.files h.reached;
-  cause = may_since start.cabinet old.cabinet new.cabinet refusal since.cabinet since.misses h.loads.cause;
+  stops = StopsAtFile-earlier line words start.cabinet old.cabinet refusal new.cabinet (record { files = since.files; faults = since.cabinet; misses = since.misses }) h.stops;
 }
 
 pub loading_why : (line : List ℕ) (command : Command) (words : KeyWords) (start old : Reach) (answer : Result Components Refusal) (new : Reach) → may_lack_memory command ≡ true → BadFiles line command start (RefusesFiles line words start.cabinet) → Since start old
     → LoadsComponents line words old answer new → Why line command start answer new
 loading_why line command words start old (Ok parts) new memory bad since h = tt
-loading_why line command words start old (Err (refusals.CabinetFault word)) new memory bad since h = Rose-earlier start.cabinet.faults old.cabinet.faults new.cabinet.faults since.cabinet h.loads.cause
+loading_why line command words start old (Err (refusals.CabinetFault word)) new memory bad since h = Rose-earlier start.cabinet.faults old.cabinet.faults new.cabinet.faults since.cabinet (StopsAtFile-cause line words old.cabinet (refusals.CabinetFault word) new.cabinet h.stops)
 loading_why line command words start old (Err (refusals.FileAbsent word)) new memory bad since h =
     bad (refusals.FileAbsent word) new.cabinet (wrong_files line words start old (refusals.FileAbsent word) new h.told since h)
 loading_why line command words start old (Err (refusals.FileTooLong word limit)) new memory bad since h =
     bad (refusals.FileTooLong word limit) new.cabinet (wrong_files line words start old (refusals.FileTooLong word limit) new h.told since h)
 loading_why line command words start old (Err refusals.NoMemory) new memory bad since h = memory
-loading_why line command words start old (Err refusal) new memory bad since h = absurd h.loads.cause
+loading_why line command words start old (Err refusal) new memory bad since h = absurd (StopsAtFile-cause line words old.cabinet refusal new.cabinet h.stops)
 
 pub loading_since : (line : List ℕ) (words : KeyWords) (start old : Reach) (answer : Result Components Refusal) (new : Reach) → Since start old → LoadsComponents line words old answer new → Since start new
-loading_since line words start old answer new since h = since_then start old new since (since_cabinet old new h.disk h.entropy h.loads.files h.loads.faults h.loads.misses)
+loading_since line words start old answer new since h = since_then start old new since (since_cabinet old new h.disk h.entropy h.keeps.files h.keeps.faults h.keeps.misses)
 
 -- what was loaded is what the words name in the files that there were at first
 pub loading_parts : (line : List ℕ) (words : KeyWords) (start old : Reach) (parts : Components) (new : Reach) → old.cabinet.files ≡ start.cabinet.files → LoadsComponents line words old (Ok parts) new → AreComponents start.cabinet.files line words parts

@@ -29,7 +29,8 @@ use Rattle.key_commands.specs.NewProvider.{init_events}
 use Rattle.key_commands.specs.Random.{master_key_in}
 use Rattle.key_commands.specs.Usable.{IsAccepted, IsUsable, OpensFirst, settings_for}
 use Rattle.key_commands.specs.declared.options.InitOptions.{InitOptions}
-use Rattle.key_components.specs.Answers.{IsAnswer, IsRefusal, MayRefuse}
+use Rattle.key_components.specs.Answers.{IsAnswer, IsRefusal, MayRefusePassphrase}
+use Rattle.key_components.proofs.Causes.{StopsAtFile-cause}
 use Rattle.key_slots.specs.Slots.{numbered}
 use Rattle.key_components.specs.Key.{components_of}
 use Rattle.provider.specs.Attached.{opened}
@@ -178,7 +179,7 @@ tried-usable options parts sectors m key master slot readonly usable first =
 
 -- ---- the row
 
-OpensOrFails-refused : (parts : Components) (refusal : Refusal) (old new : Reach) → IsRefusal (Ok parts) refusal → MayRefuse old.cabinet new.cabinet refusal → OpensOrFails {A = Attachment} old (Err refusal) new
+OpensOrFails-refused : (parts : Components) (refusal : Refusal) (old new : Reach) → IsRefusal (Ok parts) refusal → MayRefusePassphrase old.cabinet new.cabinet refusal → OpensOrFails {A = Attachment} old (Err refusal) new
 OpensOrFails-refused parts (refusals.CabinetFault word) old new is cause = cause
 OpensOrFails-refused parts refusals.NoMemory old new is cause = tt
 OpensOrFails-refused parts _ old new is cause = absurd (cc is)
@@ -204,7 +205,7 @@ OpensOrFails-key line words m s slot readonly a parts (Ok parts') old middle new
     let done : answer ≡ Ok a = next.0 ∙ ap (λ (p : Components). tried m s slot readonly (user_key p m.salt m.iterations)) same ∙ opens in
     subst (λ (r : Result Attachment Refusal). OpensOrFails old r new) (sym done) tt
 OpensOrFails-key line words m s slot readonly a parts (Err refusal) old middle new answer loads told opens next =
-    OpensOrFails-here old middle new answer refusal next (OpensOrFails-refused parts refusal old middle told loads.loads.cause)
+    OpensOrFails-here old middle new answer refusal next (OpensOrFails-refused parts refusal old middle told (StopsAtFile-cause line words old.cabinet refusal middle.cabinet loads.stops))
 
 -- the metadata are admitted, and so on
 OpensOrFails-admitted : (line : List ℕ) (words : KeyWords) (m : Metadata) (s : Settings) (slot : Option ℕ) (readonly : Bool) (a : Attachment) (parts : Components) (files : Files) (old new : Reach) (answer : Result Attachment Refusal)

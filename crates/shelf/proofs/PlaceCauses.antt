@@ -53,15 +53,15 @@ backup_why line prov file old answer new h =
 wrong_file : (line : List ℕ) (file : Span) (old : Reach) (refusal : Refusal) (new : Reach) → IfSome old.cabinet.files (λ files. Err refusal ≡ file_answer file.word file_limit (files (bytes_at line file))) → LoadsFile line file old (Err refusal) new
     → RefusesFile line file old.cabinet refusal new.cabinet
 wrong_file line file old refusal new told h =
-    record { first = told_sym old.cabinet.files (λ files. file_answer file.word file_limit (files (bytes_at line file))) (Err refusal) told; named = h.word; cause = h.loads.cause }
+    record { first = told_sym old.cabinet.files (λ files. file_answer file.word file_limit (files (bytes_at line file))) (Err refusal) told; named = h.word; cause = h.cause }
 
 file_why : (line : List ℕ) (file prov : Span) (force : Bool) (old : Reach) (answer : Result (List ℕ) Refusal) (new : Reach) → LoadsFile line file old answer new → Why line (commands.Restore file prov force) old answer new
 file_why line file prov force old (Ok bytes) new h = tt
-file_why line file prov force old (Err (refusals.CabinetFault word)) new h = h.loads.cause
+file_why line file prov force old (Err (refusals.CabinetFault word)) new h = h.cause
 file_why line file prov force old (Err (refusals.FileAbsent word)) new h = wrong_file line file old (refusals.FileAbsent word) new h.told h
 file_why line file prov force old (Err (refusals.FileTooLong word limit)) new h = wrong_file line file old (refusals.FileTooLong word limit) new h.told h
 file_why line file prov force old (Err refusals.NoMemory) new h = refl
-file_why line file prov force old (Err refusal) new h = absurd h.loads.cause
+file_why line file prov force old (Err refusal) new h = absurd h.cause
 
 restores_why : (line : List ℕ) (command : Command) (bytes : List ℕ) (force : Bool) (start old : Reach) (made : Result Metadata Refusal) (new : Reach) → Grounds line command start (λ refusal. restored bytes force start.disk.size ≡ Err refusal) → Since start old
     → Restores bytes force old.disk made new.disk → Why line command start made new
@@ -84,7 +84,7 @@ filed_why line file prov force old answer new h =
     then_why line command (LoadsFile line file) (λ bytes. Then (WritesBack bytes force) (λ m. Decides {A = Unit {0}} (Ok tt))) old answer new (λ given middle first. file_why line file prov force old given middle first)
     (λ bytes middle first next. writes_why line command bytes force old middle answer new
     (λ refusal is. record { bytes = bytes; named = loading_bytes line file old old bytes middle refl first; refused = is })
-    (since_cabinet old middle first.disk first.entropy first.loads.files first.loads.faults first.loads.misses) next) h
+    (since_cabinet old middle first.disk first.entropy first.keeps.files first.keeps.faults first.keeps.misses) next) h
 
 pub restore_why : (line : List ℕ) (file prov : Span) (force : Bool) (old : Reach) (answer : Result (Unit {0}) Refusal) (new : Reach) → RestoreRow line file force old answer new → Why line (commands.Restore file prov force) old answer new
 restore_why line file prov force old answer new h =

@@ -1,13 +1,12 @@
 -- How rows are gone through.
 use Rattle.std.proofs.Common.{ℕ, ◌+◌, ◌≤◌, List, length, IfOk, IfSome, Result, Ok, Err, refl}
 use Rattle.std.specs.Prelude.{IfErr}
-use Rattle.std.specs.Result.{result_err}
 use Rattle.block_traits.specs.Cabinet.{CabinetState}
 use Rattle.block_traits.specs.Disk.{DiskState}
 use Rattle.block_traits.specs.Streams.{EntropyState}
 use Rattle.command_words.specs.declared.spans.KeyWords.{KeyWords}
 use Rattle.eli_base.specs.declared.refusals.Refusal.{Refusal}
-use Rattle.key_components.specs.Answers.{IsAnswer, IsReached, Loads, word_of}
+use Rattle.key_components.specs.Answers.{IsAnswer, KeepsFiles, StopsAtFile}
 use Rattle.key_components.specs.Key.{FitsWords, components_of}
 use Rattle.user_key.specs.declared.components.Components.{Components}
 use Rattle.shelf.specs.Steps.{LoadsComponents, Then}
@@ -26,7 +25,7 @@ Then-goes_on First Next old middle value answer new first next = record { given 
 -- the files of a key were loaded
 pub loaded : (line : List ℕ) (words : KeyWords) (disk : DiskState) (holding : Holding) (entropy : EntropyState) (old new : CabinetState) (answer : Result Components Refusal)
     → IfSome old.files (λ files. IsAnswer (components_of files line words) answer) → IfOk answer (FitsWords words)
-    → IfErr answer (λ refusal. IfSome (word_of refusal) (IsReached old.files line words)) → Loads old new (result_err answer)
+    → IfErr answer (λ refusal. StopsAtFile line words old refusal new) → KeepsFiles old new
     → IfErr answer (λ refusal. 1 ≤ length words.files + length words.pass)
     → LoadsComponents line words (record { disk = disk; holding = holding; cabinet = old; entropy = entropy }) answer (record { disk = disk; holding = holding; cabinet = new; entropy = entropy })
-loaded line words disk holding entropy old new answer told fits reached loads named = record { told = told; fits = fits; reached = reached; loads = loads; named = named; disk = refl; holding = refl; entropy = refl }
+loaded line words disk holding entropy old new answer told fits stops keeps named = record { told = told; fits = fits; stops = stops; keeps = keeps; named = named; disk = refl; holding = refl; entropy = refl }

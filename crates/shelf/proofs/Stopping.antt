@@ -83,7 +83,7 @@ early_reading : Early ReadsLastSector
 early_reading old answer new h = record { quiet = quiet_reading old answer new h; files = ap (λ (c : CabinetState). c.files) h.cabinet }
 
 early_loading : (line : List ℕ) (words : KeyWords) → Early (LoadsComponents line words)
-early_loading line words old answer new h = record { quiet = quiet_loading line words old answer new h; files = h.loads.files }
+early_loading line words old answer new h = record { quiet = quiet_loading line words old answer new h; files = h.keeps.files }
 
 abbrev Change : Type 1
 Change = DiskState → Bool → DiskState → Type 0
@@ -336,7 +336,7 @@ written_left told line file bytes force start old (Err refusal) middle answer ne
     rw (next.0, ap (λ (r : Reach). r.disk) next.1) (inl (ap (λ (d : DiskState). d.content) h.unchanged ∙ same.content))
 
 early_file : (line : List ℕ) (file : Span) → Early (LoadsFile line file)
-early_file line file old answer new h = record { quiet = same_disk old.disk new.disk h.disk; files = h.loads.files }
+early_file line file old answer new h = record { quiet = same_disk old.disk new.disk h.disk; files = h.keeps.files }
 
 pub restore_left : (line : List ℕ) (file : Span) (force : Bool) (old : Reach) (answer : Result (Unit {0}) Refusal) (new : Reach) → RestoreRow line file force old answer new
     → Left (PutsBack old.cabinet.files line file force) old.disk answer new.disk

@@ -1,5 +1,5 @@
 -- A reply whole: what is answered to one command, as data.
-use Rattle.std.specs.Prelude.{ℕ, ◌≤◌, List, take}
+use Rattle.std.specs.Prelude.{ℕ, List, take}
 use Rattle.eli_base.specs.declared.refusals.Refusal.{Refusal}
 use Rattle.eli_metadata.specs.declared.metadata.Metadata.{Metadata}
 use Rattle.reply_text.specs.Text.{bytes_text, dump_text, list_text, refusal_text}
@@ -25,11 +25,6 @@ answer_of bytes (replies.Digest digest) = Digest digest
 answer_of bytes (replies.Rows rows) = Rows rows
 answer_of bytes (replies.Dump meta) = Dump meta
 answer_of bytes (replies.Refused refusal) = Refused refusal
-
--- the payload of a reply, if it has one, is at most so long
-abbrev pub FitsPayload : ℕ → Reply → Type 0
-FitsPayload len (replies.Payload count) = count ≤ len
-FitsPayload len reply = Unit {0}
 
 -- the text of an answer
 abbrev pub answer_text : Answer → List ℕ

@@ -36,7 +36,7 @@ use Rattle.shelf.specs.Turn.{iterations_of, reach}
 use Rattle.shelf.specs.World.{Attachment, DrawerState, Holding, Idle, IsAttached, Reach, World, place_of}
 
 -- the disk tells its content, of which a sector is read as these metadata
-pub record ShowsAt (disk : DiskState) (place : ℕ) (m : Metadata) : Type 0 where
+pub record ShowsMetadataAt (disk : DiskState) (place : ℕ) (m : Metadata) : Type 0 where
   pub content : Content
   pub told : disk.content ≡ Some content
   pub read : metadata_in (present content place) ≡ Ok m
@@ -44,7 +44,7 @@ pub record ShowsAt (disk : DiskState) (place : ℕ) (m : Metadata) : Type 0 wher
 -- the last sector is
 pub record ShowsMetadata (disk : DiskState) (m : Metadata) : Type 0 where
   pub enough : 2 ≤ disk.size
-  pub shown : ShowsAt disk (last_sector disk) m
+  pub shown : ShowsMetadataAt disk (last_sector disk) m
 
 -- the cabinet tells its files, by which the words of a key name these components
 pub record NamesParts (line : List ℕ) (words : KeyWords) (cabinet : CabinetState) (parts : Components) : Type 0 where
@@ -132,7 +132,7 @@ pub record FindsOldPlace (oldsize : ℕ) (old : Reach) : Type 0 where
   pub idle : old.holding ≡ Idle
   pub sizes : size_refusal old.disk.size oldsize ≡ None
   pub m : Metadata
-  pub shows : ShowsAt old.disk (old_place oldsize) m
+  pub shows : ShowsMetadataAt old.disk (old_place oldsize) m
   pub served : old_refusal (Ok m) oldsize ≡ None
 
 -- requests on an attached provider: they are whole sectors that are there, the provider may be written, and the tags of what is read fit

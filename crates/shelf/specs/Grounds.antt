@@ -22,7 +22,7 @@ use Rattle.key_commands.specs.Options.{early_refusal}
 use Rattle.key_commands.specs.Overwriting.{deletion_refusal}
 use Rattle.key_commands.specs.declared.options.InitOptions.{InitOptions}
 use Rattle.key_commands.specs.declared.overwriting.Which.{Which}
-use Rattle.key_components.specs.Answers.{IsReached, MayRefuse, file_answer, word_of}
+use Rattle.key_components.specs.Answers.{MayRefuse, StopsAtFile, file_answer, word_of}
 use Rattle.key_components.specs.Files.{file_limit}
 use Rattle.key_components.specs.Key.{FitsWords, components_of}
 use Rattle.resize_kill.specs.Resizing.{old_place, old_refusal, size_refusal}
@@ -69,12 +69,11 @@ pub record AreComponents (told : Option Files) (line : List ℕ) (words : KeyWor
   pub named : IfSome told (λ files. components_of files line words ≡ Ok parts)
   pub fits : FitsWords words parts
 
--- the file of a key that is refused is the first that is wrong, where the files are told; the count of misses rose, but for a
--- passphrase that is longer than its own limit
+-- the file of a key that is refused is the first that is wrong, where the files are told; the count of misses rose, but for the
+-- first lines of passphrase files, which have a limit of their own
 pub record RefusesFiles (line : List ℕ) (words : KeyWords) (old : CabinetState) (refusal : Refusal) (new : CabinetState) : Type 0 where
   pub first : IfSome old.files (λ files. components_of files line words ≡ Err refusal)
-  pub reached : IfSome (word_of refusal) (IsReached old.files line words)
-  pub cause : MayRefuse old new refusal
+  pub stops : StopsAtFile line words old refusal new
 
 -- these are the bytes of the file that a word names, where the files are told
 abbrev pub IsFile : Option Files → List ℕ → Span → List ℕ → Type 0

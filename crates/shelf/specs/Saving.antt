@@ -1,6 +1,5 @@
 -- The rows of `backup` and `restore`: the metadata are stored in a file, and written back from one (geli(8)).
 use Rattle.std.specs.Prelude.{◌≡◌, ℕ, ◌≤◌, Bool, List, length, IfOk, IfErr, IfSome, Result, Ok}
-use Rattle.std.specs.Result.{result_err}
 use Rattle.backup_restore.specs.Restoring.{Restores}
 use Rattle.backup_restore.specs.Saving.{Saves}
 use Rattle.block_traits.specs.Disk.{DiskState}
@@ -8,7 +7,7 @@ use Rattle.command_words.specs.Places.{bytes_at}
 use Rattle.command_words.specs.declared.spans.Span.{Span}
 use Rattle.eli_base.specs.declared.refusals.Refusal.{Refusal}
 use Rattle.eli_metadata.specs.declared.metadata.Metadata.{Metadata}
-use Rattle.key_components.specs.Answers.{IsAnswer, Loads, file_answer, word_of}
+use Rattle.key_components.specs.Answers.{IsAnswer, KeepsFiles, MayRefuse, file_answer, word_of}
 use Rattle.key_components.specs.Files.{file_limit}
 use Rattle.shelf.specs.Requests.{handed_out}
 use Rattle.shelf.specs.Steps.{Decides, KeepsOutside, NeedsIdle, StoresBytes, Then}
@@ -37,7 +36,8 @@ pub record LoadsFile (line : List ℕ) (file : Span) (old : Reach) (answer : Res
   pub told : IfSome old.cabinet.files (λ files. IsAnswer (file_answer file.word file_limit (files (bytes_at line file))) answer)
   pub within : IfOk answer (λ bytes. length bytes ≤ file_limit)
   pub word : IfErr answer (λ refusal. IfSome (word_of refusal) (λ word. file.word ≡ word))
-  pub loads : Loads old.cabinet new.cabinet (result_err answer)
+  pub cause : IfErr answer (MayRefuse old.cabinet new.cabinet)
+  pub keeps : KeepsFiles old.cabinet new.cabinet
   pub disk : new.disk ≡ old.disk
   pub holding : new.holding ≡ old.holding
   pub entropy : new.entropy ≡ old.entropy

@@ -1,6 +1,5 @@
 -- The steps of which commands consist. A step answers a value or a refusal, and may change what the command reaches.
 use Rattle.std.specs.Prelude.{◌≡◌, ℕ, ◌+◌, ◌*◌, ◌/◌, ◌%◌, ◌≤◌, nat_le, Bool, true, false, ◌&&◌, ◌||◌, List, [], ◌∷◌, length, Option, Some, None, IfOk, IfErr, IfSome, Result, Ok, Err, if◌then◌else◌, ◌==◌}
-use Rattle.std.specs.Result.{result_err}
 use Rattle.block_traits.specs.Cabinet.{CabinetState, stored}
 use Rattle.block_traits.specs.Causes.{Counted, Rose}
 use Rattle.block_traits.specs.declared.cabinet.StoreFault.{StoreFault}
@@ -25,7 +24,7 @@ use Rattle.eli_metadata.specs.declared.metadata.MetaFault.{MetaFault}
 use Rattle.eli_metadata.specs.declared.place.ReadMetaFault.{ReadMetaFault}
 use Rattle.key_commands.specs.NewProvider.{Inits}
 use Rattle.key_commands.specs.declared.options.InitOptions.{InitOptions}
-use Rattle.key_components.specs.Answers.{IsAnswer, IsReached, Loads, word_of}
+use Rattle.key_components.specs.Answers.{IsAnswer, KeepsFiles, StopsAtFile}
 use Rattle.key_components.specs.Key.{FitsWords, components_of}
 use Rattle.provider.specs.Attached.{media, opened}
 use Rattle.provider.specs.Reading.{ReadsAs}
@@ -126,8 +125,8 @@ Admits m slot old answer new = Decides (admitted m old.disk.size slot) old answe
 pub record LoadsComponents (line : List ℕ) (words : KeyWords) (old : Reach) (answer : Result Components Refusal) (new : Reach) : Type 0 where
   pub told : IfSome old.cabinet.files (λ files. IsAnswer (components_of files line words) answer)
   pub fits : IfOk answer (FitsWords words)
-  pub reached : IfErr answer (λ refusal. IfSome (word_of refusal) (IsReached old.cabinet.files line words))
-  pub loads : Loads old.cabinet new.cabinet (result_err answer)
+  pub stops : IfErr answer (λ refusal. StopsAtFile line words old.cabinet refusal new.cabinet)
+  pub keeps : KeepsFiles old.cabinet new.cabinet
   pub named : IfErr answer (λ refusal. 1 ≤ length words.files + length words.pass)
   pub disk : new.disk ≡ old.disk
   pub holding : new.holding ≡ old.holding
@@ -141,12 +140,6 @@ pub record MakesProvider (options : InitOptions) (parts : Components) (old : Rea
   pub cabinet : new.cabinet ≡ old.cabinet
 
 -- ---- bytes are stored under the name at a place of the line
-
--- the files are as they were, and no count fell
-pub record KeepsFiles (old new : CabinetState) : Type 0 where
-  pub files : new.files ≡ old.files
-  pub faults : old.faults ≤ new.faults
-  pub misses : old.misses ≤ new.misses
 
 -- the file is made or replaced, the others stay, and no count fell
 pub record StoresFile (name bytes : List ℕ) (old new : CabinetState) : Type 0 where

@@ -1,5 +1,5 @@
 -- The drawers, and what else a command reaches, as plain data.
-use Rattle.std.specs.Prelude.{ℕ, ◌+◌, Bool, List, [], ◌∷◌, Option, Some, None, map, if◌then◌else◌}
+use Rattle.std.specs.Prelude.{◌≡◌, ℕ, ◌+◌, Bool, List, [], ◌∷◌, Option, Some, None, map, if◌then◌else◌, slice_get}
 use Rattle.std.specs.Option.{option_map}
 use Rattle.std.specs.Str.{bytes_eq}
 use Rattle.block_traits.specs.Cabinet.{CabinetState}
@@ -8,6 +8,7 @@ use Rattle.block_traits.specs.Disk.{DiskState}
 use Rattle.block_traits.specs.Streams.{EntropyState}
 use Rattle.eli_base.specs.Keying.{Keying}
 use Rattle.provider.specs.Attached.{Attached}
+use Rattle.range_keys.specs.Ring.{IsKeying}
 use Rattle.shelf.specs.declared.drawer.Drawer.{Drawer}
 use Rattle.shelf.specs.declared.drawer.Held.{Held}
 use Rattle.shelf.specs.declared.drawer.Held.TheVariants as held
@@ -53,6 +54,19 @@ drawers_of state drawers = map (drawer_of state) drawers
 abbrev pub place_of : List ℕ → List DrawerState → Option ℕ
 place_of name [] = None
 place_of name (drawer ∷ drawers) = if bytes_eq drawer.name name then Some 0 else option_map (λ n. n + 1) (place_of name drawers)
+
+-- it is one of the drawers
+abbrev pub IsAmong : List DrawerState → DrawerState → Type 0
+IsAmong drawers drawer = (place : ℕ) × (slice_get drawers place ≡ Some drawer)
+
+-- what is attached has a keying that a provider may have
+abbrev pub HoldsKeying : Holding → Type 0
+HoldsKeying Idle = Unit {0}
+HoldsKeying (IsAttached a) = IsKeying a.keying
+
+-- the same of each of the drawers
+abbrev pub HoldKeyings : List DrawerState → Type 0
+HoldKeyings drawers = (drawer : DrawerState) → IsAmong drawers drawer → HoldsKeying drawer.holding
 
 -- what each disk tells of its content, its history among it
 abbrev pub contents : List DrawerState → List (Option Content)

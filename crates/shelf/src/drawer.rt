@@ -1,12 +1,13 @@
 // A named disk, and what is attached on it.
 ghost use Rattle.command_words.specs.Bounds.{IsBounded};
 ghost use Rattle.command_words.specs.Places.{CommandIsWithin, provider_of};
-ghost use Rattle.shelf.specs.Answer.{FitsPayload, answer_of};
+ghost use Rattle.reply_text.specs.Text.{FitsPayload};
+ghost use Rattle.shelf.specs.Answer.{answer_of};
 ghost use Rattle.shelf.specs.Closing.{Closes};
 ghost use Rattle.shelf.specs.Requests.{bytes_read};
 ghost use Rattle.shelf.specs.Steps.{request_limit};
 ghost use Rattle.shelf.specs.Turn.{Serves, ShowsBy, digest_or, done_or, dump_or, payload_or, row_of, takes_out};
-ghost use Rattle.shelf.specs.World.{IsAttached, Idle, attachment_of, disk_in, drawer_of, holding_of, reach_of};
+ghost use Rattle.shelf.specs.World.{HoldsKeying, IsAttached, Idle, attachment_of, disk_in, drawer_of, holding_of, reach_of};
 ghost use Rattle.std.specs.Prelude.{◌≡◌, ◌≤◌, ℕ, List, IfOk, IsSome, false, length, option_copied};
 
 use crate::attaching::attach;
@@ -113,6 +114,16 @@ impl<D: Disk> Drawer<D> {
                 sectorsize: provider.sector_size(),
                 sectors: provider.sectors(),
             }),
+        }
+    }
+
+    /// A law: what is attached has a keying that a provider may have.
+    pub fn holds_keying(&self)
+        ensures { HoldsKeying (holding_of self.now.held) }
+    {
+        match &self.held {
+            Held::Idle(_) => {}
+            Held::Attached(provider) => provider.is_of_a_keying(),
         }
     }
 

@@ -4,10 +4,11 @@ ghost use Rattle.std.specs.List.{insert};
 ghost use Rattle.command_words.specs.Bounds.{IsBounded};
 ghost use Rattle.command_words.specs.Places.{CommandIsWithin};
 ghost use Rattle.shelf.specs.Adding.{Adds, RefusesToAdd};
-ghost use Rattle.shelf.specs.Answer.{FitsPayload, answer_of};
+ghost use Rattle.reply_text.specs.Text.{FitsPayload};
+ghost use Rattle.shelf.specs.Answer.{answer_of};
 ghost use Rattle.shelf.specs.Closing.{Closing, failures};
 ghost use Rattle.shelf.specs.Turn.{ListsAs, Shows, Turn, row_of, takes_out};
-ghost use Rattle.shelf.specs.World.{drawers_of, place_of, world_of};
+ghost use Rattle.shelf.specs.World.{HoldKeyings, drawers_of, place_of, world_of};
 
 use crate::requests::REQUEST_LIMIT;
 use crate::{Drawer, Held};
@@ -67,9 +68,10 @@ impl<D: Disk> Drawers<D> {
     /// Adds a disk behind the others, idle. A refusal gives the disk back and leaves the shelf as it was:
     /// `Full` exactly where there is no room, else `Taken` exactly where a drawer has the name.
     pub fn add(&mut self, name: &str, disk: D) -> Result<(), (D, AddFault)>
-        ensures { MatchResult result
+        ensures adds { MatchResult result
             (λ _. Adds name.now (D.state disk) (drawers_of D.state self.old.drawers) (drawers_of D.state self.new.drawers))
             (λ refused. (refused.0 ≡ disk) × RefusesToAdd name.now refused.1 (drawers_of D.state self.old.drawers) × (self.new ≡ self.old)) }
+        ensures buffer { self.new.buffer ≡ self.old.buffer }
     {
         if self.drawers.len() >= ROOM {
             return Err((disk, AddFault::Full));
@@ -143,9 +145,17 @@ impl<D: Disk> Drawers<D> {
 
     /// Flushes the disk of each attached drawer, in order, and answers how many flushes failed. All drawers are idle then.
     pub fn close(&mut self) -> u32
-        ensures { Closing (drawers_of D.state self.old.drawers) result (drawers_of D.state self.new.drawers) }
+        ensures closing { Closing (drawers_of D.state self.old.drawers) result (drawers_of D.state self.new.drawers) }
+        ensures buffer { self.new.buffer ≡ self.old.buffer }
     {
         close_all(&mut self.drawers)
+    }
+
+    /// A law: what is attached has a keying that a provider may have.
+    pub fn hold_keyings(&self)
+        ensures { HoldKeyings (drawers_of D.state self.now.drawers) }
+    {
+        hold_keyings(&self.drawers);
     }
 
     /// What the disk of the named drawer answers to `events`. None comes exactly where no idle drawer has the name or
@@ -188,6 +198,15 @@ fn close_all<D: Disk>(drawers: &mut Vec<Drawer<D>>) -> u32
         failed += failures(refused);
     }
     failed
+}
+
+// What is attached on each drawer has a keying that a provider may have.
+fn hold_keyings<D: Disk>(drawers: &[Drawer<D>])
+    ensures { HoldKeyings (drawers_of D.state drawers.now) }
+{
+    for drawer in drawers {
+        drawer.holds_keying();
+    }
 }
 
 // A row for each drawer, in order.

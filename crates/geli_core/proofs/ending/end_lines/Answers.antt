@@ -8,4 +8,4 @@ returns-in-Ok g c = λ bytes old source after h.
 
 pub returns-in-Err : goal.returns-in-Err
 returns-in-Err g c = λ bytes old source after h.
-    ended_unprinted bytes old _ _ source after c.close.result (c.in-Err.ensures bytes old h.0.served) h.1 h.2 h.0.gave (record { drawers = c.close.ensures; cabinet = refl; entropy = refl }) refl
+    ended_unprinted bytes old _ _ source after c.close.result (c.in-Err.ensures bytes old h.0.served) h.1 h.2 h.0.gave (record { drawers = c.close.ensures.closing; cabinet = refl; entropy = refl }) refl

@@ -1,4 +1,4 @@
-use Rattle.std.proofs.Common.{arith, length, ◌≤◌}
+use Rattle.std.proofs.Common.{arith, length, ◌≡◌, ◌≤◌}
 use Rattle.command_words.specs.Reading.{line_limit}
 use Rattle.geli_core.proofs.Running.{IsServed-byte, IsServed-line, IsTooLong-byte, IsUnprinted-line}
 use Rattle.geli_core.proofs.feeding.feed_byte.Goals as goal
@@ -18,7 +18,7 @@ returns-then-byte-eq10-clause-feeds g c =
 
 pub returns-then-len-ge-LINE_LIMIT-clause-feeds : goal.returns-then-len-ge-LINE_LIMIT-clause-feeds
 returns-then-len-ge-LINE_LIMIT-clause-feeds g c =
-    let full : line_limit ≤ length c.args.line.now.items = omega (arith, c.if-len-ge-LINE_LIMIT.true, c.len.ensures, c.args.line.now.ok.0) in
+    let full : length c.args.line.now.items ≡ line_limit = omega (arith, c.requires.short, c.if-len-ge-LINE_LIMIT.true, c.len.ensures, c.args.line.now.ok.0) in
     λ bytes old h. IsTooLong-byte bytes old _ c.args.line.now.items c.args.refused.now c.args.byte c.if-byte-eq10.false full h
 
 pub returns-clause-feeds : goal.returns-clause-feeds

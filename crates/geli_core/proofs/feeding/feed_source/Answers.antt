@@ -1,5 +1,6 @@
 use Rattle.std.proofs.Common.{[], ◌++◌, ◌≤◌, ap, arith, length, length-append, length-take, sym, take}
 use Rattle.std.proofs.lemmas.List.{take-append-le}
+use Rattle.geli_core.specs.Script.{script_limit}
 use Rattle.geli_core.proofs.Pieces.{IsTaken-piece, gave_piece, prepend_known-nothing}
 use Rattle.geli_core.proofs.Running.{IsServed-nothing}
 use Rattle.geli_core.proofs.feeding.feed_source.Goals as goal
@@ -21,14 +22,21 @@ loop-room-init g c =
       counted = omega arith;
     }
 
-pub returns-in-Err-fed-clause-ends : goal.returns-in-Err-fed-clause-ends
-returns-in-Err-fed-clause-ends g c =
+pub returns-in-Err-fed-clause-feeds : goal.returns-in-Err-fed-clause-feeds
+returns-in-Err-fed-clause-feeds g c =
     let inv = c.loop-room.invariant in
-    let bound : c.in-Ok.count ≤ length c.take.new.into = c.in-Ok.ensures.bound in
+    let count = c.in-Ok.count in
+    let into = c.take.new.into in
+    let bound : count ≤ length into = c.in-Ok.ensures.bound in
     let fed = rw take-append-le at (c.in-Err-fed.ensures.feeds inv.bytes _ inv.taken.served) in
+    let counted = inv.counted in
+    let most = c.min-most.ensures in
+    let long = c.take.auto.into in
+    let bytes = inv.bytes ++ take count into in
+    let limit : length bytes ≤ script_limit = omega (arith, length-append inv.bytes (take count into), length-take count into, length-take c.min-most.result c.loop-room.piece) in
     record {
-      bytes = inv.bytes ++ take c.in-Ok.count c.take.new.into;
-      by = (fed, gave_piece inv.bytes (take c.in-Ok.count c.take.new.into) _ _ _ inv.taken.gave c.in-Ok.ensures.bytes);
+      bytes = bytes;
+      up_to = (fed, limit, gave_piece inv.bytes (take count into) _ _ _ inv.taken.gave c.in-Ok.ensures.bytes);
     }
 
 pub loop-room-preserved : goal.loop-room-preserved

@@ -12,4 +12,4 @@ pub returns : goal.returns
 returns g c =
     let said = rw (c.deref.ensures.value, c.in-Ok.ensures) at c.in-Some.ensures.said in
     let served = rw (c.deref-2.ensures.value, c.in-Ok.ensures) at c.in-Err.ensures in
-    λ source. broke_command _ c.in-Some._command _ _ _ source c.in-Err.field-0 c.close.result (sym said) served (record { drawers = c.close.ensures; cabinet = refl; entropy = refl }) refl
+    λ source. broke_command _ c.in-Some._command _ _ _ source c.in-Err.field-0 c.close.result (sym said) served (record { drawers = c.close.ensures.closing; cabinet = refl; entropy = refl }) refl

@@ -1,7 +1,7 @@
-use Rattle.std.proofs.Common.{◌≡◌, ◌+◌, ◌++◌, length, rules, arith, length-append, None, ap}
+use Rattle.std.proofs.Common.{◌≡◌, ◌+◌, ◌++◌, length, rules, arith, length-append, ap}
 use Rattle.std.proofs.lemmas.Result.{err_from_is_err_and}
 use Rattle.key_components.specs.Parts.{taking_of}
-use Rattle.key_components.proofs.Causes.{Loads-then}
+use Rattle.key_components.proofs.Causes.{KeepsFiles-then, MayRefuseOf-earlier}
 use Rattle.key_components.proofs.Taken.{PartIs-stopped, IsAt-stopped, TakenSo-next}
 use Rattle.key_components.proofs.parts.load_part.Goals as goal
 
@@ -20,6 +20,13 @@ returns-in_err-piece-clause-at g c =
     (IsAt-stopped (taking_of c.args.part) (g.C.Cabinet.state c.args.files.now).files c.args.line.now c.args.spans.now c.loop-span.span-index (record { start = 0; end = 0; word = 0 })
     c.loop-span.joined.items c.in_err-piece.field-0.0 c.loop-span-test.true c.loop-span.invariant.0 c.in_err-piece.ensures.word)
 
+pub returns-in_err-piece-clause-cause : goal.returns-in_err-piece-clause-cause
+returns-in_err-piece-clause-cause g c =
+    let p = err_from_is_err_and c.from_residual.result c.from_residual.ensures.1 in
+    let cabinet = g.C.Cabinet.state in
+    rw (p.1, p.2)
+    (MayRefuseOf-earlier c.args.part (cabinet c.args.files.now) (cabinet c.loop-span.files) _ c.in_err-piece.field-0.0 c.loop-span.invariant.2 c.in_err-piece.ensures.cause)
+
 pub loop-span-preserved : goal.loop-span-preserved
 loop-span-preserved g c =
     let used : c.len.result ≡ length c.loop-span.joined.items = search rules in
@@ -29,5 +36,5 @@ loop-span-preserved g c =
           (TakenSo-next (taking_of c.args.part) (g.C.Cabinet.state c.args.files.now).files (g.C.Cabinet.state c.loop-span.files).files c.args.line.now c.args.spans.now c.loop-span.span-index (record { start = 0; end = 0; word = 0 })
           c.loop-span.joined.items c.len.result c.in_ok-piece.piece c.loop-span-test.true c.loop-span.invariant.0 c.loop-span.invariant.2.files used c.in_ok-piece.ensures.answer),
       omega (arith, sum, c.in_ok-piece.ensures.within),
-      Loads-then None c.loop-span.invariant.2 c.in_ok-piece.ensures.loads,
+      KeepsFiles-then c.loop-span.invariant.2 c.in_ok-piece.ensures.keeps,
     )

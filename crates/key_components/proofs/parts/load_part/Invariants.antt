@@ -1,5 +1,5 @@
-use Rattle.std.proofs.Common.{◌≤◌, take, length, None}
-use Rattle.key_components.specs.Answers.{Loads}
+use Rattle.std.proofs.Common.{◌≤◌, take, length}
+use Rattle.key_components.specs.Answers.{KeepsFiles}
 use Rattle.key_components.specs.Parts.{limit_of, taking_of}
 use Rattle.key_components.proofs.Taken.{TakenSo}
 use Rattle.key_components.proofs.parts.load_part.Given as goal
@@ -10,4 +10,4 @@ invariant-loop-span g l =
     let cabinet = g.C.Cabinet.state in
     TakenSo (taking_of l.part) (g.C.Cabinet.state l.initial.files).files l.line (take l.span-index l.spans) l.joined.items
     × (length l.joined.items ≤ limit_of l.part)
-    × Loads (cabinet l.initial.files) (cabinet l.files) None
+    × KeepsFiles (cabinet l.initial.files) (cabinet l.files)

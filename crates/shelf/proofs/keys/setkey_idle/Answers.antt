@@ -36,7 +36,7 @@ returns-in_err-parts g c =
     λ holding entropy. rw (p.1, p.2) (Then-goes_on _ _ _ _ _ _ _ (record { reads = c.in_ok-meta.ensures.reads; holding = refl; cabinet = refl; entropy = refl })
     (Then-goes_on _ _ _ _ _ _ _ (sym passed, refl)
     (Then-goes_on _ _ _ _ _ _ _ (c.in_ok-needs_slot.ensures, refl)
-    (Then-refused _ _ _ _ _ (loaded _ _ _ _ _ _ _ _ e.answer e.fits e.reached e.loads e.named)))))
+    (Then-refused _ _ _ _ _ (loaded _ _ _ _ _ _ _ _ e.answer e.fits e.stops e.keeps e.named)))))
 
 pub returns-in_err-next : goal.returns-in_err-next
 returns-in_err-next g c =
@@ -48,8 +48,8 @@ returns-in_err-next g c =
     λ holding entropy. rw (p.1, p.2) (Then-goes_on _ _ _ _ _ _ _ (record { reads = c.in_ok-meta.ensures.reads; holding = refl; cabinet = refl; entropy = refl })
     (Then-goes_on _ _ _ _ _ _ _ (sym passed, refl)
     (Then-goes_on _ _ _ _ _ _ _ (c.in_ok-needs_slot.ensures, refl)
-    (Then-goes_on _ _ _ _ _ _ _ (loaded _ _ _ _ _ _ _ _ d.answer d.fits d.reached d.loads d.named)
-    (Then-refused _ _ _ _ _ (loaded _ _ _ _ _ _ _ _ e.answer e.fits e.reached e.loads e.named))))))
+    (Then-goes_on _ _ _ _ _ _ _ (loaded _ _ _ _ _ _ _ _ d.answer d.fits d.stops d.keeps d.named)
+    (Then-refused _ _ _ _ _ (loaded _ _ _ _ _ _ _ _ e.answer e.fits e.stops e.keeps e.named))))))
 
 pub returns-in_err-master : goal.returns-in_err-master
 returns-in_err-master g c =
@@ -61,8 +61,8 @@ returns-in_err-master g c =
     λ holding entropy. rw (p.1, p.2) (Then-goes_on _ _ _ _ _ _ _ (record { reads = c.in_ok-meta.ensures.reads; holding = refl; cabinet = refl; entropy = refl })
     (Then-goes_on _ _ _ _ _ _ _ (sym passed, refl)
     (Then-goes_on _ _ _ _ _ _ _ (c.in_ok-needs_slot.ensures, refl)
-    (Then-goes_on _ _ _ _ _ _ _ (loaded _ _ _ _ _ _ _ _ d.answer d.fits d.reached d.loads d.named)
-    (Then-goes_on _ _ _ _ _ _ _ (loaded _ _ _ _ _ _ _ _ e.answer e.fits e.reached e.loads e.named)
+    (Then-goes_on _ _ _ _ _ _ _ (loaded _ _ _ _ _ _ _ _ d.answer d.fits d.stops d.keeps d.named)
+    (Then-goes_on _ _ _ _ _ _ _ (loaded _ _ _ _ _ _ _ _ e.answer e.fits e.stops e.keeps e.named)
     (Then-refused _ _ _ _ _ (c.in_err-master.ensures.answer, refl)))))))
 
 pub returns : goal.returns
@@ -74,7 +74,7 @@ returns g c =
     λ holding entropy. Then-goes_on _ _ _ _ _ _ _ (record { reads = c.in_ok-meta.ensures.reads; holding = refl; cabinet = refl; entropy = refl })
     (Then-goes_on _ _ _ _ _ _ _ (sym passed, refl)
     (Then-goes_on _ _ _ _ _ _ _ (c.in_ok-needs_slot.ensures, refl)
-    (Then-goes_on _ _ _ _ _ _ _ (loaded _ _ _ _ _ _ _ _ d.answer d.fits d.reached d.loads d.named)
-    (Then-goes_on _ _ _ _ _ _ _ (loaded _ _ _ _ _ _ _ _ e.answer e.fits e.reached e.loads e.named)
+    (Then-goes_on _ _ _ _ _ _ _ (loaded _ _ _ _ _ _ _ _ d.answer d.fits d.stops d.keeps d.named)
+    (Then-goes_on _ _ _ _ _ _ _ (loaded _ _ _ _ _ _ _ _ e.answer e.fits e.stops e.keeps e.named)
     (Then-goes_on _ _ _ _ _ _ _ (c.in_ok-master.ensures.answer, refl)
     (rw (← c.unwrap_or-target.ensures) (c.store_key.ensures.stores _ _ _)))))))

@@ -1,5 +1,5 @@
 use Rattle.std.proofs.Common.{◌∙◌, ℕ, refl, subst, sym}
-use Rattle.shelf.specs.Answer.{FitsPayload}
+use Rattle.reply_text.specs.Text.{FitsPayload}
 use Rattle.shelf.proofs.Places.{ChangesAt-set, ServesAt-out, ServesAt-row, insert-remove, whole_buffer}
 use Rattle.shelf.proofs.drawers.Drawers.serve.Goals as goal
 

@@ -1,0 +1,7 @@
+use Rattle.std.proofs.Common.{All, take}
+use Rattle.shelf.specs.World.{HoldsKeying, holding_of}
+use Rattle.shelf.proofs.drawers.hold_keyings.Given as goal
+
+-- so it is on the drawers up to this place
+abbrev pub invariant-loop-drawer : goal.invariant-loop-drawer
+invariant-loop-drawer g l = All (λ d. HoldsKeying (holding_of d.held)) (take l.drawer-index l.drawers)

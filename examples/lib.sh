@@ -1,6 +1,6 @@
 # lib.sh: what the scripts of this folder share. It is read by them with `.`, and does nothing alone.
 #
-# GELI names the program, `geli` on the path if it isn't set. The scripts need bash 4 or later, and python3, which holds
+# GELI names the program, `geli` on the path if it isn't set. The scripts need bash 4.4 or later, and python3, which holds
 # the two ends of a `geli script` (lib.py).
 # shellcheck shell=bash
 

@@ -121,6 +121,7 @@ class Run:
     def __init__(self, program, folder, image, lines, number, alone):
         self.folder, self.notes = folder, tempfile.NamedTemporaryFile(mode="r")
         inode = str(os.stat(os.path.join(folder, image)).st_ino)
+        files = self.files()
         told = {"LD_PRELOAD": SHIM, "REFUSE": str(number), "NOTES": self.notes.name}
         process = subprocess.Popen(
             [program] + (lines[0].split() if alone else ["script", image]),
@@ -128,7 +129,6 @@ class Run:
         )
         self.begun, self.refused, self.refused_in, self.count = False, None, None, 0
         self.replies, self.events, self.changed = [], [], []
-        files = self.files()
         for line in lines + [None]:  # None: the end of the input
             try:
                 if line is None:
@@ -139,7 +139,7 @@ class Run:
             except BrokenPipeError:
                 pass
             reply = self.reply(process.stdout)
-            if line is None:
+            if line is None or alone:  # A single command's closing counts as its own, since nothing tells where it begins.
                 self.status = process.wait()
             events, before, files = self.noted(inode, line), files, self.files()
             self.replies.append(reply)

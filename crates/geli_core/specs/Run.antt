@@ -100,7 +100,7 @@ pub record FailsInClosing (answers : List (Option Answer)) (failed : ℕ) (old n
   pub before : TookAll (answers_text answers) old middle
   pub part : TookPart (answers_text (closing_answers failed)) middle new
 
--- the lines were served, each of them short enough, and then the drawers were closed
+-- the lines were served, and then the drawers were closed
 pub record RunsAndCloses (sep : Sep) (old : World) (lines : List (List ℕ)) (answers : List (Option Answer)) (failed : ℕ) (new : World) : Type 0 where
   pub middle : World
   pub run : Run sep old lines answers middle

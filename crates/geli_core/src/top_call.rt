@@ -63,15 +63,17 @@ pub fn geli_main<S: Source, K: Sink, C: Cabinet, E: Entropy>(
         (world_of (⟦<Box<dyn Disk> as Disk>⟧).state shelf.old (C.state files.old) (E.state entropy.old))
         (world_of (⟦<Box<dyn Disk> as Disk>⟧).state shelf.new (C.state files.new) (E.state entropy.new)) }
 
-    // If power fails at any moment, before or within any write of a device sector: of each drawer that is there in the end, each image that is
-    // left, whole, torn or altered, reads unit by unit as the lines' writes placed it.
+    // If power fails at any moment, before or within any write of a device sector: of each drawer that is there in the end, where its disk tells its
+    // content, each image that is left reads unit by unit from what the lines' writes placed and what was there; a torn or altered one also as a named
+    // fault, as strange bytes where nothing authenticates them, or as forged ones (docs/THEOREM.md).
     ensures survivors { SurvivesCrashes
         (world_of (⟦<Box<dyn Disk> as Disk>⟧).state shelf.old (C.state files.old) (E.state entropy.old))
         (world_of (⟦<Box<dyn Disk> as Disk>⟧).state shelf.new (C.state files.new) (E.state entropy.new)) }
 
     // By whatever lines the run came about, of the answers to them: those that the cabinet failed, that a file was absent or longer than a file may
-    // be, and that the entropy failed are each at most as many as the count of such failures rose by; those to the lines that name a drawer that its
-    // disk failed at most as many as that disk's count of faults; and each refusal of the closing has its drawer.
+    // be, and that the entropy failed are each at most as many as the count of such failures rose by; where no two drawers have one name, those to the
+    // lines that name a drawer that its disk failed at most as many as that disk's count of faults rose by, until the end or until a line takes it
+    // out; and each refusal of the closing has its drawer. Each of these unless the count stands at 2^64 - 1.
     ensures bounds { BoundsReplies
         (world_of (⟦<Box<dyn Disk> as Disk>⟧).state shelf.old (C.state files.old) (E.state entropy.old))
         (world_of (⟦<Box<dyn Disk> as Disk>⟧).state shelf.new (C.state files.new) (E.state entropy.new)) }

@@ -58,7 +58,7 @@ fn a_sink_that_fails_gets_the_bytes_before(rt: HostRuntime) -> Result<(), Fail> 
             made(alloc, 2048, MAKING)?
         };
         let taken = taken_twice(alloc, disk_with(alloc, 2048, &last)?, first, call, second)?;
-        assert_eq!(rt; taken.as_str(), want, "{first}; {second}");
+        assert_eq!(rt; taken.as_str(), want, "call {call}");
     }
     Ok(())
 }

@@ -41,17 +41,19 @@ pub record GivesMetadata (bytes : List ℕ) (force : Bool) (sectors : ℕ) (m : 
   pub again : metadata_in (encoded m) ≡ Ok m
   pub plain : IsFalse force → encoded m ≡ backed_up_sector bytes
 
--- the metadata were written with all of the events
+-- the metadata were written with all of the events, and nothing was read
 pub record WritesBack (bytes : List ℕ) (force : Bool) (disk : DiskState) (m : Metadata) (disk' : DiskState) : Type 0 where
   pub gives : GivesMetadata bytes force disk.size m
   pub logs : Logs (replace_events disk m) disk disk'
+  pub unasked : disk'.reads ≡ disk.reads
   pub kept : KeepsOldOr (IsSectorOf m) (last_sector disk) disk.content disk'.content
 
--- the disk failed after a part of the events
+-- the disk failed after a part of the events, and nothing was read
 pub record WritesPart (bytes : List ℕ) (force : Bool) (disk disk' : DiskState) : Type 0 where
   pub m : Metadata
   pub gives : GivesMetadata bytes force disk.size m
   pub fails : FailsIn (replace_events disk m) disk disk'
+  pub unasked : disk'.reads ≡ disk.reads
   pub kept : KeepsOldOr (IsSectorOf m) (last_sector disk) disk.content disk'.content
 
 -- it is refused, and nothing was done

@@ -50,7 +50,7 @@ fn check(bytes: &[u8], force: bool, sectors: u64) -> Result<Metadata, Refusal>
 
 /// Puts the metadata of a backup into the last sector of a disk: the first 511 bytes of the backup and a
 /// zero byte. Forced, the size in them becomes the image's, with a new MD5 (geli(8), restore). Answers the
-/// metadata, which are read again. They keep their version.
+/// metadata, which are read again. They keep their version. Nothing is read of the disk.
 ///
 /// Whenever power fails, the last sector holds what it might hold before or the new metadata.
 ///

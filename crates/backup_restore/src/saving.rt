@@ -7,7 +7,8 @@ use block_traits::{MetaPlace, Sector};
 use eli_base::Refusal;
 use eli_metadata::decode;
 
-/// Reads the last device sector into `out`, as it is, if it has metadata (geli(8), backup). No event is made.
+/// Reads the last device sector into `out`, as it is, if it has metadata (geli(8), backup). No event is made,
+/// and the sector is read once, also where that fails.
 ///
 /// In this order it is refused as `TooSmall` (in bytes), exactly where there are fewer than two device
 /// sectors, and then no call is made and `out` stays; as `DeviceFault`, only where the count of faults rose,

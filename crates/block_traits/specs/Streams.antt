@@ -1,7 +1,7 @@
 -- What a source, a sink and entropy tell of themselves, and what calls of them do.
 use Rattle.std.specs.Prelude.{◌≡◌, ℕ, ◌≤◌, List, length, take, Option}
 use Rattle.std.specs.Io.KnownBytes.{append_known, prepend_known}
-use Rattle.block_traits.specs.Causes.{Rose}
+use Rattle.block_traits.specs.Causes.{Counted, Rose}
 
 -- a source by the bytes that it has left, where it tells them, and how often it failed
 pub record SourceState : Type 0 where
@@ -26,18 +26,21 @@ pub record TookPart (text : List ℕ) (old new : SinkState) : Type 0 where
   pub later : old.faults ≤ new.faults
   pub rose : Rose old.faults new.faults
 
--- entropy by the bytes that it has left, where it tells them, and how often it failed
+-- entropy by the bytes that it has left, where it tells them, how often it failed, and how often it was asked
 pub record EntropyState : Type 0 where
   pub left : Option (List ℕ)
   pub faults : ℕ
+  pub calls : ℕ
 
--- these bytes were taken in one piece, and no others
+-- these bytes were taken in one call, and no others
 pub record Takes (bytes : List ℕ) (old new : EntropyState) : Type 0 where
   pub taken : old.left ≡ prepend_known bytes new.left
   pub later : old.faults ≤ new.faults
+  pub asked : Counted 1 old.calls new.calls
 
--- nothing was taken, and the entropy failed
+-- nothing was taken, and the entropy failed in its one call
 pub record TakesNone (old new : EntropyState) : Type 0 where
   pub left : new.left ≡ old.left
   pub later : old.faults ≤ new.faults
   pub rose : Rose old.faults new.faults
+  pub asked : Counted 1 old.calls new.calls

@@ -1,7 +1,7 @@
 // What keeps files by their names.
 ghost use Rattle.std.specs.Prelude.{◌≡◌, ◌≤◌, OnOk, OnErr, IfOk, IsErrOf, length};
 ghost use Rattle.block_traits.specs.Cabinet.{CabinetState, LoadGives, stored};
-ghost use Rattle.block_traits.specs.Causes.{Rose};
+ghost use Rattle.block_traits.specs.Causes.{Counted, Rose};
 
 use crate::ByteList;
 use std::alloc::Global;
@@ -30,11 +30,12 @@ pub enum StoreFault {
 
 /// What keeps files by their names.
 pub trait Cabinet {
-    /// Its files, where it tells them, which it then always does; how often it has failed; and how often a file was
-    /// absent or too long. No count falls.
+    /// Its files, where it tells them, which it then always does; how often it has failed; how often a file was
+    /// absent or too long; and a count of the loads that it was asked for. No count falls.
     ghost state: { Self → CabinetState };
 
-    /// The whole file of this name, if it has at most `limit` bytes. Changes no file.
+    /// The whole file of this name, if it has at most `limit` bytes. Changes no file. It is counted whatever it
+    /// answers.
     fn load(&mut self, alloc: Global, name: &[u8], limit: u64) -> Result<ByteList, LoadFault>
         ensures gives { LoadGives (state self.old).files name.now limit result }
         ensures within { IfOk result (λ bytes. length bytes ≤ limit) }
@@ -43,14 +44,16 @@ pub trait Cabinet {
         ensures failed { IsErrOf result LoadFault.Failed → Rose (state self.old).faults (state self.new).faults }
         ensures more_misses { (state self.old).misses ≤ (state self.new).misses }
         ensures absent { IsErrOf result LoadFault.Absent → Rose (state self.old).misses (state self.new).misses }
-        ensures too_long { IsErrOf result LoadFault.TooLong → Rose (state self.old).misses (state self.new).misses };
+        ensures too_long { IsErrOf result LoadFault.TooLong → Rose (state self.old).misses (state self.new).misses }
+        ensures asked { Counted 1 (state self.old).loads (state self.new).loads };
 
     /// Makes or replaces the file of this name, and leaves the others. After a failure a cabinet
-    /// that tells its files has what it had.
+    /// that tells its files has what it had. It loads nothing.
     fn store(&mut self, alloc: Global, name: &[u8], bytes: &[u8]) -> Result<(), StoreFault>
         ensures ok { OnOk result ((state self.new).files ≡ stored name.now bytes.now (state self.old).files) }
         ensures err { OnErr result ((state self.new).files ≡ (state self.old).files) }
         ensures later { (state self.old).faults ≤ (state self.new).faults }
         ensures failed { IsErrOf result StoreFault.Failed → Rose (state self.old).faults (state self.new).faults }
-        ensures more_misses { (state self.old).misses ≤ (state self.new).misses };
+        ensures more_misses { (state self.old).misses ≤ (state self.new).misses }
+        ensures unasked { (state self.new).loads ≡ (state self.old).loads };
 }

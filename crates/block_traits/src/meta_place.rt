@@ -1,5 +1,6 @@
 // The last sector of a disk, where the metadata of a provider stands (g_eli.h).
 ghost use Rattle.std.specs.Prelude.{◌≡◌, ◌<◌, ◌∷◌, [], ℕ, List, OnOk, OnErr};
+ghost use Rattle.block_traits.specs.Causes.{Counted};
 ghost use Rattle.block_traits.specs.Disk.{DiskState, FailsIn, Gives, Logs, last_sector, store_events};
 
 use crate::{Disk, DiskFailed, Event, Sector};
@@ -16,12 +17,13 @@ pub trait MetaPlace {
     fn sectors(&self) -> u64
         ensures { result ≡ (state self.now).size };
 
-    /// Reads the last sector. After a failure `into` may hold any bytes.
+    /// Reads the last sector, once. After a failure `into` may hold any bytes.
     fn load(&mut self, into: &mut Sector) -> Result<(), DiskFailed>
         requires { 0 < (state self.old).size }
         ensures bytes { OnOk result (Gives (state self.old) (last_sector (state self.old)) into.new) }
         ensures ok { OnOk result (Logs [] (state self.old) (state self.new)) }
         ensures err { OnErr result (FailsIn [] (state self.old) (state self.new)) }
+        ensures asked { Counted 1 (state self.old).reads (state self.new).reads }
         ensures rest { rest self.new ≡ rest self.old };
 
     /// Writes the last sector, and then flushes. Where it fails, the first of these two were done,
@@ -77,12 +79,13 @@ impl<D: Disk> MetaPlace for LastSector<D> {
     }
 }
 
-/// Reads the last sector of a disk. After a failure `into` may hold any bytes.
+/// Reads the last sector of a disk, once. After a failure `into` may hold any bytes.
 pub fn load_last<D: Disk>(disk: &mut D, into: &mut Sector) -> Result<(), DiskFailed>
     requires { 0 < (D.state disk.old).size }
     ensures bytes { OnOk result (Gives (D.state disk.old) (last_sector (D.state disk.old)) into.new) }
     ensures ok { OnOk result (Logs [] (D.state disk.old) (D.state disk.new)) }
     ensures err { OnErr result (FailsIn [] (D.state disk.old) (D.state disk.new)) }
+    ensures asked { Counted 1 (D.state disk.old).reads (D.state disk.new).reads }
 {
     let last = disk.sectors() - 1;
     disk.read(last, into)

@@ -1,7 +1,7 @@
 // What gives bytes, what takes them, and where random bytes come from.
 ghost use Rattle.std.specs.Prelude.{◌≡◌, ◌<◌, ◌≤◌, OnOk, IfOk, OnErr, length, take};
 ghost use Rattle.std.specs.Io.KnownBytes.{prepend_known, append_known, IsAtEnd};
-ghost use Rattle.block_traits.specs.Causes.{HasCause, Rose};
+ghost use Rattle.block_traits.specs.Causes.{Counted, HasCause, Rose};
 ghost use Rattle.block_traits.specs.Streams.{EntropyState, SinkState, SourceState};
 
 /// The source failed.
@@ -49,13 +49,15 @@ pub trait Sink {
 
 /// Where random bytes come from.
 pub trait Entropy {
-    /// The bytes that are left, where it tells them; and how often it has failed, which never falls.
+    /// The bytes that are left, where it tells them; how often it has failed, which never falls; and a
+    /// count of the calls.
     ghost state: { Self → EntropyState };
 
     /// Fills `into` with the first bytes that are left, in order. A failure takes nothing, and
-    /// `into` may then hold any bytes.
+    /// `into` may then hold any bytes. It is counted whatever it answers.
     fn fill(&mut self, into: &mut [u8]) -> Result<(), EntropyFailed>
         ensures ok { OnOk result ((state self.old).left ≡ prepend_known into.new (state self.new).left) }
         ensures err { OnErr result ((state self.new).left ≡ (state self.old).left) }
-        ensures cause { HasCause (state self.old).faults (state self.new).faults result };
+        ensures cause { HasCause (state self.old).faults (state self.new).faults result }
+        ensures asked { Counted 1 (state self.old).calls (state self.new).calls };
 }

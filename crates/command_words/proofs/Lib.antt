@@ -6,3 +6,4 @@ mod Options
 mod Places
 mod Text
 mod Words
+pub mod Scan

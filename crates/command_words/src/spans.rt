@@ -1,8 +1,10 @@
 // Places of words and values in a line.
 ghost use Rattle.std.specs.Prelude.{◌≡◌, ◌<◌, ◌≤◌, [], ◌∷◌, ◌++◌, length, false};
-ghost use Rattle.std.specs.List.{position_or_len, position};
+ghost use Rattle.std.specs.List.{position_or_len};
+ghost use Rattle.memchr.specs.Find.{IsFirstByte};
 ghost use Rattle.command_words.specs.Words.{is_between, is_word};
 
+use memchr::{memchr, memchr2};
 use std::fmt::{self, Debug, Formatter, Write};
 use std::marker::Model;
 
@@ -38,9 +40,12 @@ impl Sep {
 
     // The place of the first separator.
     fn first_between(self, bytes: &[u8]) -> Option<usize>
-        ensures { result ≡ position (is_between self) bytes.now }
+        ensures { IsFirstByte (is_between self) bytes.now result }
     {
-        bytes.iter().position(|byte| self.is_between(*byte))
+        match self {
+            Sep::Blanks => memchr2(b' ', b'\t', bytes),
+            Sep::Zeros => memchr(0, bytes),
+        }
     }
 
     // How many bytes stand before the first separator.

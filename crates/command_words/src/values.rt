@@ -69,7 +69,12 @@ pub fn old_size(bytes: &[u8]) -> Option<u64>
 fn all_hexadecimal(bytes: &[u8]) -> bool
     ensures { result ≡ list_all is_ascii_hexdigit bytes.now }
 {
-    bytes.iter().all(|byte| byte.is_ascii_hexdigit())
+    // Each byte is looked at, whatever those before it are, so that many are looked at together.
+    let mut all = true;
+    for i in 0..bytes.len() {
+        all &= bytes[i].is_ascii_hexdigit();
+    }
+    all
 }
 
 /// Whether the bytes are hexadecimal: an even number of digits in either case, from 2 to 262,144.

@@ -9,12 +9,13 @@ use Rattle.crash_disk.specs.declared.mem_cabinet.NamedFile.{NamedFile}
 use Rattle.crash_disk.specs.Calls.{CallsState, called, next_fails}
 use Rattle.crash_disk.specs.Count.{one_more}
 
--- its files, the calls that fail, how often it has failed, and how often a file was absent or too long
+-- its files, the calls that fail, how often it has failed, how often a file was absent or too long, and how many loads were made
 pub record MemCabinetState : Type 0 where
   pub files : List NamedFile
   pub calls : CallsState
   pub faults : ℕ
   pub misses : ℕ
+  pub loads : ℕ
 
 -- the bytes of the first file of this name
 abbrev pub file_in : List ℕ → List NamedFile → Option (List ℕ)
@@ -44,6 +45,7 @@ load_misses name limit cabinet = not (next_fails cabinet.calls) && is_err (load_
 abbrev pub after_load : List ℕ → ℕ → MemCabinetState → MemCabinetState
 after_load name limit cabinet = record (after_call cabinet) {
   misses = if load_misses name limit cabinet then one_more cabinet.misses else cabinet.misses;
+  loads = one_more cabinet.loads;
 }
 
 -- where the call is listed it fails; else it answers what the file says, but that there may be no memory for the bytes

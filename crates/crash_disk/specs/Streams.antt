@@ -47,10 +47,11 @@ after_give from sink = record sink {
   faults = if give_fails (length from) sink then one_more sink.faults else sink.faults;
 }
 
--- the bytes that are left, and how often it has failed
+-- the bytes that are left, how often it has failed, and how often it was called
 pub record MemEntropyState : Type 0 where
   pub left : List ℕ
   pub faults : ℕ
+  pub calls : ℕ
 
 -- a call fails that asks for more than is left
 abbrev pub fill_fails : ℕ → MemEntropyState → Bool
@@ -61,4 +62,5 @@ abbrev pub after_fill : ℕ → MemEntropyState → MemEntropyState
 after_fill wanted entropy = record {
   left = if fill_fails wanted entropy then entropy.left else drop wanted entropy.left;
   faults = if fill_fails wanted entropy then one_more entropy.faults else entropy.faults;
+  calls = one_more entropy.calls;
 }

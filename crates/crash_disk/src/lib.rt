@@ -26,6 +26,3 @@ pub use plan::{CallKind, FailAt};
 pub use sparse_crash::sparse_survivor;
 pub use sparse_disk::SparseDisk;
 pub use survivor::{Pick, SurvivorFault, Torn, survivor_torn, survivor_whole};
-
-#[cfg(test)]
-mod tests;

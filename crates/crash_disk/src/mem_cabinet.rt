@@ -1,7 +1,7 @@
 // A cabinet of files in memory.
 ghost use Rattle.std.specs.Prelude.{◌≡◌, ◌<◌, ◌≤◌, ◌↔◌, [], Some, IfOk, IfSome, OnOk, OnErr, IsErrOf, IsTrue, length, option_copied};
 ghost use Rattle.block_traits.specs.Cabinet.{LoadGives, stored, with_file};
-ghost use Rattle.block_traits.specs.Causes.{Rose};
+ghost use Rattle.block_traits.specs.Causes.{Counted, Rose};
 ghost use Rattle.crash_disk.specs.Calls.{failing, next_fails, with_fails};
 ghost use Rattle.crash_disk.specs.MemCabinet.{file_in, files_of, place_in};
 
@@ -24,6 +24,7 @@ pub struct MemCabinet {
     calls: Calls,
     faults: u64,
     misses: u64,
+    loads: u64,
 }
 
 impl Model for MemCabinet {
@@ -36,6 +37,7 @@ impl Model for MemCabinet {
       calls = cabinet.calls;
       faults = cabinet.faults;
       misses = cabinet.misses;
+      loads = cabinet.loads;
     } };
 }
 
@@ -44,13 +46,14 @@ impl MemCabinet {
 
     /// No file, and no call that fails.
     pub fn new(alloc: Global) -> MemCabinet
-        ensures { result ≡ record { files = []; calls = failing []; faults = 0; misses = 0 } }
+        ensures { result ≡ record { files = []; calls = failing []; faults = 0; misses = 0; loads = 0 } }
     {
         MemCabinet {
             files: Vec::new(alloc),
             calls: Calls::new(alloc),
             faults: 0,
             misses: 0,
+            loads: 0,
         }
     }
 
@@ -98,7 +101,7 @@ impl MemCabinet {
 impl Cabinet for MemCabinet {
     ghost use Rattle.crash_disk.specs.MemCabinet.{Loads, after_call, after_load};
 
-    ghost state = { λ cabinet. record { files = Some (files_of cabinet.files); faults = cabinet.faults; misses = cabinet.misses } };
+    ghost state = { λ cabinet. record { files = Some (files_of cabinet.files); faults = cabinet.faults; misses = cabinet.misses; loads = cabinet.loads } };
 
     fn load(&mut self, alloc: Global, name: &[u8], limit: u64) -> Result<ByteList, LoadFault>
         ensures gives { LoadGives (Some (files_of self.old.files)) name.now limit result }
@@ -109,9 +112,11 @@ impl Cabinet for MemCabinet {
         ensures more_misses { self.old.misses ≤ self.new.misses }
         ensures absent { IsErrOf result LoadFault.Absent → Rose self.old.misses self.new.misses }
         ensures too_long { IsErrOf result LoadFault.TooLong → Rose self.old.misses self.new.misses }
+        ensures asked { Counted 1 self.old.loads self.new.loads }
         ensures answer { Loads name.now limit self.old result }
         ensures after { self.new ≡ after_load name.now limit self.old }
     {
+        self.loads = self.loads.saturating_add(1);
         if self.call() {
             return Err(LoadFault::Failed);
         }
@@ -133,6 +138,7 @@ impl Cabinet for MemCabinet {
         ensures later { self.old.faults ≤ self.new.faults }
         ensures failed { IsErrOf result StoreFault.Failed → Rose self.old.faults self.new.faults }
         ensures more_misses { self.old.misses ≤ self.new.misses }
+        ensures unasked { self.new.loads ≡ self.old.loads }
         ensures answer { IsErrOf result StoreFault.Failed ↔ IsTrue (next_fails self.old.calls) }
         ensures after { self.new ≡ record (after_call self.old) { files = self.new.files } }
     {

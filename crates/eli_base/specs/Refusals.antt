@@ -1,7 +1,7 @@
--- The numbers of refusals.
-use Rattle.std.specs.Prelude.{ℕ}
+-- The numbers of refusals, and which of several comes.
+use Rattle.std.specs.Prelude.{ℕ, Bool, List, [], ◌∷◌, Option, Some, None, if◌then◌else◌}
 use Rattle.eli_base.specs.declared.refusals.Refusal.{Refusal}
-use Rattle.eli_base.specs.declared.refusals.Refusal.TheVariants.{Usage, UnknownProvider, NotAttached, StillAttached, BadMagic, BadVersion, BadHash, BadSize, UnsupportedCipher, UnsupportedAuth, BadKeyLength, BadSectorSize, UnsupportedFlags, NoValidKeys, WrongKey, NoKeyComponents, PassphraseNotSet, KeyNumberOutOfRange, KeyNotSet, LastKey, IterationsNeedOneKey, PassphraseNeeded, OutOfRange, ReadOnly, Integrity, DeviceFault, FileAbsent, CabinetFault, EntropyFault, FileTooLong, BackupTooShort, OldSizeMismatch, NoMemory, NotGrown, TooSmall, BadLength, KeyNumberNeeded}
+use Rattle.eli_base.specs.declared.refusals.Refusal.TheVariants.{Usage, UnknownProvider, NotAttached, StillAttached, BadMagic, BadVersion, BadHash, BadSize, UnsupportedCipher, UnsupportedAuth, BadKeyLength, BadSectorSize, UnsupportedFlags, NoValidKeys, WrongKey, NoKeyComponents, PassphraseNotSet, KeyNumberOutOfRange, KeyNotSet, LastKey, IterationsNeedOneKey, PassphraseNeeded, OutOfRange, ReadOnly, Integrity, DeviceFault, FileAbsent, CabinetFault, EntropyFault, FileTooLong, BackupTooShort, OldSizeMismatch, NoMemory, NotGrown, TooSmall, BadLength, KeyNumberNeeded, QueueFull, NoRequest, RequestNotDone, RequestDone, RequestsOpen, Suspended, NotSuspended, DifferentKey, BadPlace, NotAuthenticated, BadPlaceFile}
 
 -- The number of a refusal, as replies print it.
 abbrev pub number_of : Refusal → ℕ
@@ -42,3 +42,19 @@ number_of (NotGrown size given) = 34
 number_of (TooSmall size) = 35
 number_of (BadLength given sectorsize) = 36
 number_of KeyNumberNeeded = 37
+number_of QueueFull = 38
+number_of (NoRequest tag) = 39
+number_of (RequestNotDone tag left) = 40
+number_of (RequestDone tag) = 41
+number_of (RequestsOpen count) = 42
+number_of Suspended = 43
+number_of NotSuspended = 44
+number_of DifferentKey = 45
+number_of (BadPlace place media) = 46
+number_of NotAuthenticated = 47
+number_of (BadPlaceFile word length) = 48
+
+-- Of refusals in their order, each with its condition, the first whose condition holds.
+abbrev pub first_that_holds : {F : Type 0} → List (Bool × F) → Option F
+first_that_holds [] = None
+first_that_holds ((holds, refusal) ∷ others) = if holds then Some refusal else first_that_holds others

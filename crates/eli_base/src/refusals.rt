@@ -109,10 +109,32 @@ pub enum Refusal {
     BadLength { given: u64, sectorsize: u32 },
     /// The slot must be named.
     KeyNumberNeeded,
+    /// No request more can be open.
+    QueueFull,
+    /// No open request has the tag.
+    NoRequest { tag: u8 },
+    /// The request with the tag has so many units left.
+    RequestNotDone { tag: u8, left: u64 },
+    /// The request with the tag has no unit left.
+    RequestDone { tag: u8 },
+    /// So many requests are open.
+    RequestsOpen { count: u32 },
+    /// The provider is suspended.
+    Suspended,
+    /// The provider is attached and not suspended.
+    NotSuspended,
+    /// The key opens another master key than the suspended provider had.
+    DifferentKey,
+    /// The place of a sweep, in logical sectors, is behind the last of so many.
+    BadPlace { place: u64, media: u64 },
+    /// The data are not authenticated.
+    NotAuthenticated,
+    /// The file of a sweep's place, which the word names, has so many bytes, fewer than eight.
+    BadPlaceFile { word: u32, length: u64 },
 }
 
 impl Refusal {
-    /// The number that a reply prints, from 1 to 37.
+    /// The number that a reply prints, from 1 to 48.
     pub fn number(&self) -> u8
         ensures { result ≡ number_of self.now }
     {
@@ -154,6 +176,17 @@ impl Refusal {
             Refusal::TooSmall { .. } => 35,
             Refusal::BadLength { .. } => 36,
             Refusal::KeyNumberNeeded => 37,
+            Refusal::QueueFull => 38,
+            Refusal::NoRequest { .. } => 39,
+            Refusal::RequestNotDone { .. } => 40,
+            Refusal::RequestDone { .. } => 41,
+            Refusal::RequestsOpen { .. } => 42,
+            Refusal::Suspended => 43,
+            Refusal::NotSuspended => 44,
+            Refusal::DifferentKey => 45,
+            Refusal::BadPlace { .. } => 46,
+            Refusal::NotAuthenticated => 47,
+            Refusal::BadPlaceFile { .. } => 48,
         }
     }
 }

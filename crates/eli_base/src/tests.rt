@@ -69,35 +69,6 @@ fn sizes_of_media(rt: HostRuntime) -> Result<(), Fail> {
     Ok(())
 }
 
-/// Images that have no whole sector beside the metadata, each with its sector size.
-#[test]
-fn images_without_a_sector(rt: HostRuntime) -> Result<(), Fail> {
-    for (sectorsize, provsize) in [(512, 0), (512, 511), (512, 1_023), (4_096, 4_096)] {
-        let none = Geometry::of(&params(&rt, Auth::Off, sectorsize, provsize));
-        assert_eq!(rt;
-            none.err(),
-            Some(GeoFault::TooSmall { size: provsize }),
-            "{sectorsize} in {provsize}"
-        );
-    }
-    Ok(())
-}
-
-#[test]
-fn units_of_a_sector(rt: HostRuntime) -> Result<(), Fail> {
-    let geometry = Geometry::of(&params(&rt, Auth::Sha256, 4_096, 1_048_576))?;
-    assert!(rt; 226 < geometry.sectors);
-    assert_eq!(rt;
-        geometry.units_of(226),
-        UnitSpan {
-            first: 2_034,
-            count: 9
-        }
-    );
-    assert_eq!(rt; Refusal::KeyNumberNeeded.number(), 37);
-    Ok(())
-}
-
 /// Each line has an authentication, its number in cryptodev.h, and of each device sector the bytes of the tag and those that
 /// are left.
 const AUTHENTICATIONS: [(Auth, u16, usize, usize); 4] = [

@@ -1,11 +1,12 @@
 -- Which metadata a provider can be used by (g_eli.h, eli_metadata_decode and eli_metadata_crypto_supported; geli(8)).
-use Rattle.std.specs.Prelude.{ℕ, ◌*◌, ◌^◌, nat_lt, nat_le, bit_and, Bool, ◌==◌, if◌then◌else◌, not, Option, Some, None, Result, Ok, Err}
+use Rattle.std.specs.Prelude.{ℕ, ◌*◌, ◌^◌, nat_le, bit_and, Bool, ◌==◌, if◌then◌else◌, not, is_none, unwrap_or, List, [], ◌∷◌, Option, Some, None, Result, Ok, Err}
 use Rattle.eli_base.specs.declared.algorithms.Auth.{Auth}
 use Rattle.eli_base.specs.declared.algorithms.Auth.TheVariants.{Off, Sha256, Sha384, Sha512}
 use Rattle.eli_base.specs.declared.algorithms.Cipher.{Cipher}
 use Rattle.eli_base.specs.declared.algorithms.Cipher.TheVariants.{AesCbc, AesXts}
 use Rattle.eli_base.specs.declared.parameters.Params.{Params}
 use Rattle.eli_base.specs.Algorithms.{allows_length, auth_number, cipher_number}
+use Rattle.eli_base.specs.Refusals.{first_that_holds}
 use Rattle.eli_base.specs.SectorSize.{is_sector_size}
 use Rattle.eli_metadata.specs.declared.metadata.Metadata.{Metadata}
 use Rattle.eli_metadata.specs.declared.metadata.MetaFault.{MetaFault}
@@ -53,25 +54,40 @@ auth_numbered aalgo =
 abbrev pub auth_of : Metadata → Option Auth
 auth_of m = if is_authenticated m then auth_numbered m.aalgo else Some Off
 
--- the refusals in their order, or the settings
-abbrev pub check_size : Metadata → Cipher → Auth → Result Settings MetaFault
-check_size m cipher auth = if nat_lt m.provsize (2 ^ 53)
-    then Ok (record { version = m.version; auth = auth; cipher = cipher; keylen = m.keylen; sectorsize = m.sectorsize; provsize = m.provsize; readonly = is_readonly m })
-    else Err (BadSize m.provsize 0)
+-- the cipher and the authentication of the data; of a number that is no cipher's or authentication's it isn't asked, since it is refused
+abbrev pub cipher_in : Metadata → Cipher
+cipher_in m = unwrap_or (cipher_of m.ealgo) AesXts
 
-abbrev pub check_sector : Metadata → Cipher → Auth → Result Settings MetaFault
-check_sector m cipher auth = if is_sector_size m.sectorsize then check_size m cipher auth else Err (BadSectorSize m.sectorsize)
+abbrev pub settings_in : Metadata → Settings
+settings_in m = record {
+  version = m.version;
+  auth = unwrap_or (auth_of m) Off;
+  cipher = cipher_in m;
+  keylen = m.keylen;
+  sectorsize = m.sectorsize;
+  provsize = m.provsize;
+  readonly = is_readonly m;
+}
 
-abbrev pub check_auth : Metadata → Cipher → Option Auth → Result Settings MetaFault
-check_auth m cipher None = Err (UnsupportedAuth m.aalgo)
-check_auth m cipher (Some auth) = check_sector m cipher auth
+-- what is refused of metadata, in this order
+abbrev pub unsupported : Metadata → List (Bool × MetaFault)
+unsupported m =
+    (not (unsupported_flags m.flags == 0), UnsupportedFlags (unsupported_flags m.flags))
+    ∷ (is_none (cipher_of m.ealgo), UnsupportedCipher m.ealgo)
+    ∷ (not (allows_length (cipher_in m) m.keylen), BadKeyLength m.keylen)
+    ∷ (is_none (auth_of m), UnsupportedAuth m.aalgo)
+    ∷ (not (is_sector_size m.sectorsize), BadSectorSize m.sectorsize)
+    ∷ (nat_le (2 ^ 53) m.provsize, BadSize m.provsize 0)
+    ∷ []
 
-abbrev pub check_cipher : Metadata → Option Cipher → Result Settings MetaFault
-check_cipher m None = Err (UnsupportedCipher m.ealgo)
-check_cipher m (Some cipher) = if allows_length cipher m.keylen then check_auth m cipher (auth_of m) else Err (BadKeyLength m.keylen)
+-- the value, unless there is a fault
+abbrev pub unless : {T : Type 0} → Option MetaFault → T → Result T MetaFault
+unless None value = Ok value
+unless (Some fault) value = Err fault
 
+-- the first refusal that holds, or the settings
 unfoldable pub supported : Metadata → Result Settings MetaFault
-supported m = if unsupported_flags m.flags == 0 then check_cipher m (cipher_of m.ealgo) else Err (UnsupportedFlags (unsupported_flags m.flags))
+supported m = unless (first_that_holds (unsupported m)) (settings_in m)
 
 -- the provider's size is that of an image of so many device sectors
 abbrev pub size_matches : Metadata → ℕ → Result (Unit {0}) MetaFault

@@ -1,5 +1,6 @@
 -- What a read of the metadata answers, and what a read and a change of them do to the disk.
 use Rattle.std.specs.Prelude.{◌≡◌, ℕ, ◌<◌, ◌≤◌, ◌*◌, List, [], ◌∷◌, length, Result, Ok, Err}
+use Rattle.block_traits.specs.Causes.{Counted}
 use Rattle.block_traits.specs.Disk.{DiskState, FailsIn, Gives, Logs, last_sector, store_events}
 use Rattle.block_traits.specs.declared.disk.Event.{Event}
 use Rattle.block_traits.specs.declared.disk.Event.TheVariants.{Flush}
@@ -9,7 +10,7 @@ use Rattle.eli_metadata.specs.declared.metadata.MetaFault.{MetaFault}
 use Rattle.eli_metadata.specs.declared.place.ReadMetaFault.{ReadMetaFault}
 use Rattle.eli_metadata.specs.declared.place.ReadMetaFault.TheVariants.{TooSmall, DeviceFault, Meta}
 
--- the last device sector was read, without an event, and what it holds is the answer
+-- the last device sector was read once, without an event, and what it holds is the answer
 pub record ReadsLast (before : DiskState) (answer : Result Metadata MetaFault) (after : DiskState) : Type 0 where
   pub enough : 2 ≤ before.size
   pub bytes : List ℕ
@@ -17,11 +18,18 @@ pub record ReadsLast (before : DiskState) (answer : Result Metadata MetaFault) (
   pub told : Gives before (last_sector before) bytes
   pub answered : answer ≡ metadata_in bytes
   pub logs : Logs [] before after
+  pub asked : Counted 1 before.reads after.reads
+
+-- its one read failed
+pub record FailsToRead (before after : DiskState) : Type 0 where
+  pub enough : 2 ≤ before.size
+  pub fails : FailsIn [] before after
+  pub asked : Counted 1 before.reads after.reads
 
 abbrev pub ReadsMetadata : DiskState → Result Metadata ReadMetaFault → DiskState → Type 0
 ReadsMetadata before (Ok m) after = ReadsLast before (Ok m) after
 ReadsMetadata before (Err (TooSmall size)) after = (before.size < 2) × (size ≡ 512 * before.size) × (after ≡ before)
-ReadsMetadata before (Err DeviceFault) after = (2 ≤ before.size) × FailsIn [] before after
+ReadsMetadata before (Err DeviceFault) after = FailsToRead before after
 ReadsMetadata before (Err (Meta fault)) after = ReadsLast before (Err fault) after
 
 -- the value is the sector of the metadata

@@ -39,7 +39,8 @@ impl From<ReadMetaFault> for Refusal {
 /// Reads the metadata in the last device sector.
 ///
 /// In this order: `TooSmall`, exactly where there are fewer than two device sectors, and then no call is
-/// made; `DeviceFault`, only where the count of faults rose; the fault of `decode`.
+/// made; `DeviceFault`, only where the count of faults rose; the fault of `decode`. The sector is read once,
+/// also where that fails.
 pub fn read_metadata<P: MetaPlace>(place: &mut P) -> Result<Metadata, ReadMetaFault>
     ensures reads { ReadsMetadata (P.state place.old) result (P.state place.new) }
     ensures rest { P.rest place.new ≡ P.rest place.old }
@@ -59,6 +60,7 @@ pub fn read_metadata<P: MetaPlace>(place: &mut P) -> Result<Metadata, ReadMetaFa
 
 /// Puts metadata in the place of what the last sector has: what was written before lasts first, and the
 /// metadata last when it is done. Where it fails, the first of the three events were done, and no others.
+/// Nothing is read.
 ///
 /// The sector that is written is read as the metadata, if they are of a version that is read.
 pub fn replace_metadata<D: Disk>(disk: &mut D, meta: &Metadata) -> Result<(), DiskFailed>
@@ -66,6 +68,7 @@ pub fn replace_metadata<D: Disk>(disk: &mut D, meta: &Metadata) -> Result<(), Di
     ensures read { IsTrue (is_served meta.now.version meta.now.flags) → metadata_in (encoded meta.now) ≡ Ok meta.now }
     ensures ok { OnOk result (Logs (replace_events (D.state disk.old) meta.now) (D.state disk.old) (D.state disk.new)) }
     ensures err { OnErr result (FailsIn (replace_events (D.state disk.old) meta.now) (D.state disk.old) (D.state disk.new)) }
+    ensures unasked { (D.state disk.new).reads ≡ (D.state disk.old).reads }
 {
     let mut sector = [0; 512];
     encode(meta, &mut sector);

@@ -1,5 +1,5 @@
 mod Beside
 mod Kept
 mod Logs
-mod Reading
 mod Steps
+mod Turns

@@ -1,5 +1,5 @@
 -- What a cabinet answers, by what it finds under a name.
-use Rattle.std.specs.Prelude.{◌≡◌, ℕ, List, Option, Some, Result, Ok, Err, IfSome, is_ok}
+use Rattle.std.specs.Prelude.{◌≡◌, ◌+◌, ◌-◌, ◌^◌, min, ℕ, List, Option, Some, Result, Ok, Err, IfSome, is_ok}
 use Rattle.std.specs.IoError.{error_kind}
 use Rattle.std.specs.Str.{IsUtf8}
 use Rattle.std.specs.declared.fs.options.OpenOptions.{OpenOptions}
@@ -21,19 +21,36 @@ fault_of kinds.NotFound = load.Absent
 fault_of kinds.OutOfMemory = load.NoMemory
 fault_of kind = load.Failed
 
+-- why nothing is loaded where the file can't be read
+abbrev pub read_fault : ErrorKind → LoadFault
+read_fault kinds.OutOfMemory = load.NoMemory
+read_fault kind = load.Failed
+
+-- what is loaded of a file that was read so
+abbrev pub read_answer : Result (List ℕ) Error → ℕ → Result (List ℕ) LoadFault
+read_answer (Ok bytes) limit = load_answer (Some bytes) limit
+read_answer (Err error) limit = Err (read_fault (error_kind error))
+
+-- it is read to its end, or to a byte behind the limit, and that is what is answered
+pub record ReadsWhole {F : Type 0} (holds : F → ℕ → Result (List ℕ) Error → Type 0) (file : F) (limit : ℕ) (result : Result (List ℕ) LoadFault) : Type 0 where
+  pub read : Result (List ℕ) Error
+  pub held : holds file (min (limit + 1) (2 ^ 64 - 1)) read
+  pub answered : result ≡ read_answer read limit
+
 -- a file that is open isn't absent; where it knows its bytes they are answered, or they are too many, or it failed
 abbrev pub ReadAnswers : Option (List ℕ) → ℕ → Result (List ℕ) LoadFault → Type 0
 ReadAnswers known limit (Err load.Absent) = ⊥
 ReadAnswers known limit result = IfSome known (λ bytes. Answers (load_answer (Some bytes) limit) result)
 
 module _ {O F : Type 0} (answers : O → OpenOptions → List ℕ → Result F Error → Type 0) (log_of : O → Option (List Asked)) where
-  module _ (remaining : F → Option (List ℕ)) (tells : F → Result Found Error → Type 0) (images : List FileId) where
-    -- an image isn't read
+  module _ (remaining : F → Option (List ℕ)) (holds : F → ℕ → Result (List ℕ) Error → Type 0) (tells : F → Result Found Error → Type 0) (images : List FileId) where
+    -- an image isn't read; another file is, and answered so
     pub record Reads (file : F) (limit : ℕ) (result : Result (List ℕ) LoadFault) : Type 0 where
       pub found : Result Found Error
       pub told : tells file found
       pub image : IsImage images found → result ≡ Err load.Failed
       pub other : (IsImage images found → ⊥) → ReadAnswers (remaining file) limit result
+      pub whole : (IsImage images found → ⊥) → ReadsWhole holds file limit result
 
     -- what was opened is read, or the refusal is answered
     abbrev pub Loads : Result F Error → ℕ → Result (List ℕ) LoadFault → Type 0

@@ -7,3 +7,4 @@ pub mod Kept
 pub mod Opening
 pub mod RandomFile
 pub mod Storing
+pub mod Streams

@@ -1,8 +1,9 @@
 -- The system's random bytes.
-use Rattle.std.specs.Prelude.{◌≡◌, List, ℕ, Result, codes}
+use Rattle.std.specs.Prelude.{◌≡◌, List, ℕ, Bool, Option, Result, codes}
 use Rattle.std.specs.Result.{result_ok}
 use Rattle.std.specs.declared.fs.options.OpenOptions.{OpenOptions}
 use Rattle.std.specs.declared.io.Error.{Error}
+use Rattle.file_edge.specs.Asked.{Asked, Open, asking, more}
 use Rattle.file_edge.specs.Opening.{to_read}
 use Rattle.file_edge.specs.declared.random_file.RandomFile.{RandomFile}
 
@@ -11,3 +12,8 @@ pub record OpensDevice {O F : Type 0} (answers : O → OpenOptions → List ℕ 
   pub opened : Result F Error
   pub answered : answers opener to_read (codes "/dev/urandom") opened
   pub device : random.device ≡ result_ok opened
+
+-- the device is opened to be read, or refused, and nothing else was asked
+pub record AsksDevice {O : Type 0} (log_of : O → Option (List Asked)) (opener new : O) : Type 0 where
+  pub done : Bool
+  pub log : log_of new ≡ more (asking (Open to_read (codes "/dev/urandom")) done) (log_of opener)

@@ -1,27 +1,29 @@
 // The files of the system by their names.
 ghost use Rattle.std.specs.Prelude.{◌≡◌, ◌≤◌, None, IfOk, IsErrOf, length};
 ghost use Rattle.std.specs.IoError.{error_kind};
-ghost use Rattle.block_traits.specs.Causes.{Rose};
-ghost use Rattle.file_edge.specs.FileCabinet.{LoadsNamed, ReadAnswers, fault_of};
+ghost use Rattle.block_traits.specs.Causes.{Counted, Rose};
+ghost use Rattle.file_edge.specs.FileCabinet.{LoadsNamed, ReadAnswers, ReadsWhole, fault_of, read_fault};
 ghost use Rattle.file_edge.specs.Storing.{StoresFile};
 
 use crate::found::{FileId, is_image};
 use crate::image_file::ImageFile;
 use crate::opener::Opener;
+use crate::reader::Reader;
 use crate::store::{Stop, store_file};
 use block_traits::{ByteList, Cabinet, LoadFault, StoreFault};
 use std::alloc::Global;
 use std::fs::OpenOptions;
-use std::io::{self, ErrorKind, Read};
+use std::io::{self, ErrorKind};
 
-/// Files as an opener finds them, but for the images of the run. It tells no content, and counts each failure, and each
-/// file that is absent or too long. A name that isn't UTF-8 names no file.
+/// Files as an opener finds them, but for the images of the run. It tells no content, and counts each failure, each
+/// file that is absent or too long, and each load. A name that isn't UTF-8 names no file.
 #[derive(Drop)]
 pub struct FileCabinet<O: Opener + Drop> {
     opener: O,
     images: Vec<FileId>,
     faults: u64,
     misses: u64,
+    loads: u64,
 }
 
 impl<O: Opener + Drop> FileCabinet<O> {
@@ -31,23 +33,29 @@ impl<O: Opener + Drop> FileCabinet<O> {
         ensures images { result.images ≡ images }
         ensures faults { result.faults ≡ 0 }
         ensures misses { result.misses ≡ 0 }
+        ensures loads { result.loads ≡ 0 }
     {
         FileCabinet {
             opener,
             images,
             faults: 0,
             misses: 0,
+            loads: 0,
         }
     }
 }
 
-impl<O: Opener + Drop> Cabinet for FileCabinet<O> {
-    ghost state = { λ cabinet. record { files = None; faults = cabinet.faults; misses = cabinet.misses } };
+// Without the bound the clause would take the relation of any reader, which says nothing.
+impl<O: Opener + Drop> Cabinet for FileCabinet<O>
+where
+    O::File: Reader,
+{
+    ghost state = { λ cabinet. record { files = None; faults = cabinet.faults; misses = cabinet.misses; loads = cabinet.loads } };
 
     /// Besides what a cabinet does: the file that is opened under the name is read, whole where it knows its bytes, and
     /// nothing else is asked of the opener. An image isn't read.
     fn load(&mut self, alloc: Global, name: &[u8], limit: u64) -> Result<ByteList, LoadFault>
-        ensures named { LoadsNamed O.answers O.asked O.File.remaining O.File.tells self.old.images.items self.old.opener name.now limit result self.new.opener }
+        ensures named { LoadsNamed O.answers O.asked O.File.remaining O.File.holds O.File.tells self.old.images.items self.old.opener name.now limit result self.new.opener }
         ensures images { self.new.images ≡ self.old.images }
         ensures within { IfOk result (λ bytes. length bytes ≤ limit) }
         ensures later { self.old.faults ≤ self.new.faults }
@@ -55,7 +63,9 @@ impl<O: Opener + Drop> Cabinet for FileCabinet<O> {
         ensures more_misses { self.old.misses ≤ self.new.misses }
         ensures absent { IsErrOf result LoadFault.Absent → Rose self.old.misses self.new.misses }
         ensures too_long { IsErrOf result LoadFault.TooLong → Rose self.old.misses self.new.misses }
+        ensures asked { Counted 1 self.old.loads self.new.loads }
     {
+        self.loads = self.loads.saturating_add(1);
         let loaded = load_file(&mut self.opener, alloc, self.images.as_slice(), name, limit);
         match loaded {
             Err(LoadFault::Absent | LoadFault::TooLong) => {
@@ -75,6 +85,7 @@ impl<O: Opener + Drop> Cabinet for FileCabinet<O> {
         ensures later { self.old.faults ≤ self.new.faults }
         ensures failed { IsErrOf result StoreFault.Failed → Rose self.old.faults self.new.faults }
         ensures more_misses { self.old.misses ≤ self.new.misses }
+        ensures unasked { self.new.loads ≡ self.old.loads }
     {
         match store_file(&mut self.opener, alloc, self.images.as_slice(), name, bytes) {
             Ok(()) => Ok(()),
@@ -94,7 +105,7 @@ fn load_file<O: Opener>(
     name: &[u8],
     limit: u64,
 ) -> Result<ByteList, LoadFault>
-    ensures named { LoadsNamed O.answers O.asked O.File.remaining O.File.tells images.now opener.old name.now limit result opener.new }
+    ensures named { LoadsNamed O.answers O.asked O.File.remaining O.File.holds O.File.tells images.now opener.old name.now limit result opener.new }
     ensures within { IfOk result (λ bytes. length bytes ≤ limit) }
 {
     let Ok(name) = str::from_utf8(name) else {
@@ -112,21 +123,28 @@ fn load_file<O: Opener>(
 }
 
 // What a reader has left, if that is at most so many bytes.
-fn read_whole<R: Read + Drop>(reader: R, alloc: Global, limit: u64) -> Result<ByteList, LoadFault>
+fn read_whole<R: Reader>(reader: R, alloc: Global, limit: u64) -> Result<ByteList, LoadFault>
+    ensures read { ReadsWhole R.holds reader limit result }
     ensures answers { ReadAnswers (R.remaining reader) limit result }
     ensures within { IfOk result (λ bytes. length bytes ≤ limit) }
 {
-    let mut bytes = Vec::new(alloc);
-    if let Err(error) = reader.take(limit.saturating_add(1)).read_to_end(&mut bytes) {
-        return Err(match error.kind() {
-            ErrorKind::OutOfMemory => LoadFault::NoMemory,
-            _ => LoadFault::Failed,
-        });
-    }
-    if bytes.len() as u64 > limit {
+    let bytes = match reader.read_all(alloc, limit.saturating_add(1)) {
+        Ok(bytes) => bytes,
+        Err(error) => return Err(read_fault(&error)),
+    };
+    if bytes.as_slice().len() as u64 > limit {
         return Err(LoadFault::TooLong);
     }
-    Ok(ByteList::from_vec(bytes))
+    Ok(bytes)
+}
+
+fn read_fault(error: &io::Error) -> LoadFault
+    ensures { result ≡ read_fault (error_kind error.now) }
+{
+    match error.kind() {
+        ErrorKind::OutOfMemory => LoadFault::NoMemory,
+        _ => LoadFault::Failed,
+    }
 }
 
 fn fault_of(error: &io::Error) -> LoadFault

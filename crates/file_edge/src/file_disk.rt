@@ -146,8 +146,8 @@ impl<F: Drop> FileDisk<F> {
         }
     }
 
-    // A disk of two sectors whose every call fails.
-    fn unopened(id: Option<FileId>) -> FileDisk<F>
+    /// A disk of two sectors whose every call fails.
+    pub fn unopened(id: Option<FileId>) -> FileDisk<F>
         ensures unopened { IsUnopened id result }
         ensures faults { result.faults ≡ 0 }
         ensures unsynced { result.unsynced ≡ false }

@@ -9,6 +9,7 @@ mod found;
 mod image_file;
 mod opener;
 mod random_file;
+mod reader;
 mod store;
 mod streams;
 #[cfg(test)]
@@ -21,4 +22,5 @@ pub use found::{FileId, FileKind, Found};
 pub use image_file::ImageFile;
 pub use opener::{Opener, SystemFiles};
 pub use random_file::RandomFile;
+pub use reader::{Reader, Writer};
 pub use streams::{InputSource, OutputSink};

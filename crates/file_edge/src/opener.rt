@@ -10,8 +10,9 @@ ghost use Rattle.file_edge.specs.declared.found.Found.{Found};
 
 use crate::found::{FileId, FileKind, Found};
 use crate::image_file::ImageFile;
+use crate::reader::Reader;
 use std::fs::{self, File, Metadata, OpenOptions};
-use std::io::{self, ErrorKind, Read, Write};
+use std::io::{self, ErrorKind, Write};
 use std::os::fd::AsRawFd;
 use std::os::unix::fs::{FileTypeExt, MetadataExt, OpenOptionsExt};
 use std::rt::Files;
@@ -20,7 +21,7 @@ use std::rt::Files;
 /// so that what is asked of it, in which order, can be said in a contract although nothing tells what the system answers.
 pub trait Opener {
     /// An open file.
-    type File: Read + Write + ImageFile + Drop + 'static;
+    type File: Reader + ImageFile + 'static;
 
     /// Whether it may answer this to these options and this name.
     ghost answers: { Self → OpenOptions → List ℕ → Result Self.File Error → Type 0 };

@@ -1,19 +1,22 @@
 // The standard streams, or any reader and writer.
 ghost use Rattle.std.specs.Prelude.{◌≡◌, ◌<◌, ◌≤◌, None, IfOk, length};
 ghost use Rattle.std.specs.Io.KnownBytes.{ReadConsumes, WriteAppends};
+ghost use Rattle.std.specs.Result.{result_ok};
 ghost use Rattle.block_traits.specs.Causes.{HasCause, Rose};
+ghost use Rattle.file_edge.specs.Streams.{AnswersOnce, PassesOn, given};
 
+use crate::reader::{Reader, Writer};
 use block_traits::{Sink, SinkFailed, Source, SourceFailed};
-use std::io::{self, ErrorKind, Read, Write};
+use std::io::{self, ErrorKind};
 
 /// A reader as a source. It tells no content, and counts each failure.
 #[derive(Drop)]
-pub struct InputSource<R: Read + Drop> {
+pub struct InputSource<R: Reader> {
     reader: R,
     faults: u64,
 }
 
-impl<R: Read + Drop> InputSource<R> {
+impl<R: Reader> InputSource<R> {
     /// The source over a reader.
     pub fn new(reader: R) -> InputSource<R>
         ensures reader { result.reader ≡ reader }
@@ -23,14 +26,16 @@ impl<R: Read + Drop> InputSource<R> {
     }
 }
 
-impl<R: Read + Drop> Source for InputSource<R> {
+impl<R: Reader> Source for InputSource<R> {
     ghost state = { λ source. record { left = None; faults = source.faults } };
 
-    /// Besides what a source does: where the reader knows its bytes, they are given, and 0 only at their end.
+    /// Besides what a source does: it answers as one read of the reader did, made again only where a signal interrupted
+    /// it, and fails only where that failed. Where the reader knows its bytes, they are given, and 0 only at their end.
     fn take(&mut self, into: &mut [u8]) -> Result<usize, SourceFailed>
         requires { 0 < length into.old }
         ensures bound { IfOk result (λ k. k ≤ length into.new) }
         ensures known { ReadConsumes (R.remaining self.old.reader) (R.remaining self.new.reader) result into.new }
+        ensures answered { PassesOn (R.gives (length into.old)) self.old.reader (result_ok (given result into.new)) self.new.reader }
         ensures cause { HasCause self.old.faults self.new.faults result }
     {
         match read_on(&mut self.reader, into) {
@@ -44,31 +49,32 @@ impl<R: Read + Drop> Source for InputSource<R> {
 }
 
 // Reads, and again where a signal interrupts it.
-#[tactic(auto, using(crate::proofs::Kept::keeps_same, crate::proofs::Kept::keeps_then, crate::proofs::Kept::kept_read))]
-fn read_on<R: Read>(reader: &mut R, into: &mut [u8]) -> io::Result<usize>
+#[tactic(auto, using(crate::proofs::Kept::keeps_same, crate::proofs::Kept::keeps_then, crate::proofs::Kept::kept_read, crate::proofs::Turns::one_more))]
+fn read_on<R: Reader>(reader: &mut R, into: &mut [u8]) -> io::Result<usize>
     ensures bound { IfOk result (λ k. k ≤ length into.new) }
     ensures length { length into.new ≡ length into.old }
     ensures known { ReadConsumes (R.remaining reader.old) (R.remaining reader.new) result into.new }
+    ensures answered { AnswersOnce (R.gives (length into.old)) reader.old (given result into.new) reader.new }
 {
     for turn in 0..u64::MAX {
         let _ = turn;
-        match reader.read(into) {
+        match reader.read_once(into) {
             Err(error) if error.kind() == ErrorKind::Interrupted => {}
             answer => return answer,
         }
     }
-    Err(io::Error::from(ErrorKind::TimedOut))
+    reader.read_once(into)
 }
 
 /// A writer as a sink. It tells no content, and counts each failure, and each piece of which nothing
 /// is taken.
 #[derive(Drop)]
-pub struct OutputSink<W: Write + Drop> {
+pub struct OutputSink<W: Writer> {
     writer: W,
     faults: u64,
 }
 
-impl<W: Write + Drop> OutputSink<W> {
+impl<W: Writer> OutputSink<W> {
     /// The sink over a writer.
     pub fn new(writer: W) -> OutputSink<W>
         ensures writer { result.writer ≡ writer }
@@ -78,14 +84,16 @@ impl<W: Write + Drop> OutputSink<W> {
     }
 }
 
-impl<W: Write + Drop> Sink for OutputSink<W> {
+impl<W: Writer> Sink for OutputSink<W> {
     ghost state = { λ sink. record { taken = None; faults = sink.faults } };
 
-    /// Besides what a sink does: where the writer knows its bytes, those that are taken stand behind them.
+    /// Besides what a sink does: it answers as one write of the writer did, made again only where a signal interrupted
+    /// it, and fails only where that failed. Where the writer knows its bytes, those that are taken stand behind them.
     fn give(&mut self, from: &[u8]) -> Result<usize, SinkFailed>
         ensures bound { IfOk result (λ k. k ≤ length from.now) }
         ensures known { WriteAppends (W.contents self.old.writer) (W.contents self.new.writer) result from.now }
         ensures none { IfOk result (λ k. k ≡ 0 → 0 < length from.now → Rose self.old.faults self.new.faults) }
+        ensures answered { PassesOn (W.takes from.now) self.old.writer (result_ok result) self.new.writer }
         ensures cause { HasCause self.old.faults self.new.faults result }
     {
         match write_on(&mut self.writer, from) {
@@ -103,17 +111,18 @@ impl<W: Write + Drop> Sink for OutputSink<W> {
 }
 
 // Writes, and again where a signal interrupts it.
-#[tactic(auto, using(crate::proofs::Kept::keeps_same, crate::proofs::Kept::keeps_then, crate::proofs::Kept::kept_write))]
-fn write_on<W: Write>(writer: &mut W, from: &[u8]) -> io::Result<usize>
+#[tactic(auto, using(crate::proofs::Kept::keeps_same, crate::proofs::Kept::keeps_then, crate::proofs::Kept::kept_write, crate::proofs::Turns::one_more))]
+fn write_on<W: Writer>(writer: &mut W, from: &[u8]) -> io::Result<usize>
     ensures bound { IfOk result (λ k. k ≤ length from.now) }
     ensures known { WriteAppends (W.contents writer.old) (W.contents writer.new) result from.now }
+    ensures answered { AnswersOnce (W.takes from.now) writer.old result writer.new }
 {
     for turn in 0..u64::MAX {
         let _ = turn;
-        match writer.write(from) {
+        match writer.write_once(from) {
             Err(error) if error.kind() == ErrorKind::Interrupted => {}
             answer => return answer,
         }
     }
-    Err(io::Error::from(ErrorKind::TimedOut))
+    writer.write_once(from)
 }

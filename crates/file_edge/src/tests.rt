@@ -18,22 +18,6 @@ use std::os::unix::fs::{MetadataExt, symlink};
 use std::process::Abort;
 use std::test::Fail;
 
-#[test]
-fn the_system_opens_files_by_their_names(rt: HostRuntime) -> Result<(), Fail> {
-    let mut files = SystemFiles::new(rt.clone()?);
-    let name = "opener_test";
-    let absent = files.open(OpenOptions::new().read(true), name);
-    assert_eq!(rt;
-        absent.err().map(|error| error.kind()),
-        Some(ErrorKind::NotFound)
-    );
-    let made = files.open(OpenOptions::new().write(true).create(true), name);
-    assert!(rt; made.is_ok());
-    assert_eq!(rt; fs::read(&rt, name)?.len(), 0);
-    fs::remove_file(&rt, name)?;
-    Ok(())
-}
-
 // The disk of a file that is to be changed, beside no other.
 fn disk_of<R: std::rt::Files<File = File> + Drop>(
     files: &mut SystemFiles<R>,
@@ -42,102 +26,32 @@ fn disk_of<R: std::rt::Files<File = File> + Drop>(
     FileDisk::open(files, &[], true, name)
 }
 
+// The file becomes shorter: what stands behind its end then fails. The null device can't be synced.
 #[test]
 fn a_file_is_a_disk(rt: HostRuntime) -> Result<(), Fail> {
-    let mut files = SystemFiles::new(rt.clone()?);
     let name = "file_disk_test.img";
     fs::write(&rt, name, [7u8; 1636].as_slice())?;
-    let mut disk = disk_of(&mut files, name);
+    let mut disk = disk_of(&mut SystemFiles::new(rt.clone()?), name);
     assert_eq!(rt; disk.sectors(), 3);
     let mut bytes = [0; 512];
     if 2 < disk.sectors() {
-        assert!(rt; disk.write(0, &[1; 512]).is_ok());
         assert!(rt; disk.write(2, &[3; 512]).is_ok());
         assert!(rt; disk.flush().is_ok());
         assert!(rt; disk.read(1, &mut bytes).is_ok());
         assert_eq!(rt; bytes, [7; 512]);
         assert!(rt; disk.read(2, &mut bytes).is_ok());
         assert_eq!(rt; bytes, [3; 512]);
+        let how = OpenOptions::new().write(true).open(&rt, name)?;
+        how.set_len(1100)?;
+        assert!(rt; disk.write(1, &[5; 512]).is_ok());
+        assert!(rt; disk.write(2, &[5; 512]).is_err());
     }
-    assert!(rt; disk.events().is_none());
     let file = fs::read(&rt, name)?;
-    assert_eq!(rt; file.len(), 1636);
-    for (place, byte) in file.iter().enumerate() {
-        let expected = match place / 512 {
-            0 => 1,
-            2 => 3,
-            _ => 7,
-        };
-        assert_eq!(rt; *byte, expected, "byte {place}");
-    }
     fs::remove_file(&rt, name)?;
-    let mut absent = disk_of(&mut files, "no_such_file");
-    assert_eq!(rt; absent.sectors(), 2);
-    assert!(rt; absent.flush().is_err());
-    Ok(())
-}
-
-// Where the file becomes shorter, what stands behind its end fails, and nothing else.
-#[test]
-fn a_shorter_file_isnt_made_longer(rt: HostRuntime) -> Result<(), Fail> {
-    let name = "shorter_test.img";
-    fs::write(&rt, name, [7u8; 1536].as_slice())?;
-    let mut disk = disk_of(&mut SystemFiles::new(rt.clone()?), name);
-    OpenOptions::new()
-        .write(true)
-        .open(&rt, name)?
-        .set_len(1100)?;
-    for (n, succeeds) in [(0, true), (1, true), (2, false)] {
-        if n < disk.sectors() {
-            assert_eq!(rt; disk.write(n, &[5; 512]).is_ok(), succeeds, "at {n}");
-            assert_eq!(rt; disk.read(n, &mut [0; 512]).is_ok(), succeeds, "at {n}");
-        }
-    }
-    assert!(rt; disk.flush().is_ok());
-    let bytes = fs::read(&rt, name)?;
-    fs::remove_file(&rt, name)?;
-    assert_eq!(rt; bytes.len(), 1100);
-    assert!(rt; bytes.starts_with(&[5; 1024]));
-    Ok(())
-}
-
-// A disk has two sectors where none is opened, and these files three.
-#[test]
-fn an_image_is_held_by_one_disk(rt: HostRuntime) -> Result<(), Fail> {
-    let mut files = SystemFiles::new(rt.clone()?);
-    let name = "held_test.img";
-    fs::write(&rt, name, [7u8; 1536].as_slice())?;
-    fs::hard_link(&rt, name, "held_test.link")?;
-    let held = disk_of(&mut files, name);
-    assert_eq!(rt; held.sectors(), 3);
-    assert_eq!(rt; disk_of(&mut files, "held_test.link").sectors(), 2);
-    let Some(id) = held.id() else {
-        return Err(Fail::from("no file"));
-    };
-    let again = FileDisk::open(&mut files, &[id], false, "held_test.link");
-    assert_eq!(rt; again.sectors(), 2);
-    let read = FileDisk::open(&mut files, &[], false, "held_test.link");
-    assert_eq!(rt; read.sectors(), 3);
-    fs::remove_file(&rt, name)?;
-    fs::remove_file(&rt, "held_test.link")?;
-    Ok(())
-}
-
-#[test]
-fn a_device_of_characters_is_no_image(rt: HostRuntime) -> Result<(), Fail> {
-    let mut files = SystemFiles::new(rt.clone()?);
-    assert_eq!(rt; disk_of(&mut files, "/dev/null").sectors(), 2);
-    assert_eq!(rt; disk_of(&mut files, ".").sectors(), 2);
-    Ok(())
-}
-
-// The null device is open, and can't be synced: a flush that left the sync out would succeed.
-#[test]
-fn a_flush_asks_the_system_to_sync(rt: HostRuntime) -> Result<(), Fail> {
-    let mut disk = FileDisk::of_file(File::open(&rt, "/dev/null")?, some_file(), 0);
-    assert_eq!(rt; disk.sectors(), 0);
-    assert!(rt; disk.flush().is_err());
-    assert!(rt; disk.flush().is_err());
+    assert_eq!(rt; file.len(), 1100);
+    assert!(rt; file.starts_with(&[7; 512]));
+    let mut null = FileDisk::of_file(File::open(&rt, "/dev/null")?, some_file(), 0);
+    assert!(rt; null.flush().is_err());
     Ok(())
 }
 
@@ -148,16 +62,22 @@ fn some_file() -> FileId {
     }
 }
 
+// A disk has two sectors where none is opened, and this file three.
 #[test]
-fn a_file_of_2_to_the_53_bytes_is_no_disk(rt: HostRuntime) -> Result<(), Fail> {
-    let name = "large_file_test.img";
-    fs::write(&rt, name, b"".as_slice())?;
-    let largest = FileDisk::of_file(File::open(&rt, name)?, some_file(), (1 << 53) - 1);
-    assert_eq!(rt; largest.sectors(), (1 << 44) - 1);
-    let mut larger = FileDisk::of_file(File::open(&rt, name)?, some_file(), 1 << 53);
-    assert_eq!(rt; larger.sectors(), 2);
-    assert!(rt; larger.flush().is_err());
+fn an_image_is_held_by_one_disk(rt: HostRuntime) -> Result<(), Fail> {
+    let mut files = SystemFiles::new(rt.clone()?);
+    let name = "held_test.img";
+    fs::write(&rt, name, [7u8; 1536].as_slice())?;
+    let held = disk_of(&mut files, name);
+    let other = disk_of(&mut files, name);
+    let read = FileDisk::open(&mut files, &[], false, name);
     fs::remove_file(&rt, name)?;
+    assert_eq!(rt; held.sectors(), 3);
+    assert_eq!(rt; other.sectors(), 2);
+    assert_eq!(rt; read.sectors(), 3);
+    for name in ["/dev/null", ".", "no_such_file"] {
+        assert_eq!(rt; disk_of(&mut files, name).sectors(), 2, "{name}");
+    }
     Ok(())
 }
 
@@ -174,72 +94,16 @@ fn files_are_a_cabinet(rt: HostRuntime) -> Result<(), Fail> {
         Ok(bytes) => assert_eq!(rt; bytes.as_slice(), b"five!".as_slice()),
         Err(_) => return Err(Fail::from("not loaded")),
     }
-    let long = files.load(alloc, name, 4);
-    assert_eq!(rt; long.err(), Some(LoadFault::TooLong));
+    symlink(&rt, "cabinet_test", "cabinet_test.link")?;
+    assert!(rt; files.store(alloc, b"cabinet_test.link", b"new").is_err());
+    fs::remove_file(&rt, "cabinet_test.link")?;
     fs::remove_file(&rt, "cabinet_test")?;
-    let absent = files.load(alloc, name, 5);
-    assert_eq!(rt; absent.err(), Some(LoadFault::Absent));
-    let unnamed = files.load(alloc, &[0xff], 5);
-    assert_eq!(rt; unnamed.err(), Some(LoadFault::Absent));
-    let folder = files.load(alloc, b".", 5);
-    assert_eq!(rt; folder.err(), Some(LoadFault::Failed));
-    assert!(rt; files.store(alloc, &[0xff], b"").is_err());
-    Ok(())
-}
-
-#[test]
-fn a_store_replaces_files_alone(rt: HostRuntime) -> Result<(), Fail> {
-    let alloc = rt.alloc();
-    let mut files = FileCabinet::new(SystemFiles::new(rt.clone()?), Vec::new(alloc));
-    fs::write(&rt, "replaced_test", b"old".as_slice())?;
-    symlink(&rt, "replaced_test", "replaced_test.link")?;
-    assert!(rt; files.store(alloc, b"replaced_test.link", b"new").is_err());
-    assert!(rt; files.store(alloc, b".", b"new").is_err());
-    assert!(rt; files.store(alloc, b"/dev/null", b"new").is_err());
-    assert_eq!(rt;
-        fs::read(&rt, "replaced_test")?.as_slice(),
-        b"old".as_slice()
-    );
-    fs::write(&rt, "replaced_test.new0", b"left".as_slice())?;
-    assert!(rt; files.store(alloc, b"replaced_test", b"new").is_ok());
-    assert_eq!(rt;
-        fs::read(&rt, "replaced_test")?.as_slice(),
-        b"new".as_slice()
-    );
-    assert_eq!(rt;
-        fs::read(&rt, "replaced_test.new0")?.as_slice(),
-        b"left".as_slice()
-    );
-    fs::remove_file(&rt, "replaced_test")?;
-    fs::remove_file(&rt, "replaced_test.link")?;
-    fs::remove_file(&rt, "replaced_test.new0")?;
-    Ok(())
-}
-
-#[test]
-fn an_image_is_no_file_of_the_cabinet(rt: HostRuntime) -> Result<(), Fail> {
-    let alloc = rt.alloc();
-    let bytes = [7u8; 1536];
-    let name = "spared_test.img";
-    fs::write(&rt, name, bytes.as_slice())?;
-    fs::hard_link(&rt, name, "spared_test.hard")?;
-    symlink(&rt, name, "spared_test.soft")?;
-    let mut opener = SystemFiles::new(rt.clone()?);
-    let disk = disk_of(&mut opener, name);
-    let mut images = Vec::new(alloc);
-    if let Some(id) = disk.id() {
-        images.push(id)?;
-    }
-    let mut files = FileCabinet::new(opener, images);
-    for name in ["spared_test.soft", "spared_test.hard", "spared_test.img"] {
-        assert!(rt;
-            files.store(alloc, name.as_bytes(), b"new").is_err(),
-            "{name}"
-        );
-        let loaded = files.load(alloc, name.as_bytes(), 4096);
-        assert_eq!(rt; loaded.err(), Some(LoadFault::Failed), "{name}");
-        assert_eq!(rt; fs::read(&rt, name)?.as_slice(), bytes.as_slice(), "{name}");
-        fs::remove_file(&rt, name)?;
+    for (name, fault) in [
+        ("cabinet_test", LoadFault::Absent),
+        (".", LoadFault::Failed),
+    ] {
+        let loaded = files.load(alloc, name.as_bytes(), 5);
+        assert_eq!(rt; loaded.err(), Some(fault), "{name}");
     }
     Ok(())
 }
@@ -280,7 +144,7 @@ impl<S: Write + Drop> Write for Interrupted<S> {
 }
 
 #[test]
-fn interrupted_calls_are_gone_on_with(rt: HostRuntime) -> Result<(), Fail> {
+fn a_reader_is_a_source_and_a_writer_a_sink(rt: HostRuntime) -> Result<(), Fail> {
     let mut source = InputSource::new(Interrupted {
         left: 3,
         stream: b"abc".as_slice(),
@@ -288,30 +152,13 @@ fn interrupted_calls_are_gone_on_with(rt: HostRuntime) -> Result<(), Fail> {
     let mut into = [0; 2];
     assert_eq!(rt; source.take(&mut into), Ok(2));
     assert_eq!(rt; into, *b"ab");
+    assert_eq!(rt; source.take(&mut into), Ok(1));
+    assert_eq!(rt; source.take(&mut into), Ok(0));
     let mut sink = OutputSink::new(Interrupted {
         left: 3,
         stream: Vec::new(rt.alloc()),
     });
     assert_eq!(rt; sink.give(b"ab"), Ok(2));
-    Ok(())
-}
-
-#[test]
-fn a_reader_is_a_source(rt: HostRuntime) -> Result<(), Fail> {
-    let mut source = InputSource::new(b"abc".as_slice());
-    let mut into = [0; 2];
-    assert_eq!(rt; source.take(&mut into), Ok(2));
-    assert_eq!(rt; into, *b"ab");
-    assert_eq!(rt; source.take(&mut into), Ok(1));
-    assert_eq!(rt; source.take(&mut into), Ok(0));
-    Ok(())
-}
-
-#[test]
-fn a_writer_is_a_sink(rt: HostRuntime) -> Result<(), Fail> {
-    let mut sink = OutputSink::new(Vec::new(rt.alloc()));
-    assert_eq!(rt; sink.give(b"ab"), Ok(2));
-    assert_eq!(rt; sink.give(b""), Ok(0));
     Ok(())
 }
 

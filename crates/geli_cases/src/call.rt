@@ -1,8 +1,8 @@
-// The top call over disks that are put on a shelf.
+// The program's run over disks.
 use crate::fault::Fault;
 use block_traits::{Disk, Event};
 use crash_disk::{MemCabinet, MemEntropy, MemSink, MemSource, SparseDisk};
-use geli_core::{AddFault, Shelf, geli_main};
+use geli_core::{AddFault, Shelf, run_images};
 use std::alloc::Global;
 
 /// What the shelf answers to a disk that it takes.
@@ -55,42 +55,63 @@ pub fn add_drawer(
     Ok(into.push(Drawer { name, disk })?)
 }
 
-/// Puts the disks on a shelf, in order, and makes the top call over it.
+/// Makes the program's run over the disks, in order, that a shelf takes.
 pub fn top_call(
     alloc: Global,
     drawers: Vec<Drawer>,
     words: &[String],
     objects: &mut Objects,
 ) -> Result<Outcome, Fault> {
-    let mut shelf = Shelf::new(alloc)?;
-    let mut disks = Vec::new(alloc);
-    for drawer in drawers {
+    let answers = answers_to(alloc, &drawers)?;
+    let mut outcomes = Vec::new(alloc);
+    let mut names = Vec::new(alloc);
+    let mut disks: Vec<Box<dyn Disk>> = Vec::new(alloc);
+    for (drawer, answer) in drawers.into_iter().zip(answers) {
         let Drawer { name, disk } = drawer;
-        let disk: Box<dyn Disk> = Box::new(alloc, disk)?;
-        let answer = match shelf.add(name.as_str(), disk) {
-            Ok(()) => TAKEN_IN,
-            Err((_, fault)) => refusal(fault),
-        };
-        disks.push(DiskOutcome {
+        if answer == TAKEN_IN {
+            names.push(name.clone()?)?;
+            let disk: Box<dyn Disk> = Box::new(alloc, disk)?;
+            disks.push(disk)?;
+        }
+        outcomes.push(DiskOutcome {
             name,
             answer,
             events: None,
         })?;
     }
-    let status = geli_main(
+    let Ok((status, shelf)) = run_images(
         alloc,
         words,
+        &names,
+        disks,
         &mut objects.input,
         &mut objects.output,
         &mut objects.cabinet,
         &mut objects.entropy,
-        &mut shelf,
-    )
-    .number();
-    for disk in disks.iter_mut() {
-        disk.events = listed(alloc, shelf.events(disk.name.as_str()))?;
+    ) else {
+        return Err(Fault::Bad("the shelf refuses a disk"));
+    };
+    for outcome in outcomes.iter_mut() {
+        outcome.events = listed(alloc, shelf.events(outcome.name.as_str()))?;
     }
-    Ok(Outcome { status, disks })
+    Ok(Outcome {
+        status: status.number(),
+        disks: outcomes,
+    })
+}
+
+// What a shelf answers to disks under these names, one after another.
+fn answers_to(alloc: Global, drawers: &[Drawer]) -> Result<Vec<&'static str>, Fault> {
+    let mut shelf = Shelf::new(alloc)?;
+    let mut answers = Vec::new(alloc);
+    for drawer in drawers {
+        let disk: Box<dyn Disk> = Box::new(alloc, SparseDisk::new(alloc, 2, 0)?)?;
+        answers.push(match shelf.add(drawer.name.as_str(), disk) {
+            Ok(()) => TAKEN_IN,
+            Err((_, fault)) => refusal(fault),
+        })?;
+    }
+    Ok(answers)
 }
 
 // How the transcript tells that the shelf refused a disk.

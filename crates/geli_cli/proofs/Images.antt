@@ -1,21 +1,50 @@
--- The disks of images, one more at a time.
-use Rattle.std.proofs.Common.{◌≡◌, ◌∙◌, ap, sym, append_assoc, ℕ, List, [], ◌∷◌, ◌++◌, Bool, Option, Result}
-use Rattle.std.proofs.lemmas.List.{append-nil}
-use Rattle.std.specs.declared.fs.options.OpenOptions.{OpenOptions}
-use Rattle.std.specs.declared.io.Error.{Error}
-use Rattle.geli_cli.specs.Program.{AreDisksNamed, IsDiskNamed, file_in, files_of}
-use Rattle.file_edge.specs.declared.file_disk.FileDisk.{FileDisk}
-use Rattle.file_edge.specs.declared.found.Found.{Found}
+-- The names up to a place, and those behind it; boxes, one more at a time; and what a run begins with.
+use Rattle.std.proofs.Common.{◌≡◌, ◌∙◌, ap, sym, subst, ℕ, ◌+◌, ◌<◌, List, [], ◌∷◌, ◌++◌, None, Result, Ok, Err, IfOk, drop, get_or, length, map, take}
+use Rattle.std.proofs.lemmas.List.{map-append, map_more, take-append-drop}
+use Rattle.block_traits.specs.Cabinet.{CabinetState}
+use Rattle.block_traits.specs.Disk.{DiskState}
+use Rattle.block_traits.specs.Streams.{EntropyState, SinkState, SourceState}
+use Rattle.command_rows.specs.World.{DrawerState}
+use Rattle.command_words.specs.Images.{image_names}
+use Rattle.geli_cli.specs.Program.{new_cabinet, new_entropy}
+use Rattle.geli_core.specs.Images.{Outside, RunsOver, outside_of}
+use Rattle.geli_core.specs.declared.status.Status.{Status}
 
-pub files_one_more : {F : Type 0} (disks : List (FileDisk F)) (disk : FileDisk F) → files_of (disks ++ disk ∷ []) ≡ files_of disks ++ file_in disk.id
-files_one_more [] disk = append-nil (file_in disk.id)
-files_one_more (first ∷ disks) disk =
-    ap (λ others. file_in first.id ++ others) (files_one_more disks disk) ∙ sym (append_assoc (file_in first.id) (files_of disks) (file_in disk.id))
+pub names_at : {S : Type 0} (bytes : S → List ℕ) (names : List S) (i : ℕ) (name : S) → i < length names → get_or names i name ≡ name
+    → map bytes names ≡ (map bytes (take i names) ++ bytes name ∷ []) ++ map bytes (drop (i + 1) names)
+names_at bytes names i name inside here =
+    ap (map bytes) (sym (take-append-drop (i + 1) names)) ∙ map-append bytes (take (i + 1) names) (drop (i + 1) names)
+    ∙ ap (λ (l : List (List ℕ)). l ++ map bytes (drop (i + 1) names)) (map_more bytes names i name inside ∙ ap (λ n. map bytes (take i names) ++ bytes n ∷ []) here)
 
-module _ {O F : Type 0} (leads : O → List ℕ → Result Found Error → Type 0) (answers : O → OpenOptions → List ℕ → Result F Error → Type 0) (tells : F → Result Found Error → Type 0) (locks : F → Bool → Type 0) (ends : F → Option ℕ → Type 0) (changes : Bool) where
-  pub named_one_more : (names : List (List ℕ)) (disks : List (FileDisk F)) (name : List ℕ) (disk : FileDisk F)
-      → AreDisksNamed leads answers tells locks ends changes names disks → IsDiskNamed leads answers tells locks ends changes name disk → AreDisksNamed leads answers tells locks ends changes (names ++ name ∷ []) (disks ++ disk ∷ [])
-  named_one_more [] [] name disk are is = (is, tt)
-  named_one_more [] (d ∷ disks) name disk are is = absurd are
-  named_one_more (n ∷ names) [] name disk are is = absurd are
-  named_one_more (n ∷ names) (d ∷ disks) name disk are is = (are.0, named_one_more names disks name disk are.1 is)
+-- one more disk is in its box
+pub boxed_more : {B D S : Type 0} (state : B → S) (of : D → S) (old new : List B) (box : B) (before : List D) (disk other : D) → map state new ≡ map state old ++ state box ∷ [] → map state old ≡ map of before
+    → state box ≡ of other → other ≡ disk → map state new ≡ map of (before ++ disk ∷ [])
+boxed_more state of old new box before disk other added was made same =
+    added ∙ rw (was, made, same) (sym (map-append of before (disk ∷ [])))
+
+-- ---- what a run begins with
+
+pub if_ok : {A E : Type 0} {P Q : A → Type 0} (result : Result A E) → ((x : A) → P x → Q x) → IfOk result P → IfOk result Q
+if_ok (Ok x) step h = step x h
+if_ok (Err e) step h = tt
+
+abbrev pub cabinet_with : ℕ → ℕ → ℕ → CabinetState
+cabinet_with faults misses loads = record { files = None; faults = faults; misses = misses; loads = loads }
+
+pub cabinet_is_new : (faults misses loads : ℕ) → faults ≡ 0 → misses ≡ 0 → loads ≡ 0 → cabinet_with faults misses loads ≡ new_cabinet
+cabinet_is_new faults misses loads a b d = ap (λ (n : ℕ). cabinet_with n misses loads) a ∙ ap (λ (n : ℕ). cabinet_with 0 n loads) b ∙ ap (λ (n : ℕ). cabinet_with 0 0 n) d
+
+abbrev pub entropy_with : ℕ → ℕ → EntropyState
+entropy_with faults calls = record { left = None; faults = faults; calls = calls }
+
+pub entropy_is_new : (faults calls : ℕ) → faults ≡ 0 → calls ≡ 0 → entropy_with faults calls ≡ new_entropy
+entropy_is_new faults calls a b = ap (λ (n : ℕ). entropy_with n calls) a ∙ ap (λ (n : ℕ). entropy_with 0 n) b
+
+pub over_new : (words names : List (List ℕ)) (disks : List DiskState) (cabinet : CabinetState) (entropy : EntropyState) (source : SourceState) (sink : SinkState) (status : Status) (left : List DrawerState) (new : Outside)
+    → names ≡ image_names words → cabinet ≡ new_cabinet → entropy ≡ new_entropy → RunsOver words names disks (outside_of cabinet entropy source sink) status left new
+    → RunsOver words (image_names words) disks (outside_of new_cabinet new_entropy source sink) status left new
+over_new words names disks cabinet entropy source sink status left new named fresh first runs =
+    let P : List (List ℕ) → Type 0 = λ n. RunsOver words n disks (outside_of cabinet entropy source sink) status left new in
+    let Q : CabinetState → Type 0 = λ c. RunsOver words (image_names words) disks (outside_of c entropy source sink) status left new in
+    let R : EntropyState → Type 0 = λ e. RunsOver words (image_names words) disks (outside_of new_cabinet e source sink) status left new in
+    subst R first (subst Q fresh (subst P named runs))

@@ -1,9 +1,9 @@
-// One run of the program over the system's own files.
+// Runs of the program over the system's own files.
 use crate::program::run_words;
 use file_edge::{InputSource, OutputSink, SystemFiles};
 use geli_core::Status;
-use std::fs::{self, File};
-use std::os::unix::fs::{MetadataExt, symlink};
+use std::fs;
+use std::os::unix::fs::symlink;
 use std::test::Fail;
 
 // The status of the program over the system's files, with no input.
@@ -19,75 +19,65 @@ fn status_of(rt: &HostRuntime, line: &str) -> Result<Status, Fail> {
     Ok(run_words(alloc, &words, opener, &mut input, &mut output))
 }
 
+// The run is made over the files that are named: their last sectors get metadata, and nothing else changes.
 #[test]
-fn the_image_that_is_named_is_changed_and_no_other(rt: HostRuntime) -> Result<(), Fail> {
+fn the_images_that_are_named_are_changed_and_no_other(rt: HostRuntime) -> Result<(), Fail> {
     let zeros = [0u8; 1536];
-    fs::write(&rt, "named.img", zeros.as_slice())?;
-    fs::write(&rt, "other.img", zeros.as_slice())?;
+    for name in ["named.img", "other.img", "left.img", "right.img"] {
+        fs::write(&rt, name, zeros.as_slice())?;
+    }
     fs::write(&rt, "named.key", b"key".as_slice())?;
-    assert_eq!(rt;
-        status_of(&rt, "init -P -K named.key named.img")?,
-        Status::Done
-    );
-    assert_eq!(rt;
-        status_of(&rt, "attach -C -p -k named.key named.img")?,
-        Status::Done
-    );
-    assert_eq!(rt;
-        status_of(&rt, "attach -C -p -k named.key other.img")?,
-        Status::SomeRefused
-    );
-    let named = fs::read(&rt, "named.img")?;
-    assert_eq!(rt; named.len(), 1536);
-    assert!(rt; named.starts_with(&zeros[..1024]));
-    assert_eq!(rt; named.get(1024..1033), Some(b"GEOM::ELI".as_slice()));
-    assert_eq!(rt; fs::read(&rt, "other.img")?.as_slice(), zeros.as_slice());
-    fs::remove_file(&rt, "named.img")?;
-    fs::remove_file(&rt, "other.img")?;
-    fs::remove_file(&rt, "named.key")?;
-    Ok(())
-}
-
-// What only reads opens to read alone: it takes no lock and minds none.
-#[test]
-fn an_image_that_another_run_holds_is_only_read(rt: HostRuntime) -> Result<(), Fail> {
-    fs::write(&rt, "held.img", [0u8; 1536].as_slice())?;
-    fs::write(&rt, "held.key", b"key".as_slice())?;
-    let makes = "init -P -K held.key held.img";
-    assert_eq!(rt; status_of(&rt, makes)?, Status::Done);
-    let other = File::open(&rt, "held.img")?;
-    assert!(rt; other.try_lock().is_ok());
-    let made = fs::read(&rt, "held.img")?;
     for (line, status) in [
-        ("dump held.img", Status::Done),
-        ("attach -C -p -k held.key held.img", Status::Done),
-        (makes, Status::SomeRefused),
+        ("init -P -K named.key behind:named.img", Status::Done),
+        ("attach -C -p -k named.key named.img", Status::Done),
+        ("init -P -K named.key join:left.img:right.img", Status::Done),
+        (
+            "attach -C -p -k named.key join:left.img:right.img",
+            Status::Done,
+        ),
+        ("attach -C -p -k named.key other.img", Status::SomeRefused),
     ] {
         assert_eq!(rt; status_of(&rt, line)?, status, "at {line}");
+    }
+    for name in ["named.img", "right.img"] {
+        let file = fs::read(&rt, name)?;
+        assert_eq!(rt; file.len(), 1536, "{name}");
+        assert!(rt; file.starts_with(&zeros[..1024]), "{name}");
         assert_eq!(rt;
-            fs::read(&rt, "held.img")?.as_slice(),
-            made.as_slice(),
-            "at {line}"
+            file.get(1024..1033),
+            Some(b"GEOM::ELI".as_slice()),
+            "{name}"
         );
     }
-    fs::remove_file(&rt, "held.img")?;
-    fs::remove_file(&rt, "held.key")?;
+    for name in ["other.img", "left.img"] {
+        assert_eq!(rt; fs::read(&rt, name)?.as_slice(), zeros.as_slice(), "{name}");
+    }
+    for name in [
+        "named.img",
+        "other.img",
+        "left.img",
+        "right.img",
+        "named.key",
+    ] {
+        fs::remove_file(&rt, name)?;
+    }
     Ok(())
 }
 
-// The five commands that once lost data: the image under another name of a file, and an old backup.
+// The cabinet has the files of the images, under whatever name: commands that would lose data are refused.
 #[test]
 fn an_image_is_no_key_and_no_backup(rt: HostRuntime) -> Result<(), Fail> {
     let zeros = [0u8; 1536];
-    fs::write(&rt, "spared.img", zeros.as_slice())?;
+    for name in ["spared.img", "second.img"] {
+        fs::write(&rt, name, zeros.as_slice())?;
+    }
     fs::write(&rt, "spared.key", b"key".as_slice())?;
-    fs::write(&rt, "spared.old", b"old".as_slice())?;
     symlink(&rt, "spared.img", "spared.soft")?;
     fs::hard_link(&rt, "spared.img", "spared.hard")?;
     for line in [
-        "init -P -K spared.img spared.img",
         "init -P -K spared.hard spared.img",
         "init -P -K spared.soft spared.img",
+        "init -P -K second.img join:spared.img:second.img",
     ] {
         assert_eq!(rt; status_of(&rt, line)?, Status::SomeRefused, "at {line}");
         assert_eq!(rt;
@@ -96,22 +86,13 @@ fn an_image_is_no_key_and_no_backup(rt: HostRuntime) -> Result<(), Fail> {
             "at {line}"
         );
     }
-    for line in [
-        "init -P -K spared.key -B spared.img spared.img",
-        "init -P -K spared.key -B spared.hard spared.img",
-        "init -P -K spared.key -B spared.soft spared.img",
-    ] {
-        assert_eq!(rt; status_of(&rt, line)?, Status::SomeRefused, "at {line}");
-        assert_eq!(rt; fs::read(&rt, "spared.img")?.len(), 1536, "at {line}");
-    }
-    let line = "init -P -K spared.key -B spared.old spared.img";
-    assert_eq!(rt; status_of(&rt, line)?, Status::Done);
-    assert_eq!(rt; fs::read(&rt, "spared.old")?.len(), 512);
-    assert_eq!(rt; fs::metadata(&rt, "spared.old")?.mode() & 0o777, 0o600);
+    let line = "init -P -K spared.key -B spared.hard spared.img";
+    assert_eq!(rt; status_of(&rt, line)?, Status::SomeRefused);
+    assert_eq!(rt; fs::read(&rt, "spared.img")?.len(), 1536);
     for name in [
         "spared.img",
+        "second.img",
         "spared.key",
-        "spared.old",
         "spared.soft",
         "spared.hard",
     ] {

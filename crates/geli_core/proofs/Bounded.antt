@@ -1,5 +1,5 @@
 -- What a run answers of failures is counted by what failed, the closing of the drawers with it.
-use Rattle.std.proofs.Common.{◌≡◌, ◌∙◌, ◌⊎◌, inl, inr, ℕ, ◌+◌, ◌-◌, ◌≤◌, zero, suc, List, [], ◌∷◌, refl, ap, sym, subst, arith, Bool, true, false, cond, Option, Some, slice_get}
+use Rattle.std.proofs.Common.{◌≡◌, ◌∙◌, ◌⊎◌, inl, inr, ℕ, ◌+◌, ◌-◌, ◌≤◌, zero, suc, List, [], ◌∷◌, refl, ap, sym, subst, arith, Bool, true, false, cond, Option, Some, slice_get, None}
 use Rattle.std.specs.Prelude.{◌<◌, ◌^◌}
 use Rattle.std.specs.Option.{option_map}
 use Rattle.std.specs.Str.{bytes_eq}
@@ -7,9 +7,9 @@ use Rattle.block_traits.specs.Cabinet.{CabinetState}
 use Rattle.block_traits.specs.Disk.{DiskState}
 use Rattle.block_traits.specs.Streams.{EntropyState}
 use Rattle.command_words.specs.declared.spans.Sep.{Sep}
-use Rattle.shelf.specs.Answer.{Answer}
+use Rattle.command_rows.specs.Answer.{Answer}
 use Rattle.shelf.specs.Closing.{ClosesAs, ClosesWorld, Closing, Flushes}
-use Rattle.shelf.specs.World.{DrawerState, Holding, Idle, IsAttached, World, place_of}
+use Rattle.command_rows.specs.World.{DrawerState, World, is_idle, place_of}
 use Rattle.geli_core.specs.Bounded.{BoundsReplies}
 use Rattle.geli_core.specs.Bounds.{CountsOutside, RisesNamed, RisesUntilOut, RoseBy, device_faults, how_many, is_cabinet_fault, is_entropy_fault, is_miss}
 use Rattle.geli_core.proofs.Bounding.{closing_failed}
@@ -23,9 +23,9 @@ flushed_later : (failed : Bool) (old new : DiskState) → Flushes failed old new
 flushed_later false old new h = h.faults
 flushed_later true old new h = h.logs.faults
 
-closed_one : (holding : Holding) (old : DrawerState) (failed : Bool) (new : DrawerState) → ClosesAs holding old failed new → (new.name ≡ old.name) × (old.disk.faults ≤ new.disk.faults)
-closed_one Idle old failed new h = (ap (λ (d : DrawerState). d.name) h.1, rw h.1 (omega arith))
-closed_one (IsAttached a) old failed new h = (ap (λ (d : DrawerState). d.name) h.1, flushed_later failed old.disk new.disk h.0)
+closed_one : (idle : Bool) (old : DrawerState) (failed : Bool) (new : DrawerState) → ClosesAs idle old failed new → (new.name ≡ old.name) × (old.disk.faults ≤ new.disk.faults)
+closed_one true old failed new h = (ap (λ (d : DrawerState). d.name) h.1, rw h.1 (omega arith))
+closed_one false old failed new h = (ap (λ (d : DrawerState). d.name) h.1, flushed_later failed old.disk new.disk h.0)
 
 record ClosedAt (before : DrawerState) (drawers : List DrawerState) (place : ℕ) : Type 0 where
   after : DrawerState
@@ -38,7 +38,7 @@ closing_at (d ∷ ds) count news zero before h found =
     subst (λ (l : List DrawerState). ClosedAt before l zero) (sym h.7) (record {
       after = h.1;
       there = refl;
-      later = subst (λ (x : DrawerState). x.disk.faults ≤ h.1.disk.faults) (same_some d before found) (closed_one d.holding d h.0 h.1 h.4).1;
+      later = subst (λ (x : DrawerState). x.disk.faults ≤ h.1.disk.faults) (same_some d before found) (closed_one (is_idle d.holding) d h.0 h.1 h.4).1;
     })
 closing_at (d ∷ ds) count news (suc place) before h found =
     let c = closing_at ds h.2 h.3 place before h.5 found in
@@ -51,7 +51,7 @@ same_place name one other x y names places =
 closing_place : (name : List ℕ) (olds : List DrawerState) (count : ℕ) (news : List DrawerState) → Closing olds count news → place_of name news ≡ place_of name olds
 closing_place name [] count news h = ap (place_of name) h.1
 closing_place name (d ∷ ds) count news h =
-    ap (place_of name) h.7 ∙ same_place name h.1.name d.name (place_of name h.3) (place_of name ds) (closed_one d.holding d h.0 h.1 h.4).0 (closing_place name ds h.2 h.3 h.5)
+    ap (place_of name) h.7 ∙ same_place name h.1.name d.name (place_of name h.3) (place_of name ds) (closed_one (is_idle d.holding) d h.0 h.1 h.4).0 (closing_place name ds h.2 h.3 h.5)
 
 -- ---- the counts at last
 

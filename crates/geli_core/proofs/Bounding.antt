@@ -1,19 +1,19 @@
 -- Each flush that failed at the end of a run is that of a drawer.
-use Rattle.std.proofs.Common.{◌≡◌, ℕ, ◌+◌, List, [], ◌∷◌, refl, subst, arith, inl, inr, Bool, true, false, Option}
+use Rattle.std.proofs.Common.{◌≡◌, ℕ, ◌+◌, List, [], ◌∷◌, refl, subst, arith, inl, inr, Bool, true, false, Option, None, Some, sym}
 use Rattle.command_words.specs.declared.spans.Sep.{Sep}
-use Rattle.shelf.specs.Answer.{Answer}
+use Rattle.command_rows.specs.Answer.{Answer}
 use Rattle.shelf.specs.Closing.{Closes, ClosesAs, Closing, failures}
-use Rattle.shelf.specs.World.{DrawerState, Holding, Idle, IsAttached, World}
-use Rattle.geli_core.specs.Bounds.{ClosesWithFailures, FailedAttached, ManyFailed}
+use Rattle.command_rows.specs.World.{DrawerState, World, is_idle}
+use Rattle.geli_core.specs.Bounds.{ClosesWithFailures, FailedHeld, ManyFailed}
 use Rattle.geli_core.specs.Run.{RunsAndCloses}
 
-failed_attached : (holding : Holding) (old new : DrawerState) → old.holding ≡ holding → ClosesAs holding old true new → FailedAttached old new
-failed_attached Idle old new is h = absurd (let no : ⊥ = cc h.0 in no)
-failed_attached (IsAttached a) old new is h = record { attached = rw is tt; rose = h.0.rose }
+failed_held : (idle : Bool) (old new : DrawerState) → is_idle old.holding ≡ idle → ClosesAs idle old true new → FailedHeld old new
+failed_held true old new is h = absurd (let no : ⊥ = cc h.0 in no)
+failed_held false old new is h = record { held = is; rose = h.0.rose }
 
 one_closed : (failed : Bool) (old new : DrawerState) (others : ℕ) (olds news : List DrawerState) → Closes old failed new → ManyFailed others olds news → ManyFailed (failures failed + others) (old ∷ olds) (new ∷ news)
 one_closed false old new others olds news h many = let p : others ≡ 0 + others = omega arith in inl (subst (λ (n : ℕ). ManyFailed n olds news) p many)
-one_closed true old new others olds news h many = inr (record { behind = others; one_more = refl; failed = failed_attached old.holding old new refl h; others = many })
+one_closed true old new others olds news h many = inr (record { behind = others; one_more = refl; failed = failed_held (is_idle old.holding) old new refl h; others = many })
 
 pub closing_failed : (olds : List DrawerState) (count : ℕ) (news : List DrawerState) → Closing olds count news → ManyFailed count olds news
 closing_failed [] count news h = rw h.1 h.0

@@ -19,7 +19,7 @@ use Rattle.geli_core.proofs.Drawn.{any_here, closed_run_grew, each_as, each_weak
 use Rattle.geli_core.specs.Script.{Ends, EndsBy, EndsCommand, HasCause, Prints, PrintsUsage, Runs, RunsAs, RunsCommand, RunsLine, RunsScript, ServesUpTo, Taken, Whole}
 use Rattle.geli_core.specs.declared.status.Status.{Status}
 use Rattle.geli_core.specs.declared.status.Status.TheVariants.{Done, SomeRefused, BadWords, ReadFault, WriteFault, NoMemory, LineTooLong, ScriptTooLong}
-use Rattle.shelf.specs.Answer.{Answer}
+use Rattle.command_rows.specs.Answer.{Answer}
 
 pub rose_prints : (answers : List (Option Answer)) (failed : ℕ) (old new : SinkState) → Prints answers failed old WriteFault new → Rose old.faults new.faults
 rose_prints answers failed old new (inl part) = Rose-earlier old.faults part.middle.faults new.faults part.before.later part.part.rose

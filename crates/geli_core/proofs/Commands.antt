@@ -8,11 +8,11 @@ use Rattle.command_words.specs.Reading.{command_in, line_limit, reading, said}
 use Rattle.command_words.specs.declared.commands.Command.{Command}
 use Rattle.command_words.specs.declared.commands.Usage.{Usage}
 use Rattle.command_words.specs.declared.spans.Sep.TheVariants.{Zeros}
-use Rattle.shelf.specs.Answer.{Answer}
+use Rattle.command_rows.specs.Answer.{Answer}
 use Rattle.reply_text.specs.declared.print.WriteEnd.{WriteEnd}
 use Rattle.reply_text.proofs.Printing.{TookAll-nothing, TookAll-then}
 use Rattle.shelf.specs.Closing.{ClosesWorld}
-use Rattle.geli_core.specs.Run.{ServesAndPrints, ServesLine, ServesReading, answers_text, any_refused, closing_answers, end_of, is_refusal, refuses, text_of}
+use Rattle.geli_core.specs.Run.{PrintsAnswer, ServesAndPrints, ServesLine, ServesReading, answers_text, any_refused, closing_answers, end_of, is_refusal, refuses, text_of}
 use Rattle.geli_core.specs.Script.{RunsAs, RunsCommand, RunsLine, Runs, Whole}
 use Rattle.geli_core.specs.Served.{ClosesAndPrints, RunsUnless, Site, status_by, whole_of}
 use Rattle.geli_core.specs.declared.serving.LineEnd.{LineEnd}
@@ -68,9 +68,10 @@ one_command line command old middle new source answer end WriteFault serves is f
   failed = c.failed;
   runs = record { middle = middle.world; run = (middle.world, serves, refl); closes = c.closes };
   prints = inr (record {
+    some = c.prints.0;
     middle = middle.sink;
     before = subst (λ (t : List ℕ). TookAll t old.sink middle.sink) (sym (append-nil (text_of (Some answer)))) first;
-    part = c.prints;
+    part = c.prints.1;
   });
   source = refl;
   ended = tt;
@@ -84,10 +85,10 @@ one_command line command old middle new source answer end LineTooLong serves is 
 one_command line command old middle new source answer end ScriptTooLong serves is first c = one_by line command old middle new source answer end c.failed ScriptTooLong serves c.closes is first c.prints
 
 ran : (line : List ℕ) (command : Command) (old middle new : Site) (source : SourceState) (answer : Option Answer) (end : LineEnd) (status : Status) → ServesReading (Ok (Some command)) line old.world answer middle.world
-    → ServesLine Zeros line old.world answer middle.world → end ≡ end_of answer → TookAll (text_of answer) old.sink middle.sink → ClosesAndPrints (is_refusal end) middle status new
+    → ServesLine Zeros line old.world answer middle.world → PrintsAnswer answer old.sink (Ok end) middle.sink → ClosesAndPrints (is_refusal end) middle status new
     → RunsUnless (RunsLine line (Some command)) (whole_of old source) status (whole_of new source)
-ran line command old middle new source None end status answered serves is first c = absurd answered
-ran line command old middle new source (Some answer) end status answered serves is first c = one_command line command old middle new source answer end status serves is first c
+ran line command old middle new source None end status answered serves prints c = absurd answered
+ran line command old middle new source (Some answer) end status answered serves prints c = one_command line command old middle new source answer end status serves prints.0 prints.1 c
 
 -- the command was served, printed, and the drawers closed
 pub ran_command : (line : List ℕ) (command : Command) (old middle new : Site) (source : SourceState) (end : LineEnd) (refused : Bool) (status : Status) → command_in line ≡ Some command
@@ -96,19 +97,19 @@ pub ran_command : (line : List ℕ) (command : Command) (old middle new : Site) 
 ran_command line command old middle new source end refused status is s same c =
     subst (λ (o : Option Command). RunsUnless (RunsLine line o) (whole_of old source) status (whole_of new source)) (sym is)
     (ran line command old middle new source s.answer end status
-    (subst (λ (r : Result (Option Command) Usage). ServesReading r line old.world s.answer middle.world) (says line command is) s.serves) s.serves s.prints.0 s.prints.1 (subst (λ (b : Bool). ClosesAndPrints b middle status new) same c))
+    (subst (λ (r : Result (Option Command) Usage). ServesReading r line old.world s.answer middle.world) (says line command is) s.serves) s.serves s.prints (subst (λ (b : Bool). ClosesAndPrints b middle status new) same c))
 
-broke : (line : List ℕ) (command : Command) (old middle new : Site) (source : SourceState) (answer : Option Answer) (failed : ℕ) → ServesReading (Ok (Some command)) line old.world answer middle.world
-    → ServesLine Zeros line old.world answer middle.world → TookPart (text_of answer) old.sink middle.sink → ClosesWorld middle.world failed new.world → new.sink ≡ middle.sink
+broke : (line : List ℕ) (command : Command) (old middle new : Site) (source : SourceState) (answer : Option Answer) (end : WriteEnd) (failed : ℕ) → ServesReading (Ok (Some command)) line old.world answer middle.world
+    → ServesLine Zeros line old.world answer middle.world → PrintsAnswer answer old.sink (Err end) middle.sink → ClosesWorld middle.world failed new.world → new.sink ≡ middle.sink
     → RunsCommand line (whole_of old source) WriteFault (whole_of new source)
-broke line command old middle new source None failed answered serves part closes same = absurd answered
-broke line command old middle new source (Some answer) failed answered serves part closes same =
+broke line command old middle new source None end failed answered serves part closes same = absurd answered
+broke line command old middle new source (Some answer) end failed answered serves part closes same =
     let here : TookPart (text_of (Some answer)) old.sink new.sink = subst (λ (s : SinkState). TookPart (text_of (Some answer)) old.sink s) (sym same) part in
     record {
       answer = answer;
       failed = failed;
       runs = record { middle = middle.world; run = (middle.world, serves, refl); closes = closes };
-      prints = inl (record { printed = []; last = Some answer; are = refl; middle = old.sink; before = TookAll-nothing old.sink; part = here });
+      prints = inl (record { printed = []; last = answer; are = refl; middle = old.sink; before = TookAll-nothing old.sink; part = here });
       source = refl;
       ended = tt;
     }
@@ -119,7 +120,7 @@ pub broke_command : (line : List ℕ) (command : Command) (old middle new : Site
     → RunsUnless (RunsLine line (command_in line)) (whole_of old source) WriteFault (whole_of new source)
 broke_command line command old middle new source end failed is s closes same =
     subst (λ (o : Option Command). RunsUnless (RunsLine line o) (whole_of old source) WriteFault (whole_of new source)) (sym is)
-    (broke line command old middle new source s.answer failed
+    (broke line command old middle new source s.answer end failed
     (subst (λ (r : Result (Option Command) Usage). ServesReading r line old.world s.answer middle.world) (says line command is) s.serves) s.serves s.prints closes same)
 
 -- ---- the words

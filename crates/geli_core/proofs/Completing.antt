@@ -8,7 +8,7 @@ use Rattle.command_words.specs.Images.{line_of, script_images}
 use Rattle.command_words.specs.Reading.{command_in, line_limit}
 use Rattle.command_words.specs.declared.commands.Command.{Command}
 use Rattle.command_words.specs.declared.spans.Sep.TheVariants.{Blanks}
-use Rattle.shelf.specs.Answer.{Answer}
+use Rattle.command_rows.specs.Answer.{Answer}
 use Rattle.geli_core.specs.Complete.{CommandToEnd, Completes, CompletesBy, GaveWithinLimits, ScriptToEnd}
 use Rattle.geli_core.specs.Lines.{CutsInto, ended}
 use Rattle.geli_core.specs.Run.{RunsAndCloses, answers_text, any_refused, closing_answers}

@@ -15,13 +15,13 @@ use Rattle.command_words.specs.declared.commands.Command.{Command}
 use Rattle.command_words.specs.declared.commands.Usage.{Usage}
 use Rattle.command_words.specs.declared.spans.Sep.{Sep}
 use Rattle.command_words.specs.declared.spans.Span.{Span}
-use Rattle.shelf.specs.Answer.{Answer}
-use Rattle.shelf.specs.Answer as answers
+use Rattle.command_rows.specs.Answer.{Answer}
+use Rattle.command_rows.specs.Answer as answers
 use Rattle.shelf.specs.Closing.{ClosesAs, Closing, Flushes}
-use Rattle.shelf.specs.Histories.{ChangesBy, OnlyAt, StepsAt, place_named}
-use Rattle.shelf.specs.Turn.{takes_out}
-use Rattle.shelf.specs.World.{DrawerState, Holding, Idle, IsAttached, World, place_of}
-use Rattle.shelf.proofs.Untouched.{get-set, get-set_other, turn_only_steps}
+use Rattle.command_rows.specs.Histories.{ChangesBy, OnlyAt, StepsAt, place_named}
+use Rattle.command_rows.specs.Turn.{takes_out}
+use Rattle.command_rows.specs.World.{Attachment, DrawerState, World, attachment_in, is_idle, place_of}
+use Rattle.command_rows.proofs.Untouched.{get-set, get-set_other, turn_only_steps}
 use Rattle.geli_core.specs.Histories.{AnyEjects, DrawerSteps, EachGrew, Grew, RunsAt, TakesDrawer, ejects, names, names_by, says_eject, says_name}
 use Rattle.geli_core.specs.Run.{Run, RunsAndCloses, ServesLine, ServesReading}
 
@@ -321,16 +321,16 @@ flushed_logs : (failed : Bool) (old new : DiskState) → Flushes failed old new 
 flushed_logs false old new h = (Flush ∷ [], h)
 flushed_logs true old new h = (take h.count (Flush ∷ []), h.logs)
 
-closed_grew : (holding : Holding) (old : DrawerState) (failed : Bool) (new : DrawerState) → ClosesAs holding old failed new → Grew old new
-closed_grew Idle old failed new h = rw h.1 (record { name = refl; events = []; logs = Logs-nothing old.disk })
-closed_grew (IsAttached a) old failed new h =
+closed_grew : (idle : Bool) (old : DrawerState) (failed : Bool) (new : DrawerState) → ClosesAs idle old failed new → Grew old new
+closed_grew true old failed new h = rw h.1 (record { name = refl; events = []; logs = Logs-nothing old.disk })
+closed_grew false old failed new h =
     let l = flushed_logs failed old.disk new.disk h.0 in
     record { name = ap (λ (d : DrawerState). d.name) h.1; events = l.0; logs = l.1 }
 
 closing_grew : (Gone : List ℕ → Type 0) (olds : List DrawerState) (count : ℕ) (news : List DrawerState) → Closing olds count news → EachGrew Gone olds news
 closing_grew Gone [] count news h = rw h.1 tt
 closing_grew Gone (d ∷ ds) count news h =
-    subst (EachGrew Gone (d ∷ ds)) (sym h.7) (inl (closed_grew d.holding d h.0 h.1 h.4, closing_grew Gone ds h.2 h.3 h.5))
+    subst (EachGrew Gone (d ∷ ds)) (sym h.7) (inl (closed_grew (is_idle d.holding) d h.0 h.1 h.4, closing_grew Gone ds h.2 h.3 h.5))
 
 pub closed_run_grew : (sep : Sep) (old : World) (lines : List (List ℕ)) (answers : List (Option Answer)) (failed : ℕ) (new : World) → RunsAndCloses sep old lines answers failed new → EachGrew (AnyEjects sep lines) old.drawers new.drawers
 closed_run_grew sep old lines answers failed new h =

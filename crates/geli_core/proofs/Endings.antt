@@ -5,8 +5,8 @@ use Rattle.std.proofs.Common.{zero, suc}
 use Rattle.std.proofs.lemmas.Bool.Decides.{nat_tests}
 use Rattle.std.proofs.lemmas.List.{replicate-append-replicate}
 use Rattle.eli_base.specs.declared.refusals.Refusal.TheVariants as refusals
-use Rattle.shelf.specs.Answer as answers
-use Rattle.shelf.specs.Answer.{answer_text}
+use Rattle.command_rows.specs.Answer as answers
+use Rattle.command_rows.specs.Answer.{answer_text}
 use Rattle.std.proofs.lemmas.List.{append-nil}
 use Rattle.std.proofs.lemmas.Grind.{flat_map-append}
 use Rattle.std.proofs.lemmas.List.Folds.{list_any-append}
@@ -15,7 +15,7 @@ use Rattle.block_traits.specs.Causes.{Rose}
 use Rattle.block_traits.specs.Streams.{SinkState, TookAll, TookPart, SourceState}
 use Rattle.command_words.specs.Reading.{line_limit}
 use Rattle.command_words.specs.declared.spans.Sep.TheVariants.{Blanks}
-use Rattle.shelf.specs.Answer.{Answer}
+use Rattle.command_rows.specs.Answer.{Answer}
 use Rattle.reply_text.specs.declared.print.WriteEnd.{WriteEnd}
 use Rattle.reply_text.proofs.Printing.{TookAll-then}
 use Rattle.shelf.specs.Closing.{ClosesWorld}
@@ -65,8 +65,8 @@ pub all_served-line : (bytes : List ℕ) (old middle new : Site) (line : List �
 unfolding serves_last
 all_served-line bytes old middle new line refused end some short h s = record {
   serves = serves_last bytes old middle new line h.serves s.answer some short s.serves;
-  printed = took_more h.serves.answers s.answer old.sink middle.sink new.sink h.printed s.prints.1;
-  any = refused_more h.serves.answers s.answer refused end h.any s.prints.0;
+  printed = took_more h.serves.answers s.answer end old.sink middle.sink new.sink h.printed s.prints;
+  any = refused_more h.serves.answers s.answer refused end middle.sink new.sink h.any s.prints;
 }
 
 pub all_unprinted-line : (bytes : List ℕ) (old middle new : Site) (line : List ℕ) (refused : Bool) (failed : WriteEnd) → 1 ≤ length line → length line ≤ line_limit → IsServed bytes old line refused middle
@@ -74,7 +74,7 @@ pub all_unprinted-line : (bytes : List ℕ) (old middle new : Site) (line : List
 unfolding serves_last
 all_unprinted-line bytes old middle new line refused failed some short h s = record {
   serves = serves_last bytes old middle new line h.serves s.answer some short s.serves;
-  printed = failed_more h.serves.answers s.answer old.sink middle.sink new.sink h.printed s.prints;
+  printed = failed_more h.serves.answers s.answer failed old.sink middle.sink new.sink h.printed s.prints;
 }
 
 -- ---- the script
@@ -131,7 +131,7 @@ ended_whole bytes old middle new source after refused failed status h small end 
     (ended_by bytes old middle new source after h.serves failed all small end gave closes (any_all h.serves.answers failed refused h.any) took)
 
 ended_part : (bytes : List ℕ) (old middle new : Site) (source after : SourceState) (refused : Bool) (failed : ℕ) → IsAllServed bytes old refused middle → length bytes < script_limit → IsAtEnd after.left
-    → source.left ≡ prepend_known bytes after.left → ClosesWorld middle.world failed new.world → TookPart (answers_text (closing_answers failed)) middle.sink new.sink
+    → source.left ≡ prepend_known bytes after.left → ClosesWorld middle.world failed new.world → (1 ≤ failed) × TookPart (answers_text (closing_answers failed)) middle.sink new.sink
     → RunsScript (whole_of old source) WriteFault (whole_of new after)
 ended_part bytes old middle new source after refused failed h small end gave closes p =
     record {
@@ -145,7 +145,7 @@ ended_part bytes old middle new source after refused failed h small end gave clo
       answers = h.serves.answers;
       failed = failed;
       runs = record { middle = middle.world; run = h.serves.run; closes = closes };
-      prints = inr (record { middle = middle.sink; before = h.printed; part = p });
+      prints = inr (record { some = p.0; middle = middle.sink; before = h.printed; part = p.1 });
     }
 
 pub ended_script : (bytes : List ℕ) (old middle new : Site) (source after : SourceState) (refused : Bool) (status : Status) → IsAllServed bytes old refused middle → length bytes < script_limit → IsAtEnd after.left

@@ -5,11 +5,17 @@ pub mod Commands
 pub mod Completing
 pub mod Drawn
 pub mod Endings
+pub mod Headline
+pub mod ImageNames
 pub mod Keyings
+pub mod Lawful
 pub mod LineLaws
 pub mod Outside
 pub mod Bounded
 pub mod Pieces
 pub mod Placing
+pub mod ReadsBack
 pub mod Running
+pub mod Shelving
 pub mod Surviving
+pub mod Texts

@@ -2,22 +2,25 @@
 use Rattle.std.proofs.Common.{◌≡◌, ℕ, List, [], ◌∷◌, Option, None, Some, Result, Ok, Err, refl, subst}
 use Rattle.std.specs.Prelude.{IsTrue, MatchOption}
 use Rattle.command_words.specs.Reading.{reading}
-use Rattle.command_words.specs.Places.{bytes_at}
+use Rattle.command_words.specs.Places.{bytes_at, provider_of}
 use Rattle.command_words.specs.declared.commands.Command.{Command}
 use Rattle.command_words.specs.declared.commands.Command.TheVariants as commands
 use Rattle.command_words.specs.declared.commands.Usage.{Usage}
 use Rattle.command_words.specs.declared.spans.Sep.{Sep}
+use Rattle.command_words.specs.declared.spans.Span.{Span}
 use Rattle.eli_base.specs.declared.refusals.Refusal.{Refusal}
 use Rattle.eli_base.specs.declared.refusals.Refusal.TheVariants as refusals
-use Rattle.shelf.specs.Answer.{Answer}
-use Rattle.shelf.specs.Answer as answers
-use Rattle.shelf.specs.Causes.{Caused, CausedAt, may_lack_memory}
-use Rattle.shelf.specs.Turn.{Turn}
-use Rattle.shelf.specs.World.{World, place_of}
-use Rattle.shelf.proofs.Counting.{turn_counts}
-use Rattle.shelf.proofs.LineCauses.{refusal_caused}
-use Rattle.shelf.proofs.Stopped.{turn_leaves}
-use Rattle.shelf.proofs.Untouched.{turn_only_steps}
+use Rattle.command_rows.specs.Answer.{Answer}
+use Rattle.command_rows.specs.Answer as answers
+use Rattle.command_rows.specs.Causes.{Caused, CausedAt, CausedBy, may_lack_memory}
+use Rattle.command_rows.specs.Fits.{FindsAt, Fits}
+use Rattle.command_rows.specs.Turn.{Turn}
+use Rattle.command_rows.specs.World.{World, place_of}
+use Rattle.command_rows.proofs.Sound.{turn_counts}
+use Rattle.command_rows.proofs.Fitting.{fits_refused}
+use Rattle.command_rows.proofs.LineCauses.{refusal_caused}
+use Rattle.command_rows.proofs.Stopped.{turn_leaves}
+use Rattle.command_rows.proofs.Untouched.{turn_only_steps}
 use Rattle.block_traits.specs.Streams.{SinkState}
 use Rattle.reply_text.specs.declared.print.WriteEnd.{WriteEnd}
 use Rattle.geli_core.specs.Laws.{IfRefused, KeepsLaws, LineKeepsLaws, LinesKeepLaws, RunKeepsLaws, ServesLawfully}
@@ -32,24 +35,17 @@ lacks_at : (line : List ℕ) (command : Command) (old new : World) (place : Opti
 lacks_at line command old new None h = absurd (let none : ⊥ = cc h in none)
 lacks_at line command old new (Some place) h = h.cause
 
+-- `list` alone names none
+unnamed_lacks : (command : Command) → provider_of command ≡ None → IsTrue (may_lack_memory command)
+unnamed_lacks commands.List is = refl
+unnamed_lacks command is = absurd (let none : ⊥ = cc is in none)
+
+lacks_by : (line : List ℕ) (command : Command) (old new : World) (named : Option Span) → provider_of command ≡ named → CausedBy named line command refusals.NoMemory old new → IsTrue (may_lack_memory command)
+lacks_by line command old new None is h = unnamed_lacks command is
+lacks_by line command old new (Some prov) is h = lacks_at line command old new (place_of (bytes_at line prov) old.drawers) h
+
 lacks : (line : List ℕ) (command : Command) (old new : World) → Caused line command refusals.NoMemory old new → IsTrue (may_lack_memory command)
-lacks line (commands.Init prov cipher auth keylen sectorsize iterations autoresize fresh backup) old new h = refl
-lacks line (commands.Attach prov only_check readonly slot words) old new h = refl
-lacks line commands.List old new h = refl
-lacks line (commands.Detach prov) old new h = lacks_at line (commands.Detach prov) old new (place_of (bytes_at line prov) old.drawers) h
-lacks line (commands.Setkey prov iterations slot words fresh) old new h = lacks_at line (commands.Setkey prov iterations slot words fresh) old new (place_of (bytes_at line prov) old.drawers) h
-lacks line (commands.Delkey prov all force slot) old new h = lacks_at line (commands.Delkey prov all force slot) old new (place_of (bytes_at line prov) old.drawers) h
-lacks line (commands.Kill prov) old new h = lacks_at line (commands.Kill prov) old new (place_of (bytes_at line prov) old.drawers) h
-lacks line (commands.Backup prov file) old new h = lacks_at line (commands.Backup prov file) old new (place_of (bytes_at line prov) old.drawers) h
-lacks line (commands.Restore file prov force) old new h = lacks_at line (commands.Restore file prov force) old new (place_of (bytes_at line prov) old.drawers) h
-lacks line (commands.Resize prov oldsize) old new h = lacks_at line (commands.Resize prov oldsize) old new (place_of (bytes_at line prov) old.drawers) h
-lacks line (commands.Dump prov) old new h = lacks_at line (commands.Dump prov) old new (place_of (bytes_at line prov) old.drawers) h
-lacks line (commands.Read prov sector count) old new h = lacks_at line (commands.Read prov sector count) old new (place_of (bytes_at line prov) old.drawers) h
-lacks line (commands.Write prov sector hex) old new h = lacks_at line (commands.Write prov sector hex) old new (place_of (bytes_at line prov) old.drawers) h
-lacks line (commands.Flush prov) old new h = lacks_at line (commands.Flush prov) old new (place_of (bytes_at line prov) old.drawers) h
-lacks line (commands.Fill prov seed start count) old new h = lacks_at line (commands.Fill prov seed start count) old new (place_of (bytes_at line prov) old.drawers) h
-lacks line (commands.Sum prov start count) old new h = lacks_at line (commands.Sum prov start count) old new (place_of (bytes_at line prov) old.drawers) h
-lacks line (commands.Eject prov) old new h = lacks_at line (commands.Eject prov) old new (place_of (bytes_at line prov) old.drawers) h
+lacks line command old new h = lacks_by line command old new (provider_of command) refl h
 
 -- ---- an answer
 
@@ -62,10 +58,11 @@ memory_of : (line : List ℕ) (command : Command) (old : World) (answer : Answer
 memory_of line command old (answers.Refused refusal) new h = λ is. lacks line command old new (subst (λ (r : Refusal). Caused line command r old new) is h)
 memory_of line command old answer new h = tt
 
-served_of : (line : List ℕ) (command : Command) (old : World) (answer : Answer) (new : World) → IfRefused answer (λ refusal. Caused line command refusal old new)
-    → ((refusal : Refusal) → Caused line command refusal old new → refusal ≡ refusals.NoMemory) → IfRefused answer (λ refusal. refusal ≡ refusals.NoMemory)
-served_of line command old (answers.Refused refusal) new h only = only refusal h
-served_of line command old answer new h only = tt
+fits_of : (line : List ℕ) (command : Command) (old : World) (answer : Answer) (new : World) → Turn line command old answer new
+    → (prov : Span) → provider_of command ≡ Some prov → FindsAt (bytes_at line prov) (Fits line command) old new
+    → IfRefused answer (λ refusal. (refusal ≡ refusals.NoMemory) × IsTrue (may_lack_memory command))
+fits_of line command old (answers.Refused refusal) new h prov names finds = fits_refused line command prov refusal old new names finds h
+fits_of line command old answer new h prov names finds = tt
 
 turn_laws : (line : List ℕ) (command : Command) (old : World) (answer : Answer) (new : World) → Turn line command old answer new → KeepsLaws line command old answer new
 turn_laws line command old answer new h =
@@ -73,7 +70,7 @@ turn_laws line command old answer new h =
     record {
       caused = caused;
       memory = memory_of line command old answer new caused;
-      served = served_of line command old answer new caused;
+      fits = fits_of line command old answer new h;
       drawers = turn_only_steps line command old answer new h;
       leaves = turn_leaves line command old answer new h;
       counts = turn_counts line command old answer new h;

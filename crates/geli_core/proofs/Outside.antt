@@ -10,11 +10,11 @@ use Rattle.command_words.specs.declared.commands.Usage.{Usage}
 use Rattle.command_words.specs.declared.spans.Sep.{Sep}
 use Rattle.eli_base.specs.declared.refusals.Refusal.TheVariants as refusals
 use Rattle.key_components.specs.Files.{passphrase_limit}
-use Rattle.shelf.specs.Answer.{Answer}
-use Rattle.shelf.specs.Answer as answers
-use Rattle.shelf.specs.Counts.{CountsAnswer, CountsFailures}
-use Rattle.shelf.specs.World.{World}
-use Rattle.shelf.proofs.Counting.{turn_counts}
+use Rattle.command_rows.specs.Answer.{Answer}
+use Rattle.command_rows.specs.Answer as answers
+use Rattle.command_rows.specs.Counts.{CountsAnswer, CountsFailures}
+use Rattle.command_rows.specs.World.{World}
+use Rattle.command_rows.proofs.Sound.{turn_counts}
 use Rattle.geli_core.specs.Bounds.{CountsOutside, RoseBy, how_many, is_cabinet_fault, is_entropy_fault, is_miss}
 use Rattle.geli_core.specs.Run.{Run, ServesReading}
 

@@ -1,6 +1,6 @@
 -- What a run places on each drawer's disk.
 use Rattle.std.proofs.Common.{◌≡◌, ◌∙◌, ◌⊎◌, inl, inr, ℕ, zero, suc, ◌+◌, ◌*◌, ◌/◌, ◌%◌, ◌<◌, List, [], ◌∷◌, ◌++◌, length, take, refl, sym, ap, subst, arith, append_assoc, length-append, All, Bool, true, false, Option, None, Some, Result, Ok, Err, slice_get}
-use Rattle.std.specs.Prelude.{IfSome, option_and_then}
+use Rattle.std.specs.Prelude.{IfSome, option_and_then, MatchOption}
 use Rattle.std.specs.Str.{bytes_eq}
 use Rattle.std.specs.Option.{option_map}
 use Rattle.std.proofs.Math.Nat.{div-mul-le_self}
@@ -13,8 +13,8 @@ use Rattle.aes_core.proofs.KeyBytes.{AreBytes-append, AreBytes-cons, byte_at-lt}
 use Rattle.rand_core.specs.Steps.{word_bytes}
 use Rattle.rand_pcg.specs.Lcg.{Lcg}
 use Rattle.rand_pcg.specs.Pcg.{pcg64}
-use Rattle.shelf.specs.Workloads.{generated, generator, words_of, workload}
-use Rattle.shelf.proofs.Generated.{length-generated}
+use Rattle.command_rows.specs.Workloads.{generated, generator, words_of, workload}
+use Rattle.command_rows.proofs.Generated.{length-generated}
 use Rattle.block_traits.specs.Content.{Content, IsContentOf, IsEventOf, logged}
 use Rattle.block_traits.specs.Disk.{DiskState, FitsSize, Logs}
 use Rattle.block_traits.specs.declared.disk.Event.{Event}
@@ -40,14 +40,15 @@ use Rattle.readings.specs.Writes.{AreStepsBelow, IsNumberedBelow, data_steps, ra
 use Rattle.readings.specs.Writings.{Put, Raw}
 use Rattle.readings.proofs.Crashes.{endures}
 use Rattle.readings.proofs.Writes.{AreStepsBelow-none, AreStepsBelow-raw, AreStepsBelow-take, AreStepsBelow-write, events_of-raw}
-use Rattle.shelf.specs.Answer.{Answer}
-use Rattle.shelf.specs.Answer as answers
+use Rattle.range_keys.specs.Ring.{IsKeying}
+use Rattle.command_rows.specs.Answer.{Answer}
+use Rattle.command_rows.specs.Answer as answers
 use Rattle.shelf.specs.Closing.{Closes, ClosesAs, Closing, Flushes}
-use Rattle.shelf.specs.Digits.{bytes_spelled, decoded}
-use Rattle.shelf.specs.Histories.{AreFirst, AreRowEvents, BreaksOff, EventsBy, ChangesBy, OnlyAt, StepsAt, StepsBy, WritesData, WritesWorkload, place_named, stores_last}
-use Rattle.shelf.specs.World.{DrawerState, HoldKeyings, Holding, HoldsKeying, Idle, IsAmong, IsAttached, World, place_of}
-use Rattle.shelf.specs.Turn.{takes_out}
-use Rattle.shelf.proofs.Untouched.{get-set, get-set_other, turn_only_steps}
+use Rattle.command_rows.specs.Digits.{bytes_spelled, decoded}
+use Rattle.command_rows.specs.Histories.{AreFirst, AreRowEvents, BreaksOff, ChangesBy, EventsBy, OnlyAt, StepsAt, StepsBy, place_named, stores_last}
+use Rattle.command_rows.specs.Turn.{takes_out}
+use Rattle.command_rows.specs.World.{Attachment, DrawerState, HoldKeyings, Holding, HoldsKeying, IsAmong, World, attachment_in, is_idle, place_of}
+use Rattle.command_rows.proofs.Untouched.{get-set, get-set_other, turn_only_steps}
 use Rattle.command_words.specs.Reading.{reading}
 use Rattle.geli_core.specs.Histories.{DrawerSteps, names_by, says_name}
 use Rattle.geli_core.specs.Placing.{ClosesWith, DrawerPlaces, asked_steps, command_steps, fill_steps, line_steps, write_steps}
@@ -88,19 +89,21 @@ row_events row said events h = whole_row row events h
 events_of-take : (n : ℕ) (steps : List Step) → events_of (take n steps) ≡ take n (events_of steps)
 events_of-take n steps = sym (take-map event_of n steps)
 
-write_events : (number : ℕ) (holding : Holding) (sector : ℕ) (bytes : List ℕ) (said : Answer) (events : List Event) → EventsBy (WritesData holding sector bytes) false said events
-    → events_of (write_steps number holding sector bytes events) ≡ events
-write_events number Idle sector bytes said events h = events_of-raw events
-write_events number (IsAttached a) sector bytes said events h =
+write_events : (number : ℕ) (found : Option Attachment) (sector : ℕ) (bytes : List ℕ) (said : Answer) (events : List Event)
+    → EventsBy (λ wanted. MatchOption found ⊥ (λ a. wanted ≡ data_writes a.keying sector (length bytes / a.keying.sectorsize) bytes)) false said events
+    → events_of (write_steps number found sector bytes events) ≡ events
+write_events number None sector bytes said events h = events_of-raw events
+write_events number (Some a) sector bytes said events h =
     let count : ℕ = length bytes / a.keying.sectorsize in
     events_of-take (length events) (data_steps number a.keying sector count bytes)
     ∙ ap (take (length events)) (events_of-data number a.keying sector count bytes)
     ∙ sym (row_events (data_writes a.keying sector count bytes) said events h)
 
-fill_events : (number : ℕ) (holding : Holding) (seed start count : ℕ) (said : Answer) (events : List Event) → EventsBy (WritesWorkload holding seed start count) false said events
-    → events_of (fill_steps number holding seed start count events) ≡ events
-fill_events number Idle seed start count said events h = events_of-raw events
-fill_events number (IsAttached a) seed start count said events h =
+fill_events : (number : ℕ) (found : Option Attachment) (seed start count : ℕ) (said : Answer) (events : List Event)
+    → EventsBy (λ wanted. MatchOption found ⊥ (λ a. wanted ≡ data_writes a.keying start count (workload seed (words_of a.keying.sectorsize count)))) false said events
+    → events_of (fill_steps number found seed start count events) ≡ events
+fill_events number None seed start count said events h = events_of-raw events
+fill_events number (Some a) seed start count said events h =
     let bytes : List ℕ = workload seed (words_of a.keying.sectorsize count) in
     events_of-take (length events) (data_steps number a.keying start count bytes)
     ∙ ap (take (length events)) (events_of-data number a.keying start count bytes)
@@ -108,15 +111,21 @@ fill_events number (IsAttached a) seed start count said events h =
 
 command_events : (number : ℕ) (line : List ℕ) (command : Command) (disk : DiskState) (holding : Holding) (said : Answer) (events : List Event)
     → EventsBy (AreRowEvents line command disk holding) (stores_last command) said events → events_of (command_steps number line command holding events) ≡ events
-command_events number line (commands.Write prov sector hex) disk holding said events h = write_events number holding sector (bytes_spelled (bytes_at line hex)) said events h
-command_events number line (commands.Fill prov seed start count) disk holding said events h = fill_events number holding seed start count said events h
+command_events number line (commands.Write prov sector hex) disk holding said events h = write_events number (attachment_in holding) sector (bytes_spelled (bytes_at line hex)) said events h
+command_events number line (commands.Fill prov seed start count) disk holding said events h = fill_events number (attachment_in holding) seed start count said events h
 command_events number line command disk holding said events h = events_of-raw events
 
+nothing_written : (number : ℕ) (found : Option Attachment) (sector : ℕ) (bytes : List ℕ) → events_of (write_steps number found sector bytes []) ≡ []
+nothing_written number None sector bytes = refl
+nothing_written number (Some a) sector bytes = events_of-take 0 (data_steps number a.keying sector (length bytes / a.keying.sectorsize) bytes)
+
+nothing_filled : (number : ℕ) (found : Option Attachment) (seed start count : ℕ) → events_of (fill_steps number found seed start count []) ≡ []
+nothing_filled number None seed start count = refl
+nothing_filled number (Some a) seed start count = events_of-take 0 (data_steps number a.keying start count (workload seed (words_of a.keying.sectorsize count)))
+
 nothing_placed : (number : ℕ) (line : List ℕ) (read : Result (Option Command) Usage) (holding : Holding) → events_of (asked_steps number line read holding []) ≡ []
-nothing_placed number line (Ok (Some (commands.Write prov sector hex))) Idle = refl
-nothing_placed number line (Ok (Some (commands.Write prov sector hex))) (IsAttached a) = events_of-take 0 (data_steps number a.keying sector (length (bytes_spelled (bytes_at line hex)) / a.keying.sectorsize) (bytes_spelled (bytes_at line hex)))
-nothing_placed number line (Ok (Some (commands.Fill prov seed start count))) Idle = refl
-nothing_placed number line (Ok (Some (commands.Fill prov seed start count))) (IsAttached a) = events_of-take 0 (data_steps number a.keying start count (workload seed (words_of a.keying.sectorsize count)))
+nothing_placed number line (Ok (Some (commands.Write prov sector hex))) holding = nothing_written number (attachment_in holding) sector (bytes_spelled (bytes_at line hex))
+nothing_placed number line (Ok (Some (commands.Fill prov seed start count))) holding = nothing_filled number (attachment_in holding) seed start count
 nothing_placed number line (Ok (Some command)) holding = refl
 nothing_placed number line (Ok None) holding = refl
 nothing_placed number line (Err usage) holding = refl
@@ -149,10 +158,10 @@ bytes_spelled-bytes digits = spelled_by (decode_of digits) (λ bytes is. (decode
 raw_fits : (next size : ℕ) (steps : List Step) (events : List Event) → AreStepsBelow next steps → All (IsEventOf size) events → AreStepsBelow (next + 1) (steps ++ raw_steps events)
 raw_fits next size steps events are fit = AreStepsBelow-more next (steps ++ raw_steps events) (AreStepsBelow-raw next size steps events are fit)
 
-write_fits : (next size : ℕ) (steps : List Step) (holding : Holding) (sector : ℕ) (bytes : List ℕ) (events : List Event) → AreStepsBelow next steps → HoldsKeying holding → AreBytes bytes → All (IsEventOf size) events
-    → AreStepsBelow (next + 1) (steps ++ write_steps next holding sector bytes events)
-write_fits next size steps Idle sector bytes events are keyed small fit = raw_fits next size steps events are fit
-write_fits next size steps (IsAttached a) sector bytes events are keyed small fit =
+write_fits : (next size : ℕ) (steps : List Step) (found : Option Attachment) (sector : ℕ) (bytes : List ℕ) (events : List Event) → AreStepsBelow next steps → IfSome found (λ a. IsKeying a.keying) → AreBytes bytes → All (IsEventOf size) events
+    → AreStepsBelow (next + 1) (steps ++ write_steps next found sector bytes events)
+write_fits next size steps None sector bytes events are keyed small fit = raw_fits next size steps events are fit
+write_fits next size steps (Some a) sector bytes events are keyed small fit =
     let count : ℕ = length bytes / a.keying.sectorsize in
     let new : List Step = data_steps next a.keying sector count bytes in
     let whole = AreStepsBelow-write next steps a.keying sector count bytes are keyed small (div-mul-le_self (length bytes) a.keying.sectorsize) in
@@ -175,10 +184,10 @@ whole_words size count whole =
     let eight : size ≡ 8 * (size / 8) = omega arith in
     ap (λ (s : ℕ). count * s) eight ∙ omega arith
 
-fill_fits : (next size : ℕ) (steps : List Step) (holding : Holding) (seed start count : ℕ) (events : List Event) → AreStepsBelow next steps → HoldsKeying holding → All (IsEventOf size) events
-    → AreStepsBelow (next + 1) (steps ++ fill_steps next holding seed start count events)
-fill_fits next size steps Idle seed start count events are keyed fit = raw_fits next size steps events are fit
-fill_fits next size steps (IsAttached a) seed start count events are keyed fit =
+fill_fits : (next size : ℕ) (steps : List Step) (found : Option Attachment) (seed start count : ℕ) (events : List Event) → AreStepsBelow next steps → IfSome found (λ a. IsKeying a.keying) → All (IsEventOf size) events
+    → AreStepsBelow (next + 1) (steps ++ fill_steps next found seed start count events)
+fill_fits next size steps None seed start count events are keyed fit = raw_fits next size steps events are fit
+fill_fits next size steps (Some a) seed start count events are keyed fit =
     let words : ℕ = words_of a.keying.sectorsize count in
     let bytes : List ℕ = workload seed words in
     let new : List Step = data_steps next a.keying start count bytes in
@@ -189,8 +198,8 @@ fill_fits next size steps (IsAttached a) seed start count events are keyed fit =
 command_fits : (next size : ℕ) (steps : List Step) (line : List ℕ) (command : Command) (holding : Holding) (events : List Event) → AreStepsBelow next steps → HoldsKeying holding → All (IsEventOf size) events
     → AreStepsBelow (next + 1) (steps ++ command_steps next line command holding events)
 command_fits next size steps line (commands.Write prov sector hex) holding events are keyed fit =
-    write_fits next size steps holding sector (bytes_spelled (bytes_at line hex)) events are keyed (bytes_spelled-bytes (bytes_at line hex)) fit
-command_fits next size steps line (commands.Fill prov seed start count) holding events are keyed fit = fill_fits next size steps holding seed start count events are keyed fit
+    write_fits next size steps (attachment_in holding) sector (bytes_spelled (bytes_at line hex)) events are keyed (bytes_spelled-bytes (bytes_at line hex)) fit
+command_fits next size steps line (commands.Fill prov seed start count) holding events are keyed fit = fill_fits next size steps (attachment_in holding) seed start count events are keyed fit
 command_fits next size steps line command holding events are keyed fit = raw_fits next size steps events are fit
 
 asked_fits : (next size : ℕ) (steps : List Step) (line : List ℕ) (read : Result (Option Command) Usage) (holding : Holding) (events : List Event) → AreStepsBelow next steps → HoldsKeying holding → All (IsEventOf size) events
@@ -392,21 +401,21 @@ record CameThroughClosing (olds : List DrawerState) (new : DrawerState) : Type 0
   last : List Event
   closes : ClosesWith before last new
 
-closed_name : (holding : Holding) (old : DrawerState) (failed : Bool) (new : DrawerState) → ClosesAs holding old failed new → new.name ≡ old.name
-closed_name Idle old failed new h = ap (λ (d : DrawerState). d.name) h.1
-closed_name (IsAttached a) old failed new h = ap (λ (d : DrawerState). d.name) h.1
+closed_name : (idle : Bool) (old : DrawerState) (failed : Bool) (new : DrawerState) → ClosesAs idle old failed new → new.name ≡ old.name
+closed_name true old failed new h = ap (λ (d : DrawerState). d.name) h.1
+closed_name false old failed new h = ap (λ (d : DrawerState). d.name) h.1
 
-closed_logs : (holding : Holding) (old : DrawerState) (failed : Bool) (new : DrawerState) → ClosesAs holding old failed new → (events : List Event) × Logs events old.disk new.disk
-closed_logs Idle old failed new h = ([], rw h.1 (Logs-nothing old.disk))
-closed_logs (IsAttached a) old failed new h = flushed_logs failed old.disk new.disk h.0
+closed_logs : (idle : Bool) (old : DrawerState) (failed : Bool) (new : DrawerState) → ClosesAs idle old failed new → (events : List Event) × Logs events old.disk new.disk
+closed_logs true old failed new h = ([], rw h.1 (Logs-nothing old.disk))
+closed_logs false old failed new h = flushed_logs failed old.disk new.disk h.0
 
 closed_behind : (drawer : DrawerState) (drawers : List DrawerState) (new : DrawerState) → CameThroughClosing drawers new → CameThroughClosing (drawer ∷ drawers) new
 closed_behind drawer drawers new c = record { before = c.before; was = (suc c.was.0, c.was.1); name = c.name; last = c.last; closes = c.closes }
 
 closed_here : (drawer : DrawerState) (drawers : List DrawerState) (failed : Bool) (new : DrawerState) → Closes drawer failed new → CameThroughClosing (drawer ∷ drawers) new
 closed_here drawer drawers failed new h =
-    let logs = closed_logs drawer.holding drawer failed new h in
-    record { before = drawer; was = (0, refl); name = closed_name drawer.holding drawer failed new h; last = logs.0; closes = record { failed = failed; closes = h; logs = logs.1 } }
+    let logs = closed_logs (is_idle drawer.holding) drawer failed new h in
+    record { before = drawer; was = (0, refl); name = closed_name (is_idle drawer.holding) drawer failed new h; last = logs.0; closes = record { failed = failed; closes = h; logs = logs.1 } }
 
 came_closing : (olds : List DrawerState) (count : ℕ) (news : List DrawerState) (place : ℕ) (new : DrawerState) → Closing olds count news → slice_get news place ≡ Some new → CameThroughClosing olds new
 came_closing [] count news place new h there = absurd (let none : ⊥ = cc (there, ap (λ (l : List DrawerState). slice_get l place) h.1) in none)

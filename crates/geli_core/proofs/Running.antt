@@ -1,22 +1,27 @@
 -- One more line is served, and one more byte is looked at.
-use Rattle.std.proofs.Common.{◌≡◌, ◌≢◌, ◌∙◌, ℕ, ◌≤◌, List, [], ◌∷◌, ◌++◌, length, refl, ap, sym, subst, arith, append_assoc, length-append, Option, None, Some, Bool, true, false, Ok, Err}
+use Rattle.std.proofs.Common.{◌≡◌, ◌≢◌, ◌∙◌, ℕ, ◌≤◌, List, [], ◌∷◌, ◌++◌, length, refl, ap, sym, subst, arith, append_assoc, length-append, Option, None, Some, Bool, true, false, Result, Ok, Err}
 use Rattle.std.specs.Prelude.{◌||◌}
 use Rattle.std.proofs.lemmas.List.{append-nil}
 use Rattle.std.proofs.lemmas.Grind.{flat_map-append}
 use Rattle.std.proofs.lemmas.List.Folds.{list_any-append}
 use Rattle.std.specs.List.{AllByRecursion, flat_map, list_any}
-use Rattle.block_traits.specs.Streams.{SinkState, TookAll, TookPart}
-use Rattle.command_words.specs.Reading.{line_limit}
+use Rattle.block_traits.specs.Streams.{SinkState, TookAll}
+use Rattle.command_words.specs.Reading.{line_limit, reading}
+use Rattle.command_words.specs.declared.commands.Command.{Command}
+use Rattle.command_words.specs.declared.commands.Usage.{Usage}
+use Rattle.eli_base.specs.declared.refusals.Refusal.TheVariants as refusals
+use Rattle.command_rows.specs.Turn.{Turn}
 use Rattle.command_words.specs.declared.spans.Sep.{Sep}
 use Rattle.command_words.specs.declared.spans.Sep.TheVariants.{Blanks}
-use Rattle.shelf.specs.Answer.{Answer}
-use Rattle.shelf.specs.Answer as answers
+use Rattle.command_rows.specs.Answer.{Answer}
+use Rattle.command_rows.specs.Answer as answers
 use Rattle.reply_text.specs.declared.print.WriteEnd.{WriteEnd}
 use Rattle.reply_text.proofs.Printing.{TookAll-nothing, TookAll-then}
-use Rattle.shelf.specs.World.{World}
+use Rattle.command_rows.specs.World.{World}
 use Rattle.geli_core.specs.Lines.{ended, newline}
-use Rattle.geli_core.specs.Run.{FailsInLast, Run, ServesAndPrints, ServesLine, answers_text, any_refused, end_of, is_refusal, refuses, text_of}
+use Rattle.geli_core.specs.Run.{FailsInLast, PrintsAnswer, Run, ServesAndPrints, ServesLine, ServesReading, answers_text, any_refused, end_of, is_refusal, refuses, text_of}
 use Rattle.geli_core.specs.declared.serving.LineEnd.{LineEnd}
+use Rattle.geli_core.specs.declared.serving.LineEnd.TheVariants.{Silent}
 use Rattle.geli_core.specs.Served.{IsServed, IsTooLong, IsUnprinted, ServesLines, Site}
 
 -- a run goes on by a line
@@ -52,6 +57,9 @@ refuses-end (Some (answers.Payload bytes)) = refl
 refuses-end (Some (answers.Dump meta)) = refl
 refuses-end (Some (answers.Digest digest)) = refl
 refuses-end (Some (answers.Rows rows)) = refl
+refuses-end (Some (answers.Tag tag)) = refl
+refuses-end (Some (answers.Left left)) = refl
+refuses-end (Some (answers.Verified offsets next)) = refl
 
 -- nothing was looked at
 pub IsServed-nothing : (site : Site) → IsServed [] site [] false site
@@ -97,26 +105,38 @@ ServesLines-line bytes old middle new line h answer short serves = record {
   run = Run-more Blanks old.world middle.world new.world h.lines line h.answers answer h.run serves;
 }
 
-pub took_more : (said : List (Option Answer)) (answer : Option Answer) (old middle new : SinkState) → TookAll (answers_text said) old middle → TookAll (text_of answer) middle new
-    → TookAll (answers_text (said ++ answer ∷ [])) old new
-took_more said answer old middle new a b = rw (flat_map-more text_of said answer) (TookAll-then (answers_text said) (text_of answer) a b)
+-- what was printed of a line that ended so
+took_by : (answer : Option Answer) (end : LineEnd) (old new : SinkState) → PrintsAnswer answer old (Ok end) new → TookAll (text_of answer) old new
+took_by None end old new h = subst (λ (s : SinkState). TookAll [] old s) (sym h.1) (TookAll-nothing old)
+took_by (Some answer) end old new h = h.1
 
-pub failed_more : (said : List (Option Answer)) (answer : Option Answer) (old middle new : SinkState) → TookAll (answers_text said) old middle → TookPart (text_of answer) middle new
+ends_by : (answer : Option Answer) (end : LineEnd) (old new : SinkState) → PrintsAnswer answer old (Ok end) new → end ≡ end_of answer
+ends_by None end old new h = (let is : end ≡ Silent = cc (h.0) in is)
+ends_by (Some answer) end old new h = h.0
+
+-- a line of which the sink failed to take the answer
+pub failed_more : (said : List (Option Answer)) (answer : Option Answer) (failed : WriteEnd) (old middle new : SinkState) → TookAll (answers_text said) old middle → PrintsAnswer answer middle (Err failed) new
     → FailsInLast (said ++ answer ∷ []) old new
-failed_more said answer old middle new a b = record { printed = said; last = answer; are = refl; middle = middle; before = a; part = b }
+failed_more said None failed old middle new a b = absurd (let no : ⊥ = cc (b.0) in no)
+failed_more said (Some answer) failed old middle new a b = record { printed = said; last = answer; are = refl; middle = middle; before = a; part = b }
 
-pub refused_more : (said : List (Option Answer)) (answer : Option Answer) (refused : Bool) (end : LineEnd) → any_refused said ≡ refused → end ≡ end_of answer
+pub took_more : (said : List (Option Answer)) (answer : Option Answer) (end : LineEnd) (old middle new : SinkState) → TookAll (answers_text said) old middle → PrintsAnswer answer middle (Ok end) new
+    → TookAll (answers_text (said ++ answer ∷ [])) old new
+took_more said answer end old middle new a b = rw (flat_map-more text_of said answer) (TookAll-then (answers_text said) (text_of answer) a (took_by answer end middle new b))
+
+pub refused_more : (said : List (Option Answer)) (answer : Option Answer) (refused : Bool) (end : LineEnd) (middle new : SinkState) → any_refused said ≡ refused → PrintsAnswer answer middle (Ok end) new
     → any_refused (said ++ answer ∷ []) ≡ (refused || is_refusal end)
-refused_more said answer refused end was is =
-    any-more refuses said answer ∙ ap (λ (b : Bool). b || refuses answer) was ∙ ap (λ (b : Bool). refused || b) (refuses-end answer ∙ ap is_refusal (sym is))
+refused_more said answer refused end middle new was is =
+    any-more refuses said answer ∙ ap (λ (b : Bool). b || refuses answer) was
+    ∙ ap (λ (b : Bool). refused || b) (refuses-end answer ∙ ap is_refusal (sym (ends_by answer end middle new is)))
 
 pub IsServed-line : (bytes : List ℕ) (old middle new : Site) (line : List ℕ) (refused : Bool) (end : LineEnd) → length line ≤ line_limit → IsServed bytes old line refused middle
     → ServesAndPrints Blanks line middle.world middle.sink (Ok end) new.world new.sink → IsServed (bytes ++ newline ∷ []) old [] (refused || is_refusal end) new
 unfolding ServesLines-line
 IsServed-line bytes old middle new line refused end short h s = record {
   serves = ServesLines-line bytes old middle new line h.serves s.answer short s.serves;
-  printed = took_more h.serves.answers s.answer old.sink middle.sink new.sink h.printed s.prints.1;
-  any = refused_more h.serves.answers s.answer refused end h.any s.prints.0;
+  printed = took_more h.serves.answers s.answer end old.sink middle.sink new.sink h.printed s.prints;
+  any = refused_more h.serves.answers s.answer refused end middle.sink new.sink h.any s.prints;
 }
 
 pub IsUnprinted-line : (bytes : List ℕ) (old middle new : Site) (line : List ℕ) (refused : Bool) (failed : WriteEnd) → length line ≤ line_limit → IsServed bytes old line refused middle
@@ -124,7 +144,7 @@ pub IsUnprinted-line : (bytes : List ℕ) (old middle new : Site) (line : List �
 unfolding ServesLines-line
 IsUnprinted-line bytes old middle new line refused failed short h s = record {
   serves = ServesLines-line bytes old middle new line h.serves s.answer short s.serves;
-  printed = failed_more h.serves.answers s.answer old.sink middle.sink new.sink h.printed s.prints;
+  printed = failed_more h.serves.answers s.answer failed old.sink middle.sink new.sink h.printed s.prints;
 }
 
 pub IsTooLong-byte : (bytes : List ℕ) (old new : Site) (rest : List ℕ) (refused : Bool) (b : ℕ) → b ≢ newline → length rest ≡ line_limit → IsServed bytes old rest refused new
@@ -134,4 +154,24 @@ IsTooLong-byte bytes old new rest refused b other full h = record {
   refused = refused;
   served = IsServed-byte bytes old new rest refused b other h;
   long = omega (arith, full, length-append rest (b ∷ []));
+}
+
+-- ---- one line is served and printed
+
+-- a line that says a command
+pub turns_command : (sep : Sep) (line : List ℕ) (command : Command) (old : World) (sink : SinkState) (answer : Answer) (result : Result LineEnd WriteEnd) (new : World) (after : SinkState)
+    → Ok (Some command) ≡ reading sep line → Turn line command old answer new → PrintsAnswer (Some answer) sink result after → ServesAndPrints sep line old sink result new after
+turns_command sep line command old sink answer result new after says turn prints = record {
+  answer = Some answer;
+  serves = subst (λ (r : Result (Option Command) Usage). ServesReading r line old (Some answer) new) says turn;
+  prints = prints;
+}
+
+-- a line whose words are refused
+pub refuses_words : (sep : Sep) (line : List ℕ) (usage : Usage) (old : World) (sink : SinkState) (result : Result LineEnd WriteEnd) (after : SinkState)
+    → Err usage ≡ reading sep line → PrintsAnswer (Some (answers.Refused (refusals.Usage usage.word usage.reason))) sink result after → ServesAndPrints sep line old sink result old after
+refuses_words sep line usage old sink result after says prints = record {
+  answer = Some (answers.Refused (refusals.Usage usage.word usage.reason));
+  serves = subst (λ (r : Result (Option Command) Usage). ServesReading r line old (Some (answers.Refused (refusals.Usage usage.word usage.reason))) old) says (refl, refl);
+  prints = prints;
 }

@@ -4,7 +4,7 @@ use Rattle.command_words.specs.Images.{line_of, script_images}
 use Rattle.command_words.specs.declared.commands.Command.{Command}
 use Rattle.command_words.specs.declared.spans.Sep.TheVariants.{Blanks, Zeros}
 use Rattle.command_words.specs.Reading.{command_in}
-use Rattle.shelf.specs.World.{HoldKeyings}
+use Rattle.command_rows.specs.World.{HoldKeyings}
 use Rattle.geli_core.specs.Script.{Runs, RunsAs, RunsLine, Whole}
 use Rattle.geli_core.specs.Survivors.{Ran, SurvivesCrashes}
 use Rattle.geli_core.specs.declared.status.Status.{Status}

@@ -1,8 +1,8 @@
 -- What a run answers of failures, by the counts of what failed.
 use Rattle.std.specs.Prelude.{◌≡◌, ◌⊎◌, ℕ, List, Option, Some, slice_get}
 use Rattle.command_words.specs.declared.spans.Sep.{Sep}
-use Rattle.shelf.specs.Answer.{Answer}
-use Rattle.shelf.specs.World.{DrawerState, World, place_of}
+use Rattle.command_rows.specs.Answer.{Answer}
+use Rattle.command_rows.specs.World.{DrawerState, World, place_of}
 use Rattle.geli_core.specs.Bounds.{ClosesWithFailures, CountsOutside, NamesDiffer, RisesNamed, RisesUntilOut, device_faults}
 use Rattle.geli_core.specs.Run.{RunsAndCloses}
 

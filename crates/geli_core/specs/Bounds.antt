@@ -6,24 +6,23 @@ use Rattle.command_words.specs.declared.commands.Usage.{Usage}
 use Rattle.command_words.specs.declared.spans.Sep.{Sep}
 use Rattle.eli_base.specs.declared.refusals.Refusal.TheVariants as refusals
 use Rattle.key_components.specs.Files.{passphrase_limit}
-use Rattle.shelf.specs.Answer.{Answer}
-use Rattle.shelf.specs.Answer as answers
-use Rattle.shelf.specs.Causes.{AttachedWith}
-use Rattle.shelf.specs.Turn.{takes_out}
-use Rattle.shelf.specs.World.{DrawerState, World, place_of}
+use Rattle.command_rows.specs.Answer.{Answer}
+use Rattle.command_rows.specs.Answer as answers
+use Rattle.command_rows.specs.Turn.{takes_out}
+use Rattle.command_rows.specs.World.{DrawerState, World, is_idle, place_of}
 use Rattle.geli_core.specs.Histories.{ejects, names}
 use Rattle.geli_core.specs.Run.{Run}
 
--- the drawer was attached, and its disk's count of faults rose, or stands at its last value
-pub record FailedAttached (old new : DrawerState) : Type 0 where
-  pub attached : AttachedWith old.holding (λ a. Unit {0})
+-- the drawer was attached or suspended, and its disk's count of faults rose, or stands at its last value
+pub record FailedHeld (old new : DrawerState) : Type 0 where
+  pub held : is_idle old.holding ≡ false
   pub rose : Rose old.disk.faults new.disk.faults
 
 -- one more than those behind, where this drawer failed
 pub record FailedToo (Behind : ℕ → Type 0) (many : ℕ) (old new : DrawerState) : Type 0 where
   pub behind : ℕ
   pub one_more : many ≡ 1 + behind
-  pub failed : FailedAttached old new
+  pub failed : FailedHeld old new
   pub others : Behind behind
 
 -- of these drawers, before and after, so many failed, each counted once

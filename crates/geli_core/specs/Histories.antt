@@ -13,11 +13,11 @@ use Rattle.command_words.specs.declared.commands.Usage.{Usage}
 use Rattle.command_words.specs.declared.spans.Sep.{Sep}
 use Rattle.command_words.specs.declared.spans.Sep.TheVariants.{Blanks, Zeros}
 use Rattle.command_words.specs.declared.spans.Span.{Span}
-use Rattle.shelf.specs.Answer.{Answer}
-use Rattle.shelf.specs.Answer as answers
-use Rattle.shelf.specs.Histories.{AreRowEvents, EventsBy, stores_last}
-use Rattle.shelf.specs.Turn.{takes_out}
-use Rattle.shelf.specs.World.{DrawerState}
+use Rattle.command_rows.specs.Answer.{Answer}
+use Rattle.command_rows.specs.Answer as answers
+use Rattle.command_rows.specs.Histories.{AreRowEvents, EventsBy, stores_last}
+use Rattle.command_rows.specs.Turn.{takes_out}
+use Rattle.command_rows.specs.World.{DrawerState}
 use Rattle.geli_core.specs.Lines.{CutsInto, last_line}
 use Rattle.geli_core.specs.Script.{Taken, Whole}
 use Rattle.block_traits.specs.Streams.{SourceState}

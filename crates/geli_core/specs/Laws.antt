@@ -1,17 +1,20 @@
 -- What holds of each line, whatever the row of its command.
 use Rattle.std.specs.Prelude.{◌≡◌, ℕ, IsTrue, List, [], ◌∷◌, Option, Some, Result, Ok}
+use Rattle.command_words.specs.Places.{bytes_at, provider_of}
 use Rattle.command_words.specs.Reading.{reading}
 use Rattle.command_words.specs.declared.commands.Command.{Command}
 use Rattle.command_words.specs.declared.commands.Usage.{Usage}
+use Rattle.command_words.specs.declared.spans.Span.{Span}
 use Rattle.eli_base.specs.declared.refusals.Refusal.{Refusal}
 use Rattle.eli_base.specs.declared.refusals.Refusal.TheVariants as refusals
-use Rattle.shelf.specs.Answer.{Answer}
-use Rattle.shelf.specs.Answer as answers
-use Rattle.shelf.specs.Causes.{Caused, may_lack_memory}
-use Rattle.shelf.specs.Counts.{CountsFailures}
-use Rattle.shelf.specs.Histories.{OnlySteps}
-use Rattle.shelf.specs.Stops.{LeavesOldOrNew}
-use Rattle.shelf.specs.World.{World}
+use Rattle.command_rows.specs.Answer.{Answer}
+use Rattle.command_rows.specs.Answer as answers
+use Rattle.command_rows.specs.Causes.{Caused, may_lack_memory}
+use Rattle.command_rows.specs.Counts.{CountsFailures}
+use Rattle.command_rows.specs.Fits.{FindsAt, Fits}
+use Rattle.command_rows.specs.Histories.{OnlySteps}
+use Rattle.command_rows.specs.Stops.{LeavesOldOrNew}
+use Rattle.command_rows.specs.World.{World}
 use Rattle.block_traits.specs.Streams.{SinkState}
 use Rattle.command_words.specs.declared.spans.Sep.{Sep}
 use Rattle.reply_text.specs.declared.print.WriteEnd.{WriteEnd}
@@ -23,14 +26,15 @@ abbrev pub IfRefused : Answer → (Refusal → Type 0) → Type 0
 IfRefused (answers.Refused refusal) Holds = Holds refusal
 IfRefused answer Holds = Unit {0}
 
--- Of a command: a refusal has its cause. Want of memory is answered only to verbs that may lack it. Where nothing but want of memory
--- can be the cause of a refusal, it is served, or there was no memory. It changes only the drawer that it names, whose disk logs
+-- Of a command: a refusal has its cause. Want of memory is answered only to verbs that may lack it. Where the drawer that it names has
+-- what its verb needs, and nothing fails, it is served, or there was no memory and its verb may lack it. It changes only the drawer that it names, whose disk logs
 -- events of the line. Where it changes metadata, the disk holds the old or the new at each moment of it. No count of the cabinet or the
 -- entropy falls, and a failure of theirs is answered only where its count rose.
 pub record KeepsLaws (line : List ℕ) (command : Command) (old : World) (answer : Answer) (new : World) : Type 0 where
   pub caused : IfRefused answer (λ refusal. Caused line command refusal old new)
   pub memory : IfRefused answer (λ refusal. refusal ≡ refusals.NoMemory → IsTrue (may_lack_memory command))
-  pub served : ((refusal : Refusal) → Caused line command refusal old new → refusal ≡ refusals.NoMemory) → IfRefused answer (λ refusal. refusal ≡ refusals.NoMemory)
+  pub fits : (prov : Span) → provider_of command ≡ Some prov → FindsAt (bytes_at line prov) (Fits line command) old new
+      → IfRefused answer (λ refusal. (refusal ≡ refusals.NoMemory) × IsTrue (may_lack_memory command))
   pub drawers : OnlySteps line command answer old.drawers new.drawers
   pub leaves : LeavesOldOrNew line command answer old new
   pub counts : CountsFailures old answer new

@@ -1,12 +1,16 @@
 pub mod Bounded
 pub mod Bounds
 pub mod Complete
+pub mod Headline
 pub mod Histories
+pub mod Images
+pub mod Lawful
 pub mod Laws
 pub mod Lines
 pub mod Placing
+pub mod ReadsBack
 pub mod Run
 pub mod Script
 pub mod Served
-pub mod Survivors
 pub mod Status
+pub mod Survivors

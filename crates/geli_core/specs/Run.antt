@@ -1,5 +1,5 @@
 -- What lines do and answer, one after another, and what is printed.
-use Rattle.std.specs.Prelude.{◌++◌, ◌≡◌, ℕ, List, [], ◌∷◌, replicate, Option, Some, None, Bool, true, false, Result, Ok, Err}
+use Rattle.std.specs.Prelude.{◌++◌, ◌≡◌, ◌≤◌, ℕ, List, [], ◌∷◌, replicate, Option, Some, None, Bool, true, false, Result, Ok, Err}
 use Rattle.std.specs.List.{flat_map, list_any}
 use Rattle.block_traits.specs.Streams.{SinkState, TookAll, TookPart}
 use Rattle.command_words.specs.Reading.{reading}
@@ -7,13 +7,13 @@ use Rattle.command_words.specs.declared.commands.Command.{Command}
 use Rattle.command_words.specs.declared.commands.Usage.{Usage}
 use Rattle.command_words.specs.declared.spans.Sep.{Sep}
 use Rattle.eli_base.specs.declared.refusals.Refusal.TheVariants as refusals
-use Rattle.shelf.specs.Answer.{Answer}
-use Rattle.shelf.specs.Answer as answers
-use Rattle.shelf.specs.Answer.{answer_text}
+use Rattle.command_rows.specs.Answer.{Answer}
+use Rattle.command_rows.specs.Answer as answers
+use Rattle.command_rows.specs.Answer.{answer_text}
 use Rattle.reply_text.specs.declared.print.WriteEnd.{WriteEnd}
 use Rattle.shelf.specs.Closing.{ClosesWorld}
-use Rattle.shelf.specs.Turn.{Turn}
-use Rattle.shelf.specs.World.{World}
+use Rattle.command_rows.specs.Turn.{Turn}
+use Rattle.command_rows.specs.World.{World}
 use Rattle.geli_core.specs.declared.serving.LineEnd.{LineEnd}
 use Rattle.geli_core.specs.declared.serving.LineEnd.TheVariants.{Silent, Accepted, Refused}
 
@@ -46,10 +46,11 @@ is_refusal Silent = false
 is_refusal Accepted = false
 is_refusal Refused = true
 
--- it was printed; or the sink failed, after a part of it
+-- where nothing was answered, the line is silent and the sink is as it was; else the answer was printed, or the sink failed, after a part of it
 abbrev pub PrintsAnswer : Option Answer → SinkState → Result LineEnd WriteEnd → SinkState → Type 0
-PrintsAnswer answer old (Ok end) new = (end ≡ end_of answer) × TookAll (text_of answer) old new
-PrintsAnswer answer old (Err failed) new = TookPart (text_of answer) old new
+PrintsAnswer None old result new = (result ≡ Ok Silent) × (new ≡ old)
+PrintsAnswer (Some answer) old (Ok end) new = (end ≡ end_of (Some answer)) × TookAll (answer_text answer) old new
+PrintsAnswer (Some answer) old (Err failed) new = TookPart (answer_text answer) old new
 
 -- a line was served, and then its answer was printed
 pub record ServesAndPrints (sep : Sep) (line : List ℕ) (old : World) (sink : SinkState) (result : Result LineEnd WriteEnd) (new : World) (after : SinkState) : Type 0 where
@@ -70,14 +71,14 @@ Run sep old (line ∷ lines) [] new = ⊥
 abbrev pub answers_text : List (Option Answer) → List ℕ
 answers_text answers = flat_map text_of answers
 
--- all answers but the last were printed, and the sink failed in the last
+-- all answers but the last were printed, and the sink failed in the last, which is that to a line that says something
 pub record FailsInLast (answers : List (Option Answer)) (old new : SinkState) : Type 0 where
   pub printed : List (Option Answer)
-  pub last : Option Answer
-  pub are : answers ≡ printed ++ last ∷ []
+  pub last : Answer
+  pub are : answers ≡ printed ++ Some last ∷ []
   pub middle : SinkState
   pub before : TookAll (answers_text printed) old middle
-  pub part : TookPart (text_of last) middle new
+  pub part : TookPart (answer_text last) middle new
 
 -- whether something was refused
 abbrev pub refuses : Option Answer → Bool
@@ -94,8 +95,9 @@ any_refused answers = list_any refuses answers
 abbrev pub closing_answers : ℕ → List (Option Answer)
 closing_answers failed = replicate failed (Some (answers.Refused refusals.DeviceFault))
 
--- all answers were printed, and the sink failed in the refusals of the closing
+-- all answers were printed, some drawer failed to close, and the sink failed in the refusals of the closing
 pub record FailsInClosing (answers : List (Option Answer)) (failed : ℕ) (old new : SinkState) : Type 0 where
+  pub some : 1 ≤ failed
   pub middle : SinkState
   pub before : TookAll (answers_text answers) old middle
   pub part : TookPart (answers_text (closing_answers failed)) middle new

@@ -8,8 +8,8 @@ use Rattle.command_words.specs.Images.{line_of, script_images}
 use Rattle.command_words.specs.Reading.{command_in, line_limit}
 use Rattle.command_words.specs.declared.commands.Command.{Command}
 use Rattle.command_words.specs.declared.spans.Sep.TheVariants.{Blanks, Zeros}
-use Rattle.shelf.specs.Answer.{Answer}
-use Rattle.shelf.specs.World.{World}
+use Rattle.command_rows.specs.Answer.{Answer}
+use Rattle.command_rows.specs.World.{World}
 use Rattle.geli_core.specs.Lines.{CutsInto, last_line}
 use Rattle.geli_core.specs.Run.{FailsInClosing, FailsInLast, RunsAndCloses, answers_text, any_refused, closing_answers}
 use Rattle.geli_core.specs.declared.status.Status.{Status}

@@ -4,9 +4,9 @@ use Rattle.std.specs.List.{AllByRecursion}
 use Rattle.block_traits.specs.Streams.{SinkState, TookAll, TookPart, SourceState}
 use Rattle.command_words.specs.Reading.{line_limit}
 use Rattle.command_words.specs.declared.spans.Sep.TheVariants.{Blanks}
-use Rattle.shelf.specs.Answer.{Answer}
+use Rattle.command_rows.specs.Answer.{Answer}
 use Rattle.shelf.specs.Closing.{ClosesWorld}
-use Rattle.shelf.specs.World.{World}
+use Rattle.command_rows.specs.World.{World}
 use Rattle.reply_text.specs.declared.print.WriteEnd.{WriteEnd}
 use Rattle.geli_core.specs.declared.status.Status.{Status}
 use Rattle.geli_core.specs.declared.status.Status.TheVariants.{Done, SomeRefused, WriteFault, NoMemory}
@@ -128,7 +128,7 @@ status_by true = SomeRefused
 
 -- the refusals of the closing were printed, and this status is answered, something having been refused before or not
 abbrev pub PrintsClosing : Bool → ℕ → SinkState → Status → SinkState → Type 0
-PrintsClosing refused failed old WriteFault new = TookPart (answers_text (closing_answers failed)) old new
+PrintsClosing refused failed old WriteFault new = (1 ≤ failed) × TookPart (answers_text (closing_answers failed)) old new
 PrintsClosing refused failed old status new = (status ≡ status_by (refused || any_refused (closing_answers failed))) × TookAll (answers_text (closing_answers failed)) old new
 
 pub record ClosesAndPrints (refused : Bool) (old : Site) (status : Status) (new : Site) : Type 0 where

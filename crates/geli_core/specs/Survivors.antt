@@ -8,8 +8,8 @@ use Rattle.range_keys.specs.Ring.{IsKeying}
 use Rattle.readings.specs.Crashes.{Endures}
 use Rattle.readings.specs.Steps.{Step, after}
 use Rattle.readings.specs.Survivors.{AreSteps, media}
-use Rattle.shelf.specs.Answer.{Answer}
-use Rattle.shelf.specs.World.{DrawerState, IsAmong, World}
+use Rattle.command_rows.specs.Answer.{Answer}
+use Rattle.command_rows.specs.World.{DrawerState, IsAmong, World}
 use Rattle.geli_core.specs.Placing.{DrawerPlaces, DrawerPlacesAndCloses}
 use Rattle.geli_core.specs.Run.{RunsAndCloses}
 

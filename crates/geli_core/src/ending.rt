@@ -1,11 +1,11 @@
 // The end of a run: the drawers are closed, and what was refused decides on the status.
-ghost use Rattle.std.specs.Prelude.{◌≡◌, ◌≤◌, ℕ, List, length};
+ghost use Rattle.std.specs.Prelude.{◌≡◌, ◌≤◌, ℕ, List, IfErr, length};
 ghost use Rattle.block_traits.specs.Cabinet.{CabinetState};
 ghost use Rattle.block_traits.specs.Streams.{EntropyState, SinkState, SourceState};
 ghost use Rattle.std.specs.Io.KnownBytes.{prepend_known};
 ghost use Rattle.command_words.specs.Reading.{line_limit};
 ghost use Rattle.reply_text.specs.Output.{Prints};
-ghost use Rattle.shelf.specs.World.{world_of};
+ghost use Rattle.shelf.specs.Shelved.{world_of};
 ghost use Rattle.geli_core.specs.Run.{answers_text, closing_answers};
 ghost use Rattle.geli_core.specs.Script.{RunsScript, script_limit};
 ghost use Rattle.geli_core.specs.Served.{ClosesAndPrints, EndsLines, FeedsUpTo, IsServed, Site, StopsWithin, site_of, status_by, whole_of};
@@ -21,7 +21,8 @@ use shelf::Drawers;
 
 // Prints a refusal for each flush that failed.
 fn print_failures<K: Sink>(failed: u32, output: &mut K) -> Result<(), WriteEnd>
-    ensures { Prints (answers_text (closing_answers failed)) (K.state output.old) result (K.state output.new) }
+    ensures prints { Prints (answers_text (closing_answers failed)) (K.state output.old) result (K.state output.new) }
+    ensures some { IfErr result (λ _. 1 ≤ failed) }
 {
     for printed in 0..failed {
         let _ = printed;

@@ -1,12 +1,14 @@
 // The bytes of a script are looked at one by one, and each whole line is served.
-ghost use Rattle.std.specs.Prelude.{◌≡◌, ◌≤◌, ◌∷◌, ◌++◌, [], ℕ, List, false, vec_capacity, vec_len};
+ghost use Rattle.std.specs.Prelude.{◌≡◌, ◌≤◌, ◌∷◌, ◌++◌, [], ℕ, List, false, length, take, vec_capacity, vec_len};
 ghost use Rattle.command_words.specs.Reading.{line_limit};
-ghost use Rattle.shelf.specs.World.{world_of};
+ghost use Rattle.shelf.specs.Shelved.{world_of};
+ghost use Rattle.geli_core.specs.Lines.{IsOneLine};
 ghost use Rattle.geli_core.specs.Served.{FeedsByte, FeedsPiece, FeedsSource, IsServed, Site, site_of};
 
 use crate::serving::{either, serve_line};
 use block_traits::{Cabinet, Disk, Entropy, Sink, Source};
 use command_words::Sep;
+use memchr::memchr;
 use shelf::Drawers;
 
 /// The most bytes of a line.
@@ -97,10 +99,44 @@ pub(crate) fn feed_piece<K: Sink, C: Cabinet, E: Entropy, D: Disk>(
         FeedsPiece (bytes ++ piece.now) old result line.new.items refused.new
         (site_of (world_of D.state shelf.new (C.state files.new) (E.state entropy.new)) (K.state output.new)) }
 {
-    for byte in piece {
-        feed_byte(shelf, line, *byte, refused, output, files, entropy)?;
+    let mut place = 0;
+    'places: while place < piece.len() {
+        let taken = feed_text(line, plain_part(&piece[place..]));
+        if taken == 0 {
+            feed_byte(shelf, line, piece[place], refused, output, files, entropy)?;
+            place += 1;
+        } else {
+            place += taken;
+        }
     }
     Ok(())
+}
+
+// The bytes before the first newline.
+fn plain_part(bytes: &[u8]) -> &[u8]
+    ensures one { IsOneLine result.now }
+    ensures front { result.now ≡ take (length result.now) bytes.now }
+{
+    match memchr(b'\n', bytes) {
+        Some(count) => &bytes[..count],
+        None => bytes,
+    }
+}
+
+// Puts the first bytes of a text without a newline behind those of the line, as far as it has room, and answers how many.
+fn feed_text(line: &mut Vec<u8>, text: &[u8]) -> usize
+    requires room { line_limit ≤ vec_capacity line.old }
+    requires short { vec_len line.old ≤ line_limit }
+    ensures room { line_limit ≤ vec_capacity line.new }
+    ensures short { vec_len line.new ≤ line_limit }
+    ensures items { line.new.items ≡ line.old.items ++ take result text.now }
+    ensures bound { result ≤ length text.now }
+{
+    let count = text.len().min(LINE_LIMIT - line.len());
+    match line.extend_from_slice(&text[..count]) {
+        Ok(()) => count,
+        Err(_) => 0,
+    }
 }
 
 /// Takes the input piece by piece, and looks at its bytes.

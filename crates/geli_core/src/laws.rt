@@ -5,8 +5,8 @@ ghost use Rattle.command_words.specs.Reading.{reading};
 ghost use Rattle.command_words.specs.declared.spans.Sep.{Sep};
 ghost use Rattle.geli_core.specs.Histories.{RunsAt};
 ghost use Rattle.geli_core.specs.Run.{Run, ServesLine};
-ghost use Rattle.shelf.specs.Answer.{Answer};
-ghost use Rattle.shelf.specs.World.{DrawerState, World};
+ghost use Rattle.command_rows.specs.Answer.{Answer};
+ghost use Rattle.command_rows.specs.World.{DrawerState, World};
 
 /// While lines are served each drawer keeps its name, until a line takes it out. The history of its disk grows by exactly the
 /// events of the lines that name it, one after the other, each line's being those of its row. A drawer that no line
@@ -17,8 +17,8 @@ pub fn a_run_logs_the_events_of_its_lines()
 {}
 
 /// What holds of each line, whatever its row: a refusal of a command has its cause, as `a_refusal_has_its_cause` of the shelf says. Where
-/// nothing but want of memory can be the cause of a refusal, the line is served or there was no memory: so of every verb, also those on
-/// metadata, over told disks and told cabinets (`no_cause_is_left_where_all_is_found` of the shelf). Want of memory is answered to
+/// the drawer that it names has what its verb needs (`Fits` of the shelf), and no count of faults rises, the line is served or there was no
+/// memory: so of every verb that names a drawer but `eject`, also those on metadata, over told disks and told cabinets. Want of memory is answered to
 /// `init`, `attach`, `setkey`, `backup`, `restore` and `list` alone. Only the drawer that the line names changes or is taken out, and its
 /// disk logs events of the line: none where there was no memory, but for a backup that `init` stores last. A line that changes metadata
 /// leaves the old or the new whenever power fails, as `a_line_leaves_old_or_new` of the shelf says. The counts of the cabinet and the entropy

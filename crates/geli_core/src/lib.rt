@@ -4,6 +4,7 @@
 mod bounds;
 mod ending;
 mod feeding;
+mod images;
 mod laws;
 mod line;
 mod serving;
@@ -15,10 +16,13 @@ pub use bounds::{
     a_closing_refusal_has_its_drawer, device_faults_are_counted,
     device_faults_are_counted_until_eject, outside_failures_are_counted,
 };
+pub use images::run_images;
 pub use laws::{a_line_keeps_the_laws, a_run_logs_the_events_of_its_lines};
 pub use line::serve_line;
 pub use serving::LineEnd;
 pub use shelf::{AddFault, Drawers, Shelf};
 pub use status::Status;
-pub use survivors::{lines_keep_keyings, lines_survive_crashes, runs_survive_crashes};
+pub use survivors::{
+    crashed_runs_attach_and_read, lines_keep_keyings, lines_survive_crashes, runs_survive_crashes,
+};
 pub use top_call::{geli_main, run};

@@ -1,7 +1,7 @@
 // One line, with what holds of it whatever its row.
 ghost use Rattle.std.specs.Prelude.{◌≤◌, length};
 ghost use Rattle.command_words.specs.Reading.{line_limit};
-ghost use Rattle.shelf.specs.World.{world_of};
+ghost use Rattle.shelf.specs.Shelved.{world_of};
 ghost use Rattle.geli_core.specs.Laws.{ServesLawfully};
 
 use crate::serving;

@@ -2,8 +2,8 @@
 ghost use Rattle.std.specs.Prelude.{◌≡◌, ◌≤◌, ◌||◌, ℕ, List, Some, length};
 ghost use Rattle.command_words.specs.Reading.{line_limit};
 ghost use Rattle.reply_text.specs.Text.{FitsPayload};
-ghost use Rattle.shelf.specs.Answer.{answer_of};
-ghost use Rattle.shelf.specs.World.{world_of};
+ghost use Rattle.command_rows.specs.Answer.{answer_of};
+ghost use Rattle.shelf.specs.Shelved.{world_of};
 ghost use Rattle.geli_core.specs.Run.{PrintsAnswer, ServesAndPrints, end_of, is_refusal};
 
 use block_traits::{Cabinet, Disk, Entropy, Sink};
@@ -52,10 +52,14 @@ fn end_of(reply: &Reply) -> LineEnd
         Reply::Digest(_) => LineEnd::Accepted,
         Reply::Rows(_) => LineEnd::Accepted,
         Reply::Dump(_) => LineEnd::Accepted,
+        Reply::Tag { .. } => LineEnd::Accepted,
+        Reply::Left { .. } => LineEnd::Accepted,
+        Reply::Verified { .. } => LineEnd::Accepted,
     }
 }
 
 // Prints a reply, whose payload stands at the front of these bytes.
+#[tactic(auto, using(command_rows::proofs::Replies::text_of_reply))]
 fn print<K: Sink>(reply: &Reply, payload: &[u8], output: &mut K) -> Result<LineEnd, WriteEnd>
     requires { FitsPayload (length payload.now) reply.now }
     ensures { PrintsAnswer (Some (answer_of payload.now reply.now)) (K.state output.old) result (K.state output.new) }

@@ -1,10 +1,15 @@
 // What a run leaves if power fails at any moment of it.
-ghost use Rattle.std.specs.Prelude.{ℕ, List, Option};
+ghost use Rattle.std.specs.Prelude.{ℕ, List, IfSome, Option};
+ghost use Rattle.block_traits.specs.Content.{Content};
 ghost use Rattle.command_words.specs.declared.spans.Sep.{Sep};
+ghost use Rattle.geli_core.specs.Headline.{ReadsAfterCrashes};
 ghost use Rattle.geli_core.specs.Run.{Run, RunsAndCloses};
-ghost use Rattle.geli_core.specs.Survivors.{EachSurvives, EachSurvivesClosing};
-ghost use Rattle.shelf.specs.Answer.{Answer};
-ghost use Rattle.shelf.specs.World.{HoldKeyings, World};
+ghost use Rattle.geli_core.specs.Survivors.{EachSurvives, EachSurvivesClosing, EnduresCrashes, SurvivesCrashes};
+ghost use Rattle.readings.specs.Steps.{Step};
+ghost use Rattle.command_rows.specs.Answer.{Answer};
+ghost use Rattle.command_rows.specs.World.{DrawerState, HoldKeyings, IsAmong, World};
+
+use block_traits::Disk;
 
 /// What is attached after some lines has a keying that a provider may have, where that was so before. It is so of the drawers of every shelf, as
 /// the law `Drawers::hold_keyings` says; these laws are about any two worlds, and so must say it.
@@ -27,4 +32,18 @@ pub fn lines_survive_crashes()
 pub fn runs_survive_crashes()
     ensures { (sep : Sep) (lines : List (List ℕ)) (answers : List (Option Answer)) (failed : ℕ) (old new : World) →
         RunsAndCloses sep old lines answers failed new → HoldKeyings old.drawers → EachSurvivesClosing sep lines answers old new }
+{}
+
+/// The headline as one sentence. Power fails at any moment of a run, before or within any write of a device sector; the image that is left of a
+/// drawer, whole, torn or altered, is attached with a key of one of its slots. Then there was no memory, or the provider has the keying of the metadata
+/// and the master key of that slot, which is one that a provider may have, and each read that it answers is, logical sector by logical sector, what the
+/// writings say that the image chose from the cells of the run; or the range passes the end, or the disk failed.
+///
+/// Clause `steps` says it of any steps that endure crashes, and `runs` of those of a run by what `geli_main`, `run` and `run_images` ensure of it.
+pub fn crashed_runs_attach_and_read<D: Disk>()
+    ensures steps { (steps : List Step) (c : Content) → EnduresCrashes steps c → ReadsAfterCrashes D.state steps c }
+    ensures runs { (old new : World) (survives : SurvivesCrashes old new) (sep : Sep) (lines : List (List ℕ)) (answers : List (Option Answer)) (failed : ℕ) →
+        (ran : RunsAndCloses sep old lines answers failed new) (drawer : DrawerState) (among : IsAmong new.drawers drawer) →
+        let left = survives.each sep lines answers failed ran drawer among in
+        IfSome left.before.disk.content (ReadsAfterCrashes D.state left.steps) }
 {}

@@ -1,16 +1,12 @@
 // The run: the words are read, and a script or one command is served.
-ghost use Rattle.std.specs.Prelude.{map, string_bytes};
+ghost use Rattle.std.specs.Prelude.{◌≡◌, None, map, string_bytes};
 ghost use Rattle.command_words.specs.Reading.{command_in};
-ghost use Rattle.command_words.specs.Images.{line_of};
-ghost use Rattle.shelf.specs.World.{world_of};
-ghost use Rattle.geli_core.specs.Bounded.{BoundsReplies};
-ghost use Rattle.geli_core.specs.Complete.{Completes};
-ghost use Rattle.geli_core.specs.Histories.{KeepsDrawers};
-ghost use Rattle.geli_core.specs.Laws.{LinesKeepLaws};
-ghost use Rattle.geli_core.specs.Script.{Ends, HasCause, PrintsUsage, Runs, RunsLine, RunsScript};
+ghost use Rattle.command_words.specs.Images.{line_of, script_images};
+ghost use Rattle.shelf.specs.Shelved.{world_of};
+ghost use Rattle.geli_core.specs.Lawful.{RunsLawfully};
+ghost use Rattle.geli_core.specs.Script.{PrintsUsage, RunsLine, RunsScript};
 ghost use Rattle.geli_core.specs.Served.{RunsUnless, site_of, whole_of};
 ghost use Rattle.block_traits.specs.Streams.{SourceState};
-ghost use Rattle.geli_core.specs.Survivors.{SurvivesCrashes};
 
 use crate::Status;
 use crate::ending::{close_and_print, end_script};
@@ -38,54 +34,10 @@ pub fn geli_main<S: Source, K: Sink, C: Cabinet, E: Entropy>(
     entropy: &mut E,
     shelf: &mut Shelf,
 ) -> Status
-    ensures runs { Runs (map string_bytes words.now)
+    ensures runs { RunsLawfully (map string_bytes words.now)
         (whole_of (site_of (world_of (⟦<Box<dyn Disk> as Disk>⟧).state shelf.old (C.state files.old) (E.state entropy.old)) (K.state output.old)) (S.state input.old)) result
         (whole_of (site_of (world_of (⟦<Box<dyn Disk> as Disk>⟧).state shelf.new (C.state files.new) (E.state entropy.new)) (K.state output.new)) (S.state input.new)) }
-
-    // A status that breaks the run off has its cause: where no count of faults rose, and the input is within its limits, the
-    // run is gone through to its end.
-    ensures cause { HasCause result
-        (whole_of (site_of (world_of (⟦<Box<dyn Disk> as Disk>⟧).state shelf.old (C.state files.old) (E.state entropy.old)) (K.state output.old)) (S.state input.old))
-        (whole_of (site_of (world_of (⟦<Box<dyn Disk> as Disk>⟧).state shelf.new (C.state files.new) (E.state entropy.new)) (K.state output.new)) (S.state input.new)) }
-
-    // A script or one command that is served goes to its end where the sink didn't fail, nor the source of a script, which gave
-    // fewer than 2^40 bytes and no line of more than 300,000: all is served and printed, and the status is Done or SomeRefused, by
-    // the replies. Or there was no memory, and nothing was done.
-    ensures complete { Completes (map string_bytes words.now)
-        (whole_of (site_of (world_of (⟦<Box<dyn Disk> as Disk>⟧).state shelf.old (C.state files.old) (E.state entropy.old)) (K.state output.old)) (S.state input.old)) result
-        (whole_of (site_of (world_of (⟦<Box<dyn Disk> as Disk>⟧).state shelf.new (C.state files.new) (E.state entropy.new)) (K.state output.new)) (S.state input.new)) }
-
-    // By whatever lines the run came about, of each that says a command: a refusal has its cause; where nothing but want of memory can be one,
-    // it is served or there was no memory, which only the verbs that may lack it answer; only the drawer that it names changes or is taken out, and
-    // its disk logs events of the line; and a line that changes metadata leaves the old or the new whenever power fails, `setkey` the old slot
-    // or the new, `delkey` the old slots or some without a key, and `kill` no metadata once a flush landed.
-    ensures lines { LinesKeepLaws
-        (world_of (⟦<Box<dyn Disk> as Disk>⟧).state shelf.old (C.state files.old) (E.state entropy.old))
-        (world_of (⟦<Box<dyn Disk> as Disk>⟧).state shelf.new (C.state files.new) (E.state entropy.new)) }
-
-    // If power fails at any moment, before or within any write of a device sector: of each drawer that is there in the end, where its disk tells its
-    // content, each image that is left reads unit by unit from what the lines' writes placed and what was there; a torn or altered one also as a named
-    // fault, as strange bytes where nothing authenticates them, or as forged ones (docs/THEOREM.md).
-    ensures survivors { SurvivesCrashes
-        (world_of (⟦<Box<dyn Disk> as Disk>⟧).state shelf.old (C.state files.old) (E.state entropy.old))
-        (world_of (⟦<Box<dyn Disk> as Disk>⟧).state shelf.new (C.state files.new) (E.state entropy.new)) }
-
-    // By whatever lines the run came about, of the answers to them: those that the cabinet failed, that a file was absent or longer than a file may
-    // be, and that the entropy failed are each at most as many as the count of such failures rose by; where no two drawers have one name, those to the
-    // lines that name a drawer that its disk failed at most as many as that disk's count of faults rose by, until the end or until a line takes it
-    // out; and each refusal of the closing has its drawer. Each of these unless the count stands at 2^64 - 1.
-    ensures bounds { BoundsReplies
-        (world_of (⟦<Box<dyn Disk> as Disk>⟧).state shelf.old (C.state files.old) (E.state entropy.old))
-        (world_of (⟦<Box<dyn Disk> as Disk>⟧).state shelf.new (C.state files.new) (E.state entropy.new)) }
-
-    // How the run may end, by what the words ask for.
-    ensures ends { Ends (map string_bytes words.now) result }
-
-    // Whatever the status, each drawer is there as before, in order, and the history of its disk only grew; one isn't there only where
-    // a line of the script, or the one command, took it out.
-    ensures histories { KeepsDrawers (map string_bytes words.now)
-        (whole_of (site_of (world_of (⟦<Box<dyn Disk> as Disk>⟧).state shelf.old (C.state files.old) (E.state entropy.old)) (K.state output.old)) (S.state input.old))
-        (whole_of (site_of (world_of (⟦<Box<dyn Disk> as Disk>⟧).state shelf.new (C.state files.new) (E.state entropy.new)) (K.state output.new)) (S.state input.new)) }
+    ensures unread { script_images (map string_bytes words.now) ≡ None → input.new ≡ input.old }
 {
     run(alloc, words, input, output, files, entropy, shelf)
 }
@@ -100,30 +52,12 @@ pub fn run<S: Source, K: Sink, C: Cabinet, E: Entropy, D: Disk>(
     entropy: &mut E,
     shelf: &mut Drawers<D>,
 ) -> Status
-    ensures runs { Runs (map string_bytes words.now)
+    ensures runs { RunsLawfully (map string_bytes words.now)
         (whole_of (site_of (world_of D.state shelf.old (C.state files.old) (E.state entropy.old)) (K.state output.old)) (S.state input.old)) result
         (whole_of (site_of (world_of D.state shelf.new (C.state files.new) (E.state entropy.new)) (K.state output.new)) (S.state input.new)) }
-    ensures cause { HasCause result
-        (whole_of (site_of (world_of D.state shelf.old (C.state files.old) (E.state entropy.old)) (K.state output.old)) (S.state input.old))
-        (whole_of (site_of (world_of D.state shelf.new (C.state files.new) (E.state entropy.new)) (K.state output.new)) (S.state input.new)) }
-    ensures complete { Completes (map string_bytes words.now)
-        (whole_of (site_of (world_of D.state shelf.old (C.state files.old) (E.state entropy.old)) (K.state output.old)) (S.state input.old)) result
-        (whole_of (site_of (world_of D.state shelf.new (C.state files.new) (E.state entropy.new)) (K.state output.new)) (S.state input.new)) }
-    ensures lines { LinesKeepLaws
-        (world_of D.state shelf.old (C.state files.old) (E.state entropy.old))
-        (world_of D.state shelf.new (C.state files.new) (E.state entropy.new)) }
-    ensures survivors { SurvivesCrashes
-        (world_of D.state shelf.old (C.state files.old) (E.state entropy.old))
-        (world_of D.state shelf.new (C.state files.new) (E.state entropy.new)) }
-    ensures bounds { BoundsReplies
-        (world_of D.state shelf.old (C.state files.old) (E.state entropy.old))
-        (world_of D.state shelf.new (C.state files.new) (E.state entropy.new)) }
-    ensures ends { Ends (map string_bytes words.now) result }
-    ensures histories { KeepsDrawers (map string_bytes words.now)
-        (whole_of (site_of (world_of D.state shelf.old (C.state files.old) (E.state entropy.old)) (K.state output.old)) (S.state input.old))
-        (whole_of (site_of (world_of D.state shelf.new (C.state files.new) (E.state entropy.new)) (K.state output.new)) (S.state input.new)) }
+    ensures unread { script_images (map string_bytes words.now) ≡ None → input.new ≡ input.old }
 {
-    // Clause `survivors` rests on what is attached at entry.
+    // What is said of crashes rests on what is attached at entry.
     shelf.hold_keyings();
     match script_images(words) {
         Some(_) => run_script(alloc, input, output, files, entropy, shelf),

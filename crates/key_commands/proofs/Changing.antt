@@ -10,7 +10,8 @@ use Rattle.eli_base.specs.declared.algorithms.Cipher.{Cipher}
 use Rattle.eli_base.specs.declared.algorithms.Cipher.TheVariants.{AesCbc, AesXts}
 use Rattle.eli_base.specs.declared.refusals.Refusal.{Refusal}
 use Rattle.eli_base.specs.declared.refusals.Refusal.TheVariants as refusals
-use Rattle.eli_metadata.specs.Checks.{are_clear, check_auth, check_cipher, auth_of, cipher_of, is_set, named_slot_opens, slot_matches, supported}
+use Rattle.eli_metadata.proofs.Supported.{said}
+use Rattle.eli_metadata.specs.Checks.{Settings, are_clear, is_set, named_slot_opens, slot_matches, supported}
 use Rattle.eli_metadata.specs.declared.metadata.Metadata.{Metadata}
 use Rattle.eli_metadata.specs.declared.metadata.MetaFault.{MetaFault}
 use Rattle.eli_metadata.specs.declared.metadata.MetaFault.TheVariants.{NoValidKeys}
@@ -27,14 +28,6 @@ use Rattle.key_commands.specs.NewKey.{IsAcceptedAs, KeepsSlot, KeyChange, MakesK
 use Rattle.key_commands.specs.Options.{key_refusal}
 
 -- ---- metadata that are checked have an allowed key length
-
-test_passed : {T E : Type 0} (test : Bool) (r : Result T E) (fault : E) → IsOk (cond test r (Err fault)) → test ≡ true
-test_passed true r fault ok = refl
-test_passed false r fault ok = absurd (cc)
-
-rest_passed : {T E : Type 0} (test : Bool) (r : Result T E) (fault : E) → IsOk (cond test r (Err fault)) → IsOk r
-rest_passed true r fault ok = ok
-rest_passed false r fault ok = absurd (cc)
 
 one_holds : (a b : Bool) → (a || b) ≡ true → (a ≡ true) ⊎ (b ≡ true)
 one_holds true b e = inl refl
@@ -53,13 +46,12 @@ IsKeyBits-allowed AesXts keylen e = elim (one_holds (keylen == 128) (keylen == 2
   | inr h ↦ inr (inr (eqb-true keylen 256 h))
 ]
 
-IsKeyBits-cipher : (m : Metadata) (cipher : Option Cipher) → IsOk (check_cipher m cipher) → IsKeyBits m.keylen
-IsKeyBits-cipher m None ok = absurd (cc)
-IsKeyBits-cipher m (Some cipher) ok = IsKeyBits-allowed cipher m.keylen (test_passed (allows_length cipher m.keylen) (check_auth m cipher (auth_of m)) _ ok)
+bits_of : (m : Metadata) (answer : Result Settings MetaFault) → supported m ≡ answer → IsOk answer → IsKeyBits m.keylen
+bits_of m (Ok s) same ok = let is = said m s same in subst IsKeyBits (sym is.keylen) (IsKeyBits-allowed s.cipher s.keylen is.allowed)
+bits_of m (Err fault) same ok = absurd (cc)
 
 pub IsKeyBits-supported : (m : Metadata) → IsOk (supported m) → IsKeyBits m.keylen
-unfolding supported
-IsKeyBits-supported m ok = IsKeyBits-cipher m (cipher_of m.ealgo) (rest_passed _ _ _ ok)
+IsKeyBits-supported m ok = bits_of m (supported m) refl ok
 
 -- ---- iterations are given for one key alone
 

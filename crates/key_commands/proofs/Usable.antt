@@ -1,6 +1,7 @@
 -- The metadata of a new provider are accepted, and slot 0 of them opens.
-use Rattle.std.proofs.Common.{◌≡◌, ◌==◌, ◌≤◌, ℕ, zero, suc, ℤ, ◌+◌, ◌*◌, ◌^◌, ◌<◌, [], ◌∷◌, List, ◌++◌, length, take, refl, ap, ◌∙◌, arith, bit_and, cond, true, false, Bool, not, Option, Some, None, Result, Ok, nat_lt, length-append}
-use Rattle.std.proofs.lemmas.Bool.Decides.{Decides-eqb, Decides-ltb}
+use Rattle.std.proofs.Common.{◌≡◌, ◌==◌, ◌≤◌, ℕ, zero, suc, ℤ, ◌+◌, ◌*◌, ◌^◌, ◌<◌, [], ◌∷◌, List, ◌++◌, length, take, refl, ap, ◌∙◌, arith, bit_and, cond, true, false, Bool, not, Option, Some, None, Result, Ok, nat_le, length-append}
+use Rattle.std.proofs.lemmas.Bool.Decides.{Decides-eqb}
+use Rattle.std.proofs.lemmas.Grind.{common_steps}
 use Rattle.std.specs.Option.{option_or}
 use Rattle.eli_base.specs.Algorithms.{allows_length}
 use Rattle.eli_base.specs.SectorSize.{is_sector_size}
@@ -12,7 +13,7 @@ use Rattle.eli_base.specs.declared.algorithms.Cipher.TheVariants.{AesCbc, AesXts
 use Rattle.eli_base.specs.declared.parameters.MasterKey.{MasterKey}
 use Rattle.eli_base.specs.declared.refusals.Refusal.{Refusal}
 use Rattle.eli_base.specs.declared.refusals.Refusal.TheVariants as refusals
-use Rattle.eli_metadata.specs.Checks.{Settings, supported}
+use Rattle.eli_metadata.specs.Checks.{Settings, supported, unless}
 use Rattle.eli_metadata.specs.declared.metadata.MetaFault.{MetaFault}
 use Rattle.eli_metadata.specs.declared.metadata.Metadata.{Metadata}
 use Rattle.hmac_kdf.specs.Hmac.{hmac512}
@@ -27,47 +28,52 @@ use Rattle.key_commands.specs.Options.{early_refusal, key_refusal}
 use Rattle.key_commands.specs.Usable.{IsAccepted, OpensFirst, settings_for}
 use Rattle.key_commands.specs.declared.options.InitOptions.{InitOptions}
 
-three_hold : (a b c : Bool) (x p q r : Result Settings MetaFault) → a ≡ true → b ≡ true → c ≡ true → cond a (cond b (cond c x p) q) r ≡ x
+-- a key length and a sector size that are allowed, and a size that isn't too large: of three refusals none holds
+three_hold : (a b c : Bool) (x : Settings) (p q r : MetaFault) → a ≡ true → b ≡ true → c ≡ false
+    → unless (cond (not a) (Some p) (cond (not b) (Some q) (cond c (Some r) None))) x ≡ Ok x
 three_hold a b c x p q r e f g = rw (e, f, g) refl
 
 -- the settings by each cipher, authentication and wish to grow
 settings : (cipher : Cipher) (auth : Auth) (autoresize : Bool) (keylen sectorsize sectors : ℕ) (iterations : ℤ) (salt slot0 slot1 : List ℕ)
-    → allows_length cipher keylen ≡ true → is_sector_size sectorsize ≡ true → nat_lt (512 * sectors) (2 ^ 53) ≡ true
+    → allows_length cipher keylen ≡ true → is_sector_size sectorsize ≡ true → nat_le (2 ^ 53) (512 * sectors) ≡ false
     → supported (metadata_of (record { cipher = cipher; auth = auth; keylen = keylen; sectorsize = sectorsize; iterations = iterations; autoresize = autoresize }) sectors salt slot0 slot1)
     ≡ Ok (settings_for (record { cipher = cipher; auth = auth; keylen = keylen; sectorsize = sectorsize; iterations = iterations; autoresize = autoresize }) sectors)
 unfolding supported
 settings AesCbc Off false keylen sectorsize sectors iterations salt slot0 slot1 a b c =
-    three_hold (allows_length AesCbc keylen) (is_sector_size sectorsize) (nat_lt (512 * sectors) (2 ^ 53)) _ _ _ _ a b c
+    three_hold (allows_length AesCbc keylen) (is_sector_size sectorsize) (nat_le (2 ^ 53) (512 * sectors)) _ _ _ _ a b c
 settings AesCbc Off true keylen sectorsize sectors iterations salt slot0 slot1 a b c =
-    three_hold (allows_length AesCbc keylen) (is_sector_size sectorsize) (nat_lt (512 * sectors) (2 ^ 53)) _ _ _ _ a b c
+    three_hold (allows_length AesCbc keylen) (is_sector_size sectorsize) (nat_le (2 ^ 53) (512 * sectors)) _ _ _ _ a b c
 settings AesCbc Sha256 false keylen sectorsize sectors iterations salt slot0 slot1 a b c =
-    three_hold (allows_length AesCbc keylen) (is_sector_size sectorsize) (nat_lt (512 * sectors) (2 ^ 53)) _ _ _ _ a b c
+    three_hold (allows_length AesCbc keylen) (is_sector_size sectorsize) (nat_le (2 ^ 53) (512 * sectors)) _ _ _ _ a b c
 settings AesCbc Sha256 true keylen sectorsize sectors iterations salt slot0 slot1 a b c =
-    three_hold (allows_length AesCbc keylen) (is_sector_size sectorsize) (nat_lt (512 * sectors) (2 ^ 53)) _ _ _ _ a b c
+    three_hold (allows_length AesCbc keylen) (is_sector_size sectorsize) (nat_le (2 ^ 53) (512 * sectors)) _ _ _ _ a b c
 settings AesCbc Sha384 false keylen sectorsize sectors iterations salt slot0 slot1 a b c =
-    three_hold (allows_length AesCbc keylen) (is_sector_size sectorsize) (nat_lt (512 * sectors) (2 ^ 53)) _ _ _ _ a b c
+    three_hold (allows_length AesCbc keylen) (is_sector_size sectorsize) (nat_le (2 ^ 53) (512 * sectors)) _ _ _ _ a b c
 settings AesCbc Sha384 true keylen sectorsize sectors iterations salt slot0 slot1 a b c =
-    three_hold (allows_length AesCbc keylen) (is_sector_size sectorsize) (nat_lt (512 * sectors) (2 ^ 53)) _ _ _ _ a b c
+    three_hold (allows_length AesCbc keylen) (is_sector_size sectorsize) (nat_le (2 ^ 53) (512 * sectors)) _ _ _ _ a b c
 settings AesCbc Sha512 false keylen sectorsize sectors iterations salt slot0 slot1 a b c =
-    three_hold (allows_length AesCbc keylen) (is_sector_size sectorsize) (nat_lt (512 * sectors) (2 ^ 53)) _ _ _ _ a b c
+    three_hold (allows_length AesCbc keylen) (is_sector_size sectorsize) (nat_le (2 ^ 53) (512 * sectors)) _ _ _ _ a b c
 settings AesCbc Sha512 true keylen sectorsize sectors iterations salt slot0 slot1 a b c =
-    three_hold (allows_length AesCbc keylen) (is_sector_size sectorsize) (nat_lt (512 * sectors) (2 ^ 53)) _ _ _ _ a b c
+    three_hold (allows_length AesCbc keylen) (is_sector_size sectorsize) (nat_le (2 ^ 53) (512 * sectors)) _ _ _ _ a b c
 settings AesXts Off false keylen sectorsize sectors iterations salt slot0 slot1 a b c =
-    three_hold (allows_length AesXts keylen) (is_sector_size sectorsize) (nat_lt (512 * sectors) (2 ^ 53)) _ _ _ _ a b c
+    three_hold (allows_length AesXts keylen) (is_sector_size sectorsize) (nat_le (2 ^ 53) (512 * sectors)) _ _ _ _ a b c
 settings AesXts Off true keylen sectorsize sectors iterations salt slot0 slot1 a b c =
-    three_hold (allows_length AesXts keylen) (is_sector_size sectorsize) (nat_lt (512 * sectors) (2 ^ 53)) _ _ _ _ a b c
+    three_hold (allows_length AesXts keylen) (is_sector_size sectorsize) (nat_le (2 ^ 53) (512 * sectors)) _ _ _ _ a b c
 settings AesXts Sha256 false keylen sectorsize sectors iterations salt slot0 slot1 a b c =
-    three_hold (allows_length AesXts keylen) (is_sector_size sectorsize) (nat_lt (512 * sectors) (2 ^ 53)) _ _ _ _ a b c
+    three_hold (allows_length AesXts keylen) (is_sector_size sectorsize) (nat_le (2 ^ 53) (512 * sectors)) _ _ _ _ a b c
 settings AesXts Sha256 true keylen sectorsize sectors iterations salt slot0 slot1 a b c =
-    three_hold (allows_length AesXts keylen) (is_sector_size sectorsize) (nat_lt (512 * sectors) (2 ^ 53)) _ _ _ _ a b c
+    three_hold (allows_length AesXts keylen) (is_sector_size sectorsize) (nat_le (2 ^ 53) (512 * sectors)) _ _ _ _ a b c
 settings AesXts Sha384 false keylen sectorsize sectors iterations salt slot0 slot1 a b c =
-    three_hold (allows_length AesXts keylen) (is_sector_size sectorsize) (nat_lt (512 * sectors) (2 ^ 53)) _ _ _ _ a b c
+    three_hold (allows_length AesXts keylen) (is_sector_size sectorsize) (nat_le (2 ^ 53) (512 * sectors)) _ _ _ _ a b c
 settings AesXts Sha384 true keylen sectorsize sectors iterations salt slot0 slot1 a b c =
-    three_hold (allows_length AesXts keylen) (is_sector_size sectorsize) (nat_lt (512 * sectors) (2 ^ 53)) _ _ _ _ a b c
+    three_hold (allows_length AesXts keylen) (is_sector_size sectorsize) (nat_le (2 ^ 53) (512 * sectors)) _ _ _ _ a b c
 settings AesXts Sha512 false keylen sectorsize sectors iterations salt slot0 slot1 a b c =
-    three_hold (allows_length AesXts keylen) (is_sector_size sectorsize) (nat_lt (512 * sectors) (2 ^ 53)) _ _ _ _ a b c
+    three_hold (allows_length AesXts keylen) (is_sector_size sectorsize) (nat_le (2 ^ 53) (512 * sectors)) _ _ _ _ a b c
 settings AesXts Sha512 true keylen sectorsize sectors iterations salt slot0 slot1 a b c =
-    three_hold (allows_length AesXts keylen) (is_sector_size sectorsize) (nat_lt (512 * sectors) (2 ^ 53)) _ _ _ _ a b c
+    three_hold (allows_length AesXts keylen) (is_sector_size sectorsize) (nat_le (2 ^ 53) (512 * sectors)) _ _ _ _ a b c
+
+is_below : (n bound : ℕ) → n < bound → nat_le bound n ≡ false
+is_below n bound lt = grind (arith, common_steps)
 
 same_number : (n : ℕ) (x p : Result (Unit {0}) MetaFault) → cond (n == n) x p ≡ x
 same_number n x p = let same : (n == n) ≡ true = (Decides-eqb n n).1 refl in rw same refl
@@ -77,7 +83,7 @@ pub IsAccepted-metadata_of : (options : InitOptions) (sectors : ℕ) (salt slot0
     → allows_length options.cipher options.keylen ≡ true → is_sector_size options.sectorsize ≡ true → sectors < 2 ^ 44
     → IsAccepted options sectors (metadata_of options sectors salt slot0 slot1)
 IsAccepted-metadata_of options sectors salt slot0 slot1 allowed sized small =
-    let below : nat_lt (512 * sectors) (2 ^ 53) ≡ true = (Decides-ltb (512 * sectors) (2 ^ 53)).1 (omega arith) in
+    let below : nat_le (2 ^ 53) (512 * sectors) ≡ false = is_below (512 * sectors) (2 ^ 53) (omega arith) in
     record {
       settings = settings options.cipher options.auth options.autoresize options.keylen options.sectorsize sectors options.iterations salt slot0 slot1 allowed sized below;
       size = same_number (512 * sectors) _ _;

@@ -20,7 +20,7 @@ pub record Deletion : Type 0 where
   pub which : Which
   pub force : Bool
 
--- nothing is refused, and the random bytes are taken in one piece
+-- nothing is refused, and the random bytes are taken in one call
 pub record DrawsFiller (asked : Deletion) (old : EntropyState) (random : List ℕ) (new : EntropyState) : Type 0 where
   pub served : deletion_refusal asked.meta asked.which asked.force ≡ None
   pub size : length random ≡ filler_size asked.which
@@ -40,20 +40,22 @@ pub record IsWithout (asked : Deletion) (m : Metadata) : Type 0 where
   pub named : (s : ℕ) → Names asked.which s → slot_bytes m s ≡ replicate 192 0
   pub other : (s : ℕ) → s < 2 → ¬ Names asked.which s → KeepsSlot asked.meta m s
 
--- all six passes were made, and the last sector then holds the metadata with zeros alone
+-- all six passes were made, nothing was read, and the last sector then holds the metadata with zeros alone
 pub record Deletes (asked : Deletion) (disk : DiskState) (entropy : EntropyState) (m : Metadata) (disk' : DiskState) (entropy' : EntropyState) : Type 0 where
   pub without : IsWithout asked m
   pub random : List ℕ
   pub draws : DrawsFiller asked entropy random entropy'
   pub logs : Logs (pass_events disk asked.meta asked.which random) disk disk'
+  pub unasked : disk'.reads ≡ disk.reads
   pub overwrites : Overwrites asked disk disk'
   pub alone : KeepsAlone (encoded m) (last_sector disk) disk'.content
 
--- the disk failed after a part of the events
+-- the disk failed after a part of the events, and nothing was read
 pub record DeletesPart (asked : Deletion) (disk : DiskState) (entropy : EntropyState) (disk' : DiskState) (entropy' : EntropyState) : Type 0 where
   pub random : List ℕ
   pub draws : DrawsFiller asked entropy random entropy'
   pub fails : FailsIn (pass_events disk asked.meta asked.which random) disk disk'
+  pub unasked : disk'.reads ≡ disk.reads
   pub overwrites : Overwrites asked disk disk'
 
 -- there were no random bytes, and the disk is as it was

@@ -1,5 +1,5 @@
 -- A new key in a slot of the metadata, which wraps the master key that is there (geli(8), setkey).
-use Rattle.std.specs.Prelude.{◌≡◌, ◌≢◌, ℕ, ◌^◌, ◌<◌, ℤ, pos, ◌==◌, ◌&&◌, not, bit_and, Bool, IsTrue, is_some, List, Option, Some, None, Result, Ok, if◌then◌else◌}
+use Rattle.std.specs.Prelude.{◌≡◌, ◌≢◌, ℕ, ◌^◌, ◌<◌, ℤ, pos, ◌==◌, ◌&&◌, not, bit_and, Bool, IsTrue, is_some, List, [], ◌∷◌, Option, Some, None, Result, Ok, if◌then◌else◌}
 use Rattle.std.specs.Int.{is_negative}
 use Rattle.eli_base.specs.declared.refusals.Refusal.{Refusal}
 use Rattle.eli_base.specs.declared.refusals.Refusal.TheVariants.{IterationsNeedOneKey}
@@ -12,7 +12,7 @@ use Rattle.user_key.specs.declared.components.KeyFault.{KeyFault}
 use Rattle.user_key.specs.declared.components.PassPart.{PassPart}
 use Rattle.user_key.specs.declared.components.PassPart.TheVariants.{Without, Missing, Given}
 use Rattle.user_key.specs.declared.components.UserKey.{UserKey}
-use Rattle.key_commands.specs.Options.{key_refusal}
+use Rattle.key_commands.specs.Options.{first_or_key}
 
 -- what is asked for: the metadata as they were read, the master key, the slot that is to have it, the iterations where they
 -- are given, and the components of the new user key
@@ -45,9 +45,9 @@ is_only_key m slot = bit_and m.keys 3 == 2 ^ slot
 -- the first refusal that holds: iterations may be given only where the one key that is set is replaced, since the other key
 -- was made by those that are kept
 abbrev pub change_refusal : KeyChange → Option Refusal
-change_refusal asked =
-    (if is_some asked.iterations && not (is_only_key asked.meta asked.slot) then Some IterationsNeedOneKey
-    else key_refusal (new_user_key asked))
+change_refusal asked = first_or_key (
+    (is_some asked.iterations && not (is_only_key asked.meta asked.slot), IterationsNeedOneKey)
+    ∷ []) (new_user_key asked)
 
 -- the metadata with the new iterations, and the master key wrapped by the user key u in the slot
 abbrev pub with_key : KeyChange → List ℕ → Metadata

@@ -33,17 +33,19 @@ pub record MakesMetadata (options : InitOptions) (parts : Components) (sectors :
   pub metadata : m ≡ new_metadata options sectors random key.bytes
   pub usable : IsUsable options parts sectors m key (master_key_in random)
 
--- the metadata were made, and written with all of the events
+-- the metadata were made, and written with all of the events, and nothing was read
 pub record Writes (options : InitOptions) (parts : Components) (disk : DiskState) (entropy : EntropyState) (m : Metadata) (disk' : DiskState) (entropy' : EntropyState) : Type 0 where
   pub makes : MakesMetadata options parts disk.size entropy m entropy'
   pub logs : Logs (init_events disk m) disk disk'
+  pub unasked : disk'.reads ≡ disk.reads
   pub kept : KeepsOldOr (IsSectorOf m) (last_sector disk) disk.content disk'.content
 
--- the metadata were made, and the disk failed after a part of the events
+-- the metadata were made, the disk failed after a part of the events, and nothing was read
 pub record WritesPart (options : InitOptions) (parts : Components) (disk : DiskState) (entropy : EntropyState) (disk' : DiskState) (entropy' : EntropyState) : Type 0 where
   pub m : Metadata
   pub makes : MakesMetadata options parts disk.size entropy m entropy'
   pub fails : FailsIn (init_events disk m) disk disk'
+  pub unasked : disk'.reads ≡ disk.reads
   pub kept : KeepsOldOr (IsSectorOf m) (last_sector disk) disk.content disk'.content
 
 -- there were no random bytes, and the disk is as it was

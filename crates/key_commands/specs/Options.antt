@@ -1,5 +1,5 @@
 -- What `geli init` refuses before anything is done (geli(8)).
-use Rattle.std.specs.Prelude.{ℕ, ◌*◌, ◌==◌, [], not, Option, Some, None, Result, Ok, Err, if◌then◌else◌}
+use Rattle.std.specs.Prelude.{ℕ, ◌*◌, ◌==◌, Bool, List, [], ◌∷◌, not, Option, Some, None, Result, Ok, Err, if◌then◌else◌}
 use Rattle.eli_base.specs.Algorithms.{allows_length}
 use Rattle.eli_base.specs.SectorSize.{is_sector_size}
 use Rattle.eli_base.specs.Units.{media_sectors}
@@ -17,11 +17,16 @@ abbrev pub key_refusal : Result UserKey KeyFault → Option Refusal
 key_refusal (Ok key) = None
 key_refusal (Err fault) = Some (key_refusal_of fault)
 
+-- of refusals in their order, each with its condition, the first whose condition holds, or else what the key is refused for
+abbrev pub first_or_key : List (Bool × Refusal) → Result UserKey KeyFault → Option Refusal
+first_or_key [] key = key_refusal key
+first_or_key ((holds, refusal) ∷ others) key = if holds then Some refusal else first_or_key others key
+
 -- the first refusal that holds of an image of so many device sectors. One of fewer than two has no logical
 -- sector. Whether components make a key is the same under every salt, so it is asked with none.
 abbrev pub early_refusal : InitOptions → Components → ℕ → Option Refusal
-early_refusal options parts sectors =
-    (if not (allows_length options.cipher options.keylen) then Some (refusals.BadKeyLength options.keylen)
-    else (if not (is_sector_size options.sectorsize) then Some (refusals.BadSectorSize options.sectorsize)
-    else (if media_sectors options.auth options.sectorsize (512 * sectors) == 0 then Some (refusals.TooSmall (512 * sectors))
-    else key_refusal (user_key parts [] options.iterations))))
+early_refusal options parts sectors = first_or_key (
+    (not (allows_length options.cipher options.keylen), refusals.BadKeyLength options.keylen)
+    ∷ (not (is_sector_size options.sectorsize), refusals.BadSectorSize options.sectorsize)
+    ∷ (media_sectors options.auth options.sectorsize (512 * sectors) == 0, refusals.TooSmall (512 * sectors))
+    ∷ []) (user_key parts [] options.iterations)

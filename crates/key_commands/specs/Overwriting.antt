@@ -1,9 +1,10 @@
 -- Slots of the metadata that are cleared and overwritten (geli(8), delkey).
-use Rattle.std.specs.Prelude.{◌≡◌, ℕ, ◌*◌, ◌<◌, ◌&&◌, not, nat_lt, bit_and, Bool, IsTrue, false, List, length, map, Option, Some, None, Ok, if◌then◌else◌}
+use Rattle.std.specs.Prelude.{◌≡◌, ℕ, ◌*◌, ◌<◌, ◌&&◌, not, nat_lt, bit_and, Bool, IsTrue, false, List, [], ◌∷◌, length, map, Option, None, Ok}
 use Rattle.std.specs.Coded.{Unit-prop, le_prop}
 use Rattle.block_traits.specs.Disk.{DiskState, last_sector}
 use Rattle.block_traits.specs.Overwriting.{overwrite_events, passes_of}
 use Rattle.block_traits.specs.declared.disk.Event.{Event}
+use Rattle.eli_base.specs.Refusals.{first_that_holds}
 use Rattle.eli_base.specs.declared.refusals.Refusal.{Refusal}
 use Rattle.eli_base.specs.declared.refusals.Refusal.TheVariants.{KeyNumberOutOfRange, KeyNotSet, LastKey}
 use Rattle.eli_metadata.specs.Checks.{is_set}
@@ -17,11 +18,11 @@ use Rattle.key_commands.specs.declared.overwriting.Which.TheVariants as slots
 -- the first refusal that holds: one slot that is named exists, holds a key, and isn't the only one that does
 abbrev pub deletion_refusal : Metadata → Which → Bool → Option Refusal
 deletion_refusal m slots.All force = None
-deletion_refusal m (slots.One slot) force =
-    (if nat_lt 1 slot then Some (KeyNumberOutOfRange slot)
-    else (if not (is_set m slot) then Some (KeyNotSet slot)
-    else (if not force && is_only_key m slot then Some (LastKey slot)
-    else None)))
+deletion_refusal m (slots.One slot) force = first_that_holds (
+    (nat_lt 1 slot, KeyNumberOutOfRange slot)
+    ∷ (not (is_set m slot), KeyNotSet slot)
+    ∷ (not force && is_only_key m slot, LastKey slot)
+    ∷ [])
 
 -- the slots that are named exist
 abbrev pub IsThere : Which → Type 0

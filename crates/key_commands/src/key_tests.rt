@@ -2,16 +2,13 @@
 // written, by tools/key_change_sectors.py.
 use crate::tests::components;
 use crate::{Which, delkey, setkey};
-use block_traits::{Disk, Event, LastSector, MetaPlace};
-use crash_disk::{CallKind, FailAt, MemDisk, MemEntropy, Pick, survivor_whole};
-use eli_base::{MasterKey, Refusal};
-use eli_metadata::{Metadata, check, decode, encode};
-use key_slots::{put_slot, unwrap, wrap};
+use block_traits::{Event, LastSector, MetaPlace};
+use crash_disk::{MemDisk, MemEntropy};
+use eli_base::MasterKey;
+use eli_metadata::{Metadata, check};
 use sha2::{Digest as _, Sha256};
 use std::alloc::Global;
-use std::process::Abort;
 use std::test::Fail;
-use user_key::{Components, PassPart, derive};
 
 // A slot, the keys and the iterations before, the iterations that are given, a passphrase, and the digest.
 struct ChangeCase {
@@ -173,42 +170,27 @@ fn history_text(alloc: Global, place: &LastSector<MemDisk>) -> Result<String, Fa
     Ok(text)
 }
 
-// Puts a key into a slot, whatever comes of it.
-fn set(
-    rt: &impl Abort,
-    place: &mut LastSector<MemDisk>,
-    meta: &Metadata,
-    slot: u8,
-    given: Option<i32>,
-    parts: &Components,
-) -> Result<Metadata, Refusal> {
-    assert!(rt; place.sectors() > 0);
-    assert!(rt; slot < 2);
-    let checked = check(meta);
-    assert!(rt; checked.is_ok());
-    setkey(place, meta, &master_key(), slot, given, parts)
-}
-
-fn delete(
-    rt: &impl Abort,
-    place: &mut LastSector<MemDisk>,
-    meta: &Metadata,
-    which: Which,
-    force: bool,
-    entropy: &mut MemEntropy,
-) -> Result<Metadata, Refusal> {
-    assert!(rt; place.sectors() > 0);
-    delkey(place, meta, which, force, entropy)
-}
-
+// A key is put into a slot, and slots are cleared.
 #[test]
-fn new_keys(rt: HostRuntime) -> Result<(), Fail> {
+fn changed_sectors(rt: HostRuntime) -> Result<(), Fail> {
     let alloc = rt.alloc();
     for (row, case) in CHANGE_CASES.iter().enumerate() {
         let mut place = new_place(alloc)?;
         let parts = components(alloc, case.passphrase)?;
         let meta = metadata(case.keys, case.kept);
-        let made = set(&rt, &mut place, &meta, case.slot, case.given, &parts);
+        let checked = check(&meta);
+        assert!(rt;
+            checked.is_ok() && place.sectors() > 0 && case.slot < 2,
+            "row {row}"
+        );
+        let made = setkey(
+            &mut place,
+            &meta,
+            &master_key(),
+            case.slot,
+            case.given,
+            &parts,
+        );
         assert!(rt; made.is_ok(), "row {row}");
         let expected = format!(in alloc; "2047 {}\nflush\n", case.digest)?;
         assert_eq!(rt;
@@ -217,46 +199,17 @@ fn new_keys(rt: HostRuntime) -> Result<(), Fail> {
             "row {row}"
         );
     }
-    Ok(())
-}
-
-#[test]
-fn refused_keys(rt: HostRuntime) -> Result<(), Fail> {
-    let alloc = rt.alloc();
-    let mut parts = components(alloc, Some(b"abd"))?;
-    let cases = [
-        (0x47, 1000, Some(5), Refusal::IterationsNeedOneKey),
-        (0x46, -1, Some(-1), Refusal::IterationsNeedOneKey),
-        (0x45, 1000, Some(-1), Refusal::PassphraseNotSet),
-    ];
-    for (keys, kept, given, refusal) in cases {
-        let mut place = new_place(alloc)?;
-        let answer = set(&rt, &mut place, &metadata(keys, kept), 0, given, &parts);
-        assert_eq!(rt; answer, Err(refusal), "{keys:#x} {kept} {given:?}");
-        assert_eq!(rt; place.disk.history().len(), 0, "{keys:#x} {kept} {given:?}");
-    }
-    let mut place = new_place(alloc)?;
-    parts.passphrase = PassPart::Missing;
-    let answer = set(&rt, &mut place, &metadata(0x45, -1), 1, None, &parts);
-    assert_eq!(rt; answer, Err(Refusal::PassphraseNotSet));
-    let answer = set(&rt, &mut place, &metadata(0x45, 0), 1, None, &parts);
-    assert_eq!(rt; answer, Err(Refusal::PassphraseNeeded));
-    parts.passphrase = PassPart::Without;
-    parts.keyfile_count = 0;
-    let answer = set(&rt, &mut place, &metadata(0x45, 0), 1, None, &parts);
-    assert_eq!(rt; answer, Err(Refusal::NoKeyComponents));
-    assert_eq!(rt; place.disk.history().len(), 0);
-    Ok(())
-}
-
-#[test]
-fn deleted_keys(rt: HostRuntime) -> Result<(), Fail> {
-    let alloc = rt.alloc();
     for (row, case) in DELETION_CASES.iter().enumerate() {
         let mut place = new_place(alloc)?;
         let mut entropy = MemEntropy::new(alloc, &random_bytes())?;
-        let meta = metadata(0x47, 1000);
-        let left = delete(&rt, &mut place, &meta, case.which, false, &mut entropy);
+        assert!(rt; place.sectors() > 0, "row {row}");
+        let left = delkey(
+            &mut place,
+            &metadata(0x47, 1000),
+            case.which,
+            false,
+            &mut entropy,
+        );
         assert!(rt; left.is_ok(), "row {row}");
         let mut expected = String::new(alloc);
         for digest in &case.digests {
@@ -269,188 +222,4 @@ fn deleted_keys(rt: HostRuntime) -> Result<(), Fail> {
         );
     }
     Ok(())
-}
-
-#[test]
-fn refused_deletions(rt: HostRuntime) -> Result<(), Fail> {
-    let alloc = rt.alloc();
-    let cases = [
-        (
-            0x47,
-            Which::One(2),
-            true,
-            Refusal::KeyNumberOutOfRange { given: 2 },
-        ),
-        (0x45, Which::One(1), true, Refusal::KeyNotSet { slot: 1 }),
-        (0x46, Which::One(1), false, Refusal::LastKey { slot: 1 }),
-        (0x46, Which::One(1), true, Refusal::EntropyFault),
-        (0x44, Which::All, false, Refusal::EntropyFault),
-    ];
-    for (keys, which, force, refusal) in cases {
-        let mut place = new_place(alloc)?;
-        let mut entropy = MemEntropy::new(alloc, &[0; 959])?;
-        let meta = metadata(keys, 1000);
-        let answer = delete(&rt, &mut place, &meta, which, force, &mut entropy);
-        assert_eq!(rt; answer, Err(refusal), "{keys:#x} {which:?} {force}");
-        assert_eq!(rt;
-            place.disk.history().len(),
-            0,
-            "{keys:#x} {which:?} {force}"
-        );
-    }
-    Ok(())
-}
-
-// A new key in slot 1, or keys that are taken out.
-#[derive(Clone, Copy, Debug)]
-enum Change {
-    Set,
-    Delete(Which),
-}
-
-// What opens the images of a crash, at each moment from the first call of the command on: `0` is slot 0 with its
-// components, `1` slot 1 with its own, `2` both, and `-` neither. There is a letter for each value that the last sector
-// may hold. At first metadata with a key in slot 0, and to delete in slot 1 too, are written and not flushed.
-const SET_MOMENTS: [&str; 3] = ["-0", "-02", "2"];
-
-const DELETE_0_MOMENTS: [&str; 13] = [
-    "-2", "-21", "1", "11", "1", "11", "1", "11", "1", "11", "1", "11", "1",
-];
-
-const DELETE_ALL_MOMENTS: [&str; 13] = [
-    "-2", "-2-", "-", "--", "-", "--", "-", "--", "-", "--", "-", "--", "-",
-];
-
-fn put_key(meta: &mut Metadata, slot: u8, parts: &Components) {
-    if let Ok(key) = derive(parts, &meta.salt, meta.iterations) {
-        if slot < 2 {
-            put_slot(meta, slot, &wrap(&master_key(), &key, 128));
-        }
-    }
-}
-
-fn opens(meta: &Metadata, slot: u8, parts: &Components) -> bool {
-    match derive(parts, &meta.salt, meta.iterations) {
-        Ok(key) if meta.keylen == 128 && slot < 2 => {
-            unwrap(meta, &key, slot) == Some(master_key())
-        }
-        _ => false,
-    }
-}
-
-fn letter_of(image: &mut MemDisk, keys: &[Components; 2]) -> char {
-    let mut bytes = [0; 512];
-    if image.sectors() < 4 || image.read(3, &mut bytes).is_err() {
-        return '?';
-    }
-    let Ok(meta) = decode(&bytes) else {
-        return '-';
-    };
-    match (opens(&meta, 0, &keys[0]), opens(&meta, 1, &keys[1])) {
-        (true, true) => '2',
-        (true, false) => '0',
-        (false, true) => '1',
-        (false, false) => '-',
-    }
-}
-
-// The letters of the images that a crash leaves behind this event.
-fn letters_at(
-    alloc: Global,
-    disk: &MemDisk,
-    keys: &[Components; 2],
-    event: usize,
-) -> Result<String, Fail> {
-    let mut letters = String::new(alloc);
-    if event >= disk.history().len() {
-        return Ok(letters);
-    }
-    for place in 0..3usize {
-        let picks = [Pick { n: 3, place }];
-        if let Ok(mut image) = survivor_whole(alloc, disk, event + 1, &picks) {
-            letters.push(letter_of(&mut image, keys))?;
-        }
-    }
-    Ok(letters)
-}
-
-fn unflushed_place(alloc: Global, meta: &Metadata) -> Result<LastSector<MemDisk>, Fail> {
-    let mut sector = [0; 512];
-    encode(meta, &mut sector);
-    let mut disk = MemDisk::new(alloc, 4, 32)?;
-    if disk.sectors() > 3 {
-        let _ = disk.write(3, &sector);
-    }
-    Ok(LastSector::new(disk))
-}
-
-// Each call of `setkey` or `delkey` fails in turn, and its event lands or doesn't.
-fn failing_calls(
-    rt: &impl Abort,
-    alloc: Global,
-    change: Change,
-    moments: &[&str],
-) -> Result<(), Fail> {
-    let keys = [
-        components(alloc, Some(b"abc"))?,
-        components(alloc, Some(b"abd"))?,
-    ];
-    let mut meta = metadata(0x44, 1);
-    put_key(&mut meta, 0, &keys[0]);
-    let calls = if let Change::Delete(_) = change {
-        put_key(&mut meta, 1, &keys[1]);
-        12
-    } else {
-        2
-    };
-    for number in 0..calls {
-        for lands in [false, true] {
-            let (kind, nth) = if number % 2 == 0 {
-                (CallKind::Write, number / 2 + 2)
-            } else {
-                (CallKind::Flush, number / 2 + 1)
-            };
-            let mut place = unflushed_place(alloc, &meta)?;
-            place.disk.fail_calls(&[FailAt { kind, nth, lands }])?;
-            let mut entropy = MemEntropy::new(alloc, &random_bytes())?;
-            let answer = match change {
-                Change::Set => set(rt, &mut place, &meta, 1, None, &keys[1]),
-                Change::Delete(which) => {
-                    delete(rt, &mut place, &meta, which, true, &mut entropy)
-                }
-            };
-            assert_eq!(rt;
-                answer,
-                Err(Refusal::DeviceFault),
-                "{change:?}, call {number}, lands: {lands}"
-            );
-            let events = place.disk.history().len();
-            assert_eq!(rt;
-                events as u64,
-                number + 1 + u64::from(lands),
-                "{change:?}, call {number}, lands: {lands}"
-            );
-            for (event, expected) in moments.iter().enumerate() {
-                if event < events {
-                    let letters = letters_at(alloc, &place.disk, &keys, event)?;
-                    assert_eq!(rt;
-                        letters.as_str(),
-                        *expected,
-                        "{change:?}, call {number}, lands: {lands}, event {event}"
-                    );
-                }
-            }
-        }
-    }
-    Ok(())
-}
-
-#[test]
-fn failing_calls_leave_the_old_or_the_new(rt: HostRuntime) -> Result<(), Fail> {
-    let alloc = rt.alloc();
-    failing_calls(&rt, alloc, Change::Set, &SET_MOMENTS)?;
-    let named = Change::Delete(Which::One(0));
-    failing_calls(&rt, alloc, named, &DELETE_0_MOMENTS)?;
-    let all = Change::Delete(Which::All);
-    failing_calls(&rt, alloc, all, &DELETE_ALL_MOMENTS)
 }

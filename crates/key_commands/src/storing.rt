@@ -6,12 +6,13 @@ ghost use Rattle.eli_metadata.specs.Format.{encoded, is_served, metadata_in};
 use block_traits::{DiskFailed, MetaPlace};
 use eli_metadata::{Metadata, encode};
 
-/// Stores metadata in their place. Metadata of a version that is served are then read again.
+/// Stores metadata in their place, and reads nothing. Metadata of a version that is served are then read again.
 pub fn store<P: MetaPlace>(place: &mut P, meta: &Metadata) -> Result<(), DiskFailed>
     requires { 0 < (P.state place.old).size }
     ensures read { IsTrue (is_served meta.now.version meta.now.flags) → metadata_in (encoded meta.now) ≡ Ok meta.now }
     ensures ok { OnOk result (Logs (store_events (P.state place.old) (encoded meta.now)) (P.state place.old) (P.state place.new)) }
     ensures err { OnErr result (FailsIn (store_events (P.state place.old) (encoded meta.now)) (P.state place.old) (P.state place.new)) }
+    ensures unasked { (P.state place.new).reads ≡ (P.state place.old).reads }
     ensures rest { P.rest place.new ≡ P.rest place.old }
 {
     let mut sector = [0; 512];

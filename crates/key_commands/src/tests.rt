@@ -2,7 +2,7 @@
 use crate::{InitOptions, init};
 use block_traits::{ByteList, Event};
 use crash_disk::{MemDisk, MemEntropy};
-use eli_base::{Auth, Cipher, Refusal};
+use eli_base::{Auth, Cipher};
 use std::alloc::{AllocError, Global};
 use std::test::Fail;
 use user_key::{Components, PassPart};
@@ -146,57 +146,6 @@ fn new_metadata_sectors(rt: HostRuntime) -> Result<(), Fail> {
         }
         let expected = format!(in alloc; "flush\n2047 {}\nflush\n", case.sector)?;
         assert_eq!(rt; events.as_str(), expected.as_str(), "row {row}");
-    }
-    Ok(())
-}
-
-#[test]
-fn refusals_leave_the_disk(rt: HostRuntime) -> Result<(), Fail> {
-    let alloc = rt.alloc();
-    let cases = [
-        (
-            InitOptions {
-                keylen: 192,
-                sectorsize: 1000,
-                ..OPTIONS
-            },
-            1,
-            Refusal::BadKeyLength { found: 192 },
-        ),
-        (
-            InitOptions {
-                sectorsize: 1000,
-                ..OPTIONS
-            },
-            1,
-            Refusal::BadSectorSize { found: 1000 },
-        ),
-        (OPTIONS, 1, Refusal::TooSmall { size: 512 }),
-        (
-            InitOptions {
-                sectorsize: 4096,
-                ..OPTIONS
-            },
-            8,
-            Refusal::TooSmall { size: 4096 },
-        ),
-        (
-            InitOptions {
-                iterations: -1,
-                ..OPTIONS
-            },
-            2,
-            Refusal::PassphraseNotSet,
-        ),
-        (OPTIONS, 2, Refusal::EntropyFault),
-    ];
-    let parts = components(alloc, Some(b"abc"))?;
-    for (options, sectors, refusal) in cases {
-        let mut disk = MemDisk::new(alloc, sectors, 8)?;
-        let mut entropy = MemEntropy::new(alloc, &[])?;
-        let answer = init(&mut disk, &options, &parts, &mut entropy);
-        assert_eq!(rt; answer, Err(refusal), "{sectors} of {options:?}");
-        assert_eq!(rt; disk.history().len(), 0, "{sectors} of {options:?}");
     }
     Ok(())
 }

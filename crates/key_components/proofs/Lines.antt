@@ -10,7 +10,7 @@ use Rattle.key_components.specs.Answers.{IsAnswer, file_answer, refused, unless_
 use Rattle.key_components.specs.Files.{file_limit, passphrase_fault}
 use Rattle.key_components.specs.Parts.{line_fault}
 
-was_loaded : (word : ℕ) (fits : Bool) (bytes file : List ℕ) → Ok file ≡ refused word (cond fits (Ok bytes) (Err TooLong)) → (fits ≡ true) × (file ≡ bytes)
+was_loaded : (word : ℕ) (fits : Bool) (bytes file : List ℕ) → Ok file ≡ refused word file_limit (cond fits (Ok bytes) (Err TooLong)) → (fits ≡ true) × (file ≡ bytes)
 was_loaded word true bytes file is = (refl, cc)
 was_loaded word false bytes file is = cc
 

@@ -1,7 +1,7 @@
 -- What loading answers, and when a refusal may come.
-use Rattle.std.specs.Prelude.{◌≡◌, ◌≤◌, ◌⊎◌, ℕ, List, ◌∷◌, ◌++◌, Option, None, Some, IfSome, Result, Ok, Err}
+use Rattle.std.specs.Prelude.{◌≡◌, ◌<◌, ◌≤◌, ◌+◌, ◌⊎◌, ℕ, List, ◌∷◌, ◌++◌, length, get_or, Option, None, Some, IfSome, Result, Ok, Err}
 use Rattle.block_traits.specs.Cabinet.{CabinetState, Files, load_answer}
-use Rattle.block_traits.specs.Causes.{Rose}
+use Rattle.block_traits.specs.Causes.{Counted, Rose}
 use Rattle.block_traits.specs.declared.cabinet.LoadFault.{LoadFault}
 use Rattle.block_traits.specs.declared.cabinet.LoadFault.TheVariants as load
 use Rattle.command_words.specs.declared.spans.Span.{Span}
@@ -16,20 +16,24 @@ abbrev pub unless_refused : {T : Type 0} → Option Refusal → T → Result T R
 unless_refused None value = Ok value
 unless_refused (Some refusal) value = Err refusal
 
--- the refusal of a file that the word names, by what a load of it answers
-abbrev pub refusal_of : ℕ → LoadFault → Refusal
-refusal_of word load.Absent = FileAbsent word
-refusal_of word load.TooLong = FileTooLong word file_limit
-refusal_of word load.Failed = CabinetFault word
-refusal_of word load.NoMemory = NoMemory
+-- the refusal of a file that the word names, by what a load of it answers; one that is too long names this limit
+abbrev pub refusal_of : ℕ → ℕ → LoadFault → Refusal
+refusal_of word named load.Absent = FileAbsent word
+refusal_of word named load.TooLong = FileTooLong word named
+refusal_of word named load.Failed = CabinetFault word
+refusal_of word named load.NoMemory = NoMemory
+
+abbrev pub refused : ℕ → ℕ → Result (List ℕ) LoadFault → Result (List ℕ) Refusal
+refused word named (Ok bytes) = Ok bytes
+refused word named (Err fault) = Err (refusal_of word named fault)
+
+-- the answer for one file that has room for so many bytes, of a limit that other files may share
+abbrev pub room_answer : ℕ → ℕ → ℕ → Option (List ℕ) → Result (List ℕ) Refusal
+room_answer word named room file = refused word named (load_answer file room)
 
 -- the answer for one file of a limited length
-abbrev pub refused : ℕ → Result (List ℕ) LoadFault → Result (List ℕ) Refusal
-refused word (Ok bytes) = Ok bytes
-refused word (Err fault) = Err (refusal_of word fault)
-
 abbrev pub file_answer : ℕ → ℕ → Option (List ℕ) → Result (List ℕ) Refusal
-file_answer word limit file = refused word (load_answer file limit)
+file_answer word limit file = room_answer word limit limit file
 
 -- it is refused so, or the cabinet failed, or there was no memory; every other refusal is the answer
 abbrev pub IsRefusal : {T : Type 0} → Result T Refusal → Refusal → Type 0
@@ -81,6 +85,17 @@ word_of (refusals.NotGrown size given) = None
 word_of (refusals.TooSmall size) = None
 word_of (refusals.BadLength given sectorsize) = None
 word_of refusals.KeyNumberNeeded = None
+word_of refusals.QueueFull = None
+word_of (refusals.NoRequest tag) = None
+word_of (refusals.RequestNotDone tag left) = None
+word_of (refusals.RequestDone tag) = None
+word_of (refusals.RequestsOpen count) = None
+word_of refusals.Suspended = None
+word_of refusals.NotSuspended = None
+word_of refusals.DifferentKey = None
+word_of (refusals.BadPlace place media) = None
+word_of refusals.NotAuthenticated = None
+word_of (refusals.BadPlaceFile word length) = Some word
 
 -- The word is that of a file, and the files before it are without fault, where that is told.
 pub record IsAt (taking : Taking) (told : Option Files) (line : List ℕ) (spans : List Span) (word : ℕ) : Type 0 where
@@ -102,23 +117,39 @@ pub record KeepsFiles (old new : CabinetState) : Type 0 where
   pub faults : old.faults ≤ new.faults
   pub misses : old.misses ≤ new.misses
 
--- whether one file may be refused so, by what the cabinet was before and is now; no other refusal comes
-abbrev pub MayRefuse : CabinetState → CabinetState → Refusal → Type 0
-MayRefuse old new (CabinetFault word) = Rose old.faults new.faults
-MayRefuse old new (FileAbsent word) = Rose old.misses new.misses
-MayRefuse old new (FileTooLong word limit) = (limit ≡ file_limit) × Rose old.misses new.misses
-MayRefuse old new NoMemory = Unit {0}
-MayRefuse old new refusal = ⊥
+-- whether one file of this limit may be refused so, by what the cabinet was before and is now; no other refusal comes
+abbrev pub MayRefuse : ℕ → CabinetState → CabinetState → Refusal → Type 0
+MayRefuse named old new (CabinetFault word) = Rose old.faults new.faults
+MayRefuse named old new (FileAbsent word) = Rose old.misses new.misses
+MayRefuse named old new (FileTooLong word limit) = (limit ≡ named) × Rose old.misses new.misses
+MayRefuse named old new NoMemory = Unit {0}
+MayRefuse named old new refusal = ⊥
 
 -- the same of a passphrase file, whose first line may be too long besides: of that the cabinet counts nothing
 abbrev pub MayRefusePassphrase : CabinetState → CabinetState → Refusal → Type 0
-MayRefusePassphrase old new (FileTooLong word limit) = MayRefuse old new (FileTooLong word limit) ⊎ (limit ≡ passphrase_limit)
-MayRefusePassphrase old new refusal = MayRefuse old new refusal
+MayRefusePassphrase old new (FileTooLong word limit) = MayRefuse file_limit old new (FileTooLong word limit) ⊎ (limit ≡ passphrase_limit)
+MayRefusePassphrase old new refusal = MayRefuse file_limit old new refusal
+
+-- the word of the file at a place
+abbrev pub word_at : List Span → ℕ → ℕ
+word_at files place = (get_or files place (record { start = 0; end = 0; word = 0 })).word
+
+-- loading stopped at one of these files: those before it and it were loaded, no other, and a word that is named is its own
+pub record StopsLoading (files : List Span) (old : CabinetState) (refusal : Refusal) (new : CabinetState) : Type 0 where
+  pub place : ℕ
+  pub within : place < length files
+  pub named : IfSome (word_of refusal) (λ word. word_at files place ≡ word)
+  pub asked : Counted (place + 1) old.loads new.loads
+
+-- these files were loaded, one after another, and no other, up to the one that was refused
+abbrev pub LoadsEach : {T : Type 0} → List Span → CabinetState → Result T Refusal → CabinetState → Type 0
+LoadsEach files old (Ok value) new = Counted (length files) old.loads new.loads
+LoadsEach files old (Err refusal) new = StopsLoading files old refusal new
 
 -- loading stopped at a key file that was reached, with a refusal that may come there
 pub record StopsAtKeyFile (line : List ℕ) (words : KeyWords) (old : CabinetState) (refusal : Refusal) (new : CabinetState) : Type 0 where
   pub word : IfSome (word_of refusal) (IsAt key_files old.files line words.files)
-  pub cause : MayRefuse old new refusal
+  pub cause : MayRefuse file_limit old new refusal
 
 -- it stopped so at a passphrase file
 pub record StopsAtPassphraseFile (line : List ℕ) (words : KeyWords) (old : CabinetState) (refusal : Refusal) (new : CabinetState) : Type 0 where

@@ -15,7 +15,7 @@ taking_of Passphrase = passphrase_files
 
 -- whether a file of the kind may be refused so
 abbrev pub MayRefuseOf : Part → CabinetState → CabinetState → Refusal → Type 0
-MayRefuseOf KeyFiles = MayRefuse
+MayRefuseOf KeyFiles = MayRefuse file_limit
 MayRefuseOf Passphrase = MayRefusePassphrase
 
 -- what is wrong with the first line of a file, where so many bytes counted before it

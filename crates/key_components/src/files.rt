@@ -1,7 +1,8 @@
 // One file of a key.
 ghost use Rattle.std.specs.Prelude.{◌≡◌, ◌≤◌, length, IfOk, IfErr, IfSome};
 ghost use Rattle.command_words.specs.Places.{IsWithin, bytes_at};
-ghost use Rattle.key_components.specs.Answers.{IsAnswer, KeepsFiles, MayRefuse, file_answer, refusal_of, word_of};
+ghost use Rattle.block_traits.specs.Causes.{Counted};
+ghost use Rattle.key_components.specs.Answers.{IsAnswer, KeepsFiles, MayRefuse, file_answer, refusal_of, room_answer, word_of};
 
 use block_traits::{ByteList, Cabinet, LoadFault};
 use command_words::Span;
@@ -11,22 +12,22 @@ use std::alloc::Global;
 /// The most bytes of a file, and of all key files of one option together.
 pub const FILE_LIMIT: usize = 1_048_576;
 
-// The refusal of the file that the word names, by what a load of it answered.
-fn refusal(word: u32, fault: LoadFault) -> Refusal
-    ensures { result ≡ refusal_of word fault }
+// The refusal of the file that the word names, by what a load of it answered; one that is too long names this limit.
+fn refusal(word: u32, named: usize, fault: LoadFault) -> Refusal
+    ensures { result ≡ refusal_of word named fault }
 {
     match fault {
         LoadFault::Absent => Refusal::FileAbsent { word },
         LoadFault::TooLong => Refusal::FileTooLong {
             word,
-            limit: FILE_LIMIT as u64,
+            limit: named as u64,
         },
         LoadFault::Failed => Refusal::CabinetFault { word },
         LoadFault::NoMemory => Refusal::NoMemory,
     }
 }
 
-/// Loads the file that a span of the line names, if it has at most `limit` bytes.
+/// Loads the file that a span of the line names, if it has at most `limit` bytes: one load of the cabinet.
 pub fn load_file<C: Cabinet>(
     alloc: Global,
     line: &[u8],
@@ -38,11 +39,32 @@ pub fn load_file<C: Cabinet>(
     ensures answer { IfSome (C.state files.old).files (λ told. IsAnswer (file_answer span.word limit (told (bytes_at line.now span))) result) }
     ensures within { IfOk result (λ bytes. length bytes ≤ limit) }
     ensures word { IfErr result (λ refusal. IfSome (word_of refusal) (λ word. span.word ≡ word)) }
-    ensures cause { IfErr result (MayRefuse (C.state files.old) (C.state files.new)) }
+    ensures cause { IfErr result (MayRefuse limit (C.state files.old) (C.state files.new)) }
     ensures keeps { KeepsFiles (C.state files.old) (C.state files.new) }
+    ensures asked { Counted 1 (C.state files.old).loads (C.state files.new).loads }
 {
-    match files.load(alloc, span.bytes_in(line), limit as u64) {
+    load_within(alloc, line, span, limit, limit, files)
+}
+
+// Loads the file that a span of the line names, if it has at most `room` bytes, which is what is left of a limit.
+pub(crate) fn load_within<C: Cabinet>(
+    alloc: Global,
+    line: &[u8],
+    span: Span,
+    named: usize,
+    room: usize,
+    files: &mut C,
+) -> Result<ByteList, Refusal>
+    requires { IsWithin (length line.now) span }
+    ensures answer { IfSome (C.state files.old).files (λ told. IsAnswer (room_answer span.word named room (told (bytes_at line.now span))) result) }
+    ensures within { IfOk result (λ bytes. length bytes ≤ room) }
+    ensures word { IfErr result (λ refusal. IfSome (word_of refusal) (λ word. span.word ≡ word)) }
+    ensures cause { IfErr result (MayRefuse named (C.state files.old) (C.state files.new)) }
+    ensures keeps { KeepsFiles (C.state files.old) (C.state files.new) }
+    ensures asked { Counted 1 (C.state files.old).loads (C.state files.new).loads }
+{
+    match files.load(alloc, span.bytes_in(line), room as u64) {
         Ok(bytes) => Ok(bytes),
-        Err(fault) => Err(refusal(span.word, fault)),
+        Err(fault) => Err(refusal(span.word, named, fault)),
     }
 }

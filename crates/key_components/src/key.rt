@@ -1,7 +1,7 @@
 // The components of a key.
-ghost use Rattle.std.specs.Prelude.{◌≡◌, ◌+◌, ◌≤◌, length, IfOk, IfErr, IfSome};
+ghost use Rattle.std.specs.Prelude.{◌≡◌, ◌+◌, ◌++◌, ◌≤◌, length, IfOk, IfErr, IfSome};
 ghost use Rattle.command_words.specs.Places.{KeyIsWithin};
-ghost use Rattle.key_components.specs.Answers.{IsAnswer, KeepsFiles, StopsAtFile};
+ghost use Rattle.key_components.specs.Answers.{IsAnswer, KeepsFiles, LoadsEach, StopsAtFile};
 ghost use Rattle.key_components.specs.Key.{FitsWords, components_of, passphrase_of};
 
 use crate::parts::{Part, load_part};
@@ -34,6 +34,7 @@ fn pass_part(words: &KeyWords, passphrase: ByteList) -> PassPart
 /// `FileAbsent` where there is no such file, `FileTooLong` of 1,048,576 bytes where the key files up to
 /// this one have more, or a passphrase file alone, and of 1,024 bytes where the first lines up to that
 /// of this file have more. `NoMemory` may come at any load. Where no file is named nothing is refused.
+#[tactic(auto, using(crate::proofs::Causes::stops_behind))]
 pub fn load_components<C: Cabinet>(
     alloc: Global,
     line: &[u8],
@@ -53,6 +54,9 @@ pub fn load_components<C: Cabinet>(
 
     // Where no file is named nothing is refused.
     ensures named { IfErr result (λ _. 1 ≤ length words.now.files + length words.now.pass) }
+
+    // One file after another is loaded, each once, and none behind the one whose word is named.
+    ensures asked { LoadsEach (words.now.files ++ words.now.pass) (C.state files.old) result (C.state files.new) }
 
     // No file changes, and no count falls.
     ensures keeps { KeepsFiles (C.state files.old) (C.state files.new) }

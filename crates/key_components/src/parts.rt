@@ -1,12 +1,13 @@
 // The files of one option of a key.
 ghost use Rattle.std.specs.Prelude.{◌≡◌, ◌+◌, ◌≤◌, ◌⊎◌, All, length, IfOk, IfErr, IfSome};
+ghost use Rattle.block_traits.specs.Causes.{Counted};
 ghost use Rattle.command_words.specs.Places.{IsWithin, bytes_at};
 ghost use Rattle.user_key.specs.Passphrase.{first_line};
-ghost use Rattle.key_components.specs.Answers.{IsAnswer, IsAt, KeepsFiles, unless_refused, word_of};
+ghost use Rattle.key_components.specs.Answers.{IsAnswer, IsAt, KeepsFiles, LoadsEach, unless_refused, word_of};
 ghost use Rattle.key_components.specs.Files.{content, first_fault, joined, passphrase_limit};
 ghost use Rattle.key_components.specs.Parts.{MayRefuseOf, limit_of, line_fault, taking_of};
 
-use crate::files::{FILE_LIMIT, load_file};
+use crate::files::{FILE_LIMIT, load_file, load_within};
 use block_traits::{ByteList, Cabinet};
 use command_words::Span;
 use eli_base::Refusal;
@@ -63,9 +64,12 @@ impl Part {
         ensures word { IfErr result (λ refusal. IfSome (word_of refusal) (λ word. span.word ≡ word)) }
         ensures cause { IfErr result (MayRefuseOf self (C.state files.old) (C.state files.new)) }
         ensures keeps { KeepsFiles (C.state files.old) (C.state files.new) }
+        ensures asked { Counted 1 (C.state files.old).loads (C.state files.new).loads }
     {
         match self {
-            Part::KeyFiles => load_file(alloc, line, span, FILE_LIMIT - used, files),
+            Part::KeyFiles => {
+                load_within(alloc, line, span, FILE_LIMIT, FILE_LIMIT - used, files)
+            }
             Part::Passphrase => {
                 let file = load_file(alloc, line, span, FILE_LIMIT, files)?;
                 take_line(alloc, file.as_slice(), span.word, used)
@@ -90,6 +94,7 @@ pub fn load_part<C: Cabinet>(
     ensures named { IfErr result (λ _. 1 ≤ length spans.now) }
     ensures cause { IfErr result (MayRefuseOf part (C.state files.old) (C.state files.new)) }
     ensures keeps { KeepsFiles (C.state files.old) (C.state files.new) }
+    ensures asked { LoadsEach spans.now (C.state files.old) result (C.state files.new) }
 {
     let mut joined = Vec::new(alloc);
     for span in spans {

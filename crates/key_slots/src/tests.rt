@@ -1,11 +1,6 @@
-// Slots of another implementation, and slots that are altered.
-ghost use Rattle.std.specs.Prelude.{◌≡◌};
-ghost use Rattle.key_slots.specs.Slots.{IsKeyBits};
-
-use crate::{clear_slot, put_slot, unwrap, unwrap_any, wrap};
+// Slots of another implementation.
+use crate::wrap;
 use eli_base::MasterKey;
-use eli_metadata::Metadata;
-use std::process::Abort;
 use std::test::Fail;
 use user_key::UserKey;
 
@@ -60,25 +55,6 @@ fn master_key() -> MasterKey {
     MasterKey { bytes }
 }
 
-// Metadata of AES-XTS without a key in either slot.
-fn metadata(keylen: u16) -> Metadata
-    ensures { result.keylen ≡ keylen }
-{
-    Metadata {
-        version: 7,
-        flags: 0x200,
-        ealgo: 22,
-        keylen,
-        aalgo: 0,
-        provsize: 1 << 20,
-        sectorsize: 4096,
-        keys: 0x44,
-        iterations: 1000,
-        salt: [0x5a; 64],
-        mkeys: [0xa5; 384],
-    }
-}
-
 #[test]
 fn wrapped_slots(rt: HostRuntime) -> Result<(), Fail> {
     for case in &SLOT_CASES {
@@ -88,64 +64,4 @@ fn wrapped_slots(rt: HostRuntime) -> Result<(), Fail> {
         assert_eq!(rt; slot.as_str(), case.slot, "{keylen}");
     }
     Ok(())
-}
-
-// One flipped bit anywhere in the slot, and it opens no more.
-fn opens_unless_altered(rt: &impl Abort, meta: &Metadata)
-    requires { IsKeyBits meta.now.keylen }
-{
-    assert_eq!(rt;
-        unwrap(meta, &USER_KEY, 1),
-        Some(master_key()),
-        "{}",
-        meta.keylen
-    );
-    assert_eq!(rt;
-        unwrap_any(meta, &USER_KEY),
-        Some((master_key(), 1)),
-        "{}",
-        meta.keylen
-    );
-    for place in 0..192usize {
-        let mut altered = *meta;
-        altered.mkeys[192 + place] ^= 1 << (place % 8);
-        assert_eq!(rt;
-            unwrap(&altered, &USER_KEY, 1),
-            None,
-            "{} bits, byte {place}",
-            meta.keylen
-        );
-    }
-}
-
-#[test]
-fn slot_round_trip(rt: HostRuntime) {
-    for keylen in [128u16, 192, 256] {
-        assert!(rt; keylen == 128 || keylen == 192 || keylen == 256, "{keylen}");
-        let mut meta = metadata(keylen);
-        put_slot(&mut meta, 1, &wrap(&master_key(), &USER_KEY, keylen));
-        assert_eq!(rt; meta.keys, 0x46, "{keylen}");
-        opens_unless_altered(&rt, &meta);
-        let mut unset = meta;
-        unset.keys &= !2;
-        assert_eq!(rt; unwrap(&unset, &USER_KEY, 1), None, "{keylen}");
-        assert_eq!(rt; unwrap_any(&unset, &USER_KEY), None, "{keylen}");
-        clear_slot(&mut meta, 1, &[0x55; 192]);
-        assert_eq!(rt; unwrap(&meta, &USER_KEY, 1), None, "{keylen}");
-        assert_eq!(rt; unwrap_any(&meta, &USER_KEY), None, "{keylen}");
-        assert_eq!(rt; meta.keys, 0x44, "{keylen}");
-        assert_eq!(rt; &meta.mkeys[..192], [0xa5; 192].as_slice(), "{keylen}");
-        assert_eq!(rt; &meta.mkeys[192..], [0x55; 192].as_slice(), "{keylen}");
-    }
-}
-
-// Both slots open with one user key, each to a master key of its own.
-#[test]
-fn slot_0_comes_first(rt: HostRuntime) {
-    let mut meta = metadata(128);
-    let other = MasterKey { bytes: [0x77; 128] };
-    put_slot(&mut meta, 1, &wrap(&master_key(), &USER_KEY, 128));
-    put_slot(&mut meta, 0, &wrap(&other, &USER_KEY, 128));
-    assert_eq!(rt; unwrap_any(&meta, &USER_KEY), Some((other, 0)));
-    assert_eq!(rt; unwrap(&meta, &USER_KEY, 1), Some(master_key()));
 }

@@ -14,7 +14,7 @@ parts-suc (suc n) bytes =
     ∙ ap (λ (d : List ℕ). parts 512 n (drop 512 bytes) ++ take 512 d ∷ []) (drop-drop (512 * n) 512 bytes ∙ ap (λ (m : ℕ). drop m bytes) more))
 
 -- parts depend on the bytes that they have alone
-parts-front : (n : ℕ) (xs ys : List ℕ) → take (512 * n) xs ≡ take (512 * n) ys → parts 512 n xs ≡ parts 512 n ys
+pub parts-front : (n : ℕ) (xs ys : List ℕ) → take (512 * n) xs ≡ take (512 * n) ys → parts 512 n xs ≡ parts 512 n ys
 parts-front zero xs ys e = refl
 parts-front (suc n) xs ys e =
     let more : 512 * suc n ≡ 512 + 512 * n = omega arith in

@@ -8,3 +8,4 @@ pub mod Checked
 pub mod Sealed
 pub mod Told
 pub mod Adjoining
+pub mod InMemory

@@ -11,7 +11,7 @@ use Rattle.provider.specs.Writing.{writes_from, sector_writes}
 use Rattle.provider.proofs.Ranges.{units-off}
 
 -- a sector at a multiple of its size is the one of that number
-number_at : (sector size : ℕ) (k : Keying) → size ≡ k.sectorsize → 0 < size → sector * size / k.sectorsize ≡ sector
+pub number_at : (sector size : ℕ) (k : Keying) → size ≡ k.sectorsize → 0 < size → sector * size / k.sectorsize ≡ sector
 number_at sector size k same some = ap (λ (s : ℕ). sector * size / s) (sym same) ∙ mul-div_cancel sector some
 
 -- what is written are the writes of the sector

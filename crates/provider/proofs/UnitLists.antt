@@ -1,5 +1,5 @@
 -- Logical sectors with authentication, piece by piece.
-use Rattle.std.proofs.Common.{◌≡◌, ◌≢◌, ℕ, zero, suc, ◌+◌, ◌-◌, ◌*◌, ◌%◌, ◌<◌, ◌≤◌, min, List, [], ◌∷◌, ◌++◌, length, get_or, take, drop, Option, Some, None, IfSome, Result, Ok, Err, IsOk, OnErr, map, subst, refl, sym, ap, ◌∙◌, arith, add-one}
+use Rattle.std.proofs.Common.{◌≡◌, ◌≢◌, ℕ, zero, suc, ◌+◌, ◌-◌, ◌*◌, ◌%◌, ◌<◌, ◌≤◌, min, true, false, List, [], ◌∷◌, ◌++◌, length, get_or, take, drop, Option, Some, None, IfSome, Result, Ok, Err, IsOk, is_ok, OnErr, map, subst, refl, sym, ap, ◌∙◌, arith, add-one}
 use Rattle.std.specs.List.{concat}
 use Rattle.std.proofs.Math.Seq.{take-suc, drop-cons}
 use Rattle.std.proofs.lemmas.List.{take_all, take_min, drop_all, length-take-le, length-drop, take-append-drop}
@@ -20,7 +20,7 @@ use Rattle.eli_base.proofs.Units.{units_reach}
 use Rattle.sealing.specs.Pieces.{opened_piece, sealed_piece}
 use Rattle.sealing.specs.Parts.{parts}
 use Rattle.sealing.specs.Runs.{opened_run}
-use Rattle.sealing.specs.Sectors.{before, joined, opened_with, seal, units}
+use Rattle.sealing.specs.Sectors.{before, joined, opened_with, piece_reading, piece_size, seal, units}
 use Rattle.sealing.proofs.PartLists.{part}
 use Rattle.sealing.proofs.Pieces.{sealed_unit-tagged, unit_reading-tagged, length-unit_readings-tagged}
 use Rattle.sealing.proofs.Sectors.{length-seal}
@@ -55,11 +55,38 @@ is_unit Sha384 size j start end low whole lt s e =
 is_unit Sha512 size j start end low whole lt s e =
     record { starts = omega arith; at_least = omega arith; at_most = omega arith; blocks = omega arith; order = omega arith; within = omega arith; bytes = omega arith; next = omega arith }
 
+unit_begins : (auth : Auth) (size j : ℕ) → 512 ≤ size → j < units_per_sector auth size → unit_bytes_of auth * j < size
+unit_begins Off size j low lt = omega arith
+unit_begins Sha256 size j low lt = omega arith
+unit_begins Sha384 size j low lt = omega arith
+unit_begins Sha512 size j low lt = omega arith
+
+-- the same of the unit that begins at its number times the width of one
+pub is_unit_at : (auth : Auth) (size width j start end : ℕ) → 512 ≤ size → size % 512 ≡ 0 → j < units_per_sector auth size → width ≡ unit_bytes_of auth → start ≡ j * width
+    → end ≡ min size (start + width) → IsUnit auth size j start end
+is_unit_at auth size width j start end low whole lt wide s e =
+    let begins = unit_begins auth size j low lt in
+    let place : start ≡ unit_bytes_of auth * j = s ∙ ap (λ (w : ℕ). j * w) wide ∙ (let swapped : j * unit_bytes_of auth ≡ unit_bytes_of auth * j = omega arith in swapped) in
+    is_unit auth size j start end low whole lt (omega (arith, begins, place)) (e ∙ ap (λ (w : ℕ). min size (start + w)) wide)
+
 pub length-between : (start end : ℕ) (bytes : List ℕ) → start ≤ end → end ≤ length bytes → length (take (end - start) (drop start bytes)) ≡ end - start
 length-between start end bytes order within = length-take-le (end - start) (drop start bytes) (omega (arith, length-drop start bytes))
 
 pub none_yet : (width size : ℕ) → 0 ≡ min (width * 0) size
 none_yet width size = omega arith
+
+-- a piece that was opened is accepted, and another isn't
+pub accepts : (k : Keying) (n size start : ℕ) (buffer from bytes : List ℕ) → start ≤ length buffer → size ≡ start → start ≡ piece_size k n
+    → opened_piece k (512 * n) (length (take size buffer)) from ≡ Ok bytes → true ≡ is_ok (piece_reading k n from)
+accepts k n size start buffer from bytes room same is h =
+    let long : length (take size buffer) ≡ piece_size k n = length-take-le size buffer (omega arith) ∙ same ∙ is in
+    sym (ap (λ (r : Result (List ℕ) ℕ). is_ok r) (sym (ap (λ (m : ℕ). opened_piece k (512 * n) m from) long) ∙ h))
+
+pub refuses : (k : Keying) (n size start : ℕ) (buffer from : List ℕ) (offset : ℕ) → start ≤ length buffer → size ≡ start → start ≡ piece_size k n
+    → opened_piece k (512 * n) (length (take size buffer)) from ≡ Err offset → false ≡ is_ok (piece_reading k n from)
+refuses k n size start buffer from offset room same is h =
+    let long : length (take size buffer) ≡ piece_size k n = length-take-le size buffer (omega arith) ∙ same ∙ is in
+    sym (ap (λ (r : Result (List ℕ) ℕ). is_ok r) (sym (ap (λ (m : ℕ). opened_piece k (512 * n) m from) long) ∙ h))
 
 -- ---- reading
 

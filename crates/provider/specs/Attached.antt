@@ -1,8 +1,8 @@
 -- An attached provider: a disk whose data are read and written under a keying (geli(8), "attach").
-use Rattle.std.specs.Prelude.{◌≡◌, ℕ, ◌*◌, Bool, List, Option, Some, None}
+use Rattle.std.specs.Prelude.{◌≡◌, ℕ, ◌*◌, Bool, true, false, List, Option, Some, None}
 use Rattle.block_traits.specs.Disk.{DiskState}
 use Rattle.eli_base.specs.declared.algorithms.Auth.{Auth}
-use Rattle.eli_base.specs.declared.algorithms.Auth.TheVariants.{Off}
+use Rattle.eli_base.specs.declared.algorithms.Auth.TheVariants.{Off, Sha256, Sha384, Sha512}
 use Rattle.eli_base.specs.declared.parameters.MasterKey.{MasterKey}
 use Rattle.eli_base.specs.Keying.{Keying}
 use Rattle.eli_base.specs.Units.{media_sectors}
@@ -25,6 +25,13 @@ pub record IsKept {D : Type 0} (old new : Attached D) : Type 0 where
 -- the logical sectors that a disk has room for under a keying
 abbrev pub media : Keying → DiskState → ℕ
 media k d = media_sectors k.auth k.sectorsize (512 * d.size)
+
+-- whether each device sector has a tag
+abbrev pub has_tags : Auth → Bool
+has_tags Off = false
+has_tags Sha256 = true
+has_tags Sha384 = true
+has_tags Sha512 = true
 
 -- the bytes of the buffer that a provider keeps: a logical sector without authentication, where a whole one is sealed in place,
 -- and none with it, where one device sector is sealed after the other

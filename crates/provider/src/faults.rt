@@ -42,3 +42,11 @@ pub enum WriteFault {
     #[error("the device failed")]
     DeviceFault,
 }
+
+/// The tag of the unit at this byte offset of the device isn't that of its cipher text.
+#[derive(Clone, Copy, Debug, PartialEq, Eq, Error)]
+#[error("the tag at byte {offset} differs")]
+pub struct BadUnit {
+    /// The unit's byte offset on the device.
+    pub offset: u64,
+}

@@ -10,11 +10,12 @@ mod laws;
 mod pieces;
 mod provider;
 mod runs;
+mod sectors;
 #[cfg(test)]
 mod tests;
 mod units;
 
 pub use attaching::opened;
-pub use faults::{AttachFault, ReadFault, WriteFault};
+pub use faults::{AttachFault, BadUnit, ReadFault, WriteFault};
 pub use laws::rest_tells_all;
 pub use provider::Provider;

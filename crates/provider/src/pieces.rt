@@ -1,9 +1,9 @@
 // Logical sectors with authentication, piece by piece.
-ghost use Rattle.std.specs.Prelude.{◌≡◌, ◌≢◌, ◌+◌, ◌*◌, ◌<◌, ◌≤◌, ◌%◌, min, OnOk, OnErr, length};
+ghost use Rattle.std.specs.Prelude.{◌≡◌, ◌≢◌, ◌+◌, ◌*◌, ◌^◌, ◌<◌, ◌≤◌, ◌%◌, min, OnOk, OnErr, is_ok, length};
 ghost use Rattle.block_traits.specs.Disk.{FailsIn, Logs};
 ghost use Rattle.eli_base.specs.declared.algorithms.Auth.TheVariants.{Off};
 ghost use Rattle.eli_base.specs.Units.{unit_bytes_of};
-ghost use Rattle.sealing.specs.Sectors.{units};
+ghost use Rattle.sealing.specs.Sectors.{piece_reading, units};
 ghost use Rattle.provider.specs.Reads.{PieceAnswers, SectorAnswers};
 ghost use Rattle.provider.specs.Writing.{sector_writes};
 
@@ -13,7 +13,7 @@ use block_traits::{Disk, DiskFailed, Sector};
 use range_keys::KeyRing;
 
 // Where the unit ends that begins at `start`, in a logical sector of so many bytes.
-fn unit_end(size: usize, start: usize, width: usize) -> usize
+pub fn unit_end(size: usize, start: usize, width: usize) -> usize
     requires { start ≤ size }
     ensures { result ≡ min size (start + width) }
 {
@@ -47,6 +47,26 @@ fn read_piece<D: Disk>(
     match open_piece(ring, offset, &sector, piece) {
         Ok(()) => Ok(()),
         Err(_) => Err(ReadFault::Integrity { offset }),
+    }
+}
+
+/// Whether these bytes are accepted as the piece in device sector `n`, of logical sectors of `size` bytes.
+pub fn piece_ok(ring: &mut KeyRing, n: u64, size: usize, from: &Sector) -> bool
+    requires on { ring.old.keying.auth ≢ Off }
+    requires size { size ≡ ring.old.keying.sectorsize }
+    requires small { n < 2 ^ 44 }
+    ensures answer { result ≡ is_ok (piece_reading ring.old.keying n from.now) }
+    ensures keying { ring.new.keying ≡ ring.old.keying }
+{
+    ring.is_of_a_keying();
+    let width = ring.auth().data_bytes();
+    let units = (size - 1) / width + 1;
+    let start = (n % units as u64) as usize * width;
+    let end = unit_end(size, start, width);
+    let mut piece: Sector = [0; 512];
+    match open_piece(ring, 512 * n, from, &mut piece[..end - start]) {
+        Ok(()) => true,
+        Err(_) => false,
     }
 }
 
@@ -90,6 +110,7 @@ pub fn write_pieces<D: Disk>(
     requires inside { sector * units ring.old.keying + units ring.old.keying ≤ (D.state disk.old).size }
     ensures ok { OnOk result (Logs (sector_writes ring.old.keying sector from.now) (D.state disk.old) (D.state disk.new)) }
     ensures err { OnErr result (FailsIn (sector_writes ring.old.keying sector from.now) (D.state disk.old) (D.state disk.new)) }
+    ensures unasked { (D.state disk.new).reads ≡ (D.state disk.old).reads }
     ensures keying { ring.new.keying ≡ ring.old.keying }
 {
     ring.is_of_a_keying();

@@ -1,18 +1,23 @@
 // A disk that is read and written under a keying.
-ghost use Rattle.std.specs.Prelude.{◌≡◌, ℕ, ◌+◌, ◌*◌, ◌/◌, ◌%◌, ◌<◌, ◌≤◌, ◌↔◌, ◌∷◌, [], List, IsTrue, OnOk, OnErr, length, replicate};
-ghost use Rattle.block_traits.specs.Disk.{DiskState, FailsIn, Logs};
+ghost use Rattle.std.specs.Prelude.{◌≡◌, ◌≢◌, ℕ, ◌+◌, ◌*◌, ◌/◌, ◌%◌, ◌<◌, ◌≤◌, ◌↔◌, ◌∷◌, [], List, IsTrue, OnOk, OnErr, Ok, Err, MatchResult, is_ok, length, replicate};
+ghost use Rattle.std.specs.List.{concat};
+ghost use Rattle.block_traits.specs.Causes.{Counted};
+ghost use Rattle.block_traits.specs.Disk.{DiskState, FailsIn, Gives, Logs};
 ghost use Rattle.eli_base.specs.Units.{media_sectors};
 ghost use Rattle.eli_metadata.specs.Checks.{settings_of, size_matches, slot_matches, supported};
 ghost use Rattle.provider.specs.Answers.{AttachAnswers, Means, ReadAnswers, Target, WriteAnswers, request};
-ghost use Rattle.provider.specs.Attached.{IsKept, media};
+ghost use Rattle.provider.specs.Attached.{IsKept, has_tags, media};
 ghost use Rattle.provider.specs.Rest.{rest_of};
 ghost use Rattle.range_keys.specs.Ring.{IsKeying};
+ghost use Rattle.sealing.specs.Sectors.{device_sectors, piece_reading, reading, seal, units};
 
 use crate::attaching::{opened, reserve};
+use crate::pieces::piece_ok;
 use crate::runs::{read_run, write_run};
-use crate::{AttachFault, ReadFault, WriteFault};
+use crate::sectors::{open_sector, seal_sector};
+use crate::{AttachFault, BadUnit, ReadFault, WriteFault};
 use block_traits::{Disk, DiskFailed, Event, MetaPlace, Sector, load_last, store_last};
-use eli_base::{Auth, Geometry, MasterKey, Params};
+use eli_base::{Auth, Cipher, Geometry, MasterKey, Params};
 use eli_metadata::Metadata;
 use range_keys::KeyRing;
 use std::alloc::Global;
@@ -126,6 +131,25 @@ impl<D: Disk> Provider<D> {
         media_on(&self.disk, self.params.auth, self.params.sectorsize)
     }
 
+    /// How many device sectors a logical sector takes.
+    pub fn units(&self) -> u64
+        ensures units { result ≡ units self.now.keying }
+        ensures at_least { 1 ≤ result }
+        ensures at_most { result ≤ 147 }
+    {
+        (u64::from(self.params.sectorsize) - 1) / self.params.auth.data_bytes() as u64 + 1
+    }
+
+    /// Whether the data are authenticated.
+    pub fn authenticated(&self) -> bool
+        ensures { result ≡ has_tags self.now.keying.auth }
+    {
+        match self.params.auth {
+            Auth::Off => false,
+            Auth::Sha256 | Auth::Sha384 | Auth::Sha512 => true,
+        }
+    }
+
     /// The number of the slot that gave the master key.
     pub fn slot(&self) -> u8
         ensures { result ≡ self.now.slot }
@@ -138,6 +162,13 @@ impl<D: Disk> Provider<D> {
         ensures { result ≡ self.now.readonly }
     {
         self.readonly
+    }
+
+    /// The cipher of its keying.
+    pub fn cipher(&self) -> Cipher
+        ensures { result ≡ self.now.keying.cipher }
+    {
+        self.params.cipher
     }
 
     /// A law: the keying is one that a provider may have.
@@ -200,11 +231,13 @@ impl<D: Disk> Provider<D> {
     ///
     /// In this order: `ReadOnly`, exactly where the provider is only read; `OutOfRange`, exactly where the request passes
     /// the end; and then no call of the disk is made. `DeviceFault` comes only where the device failed. The device
-    /// sectors of the sealed bytes are written in ascending order, up to the first that fails. The provider stays attached.
+    /// sectors of the sealed bytes are written in ascending order, up to the first that fails. Nothing is read. The provider stays
+    /// attached.
     pub fn write(&mut self, sector: u64, from: &[u8]) -> Result<(), WriteFault>
         requires some { 0 < length from.now }
         requires whole { length from.now % self.old.keying.sectorsize ≡ 0 }
         ensures answer { WriteAnswers D.state (request D.state self.old sector from.now) from.now self.old self.new result }
+        ensures unasked { (D.state self.new.disk).reads ≡ (D.state self.old.disk).reads }
         ensures kept { IsKept self.old self.new }
     {
         if self.readonly {
@@ -227,19 +260,93 @@ impl<D: Disk> Provider<D> {
         Ok(())
     }
 
-    /// Flushes the disk.
+    /// Flushes the disk, and reads nothing.
     pub fn flush(&mut self) -> Result<(), DiskFailed>
         ensures ok { OnOk result (Logs (Event.Flush ∷ []) (D.state self.old.disk) (D.state self.new.disk)) }
         ensures err { OnErr result (FailsIn (Event.Flush ∷ []) (D.state self.old.disk) (D.state self.new.disk)) }
+        ensures unasked { (D.state self.new.disk).reads ≡ (D.state self.old.disk).reads }
         ensures kept { IsKept self.old self.new }
     {
         self.disk.flush()
     }
 
-    /// Flushes the disk, and gives it back either way.
+    /// Seals the plain bytes of a logical sector into `out`, its device sectors one after the other. No call of the disk is
+    /// made.
+    pub fn seal_into(&mut self, sector: u64, plain: &[u8], out: &mut [u8])
+        requires inside { sector < media self.old.keying (D.state self.old.disk) }
+        requires plain { length plain.now ≡ self.old.keying.sectorsize }
+        requires out { length out.old ≡ 512 * units self.old.keying }
+        ensures sealed { device_sectors self.old.keying out.new ≡ seal self.old.keying sector plain.now }
+        ensures joined { out.new ≡ concat (seal self.old.keying sector plain.now) }
+        ensures stays { self.new ≡ self.old }
+    {
+        seal_sector(&mut self.ring, sector, plain, out);
+    }
+
+    /// Opens a logical sector into `out` from the bytes of its device sectors, one after the other. No call of the disk is
+    /// made.
+    ///
+    /// `BadUnit` comes exactly where the tag of a unit isn't that of its cipher text, with the byte offset of the first one,
+    /// and `out` is then all zeros.
+    pub fn open_from(&mut self, sector: u64, device: &[u8], out: &mut [u8]) -> Result<(), BadUnit>
+        requires inside { sector < media self.old.keying (D.state self.old.disk) }
+        requires device { length device.now ≡ 512 * units self.old.keying }
+        requires out { length out.old ≡ self.old.keying.sectorsize }
+        ensures opened { let answer = reading self.old.keying sector (device_sectors self.old.keying device.now) in
+            MatchResult result (λ _. answer ≡ Ok out.new) (λ bad. answer ≡ Err bad.offset) }
+        ensures cleared { OnErr result (out.new ≡ replicate (length out.old) 0) }
+        ensures stays { self.new ≡ self.old }
+    {
+        match open_sector(&mut self.ring, sector, device, out) {
+            Ok(()) => Ok(()),
+            Err(bad) => {
+                out.fill(0);
+                Err(bad)
+            }
+        }
+    }
+
+    /// Reads device sector `n`, which has a unit of a logical sector. It is refused only where the device failed.
+    pub fn get_unit(&mut self, n: u64, into: &mut Sector) -> Result<(), DiskFailed>
+        requires { n < media self.old.keying (D.state self.old.disk) * units self.old.keying }
+        ensures bytes { OnOk result (Gives (D.state self.old.disk) n into.new) }
+        ensures ok { OnOk result (Logs [] (D.state self.old.disk) (D.state self.new.disk)) }
+        ensures err { OnErr result (FailsIn [] (D.state self.old.disk) (D.state self.new.disk)) }
+        ensures asked { Counted 1 (D.state self.old.disk).reads (D.state self.new.disk).reads }
+        ensures kept { IsKept self.old self.new }
+    {
+        self.disk.read(n, into)
+    }
+
+    /// Whether these bytes are accepted as the unit in device sector `n`: whether the tag in them is that of their cipher text.
+    /// No call of the disk is made.
+    pub fn unit_ok(&mut self, n: u64, from: &Sector) -> bool
+        requires on { self.old.keying.auth ≢ Auth.Off }
+        requires inside { n < media self.old.keying (D.state self.old.disk) * units self.old.keying }
+        ensures answer { result ≡ is_ok (piece_reading self.old.keying n from.now) }
+        ensures stays { self.new ≡ self.old }
+    {
+        let size = self.params.sectorsize as usize;
+        piece_ok(&mut self.ring, n, size, from)
+    }
+
+    /// Writes device sector `n`, which has a unit of a logical sector. It is refused only where the device failed; a write
+    /// that failed was done or wasn't.
+    pub fn put_unit(&mut self, n: u64, from: &Sector) -> Result<(), DiskFailed>
+        requires { n < media self.old.keying (D.state self.old.disk) * units self.old.keying }
+        ensures ok { OnOk result (Logs (Event.Write n from.now ∷ []) (D.state self.old.disk) (D.state self.new.disk)) }
+        ensures err { OnErr result (FailsIn (Event.Write n from.now ∷ []) (D.state self.old.disk) (D.state self.new.disk)) }
+        ensures unasked { (D.state self.new.disk).reads ≡ (D.state self.old.disk).reads }
+        ensures kept { IsKept self.old self.new }
+    {
+        self.disk.write(n, from)
+    }
+
+    /// Flushes the disk, and gives it back either way. Nothing is read.
     pub fn detach(self) -> (D, Result<(), DiskFailed>)
         ensures ok { OnOk result.1 (Logs (Event.Flush ∷ []) (D.state self.disk) (D.state result.0)) }
         ensures err { OnErr result.1 (FailsIn (Event.Flush ∷ []) (D.state self.disk) (D.state result.0)) }
+        ensures unasked { (D.state result.0).reads ≡ (D.state self.disk).reads }
     {
         let mut disk = self.disk;
         let flushed = disk.flush();

@@ -99,6 +99,7 @@ fn write_whole<D: Disk>(
     requires inside { sector * units ring.old.keying + units ring.old.keying ≤ (D.state disk.old).size }
     ensures ok { OnOk result (Logs (sector_writes ring.old.keying sector from.now) (D.state disk.old) (D.state disk.new)) }
     ensures err { OnErr result (FailsIn (sector_writes ring.old.keying sector from.now) (D.state disk.old) (D.state disk.new)) }
+    ensures unasked { (D.state disk.new).reads ≡ (D.state disk.old).reads }
     ensures keying { ring.new.keying ≡ ring.old.keying }
 {
     ring.is_of_a_keying();
@@ -121,6 +122,7 @@ fn write_sector<D: Disk>(
     requires inside { sector * units ring.old.keying + units ring.old.keying ≤ (D.state disk.old).size }
     ensures ok { OnOk result (Logs (sector_writes ring.old.keying sector from.now) (D.state disk.old) (D.state disk.new)) }
     ensures err { OnErr result (FailsIn (sector_writes ring.old.keying sector from.now) (D.state disk.old) (D.state disk.new)) }
+    ensures unasked { (D.state disk.new).reads ≡ (D.state disk.old).reads }
     ensures keying { ring.new.keying ≡ ring.old.keying }
 {
     if ring.auth() != Auth::Off {
@@ -145,6 +147,7 @@ pub fn write_run<D: Disk>(
     requires inside { (sector + length from.now / size) * units ring.old.keying ≤ (D.state disk.old).size }
     ensures ok { OnOk result (Logs (data_writes ring.old.keying sector (length from.now / size) from.now) (D.state disk.old) (D.state disk.new)) }
     ensures err { OnErr result (FailsIn (data_writes ring.old.keying sector (length from.now / size) from.now) (D.state disk.old) (D.state disk.new)) }
+    ensures unasked { (D.state disk.new).reads ≡ (D.state disk.old).reads }
     ensures keying { ring.new.keying ≡ ring.old.keying }
 {
     ring.is_of_a_keying();

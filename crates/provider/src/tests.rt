@@ -1,9 +1,9 @@
 // Providers over disks in memory.
 ghost use Rattle.key_slots.specs.Slots.{IsKeyBits};
 
-use crate::{AttachFault, Provider, ReadFault, WriteFault};
-use block_traits::{Disk, Event, MetaPlace, Sector};
-use crash_disk::{CallKind, FailAt, MemDisk};
+use crate::{Provider, ReadFault, WriteFault};
+use block_traits::{Disk, MetaPlace};
+use crash_disk::MemDisk;
 use eli_base::MasterKey;
 use eli_metadata::{Metadata, check, encode, read_metadata, size_gate, slot_gate};
 use key_slots::{put_slot, wrap};
@@ -14,8 +14,6 @@ use std::test::Fail;
 use user_key::UserKey;
 
 const KEY: UserKey = UserKey { bytes: [0x5a; 64] };
-
-const OTHER_KEY: UserKey = UserKey { bytes: [0xc3; 64] };
 
 const AES_CBC: u16 = 11;
 
@@ -334,9 +332,11 @@ fn master() -> MasterKey {
     MasterKey { bytes }
 }
 
-// Metadata with this cipher and no slot, without authentication.
-fn unkeyed(ealgo: u16, keylen: u16, sectorsize: u32, provsize: u64) -> Metadata {
-    Metadata {
+// Metadata whose slot 0 opens with the key, for a data key of so many bits, which are 128, 192 or 256.
+fn metadata(ealgo: u16, keylen: u16, sectorsize: u32, provsize: u64) -> Metadata
+    requires { IsKeyBits keylen }
+{
+    let mut meta = Metadata {
         version: 7,
         flags: 0,
         ealgo,
@@ -348,23 +348,8 @@ fn unkeyed(ealgo: u16, keylen: u16, sectorsize: u32, provsize: u64) -> Metadata 
         iterations: -1,
         salt: [0; 64],
         mkeys: [0; 384],
-    }
-}
-
-// The same whose slot 0 opens with the key and slot 1 with the other, for a data key of so many bits, which are 128, 192 or 256.
-fn keyed(ealgo: u16, keylen: u16, sectorsize: u32, provsize: u64) -> Metadata
-    requires { IsKeyBits keylen }
-{
-    let mut meta = unkeyed(ealgo, keylen, sectorsize, provsize);
+    };
     put_slot(&mut meta, 0, &wrap(&master(), &KEY, keylen));
-    put_slot(&mut meta, 1, &wrap(&master(), &OTHER_KEY, keylen));
-    meta
-}
-
-// Metadata whose slot 1 opens with the key, to a data key of 128 bits.
-fn metadata(ealgo: u16, sectorsize: u32, provsize: u64) -> Metadata {
-    let mut meta = unkeyed(ealgo, 128, sectorsize, provsize);
-    put_slot(&mut meta, 1, &wrap(&master(), &KEY, 128));
     meta
 }
 
@@ -377,37 +362,15 @@ fn tagged(mut meta: Metadata, aalgo: u16) -> Metadata {
     meta
 }
 
-// The provider on a disk, attached with a key by the slot that is named or the first that opens.
-fn attached_by<D: Disk>(
-    rt: &impl Abort,
-    alloc: Global,
-    disk: D,
-    meta: &Metadata,
-    key: &UserKey,
-    slot: Option<u8>,
-    readonly: bool,
-) -> Result<Provider<D>, AttachFault> {
+// The provider on a disk, attached with the key.
+fn attached<D: Disk>(rt: &impl Abort, alloc: Global, disk: D, meta: &Metadata) -> Provider<D> {
     let params = check(meta).expect(rt, "the metadata are good");
     assert!(rt; disk.sectors() < 1 << 44);
     size_gate(meta, disk.sectors()).expect(rt, "the size is the disk's");
-    slot_gate(meta, slot).expect(rt, "the slot is set");
-    match Provider::attach(alloc, disk, meta, &params, key, slot, readonly) {
-        Ok(provider) => Ok(provider),
-        Err((_, fault)) => Err(fault),
-    }
-}
-
-// The provider on a disk, attached with the key.
-fn attached<D: Disk>(
-    rt: &impl Abort,
-    alloc: Global,
-    disk: D,
-    meta: &Metadata,
-    readonly: bool,
-) -> Provider<D> {
-    attached_by(rt, alloc, disk, meta, &KEY, None, readonly)
+    slot_gate(meta, None).expect(rt, "the slot is set");
+    Provider::attach(alloc, disk, meta, &params, &KEY, None, false)
         .ok()
-        .expect(rt, "the key opens a slot")
+        .expect(rt, "the key opens the slot")
 }
 
 fn write<D: Disk>(
@@ -430,128 +393,6 @@ fn read<D: Disk>(
     let size = provider.sector_size() as usize;
     assert!(rt; !into.is_empty() && into.len() % size == 0);
     provider.read(sector, into)
-}
-
-// The numbers of the sectors that were written.
-fn are_writes_of(history: &[Event], numbers: &[u64]) -> bool {
-    history.len() == numbers.len()
-        && history.iter().zip(numbers).all(|(
-            event,
-            number,
-        )| matches!(event, Event::Write { n, .. } if n == number))
-}
-
-#[test]
-fn one_sector_disk(rt: HostRuntime) -> Result<(), Fail> {
-    let alloc = rt.alloc();
-    let meta = metadata(AES_XTS, 4096, 9 * 512);
-    let disk = MemDisk::new(alloc, 9, 8)?;
-    let mut provider = attached(&rt, alloc, disk, &meta, false);
-    assert_eq!(rt; write(&rt, &mut provider, 0, &[7; 4096]), Ok(()));
-    let mut into = [9; 8192];
-    let end = ReadFault::OutOfRange {
-        sector: 0,
-        count: 2,
-        media: 1,
-    };
-    assert_eq!(rt; read(&rt, &mut provider, 0, &mut into), Err(end));
-    assert!(rt; into == [0; 8192]);
-    let disk = provider.withdraw();
-    assert!(rt; are_writes_of(disk.history(), &[0, 1, 2, 3, 4, 5, 6, 7]));
-    let mut provider = attached(&rt, alloc, disk, &meta, true);
-    assert_eq!(rt;
-        write(&rt, &mut provider, 5, &[7; 4096]),
-        Err(WriteFault::ReadOnly)
-    );
-    Ok(())
-}
-
-#[test]
-fn third_write_fails(rt: HostRuntime) -> Result<(), Fail> {
-    let alloc = rt.alloc();
-    let meta = metadata(AES_CBC, 4096, 9 * 512);
-    let cases: [(bool, &[u64]); 2] = [
-        (false, &[0, 1, 0, 1, 2, 3, 4, 5, 6, 7]),
-        (true, &[0, 1, 2, 0, 1, 2, 3, 4, 5, 6, 7]),
-    ];
-    for (lands, numbers) in cases {
-        let mut disk = MemDisk::new(alloc, 9, 16)?;
-        disk.fail_calls(&[FailAt {
-            kind: CallKind::Write,
-            nth: 3,
-            lands,
-        }])?;
-        let mut provider = attached(&rt, alloc, disk, &meta, false);
-        assert_eq!(rt;
-            write(&rt, &mut provider, 0, &[7; 4096]),
-            Err(WriteFault::DeviceFault),
-            "lands {lands}"
-        );
-        assert_eq!(rt;
-            write(&rt, &mut provider, 0, &[7; 4096]),
-            Ok(()),
-            "lands {lands}"
-        );
-        let disk = provider.withdraw();
-        assert!(rt; are_writes_of(disk.history(), numbers), "lands {lands}");
-    }
-    Ok(())
-}
-
-#[test]
-fn second_read_fails(rt: HostRuntime) -> Result<(), Fail> {
-    let alloc = rt.alloc();
-    let mut disk = MemDisk::new(alloc, 9, 0)?;
-    disk.fail_calls(&[FailAt {
-        kind: CallKind::Read,
-        nth: 2,
-        lands: false,
-    }])?;
-    let mut provider = attached(&rt, alloc, disk, &metadata(AES_XTS, 4096, 9 * 512), false);
-    let mut into = [9; 4096];
-    assert_eq!(rt;
-        read(&rt, &mut provider, 0, &mut into),
-        Err(ReadFault::DeviceFault)
-    );
-    assert!(rt; into == [0; 4096]);
-    Ok(())
-}
-
-// Metadata that say read-only, over a disk whose third flush fails.
-#[test]
-fn stored_and_detached(rt: HostRuntime) -> Result<(), Fail> {
-    let alloc = rt.alloc();
-    let mut meta = metadata(AES_XTS, 4096, 9 * 512);
-    meta.flags = 0x20;
-    let mut disk = MemDisk::new(alloc, 9, 8)?;
-    disk.fail_calls(&[FailAt {
-        kind: CallKind::Flush,
-        nth: 3,
-        lands: false,
-    }])?;
-    let mut provider = attached(&rt, alloc, disk, &meta, false);
-    assert!(rt; provider.read_only() && provider.slot() == 1 && provider.master() == master());
-    assert_eq!(rt;
-        write(&rt, &mut provider, 0, &[7; 4096]),
-        Err(WriteFault::ReadOnly)
-    );
-    let mut sector = [0; 512];
-    encode(&meta, &mut sector);
-    assert!(rt; MetaPlace::sectors(&provider) == 9);
-    assert!(rt; provider.store(&sector).is_ok());
-    assert_eq!(rt; read_metadata(&mut provider), Ok(meta));
-    assert!(rt; provider.flush().is_ok());
-    let (disk, flushed) = provider.detach();
-    assert!(rt; flushed.is_err() && disk.faults() == 1);
-    let (disk, flushed) = attached(&rt, alloc, disk, &meta, false).detach();
-    assert!(rt; flushed.is_ok());
-    assert!(rt; disk.history().len() == 4 && are_writes_of(&disk.history()[..1], &[8]));
-    assert!(rt;
-        disk.history()[1..]
-            .iter()
-            .all(|event| matches!(event, Event::Flush))
-    );
-    Ok(())
 }
 
 // Byte i is (7 * i + i / 256) mod 256.
@@ -598,11 +439,11 @@ fn image_of(
     let units = units_of(aalgo, sectorsize);
     assert!(rt; units < 1000);
     let meta = tagged(
-        keyed(ealgo, keylen, sectorsize, 512 * (2 * units + 1)),
+        metadata(ealgo, keylen, sectorsize, 512 * (2 * units + 1)),
         aalgo,
     );
     let disk = MemDisk::new(alloc, 2 * units + 1, units)?;
-    let mut provider = attached(rt, alloc, disk, &meta, false);
+    let mut provider = attached(rt, alloc, disk, &meta);
     assert_eq!(rt; provider.sectors(), 2);
     assert_eq!(rt; write(rt, &mut provider, 1, plain), Ok(()));
     let mut disk = provider.withdraw();
@@ -629,276 +470,28 @@ fn images_by_another_program(rt: HostRuntime) -> Result<(), Fail> {
     Ok(())
 }
 
-// The box, after the provider was attached to it by this slot, named or not, and read and written: it reads as these bytes, unless it
-// is new, and is given others.
-fn rewritten(
-    rt: &impl Abort,
-    alloc: Global,
-    disk: Box<dyn Disk>,
-    meta: &Metadata,
-    slot: u8,
-    is_named: bool,
-    before: Option<u8>,
-    after: u8,
-) -> Box<dyn Disk> {
-    let key = if slot == 0 { &KEY } else { &OTHER_KEY };
-    let named = if is_named { Some(slot) } else { None };
-    let mut provider = attached_by(rt, alloc, disk, meta, key, named, false)
-        .ok()
-        .expect(rt, "the key opens the slot");
-    assert_eq!(rt; provider.slot(), slot);
-    if let Some(byte) = before {
-        let mut into = [0u8; 2048];
-        assert_eq!(rt; read(rt, &mut provider, 0, &mut into), Ok(()));
-        assert!(rt; into.iter().all(|found| *found == byte));
-    }
-    assert_eq!(rt; write(rt, &mut provider, 0, &[after; 2048]), Ok(()));
-    provider.withdraw()
-}
-
-// Each slot opens to the same master key. What is written through one is read back when the provider is attached anew, through each
-// slot, named and not, in a box.
+// Each call that may fail, over a device in a box that doesn't, without authentication and with it.
 #[test]
-fn read_back_by_each_slot(rt: HostRuntime) -> Result<(), Fail> {
+fn calls_over_a_good_device(rt: HostRuntime) -> Result<(), Fail> {
     let alloc = rt.alloc();
-    for (ealgo, keylen) in [
-        (AES_XTS, 128),
-        (AES_XTS, 256),
-        (AES_CBC, 128),
-        (AES_CBC, 192),
-        (AES_CBC, 256),
-    ] {
-        for aalgo in [0, 18, 19, 20] {
-            let units = units_of(aalgo, 1024);
-            assert!(rt;
-                units < 10 && (keylen == 128 || keylen == 192 || keylen == 256),
-                "{aalgo} {ealgo} {keylen}"
-            );
-            let meta = tagged(keyed(ealgo, keylen, 1024, 512 * (2 * units + 1)), aalgo);
-            let disk: Box<dyn Disk> = Box::new(alloc, MemDisk::new(alloc, 2 * units + 1, 64)?)?;
-            let disk = rewritten(&rt, alloc, disk, &meta, 0, false, None, 1);
-            let disk = rewritten(&rt, alloc, disk, &meta, 0, true, Some(1), 2);
-            let disk = rewritten(&rt, alloc, disk, &meta, 1, false, Some(2), 3);
-            let disk = rewritten(&rt, alloc, disk, &meta, 1, true, Some(3), 4);
-            let wrong = attached_by(&rt, alloc, disk, &meta, &OTHER_KEY, Some(0), false);
-            assert!(rt;
-                matches!(wrong, Err(AttachFault::WrongKey)),
-                "{aalgo} {ealgo} {keylen}"
-            );
-        }
-    }
-    Ok(())
-}
-
-// How many logical sectors a fresh disk of so many bytes has under AES-XTS. With authentication the last is written, and the one before
-// it is then the first that isn't sealed.
-fn sectors_of(
-    rt: &impl Abort,
-    alloc: Global,
-    aalgo: u16,
-    sectorsize: u32,
-    size: u64,
-) -> Result<u64, Fail> {
-    assert!(rt; size < 1 << 40 && 512 <= sectorsize && sectorsize <= 4096);
-    let meta = tagged(metadata(AES_XTS, sectorsize, size), aalgo);
-    let disk = MemDisk::new(alloc, size / 512, 16)?;
-    let mut provider = attached(rt, alloc, disk, &meta, false);
-    let sectors = provider.sectors();
-    let units = units_of(aalgo, sectorsize);
-    assert!(rt; units < 100 && 2 <= sectors && sectors < 10_000);
-    let before = (sectors - 2) * units;
-    let first = before + units;
-    let plain = [7; 4096];
-    assert_eq!(rt;
-        write(
-            rt,
-            &mut provider,
-            sectors - 1,
-            &plain[..sectorsize as usize]
-        ),
-        Ok(())
-    );
-    if aalgo != 0 {
-        let mut into = [9; 4096];
-        let into = &mut into[..sectorsize as usize];
-        assert_eq!(rt; read(rt, &mut provider, sectors - 1, into), Ok(()));
-        let offset = 512 * before;
-        assert_eq!(rt;
-            read(rt, &mut provider, sectors - 2, into),
-            Err(ReadFault::Integrity { offset })
-        );
-        assert!(rt; into.iter().all(|byte| *byte == 0));
-    }
-    let disk = provider.withdraw();
-    assert!(rt; disk.history().len() as u64 == units);
-    assert!(rt; matches!(disk.history().first(), Some(Event::Write { n, .. }) if *n == first));
-    Ok(sectors)
-}
-
-#[test]
-fn sizes(rt: HostRuntime) -> Result<(), Fail> {
-    let alloc = rt.alloc();
-    for (aalgo, sectorsize, expected) in [
-        (0, 4096, 255),
-        (18, 4096, 227),
-        (18, 512, 1023),
-        (19, 4096, 227),
-        (20, 4096, 204),
-    ] {
-        let found = sectors_of(&rt, alloc, aalgo, sectorsize, 1_048_576)?;
-        assert_eq!(rt; found, expected, "{aalgo} {sectorsize}");
-    }
-    let meta = metadata(AES_XTS, 4096, 4096);
-    let small = attached_by(
-        &rt,
-        alloc,
-        MemDisk::new(alloc, 8, 0)?,
-        &meta,
-        &KEY,
-        None,
-        false,
-    );
-    assert!(rt; matches!(small, Err(AttachFault::TooSmall { size: 4096 })));
-    Ok(())
-}
-
-// Sector 1 of a fresh disk is written: it reads as the bytes, and a request with a sector that isn't sealed finds the first such unit.
-#[test]
-fn fresh_units(rt: HostRuntime) -> Result<(), Fail> {
-    let alloc = rt.alloc();
-    let meta = tagged(metadata(AES_XTS, 512, 1_048_576), 18);
-    let mut provider = attached(&rt, alloc, MemDisk::new(alloc, 2048, 16)?, &meta, false);
-    assert_eq!(rt; write(&rt, &mut provider, 1, &[7; 512]), Ok(()));
-    let mut one = [0; 512];
-    assert_eq!(rt; read(&rt, &mut provider, 1, &mut one), Ok(()));
-    assert!(rt; one == [7; 512]);
-    for (sector, offset) in [(0, 0), (1, 2048)] {
-        let mut two = [9; 1024];
-        assert_eq!(rt;
-            read(&rt, &mut provider, sector, &mut two),
-            Err(ReadFault::Integrity { offset }),
-            "sector {sector}"
-        );
-        assert!(rt; two == [0; 1024], "sector {sector}");
-    }
-    assert!(rt; are_writes_of(provider.withdraw().history(), &[2, 3]));
-    Ok(())
-}
-
-// What sector 0 of 1,024 bytes reads as after it was written and flushed, and then one bit of device sector n was turned, or where
-// there is no place, the device sector was set to zeros.
-fn turned(
-    rt: &impl Abort,
-    alloc: Global,
-    aalgo: u16,
-    n: u64,
-    place: Option<usize>,
-) -> Result<Result<(), ReadFault>, Fail> {
-    let units = units_of(aalgo, 1024);
-    assert!(rt; units < 10);
-    let meta = tagged(metadata(AES_XTS, 1024, 512 * (units + 1)), aalgo);
-    let disk = MemDisk::new(alloc, units + 1, 8)?;
-    let mut provider = attached(rt, alloc, disk, &meta, false);
-    assert_eq!(rt; write(rt, &mut provider, 0, &[7; 1024]), Ok(()));
-    assert!(rt; provider.flush().is_ok());
-    let mut disk = provider.withdraw();
-    let mut sector: Sector = [0; 512];
-    if let Some(place) = place {
-        assert!(rt; n < disk.sectors() && place < 512);
-        assert!(rt; disk.read(n, &mut sector).is_ok());
-        sector[place] ^= 0x10;
-    }
-    assert!(rt; n < disk.sectors());
-    disk.alter(n, &sector)?;
-    let mut provider = attached(rt, alloc, disk, &meta, false);
-    let mut into = [9; 1024];
-    let answer = read(rt, &mut provider, 0, &mut into);
-    let byte = if answer.is_ok() { 7 } else { 0 };
-    assert!(rt; into.iter().all(|found| *found == byte));
-    Ok(answer)
-}
-
-// A bit of the tag or of the cipher text, or a device sector of zeros: a fault at that device sector. What is behind the cipher text isn't
-// looked at.
-#[test]
-fn turned_bits(rt: HostRuntime) -> Result<(), Fail> {
-    let alloc = rt.alloc();
-    for (aalgo, n, place, is_looked_at) in [
-        (18, 0, Some(0), true),
-        (18, 1, Some(31), true),
-        (18, 0, Some(32), true),
-        (18, 1, Some(511), true),
-        (18, 2, Some(95), true),
-        (18, 2, Some(96), false),
-        (18, 2, Some(511), false),
-        (18, 0, None, true),
-        (19, 1, Some(47), true),
-        (19, 1, Some(48), true),
-        (19, 2, Some(143), true),
-        (19, 2, Some(144), false),
-        (19, 1, None, true),
-        (20, 1, Some(63), true),
-        (20, 1, Some(64), true),
-        (20, 2, Some(191), true),
-        (20, 2, Some(192), false),
-        (20, 2, None, true),
-    ] {
-        assert!(rt; n < 4, "sector {n}");
-        let expected = if is_looked_at {
-            Err(ReadFault::Integrity { offset: 512 * n })
-        } else {
-            Ok(())
-        };
-        assert_eq!(rt;
-            turned(&rt, alloc, aalgo, n, place)?,
-            expected,
-            "{aalgo} {n} {place:?}"
-        );
-    }
-    Ok(())
-}
-
-// Sectors of 512 bytes with two device sectors each, of which the first two are written and the third isn't. All three are read
-// twice, where one read of the disk fails. A request ends with the first unit that fails or whose tag differs: five reads.
-#[test]
-fn faults_in_order(rt: HostRuntime) -> Result<(), Fail> {
-    let alloc = rt.alloc();
-    let differs = ReadFault::Integrity { offset: 2048 };
-    let fails = ReadFault::DeviceFault;
-    for (nth, first, second) in [
-        (1, fails, differs),
-        (2, fails, differs),
-        (4, fails, differs),
-        (5, fails, differs),
-        (6, differs, fails),
-        (10, differs, fails),
-        (11, differs, differs),
-    ] {
-        let meta = tagged(metadata(AES_CBC, 512, 512 * 7), 19);
-        let mut disk = MemDisk::new(alloc, 7, 8)?;
-        disk.fail_calls(&[FailAt {
-            kind: CallKind::Read,
-            nth,
-            lands: false,
-        }])?;
-        let mut provider = attached(&rt, alloc, disk, &meta, false);
-        assert_eq!(rt;
-            write(&rt, &mut provider, 0, &[7; 1024]),
-            Ok(()),
-            "read {nth}"
-        );
-        let mut into = [9; 1536];
-        assert_eq!(rt;
-            read(&rt, &mut provider, 0, &mut into),
-            Err(first),
-            "read {nth}"
-        );
-        assert!(rt; into == [0; 1536], "read {nth}");
-        assert_eq!(rt;
-            read(&rt, &mut provider, 0, &mut into),
-            Err(second),
-            "read {nth}"
-        );
+    for aalgo in [0, 18] {
+        let units = units_of(aalgo, 1024);
+        assert!(rt; units < 10, "{aalgo}");
+        let meta = tagged(metadata(AES_XTS, 128, 1024, 512 * (units + 1)), aalgo);
+        let disk: Box<dyn Disk> = Box::new(alloc, MemDisk::new(alloc, units + 1, 16)?)?;
+        let mut provider = attached(&rt, alloc, disk, &meta);
+        assert_eq!(rt; write(&rt, &mut provider, 0, &[7; 1024]), Ok(()), "{aalgo}");
+        let mut into = [9; 1024];
+        assert_eq!(rt; read(&rt, &mut provider, 0, &mut into), Ok(()), "{aalgo}");
+        assert!(rt; into == [7; 1024], "{aalgo}");
+        let mut sector = [0; 512];
+        encode(&meta, &mut sector);
+        assert!(rt; MetaPlace::sectors(&provider) > 0, "{aalgo}");
+        assert!(rt; provider.store(&sector).is_ok(), "{aalgo}");
+        assert_eq!(rt; read_metadata(&mut provider), Ok(meta), "{aalgo}");
+        assert!(rt; provider.flush().is_ok(), "{aalgo}");
+        let (_, flushed) = provider.detach();
+        assert!(rt; flushed.is_ok(), "{aalgo}");
     }
     Ok(())
 }

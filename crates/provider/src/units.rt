@@ -27,7 +27,7 @@ pub fn read_units<D: Disk>(disk: &mut D, first: u64, into: &mut [u8]) -> Result<
 }
 
 // The device sector of this number among bytes.
-fn unit_of(from: &[u8], j: usize) -> Sector
+pub fn unit_of(from: &[u8], j: usize) -> Sector
     requires { 512 * j + 512 ≤ length from.now }
     ensures { result ≡ take 512 (drop (512 * j) from.now) }
 {
@@ -36,11 +36,12 @@ fn unit_of(from: &[u8], j: usize) -> Sector
     sector
 }
 
-// Writes these bytes to device sectors in ascending order, the first to number `first`.
+// Writes these bytes to device sectors in ascending order, the first to number `first`. Nothing is read.
 pub fn write_units<D: Disk>(disk: &mut D, first: u64, from: &[u8]) -> Result<(), DiskFailed>
     requires { first + length from.now / 512 ≤ (D.state disk.old).size }
     ensures ok { OnOk result (Logs (writes_from first (parts 512 (length from.now / 512) from.now)) (D.state disk.old) (D.state disk.new)) }
     ensures err { OnErr result (FailsIn (writes_from first (parts 512 (length from.now / 512) from.now)) (D.state disk.old) (D.state disk.new)) }
+    ensures unasked { (D.state disk.new).reads ≡ (D.state disk.old).reads }
 {
     for j in 0..from.len() / 512 {
         disk.write(first + j as u64, &unit_of(from, j))?;

@@ -34,7 +34,7 @@ device_bytes-puts number k sector bytes =
 
 -- ---- what a write places
 
-placed-places_from : (n : ℕ) (ws : List Writing) → placed (places_from n ws) ≡ ws
+pub placed-places_from : (n : ℕ) (ws : List Writing) → placed (places_from n ws) ≡ ws
 placed-places_from n [] = refl
 placed-places_from n (w ∷ ws) = ap (λ (l : List Writing). w ∷ l) (placed-places_from (n + 1) ws)
 

@@ -1,5 +1,6 @@
 -- The text of each reply.
-use Rattle.std.specs.Prelude.{ℕ, ◌≤◌, List, [], ◌∷◌, ◌++◌, length, take, map, if◌then◌else◌, codes}
+use Rattle.std.specs.Prelude.{ℕ, zero, suc, ◌*◌, ◌≤◌, List, [], ◌∷◌, ◌++◌, length, take, drop, map, if◌then◌else◌, codes}
+use Rattle.std.specs.Int.{from_le_bytes, w64}
 use Rattle.std.specs.List.{concat}
 use Rattle.std.specs.Fmt.{decimal, signed_decimal, digits}
 use Rattle.std.specs.Prelude.{false}
@@ -11,7 +12,7 @@ use Rattle.eli_base.specs.declared.refusals.Refusal.TheVariants as refusals
 use Rattle.eli_base.specs.Refusals.{number_of}
 use Rattle.eli_metadata.specs.declared.metadata.Metadata.{Metadata}
 use Rattle.reply_text.specs.declared.reply.Reply.{Reply}
-use Rattle.reply_text.specs.declared.reply.Reply.TheVariants.{Done, Payload, Digest, Rows, Dump, Refused}
+use Rattle.reply_text.specs.declared.reply.Reply.TheVariants.{Done, Payload, Digest, Rows, Dump, Tag, Left, Verified, Refused}
 use Rattle.reply_text.specs.declared.rows.Row.{Row}
 
 -- a label, a value and a newline
@@ -72,6 +73,17 @@ refusal_name (refusals.NotGrown size given) = codes "NotGrown"
 refusal_name (refusals.TooSmall size) = codes "TooSmall"
 refusal_name (refusals.BadLength given sectorsize) = codes "BadLength"
 refusal_name refusals.KeyNumberNeeded = codes "KeyNumberNeeded"
+refusal_name refusals.QueueFull = codes "QueueFull"
+refusal_name (refusals.NoRequest tag) = codes "NoRequest"
+refusal_name (refusals.RequestNotDone tag left) = codes "RequestNotDone"
+refusal_name (refusals.RequestDone tag) = codes "RequestDone"
+refusal_name (refusals.RequestsOpen count) = codes "RequestsOpen"
+refusal_name refusals.Suspended = codes "Suspended"
+refusal_name refusals.NotSuspended = codes "NotSuspended"
+refusal_name refusals.DifferentKey = codes "DifferentKey"
+refusal_name (refusals.BadPlace place media) = codes "BadPlace"
+refusal_name refusals.NotAuthenticated = codes "NotAuthenticated"
+refusal_name (refusals.BadPlaceFile word length) = codes "BadPlaceFile"
 
 -- a field after a space
 unfoldable pub field : List ℕ → List ℕ
@@ -119,6 +131,17 @@ refusal_fields (refusals.NotGrown size given) = number_fields (size ∷ given �
 refusal_fields (refusals.TooSmall size) = number_fields (size ∷ [])
 refusal_fields (refusals.BadLength given sectorsize) = number_fields (given ∷ sectorsize ∷ [])
 refusal_fields refusals.KeyNumberNeeded = []
+refusal_fields refusals.QueueFull = []
+refusal_fields (refusals.NoRequest tag) = number_fields (tag ∷ [])
+refusal_fields (refusals.RequestNotDone tag left) = number_fields (tag ∷ left ∷ [])
+refusal_fields (refusals.RequestDone tag) = number_fields (tag ∷ [])
+refusal_fields (refusals.RequestsOpen count) = number_fields (count ∷ [])
+refusal_fields refusals.Suspended = []
+refusal_fields refusals.NotSuspended = []
+refusal_fields refusals.DifferentKey = []
+refusal_fields (refusals.BadPlace place media) = number_fields (place ∷ media ∷ [])
+refusal_fields refusals.NotAuthenticated = []
+refusal_fields (refusals.BadPlaceFile word length) = number_fields (word ∷ length ∷ [])
 
 -- `error `, the number and the name
 abbrev pub refusal_head : Refusal → List ℕ
@@ -159,9 +182,14 @@ dump_text m = format_lines m ++ size_lines m ++ key_lines m ++ codes "ok\n"
 abbrev pub bytes_text : List ℕ → List ℕ
 bytes_text bytes = codes "ok " ++ encode_lower bytes ++ (10 ∷ [])
 
--- what a drawer is: idle, or attached with the bytes of a logical sector and how many of them it has
+-- the bytes of a logical sector, and how many of them there are
+abbrev pub sizes_of : Row → List ℕ
+sizes_of row = number_fields (row.sectorsize ∷ row.sectors ∷ [])
+
+-- what a drawer is: suspended or attached, with its sizes, or idle
 abbrev pub row_state : Row → List ℕ
-row_state row = if row.attached then codes " attached" ++ number_fields (row.sectorsize ∷ row.sectors ∷ []) else codes " idle"
+row_state row =
+    if row.suspended then codes " suspended" ++ sizes_of row else (if row.attached then codes " attached" ++ sizes_of row else codes " idle")
 
 -- the name, the state and a newline
 abbrev pub row_text : Row → List ℕ
@@ -174,9 +202,30 @@ row_lines rows = concat (map row_text rows)
 abbrev pub list_text : List Row → List ℕ
 list_text rows = row_lines rows ++ codes "ok\n"
 
--- the payload of a reply, if it has one, is at most so long
+-- so many numbers at the front of some bytes, each as eight bytes, the least significant first
+unfoldable pub numbers_in : ℕ → List ℕ → List ℕ
+numbers_in zero bytes = []
+numbers_in (suc count) bytes = from_le_bytes w64 (take 8 bytes) ∷ numbers_in count (drop 8 bytes)
+
+-- a word, numbers and a newline
+abbrev pub numbers_line : List ℕ → List ℕ → List ℕ
+numbers_line word numbers = word ++ number_fields numbers ++ (10 ∷ [])
+
+-- a line for a unit that fails, at this byte offset
+abbrev pub bad_line : ℕ → List ℕ
+bad_line offset = numbers_line (codes "bad") (offset ∷ [])
+
+unfoldable pub bad_lines : List ℕ → List ℕ
+bad_lines offsets = concat (map bad_line offsets)
+
+-- a line for each unit that fails, and `ok` with the place where the next sweep begins and how many there are
+abbrev pub verified_text : List ℕ → ℕ → ℕ → List ℕ
+verified_text offsets next bad = bad_lines offsets ++ numbers_line (codes "ok") (next ∷ bad ∷ [])
+
+-- the payload of a reply, or the numbers that a sweep lists in it, are at most so long
 abbrev pub FitsPayload : ℕ → Reply → Type 0
 FitsPayload len (Payload count) = count ≤ len
+FitsPayload len (Verified bad next) = 8 * bad ≤ len
 FitsPayload len _ = Unit {0}
 
 -- the text of a reply, whose bytes are the first ones of the payload
@@ -186,4 +235,7 @@ reply_text (Payload count) payload = bytes_text (take count payload)
 reply_text (Digest digest) payload = bytes_text digest
 reply_text (Rows rows) payload = list_text rows
 reply_text (Dump meta) payload = dump_text meta
+reply_text (Tag tag) payload = numbers_line (codes "ok") (tag ∷ [])
+reply_text (Left left) payload = numbers_line (codes "ok") (left ∷ [])
+reply_text (Verified bad next) payload = verified_text (numbers_in bad payload) next bad
 reply_text (Refused refusal) payload = refusal_text refusal

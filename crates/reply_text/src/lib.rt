@@ -9,6 +9,7 @@ mod page;
 mod print;
 mod reply;
 mod rows;
+mod verified;
 
 pub use print::{WriteEnd, write_text};
 pub use reply::{Reply, write_reply};

@@ -64,5 +64,16 @@ pub(crate) fn refusal_name(refusal: &Refusal) -> &'static [u8]
         Refusal::TooSmall { .. } => b"TooSmall",
         Refusal::BadLength { .. } => b"BadLength",
         Refusal::KeyNumberNeeded => b"KeyNumberNeeded",
+        Refusal::QueueFull => b"QueueFull",
+        Refusal::NoRequest { .. } => b"NoRequest",
+        Refusal::RequestNotDone { .. } => b"RequestNotDone",
+        Refusal::RequestDone { .. } => b"RequestDone",
+        Refusal::RequestsOpen { .. } => b"RequestsOpen",
+        Refusal::Suspended => b"Suspended",
+        Refusal::NotSuspended => b"NotSuspended",
+        Refusal::DifferentKey => b"DifferentKey",
+        Refusal::BadPlace { .. } => b"BadPlace",
+        Refusal::NotAuthenticated => b"NotAuthenticated",
+        Refusal::BadPlaceFile { .. } => b"BadPlaceFile",
     }
 }

@@ -1,7 +1,7 @@
 // What is answered to a command, and how it is printed.
 ghost use Rattle.std.specs.Prelude.{◌≡◌, ◌++◌, ◌∷◌, [], length};
 ghost use Rattle.reply_text.specs.Output.{Prints, Puts};
-ghost use Rattle.reply_text.specs.Text.{FitsPayload, reply_text, list_text, refusal_text, refusal_fields, number_fields, reason_name, refusal_head, field};
+ghost use Rattle.reply_text.specs.Text.{FitsPayload, reply_text, list_text, refusal_text, refusal_fields, number_fields, numbers_line, reason_name, refusal_head, field};
 ghost use Rattle.std.specs.Fmt.{decimal};
 
 use crate::WriteEnd;
@@ -11,6 +11,7 @@ use crate::names::{reason_name, refusal_name};
 use crate::page::{Page, give_page, put};
 use crate::print::write_pieces;
 use crate::rows::{Row, RowList, write_rows};
+use crate::verified::write_verified;
 use block_traits::Sink;
 use eli_base::{Reason, Refusal};
 use eli_metadata::Metadata;
@@ -32,6 +33,23 @@ pub enum Reply {
     Rows(RowList),
     /// The metadata that was read.
     Dump(Metadata),
+    /// A request was opened.
+    Tag {
+        /// Its tag.
+        tag: u8,
+    },
+    /// A step of a request was made.
+    Left {
+        /// How many units are left.
+        left: u64,
+    },
+    /// A sweep was made, and what it lists are the first numbers of the payload.
+    Verified {
+        /// How many units fail.
+        bad: u32,
+        /// The logical sector where the next sweep begins.
+        next: u64,
+    },
     /// It was refused.
     Refused(Refusal),
 }
@@ -63,6 +81,9 @@ fn write_whole<K: Sink>(
         Reply::Digest(digest) => write_ok_bytes(digest, page, output),
         Reply::Rows(rows) => write_list(rows.as_slice(), page, output),
         Reply::Dump(meta) => write_dump(meta, page, output),
+        Reply::Tag { tag } => write_numbers_line(b"ok", &[u64::from(*tag)], page, output),
+        Reply::Left { left } => write_numbers_line(b"ok", &[*left], page, output),
+        Reply::Verified { bad, next } => write_verified(payload, *bad, *next, page, output),
         Reply::Refused(refusal) => write_refusal(refusal, page, output),
     }
 }
@@ -130,6 +151,20 @@ pub(crate) fn write_numbers<K: Sink>(
     Ok(())
 }
 
+/// A word, numbers and a newline.
+pub(crate) fn write_numbers_line<K: Sink>(
+    word: &[u8],
+    numbers: &[u64],
+    page: &mut Page,
+    output: &mut K,
+) -> Result<(), WriteEnd>
+    ensures { Puts (numbers_line word.now numbers.now) page.old.items (K.state output.old) result page.new.items (K.state output.new) }
+{
+    put(word, page, output)?;
+    write_numbers(numbers, page, output)?;
+    put(b"\n", page, output)
+}
+
 // The number of a word and the reason.
 fn write_usage<K: Sink>(
     word: u32,
@@ -152,7 +187,9 @@ fn write_fields<K: Sink>(refusal: &Refusal, page: &mut Page, output: &mut K) -> 
         Refusal::Usage { word, reason } => write_usage(word, reason, page, output),
         Refusal::KeyNumberOutOfRange { given: number }
         | Refusal::KeyNotSet { slot: number }
-        | Refusal::LastKey { slot: number } => write_numbers(&[number.into()], page, output),
+        | Refusal::LastKey { slot: number }
+        | Refusal::NoRequest { tag: number }
+        | Refusal::RequestDone { tag: number } => write_numbers(&[number.into()], page, output),
         Refusal::UnsupportedCipher { found }
         | Refusal::UnsupportedAuth { found }
         | Refusal::BadKeyLength { found } => write_numbers(&[found.into()], page, output),
@@ -160,13 +197,19 @@ fn write_fields<K: Sink>(refusal: &Refusal, page: &mut Page, output: &mut K) -> 
         | Refusal::BadSectorSize { found: number }
         | Refusal::UnsupportedFlags { mask: number }
         | Refusal::FileAbsent { word: number }
-        | Refusal::CabinetFault { word: number } => write_numbers(&[number.into()], page, output),
+        | Refusal::CabinetFault { word: number }
+        | Refusal::RequestsOpen { count: number } => write_numbers(&[number.into()], page, output),
         Refusal::Integrity { offset: number }
         | Refusal::BackupTooShort { length: number }
         | Refusal::TooSmall { size: number } => write_numbers(&[number], page, output),
         Refusal::BadSize { kept, found } => write_numbers(&[kept, found], page, output),
         Refusal::OldSizeMismatch { kept, given } => write_numbers(&[kept, given], page, output),
         Refusal::NotGrown { size, given } => write_numbers(&[size, given], page, output),
+        Refusal::RequestNotDone { tag, left } => write_numbers(&[tag.into(), left], page, output),
+        Refusal::BadPlace { place, media } => write_numbers(&[place, media], page, output),
+        Refusal::BadPlaceFile { word, length } => {
+            write_numbers(&[word.into(), length], page, output)
+        }
         Refusal::FileTooLong { word, limit } => write_numbers(&[word.into(), limit], page, output),
         Refusal::BadLength { given, sectorsize } => {
             write_numbers(&[given, sectorsize.into()], page, output)
@@ -191,6 +234,11 @@ fn write_fields<K: Sink>(refusal: &Refusal, page: &mut Page, output: &mut K) -> 
         | Refusal::DeviceFault
         | Refusal::EntropyFault
         | Refusal::NoMemory
-        | Refusal::KeyNumberNeeded => Ok(()),
+        | Refusal::KeyNumberNeeded
+        | Refusal::QueueFull
+        | Refusal::Suspended
+        | Refusal::NotSuspended
+        | Refusal::DifferentKey
+        | Refusal::NotAuthenticated => Ok(()),
     }
 }

@@ -2,7 +2,7 @@
 ghost use Rattle.std.specs.Prelude.{◌≡◌, ◌++◌, codes, ◌∷◌, [], map};
 ghost use Rattle.std.specs.List.{concat};
 ghost use Rattle.reply_text.specs.Output.{Puts};
-ghost use Rattle.reply_text.specs.Text.{row_text, row_state, row_lines, number_fields};
+ghost use Rattle.reply_text.specs.Text.{row_text, row_state, row_lines, sizes_of};
 
 use crate::WriteEnd;
 use crate::page::{Page, put};
@@ -17,6 +17,8 @@ pub struct Row {
     pub name: ByteList,
     /// Whether it is attached.
     pub attached: bool,
+    /// Whether it is suspended.
+    pub suspended: bool,
     /// The bytes of a logical sector; 0 where it is idle.
     pub sectorsize: u32,
     /// The number of logical sectors; 0 where it is idle.
@@ -76,12 +78,27 @@ fn write_row<K: Sink>(row: &Row, page: &mut Page, output: &mut K) -> Result<(), 
     put(b"\n", page, output)
 }
 
+// A state, and the bytes of a logical sector and how many there are.
+fn write_sizes<K: Sink>(
+    state: &[u8],
+    row: &Row,
+    page: &mut Page,
+    output: &mut K,
+) -> Result<(), WriteEnd>
+    ensures { Puts (state.now ++ sizes_of row.now) page.old.items (K.state output.old) result page.new.items (K.state output.new) }
+{
+    put(state, page, output)?;
+    write_numbers(&[row.sectorsize.into(), row.sectors], page, output)
+}
+
 fn write_state<K: Sink>(row: &Row, page: &mut Page, output: &mut K) -> Result<(), WriteEnd>
     ensures { Puts (row_state row.now) page.old.items (K.state output.old) result page.new.items (K.state output.new) }
 {
-    if !row.attached {
-        return put(b" idle", page, output);
+    if row.suspended {
+        return write_sizes(b" suspended", row, page, output);
     }
-    put(b" attached", page, output)?;
-    write_numbers(&[row.sectorsize.into(), row.sectors], page, output)
+    if row.attached {
+        return write_sizes(b" attached", row, page, output);
+    }
+    put(b" idle", page, output)
 }

@@ -7,6 +7,7 @@ use Rattle.block_traits.specs.Content.{Content, IsContentOf, last_of, logged, pr
 use Rattle.block_traits.specs.Disk.{DiskState, FailsIn, FitsSize, Gives, GivesFrom, Logs, last_sector}
 use Rattle.block_traits.specs.Moments.{AtEachMoment, HoldsOldOr, WaitsForFlush}
 use Rattle.block_traits.specs.Overwriting.{overwrite_events}
+use Rattle.block_traits.specs.Causes.{Counted}
 use Rattle.block_traits.specs.Streams.{EntropyState}
 use Rattle.block_traits.specs.declared.disk.Event.{Event}
 use Rattle.block_traits.specs.declared.disk.Event.TheVariants.{Write, Flush}
@@ -136,8 +137,8 @@ prepared oldsize disk middle entropy entropy' old random sizes found takes again
 -- what the parts of a move did is what it did
 pub moves : (oldsize : ℕ) (disk middle disk' : DiskState) (entropy entropy' : EntropyState) (old : Metadata) (random : List ℕ) → size_refusal disk.size oldsize ≡ None → oldsize < 512 * disk.size → 1024 ≤ oldsize
     → FindsMetadata (old_place oldsize) oldsize disk old middle → TakesTrash random entropy entropy' → metadata_in (encoded (grown old disk.size)) ≡ Ok (grown old disk.size)
-    → Logs (move_events middle (old_place oldsize) (grown old disk.size) random) middle disk' → Moves oldsize disk entropy disk' entropy'
-moves oldsize disk middle disk' entropy entropy' old random sizes small least found takes again logs =
+    → Logs (move_events middle (old_place oldsize) (grown old disk.size) random) middle disk' → disk'.reads ≡ middle.reads → Moves oldsize disk entropy disk' entropy'
+moves oldsize disk middle disk' entropy entropy' old random sizes small least found takes again logs unasked =
     let events = move_events disk (old_place oldsize) (grown old disk.size) random in
     let P : List Event → Type 0 = λ es. Logs es middle disk' in
     let whole : Logs events disk disk' =
@@ -147,14 +148,15 @@ moves oldsize disk middle disk' entropy entropy' old random sizes small least fo
       random = random;
       prepares = prepared oldsize disk middle entropy entropy' old random sizes found takes again;
       logs = whole;
+      asked = subst (λ (n : ℕ). Counted 1 disk.reads n) (sym unasked) found.finds.asked;
       keeps = KeepsOneOf-part disk disk' old oldsize found.finds.bytes random (length events) small least found.finds.told (sym found.finds.answered)
           (whole.content ∙ ap (λ (es : List Event). logged es disk.content) (sym (take-length events)));
     }
 
 pub moves_part : (oldsize : ℕ) (disk middle disk' : DiskState) (entropy entropy' : EntropyState) (old : Metadata) (random : List ℕ) → size_refusal disk.size oldsize ≡ None → oldsize < 512 * disk.size → 1024 ≤ oldsize
     → FindsMetadata (old_place oldsize) oldsize disk old middle → TakesTrash random entropy entropy' → metadata_in (encoded (grown old disk.size)) ≡ Ok (grown old disk.size)
-    → FailsIn (move_events middle (old_place oldsize) (grown old disk.size) random) middle disk' → MovesPart oldsize disk entropy disk' entropy'
-moves_part oldsize disk middle disk' entropy entropy' old random sizes small least found takes again fails =
+    → FailsIn (move_events middle (old_place oldsize) (grown old disk.size) random) middle disk' → disk'.reads ≡ middle.reads → MovesPart oldsize disk entropy disk' entropy'
+moves_part oldsize disk middle disk' entropy entropy' old random sizes small least found takes again fails unasked =
     let events = move_events disk (old_place oldsize) (grown old disk.size) random in
     let P : List Event → Type 0 = λ es. FailsIn es middle disk' in
     let part : FailsIn events disk disk' =
@@ -164,5 +166,6 @@ moves_part oldsize disk middle disk' entropy entropy' old random sizes small lea
       random = random;
       prepares = prepared oldsize disk middle entropy entropy' old random sizes found takes again;
       fails = part;
+      asked = subst (λ (n : ℕ). Counted 1 disk.reads n) (sym unasked) found.finds.asked;
       keeps = KeepsOneOf-part disk disk' old oldsize found.finds.bytes random part.count small least found.finds.told (sym found.finds.answered) part.logs.content;
     }

@@ -1,11 +1,13 @@
 -- What `resize` answers, and what it does to the disk and the entropy (geli(8), resize).
-use Rattle.std.specs.Prelude.{◌≡◌, ◌⊎◌, ℕ, ◌-◌, ◌*◌, ◌/◌, ◌==◌, nat_lt, nat_le, if◌then◌else◌, List, [], ◌++◌, length, get_or, Option, None, Some, Result, Ok, Err}
+use Rattle.std.specs.Prelude.{◌≡◌, ◌⊎◌, ℕ, ◌-◌, ◌*◌, ◌/◌, ◌==◌, nat_lt, nat_le, if◌then◌else◌, List, [], ◌∷◌, ◌++◌, length, get_or, Option, None, Some, Result, Ok, Err}
+use Rattle.block_traits.specs.Causes.{Counted}
 use Rattle.block_traits.specs.Content.{Content}
 use Rattle.block_traits.specs.Disk.{DiskState, FailsIn, Gives, Logs, last_sector}
 use Rattle.block_traits.specs.Moments.{AtEachMoment, IsFlushedSince, IsUnaltered, KeepsOldOr, WaitsForFlush}
 use Rattle.block_traits.specs.Overwriting.{overwrite_events}
 use Rattle.block_traits.specs.Streams.{EntropyState, TakesNone}
 use Rattle.block_traits.specs.declared.disk.Event.{Event}
+use Rattle.eli_base.specs.Refusals.{first_that_holds}
 use Rattle.eli_base.specs.declared.refusals.Refusal.{Refusal}
 use Rattle.eli_base.specs.declared.refusals.Refusal.TheVariants.{EntropyFault, DeviceFault}
 use Rattle.eli_base.specs.declared.refusals.Refusal.TheVariants as refusals
@@ -18,9 +20,10 @@ use Rattle.resize_kill.specs.Trash.{TakesTrash, trash_sectors}
 
 -- the first refusal of the sizes: of an image of so many device sectors, and of an old size in bytes that isn't below its own
 abbrev pub size_refusal : ℕ → ℕ → Option Refusal
-size_refusal sectors oldsize =
-    (if nat_lt sectors 2 then Some (refusals.TooSmall (512 * sectors))
-    else (if nat_le (512 * sectors) oldsize then Some (refusals.NotGrown (512 * sectors) oldsize) else None))
+size_refusal sectors oldsize = first_that_holds (
+    (nat_lt sectors 2, refusals.TooSmall (512 * sectors))
+    ∷ (nat_le (512 * sectors) oldsize, refusals.NotGrown (512 * sectors) oldsize)
+    ∷ [])
 
 -- the last device sector of an image of the old size
 abbrev pub old_place : ℕ → ℕ
@@ -39,13 +42,19 @@ grown m sectors = record m { provsize = 512 * sectors }
 abbrev pub move_events : DiskState → ℕ → Metadata → List ℕ → List Event
 move_events disk place m random = replace_events disk m ++ overwrite_events place (trash_sectors random)
 
--- a sector was read, without an event, as this
+-- a sector was read once, without an event, as this
 pub record Finds (place : ℕ) (disk : DiskState) (found : Result Metadata MetaFault) (disk' : DiskState) : Type 0 where
   pub bytes : List ℕ
   pub whole : length bytes ≡ 512
   pub told : Gives disk place bytes
   pub answered : found ≡ metadata_in bytes
   pub logs : Logs [] disk disk'
+  pub asked : Counted 1 disk.reads disk'.reads
+
+-- its one read failed
+pub record FailsToFind (disk disk' : DiskState) : Type 0 where
+  pub fails : FailsIn [] disk disk'
+  pub asked : Counted 1 disk.reads disk'.reads
 
 -- it was read as metadata of the old size
 pub record FindsMetadata (place oldsize : ℕ) (disk : DiskState) (m : Metadata) (disk' : DiskState) : Type 0 where
@@ -60,7 +69,7 @@ pub record FindsOther (place oldsize : ℕ) (disk : DiskState) (refusal : Refusa
 
 abbrev pub FindsOld : ℕ → ℕ → DiskState → Result Metadata Refusal → DiskState → Type 0
 FindsOld place oldsize disk (Ok m) disk' = FindsMetadata place oldsize disk m disk'
-FindsOld place oldsize disk (Err DeviceFault) disk' = FailsIn [] disk disk'
+FindsOld place oldsize disk (Err DeviceFault) disk' = FailsToFind disk disk'
 FindsOld place oldsize disk (Err refusal) disk' = FindsOther place oldsize disk refusal disk'
 
 -- an image has the new metadata in the last sector, or what is read as the old ones in the old place
@@ -89,26 +98,29 @@ pub record Prepares (oldsize : ℕ) (disk : DiskState) (entropy : EntropyState) 
   pub takes : TakesTrash random entropy entropy'
   pub again : metadata_in (encoded (grown old disk.size)) ≡ Ok (grown old disk.size)
 
--- the metadata were moved with all of the events
+-- the metadata were moved with all of the events, and one sector was read
 pub record Moves (oldsize : ℕ) (disk : DiskState) (entropy : EntropyState) (disk' : DiskState) (entropy' : EntropyState) : Type 0 where
   pub old : Metadata
   pub random : List ℕ
   pub prepares : Prepares oldsize disk entropy old random entropy'
   pub logs : Logs (move_events disk (old_place oldsize) (grown old disk.size) random) disk disk'
+  pub asked : Counted 1 disk.reads disk'.reads
   pub keeps : KeepsOneOf (grown old disk.size) (old_place oldsize) old disk disk'
 
--- the disk failed after a part of the events
+-- the disk failed after a part of the events, and one sector was read
 pub record MovesPart (oldsize : ℕ) (disk : DiskState) (entropy : EntropyState) (disk' : DiskState) (entropy' : EntropyState) : Type 0 where
   pub old : Metadata
   pub random : List ℕ
   pub prepares : Prepares oldsize disk entropy old random entropy'
   pub fails : FailsIn (move_events disk (old_place oldsize) (grown old disk.size) random) disk disk'
+  pub asked : Counted 1 disk.reads disk'.reads
   pub keeps : KeepsOneOf (grown old disk.size) (old_place oldsize) old disk disk'
 
--- the old place couldn't be read, and the disk has no event
+-- the one read of the old place failed, and the disk has no event
 pub record CannotRead (oldsize : ℕ) (disk : DiskState) (entropy : EntropyState) (disk' : DiskState) (entropy' : EntropyState) : Type 0 where
   pub sizes : size_refusal disk.size oldsize ≡ None
   pub fails : FailsIn [] disk disk'
+  pub asked : Counted 1 disk.reads disk'.reads
   pub unchanged : entropy' ≡ entropy
 
 -- there were no random bytes, and the disk has no event

@@ -15,7 +15,7 @@ without_magic rest = zeros 16 ++ rest
 unfoldable pub trash_sectors : List ℕ → List (List ℕ)
 trash_sectors random = map without_magic (passes_of 496 random)
 
--- these are the random bytes of the passes, which were taken in one piece
+-- these are the random bytes of the passes, which were taken in one call
 pub record TakesTrash (random : List ℕ) (old new : EntropyState) : Type 0 where
   pub size : length random ≡ random_size
   pub taken : Takes random old new

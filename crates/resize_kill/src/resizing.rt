@@ -50,7 +50,7 @@ fn find_old<D: Disk>(disk: &mut D, place: u64, oldsize: u64) -> Result<Metadata,
     Ok(meta)
 }
 
-// Puts metadata into the last sector, and then destroys what the old place has.
+// Puts metadata into the last sector, and then destroys what the old place has. Nothing is read.
 fn move_metadata<D: Disk>(
     disk: &mut D,
     place: u64,
@@ -61,6 +61,7 @@ fn move_metadata<D: Disk>(
     ensures read { IsTrue (is_served meta.now.version meta.now.flags) → metadata_in (encoded meta.now) ≡ Ok meta.now }
     ensures ok { OnOk result (Logs (move_events (D.state disk.old) place meta.now random.now) (D.state disk.old) (D.state disk.new)) }
     ensures err { OnErr result (FailsIn (move_events (D.state disk.old) place meta.now random.now) (D.state disk.old) (D.state disk.new)) }
+    ensures unasked { (D.state disk.new).reads ≡ (D.state disk.old).reads }
 {
     replace_metadata(disk, meta)?;
     destroy(disk, place, random)
@@ -69,7 +70,8 @@ fn move_metadata<D: Disk>(
 /// Moves the metadata of a provider whose image has grown from so many bytes, `oldsize`, to the last
 /// sector as it now is, with the image's size in them, and destroys those in the old place: six times it is
 /// written and flushed, five times with random bytes and once with zeros, and the first sixteen bytes are
-/// zeros each time (geli(8), resize). The metadata keep their version and all else but the size.
+/// zeros each time (geli(8), resize). The metadata keep their version and all else but the size. The old
+/// place is read once, also where that fails, and no other sector.
 ///
 /// Until the first flush landed every sector holds what it might hold before, whenever power fails. From
 /// then on the last sector holds the new metadata or the old place the old ones, in each image that a crash

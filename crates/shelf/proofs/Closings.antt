@@ -6,7 +6,8 @@ use Rattle.std.proofs.Common.{get_or-set_same}
 use Rattle.block_traits.specs.Disk.{DiskState}
 use Rattle.shelf.specs.declared.drawer.Drawer.{Drawer}
 use Rattle.shelf.specs.Closing.{Closes, Closing, failures}
-use Rattle.shelf.specs.World.{DrawerState, drawer_of, drawers_of}
+use Rattle.command_rows.specs.World.{DrawerState}
+use Rattle.shelf.specs.Shelved.{drawer_of, drawers_of}
 
 Closing-more : (old : List DrawerState) (count : ℕ) (new : List DrawerState) (drawer : DrawerState) (failed : Bool) (closed : DrawerState)
     → Closing old count new → Closes drawer failed closed → Closing (old ++ drawer ∷ []) (count + failures failed) (new ++ closed ∷ [])

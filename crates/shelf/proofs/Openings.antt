@@ -20,12 +20,12 @@ use Rattle.eli_metadata.specs.declared.metadata.Metadata.{Metadata}
 use Rattle.user_key.specs.Refusals.{key_refusal_of}
 use Rattle.user_key.specs.declared.components.KeyFault.{KeyFault}
 use Rattle.user_key.specs.declared.components.UserKey.{UserKey}
-use Rattle.shelf.specs.Keys.{without_value}
-use Rattle.shelf.specs.Steps.{Attaches, GoesOn, attachment_by, or_refusal, or_wrong_key, tried}
-use Rattle.shelf.proofs.Opening.{has_room}
+use Rattle.command_rows.specs.Steps.{Attaches, GoesOn, attachment_by, or_refusal, or_wrong_key, tried, without_value}
+use Rattle.command_rows.proofs.Opening.{has_room}
 use Rattle.shelf.specs.Trying.{IsTrial, attach_refusal, tried_in}
-use Rattle.shelf.specs.Turn.{AttachesUnless}
-use Rattle.shelf.specs.World.{Attachment, Idle, IsAttached, Reach, attachment_of, reach_of}
+use Rattle.command_rows.specs.Turn.{AttachesUnless}
+use Rattle.command_rows.specs.World.{Attachment, Idle, IsAttached, Reach, reach_of}
+use Rattle.shelf.specs.Shelved.{attachment_of}
 use Rattle.shelf.specs.declared.trying.Trial.{Trial}
 
 abbrev pub target : Trial → DiskState → Target

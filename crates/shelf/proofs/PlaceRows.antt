@@ -1,23 +1,23 @@
--- The rows of `backup` and `kill` on an attached drawer.
+-- The rows of `backup` and `kill` on a drawer that isn't idle.
 use Rattle.std.proofs.Common.{◌≡◌, List, ℕ, sym, subst, Result}
 use Rattle.block_traits.specs.Cabinet.{CabinetState}
 use Rattle.block_traits.specs.Disk.{DiskState}
 use Rattle.block_traits.specs.Streams.{EntropyState}
 use Rattle.command_words.specs.declared.spans.Span.{Span}
 use Rattle.eli_base.specs.declared.refusals.Refusal.{Refusal}
-use Rattle.shelf.specs.Saving.{BackupRow}
-use Rattle.shelf.specs.Sizes.{KillRow}
-use Rattle.shelf.specs.World.{Attachment, Holding, Idle, IsAttached, reach_of}
+use Rattle.command_rows.specs.Killing.{KillRow}
+use Rattle.command_rows.specs.Saving.{BackupRow}
+use Rattle.command_rows.specs.World.{Holding, Idle, reach_of}
 
--- it stays attached so
-pub backup_attached_row : (line : List ℕ) (file : Span) (a a' : Attachment) (disk disk' : DiskState) (cabinet cabinet' : CabinetState) (entropy : EntropyState) (answer : Result (Unit {0}) Refusal) → IsAttached a' ≡ IsAttached a
-    → BackupRow line file (reach_of disk (IsAttached a) cabinet entropy) answer (reach_of disk' (IsAttached a) cabinet' entropy)
-    → BackupRow line file (reach_of disk (IsAttached a) cabinet entropy) answer (reach_of disk' (IsAttached a') cabinet' entropy)
-backup_attached_row line file a a' disk disk' cabinet cabinet' entropy answer kept h =
-    subst (λ (x : Holding). BackupRow line file (reach_of disk (IsAttached a) cabinet entropy) answer (reach_of disk' x cabinet' entropy)) (sym kept) h
+-- it stays as it was
+pub backup_held_row : (line : List ℕ) (file : Span) (before after : Holding) (disk disk' : DiskState) (cabinet cabinet' : CabinetState) (entropy : EntropyState) (answer : Result (Unit {0}) Refusal) → after ≡ before
+    → BackupRow line file (reach_of disk before cabinet entropy) answer (reach_of disk' before cabinet' entropy)
+    → BackupRow line file (reach_of disk before cabinet entropy) answer (reach_of disk' after cabinet' entropy)
+backup_held_row line file before after disk disk' cabinet cabinet' entropy answer kept h =
+    subst (λ (x : Holding). BackupRow line file (reach_of disk before cabinet entropy) answer (reach_of disk' x cabinet' entropy)) (sym kept) h
 
--- the disk is the one that was attached
-pub kill_attached_row : {D : Type 0} (state : D → DiskState) (given before : D) (holding : Holding) (disk' : DiskState) (cabinet : CabinetState) (entropy entropy' : EntropyState) (answer : Result (Unit {0}) Refusal) → given ≡ before
+-- the disk is the one that was held
+pub kill_held_row : {D : Type 0} (state : D → DiskState) (given before : D) (holding : Holding) (disk' : DiskState) (cabinet : CabinetState) (entropy entropy' : EntropyState) (answer : Result (Unit {0}) Refusal) → given ≡ before
     → KillRow (reach_of (state given) holding cabinet entropy) answer (reach_of disk' Idle cabinet entropy') → KillRow (reach_of (state before) holding cabinet entropy) answer (reach_of disk' Idle cabinet entropy')
-kill_attached_row {D} state given before holding disk' cabinet entropy entropy' answer is h =
+kill_held_row {D} state given before holding disk' cabinet entropy entropy' answer is h =
     subst (λ (d : D). KillRow (reach_of (state d) holding cabinet entropy) answer (reach_of disk' Idle cabinet entropy')) is h

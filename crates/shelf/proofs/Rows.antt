@@ -1,16 +1,16 @@
 -- How rows are gone through.
-use Rattle.std.proofs.Common.{ℕ, ◌+◌, ◌≤◌, List, length, IfOk, IfSome, Result, Ok, Err, refl}
+use Rattle.std.proofs.Common.{ℕ, ◌+◌, ◌≤◌, List, ◌++◌, length, IfOk, IfSome, Result, Ok, Err, refl}
 use Rattle.std.specs.Prelude.{IfErr}
 use Rattle.block_traits.specs.Cabinet.{CabinetState}
 use Rattle.block_traits.specs.Disk.{DiskState}
 use Rattle.block_traits.specs.Streams.{EntropyState}
 use Rattle.command_words.specs.declared.spans.KeyWords.{KeyWords}
 use Rattle.eli_base.specs.declared.refusals.Refusal.{Refusal}
-use Rattle.key_components.specs.Answers.{IsAnswer, KeepsFiles, StopsAtFile}
+use Rattle.key_components.specs.Answers.{IsAnswer, KeepsFiles, LoadsEach, StopsAtFile}
 use Rattle.key_components.specs.Key.{FitsWords, components_of}
 use Rattle.user_key.specs.declared.components.Components.{Components}
-use Rattle.shelf.specs.Steps.{LoadsComponents, Then}
-use Rattle.shelf.specs.World.{Holding, Reach}
+use Rattle.command_rows.specs.Steps.{LoadsComponents, Then}
+use Rattle.command_rows.specs.World.{Holding, Reach}
 
 -- the first step refused
 pub Then-refused : {A B : Type 0} (First : Reach → Result A Refusal → Reach → Type 0) (Next : A → Reach → Result B Refusal → Reach → Type 0)
@@ -26,6 +26,6 @@ Then-goes_on First Next old middle value answer new first next = record { given 
 pub loaded : (line : List ℕ) (words : KeyWords) (disk : DiskState) (holding : Holding) (entropy : EntropyState) (old new : CabinetState) (answer : Result Components Refusal)
     → IfSome old.files (λ files. IsAnswer (components_of files line words) answer) → IfOk answer (FitsWords words)
     → IfErr answer (λ refusal. StopsAtFile line words old refusal new) → KeepsFiles old new
-    → IfErr answer (λ refusal. 1 ≤ length words.files + length words.pass)
+    → IfErr answer (λ refusal. 1 ≤ length words.files + length words.pass) → LoadsEach (words.files ++ words.pass) old answer new
     → LoadsComponents line words (record { disk = disk; holding = holding; cabinet = old; entropy = entropy }) answer (record { disk = disk; holding = holding; cabinet = new; entropy = entropy })
-loaded line words disk holding entropy old new answer told fits stops keeps named = record { told = told; fits = fits; stops = stops; keeps = keeps; named = named; disk = refl; holding = refl; entropy = refl }
+loaded line words disk holding entropy old new answer told fits stops keeps named asked = record { told = told; fits = fits; stops = stops; keeps = keeps; named = named; asked = asked; disk = refl; holding = refl; entropy = refl }

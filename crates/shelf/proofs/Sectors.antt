@@ -19,15 +19,12 @@ use Rattle.provider.specs.declared.faults.ReadFault.{ReadFault}
 use Rattle.provider.specs.declared.faults.ReadFault.TheVariants as read
 use Rattle.provider.specs.declared.faults.WriteFault.{WriteFault}
 use Rattle.provider.specs.declared.faults.WriteFault.TheVariants as write
-use Rattle.shelf.specs.Requests.{bytes_read, read_answer, read_refusal, write_refusal}
-use Rattle.shelf.specs.Steps.{DoesEvents, NeedsAttached, NeedsSectors, NeedsWhole, NeedsWritable, ReadsSectors, Then, WritesSectors, if_attached, if_writable, in_range, or_refusal, whole_sectors}
-use Rattle.shelf.specs.Turn.{ReadRow, WriteRow}
-use Rattle.shelf.specs.World.{Attachment, Idle, IsAttached, Reach, attachment_of}
+use Rattle.command_rows.specs.Requests.{bytes_read, read_answer, read_refusal, write_refusal}
+use Rattle.command_rows.specs.Steps.{DoesEvents, NeedsSectors, NeedsWhole, NeedsWritable, ReadsSectors, Then, WritesSectors, if_writable, in_range, or_refusal, whole_sectors}
+use Rattle.command_rows.specs.Turn.{ReadRow, WriteRow}
+use Rattle.command_rows.specs.World.{IsAttached, Reach}
+use Rattle.shelf.specs.Shelved.{attachment_of}
 use Rattle.shelf.proofs.Rows.{Then-goes_on, Then-refused}
-
--- a row whose drawer is idle where a provider is needed
-pub needs_attached : {A : Type 0} (Next : Attachment → Reach → Result A Refusal → Reach → Type 0) (old : Reach) → old.holding ≡ Idle → Then NeedsAttached Next old (Err refusals.NotAttached) old
-needs_attached Next old idle = Then-refused NeedsAttached Next old old refusals.NotAttached (sym (ap if_attached idle), refl)
 
 -- what was at hand when an attached provider was asked
 abbrev pub at : {D : Type 0} → (D → DiskState) → CabinetState → EntropyState → Attached D → Reach
@@ -64,16 +61,14 @@ whole_sectors-odd size bytes odd = grind (arith, nat_tests)
 
 -- the length was refused
 pub read_bad_length : {D : Type 0} (state : D → DiskState) (cabinet : CabinetState) (entropy : EntropyState) (p : Attached D) (sector count : ℕ) (refusal : Refusal)
-    → whole_sectors p.keying.sectorsize (count * p.keying.sectorsize) ≡ Err refusal → ReadRow sector count (at state cabinet entropy p) (Err refusal) (at state cabinet entropy p)
+    → whole_sectors p.keying.sectorsize (count * p.keying.sectorsize) ≡ Err refusal → ReadRow sector count (attachment_of p) (at state cabinet entropy p) (Err refusal) (at state cabinet entropy p)
 read_bad_length state cabinet entropy p sector count refusal bad =
-    Then-goes_on NeedsAttached _ (at state cabinet entropy p) (at state cabinet entropy p) (attachment_of p) _ _ (refl, refl)
-    (Then-refused (NeedsWhole (attachment_of p) (count * p.keying.sectorsize)) _ _ _ _ (sym bad, refl))
+    Then-refused (NeedsWhole (attachment_of p) (count * p.keying.sectorsize)) _ _ _ _ (sym bad, refl)
 
 pub write_bad_length : {D : Type 0} (state : D → DiskState) (cabinet : CabinetState) (entropy : EntropyState) (p : Attached D) (sector : ℕ) (bytes : List ℕ) (refusal : Refusal)
-    → whole_sectors p.keying.sectorsize (length bytes) ≡ Err refusal → WriteRow sector bytes (at state cabinet entropy p) (Err refusal) (at state cabinet entropy p)
+    → whole_sectors p.keying.sectorsize (length bytes) ≡ Err refusal → WriteRow sector bytes (attachment_of p) (at state cabinet entropy p) (Err refusal) (at state cabinet entropy p)
 write_bad_length state cabinet entropy p sector bytes refusal bad =
-    Then-goes_on NeedsAttached _ (at state cabinet entropy p) (at state cabinet entropy p) (attachment_of p) _ _ (refl, refl)
-    (Then-refused (NeedsWhole (attachment_of p) (length bytes)) _ _ _ _ (sym bad, refl))
+    Then-refused (NeedsWhole (attachment_of p) (length bytes)) _ _ _ _ (sym bad, refl)
 
 -- ---- a read
 
@@ -105,48 +100,46 @@ read_behind state cabinet entropy old new sector count bytes (Err (read.Integrit
 pub read_answered : {D : Type 0} (state : D → DiskState) (cabinet : CabinetState) (entropy : EntropyState) (old new : Attached D) (sector count : ℕ) (before bytes : List ℕ) (result : Result (Unit {0}) ReadFault)
     → 0 < old.keying.sectorsize → 1 ≤ length before → length before ≤ 131072 → length before ≡ count * old.keying.sectorsize → length bytes ≡ length before → IsKept old new
     → ReadAnswers state (request state old sector before) bytes old new result
-    → ReadRow sector count (at state cabinet entropy old) (or_bytes bytes result) (at state cabinet entropy new)
+    → ReadRow sector count (attachment_of old) (at state cabinet entropy old) (or_bytes bytes result) (at state cabinet entropy new)
 read_answered state cabinet entropy old new sector count before bytes result positive some small len same kept h =
     let whole : whole_sectors old.keying.sectorsize (count * old.keying.sectorsize) ≡ Ok count =
     whole_sectors-count old.keying.sectorsize count positive (subst (λ (n : ℕ). 1 ≤ n) len some) (subst (λ (n : ℕ). n ≤ 131072) len small) in
     let many : length before / old.keying.sectorsize ≡ count = ap (λ (n : ℕ). n / old.keying.sectorsize) len ∙ mul-div_cancel count positive in
     let asked = subst (λ (n : ℕ). ReadAnswers state (record { sector = sector; count = n; media = media old.keying (state old.disk) }) bytes old new result) many h in
-    Then-goes_on NeedsAttached _ (at state cabinet entropy old) (at state cabinet entropy old) (attachment_of old) _ _ (refl, refl)
-    (Then-goes_on (NeedsWhole (attachment_of old) (count * old.keying.sectorsize)) _ (at state cabinet entropy old) (at state cabinet entropy old) count _ _ (sym whole, refl)
-    (read_behind state cabinet entropy old new sector count bytes result (same ∙ len) kept asked))
+    Then-goes_on (NeedsWhole (attachment_of old) (count * old.keying.sectorsize)) _ (at state cabinet entropy old) (at state cabinet entropy old) count _ _ (sym whole, refl)
+    (read_behind state cabinet entropy old new sector count bytes result (same ∙ len) kept asked)
 
 -- ---- a write
 
 -- the steps behind the length
 write_behind : {D : Type 0} (state : D → DiskState) (cabinet : CabinetState) (entropy : EntropyState) (old new : Attached D) (sector count : ℕ) (bytes : List ℕ) (result : Result (Unit {0}) WriteFault)
-    → IsKept old new → WriteAnswers state (record { sector = sector; count = count; media = media old.keying (state old.disk) }) bytes old new result
+    → IsKept old new → WriteAnswers state (record { sector = sector; count = count; media = media old.keying (state old.disk) }) bytes old new result → (state new.disk).reads ≡ (state old.disk).reads
     → Then (NeedsWritable (attachment_of old)) (λ _. Then (NeedsSectors (attachment_of old) sector count) (λ _. WritesSectors (attachment_of old) sector count bytes))
     (at state cabinet entropy old) (or_refusal write_refusal result) (at state cabinet entropy new)
-write_behind state cabinet entropy old new sector count bytes (Ok done) kept h =
+write_behind state cabinet entropy old new sector count bytes (Ok done) kept h unasked =
     Then-goes_on (NeedsWritable (attachment_of old)) _ (at state cabinet entropy old) (at state cabinet entropy old) tt _ _ (sym (ap if_writable h.0), refl)
     (Then-goes_on (NeedsSectors (attachment_of old) sector count) _ (at state cabinet entropy old) (at state cabinet entropy old) tt _ _ (sym (fits _ _ _ h.1.in_range), refl)
-    (record { does = h.1.logs; holding = kept_holding old new kept; outside = record { cabinet = refl; entropy = refl } }))
-write_behind state cabinet entropy old new sector count bytes (Err write.ReadOnly) kept h =
+    (record { does = h.1.logs; unasked = unasked; holding = kept_holding old new kept; outside = record { cabinet = refl; entropy = refl } }))
+write_behind state cabinet entropy old new sector count bytes (Err write.ReadOnly) kept h unasked =
     Then-refused (NeedsWritable (attachment_of old)) _ _ _ _ (sym (ap if_writable h.0), ap (at state cabinet entropy) h.1)
-write_behind state cabinet entropy old new sector count bytes (Err (write.OutOfRange first asked there)) kept h =
+write_behind state cabinet entropy old new sector count bytes (Err (write.OutOfRange first asked there)) kept h unasked =
     let same : Err (refusals.OutOfRange first asked there) ≡ in_range sector count (media old.keying (state old.disk)) =
     ap (λ (n : ℕ). Err (refusals.OutOfRange n asked there)) h.1.sector ∙ ap (λ (n : ℕ). Err (refusals.OutOfRange sector n there)) h.1.count
     ∙ ap (λ (n : ℕ). Err (refusals.OutOfRange sector count n)) h.1.media ∙ sym (passes _ _ _ h.1.passes) in
     Then-goes_on (NeedsWritable (attachment_of old)) _ (at state cabinet entropy old) (at state cabinet entropy old) tt _ _ (sym (ap if_writable h.0), refl)
     (Then-refused (NeedsSectors (attachment_of old) sector count) _ _ _ _ (same, ap (at state cabinet entropy) h.2))
-write_behind state cabinet entropy old new sector count bytes (Err write.DeviceFault) kept h =
+write_behind state cabinet entropy old new sector count bytes (Err write.DeviceFault) kept h unasked =
     Then-goes_on (NeedsWritable (attachment_of old)) _ (at state cabinet entropy old) (at state cabinet entropy old) tt _ _ (sym (ap if_writable h.0), refl)
     (Then-goes_on (NeedsSectors (attachment_of old) sector count) _ (at state cabinet entropy old) (at state cabinet entropy old) tt _ _ (sym (fits _ _ _ h.1.in_range), refl)
-    (record { does = h.1.fails; holding = kept_holding old new kept; outside = record { cabinet = refl; entropy = refl } }))
+    (record { does = h.1.fails; unasked = unasked; holding = kept_holding old new kept; outside = record { cabinet = refl; entropy = refl } }))
 
 pub write_answered : {D : Type 0} (state : D → DiskState) (cabinet : CabinetState) (entropy : EntropyState) (old new : Attached D) (sector : ℕ) (bytes : List ℕ) (result : Result (Unit {0}) WriteFault)
     → 1 ≤ length bytes → length bytes ≤ 131072 → length bytes % old.keying.sectorsize ≡ 0 → IsKept old new
-    → WriteAnswers state (request state old sector bytes) bytes old new result
-    → WriteRow sector bytes (at state cabinet entropy old) (or_refusal write_refusal result) (at state cabinet entropy new)
-write_answered state cabinet entropy old new sector bytes result some small even kept h =
-    Then-goes_on NeedsAttached _ (at state cabinet entropy old) (at state cabinet entropy old) (attachment_of old) _ _ (refl, refl)
-    (Then-goes_on (NeedsWhole (attachment_of old) (length bytes)) _ (at state cabinet entropy old) (at state cabinet entropy old) _ _ _ (sym (whole_is old.keying.sectorsize (length bytes) some small even), refl)
-    (write_behind state cabinet entropy old new sector _ bytes result kept h))
+    → WriteAnswers state (request state old sector bytes) bytes old new result → (state new.disk).reads ≡ (state old.disk).reads
+    → WriteRow sector bytes (attachment_of old) (at state cabinet entropy old) (or_refusal write_refusal result) (at state cabinet entropy new)
+write_answered state cabinet entropy old new sector bytes result some small even kept h unasked =
+    Then-goes_on (NeedsWhole (attachment_of old) (length bytes)) _ (at state cabinet entropy old) (at state cabinet entropy old) _ _ _ (sym (whole_is old.keying.sectorsize (length bytes) some small even), refl)
+    (write_behind state cabinet entropy old new sector _ bytes result kept h unasked)
 
 -- what the buffer holds then, at whose front so many bytes were read
 pub read_bytes : (into rest : List ℕ) (count : ℕ) (result : Result (Unit {0}) ReadFault) → length into ≡ count → bytes_read (into ++ rest) (read_answer count result) ≡ or_bytes into result

@@ -7,7 +7,7 @@ use Rattle.block_traits.specs.declared.cabinet.StoreFault.{StoreFault}
 use Rattle.block_traits.specs.declared.cabinet.StoreFault.TheVariants as store
 use Rattle.command_words.specs.declared.spans.Span.{Span}
 use Rattle.key_components.specs.Answers.{KeepsFiles}
-use Rattle.shelf.specs.Steps.{StoreAnswers, store_refusal}
+use Rattle.command_rows.specs.Steps.{StoreAnswers, store_refusal}
 
 pub store_failed : (line : List ℕ) (span : Span) (bytes : List ℕ) (old new : CabinetState) (fault : StoreFault) → KeepsFiles old new → (IsErrOf {T = Unit {0}} (Err fault) store.Failed → Rose old.faults new.faults)
     → StoreAnswers line span bytes old (Err (store_refusal span.word fault)) new

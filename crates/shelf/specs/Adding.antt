@@ -3,7 +3,7 @@ use Rattle.std.specs.Prelude.{◌≡◌, ℕ, ◌<◌, ◌≤◌, List, [], ◌�
 use Rattle.block_traits.specs.Disk.{DiskState}
 use Rattle.shelf.specs.declared.drawers.AddFault.{AddFault}
 use Rattle.shelf.specs.declared.drawers.AddFault.TheVariants.{Full, Taken, NoMemory}
-use Rattle.shelf.specs.World.{DrawerState, Idle, place_of}
+use Rattle.command_rows.specs.World.{DrawerState, Idle, place_of}
 
 -- how many drawers a shelf may have
 abbrev pub most_drawers : ℕ

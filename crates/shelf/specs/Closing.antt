@@ -1,21 +1,21 @@
--- The end of a run: each attached drawer is flushed, in order, and is idle then.
+-- The end of a run: each drawer that isn't idle is flushed, in order, and is idle then.
 use Rattle.std.specs.Prelude.{◌≡◌, ℕ, ◌+◌, List, [], ◌∷◌, Bool, true, false}
 use Rattle.block_traits.specs.declared.disk.Event.TheVariants.{Flush}
 use Rattle.block_traits.specs.Disk.{DiskState, FailsIn, Logs}
-use Rattle.shelf.specs.World.{DrawerState, Holding, Idle, IsAttached, World}
+use Rattle.command_rows.specs.World.{DrawerState, Idle, World, is_idle}
 
 -- a disk is flushed, or fails in that
 abbrev pub Flushes : Bool → DiskState → DiskState → Type 0
 Flushes false old new = Logs (Flush ∷ []) old new
 Flushes true old new = FailsIn (Flush ∷ []) old new
 
--- one drawer is closed, and whether its flush failed: nothing is done on an idle one, and another is idle then
-abbrev pub ClosesAs : Holding → DrawerState → Bool → DrawerState → Type 0
-ClosesAs Idle old failed new = (failed ≡ false) × (new ≡ old)
-ClosesAs (IsAttached a) old failed new = Flushes failed old.disk new.disk × (new ≡ record { name = old.name; disk = new.disk; holding = Idle })
+-- one drawer is closed, by whether it is idle, and whether its flush failed: nothing is done on an idle one, and another is idle then and wasn't read
+abbrev pub ClosesAs : Bool → DrawerState → Bool → DrawerState → Type 0
+ClosesAs true old failed new = (failed ≡ false) × (new ≡ old)
+ClosesAs false old failed new = Flushes failed old.disk new.disk × (new ≡ record { name = old.name; disk = new.disk; holding = Idle }) × (new.disk.reads ≡ old.disk.reads)
 
 abbrev pub Closes : DrawerState → Bool → DrawerState → Type 0
-Closes old failed new = ClosesAs old.holding old failed new
+Closes old failed new = ClosesAs (is_idle old.holding) old failed new
 
 -- one where it failed
 abbrev pub failures : Bool → ℕ

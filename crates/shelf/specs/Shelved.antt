@@ -1,8 +1,43 @@
--- A shelf: its drawers, and the buffer of requests.
-use Rattle.std.specs.Prelude.{ℕ, List}
+-- A shelf: its drawers, and the buffer of requests; and the drawers of the code as plain data.
+use Rattle.std.specs.Prelude.{ℕ, List, map}
+use Rattle.block_traits.specs.Cabinet.{CabinetState}
+use Rattle.block_traits.specs.Disk.{DiskState}
+use Rattle.block_traits.specs.Streams.{EntropyState}
+use Rattle.command_rows.specs.World.{Attachment, DrawerState, Holding, Idle, IsAttached, IsSuspended, Kept, World}
+use Rattle.provider.specs.Attached.{Attached}
 use Rattle.shelf.specs.declared.drawer.Drawer.{Drawer}
+use Rattle.shelf.specs.declared.drawer.Held.{Held}
+use Rattle.shelf.specs.declared.drawer.Held.TheVariants as held
+use Rattle.suspend.specs.Suspension.{Suspension}
 
 -- the drawers in order of adding, and the bytes of the last request
 pub record Shelved (D : Type 0) : Type 0 where
   pub drawers : List (Drawer D)
   pub buffer : List ℕ
+
+abbrev pub attachment_of : {D : Type 0} → Attached D → Attachment
+attachment_of p = record { slot = p.slot; keying = p.keying; readonly = p.readonly }
+
+abbrev pub kept_of : {D : Type 0} → Suspension D → Kept
+kept_of s = record { sectorsize = s.sectorsize; sectors = s.sectors; slot = s.slot; readonly = s.readonly; mark = s.mark }
+
+-- the disk in a drawer, and what the drawer does with it
+abbrev pub disk_in : {D : Type 0} → (D → DiskState) → Held D → DiskState
+disk_in state (held.Idle disk) = state disk
+disk_in state (held.Attached provider) = state provider.disk
+disk_in state (held.Suspended suspended) = state suspended.disk
+
+abbrev pub holding_of : {D : Type 0} → Held D → Holding
+holding_of (held.Idle disk) = Idle
+holding_of (held.Attached provider) = IsAttached (attachment_of provider)
+holding_of (held.Suspended suspended) = IsSuspended (kept_of suspended)
+
+abbrev pub drawer_of : {D : Type 0} → (D → DiskState) → Drawer D → DrawerState
+drawer_of state drawer = record { name = drawer.name; disk = disk_in state drawer.held; holding = holding_of drawer.held }
+
+-- the drawers in order of adding
+abbrev pub drawers_of : {D : Type 0} → (D → DiskState) → List (Drawer D) → List DrawerState
+drawers_of state drawers = map (drawer_of state) drawers
+
+abbrev pub world_of : {D : Type 0} → (D → DiskState) → Shelved D → CabinetState → EntropyState → World
+world_of state shelf cabinet entropy = record { drawers = drawers_of state shelf.drawers; cabinet = cabinet; entropy = entropy }

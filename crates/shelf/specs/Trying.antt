@@ -6,8 +6,8 @@ use Rattle.eli_metadata.specs.Checks.{settings_of, size_matches, slot_matches, s
 use Rattle.provider.specs.declared.faults.AttachFault.{AttachFault}
 use Rattle.provider.specs.declared.faults.AttachFault.TheVariants as attach
 use Rattle.shelf.specs.declared.trying.Trial.{Trial}
-use Rattle.shelf.specs.Steps.{tried}
-use Rattle.shelf.specs.World.{Attachment}
+use Rattle.command_rows.specs.Steps.{tried}
+use Rattle.command_rows.specs.World.{Attachment}
 
 -- with what the provider would be attached, or why it isn't
 abbrev pub tried_in : Option ℕ → Bool → Trial → Result Attachment Refusal

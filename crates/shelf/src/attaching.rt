@@ -5,9 +5,10 @@ ghost use Rattle.block_traits.specs.Cabinet.{CabinetState};
 ghost use Rattle.block_traits.specs.Streams.{EntropyState};
 ghost use Rattle.command_words.specs.Places.{KeyIsWithin};
 ghost use Rattle.shelf.specs.Trying.{IsTrial, attach_refusal, tried_in};
-ghost use Rattle.shelf.specs.Steps.{Attaches, GoesOn};
-ghost use Rattle.shelf.specs.Turn.{AttachRow};
-ghost use Rattle.shelf.specs.World.{Idle, disk_in, holding_of, reach_of};
+ghost use Rattle.command_rows.specs.Steps.{Attaches, GoesOn};
+ghost use Rattle.command_rows.specs.Turn.{AttachRow};
+ghost use Rattle.command_rows.specs.World.{Idle, reach_of};
+ghost use Rattle.shelf.specs.Shelved.{disk_in, holding_of};
 
 use crate::Held;
 use crate::trying::{Trial, prepare, try_key};

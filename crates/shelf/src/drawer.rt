@@ -1,22 +1,28 @@
-// A named disk, and what is attached on it.
+// A named disk, and what is attached or suspended on it.
 ghost use Rattle.command_words.specs.Bounds.{IsBounded};
 ghost use Rattle.command_words.specs.Places.{CommandIsWithin, provider_of};
 ghost use Rattle.reply_text.specs.Text.{FitsPayload};
-ghost use Rattle.shelf.specs.Answer.{answer_of};
+ghost use Rattle.command_rows.specs.Answer.{answer_of};
+ghost use Rattle.shelf.specs.Buffers.{is_attached, uses_buffer};
 ghost use Rattle.shelf.specs.Closing.{Closes};
-ghost use Rattle.shelf.specs.Requests.{bytes_read};
-ghost use Rattle.shelf.specs.Steps.{request_limit};
-ghost use Rattle.shelf.specs.Turn.{Serves, ShowsBy, digest_or, done_or, dump_or, payload_or, row_of, takes_out};
-ghost use Rattle.shelf.specs.World.{HoldsKeying, IsAttached, Idle, attachment_of, disk_in, drawer_of, holding_of, reach_of};
-ghost use Rattle.std.specs.Prelude.{◌≡◌, ◌≤◌, ℕ, List, IfOk, IsSome, false, length, option_copied};
+ghost use Rattle.command_rows.specs.Gate.{needs, refused_by};
+ghost use Rattle.command_rows.specs.Requests.{bytes_read};
+ghost use Rattle.command_rows.specs.Steps.{request_limit};
+ghost use Rattle.command_rows.specs.Turn.{GoesThrough, Serves, ShowsBy, digest_or, done_or, dump_or, entry_of, payload_or, takes_out};
+ghost use Rattle.command_rows.specs.World.{HoldsKeying, Idle, IsAttached, IsSuspended, reach_of};
+ghost use Rattle.shelf.specs.Shelved.{attachment_of, disk_in, drawer_of, holding_of, kept_of};
+ghost use Rattle.std.specs.Prelude.{◌≡◌, ◌≤◌, ℕ, List, IfOk, IsSome, None, false, length, option_copied};
 
 use crate::attaching::attach;
-use crate::keys::{delkey, setkey_attached, setkey_idle};
-use crate::making::{init, iterations_of};
+use crate::delete_keys::delkey;
+use crate::killing::kill;
+use crate::new_provider::{init, iterations_of};
 use crate::reading::read_last;
 use crate::requests::{flush_answer, read, write};
-use crate::saving::{backup, restore};
-use crate::sizes::{kill, resize};
+use crate::resizing::resize;
+use crate::restoring::restore;
+use crate::saving::backup;
+use crate::set_key::{setkey_attached, setkey_idle};
 use crate::workloads::{fill, sum};
 use block_traits::{ByteList, Cabinet, Disk, Entropy, Event, LastSector};
 use command_words::Command;
@@ -26,14 +32,17 @@ use key_commands::InitOptions;
 use provider::{Provider, rest_tells_all};
 use reply_text::{Reply, Row};
 use std::alloc::{AllocError, Global};
+use suspend::{Suspended, rest_tells_all as suspension_tells_all};
 
-/// A disk, idle or with its provider attached.
+/// A disk, idle, or with its provider attached or suspended.
 #[derive(Drop)]
 pub enum Held<D: Drop> {
     /// The disk.
     Idle(D),
     /// The provider, which has the disk.
     Attached(Provider<D>),
+    /// What is kept of the provider, with the disk.
+    Suspended(Suspended<D>),
 }
 
 /// A disk under its name.
@@ -41,7 +50,7 @@ pub enum Held<D: Drop> {
 pub struct Drawer<D: Drop> {
     /// The name's bytes.
     pub name: ByteList,
-    /// The disk, and what is attached on it.
+    /// The disk, and what is attached or suspended on it.
     pub held: Held<D>,
 }
 
@@ -67,18 +76,26 @@ impl<D: Disk> Drawer<D> {
             (reach_of (disk_in D.state self.held) (holding_of self.held) (C.state files.old) (E.state entropy.old)) (answer_of buffer.new result.1)
             (reach_of (disk_in D.state result.0.held) (holding_of result.0.held) (C.state files.new) (E.state entropy.new)) }
         ensures payload { FitsPayload request_limit result.1 }
+        ensures buffer { uses_buffer command.now ≡ false → buffer.new ≡ buffer.old }
+        ensures idle { is_attached (holding_of self.held) ≡ false → buffer.new ≡ buffer.old }
     {
         let Drawer { name, held } = self;
+        if let Some(refusal) = refused_by(command, &held) {
+            return (Drawer { name, held }, Reply::Refused(refusal));
+        }
         let (held, reply) = match held {
             Held::Idle(disk) => serve_idle(alloc, disk, line, command, files, entropy),
             Held::Attached(provider) => serve_attached(
                 alloc, provider, line, command, buffer, files, entropy,
             ),
+            Held::Suspended(suspended) => serve_suspended(
+                alloc, suspended, line, command, files, entropy,
+            ),
         };
         (Drawer { name, held }, reply)
     }
 
-    /// Flushes the disk where its provider is attached, and says whether that failed. The drawer is idle then.
+    /// Flushes the disk where its provider is attached or suspended, and says whether that failed. The drawer is idle then.
     pub fn close(self) -> (Drawer<D>, bool)
         ensures { Closes (drawer_of D.state self) result.1 (drawer_of D.state result.0) }
     {
@@ -93,26 +110,40 @@ impl<D: Disk> Drawer<D> {
                 let held = Held::Idle(disk);
                 (Drawer { name, held }, closed.is_err())
             }
+            Held::Suspended(suspended) => {
+                let (disk, closed) = suspended.detach();
+                let held = Held::Idle(disk);
+                (Drawer { name, held }, closed.is_err())
+            }
         }
     }
 
-    /// The row of the drawer in a list.
-    pub fn row(&self, alloc: Global) -> Result<Row, AllocError>
-        ensures { IfOk result (λ row. row ≡ row_of (drawer_of D.state self.now)) }
+    /// The entry of the drawer in a list.
+    pub fn entry(&self, alloc: Global) -> Result<Row, AllocError>
+        ensures { IfOk result (λ entry. entry ≡ entry_of (drawer_of D.state self.now)) }
     {
         let name = ByteList::from_vec(self.name.as_slice().to_vec(alloc)?);
         match &self.held {
             Held::Idle(_) => Ok(Row {
                 name,
                 attached: false,
+                suspended: false,
                 sectorsize: 0,
                 sectors: 0,
             }),
             Held::Attached(provider) => Ok(Row {
                 name,
                 attached: true,
+                suspended: false,
                 sectorsize: provider.sector_size(),
                 sectors: provider.sectors(),
+            }),
+            Held::Suspended(suspended) => Ok(Row {
+                name,
+                attached: false,
+                suspended: true,
+                sectorsize: suspended.sector_size(),
+                sectors: suspended.sectors(),
             }),
         }
     }
@@ -124,6 +155,7 @@ impl<D: Disk> Drawer<D> {
         match &self.held {
             Held::Idle(_) => {}
             Held::Attached(provider) => provider.is_of_a_keying(),
+            Held::Suspended(_) => {}
         }
     }
 
@@ -133,12 +165,49 @@ impl<D: Disk> Drawer<D> {
     {
         match &self.held {
             Held::Idle(disk) => disk.events(),
-            Held::Attached(_) => None,
+            Held::Attached(_) | Held::Suspended(_) => None,
         }
     }
 }
 
-// Goes through the row of the command's verb, on an idle drawer.
+// Why the drawer isn't such a one as the verb needs, if it isn't.
+fn refused_by<D: Disk>(command: &Command, held: &Held<D>) -> Option<Refusal>
+    ensures { result ≡ refused_by (needs command.now) (holding_of held.now) }
+{
+    match command {
+        Command::Init { .. }
+        | Command::Attach { .. }
+        | Command::Restore { .. }
+        | Command::Resize { .. } => match held {
+            Held::Idle(_) => None,
+            Held::Attached(_) | Held::Suspended(_) => Some(Refusal::StillAttached),
+        },
+        Command::Read { .. }
+        | Command::Write { .. }
+        | Command::Flush { .. }
+        | Command::Fill { .. }
+        | Command::Sum { .. } => match held {
+            Held::Idle(_) => Some(Refusal::NotAttached),
+            Held::Attached(_) => None,
+            Held::Suspended(_) => Some(Refusal::Suspended),
+        },
+        Command::Detach { .. } => match held {
+            Held::Idle(_) => Some(Refusal::NotAttached),
+            Held::Attached(_) | Held::Suspended(_) => None,
+        },
+        Command::Setkey { .. } | Command::Delkey { .. } => match held {
+            Held::Idle(_) | Held::Attached(_) => None,
+            Held::Suspended(_) => Some(Refusal::Suspended),
+        },
+        Command::List
+        | Command::Dump { .. }
+        | Command::Kill { .. }
+        | Command::Backup { .. }
+        | Command::Eject { .. } => None,
+    }
+}
+
+// Goes through the row of the command's verb, on an idle drawer, which is such a one as the verb needs.
 fn serve_idle<D: Disk, C: Cabinet, E: Entropy>(
     alloc: Global,
     disk: D,
@@ -151,7 +220,8 @@ fn serve_idle<D: Disk, C: Cabinet, E: Entropy>(
     requires bounds { IsBounded line.now command.now }
     requires named { IsSome (provider_of command.now) }
     requires stays { takes_out command.now ≡ false }
-    ensures serves { (bytes : List ℕ) → Serves line.now command.now
+    requires needed { refused_by (needs command.now) Idle ≡ None }
+    ensures serves { (bytes : List ℕ) → GoesThrough line.now command.now
         (reach_of (D.state disk) Idle (C.state files.old) (E.state entropy.old)) (answer_of bytes result.1)
         (reach_of (disk_in D.state result.0) (holding_of result.0) (C.state files.new) (E.state entropy.new)) }
     ensures payload { FitsPayload 0 result.1 }
@@ -256,13 +326,14 @@ fn serve_idle<D: Disk, C: Cabinet, E: Entropy>(
             let answer = resize(&mut disk, *oldsize, entropy);
             (Held::Idle(disk), done_or(answer))
         }
-        Command::Detach { .. } => (Held::Idle(disk), Reply::Refused(Refusal::NotAttached)),
-        Command::Read { .. } => (Held::Idle(disk), Reply::Refused(Refusal::NotAttached)),
-        Command::Write { .. } => (Held::Idle(disk), Reply::Refused(Refusal::NotAttached)),
-        Command::Flush { .. } => (Held::Idle(disk), Reply::Refused(Refusal::NotAttached)),
-        Command::Fill { .. } => (Held::Idle(disk), Reply::Refused(Refusal::NotAttached)),
-        Command::Sum { .. } => (Held::Idle(disk), Reply::Refused(Refusal::NotAttached)),
-        Command::List | Command::Eject { .. } => unreachable!(),
+        Command::Detach { .. }
+        | Command::Read { .. }
+        | Command::Write { .. }
+        | Command::Flush { .. }
+        | Command::Fill { .. }
+        | Command::Sum { .. }
+        | Command::List
+        | Command::Eject { .. } => unreachable!(),
     }
 }
 
@@ -280,11 +351,13 @@ fn serve_attached<D: Disk, C: Cabinet, E: Entropy>(
     requires bounds { IsBounded line.now command.now }
     requires named { IsSome (provider_of command.now) }
     requires stays { takes_out command.now ≡ false }
+    requires needed { refused_by (needs command.now) (IsAttached (attachment_of provider)) ≡ None }
     requires room { length buffer.old ≡ request_limit }
-    ensures serves { Serves line.now command.now
+    ensures serves { GoesThrough line.now command.now
         (reach_of (D.state provider.disk) (IsAttached (attachment_of provider)) (C.state files.old) (E.state entropy.old)) (answer_of buffer.new result.1)
         (reach_of (disk_in D.state result.0) (holding_of result.0) (C.state files.new) (E.state entropy.new)) }
     ensures payload { FitsPayload request_limit result.1 }
+    ensures buffer { uses_buffer command.now ≡ false → buffer.new ≡ buffer.old }
 {
     let mut provider = provider;
     match command {
@@ -293,14 +366,6 @@ fn serve_attached<D: Disk, C: Cabinet, E: Entropy>(
             let reply = dump_or(read_last(&mut provider));
             (Held::Attached(provider), reply)
         }
-        Command::Init { .. } => (
-            Held::Attached(provider),
-            Reply::Refused(Refusal::StillAttached),
-        ),
-        Command::Attach { .. } => (
-            Held::Attached(provider),
-            Reply::Refused(Refusal::StillAttached),
-        ),
         Command::Setkey {
             iterations,
             slot,
@@ -343,14 +408,6 @@ fn serve_attached<D: Disk, C: Cabinet, E: Entropy>(
             let answer = backup(alloc, &mut provider, line, *file, files);
             (Held::Attached(provider), done_or(answer))
         }
-        Command::Restore { .. } => (
-            Held::Attached(provider),
-            Reply::Refused(Refusal::StillAttached),
-        ),
-        Command::Resize { .. } => (
-            Held::Attached(provider),
-            Reply::Refused(Refusal::StillAttached),
-        ),
         Command::Detach { .. } => {
             let (disk, flushed) = provider.detach();
             (Held::Idle(disk), done_or(flush_answer(flushed)))
@@ -380,7 +437,67 @@ fn serve_attached<D: Disk, C: Cabinet, E: Entropy>(
             let answer = sum(&mut provider, *start, *count, buffer);
             (Held::Attached(provider), digest_or(answer))
         }
-        Command::List | Command::Eject { .. } => unreachable!(),
+        Command::Init { .. }
+        | Command::Attach { .. }
+        | Command::Restore { .. }
+        | Command::Resize { .. }
+        | Command::List
+        | Command::Eject { .. } => unreachable!(),
+    }
+}
+
+// The same, on a suspended drawer, of which no verb changes the sectors.
+fn serve_suspended<D: Disk, C: Cabinet, E: Entropy>(
+    alloc: Global,
+    suspended: Suspended<D>,
+    line: &[u8],
+    command: &Command,
+    files: &mut C,
+    entropy: &mut E,
+) -> (Held<D>, Reply)
+    requires within { CommandIsWithin (length line.now) command.now }
+    requires named { IsSome (provider_of command.now) }
+    requires stays { takes_out command.now ≡ false }
+    requires needed { refused_by (needs command.now) (IsSuspended (kept_of suspended)) ≡ None }
+    ensures serves { (bytes : List ℕ) → GoesThrough line.now command.now
+        (reach_of (D.state suspended.disk) (IsSuspended (kept_of suspended)) (C.state files.old) (E.state entropy.old)) (answer_of bytes result.1)
+        (reach_of (disk_in D.state result.0) (holding_of result.0) (C.state files.new) (E.state entropy.new)) }
+    ensures payload { FitsPayload 0 result.1 }
+{
+    let mut suspended = suspended;
+    match command {
+        Command::Dump { .. } => {
+            suspension_tells_all::<D>();
+            let reply = dump_or(read_last(&mut suspended));
+            (Held::Suspended(suspended), reply)
+        }
+        Command::Kill { .. } => {
+            let mut disk = suspended.withdraw();
+            let answer = kill(&mut disk, entropy);
+            (Held::Idle(disk), done_or(answer))
+        }
+        Command::Backup { file, .. } => {
+            suspension_tells_all::<D>();
+            let answer = backup(alloc, &mut suspended, line, *file, files);
+            (Held::Suspended(suspended), done_or(answer))
+        }
+        Command::Detach { .. } => {
+            let (disk, flushed) = suspended.detach();
+            (Held::Idle(disk), done_or(flush_answer(flushed)))
+        }
+        Command::Init { .. }
+        | Command::Attach { .. }
+        | Command::Setkey { .. }
+        | Command::Delkey { .. }
+        | Command::Restore { .. }
+        | Command::Resize { .. }
+        | Command::Read { .. }
+        | Command::Write { .. }
+        | Command::Flush { .. }
+        | Command::Fill { .. }
+        | Command::Sum { .. }
+        | Command::List
+        | Command::Eject { .. } => unreachable!(),
     }
 }
 

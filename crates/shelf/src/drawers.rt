@@ -1,14 +1,16 @@
 // The drawers in order of adding.
-ghost use Rattle.std.specs.Prelude.{◌≡◌, ◌<◌, ◌≤◌, ℕ, List, map, ◌∷◌, ◌++◌, [], IfOk, IfSome, MatchResult, length, option_copied, vec_capacity, vec_len};
+ghost use Rattle.std.specs.Prelude.{◌≡◌, false, ◌<◌, ◌≤◌, ℕ, List, map, ◌∷◌, ◌++◌, [], IfOk, IfSome, MatchResult, length, option_copied, vec_capacity, vec_len};
 ghost use Rattle.std.specs.List.{insert};
 ghost use Rattle.command_words.specs.Bounds.{IsBounded};
-ghost use Rattle.command_words.specs.Places.{CommandIsWithin};
+ghost use Rattle.command_words.specs.Places.{CommandIsWithin, bytes_at, provider_of};
 ghost use Rattle.shelf.specs.Adding.{Adds, RefusesToAdd};
 ghost use Rattle.reply_text.specs.Text.{FitsPayload};
-ghost use Rattle.shelf.specs.Answer.{answer_of};
+ghost use Rattle.command_rows.specs.Answer.{answer_of};
+ghost use Rattle.shelf.specs.Buffers.{is_attached_on, uses_buffer};
 ghost use Rattle.shelf.specs.Closing.{Closing, failures};
-ghost use Rattle.shelf.specs.Turn.{ListsAs, Shows, Turn, row_of, takes_out};
-ghost use Rattle.shelf.specs.World.{HoldKeyings, drawers_of, place_of, world_of};
+ghost use Rattle.command_rows.specs.Turn.{ListsAs, Shows, Turn, entry_of, takes_out};
+ghost use Rattle.command_rows.specs.World.{HoldKeyings, place_of};
+ghost use Rattle.shelf.specs.Shelved.{drawers_of, world_of};
 
 use crate::requests::REQUEST_LIMIT;
 use crate::{Drawer, Held};
@@ -45,7 +47,7 @@ pub enum AddFault {
 }
 
 impl<D: Drop> Model for Drawers<D> {
-    ghost use Rattle.std.specs.Prelude.{◌≡◌, ◌≤◌, vec_capacity, vec_len};
+    ghost use Rattle.std.specs.Prelude.{◌≡◌, false, ◌≤◌, vec_capacity, vec_len};
     ghost use Rattle.shelf.specs.Shelved.{Shelved};
 
     ghost Value = { Shelved D };
@@ -91,8 +93,9 @@ impl<D: Disk> Drawers<D> {
     }
 
     /// Serves a command, whose places are those of the line: `UnknownProvider` exactly where no drawer has the name of
-    /// its provider, and else what the drawer answers. The other drawers stay as they are. `list` answers a row for each
-    /// drawer, or that there was no memory. `eject` takes the drawer out with its disk, of which no call is made.
+    /// its provider, and else what the drawer answers. The other drawers stay as they are. `list` answers an entry for each
+    /// drawer, or that there was no memory. `eject` takes the drawer out with its disk, of which no call is made. The buffer
+    /// of requests changes in `read`, `write`, `fill` and `sum` on an attached drawer alone.
     pub fn serve<C: Cabinet, E: Entropy>(
         &mut self,
         line: &[u8],
@@ -106,6 +109,9 @@ impl<D: Disk> Drawers<D> {
             (world_of D.state self.old (C.state files.old) (E.state entropy.old)) (answer_of self.new.buffer result)
             (world_of D.state self.new (C.state files.new) (E.state entropy.new)) }
         ensures payload { FitsPayload (length self.new.buffer) result }
+        ensures buffer { uses_buffer command.now ≡ false → self.new.buffer ≡ self.old.buffer }
+        ensures idle { IfSome (provider_of command.now) (λ prov. is_attached_on (bytes_at line.now prov) (drawers_of D.state self.old.drawers) ≡ false →
+            self.new.buffer ≡ self.old.buffer) }
     {
         let Some(prov) = command.provider() else {
             return self.list();
@@ -125,13 +131,13 @@ impl<D: Disk> Drawers<D> {
         reply
     }
 
-    // A row for each drawer.
+    // An entry for each drawer.
     fn list(&self) -> Reply
         ensures rows { (bytes : List ℕ) → ListsAs (drawers_of D.state self.now.drawers) (answer_of bytes result) }
         ensures payload { FitsPayload 0 result }
     {
-        match rows_of(*self.drawers.allocator(), &self.drawers) {
-            Ok(rows) => Reply::Rows(RowList::from_vec(rows)),
+        match entries_of(*self.drawers.allocator(), &self.drawers) {
+            Ok(entries) => Reply::Rows(RowList::from_vec(entries)),
             Err(_) => Reply::Refused(Refusal::NoMemory),
         }
     }
@@ -143,7 +149,7 @@ impl<D: Disk> Drawers<D> {
         self.buffer.as_slice()
     }
 
-    /// Flushes the disk of each attached drawer, in order, and answers how many flushes failed. All drawers are idle then.
+    /// Flushes the disk of each attached or suspended drawer, in order, and answers how many flushes failed. All drawers are idle then.
     pub fn close(&mut self) -> u32
         ensures closing { Closing (drawers_of D.state self.old.drawers) result (drawers_of D.state self.new.drawers) }
         ensures buffer { self.new.buffer ≡ self.old.buffer }
@@ -209,15 +215,15 @@ fn hold_keyings<D: Disk>(drawers: &[Drawer<D>])
     }
 }
 
-// A row for each drawer, in order.
-fn rows_of<D: Disk>(alloc: Global, drawers: &[Drawer<D>]) -> Result<Vec<Row>, AllocError>
-    ensures { IfOk result (λ rows. rows.items ≡ map row_of (drawers_of D.state drawers.now)) }
+// An entry for each drawer, in order.
+fn entries_of<D: Disk>(alloc: Global, drawers: &[Drawer<D>]) -> Result<Vec<Row>, AllocError>
+    ensures { IfOk result (λ entries. entries.items ≡ map entry_of (drawers_of D.state drawers.now)) }
 {
-    let mut rows = Vec::new(alloc);
+    let mut entries = Vec::new(alloc);
     for drawer in drawers {
-        rows.push(drawer.row(alloc)?)?;
+        entries.push(drawer.entry(alloc)?)?;
     }
-    Ok(rows)
+    Ok(entries)
 }
 
 // The place of the first drawer with the name.

@@ -1,7 +1,7 @@
 //! The metadata of a disk, with which commands begin.
 
 ghost use Rattle.std.specs.Prelude.{◌≡◌};
-ghost use Rattle.shelf.specs.Steps.{Reads};
+ghost use Rattle.command_rows.specs.Steps.{Reads};
 
 use block_traits::MetaPlace;
 use eli_base::Refusal;

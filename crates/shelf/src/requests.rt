@@ -1,13 +1,16 @@
 //! Logical sectors of an attached provider are read and written.
 
-ghost use Rattle.std.specs.Prelude.{◌≡◌, ◌≤◌, IfOk, length, take};
+ghost use Rattle.std.specs.Prelude.{◌≡◌, ◌≤◌, ◌*◌, IfOk, IsOk, Ok, length, take};
 ghost use Rattle.block_traits.specs.Cabinet.{CabinetState};
 ghost use Rattle.block_traits.specs.Streams.{EntropyState};
-ghost use Rattle.shelf.specs.Digits.{SpellsBytes, bytes_spelled};
-ghost use Rattle.shelf.specs.Requests.{bytes_read, read_answer, write_refusal};
-ghost use Rattle.shelf.specs.Steps.{or_refusal, request_limit};
-ghost use Rattle.shelf.specs.Turn.{ReadRow, WriteRow};
-ghost use Rattle.shelf.specs.World.{IsAttached, attachment_of, reach_of};
+ghost use Rattle.hex.specs.Hex.{decode_of};
+ghost use Rattle.command_rows.specs.Digits.{SpellsBytes, bytes_spelled};
+ghost use Rattle.command_rows.specs.Requests.{bytes_read, read_answer, write_refusal};
+ghost use Rattle.command_rows.specs.Steps.{or_refusal, request_limit};
+ghost use Rattle.command_rows.specs.Turn.{ReadRow, WriteRow};
+ghost use Rattle.command_rows.specs.World.{IsAttached, reach_of};
+ghost use Rattle.shelf.specs.Shelved.{attachment_of};
+ghost use Rattle.shelf.specs.Requests.{digit_value};
 
 use block_traits::{Disk, DiskFailed};
 use eli_base::Refusal;
@@ -67,7 +70,7 @@ pub fn read<D: Disk>(
 ) -> Result<u32, Refusal>
     requires { length buffer.old ≡ request_limit }
     ensures row { (cabinet : CabinetState) (entropy : EntropyState) →
-        ReadRow sector count
+        ReadRow sector count (attachment_of provider.old)
         (reach_of (D.state provider.old.disk) (IsAttached (attachment_of provider.old)) cabinet entropy) (bytes_read buffer.new result)
         (reach_of (D.state provider.new.disk) (IsAttached (attachment_of provider.new)) cabinet entropy) }
     ensures bound { IfOk result (λ bytes. bytes ≤ request_limit) }
@@ -91,7 +94,7 @@ pub fn write<D: Disk>(
     requires spelled { SpellsBytes digits.now }
     requires room { length buffer.old ≡ request_limit }
     ensures { (cabinet : CabinetState) (entropy : EntropyState) →
-        WriteRow sector (bytes_spelled digits.now)
+        WriteRow sector (bytes_spelled digits.now) (attachment_of provider.old)
         (reach_of (D.state provider.old.disk) (IsAttached (attachment_of provider.old)) cabinet entropy) result
         (reach_of (D.state provider.new.disk) (IsAttached (attachment_of provider.new)) cabinet entropy) }
 {
@@ -112,8 +115,30 @@ fn decode(digits: &[u8], buffer: &mut [u8]) -> usize
     ensures bound { result ≤ request_limit }
 {
     let count = digits.len() / 2;
-    let _ = hex::decode_to_slice(digits, &mut buffer[..count]);
+    decode_into(digits, &mut buffer[..count]);
     count
+}
+
+// The value of a hexadecimal digit in either case: the low four bits, and nine more for a letter.
+#[inline(always)]
+fn digit_value(digit: u8) -> u8
+    ensures { result ≡ digit_value digit }
+{
+    digit % 16 + 9 * (digit / 64)
+}
+
+// Puts the bytes that digits spell into room for just as many. No digit is asked whether it is one, so that many are taken
+// together.
+fn decode_into(digits: &[u8], out: &mut [u8])
+    requires spelled { IsOk (decode_of digits.now) }
+    requires room { length digits.now ≡ 2 * length out.old }
+    ensures { decode_of digits.now ≡ Ok out.new }
+{
+    for i in 0..out.len() {
+        let high = digit_value(digits[2 * i]);
+        let low = digit_value(digits[2 * i + 1]);
+        out[i] = high.wrapping_mul(16).wrapping_add(low);
+    }
 }
 
 /// What a flush comes to.

@@ -1,17 +1,16 @@
-//! `geli backup` and `geli restore`: metadata are stored in a file, and written back from one (geli(8)).
+//! `geli backup`: metadata are stored in a file (geli(8)).
 
 ghost use Rattle.std.specs.Prelude.{◌≡◌, length};
 ghost use Rattle.block_traits.specs.Disk.{DiskState};
 ghost use Rattle.block_traits.specs.Streams.{EntropyState};
 ghost use Rattle.command_words.specs.Places.{IsWithin};
-ghost use Rattle.shelf.specs.Saving.{BackupRow, RestoreRow};
-ghost use Rattle.shelf.specs.Steps.{StoresBytes, store_refusal};
-ghost use Rattle.shelf.specs.World.{Holding, Idle, reach_of};
+ghost use Rattle.command_rows.specs.Saving.{BackupRow};
+ghost use Rattle.command_rows.specs.Steps.{StoresBytes, store_refusal};
+ghost use Rattle.command_rows.specs.World.{Holding, reach_of};
 
-use block_traits::{Cabinet, Disk, MetaPlace, StoreFault};
+use block_traits::{Cabinet, MetaPlace, StoreFault};
 use command_words::Span;
 use eli_base::Refusal;
-use key_components::{FILE_LIMIT, load_file};
 use std::alloc::Global;
 
 // The refusal of the file that the word names, by what a store of it answered.
@@ -61,23 +60,4 @@ pub fn backup<P: MetaPlace, C: Cabinet>(
     let mut sector = [0; 512];
     backup_restore::backup(place, &mut sector)?;
     store_at(alloc, line, file, &sector, files)
-}
-
-/// Writes the metadata of the file at a place of the line to the disk of an idle drawer; where the sizes differ only if forced.
-pub fn restore<D: Disk, C: Cabinet>(
-    alloc: Global,
-    disk: &mut D,
-    line: &[u8],
-    file: Span,
-    force: bool,
-    files: &mut C,
-) -> Result<(), Refusal>
-    requires { IsWithin (length line.now) file }
-    ensures { (entropy : EntropyState) → RestoreRow line.now file force
-        (reach_of (D.state disk.old) Idle (C.state files.old) entropy) result
-        (reach_of (D.state disk.new) Idle (C.state files.new) entropy) }
-{
-    let bytes = load_file(alloc, line, file, FILE_LIMIT, files)?;
-    backup_restore::restore(disk, bytes.as_slice(), force)?;
-    Ok(())
 }

@@ -4,11 +4,10 @@ ghost use Rattle.std.specs.Prelude.{◌≡◌, ◌<◌, ◌^◌, IfOk, OnOk, Mat
 ghost use Rattle.block_traits.specs.Streams.{EntropyState};
 ghost use Rattle.command_words.specs.Places.{KeyIsWithin};
 ghost use Rattle.eli_metadata.specs.Checks.{settings_of, size_matches, slot_matches, supported};
-ghost use Rattle.shelf.specs.Keys.{without_value};
-ghost use Rattle.shelf.specs.Steps.{admitted, or_refusal};
+ghost use Rattle.command_rows.specs.Steps.{admitted, or_refusal, without_value};
 ghost use Rattle.shelf.specs.Trying.{IsTrial, tried_by, tried_in};
-ghost use Rattle.shelf.specs.Turn.{TryRow};
-ghost use Rattle.shelf.specs.World.{Holding, reach_of};
+ghost use Rattle.command_rows.specs.Turn.{TryRow};
+ghost use Rattle.command_rows.specs.World.{Holding, reach_of};
 ghost use Rattle.user_key.specs.Derivation.{user_key};
 ghost use Rattle.user_key.specs.Refusals.{key_refusal_of};
 
@@ -75,6 +74,7 @@ pub fn prepare<P: MetaPlace, C: Cabinet>(
         (reach_of (P.state place.old) holding (C.state files.old) entropy) (tried_by slot readonly result)
         (reach_of (P.state place.new) holding (C.state files.new) entropy) }
     ensures trial { IfOk result (IsTrial (P.state place.new).size slot) }
+    ensures rest { P.rest place.new ≡ P.rest place.old }
 {
     let meta = read_last(place)?;
     let params = admit(&meta, place.sectors(), slot)?;

@@ -1,5 +1,5 @@
-// User keys of other implementations, and what is refused.
-use crate::{Components, KeyFault, PassPart, derive, first_line};
+// User keys of other implementations.
+use crate::{Components, PassPart, derive};
 use block_traits::ByteList;
 use std::alloc::{AllocError, Global};
 use std::test::Fail;
@@ -115,31 +115,4 @@ fn published_keys(rt: HostRuntime) -> Result<(), Fail> {
         assert_eq!(rt; text.as_str(), case.key, "row {row}");
     }
     Ok(())
-}
-
-#[test]
-fn refusals(rt: HostRuntime) -> Result<(), Fail> {
-    let none = ByteList::from_vec(Vec::new(rt.alloc()));
-    let passphrase = list_of(rt.alloc(), b"abc")?;
-    let mut parts = Components {
-        keyfile_count: 0,
-        keyfiles: none,
-        passphrase: PassPart::Given(passphrase),
-    };
-    assert_eq!(rt; derive(&parts, &SALT, -1), Err(KeyFault::PassphraseNotSet));
-    parts.passphrase = PassPart::Missing;
-    assert_eq!(rt; derive(&parts, &SALT, -1), Err(KeyFault::PassphraseNotSet));
-    assert_eq!(rt; derive(&parts, &SALT, 0), Err(KeyFault::PassphraseNeeded));
-    parts.passphrase = PassPart::Without;
-    assert_eq!(rt; derive(&parts, &SALT, -1), Err(KeyFault::NoKeyComponents));
-    Ok(())
-}
-
-#[test]
-fn first_lines(rt: HostRuntime) {
-    assert_eq!(rt; first_line(b"abc\ndef"), b"abc".as_slice());
-    assert_eq!(rt; first_line(b"abc"), b"abc".as_slice());
-    assert_eq!(rt; first_line(b""), b"".as_slice());
-    assert_eq!(rt; first_line(b"\nabc"), b"".as_slice());
-    assert_eq!(rt; first_line(b"a\0b\r\n"), b"a\0b\r".as_slice());
 }

@@ -19,6 +19,7 @@ returns-in-Ok g c =
     record {
       gives = subst (λ (n : ℕ). GivesMetadata c.args.bytes.now c.args.force n m) c.sectors-sectors.ensures gives;
       logs = logs;
+      unasked = c.replace_metadata.ensures.unasked;
       kept = KeepsOldOr-replace disk after m logs;
     }
 
@@ -37,5 +38,6 @@ returns-in-Err g c =
       m = m;
       gives = subst (λ (n : ℕ). GivesMetadata c.args.bytes.now c.args.force n m) c.sectors-sectors.ensures gives;
       fails = fails;
+      unasked = c.replace_metadata.ensures.unasked;
       kept = KeepsOldOr-replace_part disk after m fails;
     }

@@ -6,12 +6,12 @@ pub returns-in-Ok : goal.returns-in-Ok
 returns-in-Ok g c = λ cabinet entropy. record {
   failed = c.close-failed.result;
   closes = record { drawers = c.close-failed.ensures.closing; cabinet = refl; entropy = refl };
-  prints = rw c.status_by.ensures (prints_closing c.args.refused c.close-failed.result _ _ c.either.result (c.either.ensures ∙ failures-refuse c.args.refused c.close-failed.result) c.in-Ok.ensures);
+  prints = rw c.status_by.ensures (prints_closing c.args.refused c.close-failed.result _ _ c.either.result (c.either.ensures ∙ failures-refuse c.args.refused c.close-failed.result) c.in-Ok.ensures.prints);
 }
 
 pub returns-in-Err : goal.returns-in-Err
 returns-in-Err g c = λ cabinet entropy. record {
   failed = c.close-failed.result;
   closes = record { drawers = c.close-failed.ensures.closing; cabinet = refl; entropy = refl };
-  prints = c.in-Err.ensures;
+  prints = (c.in-Err.ensures.some, c.in-Err.ensures.prints);
 }

@@ -1,6 +1,6 @@
 use Rattle.std.proofs.Common.{◌≡◌, ℕ, ◌+◌, ◌≤◌, List, length, vec_capacity, vec_len}
 use Rattle.command_words.specs.Reading.{line_limit}
-use Rattle.shelf.specs.World.{world_of}
+use Rattle.shelf.specs.Shelved.{world_of}
 use Rattle.geli_core.specs.Script.{script_limit}
 use Rattle.geli_core.specs.Served.{IsTaken, site_of}
 use Rattle.geli_core.proofs.feeding.feed_source.Given as goal

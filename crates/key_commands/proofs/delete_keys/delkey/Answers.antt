@@ -21,8 +21,9 @@ returns-in-Ok-clause-deletes g c =
     record {
       without = IsWithout-zeros asked c.cleared.result there whole last;
       random = random;
-      draws = record { served = search rules; size = size; taken = record { taken = search rules; later = c.fill.ensures.cause.later } };
+      draws = record { served = search rules; size = size; taken = record { taken = search rules; later = c.fill.ensures.cause.later; asked = c.fill.ensures.asked } };
       logs = logs;
+      unasked = c.overwrite_last.ensures.unasked;
       overwrites = Overwrites-logs asked random disk disk' there whole size logs;
       alone = KeepsAlone-passes disk disk' c.args.meta.now c.args.which random c.cleared.result last logs;
     }
@@ -40,7 +41,8 @@ returns-in-Err-clause-deletes g c =
     let fails = subst P {y = pass_sectors c.args.meta.now c.args.which random} c.pass_sectors.ensures.sectors c.in-Err.ensures.err in
     record {
       random = random;
-      draws = record { served = search rules; size = size; taken = record { taken = search rules; later = c.fill.ensures.cause.later } };
+      draws = record { served = search rules; size = size; taken = record { taken = search rules; later = c.fill.ensures.cause.later; asked = c.fill.ensures.asked } };
       fails = fails;
+      unasked = c.overwrite_last.ensures.unasked;
       overwrites = Overwrites-fails asked random disk disk' there whole size fails;
     }

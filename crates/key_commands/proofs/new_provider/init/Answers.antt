@@ -32,7 +32,7 @@ returns-in-Ok-replace_metadata g c =
     let made = makes c.args.options.now c.args.parts.now c.sectors-sectors.result c.in-Ok.random c.in-Ok-derive.key m _ _
     c.in_ok-check.ensures.ok c.in-Ok.ensures.ok derived c.metadata_of-meta.ensures.fields small c.replace_metadata.ensures.read c.metadata_of-meta.ensures.opens in
     let logs = c.in-Ok-replace_metadata.ensures.ok in
-    record { makes = subst P c.sectors-sectors.ensures made; logs = logs; kept = KeepsOldOr-replace _ _ _ logs }
+    record { makes = subst P c.sectors-sectors.ensures made; logs = logs; unasked = c.replace_metadata.ensures.unasked; kept = KeepsOldOr-replace _ _ _ logs }
 
 pub returns-in-Err : goal.returns-in-Err
 returns-in-Err g c =
@@ -47,4 +47,4 @@ returns-in-Err g c =
     let made = makes c.args.options.now c.args.parts.now c.sectors-sectors.result c.in-Ok.random c.in-Ok-derive.key m _ _
     c.in_ok-check.ensures.ok c.in-Ok.ensures.ok derived c.metadata_of-meta.ensures.fields small c.replace_metadata.ensures.read c.metadata_of-meta.ensures.opens in
     let fails = c.in-Err.ensures.err in
-    record { m = m; makes = subst P c.sectors-sectors.ensures made; fails = fails; kept = KeepsOldOr-replace_part _ _ _ fails }
+    record { m = m; makes = subst P c.sectors-sectors.ensures made; fails = fails; unasked = c.replace_metadata.ensures.unasked; kept = KeepsOldOr-replace_part _ _ _ fails }

@@ -11,6 +11,7 @@ returns-in-Ok-clause-sets g c =
       makes = c.in_ok-new.ensures.ok;
       read = c.store.ensures.read;
       logs = logs;
+      unasked = c.store.ensures.unasked;
       kept = KeepsOldOr-store disk disk' m logs;
       alone = KeepsAlone-store disk disk' m logs;
     }
@@ -26,5 +27,6 @@ returns-in-Err-clause-sets g c =
       makes = c.in_ok-new.ensures.ok;
       read = c.store.ensures.read;
       fails = fails;
+      unasked = c.store.ensures.unasked;
       kept = KeepsOldOr-store_part disk disk' m fails;
     }

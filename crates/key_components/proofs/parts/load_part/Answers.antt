@@ -1,6 +1,7 @@
-use Rattle.std.proofs.Common.{◌≡◌, ◌+◌, ◌++◌, length, rules, arith, length-append, ap}
+use Rattle.std.proofs.Common.{◌≡◌, ◌+◌, ◌++◌, length, refl, rules, arith, length-append, ap}
 use Rattle.std.proofs.lemmas.Result.{err_from_is_err_and}
 use Rattle.key_components.specs.Parts.{taking_of}
+use Rattle.block_traits.proofs.Causes.{Counted-then}
 use Rattle.key_components.proofs.Causes.{KeepsFiles-then, MayRefuseOf-earlier}
 use Rattle.key_components.proofs.Taken.{PartIs-stopped, IsAt-stopped, TakenSo-next}
 use Rattle.key_components.proofs.parts.load_part.Goals as goal
@@ -27,6 +28,16 @@ returns-in_err-piece-clause-cause g c =
     rw (p.1, p.2)
     (MayRefuseOf-earlier c.args.part (cabinet c.args.files.now) (cabinet c.loop-span.files) _ c.in_err-piece.field-0.0 c.loop-span.invariant.2 c.in_err-piece.ensures.cause)
 
+pub returns-in_err-piece-clause-asked : goal.returns-in_err-piece-clause-asked
+returns-in_err-piece-clause-asked g c =
+    let p = err_from_is_err_and c.from_residual.result c.from_residual.ensures.1 in
+    rw (p.1, p.2) (record {
+      place = c.loop-span.span-index;
+      within = c.loop-span-test.true;
+      named = c.in_err-piece.ensures.word;
+      asked = Counted-then c.loop-span.span-index 1 (c.loop-span.span-index + 1) refl c.loop-span.invariant.3 c.load_piece.ensures.asked;
+    })
+
 pub loop-span-preserved : goal.loop-span-preserved
 loop-span-preserved g c =
     let used : c.len.result ≡ length c.loop-span.joined.items = search rules in
@@ -37,4 +48,5 @@ loop-span-preserved g c =
           c.loop-span.joined.items c.len.result c.in_ok-piece.piece c.loop-span-test.true c.loop-span.invariant.0 c.loop-span.invariant.2.files used c.in_ok-piece.ensures.answer),
       omega (arith, sum, c.in_ok-piece.ensures.within),
       KeepsFiles-then c.loop-span.invariant.2 c.in_ok-piece.ensures.keeps,
+      Counted-then c.loop-span.span-index 1 (c.loop-span.span-index + 1) refl c.loop-span.invariant.3 c.load_piece.ensures.asked,
     )

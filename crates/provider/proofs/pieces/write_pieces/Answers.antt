@@ -21,6 +21,7 @@ loop-j-init g c =
     record {
       keying = search rules;
       size = search rules;
+      unasked = search rules;
       start = none_yet (unit_bytes_of k.auth) (length c.args.from.now);
       events = subst P (sym (piece_writes-start k c.args.sector c.args.from.now)) (Continues-start every first);
     }
@@ -124,6 +125,7 @@ loop-j-preserved g c =
     record {
       keying = c.seal_piece.ensures.keying ∙ c.loop-j.invariant.keying;
       size = c.in_ok-write.ensures.ok.size ∙ c.loop-j.invariant.size;
+      unasked = c.write.ensures.unasked ∙ c.loop-j.invariant.unasked;
       start = unit.next ∙ ap (min (unit_bytes_of k.auth * (j + 1))) (sym long);
       events = Continues-then (Write n c.seal_piece.new.out ∷ []) left every here c.in_ok-write.ensures.ok;
     }

@@ -12,6 +12,7 @@ invariant-loop-j g l =
     record {
       keying : l.ring.keying ≡ k;
       size : (state l.disk).size ≡ (state l.initial.disk).size;
+      unasked : (state l.disk).reads ≡ (state l.initial.disk).reads;
       start : l.start ≡ min (unit_bytes_of k.auth * l.j) (length l.from);
       events : Continues (piece_writes k l.sector l.from l.j) (sector_writes k l.sector l.from) (state l.disk) (state l.initial.disk);
     }

@@ -19,6 +19,7 @@ loop-i-init g c =
     record {
       keying = search rules;
       size = search rules;
+      unasked = search rules;
       events = subst P (sym (run_writes-start k c.args.sector count size c.args.from.now)) (Continues-start all start);
     }
 
@@ -59,6 +60,7 @@ loop-i-preserved g c =
     record {
       keying = c.in_ok-write_sector.ensures.keying ∙ c.loop-i.invariant.keying;
       size = c.in_ok-write_sector.ensures.ok.size ∙ c.loop-i.invariant.size;
+      unasked = c.write_sector.ensures.unasked ∙ c.loop-i.invariant.unasked;
       events = logs;
     }
 

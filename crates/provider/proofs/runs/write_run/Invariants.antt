@@ -12,5 +12,6 @@ invariant-loop-i g l =
     record {
       keying : l.ring.keying ≡ k;
       size : (state l.disk).size ≡ (state l.initial.disk).size;
+      unasked : (state l.disk).reads ≡ (state l.initial.disk).reads;
       events : Continues (run_writes k l.sector count l.size l.from l.i) (data_writes k l.sector count l.from) (state l.disk) (state l.initial.disk);
     }

@@ -16,6 +16,7 @@ loop-j-init g c =
     let P : List Event → Type 0 = λ events. Continues events all start start in
     record {
       size = search rules;
+      unasked = search rules;
       events = subst P (sym (unit_writes-start c.args.first count c.args.from.now)) (Continues-start all start);
     }
 
@@ -42,6 +43,7 @@ loop-j-preserved g c =
     ∙ ap (λ (b : List ℕ). Write (c.args.first + c.loop-j.j) b ∷ left) (sym c.unit_of.ensures)) c.loop-j.invariant.events in
     record {
       size = c.in_ok-write.ensures.ok.size ∙ c.loop-j.invariant.size;
+      unasked = c.write.ensures.unasked ∙ c.loop-j.invariant.unasked;
       events = Continues-then (Write (c.args.first + c.loop-j.j) c.unit_of.result ∷ []) left all here c.in_ok-write.ensures.ok;
     }
 

@@ -11,5 +11,6 @@ invariant-loop-j g l =
     let count = length l.from / 512 in
     record {
       size : (state l.disk).size ≡ (state l.initial.disk).size;
+      unasked : (state l.disk).reads ≡ (state l.initial.disk).reads;
       events : Continues (unit_writes l.first count l.from l.j) (writes_from l.first (parts 512 count l.from)) (state l.disk) (state l.initial.disk);
     }

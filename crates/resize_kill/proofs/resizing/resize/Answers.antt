@@ -24,7 +24,7 @@ returns-in-Ok-move_metadata g c =
     let small = subst (λ (n : ℕ). oldsize < 512 * n) same c.in_ok-check_sizes.ensures.grown in
     let again = subst (λ (n : ℕ). metadata_in (encoded (grown old n)) ≡ Ok (grown old n)) same (rw signed at (c.move_metadata.ensures.read c.in_ok-old.ensures.version)) in
     let logs = subst (λ (n : ℕ). Logs (move_events middle (old_place oldsize) (grown old n) random) middle after) same (rw signed at c.in-Ok-move_metadata.ensures.ok) in
-    moves oldsize disk middle after _ _ old random sizes small c.requires.least c.in_ok-old.ensures.finds c.in-Ok.ensures.ok again logs
+    moves oldsize disk middle after _ _ old random sizes small c.requires.least c.in_ok-old.ensures.finds c.in-Ok.ensures.ok again logs c.move_metadata.ensures.unasked
 
 pub returns-in-Err : goal.returns-in-Err
 returns-in-Err g c =
@@ -42,4 +42,4 @@ returns-in-Err g c =
     let small = subst (λ (n : ℕ). oldsize < 512 * n) same c.in_ok-check_sizes.ensures.grown in
     let again = subst (λ (n : ℕ). metadata_in (encoded (grown old n)) ≡ Ok (grown old n)) same (rw signed at (c.move_metadata.ensures.read c.in_ok-old.ensures.version)) in
     let fails = subst (λ (n : ℕ). FailsIn (move_events middle (old_place oldsize) (grown old n) random) middle after) same (rw signed at c.in-Err.ensures.err) in
-    inr (moves_part oldsize disk middle after _ _ old random sizes small c.requires.least c.in_ok-old.ensures.finds c.in-Ok.ensures.ok again fails)
+    inr (moves_part oldsize disk middle after _ _ old random sizes small c.requires.least c.in_ok-old.ensures.finds c.in-Ok.ensures.ok again fails c.move_metadata.ensures.unasked)

@@ -1,16 +1,13 @@
-use Rattle.std.proofs.Common.{◌∙◌, refl, ap, Err, List, ℕ, ◌∷◌, [], Some, subst}
+use Rattle.std.proofs.Common.{◌∙◌, refl, ap, List, ℕ, Some, subst}
 use Rattle.std.specs.Prelude.{unwrap_or}
 use Rattle.std.specs.Option.{option_or}
-use Rattle.block_traits.specs.declared.disk.Event.TheVariants.{Flush}
-use Rattle.shelf.specs.Digits.{bytes_spelled}
-use Rattle.eli_base.specs.declared.refusals.Refusal.TheVariants as refusals
-use Rattle.shelf.specs.Requests.{bytes_read}
-use Rattle.shelf.specs.Steps.{Detaches, Does, NeedsAttached}
-use Rattle.shelf.specs.Turn.{WriteRow}
-use Rattle.shelf.specs.World.{IsAttached, attachment_of}
+use Rattle.command_rows.specs.Digits.{bytes_spelled}
+use Rattle.command_rows.specs.Requests.{bytes_read}
+use Rattle.command_rows.specs.Turn.{WriteRow}
+use Rattle.command_rows.specs.World.{IsAttached}
+use Rattle.shelf.specs.Shelved.{attachment_of}
 use Rattle.shelf.proofs.KeyRows.{delkey_attached_row, setkey_attached_row}
-use Rattle.shelf.proofs.PlaceRows.{backup_attached_row, kill_attached_row}
-use Rattle.shelf.proofs.Rows.{Then-goes_on, Then-refused}
+use Rattle.shelf.proofs.PlaceRows.{backup_held_row, kill_held_row}
 use Rattle.shelf.proofs.Sectors.{at, flushed, kept_holding}
 use Rattle.shelf.proofs.Spelling.{spelled}
 use Rattle.shelf.proofs.drawer.serve_attached.Goals as goal
@@ -31,21 +28,15 @@ returns-in-Dump-clause-serves g c =
       replied = c.dump_or-reply.ensures.reply c.args.buffer.now;
     })
 
-pub returns-in-Init-clause-serves : goal.returns-in-Init-clause-serves
-returns-in-Init-clause-serves g c = rw c.in-Init.is (record { answer = Err refusals.StillAttached; row = Then-refused _ _ _ _ _ (refl, refl); replied = refl })
-
-pub returns-in-Attach-clause-serves : goal.returns-in-Attach-clause-serves
-returns-in-Attach-clause-serves g c = rw c.in-Attach.is (record { answer = Err refusals.StillAttached; row = Then-refused _ _ _ _ _ (refl, refl); replied = refl })
-
 pub returns-in-Detach-clause-serves : goal.returns-in-Detach-clause-serves
 returns-in-Detach-clause-serves g c = rw c.in-Detach.is (record {
   answer = c.flush_answer.result;
-  row = Then-goes_on NeedsAttached (λ a. Detaches) _ _ (attachment_of c.args.provider) _ _ (refl, refl)
-      (record {
-        flushes = rw c.flush_answer.ensures (flushed _ _ c.detach-disk.result.1 c.detach-disk.ensures.ok c.detach-disk.ensures.err);
-        holding = refl;
-        outside = record { cabinet = refl; entropy = refl };
-      });
+  row = record {
+    flushes = rw c.flush_answer.ensures (flushed _ _ c.detach-disk.result.1 c.detach-disk.ensures.ok c.detach-disk.ensures.err);
+    unasked = c.detach-disk.ensures.unasked;
+    holding = refl;
+    outside = record { cabinet = refl; entropy = refl };
+  };
   replied = c.done_or-in-Detach.ensures.reply _;
 })
 
@@ -62,7 +53,7 @@ returns-in-Write-clause-serves g c =
     let entropy = g.E.Entropy.state c.args.entropy.now in
     rw c.in-Write.is (record {
       answer = c.write-answer.result;
-      row = subst (λ (digits : List ℕ). WriteRow c.in-Write.sector (bytes_spelled digits) (at g.D.Disk.state cabinet entropy c.args.provider) c.write-answer.result (at g.D.Disk.state cabinet entropy c.write-answer.new.provider))
+      row = subst (λ (digits : List ℕ). WriteRow c.in-Write.sector (bytes_spelled digits) (attachment_of c.args.provider) (at g.D.Disk.state cabinet entropy c.args.provider) c.write-answer.result (at g.D.Disk.state cabinet entropy c.write-answer.new.provider))
           c.bytes_in.ensures (c.write-answer.ensures cabinet entropy);
       replied = c.done_or-in-Write.ensures.reply _;
     })
@@ -70,12 +61,12 @@ returns-in-Write-clause-serves g c =
 pub returns-in-Flush-clause-serves : goal.returns-in-Flush-clause-serves
 returns-in-Flush-clause-serves g c = rw c.in-Flush.is (record {
   answer = c.flush_answer-answer.result;
-  row = Then-goes_on NeedsAttached (λ a. Does (Flush ∷ [])) _ _ (attachment_of c.args.provider) _ _ (refl, refl)
-      (record {
-        does = rw c.flush_answer-answer.ensures (flushed _ _ c.flush.result c.flush.ensures.ok c.flush.ensures.err);
-        holding = kept_holding _ _ c.flush.ensures.kept;
-        outside = record { cabinet = refl; entropy = refl };
-      });
+  row = record {
+    does = rw c.flush_answer-answer.ensures (flushed _ _ c.flush.result c.flush.ensures.ok c.flush.ensures.err);
+    unasked = c.flush.ensures.unasked;
+    holding = kept_holding _ _ c.flush.ensures.kept;
+    outside = record { cabinet = refl; entropy = refl };
+  };
   replied = c.done_or-in-Flush.ensures.reply _;
 })
 
@@ -108,7 +99,7 @@ returns-in-Delkey-clause-serves g c =
 pub returns-in-Kill-clause-serves : goal.returns-in-Kill-clause-serves
 returns-in-Kill-clause-serves g c = rw c.in-Kill.is (record {
   answer = c.kill-answer.result;
-  row = kill_attached_row g.D.Disk.state _ _ _ _ _ _ _ _ c.withdraw-disk.ensures (c.kill-answer.ensures (IsAttached (attachment_of c.args.provider)) _);
+  row = kill_held_row g.D.Disk.state _ _ _ _ _ _ _ _ c.withdraw-disk.ensures (c.kill-answer.ensures (IsAttached (attachment_of c.args.provider)) _);
   replied = c.done_or-in-Kill.ensures.reply _;
 })
 
@@ -119,15 +110,9 @@ returns-in-Backup-clause-serves g c =
     let told = c.rest_tells_all-in-Backup.ensures now.keying then.keying now.slot then.slot now.readonly then.readonly c.backup-answer.ensures.rest in
     rw c.in-Backup.is (record {
       answer = c.backup-answer.result;
-      row = backup_attached_row _ _ _ _ _ _ _ _ _ _ (kept_holding then now (record { keying = told.0; slot = told.1; readonly = told.2 })) (c.backup-answer.ensures.row _ _);
+      row = backup_held_row _ _ _ _ _ _ _ _ _ _ (kept_holding then now (record { keying = told.0; slot = told.1; readonly = told.2 })) (c.backup-answer.ensures.row _ _);
       replied = c.done_or-in-Backup.ensures.reply _;
     })
-
-pub returns-in-Restore-clause-serves : goal.returns-in-Restore-clause-serves
-returns-in-Restore-clause-serves g c = rw c.in-Restore.is (record { answer = Err refusals.StillAttached; row = Then-refused _ _ _ _ _ (refl, refl); replied = refl })
-
-pub returns-in-Resize-clause-serves : goal.returns-in-Resize-clause-serves
-returns-in-Resize-clause-serves g c = rw c.in-Resize.is (record { answer = Err refusals.StillAttached; row = Then-refused _ _ _ _ _ (refl, refl); replied = refl })
 
 pub returns-in-Fill-clause-serves : goal.returns-in-Fill-clause-serves
 returns-in-Fill-clause-serves g c = rw c.in-Fill.is (record { answer = c.fill-answer.result; row = c.fill-answer.ensures _ _; replied = c.done_or-in-Fill.ensures.reply _ })

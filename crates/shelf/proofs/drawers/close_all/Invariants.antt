@@ -1,6 +1,6 @@
 use Rattle.std.proofs.Common.{◌≡◌, ◌≤◌, drop, take, vec_capacity, vec_len}
 use Rattle.shelf.specs.Closing.{Closing}
-use Rattle.shelf.specs.World.{drawers_of}
+use Rattle.shelf.specs.Shelved.{drawers_of}
 use Rattle.shelf.proofs.drawers.close_all.Given as goal
 
 -- the drawers up to this place were closed, and the others are as they were

@@ -1,6 +1,7 @@
 use Rattle.std.proofs.Common.{◌≡◌, ◌+◌, drop}
 use Rattle.std.specs.Option.{option_map}
-use Rattle.shelf.specs.World.{drawers_of, place_of}
+use Rattle.command_rows.specs.World.{place_of}
+use Rattle.shelf.specs.Shelved.{drawers_of}
 use Rattle.shelf.proofs.drawers.find.Given as goal
 
 -- no drawer before this place has the name

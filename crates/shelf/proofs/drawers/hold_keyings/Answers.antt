@@ -4,7 +4,8 @@ use Rattle.std.proofs.lemmas.List.Elements.{All-get_or, All-map, All-more}
 use Rattle.std.proofs.lemmas.Option.{get_or_from_slice_get, slice_get_within}
 use Rattle.block_traits.specs.Disk.{DiskState}
 use Rattle.shelf.specs.declared.drawer.Drawer.{Drawer}
-use Rattle.shelf.specs.World.{DrawerState, HoldKeyings, HoldsKeying, drawer_of, drawers_of, holding_of}
+use Rattle.command_rows.specs.World.{DrawerState, HoldKeyings, HoldsKeying}
+use Rattle.shelf.specs.Shelved.{drawer_of, drawers_of, holding_of}
 use Rattle.shelf.proofs.drawers.hold_keyings.Goals as goal
 
 every : {D : Type 0} (state : D → DiskState) (drawers : List (Drawer D)) → All (λ d. HoldsKeying (holding_of d.held)) drawers → HoldKeyings (drawers_of state drawers)

@@ -1,5 +1,6 @@
 use Rattle.std.proofs.Common.{All, take}
-use Rattle.shelf.specs.World.{HoldsKeying, holding_of}
+use Rattle.command_rows.specs.World.{HoldsKeying}
+use Rattle.shelf.specs.Shelved.{holding_of}
 use Rattle.shelf.proofs.drawers.hold_keyings.Given as goal
 
 -- so it is on the drawers up to this place

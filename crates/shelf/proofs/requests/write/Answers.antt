@@ -1,9 +1,10 @@
 use Rattle.std.proofs.Common.{◌≡◌, ◌∙◌, ◌≢◌, ℕ, List, ◌%◌, ap, arith, length, sym, subst, Err, take, length-take}
 use Rattle.eli_base.specs.declared.refusals.Refusal.TheVariants as refusals
-use Rattle.shelf.specs.Requests.{write_refusal}
-use Rattle.shelf.specs.Steps.{or_refusal, whole_sectors}
-use Rattle.shelf.specs.Turn.{WriteRow}
-use Rattle.shelf.proofs.Sectors.{at, write_answered, write_bad_length, whole_sectors-none, whole_sectors-odd}
+use Rattle.command_rows.specs.Requests.{write_refusal}
+use Rattle.command_rows.specs.Steps.{or_refusal, whole_sectors}
+use Rattle.command_rows.specs.Turn.{WriteRow}
+use Rattle.shelf.specs.Shelved.{attachment_of}
+use Rattle.shelf.proofs.Sectors.{at, whole_sectors-none, whole_sectors-odd, write_answered, write_bad_length}
 use Rattle.shelf.proofs.requests.write.Goals as goal
 use Rattle.shelf.proofs.requests.write.Goals.{then-given-eq0-via-then-given-eq0, then-given-eq0-via-else-given-eq0+then-given-sectorsize-ne0}
 
@@ -21,7 +22,7 @@ returns-then-given-eq0 g c =
     ] in
     let said : whole_sectors S (length bytes) ≡ Err (refusals.BadLength count c.sector_size-sectorsize.result) =
     bad ∙ ap (λ (n : ℕ). Err (refusals.BadLength n S)) len ∙ ap (λ (s : ℕ). Err (refusals.BadLength count s)) (sym size) in
-    λ cabinet entropy. subst (λ (b : List ℕ). WriteRow c.args.sector b (at g.D.Disk.state cabinet entropy c.args.provider.now) (Err (refusals.BadLength count c.sector_size-sectorsize.result)) (at g.D.Disk.state cabinet entropy c.args.provider.now))
+    λ cabinet entropy. subst (λ (b : List ℕ). WriteRow c.args.sector b (attachment_of c.args.provider.now) (at g.D.Disk.state cabinet entropy c.args.provider.now) (Err (refusals.BadLength count c.sector_size-sectorsize.result)) (at g.D.Disk.state cabinet entropy c.args.provider.now))
     c.decode-given.ensures.bytes (write_bad_length g.D.Disk.state cabinet entropy c.args.provider.now c.args.sector bytes _ said)
 
 pub returns : goal.returns
@@ -33,6 +34,6 @@ returns g c =
     let len : length bytes ≡ count = omega (arith, length-take count c.decode-given.new.buffer, c.decode-given.auto.buffer, c.requires.room, c.decode-given.ensures.bound) in
     let even : length bytes % S ≡ 0 = subst (λ (n : ℕ). n % S ≡ 0) (sym len) (subst (λ (s : ℕ). count % s ≡ 0) size c.if-given-sectorsize-ne0.false) in
     λ cabinet entropy. rw c.write_answer.ensures
-    (subst (λ (b : List ℕ). WriteRow c.args.sector b (at g.D.Disk.state cabinet entropy c.args.provider.now) (or_refusal write_refusal c.write.result) (at g.D.Disk.state cabinet entropy c.write.new.self)) c.decode-given.ensures.bytes
+    (subst (λ (b : List ℕ). WriteRow c.args.sector b (attachment_of c.args.provider.now) (at g.D.Disk.state cabinet entropy c.args.provider.now) (or_refusal write_refusal c.write.result) (at g.D.Disk.state cabinet entropy c.write.new.self)) c.decode-given.ensures.bytes
     (write_answered g.D.Disk.state cabinet entropy c.args.provider.now c.write.new.self c.args.sector bytes c.write.result
-    (omega (arith, len, c.if-given-eq0.false)) (omega (arith, len, c.decode-given.ensures.bound)) even c.write.ensures.kept c.write.ensures.answer))
+    (omega (arith, len, c.if-given-eq0.false)) (omega (arith, len, c.decode-given.ensures.bound)) even c.write.ensures.kept c.write.ensures.answer c.write.ensures.unasked))

@@ -1,11 +1,11 @@
 use Rattle.std.proofs.Common.{◌-◌, ◌≤◌}
 use Rattle.provider.specs.Attached.{IsKept}
-use Rattle.shelf.proofs.Pieces.{HasRead}
+use Rattle.shelf.proofs.Batches.{HasRead}
 use Rattle.shelf.proofs.workloads.digest_of.Given as goal
 
 -- the sectors so far were read and hashed
-abbrev pub invariant-pieces : goal.invariant-pieces
-invariant-pieces g l =
+abbrev pub invariant-batches : goal.invariant-batches
+invariant-batches g l =
     let state = g.D.Disk.state in
     record {
       from : l.start ≤ l.sector;
@@ -14,5 +14,5 @@ invariant-pieces g l =
       read : HasRead l.initial.provider.keying l.start (l.sector - l.start) (state l.initial.provider.disk) (state l.provider.disk) l.hasher;
     }
 
-abbrev pub decreases-pieces : goal.decreases-pieces
-decreases-pieces g l = l.end - l.sector
+abbrev pub decreases-batches : goal.decreases-batches
+decreases-batches g l = l.end - l.sector

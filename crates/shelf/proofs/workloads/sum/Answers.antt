@@ -1,6 +1,6 @@
 use Rattle.std.proofs.Common.{◌≡◌, ℕ, ◌+◌, ◌-◌, arith, subst}
 use Rattle.std.proofs.lemmas.Result.{err_from_is_err_and}
-use Rattle.shelf.specs.Workloads.{SumAnswer}
+use Rattle.command_rows.specs.Workloads.{SumAnswer}
 use Rattle.shelf.proofs.WorkloadRows.{sum_passes, sum_reads}
 use Rattle.shelf.proofs.workloads.sum.Goals as goal
 

@@ -18,4 +18,5 @@ store-tells g c = record {
   later = c.ensures.later;
   failed = c.ensures.failed;
   more_misses = c.ensures.more_misses;
+  unasked = c.ensures.unasked;
 }

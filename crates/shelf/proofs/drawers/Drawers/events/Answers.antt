@@ -1,5 +1,5 @@
 use Rattle.shelf.proofs.Places.{slice_get-drawers}
-use Rattle.shelf.specs.World.{drawer_of}
+use Rattle.shelf.specs.Shelved.{drawer_of}
 use Rattle.shelf.proofs.drawers.Drawers.events.Goals as goal
 
 pub returns : goal.returns

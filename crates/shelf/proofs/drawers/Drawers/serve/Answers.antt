@@ -1,6 +1,6 @@
 use Rattle.std.proofs.Common.{◌∙◌, ℕ, refl, subst, sym}
 use Rattle.reply_text.specs.Text.{FitsPayload}
-use Rattle.shelf.proofs.Places.{ChangesAt-set, ServesAt-out, ServesAt-row, insert-remove, whole_buffer}
+use Rattle.shelf.proofs.Places.{ChangesAt-set, ServesAt-out, ServesAt-row, attached_there, insert-remove, whole_buffer}
 use Rattle.shelf.proofs.drawers.Drawers.serve.Goals as goal
 
 pub returns-clause-turn : goal.returns-clause-turn
@@ -26,3 +26,18 @@ returns-clause-payload g c =
     let len = c.serve-drawer.auto.buffer ∙ c.as_mut_slice-buffer.ensures.len in
     let whole = whole_buffer c.serve-drawer.new.buffer c.self.inside.buffer.items c.self.inside.buffer.len len in
     rw whole (subst (λ (n : ℕ). FitsPayload n c.serve-drawer.result.1) (sym (len ∙ c.self.invariant.2)) c.serve-drawer.ensures.payload)
+
+pub returns-clause-buffer : goal.returns-clause-buffer
+returns-clause-buffer g c =
+    let len = c.serve-drawer.auto.buffer ∙ c.as_mut_slice-buffer.ensures.len in
+    let whole = whole_buffer c.serve-drawer.new.buffer c.self.inside.buffer.items c.self.inside.buffer.len len in
+    rw (← c.self.view_is, whole) (λ is. c.serve-drawer.ensures.buffer is ∙ c.as_mut_slice-buffer.ensures.value)
+
+pub returns-clause-idle : goal.returns-clause-idle
+returns-clause-idle g c =
+    let found = rw (c.deref.ensures.value, c.bytes_in-name.ensures) at c.in-Some-find.ensures.found in
+    let len = c.serve-drawer.auto.buffer ∙ c.as_mut_slice-buffer.ensures.len in
+    let whole = whole_buffer c.serve-drawer.new.buffer c.self.inside.buffer.items c.self.inside.buffer.len len in
+    rw (← c.self.view_is, ← c.in-Some.ensures, whole) (λ is. c.serve-drawer.ensures.idle
+    (sym (attached_there g.D.Disk.state _ c.self.inside.drawers.items c.in-Some-find.place c.remove-drawer.result (sym found) c.remove-drawer.ensures.value) ∙ is)
+    ∙ c.as_mut_slice-buffer.ensures.value)

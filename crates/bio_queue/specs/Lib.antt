@@ -1,0 +1,5 @@
+pub mod Requests
+pub mod Sectors
+pub mod Answers
+pub mod Kept
+pub mod Owners

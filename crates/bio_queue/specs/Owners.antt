@@ -1,0 +1,34 @@
+-- Requests that were made of a provider, as it still is: it would make them of their jobs, with as many units, in its sectors.
+use Rattle.std.specs.Prelude.{◌≡◌, ℕ, ◌+◌, ◌*◌, ◌≤◌, List, [], ◌∷◌, IsSomeAnd}
+use Rattle.eli_base.specs.Keying.{Keying}
+use Rattle.sealing.specs.Sectors.{units}
+use Rattle.bio_queue.specs.Answers.{request_limit}
+use Rattle.bio_queue.specs.Requests.{Request, request_with}
+use Rattle.bio_queue.specs.declared.job.Job.{Job}
+use Rattle.bio_queue.specs.declared.job.Job.TheVariants.{Read, Write, Flush}
+
+-- so many units are those of so many logical sectors from this one on, of a provider with this keying and so many logical sectors
+pub record IsMadeFor (k : Keying) (media sector count many : ℕ) : Type 0 where
+  pub some : 1 ≤ count
+  pub few : count * k.sectorsize ≤ request_limit
+  pub in_range : sector + count ≤ media
+  pub units_are : many ≡ count * units k
+
+-- so many units are those of the job
+abbrev pub IsMadeOf : Keying → ℕ → Job → ℕ → Type 0
+IsMadeOf k media (Read sector count) many = IsMadeFor k media sector count many
+IsMadeOf k media (Write sector count) many = IsMadeFor k media sector count many
+IsMadeOf k media Flush many = many ≡ 1
+
+-- such a provider would make the request of its job
+abbrev pub IsOf : Keying → ℕ → Request → Type 0
+IsOf k media r = IsMadeOf k media r.job r.units
+
+-- and each request of the queue
+abbrev pub AreOf : Keying → ℕ → List Request → Type 0
+AreOf k media [] = Unit {0}
+AreOf k media (r ∷ queue) = IsOf k media r × AreOf k media queue
+
+-- a request with this tag is open, and such a provider would make it
+abbrev pub IsServed : Keying → ℕ → ℕ → List Request → Type 0
+IsServed k media tag queue = IsSomeAnd (request_with tag queue) (IsOf k media)

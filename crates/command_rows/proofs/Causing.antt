@@ -1,0 +1,139 @@
+-- Why each row is refused.
+use Rattle.std.proofs.Common.{◌≡◌, ◌∙◌, ℕ, ◌+◌, ◌*◌, List, [], ◌∷◌, length, refl, ap, sym, subst, arith, Bool, true, false, cond, Result, Ok, Err, ◌/◌, Some}
+use Rattle.std.specs.Prelude.{nat_le}
+use Rattle.std.proofs.lemmas.Bool.Decides.{nat_tests}
+use Rattle.block_traits.specs.declared.disk.Event.{Event}
+use Rattle.block_traits.specs.declared.disk.Event.TheVariants.{Flush}
+use Rattle.command_words.specs.Places.{bytes_at}
+use Rattle.command_words.specs.declared.commands.Command.{Command}
+use Rattle.command_words.specs.declared.commands.Command.TheVariants as commands
+use Rattle.command_words.specs.declared.spans.Span.{Span}
+use Rattle.eli_base.specs.declared.refusals.Refusal.{Refusal}
+use Rattle.eli_base.specs.declared.refusals.Refusal.TheVariants as refusals
+use Rattle.provider.specs.Attached.{media}
+use Rattle.command_rows.specs.Causes.{AsksBytes, AsksSectors, HasCause, writes_data}
+use Rattle.command_rows.specs.Digits.{bytes_spelled}
+use Rattle.command_rows.specs.Gate.{needs, refused_by}
+use Rattle.command_rows.specs.Steps.{DoesEvents, GoesOn, NeedsSectors, NeedsWhole, NeedsWritable, ReadsSectors, Then, WritesSectors, if_writable, whole_sectors}
+use Rattle.command_rows.specs.Turn.{DetachRow, FlushRow, ReadRow, WriteRow}
+use Rattle.command_rows.specs.World.{Attachment, IsAttached, Reach}
+use Rattle.command_rows.proofs.Gate.{by_gate_refusal}
+
+abbrev pub Step : Type 0 → Type 1
+Step A = Reach → Result A Refusal → Reach → Type 0
+
+-- a refusal has its cause
+abbrev pub Why : {A : Type 0} → List ℕ → Command → Reach → Result A Refusal → Reach → Type 0
+Why line command old (Ok value) new = Unit {0}
+Why line command old (Err refusal) new = HasCause line command old refusal new
+
+next_why : {A B : Type 0} (line : List ℕ) (command : Command) (start : Reach) (Next : A → Step B) (given : Result A Refusal) (middle : Reach) (answer : Result B Refusal) (new : Reach) → Why line command start given middle
+    → ((a : A) → given ≡ Ok a → Next a middle answer new → Why line command start answer new) → GoesOn Next given middle answer new → Why line command start answer new
+next_why line command start Next (Ok a) middle answer new why next h = next a refl h
+next_why line command start Next (Err refusal) middle answer new why next h = rw h.0 (subst (λ (r : Reach). HasCause line command start refusal r) (sym h.1) why)
+
+-- two steps of a line that found `start`
+pub then_since : {A B : Type 0} (line : List ℕ) (command : Command) (start : Reach) (First : Step A) (Next : A → Step B) (old : Reach) (answer : Result B Refusal) (new : Reach)
+    → ((given : Result A Refusal) (middle : Reach) → First old given middle → Why line command start given middle)
+    → ((a : A) (middle : Reach) → First old (Ok a) middle → Next a middle answer new → Why line command start answer new) → Then First Next old answer new → Why line command start answer new
+then_since {A} line command start First Next old answer new why next h =
+    next_why line command start Next h.given h.middle answer new (why h.given h.middle h.first) (λ a is. next a h.middle (subst (λ (r : Result A Refusal). First old r h.middle) is h.first)) h.next
+
+-- the same from its first step on
+pub then_why : {A B : Type 0} (line : List ℕ) (command : Command) (First : Step A) (Next : A → Step B) (old : Reach) (answer : Result B Refusal) (new : Reach) → ((given : Result A Refusal) (middle : Reach) → First old given middle → Why line command old given middle)
+    → ((a : A) (middle : Reach) → First old (Ok a) middle → Next a middle answer new → Why line command old answer new) → Then First Next old answer new → Why line command old answer new
+then_why line command First Next old answer new why next h = then_since line command old First Next old answer new why next h
+
+-- ---- the gate
+
+pub gate_why : (line : List ℕ) (command : Command) (old : Reach) (refusal : Refusal) (new : Reach) → refused_by (needs command) old.holding ≡ Some refusal → HasCause line command old refusal new
+gate_why line command old refusal new is = by_gate_refusal (needs command) old.holding refusal (λ r. HasCause line command old r new) is (λ not. not) (λ still. still) (λ suspended. suspended) (λ awake. awake)
+
+-- ---- attached drawers
+
+pub events_why : (line : List ℕ) (command : Command) (events : List Event) (old : Reach) (answer : Result (Unit {0}) Refusal) (new : Reach) → DoesEvents events old.disk answer new.disk → Why line command old answer new
+events_why line command events old (Ok done) new h = tt
+events_why line command events old (Err refusals.DeviceFault) new h = h.rose
+events_why line command events old (Err refusal) new h = absurd h
+
+pub flush_why : (line : List ℕ) (command : Command) (old : Reach) (answer : Result (Unit {0}) Refusal) (new : Reach) → FlushRow old answer new → Why line command old answer new
+flush_why line command old answer new h = events_why line command (Flush ∷ []) old answer new h.does
+
+pub detach_why : (line : List ℕ) (command : Command) (old : Reach) (answer : Result (Unit {0}) Refusal) (new : Reach) → DetachRow old answer new → Why line command old answer new
+detach_why line command old answer new h = events_why line command (Flush ∷ []) old answer new h.flushes
+
+-- the length
+whole_by : (line : List ℕ) (command : Command) (a : Attachment) (bytes : ℕ) (whole : Bool) (old : Reach) (given : Result ℕ Refusal) (middle : Reach) → old.holding ≡ IsAttached a
+    → whole_sectors a.keying.sectorsize bytes ≡ cond whole (Ok (bytes / a.keying.sectorsize)) (Err (refusals.BadLength bytes a.keying.sectorsize)) → AsksBytes line command bytes a → given ≡ whole_sectors a.keying.sectorsize bytes → Why line command old given middle
+whole_by line command a bytes true old given middle is by asked h = rw (h, by) tt
+whole_by line command a bytes false old given middle is by asked h = rw (h, by) (rw is (record { asked = asked; bad = by }))
+
+whole_why : (line : List ℕ) (command : Command) (a : Attachment) (bytes : ℕ) (old : Reach) (given : Result ℕ Refusal) (middle : Reach) → old.holding ≡ IsAttached a → AsksBytes line command bytes a → NeedsWhole a bytes old given middle → Why line command old given middle
+whole_why line command a bytes old given middle is asked h = whole_by line command a bytes _ old given middle is refl asked h.0
+
+-- the range
+range_by : (line : List ℕ) (command : Command) (a : Attachment) (sector count : ℕ) (old : Reach) (given : Result (Unit {0}) Refusal) (middle : Reach) (fits : Bool) → nat_le (sector + count) (media a.keying old.disk) ≡ fits → old.holding ≡ IsAttached a
+    → AsksSectors line command sector count a → given ≡ cond fits (Ok tt) (Err (refusals.OutOfRange sector count (media a.keying old.disk))) → Why line command old given middle
+range_by line command a sector count old given middle true test is asked h = rw h tt
+range_by line command a sector count old given middle false test is asked h =
+    rw (h, is) (record { asked = asked; has = refl; passes = grind (arith, nat_tests) })
+
+pub range_why : (line : List ℕ) (command : Command) (a : Attachment) (sector count : ℕ) (old : Reach) (given : Result (Unit {0}) Refusal) (middle : Reach) → old.holding ≡ IsAttached a → AsksSectors line command sector count a → NeedsSectors a sector count old given middle
+    → Why line command old given middle
+range_why line command a sector count old given middle is asked h = range_by line command a sector count old given middle (nat_le (sector + count) (media a.keying old.disk)) refl is asked h.0
+
+-- read-only
+writable_by : (line : List ℕ) (command : Command) (a : Attachment) (readonly : Bool) (old : Reach) (given : Result (Unit {0}) Refusal) (middle : Reach) → old.holding ≡ IsAttached a → writes_data command ≡ true → a.readonly ≡ readonly → given ≡ if_writable readonly → Why line command old given middle
+writable_by line command a false old given middle is writes state h = rw h tt
+writable_by line command a true old given middle is writes state h = rw (h, is) (writes, state)
+
+pub writable_why : (line : List ℕ) (command : Command) (a : Attachment) (old : Reach) (given : Result (Unit {0}) Refusal) (middle : Reach) → old.holding ≡ IsAttached a → writes_data command ≡ true → NeedsWritable a old given middle → Why line command old given middle
+writable_why line command a old given middle is writes h = writable_by line command a a.readonly old given middle is writes refl h.0
+
+-- ---- reading and writing
+
+sectors_why : (line : List ℕ) (prov : Span) (sector count : ℕ) (a : Attachment) (whole : ℕ) (old : Reach) (answer : Result (List ℕ) Refusal) (new : Reach) → old.holding ≡ IsAttached a
+    → whole_sectors a.keying.sectorsize (count * a.keying.sectorsize) ≡ Ok whole → ReadsSectors a sector whole old answer new → Why line (commands.Read prov sector count) old answer new
+sectors_why line prov sector count a whole old (Ok bytes) new is wholly h = tt
+sectors_why line prov sector count a whole old (Err (refusals.Integrity offset)) new is wholly h = rw is (record { sectors = whole; whole = wholly; reads = h.reads.reads })
+sectors_why line prov sector count a whole old (Err refusals.DeviceFault) new is wholly h = h.reads.fails.rose
+sectors_why line prov sector count a whole old (Err refusal) new is wholly h = absurd h.reads
+
+range_read_why : (line : List ℕ) (prov : Span) (sector count : ℕ) (a : Attachment) (whole : ℕ) (old : Reach) (answer : Result (List ℕ) Refusal) (new : Reach) → old.holding ≡ IsAttached a
+    → whole_sectors a.keying.sectorsize (count * a.keying.sectorsize) ≡ Ok whole → Then (NeedsSectors a sector whole) (λ _. ReadsSectors a sector whole) old answer new → Why line (commands.Read prov sector count) old answer new
+range_read_why line prov sector count a whole old answer new is wholly h =
+    then_why line (commands.Read prov sector count) (NeedsSectors a sector whole) (λ _. ReadsSectors a sector whole) old answer new (λ given middle. range_why line (commands.Read prov sector count) a sector whole old given middle is (refl, wholly))
+    (λ done middle first next. subst (λ (r : Reach). Why line (commands.Read prov sector count) r answer new) first.1
+    (sectors_why line prov sector count a whole middle answer new (ap (λ (r : Reach). r.holding) first.1 ∙ is) wholly next)) h
+
+pub read_why : (line : List ℕ) (prov : Span) (sector count : ℕ) (a : Attachment) (old : Reach) (answer : Result (List ℕ) Refusal) (new : Reach) → old.holding ≡ IsAttached a
+    → ReadRow sector count a old answer new → Why line (commands.Read prov sector count) old answer new
+read_why line prov sector count a old answer new is h =
+    then_why line (commands.Read prov sector count) (NeedsWhole a (count * a.keying.sectorsize)) (λ whole. Then (NeedsSectors a sector whole) (λ _. ReadsSectors a sector whole)) old answer new
+    (λ given middle. whole_why line (commands.Read prov sector count) a (count * a.keying.sectorsize) old given middle is refl)
+    (λ whole middle first next. subst (λ (r : Reach). Why line (commands.Read prov sector count) r answer new) first.1
+    (range_read_why line prov sector count a whole middle answer new (ap (λ (r : Reach). r.holding) first.1 ∙ is) (sym first.0) next)) h
+
+range_write_why : (line : List ℕ) (command : Command) (sector count : ℕ) (bytes : List ℕ) (a : Attachment) (old : Reach) (answer : Result (Unit {0}) Refusal) (new : Reach) → old.holding ≡ IsAttached a → AsksSectors line command sector count a
+    → Then (NeedsSectors a sector count) (λ _. WritesSectors a sector count bytes) old answer new → Why line command old answer new
+range_write_why line command sector count bytes a old answer new is asked h =
+    then_why line command (NeedsSectors a sector count) (λ _. WritesSectors a sector count bytes) old answer new (λ given middle. range_why line command a sector count old given middle is asked)
+    (λ done middle first next. subst (λ (r : Reach). Why line command r answer new) first.1 (events_why line command _ middle answer new next.does)) h
+
+pub writable_write_why : (line : List ℕ) (command : Command) (sector count : ℕ) (bytes : List ℕ) (a : Attachment) (old : Reach) (answer : Result (Unit {0}) Refusal) (new : Reach) → old.holding ≡ IsAttached a → writes_data command ≡ true
+    → AsksSectors line command sector count a → Then (NeedsWritable a) (λ _. Then (NeedsSectors a sector count) (λ _. WritesSectors a sector count bytes)) old answer new → Why line command old answer new
+writable_write_why line command sector count bytes a old answer new is writes asked h =
+    then_why line command (NeedsWritable a) (λ _. Then (NeedsSectors a sector count) (λ _. WritesSectors a sector count bytes)) old answer new (λ given middle. writable_why line command a old given middle is writes)
+    (λ done middle first next. subst (λ (r : Reach). Why line command r answer new) first.1
+    (range_write_why line command sector count bytes a middle answer new (ap (λ (r : Reach). r.holding) first.1 ∙ is) asked next)) h
+
+pub write_why : (line : List ℕ) (prov : Span) (sector : ℕ) (hex : Span) (a : Attachment) (old : Reach) (answer : Result (Unit {0}) Refusal) (new : Reach) → old.holding ≡ IsAttached a
+    → WriteRow sector (bytes_spelled (bytes_at line hex)) a old answer new
+    → Why line (commands.Write prov sector hex) old answer new
+write_why line prov sector hex a old answer new is h =
+    let command : Command = commands.Write prov sector hex in
+    let bytes : List ℕ = bytes_spelled (bytes_at line hex) in
+    then_why line command (NeedsWhole a (length bytes)) (λ count. Then (NeedsWritable a) (λ _. Then (NeedsSectors a sector count) (λ _. WritesSectors a sector count bytes))) old answer new
+    (λ given middle. whole_why line command a (length bytes) old given middle is refl)
+    (λ count middle first next. subst (λ (r : Reach). Why line command r answer new) first.1
+    (writable_write_why line command sector count bytes a middle answer new (ap (λ (r : Reach). r.holding) first.1 ∙ is) refl (refl, sym first.0) next)) h

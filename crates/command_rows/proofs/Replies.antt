@@ -1,0 +1,64 @@
+-- What the answer of a row comes to as a reply, whatever is answered, and its text.
+use Rattle.std.proofs.Common.{◌≡◌, ◌∙◌, ℕ, zero, suc, List, length, drop, refl, ap, sym, subst, Result, Ok, Err}
+use Rattle.eli_base.specs.declared.refusals.Refusal.{Refusal}
+use Rattle.reply_text.specs.Text.{numbers_in, reply_text, verified_text}
+use Rattle.reply_text.specs.declared.reply.Reply.{Reply}
+use Rattle.reply_text.specs.declared.reply.Reply.TheVariants as replies
+use Rattle.command_rows.specs.Answer.{Answer, answer_of, answer_text}
+use Rattle.command_rows.specs.Answer as answers
+use Rattle.command_rows.specs.Turn.{digest_or, done_or, dump_or, payload_or}
+
+-- it is no refusal
+abbrev pub IsServed : Answer → Type 0
+IsServed (answers.Refused refusal) = ⊥
+IsServed answer = Unit {0}
+
+-- a value is no refusal, and a refusal stays one
+pub record Replying {A : Type 0} (answer_to : Result A Refusal → Answer) : Type 0 where
+  pub value : (v : A) → IsServed (answer_to (Ok v))
+  pub refusal : (r : Refusal) → answer_to (Err r) ≡ answers.Refused r
+
+pub done_replying : Replying done_or
+done_replying = record { value = λ v. tt; refusal = λ r. refl }
+
+pub dump_replying : Replying dump_or
+dump_replying = record { value = λ v. tt; refusal = λ r. refl }
+
+pub payload_replying : Replying payload_or
+payload_replying = record { value = λ v. tt; refusal = λ r. refl }
+
+pub digest_replying : Replying digest_or
+digest_replying = record { value = λ v. tt; refusal = λ r. refl }
+
+same_refusal : (found refusal : Refusal) → answers.Refused refusal ≡ answers.Refused found → found ≡ refusal
+same_refusal found refusal is = cc is
+
+-- what is refused was answered so
+pub refused_by_row : {A : Type 0} (answer_to : Result A Refusal → Answer) (answer : Result A Refusal) (refusal : Refusal) → Replying answer_to → answers.Refused refusal ≡ answer_to answer → answer ≡ Err refusal
+refused_by_row answer_to (Ok v) refusal r is = absurd (subst IsServed (sym is) (r.value v))
+refused_by_row {A} answer_to (Err found) refusal r is = ap Err (same_refusal found refusal (is ∙ r.refusal found))
+
+-- what holds of any reply but a refusal, and of the refusal that a row answers, holds of its reply
+pub of_reply : {A : Type 0} (answer_to : Result A Refusal → Answer) (answer : Result A Refusal) (reply : Answer) (Claim : Answer → Type 0) → Replying answer_to → reply ≡ answer_to answer
+    → ((value : A) → answer ≡ Ok value → (said : Answer) → IsServed said → Claim said) → ((refusal : Refusal) → answer ≡ Err refusal → Claim (answers.Refused refusal)) → Claim reply
+of_reply answer_to (Ok v) reply Claim r is served refused = subst Claim (sym is) (served v refl (answer_to (Ok v)) (r.value v))
+of_reply answer_to (Err found) reply Claim r is served refused = subst Claim (sym (is ∙ r.refusal found)) (refused found refl)
+
+-- ---- the text
+
+length-numbers_in : (count : ℕ) (bytes : List ℕ) → length (numbers_in count bytes) ≡ count
+unfolding numbers_in
+length-numbers_in zero bytes = refl
+length-numbers_in (suc count) bytes = ap suc (length-numbers_in count (drop 8 bytes))
+
+-- what is printed of a reply is the text of the answer that it is
+pub text_of_reply : (bytes : List ℕ) (reply : Reply) → answer_text (answer_of bytes reply) ≡ reply_text reply bytes
+text_of_reply bytes replies.Done = refl
+text_of_reply bytes (replies.Payload count) = refl
+text_of_reply bytes (replies.Digest digest) = refl
+text_of_reply bytes (replies.Rows rows) = refl
+text_of_reply bytes (replies.Dump meta) = refl
+text_of_reply bytes (replies.Tag tag) = refl
+text_of_reply bytes (replies.Left left) = refl
+text_of_reply bytes (replies.Verified bad next) = ap (verified_text (numbers_in bad bytes) next) (length-numbers_in bad bytes)
+text_of_reply bytes (replies.Refused refusal) = refl

@@ -1,0 +1,105 @@
+-- Why a line is refused, whatever its row.
+use Rattle.std.specs.Prelude.{◌≡◌, ℕ, ◌+◌, ◌*◌, ◌<◌, List, length, Bool, true, false, IsTrue, MatchOption, Option, Some, Ok, Err, slice_get}
+use Rattle.block_traits.specs.Causes.{Rose}
+use Rattle.block_traits.specs.Disk.{DiskState}
+use Rattle.command_words.specs.Places.{bytes_at, provider_of}
+use Rattle.command_words.specs.declared.commands.Command.{Command}
+use Rattle.command_words.specs.declared.commands.Command.TheVariants as commands
+use Rattle.command_words.specs.declared.spans.Span.{Span}
+use Rattle.eli_base.specs.declared.refusals.Refusal.{Refusal}
+use Rattle.eli_base.specs.declared.refusals.Refusal.TheVariants as refusals
+use Rattle.provider.specs.Attached.{media}
+use Rattle.provider.specs.Reading.{ReadsAs}
+use Rattle.command_rows.specs.Digits.{bytes_spelled}
+use Rattle.command_rows.specs.Gate.{needs, refused_by}
+use Rattle.command_rows.specs.Grounds.{FindsBadFile, HasGround, IsGround}
+use Rattle.command_rows.specs.Steps.{whole_sectors}
+use Rattle.command_rows.specs.Turn.{reach}
+use Rattle.command_rows.specs.World.{AttachedWith, Attachment, DrawerState, Reach, World, place_of}
+
+-- whether a command may answer that there was no memory
+abbrev pub may_lack_memory : Command → Bool
+may_lack_memory (commands.Init prov cipher auth keylen sectorsize iterations autoresize fresh backup) = true
+may_lack_memory (commands.Attach prov only_check readonly slot words) = true
+may_lack_memory (commands.Setkey prov iterations slot old fresh) = true
+may_lack_memory (commands.Backup prov file) = true
+may_lack_memory (commands.Restore file prov force) = true
+may_lack_memory commands.List = true
+may_lack_memory command = false
+
+-- whether a command is refused by a provider that is only read
+abbrev pub writes_data : Command → Bool
+writes_data (commands.Write prov sector hex) = true
+writes_data (commands.Fill prov seed start count) = true
+writes_data command = false
+
+-- the bytes that a line asks for at once are so many
+abbrev pub AsksBytes : List ℕ → Command → ℕ → Attachment → Type 0
+AsksBytes line (commands.Read prov sector count) bytes a = bytes ≡ count * a.keying.sectorsize
+AsksBytes line (commands.Write prov sector hex) bytes a = bytes ≡ length (bytes_spelled (bytes_at line hex))
+AsksBytes line command bytes a = ⊥
+
+-- the sectors that a line asks for are so many from this one on
+abbrev pub AsksSectors : List ℕ → Command → ℕ → ℕ → Attachment → Type 0
+AsksSectors line (commands.Read prov sector count) first many a = (first ≡ sector) × (whole_sectors a.keying.sectorsize (count * a.keying.sectorsize) ≡ Ok many)
+AsksSectors line (commands.Write prov sector hex) first many a = (first ≡ sector) × (whole_sectors a.keying.sectorsize (length (bytes_spelled (bytes_at line hex))) ≡ Ok many)
+AsksSectors line (commands.Fill prov seed start count) first many a = (first ≡ start) × (many ≡ count)
+AsksSectors line (commands.Sum prov start count) first many a = (first ≡ start) × (many ≡ count)
+AsksSectors line command first many a = ⊥
+
+-- the bytes are no whole sectors, or too many
+pub record HasBadLength (line : List ℕ) (command : Command) (given size : ℕ) (a : Attachment) : Type 0 where
+  pub asked : AsksBytes line command given a
+  pub bad : whole_sectors a.keying.sectorsize given ≡ Err (refusals.BadLength given size)
+
+-- the sectors pass the end of the attached provider, which has so many
+pub record PassesEnd (line : List ℕ) (command : Command) (disk : DiskState) (sector count there : ℕ) (a : Attachment) : Type 0 where
+  pub asked : AsksSectors line command sector count a
+  pub has : there ≡ media a.keying disk
+  pub passes : there < sector + count
+
+-- the sectors that a line reads, whole ones of the attached provider, have a first fault at this offset
+pub record ReadsFault (a : Attachment) (sector count : ℕ) (disk : DiskState) (offset : ℕ) : Type 0 where
+  pub sectors : ℕ
+  pub whole : whole_sectors a.keying.sectorsize (count * a.keying.sectorsize) ≡ Ok sectors
+  pub reads : ReadsAs disk a.keying sector sectors (Err offset)
+
+abbrev pub FindsFault : Command → DiskState → ℕ → Attachment → Type 0
+FindsFault (commands.Read prov sector count) disk offset a = ReadsFault a sector count disk offset
+FindsFault (commands.Sum prov start count) disk offset a = ReadsAs disk a.keying start count (Err offset)
+FindsFault command disk offset a = ⊥
+
+-- the cause of a refusal of a line that names a drawer, by what the line reached before and after
+abbrev pub HasCause : List ℕ → Command → Reach → Refusal → Reach → Type 0
+HasCause line command old refusals.NotAttached new = refused_by (needs command) old.holding ≡ Some refusals.NotAttached
+HasCause line command old refusals.StillAttached new = refused_by (needs command) old.holding ≡ Some refusals.StillAttached
+HasCause line command old refusals.Suspended new = refused_by (needs command) old.holding ≡ Some refusals.Suspended
+HasCause line command old refusals.NotSuspended new = refused_by (needs command) old.holding ≡ Some refusals.NotSuspended
+HasCause line command old refusals.ReadOnly new = IsTrue (writes_data command) × AttachedWith old.holding (λ a. a.readonly ≡ true)
+HasCause line command old (refusals.OutOfRange sector count there) new = AttachedWith old.holding (PassesEnd line command old.disk sector count there)
+HasCause line command old (refusals.BadLength given size) new = AttachedWith old.holding (HasBadLength line command given size)
+HasCause line command old (refusals.Integrity offset) new = AttachedWith old.holding (FindsFault command old.disk offset)
+HasCause line command old refusals.DeviceFault new = Rose old.disk.faults new.disk.faults
+HasCause line command old refusals.EntropyFault new = Rose old.entropy.faults new.entropy.faults
+HasCause line command old (refusals.CabinetFault word) new = Rose old.cabinet.faults new.cabinet.faults
+HasCause line command old (refusals.FileAbsent word) new = FindsBadFile line command old.holding old.cabinet (refusals.FileAbsent word) new.cabinet
+HasCause line command old (refusals.FileTooLong word limit) new = FindsBadFile line command old.holding old.cabinet (refusals.FileTooLong word limit) new.cabinet
+HasCause line command old refusals.NoMemory new = IsTrue (may_lack_memory command)
+HasCause line command old refusal new = IsGround refusal × HasGround line command old refusal
+
+-- the same of the drawer at a place
+pub record CausedAt (line : List ℕ) (command : Command) (refusal : Refusal) (old new : World) (place : ℕ) : Type 0 where
+  pub before : DrawerState
+  pub found : slice_get old.drawers place ≡ Some before
+  pub after : DrawerState
+  pub there : slice_get new.drawers place ≡ Some after
+  pub cause : HasCause line command (reach before old) refusal (reach after new)
+
+-- the same of a line: one without a provider lacked memory, and one that names no drawer is refused so
+abbrev pub CausedBy : Option Span → List ℕ → Command → Refusal → World → World → Type 0
+CausedBy named line command refusal old new =
+    MatchOption named (refusal ≡ refusals.NoMemory)
+    (λ prov. MatchOption (place_of (bytes_at line prov) old.drawers) (refusal ≡ refusals.UnknownProvider) (CausedAt line command refusal old new))
+
+abbrev pub Caused : List ℕ → Command → Refusal → World → World → Type 0
+Caused line command refusal old new = CausedBy (provider_of command) line command refusal old new

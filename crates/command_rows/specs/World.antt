@@ -1,0 +1,90 @@
+-- The drawers, and what else a command reaches, as plain data.
+use Rattle.std.specs.Prelude.{◌≡◌, ℕ, ◌+◌, Bool, true, false, List, [], ◌∷◌, Option, Some, None, map, if◌then◌else◌, slice_get, IfSome, MatchOption}
+use Rattle.std.specs.Option.{option_map}
+use Rattle.std.specs.Str.{bytes_eq}
+use Rattle.block_traits.specs.Cabinet.{CabinetState}
+use Rattle.block_traits.specs.Content.{Content}
+use Rattle.block_traits.specs.Disk.{DiskState}
+use Rattle.block_traits.specs.Streams.{EntropyState}
+use Rattle.eli_base.specs.Keying.{Keying}
+use Rattle.range_keys.specs.Ring.{IsKeying}
+
+-- with what a provider is attached: the slot that gave the master key, the keying, and whether it is only read
+pub record Attachment : Type 0 where
+  pub slot : ℕ
+  pub keying : Keying
+  pub readonly : Bool
+
+-- what is kept of a provider that is suspended: the bytes of a logical sector and how many there were, the slot that gave the master key, whether it is only read, and
+-- the digest of the master key
+pub record Kept : Type 0 where
+  pub sectorsize : ℕ
+  pub sectors : ℕ
+  pub slot : ℕ
+  pub readonly : Bool
+  pub mark : List ℕ
+
+-- what a drawer does with its disk: nothing, or its provider is attached, or suspended
+pub data Holding : Type 0 where
+  Idle : Holding
+  IsAttached : Attachment → Holding
+  IsSuspended : Kept → Holding
+
+-- whether it does nothing
+abbrev pub is_idle : Holding → Bool
+is_idle Idle = true
+is_idle (IsAttached a) = false
+is_idle (IsSuspended kept) = false
+
+-- with what the provider of a drawer is attached, if it is: whatever else speaks of that sees it through this
+abbrev pub attachment_in : Holding → Option Attachment
+attachment_in Idle = None
+attachment_in (IsAttached a) = Some a
+attachment_in (IsSuspended kept) = None
+
+-- it is attached, with something of which this holds
+abbrev pub AttachedWith : Holding → (Attachment → Type 0) → Type 0
+AttachedWith holding Holds = MatchOption (attachment_in holding) ⊥ Holds
+
+-- a drawer: its name, what its disk tells of itself, and what it does with it
+pub record DrawerState : Type 0 where
+  pub name : List ℕ
+  pub disk : DiskState
+  pub holding : Holding
+
+-- the place of the first drawer with this name
+abbrev pub place_of : List ℕ → List DrawerState → Option ℕ
+place_of name [] = None
+place_of name (drawer ∷ drawers) = if bytes_eq drawer.name name then Some 0 else option_map (λ n. n + 1) (place_of name drawers)
+
+-- it is one of the drawers
+abbrev pub IsAmong : List DrawerState → DrawerState → Type 0
+IsAmong drawers drawer = (place : ℕ) × (slice_get drawers place ≡ Some drawer)
+
+-- what is attached has a keying that a provider may have
+abbrev pub HoldsKeying : Holding → Type 0
+HoldsKeying holding = IfSome (attachment_in holding) (λ a. IsKeying a.keying)
+
+-- the same of each of the drawers
+abbrev pub HoldKeyings : List DrawerState → Type 0
+HoldKeyings drawers = (drawer : DrawerState) → IsAmong drawers drawer → HoldsKeying drawer.holding
+
+-- what each disk tells of its content, its history among it
+abbrev pub contents : List DrawerState → List (Option Content)
+contents drawers = map (λ drawer. drawer.disk.content) drawers
+
+-- all that a command may change
+pub record World : Type 0 where
+  pub drawers : List DrawerState
+  pub cabinet : CabinetState
+  pub entropy : EntropyState
+
+-- what a command may change where it names a drawer: its disk, what the drawer does with it, the cabinet and the entropy
+pub record Reach : Type 0 where
+  pub disk : DiskState
+  pub holding : Holding
+  pub cabinet : CabinetState
+  pub entropy : EntropyState
+
+abbrev pub reach_of : DiskState → Holding → CabinetState → EntropyState → Reach
+reach_of disk holding cabinet entropy = record { disk = disk; holding = holding; cabinet = cabinet; entropy = entropy }

@@ -1,0 +1,103 @@
+// What holds of one command after another.
+ghost use Rattle.std.specs.Prelude.{◌≡◌, ℕ, Bool, List, Option, Result, Ok, Some, IfSome, IsSome, IsTrue};
+ghost use Rattle.command_words.specs.Places.{bytes_at, provider_of};
+ghost use Rattle.command_words.specs.declared.commands.Command.{Command};
+ghost use Rattle.command_words.specs.declared.spans.Span.{Span};
+ghost use Rattle.eli_base.specs.declared.refusals.Refusal.{Refusal};
+ghost use Rattle.eli_base.specs.declared.refusals.Refusal.TheVariants.{NoMemory};
+ghost use Rattle.eli_metadata.specs.declared.metadata.Metadata.{Metadata};
+ghost use Rattle.command_rows.specs.Answer.{Answer, Refused};
+ghost use Rattle.command_rows.specs.Causes.{Caused, may_lack_memory};
+ghost use Rattle.command_rows.specs.Counts.{CountsFailures};
+ghost use Rattle.command_rows.specs.Fits.{FindsAt, Fits};
+ghost use Rattle.command_rows.specs.Histories.{OnlySteps};
+ghost use Rattle.command_rows.specs.Opening.{NamesSameKey, OpensOrFails};
+ghost use Rattle.command_rows.specs.Steps.{LoadsComponents, MakesProvider};
+ghost use Rattle.command_rows.specs.Stops.{LeavesOldOrNew};
+ghost use Rattle.command_rows.specs.Turn.{TryRow, Turn};
+ghost use Rattle.command_rows.specs.World.{Attachment, Reach, World};
+ghost use Rattle.user_key.specs.declared.components.Components.{Components};
+
+use command_words::KeyWords;
+use key_commands::InitOptions;
+
+/// What `init` makes opens again: where `attach` finds the content that an `init` that made the provider left, its
+/// backup stored or not, its words name the same key, and it names slot 0 or no slot, it refuses nothing, unless the
+/// disk or the cabinet fails or memory runs out. The backup comes last and leaves the disk as it is.
+pub fn what_init_makes_can_be_attached()
+    ensures { (options : InitOptions) (line line' : List ℕ) (fresh words : KeyWords) (slot : Option ℕ) (readonly : Bool)
+        (parts : Components) (m : Metadata) (before loaded made start after : Reach) (answer : Result Attachment Refusal) →
+        LoadsComponents line fresh before (Ok parts) loaded → MakesProvider options parts loaded (Ok m) made →
+        IsSome before.disk.content → start.disk.content ≡ made.disk.content →
+        NamesSameKey line fresh before.cabinet line' words start.cabinet → IfSome slot (λ named. named ≡ 0) →
+        TryRow line' slot readonly words start answer after → OpensOrFails start answer after }
+{}
+
+/// A line changes only the drawer that it names: the others keep their names, their disks and what they do with them, and stay in
+/// order. `eject` takes it out of the list, and those behind it move up. Else the history of its disk grows by the events of the line.
+/// A line that is served has those of its row: `init` and `restore` write metadata between two flushes, `setkey` stores metadata,
+/// `delkey` and `kill` write over the last sector in six passes, `resize` moves metadata and writes over their old place, `write` and
+/// `fill` write the sealed sectors in ascending order, `flush` and `detach` flush, and the others do nothing. One that is refused has
+/// none; but where the disk failed the first ones, and where the backup of `init` isn't stored it may have all.
+pub fn a_line_changes_only_its_drawer()
+    ensures { (line : List ℕ) (command : Command) (old : World) (answer : Answer) (new : World) →
+        Turn line command old answer new → OnlySteps line command answer old.drawers new.drawers }
+{}
+
+/// Each refusal has its cause, so a line without one is served. `detach`, `flush`, `read`, `write`, `fill` and `sum` are refused only where
+/// the drawer is idle, where it is suspended (all but `detach`), where the provider is only read (`write` and `fill`), by the length (`read`
+/// and `write`) and the range of what they ask for, or by a unit whose tag differs. `eject` is refused only where no drawer has the name.
+/// Only `init`, `attach`, `restore` and `resize` are refused because the drawer is attached, and then also where it is suspended; for that
+/// alone `setkey` and `delkey` are refused too. Want of memory is answered by `init`, `attach`, `setkey`, `backup`, `restore` and
+/// `list` alone. That the disk, the cabinet or the entropy failed shows in their counts.
+///
+/// The verbs on metadata are refused besides only for what they find and are told, said of the disk and the cabinet as they were before:
+/// - `dump`, `attach`, `setkey`, `delkey`, `backup`: the image has fewer than two sectors, or its last sector has no metadata.
+/// - `init`, `attach`, `setkey`, `restore`: the file that is refused is the first wrong one of those that a key, or the backup, names.
+/// - `init`: the options, the image or the components of the key make no provider.
+/// - `attach`: the metadata aren't admitted for the image and the slot that is named, the components make no user key, the provider has no
+///   sector, or the key opens no slot that is asked for.
+/// - `setkey`: the metadata aren't admitted (of an attached provider: can't be used), the slot isn't there, the old key of an idle drawer
+///   opens none, or the new key is refused for the slot.
+/// - `delkey`: no slot is named, or the slot that is named isn't there, has no key or, without `-f`, the last one.
+/// - `kill`: the image has fewer than two sectors. `restore`: the image or the backup is refused.
+/// - `resize`: the sizes are refused, or what the old place holds.
+pub fn a_refusal_has_its_cause()
+    ensures { (line : List ℕ) (command : Command) (old : World) (refusal : Refusal) (new : World) →
+        Turn line command old (Refused refusal) new → Caused line command refusal old new }
+{}
+
+/// The law above says when a line is served, since its causes can be ruled out: where a line finds what its verb needs (`Fits`) in a drawer
+/// and, if it loads files, a cabinet that tell what they hold, and no count of faults rises, no cause is left but want of memory. So it is
+/// refused for that alone, and only where its verb may lack memory. `dump` and `backup` need metadata in the last sector. `attach` needs an
+/// idle drawer, metadata that are admitted, and files by which the words name a key that opens a slot that is asked for. `read` needs an
+/// attached provider that has the sectors, whose tags fit.
+pub fn no_cause_is_left_where_all_is_found()
+    ensures cause { (line : List ℕ) (command : Command) (prov : Span) (refusal : Refusal) (old new : World) →
+        provider_of command ≡ Some prov → FindsAt (bytes_at line prov) (Fits line command) old new →
+        Caused line command refusal old new → refusal ≡ NoMemory }
+    ensures answer { (line : List ℕ) (command : Command) (prov : Span) (refusal : Refusal) (old new : World) →
+        provider_of command ≡ Some prov → FindsAt (bytes_at line prov) (Fits line command) old new →
+        Turn line command old (Refused refusal) new → (refusal ≡ NoMemory) × IsTrue (may_lack_memory command) }
+{}
+
+/// No line makes a count of the cabinet or the entropy fall. That the cabinet or the entropy failed is answered only where its count of faults
+/// rose, and that a file was absent or too long only where the count of misses did, but for passphrases that are longer than their own limit.
+pub fn a_line_counts_failures()
+    ensures { (line : List ℕ) (command : Command) (old : World) (answer : Answer) (new : World) →
+        Turn line command old answer new → CountsFailures old answer new }
+{}
+
+/// A line that changes metadata leaves the old or the new whenever power fails. At each moment of `setkey`, `init` and `restore` each
+/// value that the last sector of the named drawer may hold is one from before or the new metadata; once the line is done, they are the
+/// only one. The new metadata are made of what the line names: the key of `init` and the new key of `setkey` are of the components that its words
+/// name, and so is the old key of an idle drawer; those of `restore` are the backup in the named file. This is said of the files from
+/// before the line, where the cabinet tells them. `setkey` leaves all but its slot, its bit and the iterations, which still make the other slot's key; so does `delkey` but for the slots that are
+/// named, which are clear in each value that may be held once a flush landed, and zeros once it's done. Until the first flush of `resize` landed, each value that a sector may
+/// hold is one from before; from then on, unless a sector is altered, the last sector has the new metadata or the old place the old ones.
+/// Once a flush of `kill` landed, no value that the last sector may hold is metadata. A line that is refused may have stopped at any event of these,
+/// or it leaves the content as it is.
+pub fn a_line_leaves_old_or_new()
+    ensures { (line : List ℕ) (command : Command) (old : World) (answer : Answer) (new : World) →
+        Turn line command old answer new → LeavesOldOrNew line command answer old new }
+{}

@@ -1,0 +1,57 @@
+-- Two disks as one.
+use Rattle.std.specs.Prelude.{◌≡◌, ◌⊎◌, ℕ, ◌+◌, ◌-◌, ◌<◌, ◌≤◌, ◌^◌, nat_lt, List, [], ◌∷◌, if◌then◌else◌, Result, Ok, Err}
+use Rattle.block_traits.specs.declared.disk.DiskFailed.{DiskFailed}
+use Rattle.block_traits.specs.declared.disk.Event.{Event}
+use Rattle.block_traits.specs.declared.disk.Event.TheVariants.{Write, Flush}
+use Rattle.block_traits.specs.Disk.{DiskState, FailsIn, Logs, untold}
+use Rattle.disk_layers.specs.Calls.{AsksSector, ChangesSector}
+
+-- as a disk: the sectors, the faults and the reads of both, and no content
+abbrev pub joined : (a b : DiskState) → a.size + b.size < 2 ^ 44 → DiskState
+joined a b small = untold (a.size + b.size) (a.faults + b.faults) (a.reads + b.reads) small
+
+-- a flush was logged, and no read was asked for
+pub record IsFlushed (old new : DiskState) : Type 0 where
+  pub logs : Logs (Flush ∷ []) old new
+  pub unasked : new.reads ≡ old.reads
+
+-- the disk failed, and a flush was logged or wasn't
+pub record RefusesFlush (old new : DiskState) : Type 0 where
+  pub fails : FailsIn (Flush ∷ []) old new
+  pub unasked : new.reads ≡ old.reads
+
+-- sector n was asked for in the first, or behind its sectors in the second, and the other is as it was
+pub record AsksOne {A B : Type 0} (a : A → DiskState) (b : B → DiskState) (n : ℕ) (bytes : List ℕ) (old new : A) (old_second new_second : B) (result : Result (Unit {0}) DiskFailed) : Type 0 where
+  pub first : n < (a old).size → AsksSector n bytes (a old) (a new) result × (new_second ≡ old_second)
+  pub second : (a old).size ≤ n → AsksSector (n - (a old).size) bytes (b old_second) (b new_second) result × (new ≡ old)
+
+-- sector n was written in the first, or behind its sectors in the second, and the other is as it was
+pub record WritesOne {A B : Type 0} (a : A → DiskState) (b : B → DiskState) (n : ℕ) (bytes : List ℕ) (old new : A) (old_second new_second : B) (result : Result (Unit {0}) DiskFailed) : Type 0 where
+  pub first : n < (a old).size → ChangesSector (Write n bytes) (a old) (a new) result × (new_second ≡ old_second)
+  pub second : (a old).size ≤ n → ChangesSector (Write (n - (a old).size) bytes) (b old_second) (b new_second) result × (new ≡ old)
+
+-- both were flushed; or the first refused and the second is as it was; or the first was flushed and the second refused
+abbrev pub FlushesBoth : {A B : Type 0} → (A → DiskState) → (B → DiskState) → A → A → B → B → Result (Unit {0}) DiskFailed → Type 0
+FlushesBoth a b old new old_second new_second (Ok done) = IsFlushed (a old) (a new) × IsFlushed (b old_second) (b new_second)
+FlushesBoth a b old new old_second new_second (Err failed) =
+    (RefusesFlush (a old) (a new) × (new_second ≡ old_second))
+    ⊎ (IsFlushed (a old) (a new) × RefusesFlush (b old_second) (b new_second))
+
+-- ---- what calls log, each of which is Ok
+
+-- the writes of the first sectors, so many, and the flushes
+abbrev pub first_events : ℕ → List Event → List Event
+first_events size [] = []
+first_events size (Write n bytes ∷ events) = (if nat_lt n size then Write n bytes ∷ first_events size events else first_events size events)
+first_events size (Flush ∷ events) = Flush ∷ first_events size events
+
+-- the writes of the sectors behind them, by their numbers in the second disk, and the flushes
+abbrev pub second_events : ℕ → List Event → List Event
+second_events size [] = []
+second_events size (Write n bytes ∷ events) = (if nat_lt n size then second_events size events else Write (n - size) bytes ∷ second_events size events)
+second_events size (Flush ∷ events) = Flush ∷ second_events size events
+
+-- each disk logged the events of its sectors, and the flushes
+pub record BothLog (events : List Event) (a new_a b new_b : DiskState) : Type 0 where
+  pub first : Logs (first_events a.size events) a new_a
+  pub second : Logs (second_events a.size events) b new_b

@@ -1,0 +1,9 @@
+-- What two disks that are one tell.
+use Rattle.block_traits.specs.declared.disk.Disk.{Ghosts}
+use Rattle.block_traits.specs.Disk.{DiskState}
+use Rattle.disk_layers.specs.declared.concat.Concat.{Concat}
+use Rattle.disk_layers.specs.Concat.{joined}
+
+module _ {A B : Type 0} {g : Ghosts A} {h : Ghosts B} where
+  abbrev pub disk_of : Concat A B g h → DiskState
+  disk_of c = joined (g.state c.first) (h.state c.second) c.small

@@ -1,0 +1,122 @@
+// Two disks as one, the second behind the first.
+ghost use Rattle.std.specs.Prelude.{◌≡◌, ◌+◌, ◌-◌, ◌<◌, ◌^◌, ◌∷◌, [], OnOk};
+ghost use Rattle.disk_layers.specs.Concat.{AsksOne, BothLog, FlushesBoth, WritesOne};
+
+use block_traits::{Disk, DiskFailed, Event, Sector};
+
+/// Two disks as one: the sectors of the first, and behind them those of the second. As a disk it
+/// tells no content and shows no events.
+// The size of a disk that tells no content is bounded here, so that the bound is `Disk`.
+#[derive(Drop)]
+pub struct Concat<A: Disk, B: Disk> {
+    first: A,
+    second: B,
+    ghost small: { (A.state first).size + (B.state second).size < 2 ^ 44 },
+}
+
+impl<A: Disk, B: Disk> Concat<A, B> {
+    /// The two disks as one.
+    pub fn new(first: A, second: B) -> Concat<A, B>
+        requires { (A.state first).size + (B.state second).size < 2 ^ 44 }
+        ensures first { result.first ≡ first }
+        ensures second { result.second ≡ second }
+    {
+        Concat { first, second }
+    }
+
+    /// Reads sector `n`: sector `n` of the first, or behind that sector `n` minus its size of the second. The other is left
+    /// alone. `DiskFailed` comes only where that disk failed.
+    pub fn read_at(&mut self, n: u64, into: &mut Sector) -> Result<(), DiskFailed>
+        requires { n < (A.state self.old.first).size + (B.state self.old.second).size }
+        ensures { AsksOne A.state B.state n into.new self.old.first self.new.first self.old.second self.new.second result }
+    {
+        let size = self.first.sectors();
+        if n < size {
+            self.first.read(n, into)
+        } else {
+            self.second.read(n - size, into)
+        }
+    }
+
+    /// Writes sector `n`: sector `n` of the first, or behind that sector `n` minus its size of the second. The other is left
+    /// alone. `DiskFailed` comes only where that disk failed, and then the write was done or wasn't.
+    pub fn write_at(&mut self, n: u64, from: &Sector) -> Result<(), DiskFailed>
+        requires { n < (A.state self.old.first).size + (B.state self.old.second).size }
+        ensures answer { WritesOne A.state B.state n from.now self.old.first self.new.first self.old.second self.new.second result }
+        ensures logs { OnOk result (BothLog (Event.Write n from.now ∷ []) (A.state self.old.first) (A.state self.new.first) (B.state self.old.second) (B.state self.new.second)) }
+    {
+        let size = self.first.sectors();
+        if n < size {
+            self.first.write(n, from)
+        } else {
+            self.second.write(n - size, from)
+        }
+    }
+
+    /// Flushes the first, and then the second. Where the first refuses, the second isn't called. `DiskFailed` comes only
+    /// where one of them failed.
+    pub fn flush_all(&mut self) -> Result<(), DiskFailed>
+        ensures answer { FlushesBoth A.state B.state self.old.first self.new.first self.old.second self.new.second result }
+        ensures logs { OnOk result (BothLog (Event.Flush ∷ []) (A.state self.old.first) (A.state self.new.first) (B.state self.old.second) (B.state self.new.second)) }
+    {
+        self.first.flush()?;
+        self.second.flush()
+    }
+
+    /// Gives both disks back as they are. No call of them is made.
+    pub fn close(self) -> (A, B)
+        ensures first { result.0 ≡ self.first }
+        ensures second { result.1 ≡ self.second }
+    {
+        let Concat { first, second } = self;
+        (first, second)
+    }
+}
+
+/// It tells its size, and the faults and reads of both disks. Its calls are `read_at`, `write_at` and `flush_all`.
+impl<A: Disk, B: Disk> Disk for Concat<A, B> {
+    ghost use Rattle.std.specs.Prelude.{OnErr};
+    ghost use Rattle.disk_layers.specs.ConcatDisk.{disk_of};
+    ghost use Rattle.block_traits.specs.Causes.{Counted};
+    ghost use Rattle.block_traits.specs.Disk.{FailsIn, Gives, Logs};
+
+    ghost state = { disk_of };
+
+    fn sectors(&self) -> u64 {
+        self.first.sectors() + self.second.sectors()
+    }
+
+    fn read(&mut self, n: u64, into: &mut Sector) -> Result<(), DiskFailed>
+        requires { n < (disk_of self.old).size }
+        ensures bytes { OnOk result (Gives (disk_of self.old) n into.new) }
+        ensures ok { OnOk result (Logs [] (disk_of self.old) (disk_of self.new)) }
+        ensures err { OnErr result (FailsIn [] (disk_of self.old) (disk_of self.new)) }
+        ensures asked { Counted 1 (disk_of self.old).reads (disk_of self.new).reads }
+        ensures answer { AsksOne A.state B.state n into.new self.old.first self.new.first self.old.second self.new.second result }
+    {
+        self.read_at(n, into)
+    }
+
+    fn write(&mut self, n: u64, from: &Sector) -> Result<(), DiskFailed>
+        requires { n < (disk_of self.old).size }
+        ensures ok { OnOk result (Logs (Event.Write n from.now ∷ []) (disk_of self.old) (disk_of self.new)) }
+        ensures err { OnErr result (FailsIn (Event.Write n from.now ∷ []) (disk_of self.old) (disk_of self.new)) }
+        ensures unasked { (disk_of self.new).reads ≡ (disk_of self.old).reads }
+        ensures answer { WritesOne A.state B.state n from.now self.old.first self.new.first self.old.second self.new.second result }
+    {
+        self.write_at(n, from)
+    }
+
+    fn flush(&mut self) -> Result<(), DiskFailed>
+        ensures ok { OnOk result (Logs (Event.Flush ∷ []) (disk_of self.old) (disk_of self.new)) }
+        ensures err { OnErr result (FailsIn (Event.Flush ∷ []) (disk_of self.old) (disk_of self.new)) }
+        ensures unasked { (disk_of self.new).reads ≡ (disk_of self.old).reads }
+        ensures answer { FlushesBoth A.state B.state self.old.first self.new.first self.old.second self.new.second result }
+    {
+        self.flush_all()
+    }
+
+    fn events(&self) -> Option<&[Event]> {
+        None
+    }
+}

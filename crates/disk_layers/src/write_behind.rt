@@ -1,0 +1,247 @@
+// Writes that are kept back from a disk.
+ghost use Rattle.std.specs.Prelude.{◌≡◌, ◌<◌, ◌≤◌, ◌∷◌, [], IfOk, IfErr, OnOk, OnErr, false, length};
+ghost use Rattle.std.specs.VecDeque.{deque_len, deque_capacity};
+ghost use Rattle.block_traits.specs.Causes.{Counted, Rose};
+ghost use Rattle.block_traits.specs.Disk.{GivesFrom, Logs};
+ghost use Rattle.block_traits.specs.Content.{logged};
+ghost use Rattle.disk_layers.specs.Waiting.{FitBelow, FitBelow-prop, StopsIn, last_waiting, writes_of};
+
+use block_traits::{Disk, DiskFailed, Event, NoMemory, Sector};
+use std::alloc::Global;
+use std::collections::VecDeque;
+
+/// A write that waits.
+#[derive(Clone, Copy, Debug, PartialEq, Eq)]
+pub struct Waiting {
+    /// The number of its sector.
+    pub n: u64,
+    pub bytes: Sector,
+}
+
+/// A disk and writes that wait for it, in their order. As a disk it tells no content and shows no events.
+#[derive(Drop)]
+pub struct WriteBehind<D: Disk> {
+    under: D,
+    waiting: VecDeque<Waiting>,
+    room: u32,
+    clean: bool,
+    reads: u64,
+    ghost some: { 1 ≤ room },
+    ghost small: { room ≤ 1024 },
+    ghost within: { deque_len waiting ≤ room },
+    ghost reserved: { room ≤ deque_capacity waiting },
+    ghost fit: { FitBelow (D.state under).size waiting.items } by { FitBelow-prop (D.state under).size waiting.items },
+}
+
+impl<D: Disk> WriteBehind<D> {
+    ghost use Rattle.disk_layers.specs.WriteBehind.{EndsAnswers, FlushAnswers, IsNew, ReadAnswers, WriteAnswers, behind_of, order};
+
+    /// A disk for which up to `room` writes may wait. Where there is no memory for them the disk comes back.
+    pub fn new(alloc: Global, under: D, room: u32) -> Result<WriteBehind<D>, (D, NoMemory)>
+        requires some { 1 ≤ room }
+        requires small { room ≤ 1024 }
+        ensures under { IfOk result (λ behind. behind.under ≡ under) }
+        ensures made { IfOk result (λ behind. IsNew (D.state under) room (behind_of D.state behind)) }
+        ensures order { IfOk result (λ behind. order (behind_of D.state behind) ≡ (D.state under).content) }
+        ensures back { IfErr result (λ refused. refused.0 ≡ under) }
+    {
+        let Ok(waiting) = VecDeque::with_capacity(alloc, room as usize) else {
+            return Err((under, NoMemory));
+        };
+        Ok(WriteBehind {
+            under,
+            waiting,
+            room,
+            clean: true,
+            reads: 0,
+        })
+    }
+
+    /// Reads sector `n`: the last write of it that waits, and nothing is done below; or else what stands below, which is read once.
+    /// `DiskFailed` comes only where the disk below failed.
+    pub fn read_at(&mut self, n: u64, into: &mut Sector) -> Result<(), DiskFailed>
+        requires { n < (D.state self.old.under).size }
+        ensures answer { ReadAnswers (last_waiting n self.old.waiting.items) n into.new (behind_of D.state self.old) (behind_of D.state self.new) result }
+        ensures gives { OnOk result (GivesFrom (order (behind_of D.state self.old)) n into.new) }
+        ensures order { order (behind_of D.state self.new) ≡ order (behind_of D.state self.old) }
+        ensures rose { OnErr result (Rose (D.state self.old.under).faults (D.state self.new.under).faults) }
+        ensures asked { Counted 1 self.old.reads self.new.reads }
+    {
+        self.reads = self.reads.saturating_add(1);
+        if let Some(bytes) = last_of(&self.waiting, n) {
+            *into = bytes;
+            return Ok(());
+        }
+        match self.under.read(n, into) {
+            Ok(()) => Ok(()),
+            Err(failed) => {
+                self.clean = false;
+                Err(failed)
+            }
+        }
+    }
+
+    /// Puts a write behind those that wait. Where as many wait as there is room for, they are written below first, in their
+    /// order; else nothing is done below. `DiskFailed` comes only where the disk below failed: the write that it refused and those
+    /// behind it wait still, and this one isn't taken.
+    pub fn write_at(&mut self, n: u64, from: &Sector) -> Result<(), DiskFailed>
+        requires { n < (D.state self.old.under).size }
+        ensures answer { WriteAnswers (record { n = n; bytes = from.now }) (behind_of D.state self.old) (behind_of D.state self.new) result }
+        ensures order { OnOk result (order (behind_of D.state self.new) ≡ logged (Event.Write n from.now ∷ []) (order (behind_of D.state self.old))) }
+        ensures rose { OnErr result (Rose (D.state self.old.under).faults (D.state self.new.under).faults) }
+        ensures unasked { self.new.reads ≡ self.old.reads }
+    {
+        if self.waiting.len() == self.room as usize {
+            self.write_all()?;
+        }
+        self.waiting.push_back_reserved(Waiting { n, bytes: *from });
+        Ok(())
+    }
+
+    /// Writes all that wait below, in their order, and then flushes below. `DiskFailed` comes only where the disk below failed:
+    /// a write that it refused and those behind it wait still.
+    pub fn flush_all(&mut self) -> Result<(), DiskFailed>
+        ensures answer { FlushAnswers (behind_of D.state self.old) (behind_of D.state self.new) result }
+        ensures order { OnOk result (order (behind_of D.state self.new) ≡ logged (Event.Flush ∷ []) (order (behind_of D.state self.old))) }
+        ensures none { OnOk result (self.new.waiting.items ≡ []) }
+        ensures rose { OnErr result (Rose (D.state self.old.under).faults (D.state self.new.under).faults) }
+        ensures unasked { self.new.reads ≡ self.old.reads }
+    {
+        self.write_all()?;
+        match self.under.flush() {
+            Ok(()) => Ok(()),
+            Err(failed) => {
+                self.clean = false;
+                Err(failed)
+            }
+        }
+    }
+
+    /// How many writes wait.
+    pub fn pending(&self) -> u32
+        ensures { result ≡ length self.now.waiting.items }
+    {
+        self.waiting.len() as u32
+    }
+
+    /// Whether no call of the disk below was refused.
+    pub fn clean(&self) -> bool
+        ensures { result ≡ self.now.clean }
+    {
+        self.clean
+    }
+
+    /// Flushes as `flush_all` does, and gives the disk back either way. Where that failed, what waits is lost.
+    pub fn close(mut self) -> (D, Result<(), DiskFailed>)
+        ensures { EndsAnswers (behind_of D.state self) (D.state result.0) result.1 }
+    {
+        let answer = self.flush_all();
+        let WriteBehind {
+            under,
+            waiting: _,
+            room: _,
+            clean: _,
+            reads: _,
+        } = self;
+        (under, answer)
+    }
+
+    // Writes all that wait below.
+    fn write_all(&mut self) -> Result<(), DiskFailed>
+        ensures ok { OnOk result (Logs (writes_of self.old.waiting.items) (D.state self.old.under) (D.state self.new.under)) }
+        ensures none { OnOk result (self.new.waiting.items ≡ []) }
+        ensures clean { OnOk result (self.new.clean ≡ self.old.clean) }
+        ensures err { OnErr result (StopsIn self.old.waiting.items self.new.waiting.items (D.state self.old.under) (D.state self.new.under)) }
+        ensures unclean { OnErr result (self.new.clean ≡ false) }
+        ensures room { self.new.room ≡ self.old.room }
+        ensures reads { self.new.reads ≡ self.old.reads }
+        ensures unasked { (D.state self.new.under).reads ≡ (D.state self.old.under).reads }
+    {
+        match drain(&mut self.under, &mut self.waiting) {
+            Ok(()) => Ok(()),
+            Err(failed) => {
+                self.clean = false;
+                Err(failed)
+            }
+        }
+    }
+}
+
+// Writes all that wait. Each is taken out once the disk answered Ok to it.
+fn drain<D: Disk>(under: &mut D, waiting: &mut VecDeque<Waiting>) -> Result<(), DiskFailed>
+    requires { FitBelow (D.state under.old).size waiting.old.items }
+    ensures ok { OnOk result (Logs (writes_of waiting.old.items) (D.state under.old) (D.state under.new)) }
+    ensures none { OnOk result (waiting.new.items ≡ []) }
+    ensures err { OnErr result (StopsIn waiting.old.items waiting.new.items (D.state under.old) (D.state under.new)) }
+    ensures fit { FitBelow (D.state under.new).size waiting.new.items }
+    ensures fewer { deque_len waiting.new ≤ deque_len waiting.old }
+    ensures capacity { deque_capacity waiting.new ≡ deque_capacity waiting.old }
+    ensures unasked { (D.state under.new).reads ≡ (D.state under.old).reads }
+{
+    while let Some(first) = waiting.pop_front() {
+        if let Err(failed) = under.write(first.n, &first.bytes) {
+            waiting.push_front_reserved(first);
+            return Err(failed);
+        }
+    }
+    Ok(())
+}
+
+// The bytes of the last write of sector `n` that waits.
+fn last_of(waiting: &VecDeque<Waiting>, n: u64) -> Option<Sector>
+    ensures { result ≡ last_waiting n waiting.now.items }
+{
+    let mut found = None;
+    for write in waiting.iter() {
+        if write.n == n {
+            found = Some(write.bytes);
+        }
+    }
+    found
+}
+
+/// It tells the size and the faults of the disk below, and its own reads. Its calls are `read_at`, `write_at` and `flush_all`.
+impl<D: Disk> Disk for WriteBehind<D> {
+    ghost use Rattle.disk_layers.specs.WriteBehind.{FlushAnswers, ReadAnswers, WriteAnswers, behind_of, disk_of};
+    ghost use Rattle.block_traits.specs.Disk.{FailsIn, Gives};
+
+    ghost state = { disk_of D.state };
+
+    fn sectors(&self) -> u64 {
+        self.under.sectors()
+    }
+
+    fn read(&mut self, n: u64, into: &mut Sector) -> Result<(), DiskFailed>
+        requires { n < (disk_of D.state self.old).size }
+        ensures bytes { OnOk result (Gives (disk_of D.state self.old) n into.new) }
+        ensures ok { OnOk result (Logs [] (disk_of D.state self.old) (disk_of D.state self.new)) }
+        ensures err { OnErr result (FailsIn [] (disk_of D.state self.old) (disk_of D.state self.new)) }
+        ensures asked { Counted 1 (disk_of D.state self.old).reads (disk_of D.state self.new).reads }
+        ensures answer { ReadAnswers (last_waiting n self.old.waiting.items) n into.new (behind_of D.state self.old) (behind_of D.state self.new) result }
+    {
+        self.read_at(n, into)
+    }
+
+    fn write(&mut self, n: u64, from: &Sector) -> Result<(), DiskFailed>
+        requires { n < (disk_of D.state self.old).size }
+        ensures ok { OnOk result (Logs (Event.Write n from.now ∷ []) (disk_of D.state self.old) (disk_of D.state self.new)) }
+        ensures err { OnErr result (FailsIn (Event.Write n from.now ∷ []) (disk_of D.state self.old) (disk_of D.state self.new)) }
+        ensures unasked { (disk_of D.state self.new).reads ≡ (disk_of D.state self.old).reads }
+        ensures answer { WriteAnswers (record { n = n; bytes = from.now }) (behind_of D.state self.old) (behind_of D.state self.new) result }
+    {
+        self.write_at(n, from)
+    }
+
+    fn flush(&mut self) -> Result<(), DiskFailed>
+        ensures ok { OnOk result (Logs (Event.Flush ∷ []) (disk_of D.state self.old) (disk_of D.state self.new)) }
+        ensures err { OnErr result (FailsIn (Event.Flush ∷ []) (disk_of D.state self.old) (disk_of D.state self.new)) }
+        ensures unasked { (disk_of D.state self.new).reads ≡ (disk_of D.state self.old).reads }
+        ensures answer { FlushAnswers (behind_of D.state self.old) (behind_of D.state self.new) result }
+    {
+        self.flush_all()
+    }
+
+    fn events(&self) -> Option<&[Event]> {
+        None
+    }
+}

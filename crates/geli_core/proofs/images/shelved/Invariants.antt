@@ -1,0 +1,13 @@
+use Rattle.std.proofs.Common.{◌≡◌, ◌+◌, ◌++◌, drop, length, map, string_bytes}
+use Rattle.geli_core.specs.Bounds.{NamesDiffer}
+use Rattle.geli_core.specs.Images.{idle_drawers}
+use Rattle.shelf.specs.Shelved.{drawers_of}
+use Rattle.geli_core.proofs.images.shelved.Given as goal
+
+-- with the disks that are left under the names that are left it would have them all, and there are as many of these as of those; no two have one name
+abbrev pub invariant-loop-name : goal.invariant-loop-name
+invariant-loop-name g l =
+    let state = g.D.Disk.state in
+    (drawers_of state l.shelf.drawers ++ idle_drawers (map string_bytes (drop l.name-index l.names)) (map state l.disks.items) ≡ idle_drawers (map string_bytes l.names) (map state l.fn.disks.items))
+    × (l.name-index + length l.disks.items ≡ length l.names)
+    × NamesDiffer (drawers_of state l.shelf.drawers)

@@ -1,0 +1,11 @@
+use Rattle.geli_core.proofs.Running.{refuses_words, turns_command}
+use Rattle.geli_core.proofs.serving.serve_line.Goals as goal
+
+pub returns-in-Ok-Some : goal.returns-in-Ok-Some
+returns-in-Ok-Some g c =
+    let prints = rw c.payload.ensures at c.print.ensures in
+    let says = rw (c.in-Ok-Some.field-0-is) at c.in-Ok-Some.ensures.reading in
+    turns_command c.args.sep c.args.line.now c.in-Ok-Some.command _ _ _ _ _ _ says c.serve-reply.ensures.turn prints
+
+pub returns-in-Err : goal.returns-in-Err
+returns-in-Err g c = refuses_words c.args.sep c.args.line.now c.in-Err.usage _ _ _ _ c.in-Err.ensures.reading c.print-in-Err.ensures

@@ -1,0 +1,10 @@
+use Rattle.geli_core.proofs.Headline.{reads_after_crashes, some_read}
+use Rattle.geli_core.proofs.survivors.crashed_runs_attach_and_read.Goals as goal
+
+pub returns-clause-steps : goal.returns-clause-steps
+returns-clause-steps g c = reads_after_crashes g.D.Disk.state
+
+pub returns-clause-runs : goal.returns-clause-runs
+returns-clause-runs g c = λ old new survives sep lines answers failed ran drawer among.
+    let left = survives.each sep lines answers failed ran drawer among in
+    some_read g.D.Disk.state left.steps left.before.disk.content left.endures

@@ -1,0 +1,58 @@
+// The run over disks, which are put on a shelf under their names.
+ghost use Rattle.std.specs.Prelude.{◌≡◌, None, IfErr, IfOk, OnErr, OnOk, length, map, string_bytes};
+ghost use Rattle.command_words.specs.Images.{script_images};
+ghost use Rattle.geli_core.specs.Bounds.{NamesDiffer};
+ghost use Rattle.geli_core.specs.Images.{IsNotShelved, RunsOver, idle_drawers, outside_of};
+ghost use Rattle.shelf.specs.Shelved.{drawers_of};
+
+use crate::Status;
+use crate::top_call::geli_main;
+use block_traits::{Cabinet, Disk, Entropy, Sink, Source};
+use shelf::{AddFault, Drawers, Shelf};
+use std::alloc::Global;
+
+/// Puts disks on a shelf, the disk at a place under the name of that place, and does over it what the words of the command line ask for.
+/// The shelf comes back as the run left it. A shelf that doesn't take all of them is a refusal, and then nothing was done.
+pub fn run_images<S: Source, K: Sink, C: Cabinet, E: Entropy>(
+    alloc: Global,
+    words: &[String],
+    names: &[String],
+    disks: Vec<Box<dyn Disk>>,
+    input: &mut S,
+    output: &mut K,
+    files: &mut C,
+    entropy: &mut E,
+) -> Result<(Status, Shelf), AddFault>
+    requires { length disks.items ≡ length names.now }
+    ensures runs { IfOk result (λ ran. RunsOver (map string_bytes words.now) (map string_bytes names.now) (map (⟦<Box<dyn Disk> as Disk>⟧).state disks.items)
+        (outside_of (C.state files.old) (E.state entropy.old) (S.state input.old) (K.state output.old)) ran.0
+        (drawers_of (⟦<Box<dyn Disk> as Disk>⟧).state ran.1.drawers)
+        (outside_of (C.state files.new) (E.state entropy.new) (S.state input.new) (K.state output.new))) }
+    ensures unread { OnOk result (script_images (map string_bytes words.now) ≡ None → input.new ≡ input.old) }
+    ensures refused { IfErr result (λ fault. IsNotShelved fault (idle_drawers (map string_bytes names.now) (map (⟦<Box<dyn Disk> as Disk>⟧).state disks.items))) }
+    ensures nothing { OnErr result ((input.new ≡ input.old) × (output.new ≡ output.old) × (files.new ≡ files.old) × (entropy.new ≡ entropy.old)) }
+{
+    let mut shelf = shelved(alloc, names, disks)?;
+    let status = geli_main(alloc, words, input, output, files, entropy, &mut shelf);
+    Ok((status, shelf))
+}
+
+// A shelf of these disks, each under its name.
+fn shelved<D: Disk>(alloc: Global, names: &[String], disks: Vec<D>) -> Result<Drawers<D>, AddFault>
+    requires { length disks.items ≡ length names.now }
+    ensures drawers { IfOk result (λ shelf. drawers_of D.state shelf.drawers ≡ idle_drawers (map string_bytes names.now) (map D.state disks.items)) }
+    ensures differ { OnOk result (NamesDiffer (idle_drawers (map string_bytes names.now) (map D.state disks.items))) }
+    ensures refused { IfErr result (λ fault. IsNotShelved fault (idle_drawers (map string_bytes names.now) (map D.state disks.items))) }
+{
+    let Ok(mut shelf) = Drawers::new(alloc) else {
+        return Err(AddFault::NoMemory);
+    };
+    let mut disks = disks;
+    for name in names {
+        match shelf.add(name.as_str(), disks.remove(0)) {
+            Ok(()) => {}
+            Err((_, fault)) => return Err(fault),
+        }
+    }
+    Ok(shelf)
+}

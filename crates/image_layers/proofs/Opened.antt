@@ -1,0 +1,112 @@
+-- The disk of an image, from the disks of its files; and what was asked where memory gave out.
+use Rattle.std.proofs.Common.{◌≡◌, ◌⊎◌, inl, inr, refl, subst, sym, ap, ℕ, suc, List, [], ◌∷◌, ◌++◌, length, Bool, Option, Result}
+use Rattle.std.proofs.Common.{Ok, Err, OnErr, le_refl, take_all}
+use Rattle.std.specs.declared.fs.options.OpenOptions.{OpenOptions}
+use Rattle.std.specs.declared.io.Error.{Error}
+use Rattle.block_traits.specs.declared.disk.Disk.{Ghosts}
+use Rattle.file_edge.specs.Asked.{Asked}
+use Rattle.file_edge.specs.FileDisk.{AsksDisk}
+use Rattle.file_edge.specs.declared.file_disk.FileDisk.{FileDisk}
+use Rattle.file_edge.specs.declared.found.Found.{Found}
+use Rattle.image_layers.specs.declared.image_disks.ImageDisk.{ImageDisk}
+use Rattle.image_layers.specs.declared.image_disks.ImageDisk.TheVariants.{Plain, Behind, Join}
+use Rattle.image_layers.specs.Images.{AsksFiles, AsksFirst, AsksFor, AsksPart, IsBehindOf, IsJoinOf, IsPlain, JoinsOrIsNone, Opening, OpensBoth, OpensImage, OpensImages, OpensJoin, OpensOne, WaitsFor}
+
+-- the files of an image that was opened
+record Asks {O : Type 0} (log_of : O → Option (List Asked)) (changes : Bool) (name : List ℕ) (old new : O) : Type 0 where
+  pub files : List (List ℕ)
+  pub own : AsksFor name files
+  pub asked : AsksFiles log_of changes files old new
+
+asks_two : {O : Type 0} (log_of : O → Option (List Asked)) (changes : Bool) (name left right : List ℕ) (old between new : O) → IsJoinOf name left right → AsksDisk log_of old changes left between → AsksDisk log_of between changes right new
+    → Asks log_of changes name old new
+asks_two log_of changes name left right old between new is one other = record { files = left ∷ right ∷ []; own = is; asked = (between, one, (new, other, refl)) }
+
+module _ {O F : Type 0} {g : Ghosts (FileDisk F)} (leads : O → List ℕ → Result Found Error → Type 0) (answers : O → OpenOptions → List ℕ → Result F Error → Type 0) (tells : F → Result Found Error → Type 0) (locks : F → Bool → Type 0) (ends : F → Option ℕ → Type 0) (log_of : O → Option (List Asked)) (changes : Bool) where
+  abbrev Image : List ℕ → ImageDisk F g → Opening O → Opening O → Type 0
+  Image = OpensImage leads answers tells locks ends log_of changes
+
+  -- a disk for which writes wait
+  pub waits : (name rest : List ℕ) (disk : FileDisk F) (image : ImageDisk F g) (old new : Opening O) → IsBehindOf name rest → WaitsFor disk image → OpensOne leads answers tells locks ends log_of changes rest disk old new → Image name image old new
+  waits name rest disk (Behind behind) old new is for one =
+      record { rest = rest; behind = is; opens = subst (λ (d : FileDisk F). OpensOne leads answers tells locks ends log_of changes rest d old new) (sym for.0) one; none = for.1; most = for.2 }
+  waits name rest disk (Plain other) old new is for one = absurd for
+  waits name rest disk (Join both) old new is for one = absurd for
+
+  -- two disks as one, or none
+  pub joined : (name left right : List ℕ) (first second : FileDisk F) (image : ImageDisk F g) (old new : Opening O) → IsJoinOf name left right → JoinsOrIsNone first second image
+      → OpensBoth leads answers tells locks ends log_of changes left right first second old new → Image name image old new
+  joined name left right first second (Join both) old new is joins two =
+      let P : FileDisk F → Type 0 = λ disk. OpensJoin leads answers tells locks ends log_of changes name disk second old new in
+      let Q : FileDisk F → Type 0 = λ disk. OpensJoin leads answers tells locks ends log_of changes name both.first disk old new in
+      subst Q (sym joins.1) (subst P (sym joins.0) (record { left = left; right = right; join = is; opens = two }))
+  joined name left right first second (Plain disk) old new is joins two =
+      inr (record { first = first; second = second; joined = record { left = left; right = right; join = is; opens = two }; large = joins.0; unopened = joins.1 })
+  joined name left right first second (Behind behind) old new is joins two = absurd joins
+
+  -- ---- what was asked
+
+  asks_image : (name : List ℕ) (image : ImageDisk F g) (old new : Opening O) → Image name image old new → Asks log_of changes name old.opener new.opener
+  asks_image name (Behind behind) old new h = record { files = h.rest ∷ []; own = inr h.behind; asked = (new.opener, h.opens.asked, refl) }
+  asks_image name (Join both) old new h = asks_two log_of changes name h.left h.right old.opener h.opens.between.opener new.opener h.join h.opens.one.asked h.opens.other.asked
+  asks_image name (Plain disk) old new (inl h) = record { files = name ∷ []; own = inl (h.0, refl); asked = (new.opener, h.1.asked, refl) }
+  asks_image name (Plain disk) old new (inr h) = asks_two log_of changes name h.joined.left h.joined.right old.opener h.joined.opens.between.opener new.opener h.joined.join h.joined.opens.one.asked h.joined.opens.other.asked
+
+  -- all of its files are the first of them
+  pub image_part : (name : List ℕ) (image : ImageDisk F g) (old new : Opening O) → Image name image old new → AsksPart log_of changes name old.opener new.opener
+  image_part name image old new h =
+      let asks = asks_image name image old new h in
+      let P : List (List ℕ) → Type 0 = λ files. AsksFiles log_of changes files old.opener new.opener in
+      record { files = asks.files; own = asks.own; count = length asks.files; asked = subst P (sym (take_all (length asks.files) asks.files (le_refl (length asks.files)))) asks.asked }
+
+  -- these images were opened, and of the next a part was asked
+  pub first_asked : (done : List (List ℕ)) (name : List ℕ) (rest : List (List ℕ)) (disks : List (ImageDisk F g)) (old middle : Opening O) (new : O) → OpensImages leads answers tells locks ends log_of changes done disks old middle
+      → AsksPart log_of changes name middle.opener new → AsksFirst log_of changes ((done ++ name ∷ []) ++ rest) old.opener new
+  first_asked [] name rest [] old middle new is part =
+      let P : Opening O → Type 0 = λ o. AsksPart log_of changes name o.opener new in
+      inr (inl (subst P is part))
+  first_asked [] name rest (d ∷ disks) old middle new are part = absurd are
+  first_asked (n ∷ done) name rest [] old middle new are part = absurd are
+  first_asked (n ∷ done) name rest (d ∷ disks) old middle new are part =
+      let asks = asks_image n d old are.0 are.1 in
+      inr (inr (record { files = asks.files; own = asks.own; next = are.0.opener; asked = asks.asked; behind = first_asked done name rest disks are.0 middle new are.2 part }))
+
+  -- one more image is opened
+  pub one_more : (names : List (List ℕ)) (disks : List (ImageDisk F g)) (name : List ℕ) (image : ImageDisk F g) (old middle new : Opening O) → OpensImages leads answers tells locks ends log_of changes names disks old middle
+      → Image name image middle new → OpensImages leads answers tells locks ends log_of changes (names ++ name ∷ []) (disks ++ image ∷ []) old new
+  one_more [] [] name image old middle new is opens =
+      let P : Opening O → Type 0 = λ o. Image name image o new in
+      (new, subst P is opens, refl)
+  one_more [] (d ∷ disks) name image old middle new are opens = absurd are
+  one_more (n ∷ names) [] name image old middle new are opens = absurd are
+  one_more (n ∷ names) (d ∷ disks) name image old middle new are opens = (are.0, are.1, one_more names disks name image are.0 middle new are.2 opens)
+
+  -- there are as many disks as names
+  pub as_many : (names : List (List ℕ)) (disks : List (ImageDisk F g)) (old new : Opening O) → OpensImages leads answers tells locks ends log_of changes names disks old new → length disks ≡ length names
+  as_many [] [] old new are = refl
+  as_many [] (d ∷ disks) old new are = absurd are
+  as_many (n ∷ names) [] old new are = absurd are
+  as_many (n ∷ names) (d ∷ disks) old new are = ap suc (as_many names disks are.0 new are.2)
+
+-- nothing is asked
+pub nothing_asked : {O : Type 0} (log_of : O → Option (List Asked)) (changes : Bool) (names : List (List ℕ)) (old new : O) → log_of new ≡ log_of old → AsksFirst log_of changes names old new
+nothing_asked log_of changes [] old new same = same
+nothing_asked log_of changes (name ∷ names) old new same = inl same
+
+-- ---- a name of one file, and of two
+
+pub rest_asked : {O : Type 0} (log_of : O → Option (List Asked)) (changes : Bool) (name rest : List ℕ) (old new : O) → IsBehindOf name rest → AsksDisk log_of old changes rest new → AsksPart log_of changes name old new
+rest_asked log_of changes name rest old new is asks = record { files = rest ∷ []; own = inr is; count = 1; asked = (new, asks, refl) }
+
+pub plain_asked : {O : Type 0} (log_of : O → Option (List Asked)) (changes : Bool) (name : List ℕ) (old new : O) → IsPlain name → AsksDisk log_of old changes name new → AsksPart log_of changes name old new
+plain_asked log_of changes name old new is asks = record { files = name ∷ []; own = inl (is, refl); count = 1; asked = (new, asks, refl) }
+
+pub join_asked : {O : Type 0} (log_of : O → Option (List Asked)) (changes : Bool) (name left right : List ℕ) (old new : O) → IsJoinOf name left right
+    → AsksFiles log_of changes (left ∷ []) old new ⊎ AsksFiles log_of changes (left ∷ right ∷ []) old new → AsksPart log_of changes name old new
+join_asked log_of changes name left right old new is (inl asks) = record { files = left ∷ right ∷ []; own = is; count = 1; asked = asks }
+join_asked log_of changes name left right old new is (inr asks) = record { files = left ∷ right ∷ []; own = is; count = 2; asked = asks }
+
+-- whatever the answer is
+pub any_refusal : {X E : Type 0} (result : Result X E) (P : Type 0) → P → OnErr result P
+any_refusal (Ok x) P h = tt
+any_refusal (Err e) P h = h

@@ -1,0 +1,19 @@
+use Rattle.std.proofs.Common.{◌⊎◌, ◌∷◌, [], inl, inr, refl, rules}
+use Rattle.image_layers.specs.Images.{AsksFiles, opening}
+use Rattle.image_layers.proofs.image_disks.open_both.Goals as goal
+
+pub returns-clause-opens : goal.returns-clause-opens
+returns-clause-opens g c =
+    record { between = opening c.open_named.new.opener c.open_named.new.files.items; one = c.in_ok-first.ensures.opens; other = c.in_ok-second.ensures.opens }
+
+pub returns-in_err-first-clause-asked_part : goal.returns-in_err-first-clause-asked_part
+returns-in_err-first-clause-asked_part g c =
+    let asked : AsksFiles g.O.Opener.asked c.args.changes (c.args.first.now ∷ []) c.args.opener.now c.open_named.new.opener ⊎ AsksFiles g.O.Opener.asked c.args.changes (c.args.first.now ∷ c.args.second.now ∷ []) c.args.opener.now c.open_named.new.opener =
+    inl (c.open_named.new.opener, c.open_named.ensures.asked, refl) in
+    search (rules, asked)
+
+pub returns-in_err-second-clause-asked_part : goal.returns-in_err-second-clause-asked_part
+returns-in_err-second-clause-asked_part g c =
+    let asked : AsksFiles g.O.Opener.asked c.args.changes (c.args.first.now ∷ []) c.args.opener.now c.open_named-2.new.opener ⊎ AsksFiles g.O.Opener.asked c.args.changes (c.args.first.now ∷ c.args.second.now ∷ []) c.args.opener.now c.open_named-2.new.opener =
+    inr (c.open_named.new.opener, c.open_named.ensures.asked, (c.open_named-2.new.opener, c.open_named-2.ensures.asked, refl)) in
+    search (rules, asked)

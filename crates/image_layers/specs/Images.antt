@@ -1,0 +1,156 @@
+-- The disks of images, each by what its name asks for, and how they are opened.
+use Rattle.std.specs.Prelude.{◌≡◌, ◌⊎◌, ℕ, ◌+◌, ◌≤◌, ◌^◌, List, [], ◌∷◌, ◌++◌, length, codes, take, Bool, Option, None, Some, Result}
+use Rattle.std.specs.declared.fs.options.OpenOptions.{OpenOptions}
+use Rattle.std.specs.declared.io.Error.{Error}
+use Rattle.block_traits.specs.Disk.{DiskState}
+use Rattle.block_traits.specs.declared.disk.Disk.{Ghosts}
+use Rattle.disk_layers.specs.ConcatDisk as concat
+use Rattle.disk_layers.specs.Names.{IsBehind, IsJoin}
+use Rattle.disk_layers.specs.WriteBehind as write_behind
+use Rattle.file_edge.specs.Asked.{Asked}
+use Rattle.file_edge.specs.FileDisk.{AsksDisk, IsUnopened, OpensDisk}
+use Rattle.file_edge.specs.declared.file_disk.FileDisk.{FileDisk}
+use Rattle.file_edge.specs.declared.found.FileId.{FileId}
+use Rattle.file_edge.specs.declared.found.Found.{Found}
+use Rattle.image_layers.specs.declared.image_disks.ImageDisk.{ImageDisk}
+use Rattle.image_layers.specs.declared.image_disks.ImageDisk.TheVariants.{Plain, Behind, Join}
+
+-- ---- names
+
+-- a name that asks for no layer
+abbrev pub IsPlain : List ℕ → Type 0
+IsPlain name = (IsBehind name → ⊥) × ((middle : ℕ) → IsJoin middle name → ⊥)
+
+-- `behind:` and the name of a file
+abbrev pub IsBehindOf : List ℕ → List ℕ → Type 0
+IsBehindOf name rest = IsBehind name × (name ≡ codes "behind:" ++ rest)
+
+-- `join:` and the names of two files
+abbrev pub IsJoinOf : List ℕ → List ℕ → List ℕ → Type 0
+IsJoinOf name left right = IsJoin (5 + length left) name × (name ≡ codes "join:" ++ left ++ 58 ∷ right)
+
+-- the names of the files that an image of this name asks for
+abbrev pub AsksFor : List ℕ → List (List ℕ) → Type 0
+AsksFor name [] = ⊥
+AsksFor name (file ∷ []) = (IsPlain name × (file ≡ name)) ⊎ IsBehindOf name file
+AsksFor name (left ∷ right ∷ []) = IsJoinOf name left right
+AsksFor name (first ∷ second ∷ third ∷ others) = ⊥
+
+-- ---- disks
+
+-- the file of a disk, as far as its name led to one
+abbrev pub file_in : Option FileId → List FileId
+file_in None = []
+file_in (Some id) = id ∷ []
+
+module _ {F : Type 0} {g : Ghosts (FileDisk F)} where
+  -- what the disk of an image tells of itself
+  abbrev pub state_of : ImageDisk F g → DiskState
+  state_of (Plain disk) = g.state disk
+  state_of (Behind behind) = write_behind.disk_of g.state behind
+  state_of (Join both) = concat.disk_of both
+
+  -- a disk for which 256 writes may wait, and none does
+  abbrev pub WaitsFor : FileDisk F → ImageDisk F g → Type 0
+  WaitsFor disk (Behind behind) = (behind.under ≡ disk) × (length behind.waiting.items ≡ 0) × (behind.room ≡ 256)
+  WaitsFor disk (Plain other) = ⊥
+  WaitsFor disk (Join both) = ⊥
+
+  -- both as one, or where they are too large for that, a disk of no file
+  abbrev pub JoinsOrIsNone : FileDisk F → FileDisk F → ImageDisk F g → Type 0
+  JoinsOrIsNone first second (Join both) = (both.first ≡ first) × (both.second ≡ second)
+  JoinsOrIsNone first second (Plain disk) = (2 ^ 44 ≤ (g.state first).size + (g.state second).size) × IsUnopened None disk
+  JoinsOrIsNone first second (Behind behind) = ⊥
+
+-- ---- openings
+
+-- what opens files, and the files of the images so far
+pub record Opening (O : Type 0) : Type 0 where
+  pub opener : O
+  pub files : List FileId
+
+abbrev pub opening : {O : Type 0} → O → List FileId → Opening O
+opening opener files = record { opener = opener; files = files }
+
+module _ {O F : Type 0} (leads : O → List ℕ → Result Found Error → Type 0) (answers : O → OpenOptions → List ℕ → Result F Error → Type 0) (tells : F → Result Found Error → Type 0) (locks : F → Bool → Type 0) (ends : F → Option ℕ → Type 0) (log_of : O → Option (List Asked)) (changes : Bool) where
+  -- the disk of the file of this name, opened beside the files so far: nothing else is asked of the opener, and the file is one of them from then on
+  pub record OpensOne (name : List ℕ) (disk : FileDisk F) (old new : Opening O) : Type 0 where
+    pub opens : OpensDisk tells locks ends old.files changes leads answers old.opener name disk
+    pub asked : AsksDisk log_of old.opener changes name new.opener
+    pub others : new.files ≡ old.files ++ file_in disk.id
+
+  -- the disks of two files, one after the other
+  pub record OpensBoth (left right : List ℕ) (first second : FileDisk F) (old new : Opening O) : Type 0 where
+    pub between : Opening O
+    pub one : OpensOne left first old between
+    pub other : OpensOne right second between new
+
+  -- `behind:` and more: the disk of the file of what follows, for which 256 writes may wait and none does
+  pub record OpensBehind (name : List ℕ) (disk : FileDisk F) (waits room : ℕ) (old new : Opening O) : Type 0 where
+    pub rest : List ℕ
+    pub behind : IsBehindOf name rest
+    pub opens : OpensOne rest disk old new
+    pub none : waits ≡ 0
+    pub most : room ≡ 256
+
+  -- `join:` and two names: the disks of both files
+  pub record OpensJoin (name : List ℕ) (first second : FileDisk F) (old new : Opening O) : Type 0 where
+    pub left : List ℕ
+    pub right : List ℕ
+    pub join : IsJoinOf name left right
+    pub opens : OpensBoth left right first second old new
+
+  -- two of them that are too large for one disk, and a disk of no file in their place
+  pub record OpensTooMuch (size : FileDisk F → ℕ) (name : List ℕ) (disk : FileDisk F) (old new : Opening O) : Type 0 where
+    pub first : FileDisk F
+    pub second : FileDisk F
+    pub joined : OpensJoin name first second old new
+    pub large : 2 ^ 44 ≤ size first + size second
+    pub unopened : IsUnopened None disk
+
+  module _ {g : Ghosts (FileDisk F)} where
+    -- what two files are together
+    abbrev pub OpensJoined : List ℕ → ImageDisk F g → Opening O → Opening O → Type 0
+    OpensJoined name (Join both) old new = OpensJoin name both.first both.second old new
+    OpensJoined name (Plain disk) old new = OpensTooMuch (λ d. (g.state d).size) name disk old new
+    OpensJoined name (Behind behind) old new = ⊥
+
+    -- the disk of an image of this name
+    abbrev pub OpensImage : List ℕ → ImageDisk F g → Opening O → Opening O → Type 0
+    OpensImage name (Plain disk) old new = (IsPlain name × OpensOne name disk old new) ⊎ OpensTooMuch (λ d. (g.state d).size) name disk old new
+    OpensImage name (Behind behind) old new = OpensBehind name behind.under (length behind.waiting.items) behind.room old new
+    OpensImage name (Join both) old new = OpensJoin name both.first both.second old new
+
+    -- the disks of images of these names, opened one after another
+    abbrev pub OpensImages : List (List ℕ) → List (ImageDisk F g) → Opening O → Opening O → Type 0
+    OpensImages [] [] old new = new ≡ old
+    OpensImages (name ∷ names) (disk ∷ disks) old new = (next : Opening O) × OpensImage name disk old next × OpensImages names disks next new
+    OpensImages names disks old new = ⊥
+
+-- ---- what is asked where memory gives out
+
+module _ {O : Type 0} (log_of : O → Option (List Asked)) (changes : Bool) where
+  -- the disks of the files of these names are asked for, one after another, and nothing else
+  abbrev pub AsksFiles : List (List ℕ) → O → O → Type 0
+  AsksFiles [] old new = log_of new ≡ log_of old
+  AsksFiles (name ∷ names) old new = (next : O) × AsksDisk log_of old changes name next × AsksFiles names next new
+
+  -- the first of the files of an image are asked for, and nothing else
+  pub record AsksPart (name : List ℕ) (old new : O) : Type 0 where
+    pub files : List (List ℕ)
+    pub own : AsksFor name files
+    pub count : ℕ
+    pub asked : AsksFiles (take count files) old new
+
+  -- all of them are, and then this is
+  pub record AsksAll (name : List ℕ) (Then : O → O → Type 0) (old new : O) : Type 0 where
+    pub files : List (List ℕ)
+    pub own : AsksFor name files
+    pub next : O
+    pub asked : AsksFiles files old next
+    pub behind : Then next new
+
+  -- of the files of these images the first are asked for, one after another, and nothing else
+  abbrev pub AsksFirst : List (List ℕ) → O → O → Type 0
+  AsksFirst [] old new = log_of new ≡ log_of old
+  AsksFirst (name ∷ names) old new = (log_of new ≡ log_of old) ⊎ (AsksPart name old new ⊎ AsksAll name (λ next new. AsksFirst names next new) old new)

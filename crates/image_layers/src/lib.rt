@@ -1,0 +1,6 @@
+//! The disks of images.
+#![tactic(auto)]
+
+mod image_disks;
+
+pub use image_disks::{ImageDisk, open_image};

@@ -1,0 +1,131 @@
+// Logical sectors that are sealed and opened in memory, with authentication and without.
+ghost use Rattle.std.specs.Prelude.{◌≡◌, ◌≢◌, ℕ, ◌+◌, ◌*◌, ◌^◌, ◌<◌, ◌≤◌, Ok, Err, MatchResult, length};
+ghost use Rattle.eli_base.specs.declared.algorithms.Auth.TheVariants.{Off};
+ghost use Rattle.sealing.specs.Sectors.{device_sectors, reading, seal, units};
+
+use crate::BadUnit;
+use crate::pieces::unit_end;
+use crate::units::unit_of;
+use auth_sectors::{open_piece, seal_piece};
+use block_traits::Sector;
+use eli_base::Auth;
+use plain_sectors::{open_plain, seal_plain};
+use range_keys::KeyRing;
+
+// Seals one logical sector with authentication.
+fn seal_pieces(ring: &mut KeyRing, sector: u64, plain: &[u8], out: &mut [u8])
+    requires on { ring.old.keying.auth ≢ Off }
+    requires plain { length plain.now ≡ ring.old.keying.sectorsize }
+    requires out { length out.old ≡ 512 * units ring.old.keying }
+    requires place { sector * units ring.old.keying + units ring.old.keying < 2 ^ 44 }
+    ensures sealed { device_sectors ring.old.keying out.new ≡ seal ring.old.keying sector plain.now }
+    ensures keying { ring.new.keying ≡ ring.old.keying }
+{
+    ring.is_of_a_keying();
+    let width = ring.auth().data_bytes();
+    let count = (plain.len() - 1) / width + 1;
+    let first = sector * count as u64;
+    let mut start = 0;
+    for j in 0..count {
+        let end = unit_end(plain.len(), start, width);
+        let n = first + j as u64;
+        let mut piece: Sector = [0; 512];
+        seal_piece(ring, 512 * n, &plain[start..end], &mut piece);
+        out[512 * j..512 * j + 512].copy_from_slice(&piece);
+        start = end;
+    }
+}
+
+// Seals one logical sector without authentication.
+fn seal_whole(ring: &mut KeyRing, sector: u64, plain: &[u8], out: &mut [u8])
+    requires off { ring.old.keying.auth ≡ Off }
+    requires plain { length plain.now ≡ ring.old.keying.sectorsize }
+    requires out { length out.old ≡ 512 * units ring.old.keying }
+    requires place { sector * units ring.old.keying + units ring.old.keying < 2 ^ 44 }
+    ensures sealed { device_sectors ring.old.keying out.new ≡ seal ring.old.keying sector plain.now }
+    ensures keying { ring.new.keying ≡ ring.old.keying }
+{
+    ring.is_of_a_keying();
+    out.copy_from_slice(plain);
+    seal_plain(ring, sector * plain.len() as u64, out);
+}
+
+/// Seals one logical sector into as many device sectors as it takes.
+pub fn seal_sector(ring: &mut KeyRing, sector: u64, plain: &[u8], out: &mut [u8])
+    requires plain { length plain.now ≡ ring.old.keying.sectorsize }
+    requires out { length out.old ≡ 512 * units ring.old.keying }
+    requires place { sector * units ring.old.keying + units ring.old.keying < 2 ^ 44 }
+    ensures sealed { device_sectors ring.old.keying out.new ≡ seal ring.old.keying sector plain.now }
+    ensures keying { ring.new.keying ≡ ring.old.keying }
+{
+    if ring.auth() != Auth::Off {
+        return seal_pieces(ring, sector, plain, out);
+    }
+    seal_whole(ring, sector, plain, out)
+}
+
+// Opens one logical sector with authentication.
+fn open_pieces(
+    ring: &mut KeyRing,
+    sector: u64,
+    device: &[u8],
+    out: &mut [u8],
+) -> Result<(), BadUnit>
+    requires on { ring.old.keying.auth ≢ Off }
+    requires device { length device.now ≡ 512 * units ring.old.keying }
+    requires out { length out.old ≡ ring.old.keying.sectorsize }
+    requires place { sector * units ring.old.keying + units ring.old.keying < 2 ^ 44 }
+    ensures opened { let answer = reading ring.old.keying sector (device_sectors ring.old.keying device.now) in
+        MatchResult result (λ _. answer ≡ Ok out.new) (λ bad. answer ≡ Err bad.offset) }
+    ensures keying { ring.new.keying ≡ ring.old.keying }
+{
+    ring.is_of_a_keying();
+    let width = ring.auth().data_bytes();
+    let count = (out.len() - 1) / width + 1;
+    let first = sector * count as u64;
+    let mut start = 0;
+    for j in 0..count {
+        let end = unit_end(out.len(), start, width);
+        let offset = 512 * (first + j as u64);
+        match open_piece(ring, offset, &unit_of(device, j), &mut out[start..end]) {
+            Ok(()) => start = end,
+            Err(_) => return Err(BadUnit { offset }),
+        }
+    }
+    Ok(())
+}
+
+// Opens one logical sector without authentication. No bytes are refused.
+fn open_whole(ring: &mut KeyRing, sector: u64, device: &[u8], out: &mut [u8])
+    requires off { ring.old.keying.auth ≡ Off }
+    requires device { length device.now ≡ 512 * units ring.old.keying }
+    requires out { length out.old ≡ ring.old.keying.sectorsize }
+    requires place { sector * units ring.old.keying + units ring.old.keying < 2 ^ 44 }
+    ensures opened { reading ring.old.keying sector (device_sectors ring.old.keying device.now) ≡ Ok out.new }
+    ensures keying { ring.new.keying ≡ ring.old.keying }
+{
+    ring.is_of_a_keying();
+    out.copy_from_slice(device);
+    open_plain(ring, sector * device.len() as u64, out);
+}
+
+/// Opens one logical sector from its device sectors. After a refusal `out` may hold any bytes.
+pub fn open_sector(
+    ring: &mut KeyRing,
+    sector: u64,
+    device: &[u8],
+    out: &mut [u8],
+) -> Result<(), BadUnit>
+    requires device { length device.now ≡ 512 * units ring.old.keying }
+    requires out { length out.old ≡ ring.old.keying.sectorsize }
+    requires place { sector * units ring.old.keying + units ring.old.keying < 2 ^ 44 }
+    ensures opened { let answer = reading ring.old.keying sector (device_sectors ring.old.keying device.now) in
+        MatchResult result (λ _. answer ≡ Ok out.new) (λ bad. answer ≡ Err bad.offset) }
+    ensures keying { ring.new.keying ≡ ring.old.keying }
+{
+    if ring.auth() != Auth::Off {
+        return open_pieces(ring, sector, device, out);
+    }
+    open_whole(ring, sector, device, out);
+    Ok(())
+}

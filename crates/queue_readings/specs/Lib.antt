@@ -1,0 +1,4 @@
+pub mod Tasks
+pub mod Play
+pub mod Moves
+pub mod Alone

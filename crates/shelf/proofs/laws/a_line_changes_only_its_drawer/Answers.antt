@@ -1,5 +1,0 @@
-use Rattle.shelf.proofs.Untouched.{turn_only_steps}
-use Rattle.shelf.proofs.laws.a_line_changes_only_its_drawer.Goals as goal
-
-pub returns : goal.returns
-returns c = turn_only_steps

@@ -1,5 +1,0 @@
-use Rattle.shelf.proofs.Stopped.{turn_leaves}
-use Rattle.shelf.proofs.laws.a_line_leaves_old_or_new.Goals as goal
-
-pub returns : goal.returns
-returns c = turn_leaves

@@ -1,5 +1,0 @@
-use Rattle.shelf.proofs.Fitting.{fits_refused, fits_unrefused}
-use Rattle.shelf.proofs.laws.no_cause_is_left_where_all_is_found.Goals as goal
-
-pub returns : goal.returns
-returns c = record { cause = fits_unrefused; answer = fits_refused }

@@ -1,0 +1,4 @@
+pub mod Refusals
+pub mod Rest
+pub mod Resuming
+pub mod Suspension

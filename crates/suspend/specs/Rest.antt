@@ -1,0 +1,8 @@
+-- What a suspended provider tells of itself in numbers, beside its disk.
+use Rattle.std.specs.Prelude.{ℕ, List, ◌∷◌}
+use Rattle.provider.specs.Rest.{truth_number}
+use Rattle.suspend.specs.Suspension.{Suspension}
+
+-- slot, bytes of a logical sector, how many there were, and read-only state; the digest of the master key last
+abbrev pub rest_of : {D : Type 0} → Suspension D → List ℕ
+rest_of s = s.slot ∷ s.sectorsize ∷ s.sectors ∷ truth_number s.readonly ∷ s.mark

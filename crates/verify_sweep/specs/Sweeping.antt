@@ -1,0 +1,93 @@
+-- A sweep over the units of a provider with authentication: which of them fail, and how far it goes.
+use Rattle.std.specs.Prelude.{◌≡◌, ℕ, ◌+◌, ◌-◌, ◌*◌, ◌/◌, ◌<◌, Bool, List, [], ◌∷◌, ◌++◌, length, take, drop, get_or, min, Result, Ok, Err, is_ok, All}
+use Rattle.block_traits.specs.Causes.{Counted}
+use Rattle.block_traits.specs.Content.{IsSector}
+use Rattle.block_traits.specs.Disk.{DiskState, Gives, Logs}
+use Rattle.block_traits.specs.declared.disk.DiskFailed.{DiskFailed}
+use Rattle.eli_base.specs.Keying.{Keying}
+use Rattle.provider.specs.Reading.{StandFrom}
+use Rattle.provider.specs.Reads.{FailsAmong}
+use Rattle.range_keys.specs.Keys.{le64}
+use Rattle.sealing.specs.Sectors.{piece_reading, units}
+use Rattle.verify_sweep.specs.declared.sweeping.Swept.{Swept}
+
+-- ---- which units fail
+
+-- what each of these device sectors reads as, as the unit that stands there; the first is the one of number n
+abbrev pub pieces_read : Keying → ℕ → List (List ℕ) → List (Result (List ℕ) ℕ)
+pieces_read k n [] = []
+pieces_read k n (sector ∷ sectors) = piece_reading k n sector ∷ pieces_read k (n + 1) sectors
+
+-- the faults among what was read, in order
+abbrev pub faults_in : List (Result (List ℕ) ℕ) → List ℕ
+faults_in [] = []
+faults_in (Ok bytes ∷ readings) = faults_in readings
+faults_in (Err offset ∷ readings) = offset ∷ faults_in readings
+
+-- the byte offsets of the units that fail among these device sectors, of which the first is the one of number n
+abbrev pub failing_units : Keying → ℕ → List (List ℕ) → List ℕ
+failing_units k n sectors = faults_in (pieces_read k n sectors)
+
+-- one of these device sectors reads as a fault at this offset
+pub record Fails (k : Keying) (n : ℕ) (sectors : List (List ℕ)) (offset : ℕ) : Type 0 where
+  pub place : ℕ
+  pub within : place < length sectors
+  pub reads : piece_reading k (n + place) (get_or sectors place []) ≡ Err offset
+
+-- numbers one after the other, each as eight bytes
+abbrev pub le64s : List ℕ → List ℕ
+le64s [] = []
+le64s (n ∷ ns) = le64 n ++ le64s ns
+
+-- ---- one unit
+
+-- the device sector of number n was read, and whether it is accepted is the answer
+pub record Reads (k : Keying) (n : ℕ) (accepted : Bool) (old new : DiskState) : Type 0 where
+  pub bytes : List ℕ
+  pub whole : length bytes ≡ 512
+  pub told : Gives old n bytes
+  pub accepted_is : accepted ≡ is_ok (piece_reading k n bytes)
+  pub asked : Counted 1 old.reads new.reads
+  pub logs : Logs [] old new
+
+-- the same, and where it fails its offset was put behind those that were listed before
+pub record Looks (k : Keying) (n bad now : ℕ) (before after : List ℕ) (old new : DiskState) : Type 0 where
+  pub bytes : List ℕ
+  pub whole : length bytes ≡ 512
+  pub told : Gives old n bytes
+  pub now_is : now ≡ bad + length (failing_units k n (bytes ∷ []))
+  pub listed : after ≡ take (8 * bad) before ++ le64s (failing_units k n (bytes ∷ [])) ++ drop (8 * now) before
+  pub asked : Counted 1 old.reads new.reads
+  pub logs : Logs [] old new
+
+-- ---- a sweep
+
+-- a sweep that is asked for: from where on, and over how many of the logical sectors of a provider with so many
+pub record Sweep : Type 0 where
+  pub keying : Keying
+  pub media : ℕ
+  pub start : ℕ
+  pub count : ℕ
+
+-- the logical sectors that it goes over: as many as are asked for, unless there are fewer, or they have more than 16,384 units
+abbrev pub sectors_swept : Sweep → ℕ
+sectors_swept s = min (min s.count (s.media - s.start)) (16384 / units s.keying)
+
+-- so many device sectors from number n on were read once, nothing was logged, and those that fail are listed at the front of the
+-- bytes, of which the others stay
+pub record ListsFailing (k : Keying) (n count bad : ℕ) (before after : List ℕ) (old new : DiskState) : Type 0 where
+  pub sectors : List (List ℕ)
+  pub all : length sectors ≡ count
+  pub whole : All IsSector sectors
+  pub stand : StandFrom old.content n count sectors
+  pub bad_is : bad ≡ length (failing_units k n sectors)
+  pub listed : after ≡ le64s (failing_units k n sectors) ++ drop (8 * bad) before
+  pub asked : Counted count old.reads new.reads
+  pub logs : Logs [] old new
+
+-- what it answers: where the next one begins, and how many units are listed; or a read failed
+abbrev pub SweepAnswers : Sweep → List ℕ → List ℕ → Result Swept DiskFailed → DiskState → DiskState → Type 0
+SweepAnswers s before after (Ok done) old new =
+    (done.next ≡ s.start + sectors_swept s)
+    × ListsFailing s.keying (s.start * units s.keying) (sectors_swept s * units s.keying) done.bad before after old new
+SweepAnswers s before after (Err failed) old new = FailsAmong (sectors_swept s * units s.keying) old new

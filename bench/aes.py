@@ -1,11 +1,14 @@
 #!/usr/bin/env python3
 """The time of AES beside OpenSSL without and with its AES instructions, in one run on one machine.
 
-Build the program first: (cd crates/bench_aes && rt run). Then: python3 bench/aes.py [ROUNDS].
-Each row is measured ROUNDS times on all three sides, one after the other; of each side the quickest slice of calls counts.
+    (cd crates/bench_aes && rt run) && python3 bench/aes.py [ROUNDS]
+
+Each row is measured ROUNDS times on all three sides, one after the other; of each side the quickest slice of calls
+counts.
 OpenSSL's libcrypto is called through ctypes, with its schedules kept as ours are, and its tweak or initial vector set for
 each call as ours is given one; what two calls through ctypes cost that do nothing is subtracted. Ends with status 1 where
-the bytes differ."""
+the bytes differ.
+"""
 import ctypes
 import ctypes.util
 import os

@@ -1,9 +1,11 @@
 #!/usr/bin/env python3
 """The time of PBKDF2 with HMAC-SHA-512 beside Python's hashlib, in one run on one machine.
 
-Build the program first: (cd crates/bench_kdf && rt run). Then: python3 bench/kdf.py [COUNT [ROUNDS]].
+    (cd crates/bench_kdf && rt run) && python3 bench/kdf.py [COUNT [ROUNDS]]
+
 Each round times both, one after the other; the least time of each counts. Ends with status 1 where the two
-keys differ."""
+keys differ.
+"""
 import hashlib
 import pathlib
 import subprocess

@@ -29,79 +29,99 @@ key_ready
 
 python_part "$image" "${key[*]}" <<'PY'
 import sys
-from lib import REQUEST, WORDS, Progress, Session, length_of, told
-
-image, key = WORDS
-length = length_of(image)
-session = Session(image)
+from lib import REQUEST, Progress, Session, length_of, run, told
 
 
-def stop(*lines):
+def stop(session, *lines):
     print(*lines, sep="\n")
     session.end()
     sys.exit(1)
 
 
-back = f"geli restore BACKUP {image}"
-rows, reply = session.ask("dump", image)
-if reply != "ok":
-    helps = {
-        "5": [f"If the image became longer or shorter: make it as long as before, by truncate -s (it has {length} bytes).",
-              "If it was made longer and resize was at work: grow-provider.sh -s, with the length before.",
-              "If kill was at work: it destroyed the metadata.",
-              f"If something else wrote over its last 512 bytes, with a backup of the metadata: {back}"],
-        "6": ["If the disk tore the sector while a command wrote it, see error 7 in geli(8)."],
-        "7": [f"If the disk tore the sector while a command wrote it, or something else wrote there, with a backup of the metadata: {back}"],
-        "26": ["Look whether another geli has the image. Else copy the image to a sound disk first, and look at the copy."],
-    }
-    stop(f"metadata: {told(reply)}", *helps.get(reply.split(" ")[1], []))
-fields = dict(row.split(": ") for row in rows)
-print(f"metadata: sound, version {fields['version']}, provider of {fields['provsize']} bytes in an image of {length}")
+def metadata(session, length):
+    """The fields of the metadata, where they are sound."""
+    back = f"geli restore BACKUP {session.image}"
+    rows, reply = session.ask("dump", session.image)
+    if reply != "ok":
+        helps = {
+            "5": [f"If the image became longer or shorter: make it as long as before, by truncate -s"
+                  f" (it has {length} bytes).",
+                  "If it was made longer and resize was at work: grow-provider.sh -s, with the length before.",
+                  "If kill was at work: it destroyed the metadata.",
+                  f"If something else wrote over its last 512 bytes, with a backup of the metadata: {back}"],
+            "6": ["If the disk tore the sector while a command wrote it, see error 7 in geli(8)."],
+            "7": ["If the disk tore the sector while a command wrote it, or something else wrote there,"
+                  f" with a backup of the metadata: {back}"],
+            "26": ["Look whether another geli has the image."
+                   " Else copy the image to a sound disk first, and look at the copy."],
+        }
+        stop(session, f"metadata: {told(reply)}", *helps.get(reply.split(" ")[1], []))
+    return dict(row.split(": ") for row in rows)
 
-_, reply = session.ask("attach", "-r", key, image)
-if reply != "ok":
-    helps = {
-        "14": ["If delkey was at work: it destroyed the keys."],
-        "15": ["If init was at work: the image holds what it held before, or the new provider.",
-               "If setkey or delkey was at work: the slot has its old key or the new one, or none; the other slot is as before."],
-        "8": ["The image was cut, lengthened or copied by other means. See BadSize in geli(8)."],
-    }
-    stop(f"key: {told(reply)}", *helps.get(reply.split(" ")[1], []))
-print("key: it opens the provider")
 
-# The device sectors of a logical sector, to tell its number by the byte offset of a bad part.
-width, sectors = session.sizes()
-is_tagged = int(fields["flags"], 16) & 0x10
-data = {"18": 480, "19": 464, "20": 448}[fields["aalgo"]] if is_tagged else 512
-units = (width - 1) // data + 1
+def open_by(session, key):
+    _, reply = session.ask("attach", "-r", key, session.image)
+    if reply != "ok":
+        helps = {
+            "14": ["If delkey was at work: it destroyed the keys."],
+            "15": ["If init was at work: the image holds what it held before, or the new provider.",
+                   "If setkey or delkey was at work: the slot has its old key or the new one, or none;"
+                   " the other slot is as before."],
+            "8": ["The image was cut, lengthened or copied by other means. See BadSize in geli(8)."],
+        }
+        stop(session, f"key: {told(reply)}", *helps.get(reply.split(" ")[1], []))
+    session.look()
 
-bad = []  # ranges of sectors that can't be read: the first, and the one behind the last
-progress = Progress(sectors * width)
-at = 0
-while at < sectors:
-    some = min(REQUEST // width, sectors - at)
-    _, reply = session.ask("read", image, at, some)
-    if reply.startswith("ok "):
-        at += some
-    elif reply.startswith("error 25 "):
-        here = int(reply.split(" ")[3]) // 512 // units
-        if bad and bad[-1][1] == here:
-            bad[-1][1] = here + 1
+
+def unreadable(session, units):
+    """The ranges of sectors that can't be read: of each the first, and the one behind the last."""
+    bad = []
+    progress = Progress(session.sectors * session.width)
+    at = 0
+    while at < session.sectors:
+        some = min(REQUEST // session.width, session.sectors - at)
+        _, reply = session.ask("read", session.image, at, some)
+        if reply.startswith("ok "):
+            at += some
+        elif reply.startswith("error 25 "):
+            here = int(reply.split(" ")[3]) // 512 // units
+            if bad and bad[-1][1] == here:
+                bad[-1][1] = here + 1
+            else:
+                bad.append([here, here + 1])
+            at = here + 1
         else:
-            bad.append([here, here + 1])
-        at = here + 1
-    else:
-        stop(f"from sector {at} on: {told(reply)}")
-    progress.at(at * width)
-session.must("detach", image)
-session.end()
-for first, end in bad:
-    print(f"unreadable: sector {first}" if end == first + 1 else f"unreadable: sectors {first} to {end - 1}")
-print(f"data: {sectors} sectors of {width} bytes, {sum(end - first for first, end in bad)} of them unreadable")
-if bad:
-    print("An unreadable sector was never written, was cut off by the failure, or was changed from outside.",
-          "A write of the whole sector makes it readable again; what it held is lost.", sep="\n")
-    sys.exit(1)
-if not is_tagged:
-    print("These sectors are not authenticated: damage in them reads as other bytes and is not told.")
+            stop(session, f"from sector {at} on: {told(reply)}")
+        progress.at(at * session.width)
+    return bad
+
+
+def look(geli, image, key):
+    length = length_of(image)
+    session = Session(geli, image)
+    fields = metadata(session, length)
+    size = fields["provsize"]
+    print(f"metadata: sound, version {fields['version']}, provider of {size} bytes in an image of {length}")
+    open_by(session, key)
+    print("key: it opens the provider")
+
+    # The device sectors of a logical sector, to tell its number by the byte offset of a bad part.
+    is_tagged = int(fields["flags"], 16) & 0x10
+    data = {"18": 480, "19": 464, "20": 448}[fields["aalgo"]] if is_tagged else 512
+    bad = unreadable(session, (session.width - 1) // data + 1)
+    session.must("detach", image)
+    session.end()
+    for first, end in bad:
+        print(f"unreadable: sector {first}" if end == first + 1 else f"unreadable: sectors {first} to {end - 1}")
+    lost = sum(end - first for first, end in bad)
+    print(f"data: {session.sectors} sectors of {session.width} bytes, {lost} of them unreadable")
+    if bad:
+        print("An unreadable sector was never written, was cut off by the failure, or was changed from outside.",
+              "A write of the whole sector makes it readable again; what it held is lost.", sep="\n")
+        sys.exit(1)
+    if not is_tagged:
+        print("These sectors are not authenticated: damage in them reads as other bytes and is not told.")
+
+
+run(look)
 PY

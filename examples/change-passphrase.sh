@@ -14,7 +14,11 @@
 set -euo pipefail
 . "$(dirname -- "${BASH_SOURCE[0]}")/lib.sh"
 
-usage() { note 'usage: change-passphrase.sh [-p | -j PASSFILE] [-k KEYFILE]... [-P | -J PASSFILE] [-K KEYFILE]... IMAGE BACKUP'; exit 2; }
+usage() {
+    note 'usage: change-passphrase.sh [-p | -j PASSFILE] [-k KEYFILE]... [-P | -J PASSFILE] [-K KEYFILE]...' \
+        'IMAGE BACKUP'
+    exit 2
+}
 new_files=() new_pass=
 while getopts pj:k:PJ:K: option; do
     case $option in

@@ -35,46 +35,47 @@ key_ready
 
 python_part "$source" "$image" "$check" "${key[*]}" <<'PY'
 import hashlib
-from lib import REQUEST, WORDS, Progress, Session, fail, length_of
-
-source, image, check, key = WORDS
-size = length_of(source)
-session = Session(image)
-session.must("attach", key, image)
-width, sectors = session.sizes()
-count = -(-size // width)
-if count > sectors:
-    fail(f"{source} has {size} bytes, the provider has room for {sectors * width}: nothing was written")
-progress = Progress(size)
-whole = hashlib.sha256()
+from lib import REQUEST, Failed, Progress, Session, length_of, run
 
 
-def pieces(file):
-    at = 0
-    while at < count:
-        some = min(REQUEST // width, count - at)
-        wanted = min(some * width, size - at * width)
-        piece = file.read(wanted)
-        if len(piece) < wanted:
-            fail(f"{source} became shorter meanwhile")
-        piece += bytes(-len(piece) % width)
-        whole.update(piece)
-        yield at, piece
-        at += some
-        progress.at(at * width)
+def copy_in(geli, source, image, check, key):
+    size = length_of(source)
+    session = Session(geli, image)
+    session.attach(key)
+    width = session.width
+    count = -(-size // width)
+    if count > session.sectors:
+        room = session.sectors * width
+        raise Failed(f"{source} has {size} bytes, the provider has room for {room}: nothing was written")
+    progress = Progress(size)
+    whole = hashlib.sha256()
+
+    def pieces(file):
+        for at in range(0, count, REQUEST // width):
+            some = min(REQUEST // width, count - at)
+            wanted = min(some * width, size - at * width)
+            piece = file.read(wanted)
+            if len(piece) < wanted:
+                raise Failed(f"{source} became shorter meanwhile")
+            piece += bytes(-len(piece) % width)
+            whole.update(piece)
+            yield at, piece
+            progress.at((at + some) * width)
+
+    with open(source, "rb") as file:
+        session.write_pieces(pieces(file))
+    session.must("flush", image)
+    if check:
+        back = hashlib.sha256()
+        for piece in session.read_pieces(0, count):
+            back.update(piece)
+        if back.digest() != whole.digest():
+            raise Failed("what is read differs from what was written")
+    session.must("detach", image)
+    if session.end() != 0:
+        raise Failed("geli ended with another status than 0")
+    progress.end(f"{size} bytes in {count} sectors of {width} bytes" + (", read again" if check else ""))
 
 
-with open(source, "rb") as file:
-    session.write_pieces(pieces(file))
-session.must("flush", image)
-if check:
-    back = hashlib.sha256()
-    for piece in session.read_pieces(width, count):
-        back.update(piece)
-    if back.digest() != whole.digest():
-        fail("what is read differs from what was written")
-session.must("detach", image)
-if session.end() != 0:
-    fail("geli ended with another status than 0")
-progress.end(f"{size} bytes in {count} sectors of {width} bytes" + (", read again" if check else ""))
+run(copy_in)
 PY

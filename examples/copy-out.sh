@@ -3,8 +3,8 @@
 #
 #   copy-out.sh [-b BYTES] [-p] [-j PASSFILE] [-k KEYFILE]... IMAGE TARGET
 #
-# TARGET must not exist; it holds the data in the clear. -b: so many bytes and no more, such as the length of the
-# file that was copied in; without it the whole provider is copied. The passphrase is asked for; -j names
+# TARGET must not exist; it holds the data in the clear. -b: so many bytes and no more, such as 4000123 or 80M, the
+# length of the file that was copied in; without it the whole provider is copied. The passphrase is asked for; -j names
 # a file whose first line it is, -p says that there is none. The image is only read.
 #
 # It works in pieces of up to 131,072 bytes over one `geli script`, some lines ahead of the replies, and says how far
@@ -27,7 +27,7 @@ shift $((OPTIND - 1))
 image=$(one_word "$1")
 target=$2
 need
-[[ -z $bytes || $bytes =~ ^[0-9]{1,16}$ ]] || fail "'$bytes' is no number of bytes"
+if [ -n "$bytes" ]; then size_of "$bytes" && bytes=$size; fi
 readable "$image"
 for name in "$target" "$target.part"; do
     [ ! -e "$name" ] || fail "'$name' is there already: it is left alone"
@@ -36,32 +36,36 @@ key_ready
 
 python_part "$image" "$target" "$bytes" "${key[*]}" <<'PY'
 import os
-from lib import WORDS, Progress, Session, fail, note
+from lib import Failed, Progress, Session, note, run
 
-image, target, size, key = WORDS
-session = Session(image)
-session.must("attach", "-r", key, image)
-width, sectors = session.sizes()
-size = int(size) if size else sectors * width
-if size > sectors * width:
-    fail(f"the provider has {sectors * width} bytes, fewer than {size}")
-progress = Progress(size)
-got = 0
-with open(target + ".part", "xb") as file:
-    try:
-        for piece in session.read_pieces(width, -(-size // width)):
-            piece = piece[:size - got]
-            file.write(piece)
-            got += len(piece)
-            progress.at(got)
-    except SystemExit:
-        note(f"{target}.part has the {got} bytes before")
-        raise
-    file.flush()
-    os.fsync(file.fileno())
-session.must("detach", image)
-if session.end() != 0:
-    fail("geli ended with another status than 0")
-os.rename(target + ".part", target)
-progress.end(f"{size} bytes")
+
+def copy_out(geli, image, target, size, key):
+    session = Session(geli, image)
+    session.attach("-r", key)
+    room = session.sectors * session.width
+    size = int(size) if size else room
+    if size > room:
+        raise Failed(f"the provider has {room} bytes, fewer than {size}")
+    progress = Progress(size)
+    got = 0
+    with open(target + ".part", "xb") as file:
+        try:
+            for piece in session.read_pieces(0, -(-size // session.width)):
+                piece = piece[:size - got]
+                file.write(piece)
+                got += len(piece)
+                progress.at(got)
+        except Failed:
+            note(f"{target}.part has the {got} bytes before")
+            raise
+        file.flush()
+        os.fsync(file.fileno())
+    session.must("detach", image)
+    if session.end() != 0:
+        raise Failed("geli ended with another status than 0")
+    os.rename(target + ".part", target)
+    progress.end(f"{size} bytes")
+
+
+run(copy_out)
 PY

@@ -3,8 +3,8 @@
 #
 #   grow-provider.sh [-s OLDSIZE] [-p] [-j PASSFILE] [-k KEYFILE]... SIZE IMAGE BACKUP
 #
-# SIZE is the new length in bytes, a multiple of 4096. BACKUP must not exist. The passphrase is asked for; -j names a
-# file whose first line it is, -p says that there is none. The data stay where they are.
+# SIZE is the new length in bytes, or such as 80M or 2G, a multiple of 4096. BACKUP must not exist. The passphrase is
+# asked for; -j names a file whose first line it is, -p says that there is none. The data stay where they are.
 #
 # If power fails on the way, the metadata are at their old place or at the new one. Where the image opens, all is well.
 # Where it doesn't (error 5), give this again with -s and the length that the image had before.
@@ -25,13 +25,14 @@ while getopts s:pj:k: option; do
 done
 shift $((OPTIND - 1))
 [ $# -eq 3 ] || usage
-size=$1 image=$(one_word "$2") backup=$(plain "$3")
+image=$(one_word "$2") backup=$(plain "$3")
 need truncate stat
-[[ $size =~ ^[1-9][0-9]{0,15}$ ]] || fail "'$size' is no number of bytes"
+if [ -n "$oldsize" ]; then size_of "$oldsize" && oldsize=$size; fi
+size_of "$1"
 ((size % 4096 == 0)) || fail 'the size must be a multiple of 4096'
 [ -f "$image" ] && [ -w "$image" ] || fail "'$image' is no file that can be written"
 [ ! -e "$backup" ] || fail "'$backup' is there already: it is left alone"
-length=$(stat -c %s "$image")
+length=$(stat -c %s -- "$image")
 ((length <= size)) || fail "the image has $length bytes, more than $size"
 key_ready
 
@@ -41,7 +42,6 @@ if [ -z "$oldsize" ]; then
     oldsize=$length
     ((length < size)) || fail "the image has $size bytes already"
 fi
-[[ $oldsize =~ ^[1-9][0-9]{0,15}$ ]] || fail "'$oldsize' is no number of bytes"
 truncate -s "$size" "$image" || fail "there is no room for '$image'"
 sync "$image"
 reply=$("$GELI" resize -s "$oldsize" "$image") ||
@@ -49,31 +49,25 @@ reply=$("$GELI" resize -s "$oldsize" "$image") ||
 reply=$("$GELI" attach -C "${key[@]}" "$image") || fail "the key doesn't open it: $reply"
 
 python_part "$image" "$oldsize" "${key[*]}" <<'PY'
-from lib import REQUEST, WORDS, Progress, Session
+from lib import Progress, Session, run
 
-image, oldsize, key = WORDS
-session = Session(image)
-rows, _ = session.must("dump", image)
-fields = dict(row.split(": ") for row in rows)
-session.must("attach", key, image)
-width, sectors = session.sizes()
-if int(fields["flags"], 16) & 0x10:
-    units = (width - 1) // {"18": 480, "19": 464, "20": 448}[fields["aalgo"]] + 1
-    first = (int(oldsize) - 512) // (512 * units)
-    progress = Progress((sectors - first) * width)
 
-    def zeros():
-        at = first
-        while at < sectors:
-            some = min(REQUEST // width, sectors - at)
-            yield at, bytes(some * width)
-            at += some
-            progress.at((at - first) * width)
+def write_new_sectors(geli, image, oldsize, key):
+    session = Session(geli, image)
+    rows, _ = session.must("dump", image)
+    fields = dict(row.split(": ") for row in rows)
+    session.attach(key)
+    if int(fields["flags"], 16) & 0x10:
+        units = (session.width - 1) // {"18": 480, "19": 464, "20": 448}[fields["aalgo"]] + 1
+        first = (int(oldsize) - 512) // (512 * units)
+        progress = Progress((session.sectors - first) * session.width)
+        session.zeros(first, progress)
+        progress.end(f"{session.sectors - first} new sectors written once")
+    session.must("detach", image)
+    session.end()
 
-    session.write_pieces(zeros())
-    progress.end(f"{sectors - first} new sectors written once")
-session.must("detach", image)
-session.end()
+
+run(write_new_sectors)
 PY
 reply=$("$GELI" backup "$image" "$backup") || fail "the provider has grown, its backup wasn't stored: $reply"
 sync

@@ -1,17 +1,14 @@
 """What the scripts of this folder share in python3: a running `geli script` that is asked line by line.
 
-The first word of the command line is the script's name, the second the program `geli`.
+Nothing happens when it is imported. What can't be done is told by an exception, `Failed`.
 """
 import collections
+import contextlib
 import os
 import signal
 import subprocess
 import sys
 import time
-
-signal.signal(signal.SIGINT, signal.SIG_DFL)
-
-NAME, GELI, *WORDS = sys.argv[1:]
 
 REQUEST = 131072  # bytes that a line can read or write
 AHEAD = 4  # lines that may wait for their replies
@@ -41,12 +38,22 @@ CAUSES = {
 }
 
 
+class Failed(Exception):
+    """A reply that refuses, or something else that ends the work."""
+
+
 def note(text):
     print(text, file=sys.stderr)
 
 
-def fail(text):
-    sys.exit(f"{NAME}: {text}")
+def run(work):
+    """Does the work of a script: its words are the script's name, the program `geli`, and what the work takes."""
+    signal.signal(signal.SIGINT, signal.SIG_DFL)
+    name, geli, *words = sys.argv[1:]
+    try:
+        work(geli, *words)
+    except Failed as failed:
+        sys.exit(f"{name}: {failed}")
 
 
 def told(reply):
@@ -61,26 +68,28 @@ def length_of(path):
 
 
 class Session:
-    """A `geli script` over one image. Lines may be sent ahead of their replies, which come in the same order."""
+    """A `geli script` over one image. Lines may be said ahead of their replies, which come in the same order."""
 
-    def __init__(self, image):
+    def __init__(self, geli, image):
         self.image = image
-        self.run = subprocess.Popen([GELI, "script", image], stdin=subprocess.PIPE, stdout=subprocess.PIPE, bufsize=1 << 20)
+        self.script = subprocess.Popen(
+            [geli, "script", image], stdin=subprocess.PIPE, stdout=subprocess.PIPE, bufsize=1 << 20)
+        self.width = self.sectors = 0  # the bytes of a sector, and how many there are, once the provider is attached
 
     def say(self, *words):
         try:
-            self.run.stdin.write(" ".join(map(str, words)).encode() + b"\n")
-            self.run.stdin.flush()
+            self.script.stdin.write(" ".join(map(str, words)).encode() + b"\n")
+            self.script.stdin.flush()
         except OSError:
-            fail("geli has ended before its time")
+            raise Failed("geli has ended before its time") from None
 
     def reply(self):
         """The lines before the last one of a reply, and the last one."""
         rows = []
         while True:
-            line = self.run.stdout.readline().decode().rstrip("\n")
+            line = self.script.stdout.readline().decode().rstrip("\n")
             if not line:
-                fail("geli ended without a reply")
+                raise Failed("geli ended without a reply")
             if line == "ok" or line.startswith(("ok ", "error ")):
                 return rows, line
             rows.append(line)
@@ -89,7 +98,7 @@ class Session:
         """The reply to a line that must be served."""
         rows, line = self.reply()
         if line.startswith("error "):
-            fail(f"{what}: {told(line)}")
+            raise Failed(f"{what}: {told(line)}")
         return rows, line[3:]
 
     def must(self, verb, *words):
@@ -100,42 +109,78 @@ class Session:
         self.say(*words)
         return self.reply()
 
-    def sizes(self):
-        """The bytes of a sector and the number of sectors of the attached provider."""
+    def attach(self, *words):
+        self.must("attach", *words, self.image)
+        self.look()
+
+    def look(self):
+        """Takes the sizes of the attached provider."""
         rows, _ = self.must("list")
-        return tuple(map(int, rows[0].split(" ")[2:]))
+        self.width, self.sectors = map(int, rows[0].split(" ")[2:])
+
+    def ahead(self, lines):
+        """Says lines, each of (what it does, its words), and gives what stands behind the `ok` of each.
+
+        Some are said ahead of the replies. Once one is refused no more are; that is told when the replies to all that
+        were said are taken.
+        """
+        lines, waiting, refused = iter(lines), collections.deque(), None
+        while True:
+            while refused is None and len(waiting) < AHEAD:
+                what, words = next(lines, (None, None))
+                if what is None:
+                    break
+                self.say(*words)
+                waiting.append(what)
+            if not waiting:
+                break
+            try:
+                _, digits = self.served(waiting.popleft())
+            except Failed as failed:
+                refused = refused or failed
+            if refused is None:
+                yield digits
+        if refused:
+            raise refused
 
     def write_pieces(self, pieces):
         """Writes pieces, each of (first sector, bytes)."""
-        waiting = collections.deque()
-        for at, piece in pieces:
-            self.say("write", self.image, at, piece.hex())
-            waiting.append(at)
-            if len(waiting) > AHEAD:
-                self.served(f"write of sector {waiting.popleft()}")
-        for at in waiting:
-            self.served(f"write of sector {at}")
+        lines = ((f"write of sector {at}", ("write", self.image, at, piece.hex())) for at, piece in pieces)
+        for _ in self.ahead(lines):
+            pass
 
-    def read_pieces(self, width, count):
-        """The bytes of the first sectors, piece by piece."""
-        step = REQUEST // width
-        asked, waiting = 0, collections.deque()
-        while asked < count or waiting:
-            while asked < count and len(waiting) < AHEAD:
-                some = min(step, count - asked)
-                self.say("read", self.image, asked, some)
-                waiting.append((asked, some))
-                asked += some
-            at, some = waiting.popleft()
-            yield bytes.fromhex(self.served(f"read of {some} sectors from {at} on")[1])
+    def write(self, first, data):
+        """Writes whole sectors from the first on."""
+        step = REQUEST // self.width * self.width
+        self.write_pieces((first + at // self.width, data[at:at + step]) for at in range(0, len(data), step))
+
+    def zeros(self, first, progress):
+        """Writes zeros from a sector to the end."""
+        step = REQUEST // self.width
+
+        def pieces():
+            for at in range(first, self.sectors, step):
+                some = min(step, self.sectors - at)
+                yield at, bytes(some * self.width)
+                progress.at((at + some - first) * self.width)
+
+        self.write_pieces(pieces())
+
+    def read_pieces(self, first, count):
+        """The bytes of so many sectors from the first on, piece by piece."""
+        step, end = REQUEST // self.width, first + count
+        runs = ((at, min(step, end - at)) for at in range(first, end, step))
+        lines = ((f"read of {some} sectors from {at} on", ("read", self.image, at, some)) for at, some in runs)
+        return map(bytes.fromhex, self.ahead(lines))
 
     def end(self):
-        """The end of the script. A flush that fails there is told by one line more."""
-        self.run.stdin.close()
-        rest = self.run.stdout.read().decode().strip()
-        status = self.run.wait()
+        """The end of the script, which detaches, and its status. A flush that fails there is told by one line more."""
+        with contextlib.suppress(OSError):
+            self.script.stdin.close()
+        rest = self.script.stdout.read().decode().strip()
+        status = self.script.wait()
         if rest:
-            fail(f"at the end: {told(rest)}")
+            raise Failed(f"at the end: {told(rest)}")
         return status
 
 
@@ -152,7 +197,8 @@ class Progress:
         if now - self.shown > 1:
             self.shown = now
             speed = done / (now - self.begun) / 2**20
-            print(f"{self.before}{done >> 20} of {self.whole >> 20} MB, {speed:.1f} MB/s ", end=self.after, file=sys.stderr, flush=True)
+            print(f"{self.before}{done >> 20} of {self.whole >> 20} MB, {speed:.1f} MB/s ", end=self.after,
+                  file=sys.stderr, flush=True)
 
     def end(self, text):
         spent = max(time.monotonic() - self.begun, 0.001)

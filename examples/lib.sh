@@ -1,7 +1,7 @@
 # lib.sh: what the scripts of this folder share. It is read by them with `.`, and does nothing alone.
 #
-# GELI names the program, `geli` on the path if it isn't set. The scripts need bash 4.4 or later, and python3, which holds
-# the two ends of a `geli script` (lib.py).
+# GELI names the program, `geli` on the path if it isn't set. The scripts need bash 4.4 or later, and python3, which
+# holds the two ends of a `geli script` (lib.py).
 # shellcheck shell=bash
 
 GELI=${GELI:-geli}
@@ -26,9 +26,21 @@ plain() {
 # The same as a line of a script can hold it: one word.
 one_word() {
     case $1 in
-        *[[:space:]]*) fail "the name '$1' has blanks, and words of a geli script are divided by blanks: use another name or a link" ;;
+        *[[:space:]]*)
+            fail "the name '$1' has blanks, which divide the words of a geli script: use another name or a link" ;;
         *) plain "$1" ;;
     esac
+}
+
+# size_of WORD: sets `size` to the number of bytes that the word says, as 83886080, 80M or 2G (powers of 1024). It ends
+# below 2^53, as geli's own sizes do.
+size_of() {
+    local -A units=([K]=10 [M]=20 [G]=30 [T]=40)
+    local -i shift=0
+    [[ $1 =~ ^(0|[1-9][0-9]{0,15})([KMGT]?)$ ]] || fail "'$1' is no number of bytes: such as 83886080, 80M or 2G"
+    if [ -n "${BASH_REMATCH[2]}" ]; then shift=${units[${BASH_REMATCH[2]}]}; fi
+    ((BASH_REMATCH[1] < 1 << (53 - shift))) || fail "'$1' is more than an image can have"
+    size=$((BASH_REMATCH[1] << shift))
 }
 
 # The programs that are used here: geli, python3 and these.

@@ -3,7 +3,8 @@
 #
 #   make-provider.sh [-a] [-i ITERATIONS] [-J PASSFILE] SIZE IMAGE KEYFILE BACKUP
 #
-# SIZE is in bytes, a multiple of 4096. IMAGE and BACKUP must not exist: nothing is overwritten. KEYFILE is
+# SIZE is in bytes, or such as 80M or 2G, a multiple of 4096. IMAGE and BACKUP must not exist: nothing is overwritten.
+# (`geli init` alone makes a provider over whatever file it is given, and says nothing of what was there.) KEYFILE is
 # used where it exists; else it is made, of 64 random bytes. The passphrase is asked for twice; -J names a file
 # whose first line is the passphrase. Opening the provider takes the key file and the passphrase, both.
 #
@@ -28,14 +29,13 @@ while getopts ai:J: option; do
 done
 shift $((OPTIND - 1))
 [ $# -eq 4 ] || usage
-size=$1
 image=$(plain "$2") keyfile=$(plain "$3") backup=$(plain "$4")
 
 if [ ${#auth[@]} -gt 0 ]; then
     # Each is a word of a script then.
     for name in "$image" "$keyfile" ${passfile:+"$passfile"}; do one_word "$name" >/dev/null; done
 fi
-[[ $size =~ ^[1-9][0-9]{0,15}$ ]] || fail "'$size' is no number of bytes"
+size_of "$1"
 ((size % 4096 == 0 && size >= 65536)) || fail 'the size must be a multiple of 4096, and 65536 at least'
 [[ $iterations =~ ^[1-9][0-9]{0,9}$ ]] || fail "'$iterations' is no number of iterations"
 need truncate head
@@ -65,7 +65,8 @@ set -C # `>` doesn't overwrite
 set +C
 truncate -s "$size" "$image" || fail "there is no room for '$image'"
 
-if ! reply=$("$GELI" init "${auth[@]}" -e AES-XTS -l 256 -s 4096 -i "$iterations" -K "$keyfile" -J "$passfile" -B "$backup" "$image"); then
+if ! reply=$("$GELI" init "${auth[@]}" -e AES-XTS -l 256 -s 4096 -i "$iterations" -K "$keyfile" -J "$passfile" \
+    -B "$backup" "$image"); then
     # 28 at the word of the backup means that the provider was made; the metadata are the last 512 bytes of the image.
     case $reply in
         'error 28 '*) fail "$reply: where the provider was made, its backup wasn't stored" ;;
@@ -75,28 +76,20 @@ fi
 reply=$("$GELI" attach -C -k "$keyfile" -j "$passfile" "$image") || fail "the new key doesn't open it: $reply"
 if [ ${#auth[@]} -gt 0 ]; then
     python_part "$image" -k "$keyfile" -j "$passfile" <<'PY'
-from lib import REQUEST, WORDS, Progress, Session
-
-image, *key = WORDS
-session = Session(image)
-session.must("attach", *key, image)
-width, sectors = session.sizes()
-progress = Progress(sectors * width)
+from lib import Progress, Session, run
 
 
-def zeros():
-    at = 0
-    while at < sectors:
-        some = min(REQUEST // width, sectors - at)
-        yield at, bytes(some * width)
-        at += some
-        progress.at(at * width)
+def write_sectors(geli, image, *key):
+    session = Session(geli, image)
+    session.attach(*key)
+    progress = Progress(session.sectors * session.width)
+    session.zeros(0, progress)
+    session.must("detach", image)
+    session.end()
+    progress.end(f"{session.sectors} sectors written once")
 
 
-session.write_pieces(zeros())
-session.must("detach", image)
-session.end()
-progress.end(f"{sectors} sectors written once")
+run(write_sectors)
 PY
 fi
 sync

@@ -1,10 +1,10 @@
 #!/usr/bin/env python3
 """Lists the definitions that some definitions reach, and counts their lines.
 
-Usage: tools/definition_lines.py CRATE/FILE/NAME ...   as geli_core/Survivors/SurvivesCrashes
+    tools/definition_lines.py CRATE/FILE/NAME...      as geli_core/Survivors/SurvivesCrashes
 
-A definition reaches each one of specs/ that its text names. Imports, comments and blank lines don't count. Definitions of the kit
-and the types of the code aren't followed.
+A definition reaches each one of specs/ that its text names. Imports, comments and blank lines don't count. Definitions
+of the kit and the types of the code aren't followed.
 """
 import os
 import re

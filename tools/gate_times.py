@@ -1,9 +1,14 @@
 #!/usr/bin/env python3
-"""gate_times.py COMMAND..: runs the command, as `rt ci`, and prints what each crate cost in it: processor seconds of its proof, of its
-tests' proof and of its must-fail edits, the dearest crate first, in the form of the table in docs/PERFORMANCE.md. Ends with the command's status.
+"""Runs a command and prints what each crate cost in it.
 
-It looks at the running checks every half second, so what a check does in its last half second is lost, and each sum is a little too low;
-the last line has the whole as the system counts it."""
+    tools/gate_times.py COMMAND...      as rt ci
+
+A line has processor seconds of a crate's proof, of its tests' proof and of its must-fail edits, the dearest crate first,
+in the form of the table in docs/PERFORMANCE.md. It ends with the command's status.
+
+It looks at the running checks every half second, so what a check does in its last half second is lost, and each sum is a
+little too low; the last line has the whole as the system counts it.
+"""
 import collections
 import os
 import resource

@@ -275,7 +275,7 @@ def main():
         # Without words it prints how it is used; the first use builds it.
         if subprocess.run([os.path.join(HERE, "..", "geli")], stdout=subprocess.DEVNULL).returncode == 70:
             sys.exit("the program can't be built")
-        program = os.path.join(HERE, "..", "crates", "geli_cli", "out", "geli_cli")
+        program = os.path.join(HERE, "..", "out", "geli")
     program = os.path.realpath(program)
     failures = 0
     try:

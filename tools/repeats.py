@@ -1,6 +1,8 @@
 #!/usr/bin/env python3
 """Runs of lines that stand twice in the .rt and .antt files of the repository.
 
+    tools/repeats.py [--lines N] [--most N] [--since REVISION] [CRATE...]
+
 White space counts as one blank; blank lines, comments, imports and lines of punctuation are passed over. The longest runs
 come first. With --since only those of which one place has a line that was added since that revision.
 """

@@ -1,6 +1,7 @@
+#!/usr/bin/env python3
 """Selects the acceptance cases that run today, as data of the program geli_cases.
 
-usage: python3 tools/select_cases.py CASES CRATE [--forms FORM..] [--drawers N] [--without NAME..]
+    tools/select_cases.py CASES CRATE [--forms FORM...] [--drawers N] [--without NAME...]
 
 CASES is the folder with the `.cases` and `.expected` files. Of each file the cases whose forms are built are written
 to CRATE/data/NAME.cases, unchanged and in their order, and their transcripts to CRATE/stdout; CRATE/args names the files.

@@ -1,7 +1,9 @@
 #!/usr/bin/env bash
 # Runs the program on real files, where data could be lost, and looks at what is left. Each line says what was tried; the
 # status is 1 where something wasn't as said. A tmpfs and a loop device are made where the user may make them.
-#   tools/try_edge.sh [PROGRAM]        without a word: the program that ./geli runs
+#
+#   tools/try_edge.sh [PROGRAM]      without a word: the program that ./geli runs
+#
 # A second writer, a second name and the moment of a reply are tried by scripts that are asked line by line.
 set -u
 top=$(cd "$(dirname "$(readlink -f "${BASH_SOURCE[0]}")")/.." && pwd)
@@ -235,6 +237,28 @@ says "a reader that went away makes the status 4" test "$(cat status)" = 4
     printf '%s\n' "$attach c.img" "write c.img 1 $b" "read c.img 1 1" "flush c.img" | "$program" script c.img
 ) 2>&1 | cut -c 1-20 >out
 says "a write that the system refuses in a script is told, and the next lines are served" test "$(sed -n 2p out; sed -n 4p out; wc -l <out)" = "$(printf 'error 26 DeviceFault\nok\n4')"
+
+# ---- images by the names of layers
+session() { printf '%s\n' "${@:2}" | "$program" script "$1" | cut -c 1-24 | paste -sd, ; }
+fresh
+head -c 1024 /dev/zero >left.img && head -c 1536 /dev/zero >right.img
+two=join:left.img:right.img
+says "a provider in two files is made" answers 0 ok init -P -K k.key $two
+says "  its metadata stand at the end of the second" test "$(tail -c 512 right.img | head -c 9)" = GEOM::ELI
+says "  and the first is as it was" cmp -s left.img <(head -c 1024 /dev/zero)
+says "a write passes the seam" test "$(session $two "$attach $two" "write $two 1 $a$b" "read $two 2 1")" = "ok,ok,ok ${b:0:21}"
+says "  and reaches both" test "$(cmp -s -n 512 left.img copy && ! cmp -s -n 1024 left.img copy && ! cmp -s -n 512 right.img copy; echo $?)" = 0
+says "  but for the sectors between" cmp -s <(tail -c +513 right.img | head -c 512) <(head -c 512 /dev/zero)
+says "a file is no second one of its own" answers 1 "error 26 DeviceFault" init -P -K k.key join:c.img:./c.img
+says "  and stays" same c.img copy
+says "a half of a pair is no key" answers 1 "error 28 CabinetFault 3" init -P -K right.img $two
+"$program" init -P -K k.key c.img >out
+late=behind:c.img
+says "what waits is read, and lost by an eject" test \
+    "$(session $late "$attach $late" "write $late 0 $a" "flush $late" "write $late 0 $b" "read $late 0 1" "eject $late")" = "ok,ok,ok,ok,ok ${b:0:21},ok"
+says "  and what was flushed stays" test "$(session c.img "$attach c.img" "read c.img 0 1")" = "ok,ok ${a:0:21}"
+says "what waits at the end of a run is written" test "$(session $late "$attach $late" "write $late 0 $b")" = "ok,ok"
+says "  and is there" test "$(session c.img "$attach c.img" "read c.img 0 1")" = "ok,ok ${b:0:21}"
 
 # ---- calls of the system that fail, where strace can make them: `broken INJECTION` runs the lines on standard input
 broken() { strace -qq -o traced -P "$PWD/c.img" -e inject="$1" "$program" script c.img | cut -c 1-24 | paste -sd, ; }

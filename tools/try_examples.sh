@@ -1,6 +1,10 @@
 #!/usr/bin/env bash
-# Runs what man/geli.8 and examples/ show, in a new folder, and compares. The status is 1 where something is otherwise.
-#   tools/try_examples.sh [PROGRAM]    without a word: the program that ./geli runs
+# Runs what README.md, man/geli.8 and examples/ show, in a new folder, and compares. The status is 1 where
+# something is otherwise.
+#
+#   tools/try_examples.sh [PROGRAM]      without a word: the program that ./geli runs
+#
+# What serves a block device is tried with the clients that are there: nbdcopy, nbdinfo, nbdsh, nbdfuse with fuse2fs.
 set -u
 top=$(cd "$(dirname "$(readlink -f "${BASH_SOURCE[0]}")")/.." && pwd)
 GELI=$(readlink -f "${1:-$top/geli}")
@@ -9,11 +13,12 @@ folder=$(mktemp -d)
 trap 'rm -rf "$folder"' EXIT
 cd "$folder" || exit 2
 failures=0
+exec 3>&1 # what is said of a command goes there, wherever the command prints
 says() {
     local name=$1
     shift
-    if "$@"; then echo "holds: $name"; else
-        echo "FAILS: $name"
+    if "$@"; then echo "holds: $name" >&3; else
+        echo "FAILS: $name" >&3
         failures=$((failures + 1))
     fi
 }
@@ -36,6 +41,11 @@ mkdir page
 says "the examples of the page" diff wanted printed
 says "  which are some" test "$(wc -l <wanted)" -gt 25
 
+# The lines of the README.
+sed -n '/^## The same by lines/,/^prints/s/^    //p' "$top/README.md" >lines
+mkdir readme
+says "the lines of the README" test "$(cd readme && PATH=$folder/bin:$PATH bash ../lines)" = "$(printf 'ok\nok\nok\nok 68656c6c6f2020202')"
+
 printf 'a passphrase\n' >pass
 make=$top/examples/make-provider.sh
 says "make-provider.sh makes a provider" "$make" -i 1000 -J pass 1048576 'an image' key backup 2>notes
@@ -46,6 +56,9 @@ says "make-provider.sh overwrites nothing" test ! "$("$make" -i 1000 -J pass 104
 says "make-provider.sh makes an authenticated provider" "$make" -a -i 1000 -J pass 1048576 b.img key b.backup 2>notes
 
 says "  every sector of which can be read" grep -q 'of 4096 bytes, 0 of them unreadable' <("$top/examples/after-a-power-failure.sh" -k key -j pass b.img 2>notes)
+says "  of a size such as 1M" test "$("$make" -i 1000 -J pass 1M m.img key m.backup 2>notes; stat -c %s m.img)" = 1048576
+says "  and of no other" test "$("$make" -i 1000 -J pass 1MB n.img key n.backup 2>&1 | grep -c 'no number of bytes')" = 1 -a ! -e n.img
+says "  nor of more than an image can have" test "$("$make" -i 1000 -J pass 8192T n.img key n.backup 2>&1 | grep -c 'more than')" = 1
 says "a name with a blank is no word of a script" test "$("$make" -a -i 1000 -J pass 1048576 'a b.img' key other 2>&1 >/dev/null | grep -c 'has blanks')" = 1
 
 # A plain file into a provider and back.
@@ -123,9 +136,105 @@ says "  to its new end" "$GELI" attach -C -k key -j pass d.img >out
 cp d.img before
 says "grow-provider.sh changes nothing under a wrong key" test "$("$grow" -k key -j wrong 8388608 d.img d5.backup 2>&1 | grep -c 'nothing was changed: error 15')" = 1
 says "  indeed" cmp d.img before
-"$make" -a -i 1000 -J pass 1048576 e.img key e.backup 2>notes
-says "grow-provider.sh grows an authenticated one" "$grow" -k key -j pass 3145728 e.img e1.backup 2>notes
+"$make" -a -i 1000 -J pass 1M e.img key e.backup 2>notes
+says "grow-provider.sh grows an authenticated one" "$grow" -k key -j pass 3M e.img e1.backup 2>notes
 says "  every sector of which can be read" grep -q '^data: 682 sectors of 4096 bytes, 0 of them unreadable' <("$look" -k key -j pass e.img 2>notes)
+
+# The end of a provider.
+destroy=$top/examples/kill-provider.sh
+head -c 4096 /dev/urandom >data && cp data before
+says "kill-provider.sh leaves a file that is no provider" test "$("$destroy" -y data 2>&1 | grep -c 'nothing was changed: error 5')" = 1
+says "  indeed" cmp data before
+cp e.img before
+says "  and where nobody can be asked" test "$(setsid "$destroy" e.img 2>&1 </dev/null | grep -c 'nothing was changed')" = 1
+says "  indeed" cmp e.img before
+says "kill-provider.sh -y destroys a provider" "$destroy" -y e.img 2>notes
+says "  indeed" test "$("$GELI" dump e.img)" = 'error 5 BadMagic'
+
+# A provider as a network block device, for clients of other makers.
+serve=$top/examples/serve-nbd.sh uri="nbd+unix:///?socket=$folder/sock"
+if command -v nbdkit nbdcopy nbdinfo >commands && nbdkit --dump-plugin python >commands 2>&1; then
+    "$make" -i 1000 -J pass 8M f.img key f.backup 2>notes
+    head -c 8380416 /dev/urandom >data
+    says "serve-nbd.sh refuses a wrong key" test "$("$serve" -k key -j wrong f.img sock 2>&1 | grep -c 'error 15 WrongKey: wrong\|nothing is served')" = 2
+    says "  and leaves no socket" test ! -e sock -a ! -e sock.pid
+    says "serve-nbd.sh serves a provider" "$serve" -k key -j pass f.img sock 2>notes
+    says "  to its owner alone" test $((0$(stat -c %a sock) & 022)) = 0
+    says "  of its size" test "$(nbdinfo --size "$uri")" = 8384512
+    says "  which is held meanwhile" test "$("$GELI" setkey -k key -j pass -K key -J pass f.img)" = 'error 26 DeviceFault'
+    says "  and not served twice" test "$("$serve" -k key -j pass f.img sock2 2>&1 | grep -c 'error 26\|nothing is served')" = 2
+    says "  nor behind a name that is there" test "$("$serve" -k key -j pass f.img sock 2>&1 | grep -c 'is there already')" = 1
+    says "a copy goes in" nbdcopy data "$uri"
+    says "  and out" cmp -n 8380416 data <(nbdcopy "$uri" -)
+    if nbdsh -c pass 2>commands; then
+        cat >model.py <<'EOF'
+import random
+random.seed(5)
+model = bytearray(open("data", "rb").read())
+for _ in range(200):
+    at = random.randrange(len(model))
+    size = min(random.choice([1, 7, 511, 512, 4095, 4096, 4097, 10000, 131072, 400000]), len(model) - at)
+    if random.random() < 0.5:
+        piece = random.randbytes(size)
+        h.pwrite(piece, at)
+        model[at:at + size] = piece
+    else:
+        assert h.pread(size, at) == model[at:at + size], (at, size)
+h.flush()
+open("data", "wb").write(model)
+EOF
+        says "200 requests at odd places answer as a model does" nbdsh -u "$uri" -c - <model.py
+    else
+        echo "not tried: requests at odd places (no nbdsh)"
+    fi
+    says "serve-nbd.sh -e ends it" "$serve" -e sock 2>notes
+    says "  and says that all is flushed" grep -q 'ended, all is flushed' notes
+    says "  and leaves nothing behind" test ! -e sock -a ! -e sock.pid -a ! -e sock.ended
+    says "  and the data are there" "$out" -b 8380416 -k key -j pass f.img f.out 2>notes
+    says "  the same bytes" cmp data f.out
+    says "serve-nbd.sh -r serves it to be read alone" "$serve" -r -k key -j pass f.img sock 2>notes
+    says "  indeed" nbdinfo --is readonly "$uri"
+    says "  the same bytes" cmp -n 8380416 data <(nbdcopy "$uri" -)
+    says "  a server that ended by itself is told" test "$(kill -9 "$(cat sock.pid)"; sleep 1; "$serve" -e sock 2>&1 | grep -c 'may be lost')" = 1
+    # Two partitions of 1 and 5 MiB.
+    { head -c 446 /dev/zero; printf '\0\0\0\0\203\0\0\0\0\010\0\0\0\010\0\0\0\0\0\0\203\0\0\0\0\020\0\0\0\050\0\0'
+      head -c 32 /dev/zero; printf '\125\252'; head -c 2M /dev/urandom; } >disk
+    "$in" -k key -j pass disk f.img 2>notes
+    says "serve-nbd.sh -n serves a partition" "$serve" -n 2 -k key -j pass f.img sock 2>notes
+    says "  of its size" test "$(nbdinfo --size "$uri")" = 5242880
+    if command -v nbdfuse fuse2fs mke2fs e2fsck fusermount3 >commands && [ -w /dev/fuse ]; then
+        mkdir plain.d fs
+        nbdfuse plain.d "$uri" &
+        for _ in 1 2 3 4 5 6 7 8 9 10; do [ -e plain.d/nbd ] || sleep 0.5; done
+        says "  a filesystem is made in it" mke2fs -q -t ext4 plain.d/nbd
+        says "  and mounted" fuse2fs plain.d/nbd fs -o fakeroot
+        says "  files are copied into it" cp -r "$top/examples" fs/
+        says "  and are there" diff -r "$top/examples" fs/examples
+        fusermount3 -u fs
+        fusermount3 -uz plain.d
+    else
+        echo "not tried: a filesystem that is mounted (no fuse)"
+    fi
+    says "  and it ends" "$serve" -e sock 2>notes
+    "$out" -k key -j pass f.img disk.out 2>notes
+    says "  what is before the partition stays" cmp -n 2097152 disk disk.out
+    if [ -d fs ]; then
+        tail -c +2097153 disk.out | head -c 5242880 >ext4
+        says "  and the filesystem in it is clean" e2fsck -fn ext4 >commands 2>&1
+        says "  with the files" test "$(debugfs -R 'cat /examples/lib.py' ext4 2>commands | sha256sum)" = "$(sha256sum <"$top/examples/lib.py")"
+    fi
+    if loop=$(losetup --find --show --offset 1M --sizelimit 4M disk.out 2>commands); then
+        says "a provider can be in a partition of a disk image" "$GELI" init -i 1000 -K key -J pass "$loop" >out
+        says "  and is served out of it" "$serve" -k key -j pass "$loop" sock 2>notes
+        says "  of its size" test "$(nbdinfo --size "$uri")" = 4193792
+        says "  and it ends" "$serve" -e sock 2>notes
+        losetup -d "$loop"
+    else
+        echo "not tried: a partition of a disk image (no loop device)"
+    fi
+else
+    echo "not tried: a network block device (no nbdkit with python, nbdcopy and nbdinfo)"
+fi
 
 # Completions, by bash itself.
 offered() { # WORD...: what is offered for the last word

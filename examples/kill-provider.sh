@@ -1,0 +1,39 @@
+#!/usr/bin/env bash
+# kill-provider.sh: destroys a provider, once it is sure that there is one and that this is meant.
+#
+#   kill-provider.sh [-y] IMAGE
+#
+# `geli kill` asks nothing: of a file that holds no provider it overwrites the last 512 bytes all the same. This refuses
+# where no sound metadata stand there, says what would be lost, and asks for the name of the image; -y doesn't ask.
+#
+# The keys in the metadata are destroyed, and so the data can't be read any more. Whoever has a backup of the metadata,
+# and its key, can bring them back (`geli restore`): destroy the backups too.
+set -euo pipefail
+. "$(dirname -- "${BASH_SOURCE[0]}")/lib.sh"
+
+usage() { note 'usage: kill-provider.sh [-y] IMAGE'; exit 2; }
+sure=
+while getopts y option; do
+    case $option in
+        y) sure=yes ;;
+        *) usage ;;
+    esac
+done
+shift $((OPTIND - 1))
+[ $# -eq 1 ] || usage
+image=$(plain "$1")
+need sed
+readable "$image"
+[ -w "$image" ] || fail "'$image' can't be written"
+
+fields=$("$GELI" dump "$image") || fail "nothing was changed: ${fields##*$'\n'}: '$image' holds no provider"
+size=$(sed -n 's/^provsize: //p' <<<"$fields")
+keys=$(sed -n 's/^keys: //p' <<<"$fields")
+note "$image: a provider of $size bytes, keys $keys, will be lost for good where no backup of its metadata is elsewhere"
+if [ -z "$sure" ]; then
+    [ -r /dev/tty ] || fail 'nothing was changed: no terminal to ask at (-y does it without)'
+    IFS= read -r -p "type the name of the image to destroy it: " typed </dev/tty || fail 'nothing was changed'
+    [ "$typed" = "$1" ] || fail 'nothing was changed: the names differ'
+fi
+reply=$("$GELI" kill "$image") || fail "$reply"
+note "$image: its metadata are destroyed"

@@ -1,0 +1,96 @@
+#!/usr/bin/env bash
+# serve-nbd.sh: serves the data of a provider as a network block device, on a socket that its owner alone may use.
+#
+#   serve-nbd.sh [-r] [-n PARTITION] [-p] [-j PASSFILE] [-k KEYFILE]... IMAGE SOCKET
+#   serve-nbd.sh -e SOCKET
+#
+# SOCKET must not exist. The server runs on behind it until `serve-nbd.sh -e SOCKET` ends it: that waits for the clients
+# to disconnect, flushes and detaches the provider, and answers 0 only where it went well.
+# -r: to be read alone. -n: only this partition of the data, counted from 1. The passphrase is asked for; -j names a
+# file whose first line it is, -p says that there is none.
+# It needs nbdkit with its python plugin. Some clients, with URI=nbd+unix:///?socket=SOCKET (the whole path of it):
+#
+#   nbdcopy disk.img "$URI"; nbdcopy "$URI" disk.img          a whole copy in, or out
+#   nbdfuse FOLDER "$URI" & mke2fs -t ext4 FOLDER/nbd         the data as a plain file, for any program
+#   fuse2fs FOLDER/nbd DIR -o fakeroot                        its ext4 mounted, without being root
+#   qemu-system-x86_64 -drive file="$URI",format=raw          a disk of a virtual machine
+#   nbd-client -unix SOCKET /dev/nbd0 && mount /dev/nbd0 DIR  a disk of Linux (root, kernel module nbd)
+#
+# Where a whole disk image has the provider in one of its partitions, IMAGE can be a loop device of that partition:
+#
+#   losetup --find --show --offset BYTES --sizelimit BYTES disk.img
+#
+# What a client wrote is safe once the client has flushed: by `sync`, or when it unmounts. After a crash see
+# after-a-power-failure.sh. A sector of an authenticated provider that was never written answers an I/O error: make
+# such a provider by make-provider.sh -a.
+set -euo pipefail
+. "$(dirname -- "${BASH_SOURCE[0]}")/lib.sh"
+
+usage() {
+    note 'usage: serve-nbd.sh [-r] [-n PARTITION] [-p] [-j PASSFILE] [-k KEYFILE]... IMAGE SOCKET' \
+        'or serve-nbd.sh -e SOCKET'
+    exit 2
+}
+
+# Whether a process is a server that still runs.
+is_server() {
+    local name state
+    { read -r _ name state _ <"/proc/$1/stat"; } 2>/dev/null && [ "$name" = '(nbdkit)' ] && [ "$state" != Z ]
+}
+
+# Ends the server behind a socket, and tells whether all was flushed. nbdkit serves its clients until they disconnect.
+end_server() {
+    local socket=$1 pid said=
+    local -i turns=0
+    [ -r "$socket.pid" ] || fail "there is no '$socket.pid': no server runs behind '$socket'"
+    pid=$(<"$socket.pid")
+    ! is_server "$pid" || kill "$pid"
+    while is_server "$pid"; do
+        if ((++turns == 30)); then note "$socket: a client is connected, and is waited for: unmount, or end it"; fi
+        sleep 0.1
+    done
+    if [ -r "$socket.ended" ]; then said=$(<"$socket.ended"); fi
+    rm -f -- "$socket" "$socket.pid" "$socket.ended"
+    case $said in
+        ok) note "$socket: ended, all is flushed" ;;
+        '') fail 'the server had ended by itself: what was written since the last flush may be lost' ;;
+        *) fail "what was written since the last flush may be lost: $said" ;;
+    esac
+    exit 0
+}
+
+readonly=() partition=() filter=() ends=
+while getopts ern:pj:k: option; do
+    case $option in
+        e) ends=yes ;;
+        r) readonly=(readonly=yes) ;;
+        n) filter=(--filter=partition) partition=("partition=$OPTARG") ;;
+        p | j | k) key_option "$option" "${OPTARG:-}" ;;
+        *) usage ;;
+    esac
+done
+shift $((OPTIND - 1))
+if [ -n "$ends" ]; then
+    [ $# -eq 1 ] || usage
+    end_server "$1"
+fi
+[ $# -eq 2 ] || usage
+image=$(one_word "$1") socket=$(realpath -m -- "$(one_word "$2")")
+need nbdkit realpath setsid
+readable "$image"
+for name in "$socket" "$socket.pid" "$socket.ended"; do
+    [ ! -e "$name" ] || fail "'$name' is there already: is a server running?"
+done
+key_ready
+
+# nbdkit goes to the background once the provider is attached; no key file is needed any more then. A session of its own
+# keeps it running when the terminal is closed.
+PYTHONPATH=$library PYTHONDONTWRITEBYTECODE=1 setsid -w nbdkit "${filter[@]}" -U "$socket" --pidfile "$socket.pid" \
+    python "$library/nbd_geli.py" geli="$(command -v "$GELI")" image="$image" key="${key[*]}" ended="$socket.ended" \
+    "${readonly[@]}" "${partition[@]}" || {
+    rm -f -- "$socket" "$socket.pid"
+    fail 'nothing is served'
+}
+# nbdkit writes its number once it is in the background.
+for ((at = 0; at < 100; at++)); do [ ! -s "$socket.pid" ] || break; sleep 0.1; done
+note "$image: served at nbd+unix:///?socket=$socket until serve-nbd.sh -e $socket"

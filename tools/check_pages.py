@@ -1,0 +1,140 @@
+#!/usr/bin/env python3
+"""Looks for dead names and long lines in the pages: README.md, docs/*.md and crates/*/README.md.
+
+    tools/check_pages.py [PAGE...]
+
+It prints, each with its file and line:
+- lines of more than 120 columns, but for rows of tables and blocks of code;
+- sentences of more than 40 words, where what stands in backquotes is one word;
+- names in backquotes that look like those of definitions, clauses, functions or crates, and that stand in no file of
+  the tree beside the pages;
+- paths that lead to no file, from the root or from the page's own folder;
+- in a list under a file of specs/ each definition that this file hasn't.
+It ends with status 1 where it found something.
+"""
+import re
+import subprocess
+import sys
+from pathlib import Path
+
+ROOT = Path(__file__).resolve().parent.parent
+COLUMNS, WORDS = 120, 40
+
+PAGE = re.compile(r"README\.md|docs/[^/]*\.md|crates/[^/]*/README\.md")
+NAME = re.compile(r"[A-Za-z_]\w*(?:(?:::|/)[A-Za-z_]\w*)*(?:\(\))?")
+PATH = re.compile(r"(?<![\w./-])(?:crates|docs|tools|specs|src|proofs|must-fail|examples|cases|man|bench|completions)/"
+                  r"[\w./-]*\w")
+CODE = re.compile(r"`([^`]+)`")
+ITEM = re.compile(r"\s*(?:[-*]|\d+\.) ")
+SENTENCE = re.compile(r"(?<=[.?!])[)\"*]* +(?=[\"(*]*[A-Z0-9`~])")
+
+# Names that stand in no file of this tree: of the kit, of the toolchain, and instructions of the processor.
+OUTSIDE = {"Lts", "Rng", "fill_bytes", "pextrd", "pinsrd", "pxor"}
+
+
+def files():
+    asked = ["git", "ls-files", "-co", "--exclude-standard"]
+    names = subprocess.run(asked, cwd=str(ROOT), stdout=subprocess.PIPE, universal_newlines=True, check=True).stdout
+    return [name for name in names.split("\n") if name and (ROOT / name).exists()]
+
+
+def words_in(file):
+    return set(re.findall(r"\w+", file.read_text(encoding="utf-8", errors="replace")))
+
+
+def words_of_the_tree(names):
+    """All words of the files that are no pages, and of the paths of all."""
+    words = set()
+    for name in names:
+        words.update(re.findall(r"\w+", name))
+        if not name.endswith(".md"):
+            words.update(words_in(ROOT / name))
+    return words
+
+
+def without_code(lines):
+    """The lines, with those of blocks of code empty: between fences, or indented by four behind an empty line."""
+    fenced = indented = False
+    before = ""
+    for line in lines:
+        fence = line.startswith("```")
+        indented = line.startswith("    ") and (indented or not before.strip())
+        yield "" if fenced or fence or indented else line
+        fenced, before = fenced != fence, line
+
+
+def blocks(lines):
+    """Each paragraph, item, heading and cell: the number of its first line, its kind and its text."""
+    number, kind, text = 0, "", ""
+    for at, line in enumerate(lines + [""], 1):
+        if text and (not line.strip() or line[0] in "|#" or ITEM.match(line)):
+            yield number, kind, text
+            text = ""
+        if line.startswith("|"):
+            for cell in line.strip().strip("|").split(" | "):
+                yield at, "cell", cell
+        elif line.startswith("#"):
+            yield at, "heading", line
+        elif text:
+            text += " " + line.strip()
+        elif line.strip():
+            number, kind, text = at, "item" if ITEM.match(line) else "text", ITEM.sub("", line, 1).strip()
+
+
+def long_lines(lines):
+    for at, line in enumerate(lines, 1):
+        if len(line) > COLUMNS and not line.startswith("|"):
+            yield at, "%d columns" % len(line)
+
+
+def long_sentences(lines):
+    for at, _, text in blocks(lines):
+        for sentence in SENTENCE.split(CODE.sub("`x`", text)):
+            words = [word for word in sentence.split() if re.search(r"\w", word)]
+            if len(words) > WORDS:
+                yield at, "%d words: %s .." % (len(words), " ".join(words[:6]))
+
+
+def dead_names(page, lines, words):
+    for at, _, text in blocks(lines):
+        for code in CODE.findall(text):
+            if NAME.fullmatch(code) and not set(re.findall(r"\w+", code)) <= words | OUTSIDE:
+                yield at, "no `%s` in the tree" % code
+        for path in PATH.findall(text):
+            if "NAME" not in path and not (ROOT / path).exists() and not (page.parent / path).exists():
+                yield at, "no file %s" % path
+
+
+def strayed_definitions(page, lines):
+    """The names before the colon of an item, under a line that begins with a file of specs/, which that file hasn't."""
+    specs, words = [], set()
+    for at, kind, text in blocks(lines):
+        if kind != "item":
+            specs = [page.parent / code for code in CODE.findall(text) if text.startswith("`specs/")]
+            specs = [file for file in specs if file.is_file()]
+            words = set().union(*map(words_in, specs))
+        elif specs:
+            for code in CODE.findall(re.split(r"[:.](?: |$)", text)[0]):
+                if not set(re.findall(r"\w+", code)[:1]) <= words:
+                    yield at, "no `%s` in %s" % (code, ", ".join(file.name for file in specs))
+
+
+def main():
+    names = files()
+    words = words_of_the_tree(names)
+    asked = sys.argv[1:] or [name for name in names if PAGE.fullmatch(name)]
+    count = 0
+    for name in asked:
+        page = (ROOT / name).resolve()
+        lines = list(without_code(page.read_text(encoding="utf-8").split("\n")))
+        found = [*long_lines(lines), *long_sentences(lines), *dead_names(page, lines, words),
+                 *strayed_definitions(page, lines)]
+        for at, what in sorted(found):
+            print("%s:%d: %s" % (name, at, what))
+        count += len(found)
+    print("%d found in %d pages" % (count, len(asked)))
+    return 1 if count else 0
+
+
+if __name__ == "__main__":
+    sys.exit(main())

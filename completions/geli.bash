@@ -2,7 +2,7 @@
 # It offers verbs, the options of each verb, values with a fixed choice, and file names. It runs no geli.
 # shellcheck shell=bash
 
-_geli_verbs='attach backup delkey detach dump eject fill flush init kill list read resize restore script setkey sum write'
+_geli_verbs='attach backup delkey detach dump eject fill flush init kill list read reap resize restore resume script setkey step submit sum suspend verify write'
 
 # The option letters of a verb: those without a value, then those with one.
 _geli_letters() {
@@ -13,7 +13,9 @@ _geli_letters() {
         delkey) echo afv n ;;
         detach | restore) echo fv ;;
         resize) echo v s ;;
-        backup | dump | kill) echo v ;;
+        backup | dump | kill | suspend) echo v ;;
+        resume) echo pv jk ;;
+        verify) echo rv ;;
     esac
 }
 
@@ -84,11 +86,11 @@ _geli() {
         COMPREPLY=($(compgen -W "$options" -- "$cur"))
         return
     fi
-    # The operands that are file names: the image, and the backup before or behind it.
-    case $verb in
-        list) ;;
-        backup | restore) ((operands > 1)) || _geli_files "$cur" ;;
-        *) ((operands > 0)) || _geli_files "$cur" ;;
+    # The operands that are offered: the image, the backup before or behind it, the file of a place, and the job of a request.
+    case $verb:$operands in
+        list:*) ;;
+        *:0 | backup:1 | restore:1 | verify:1) _geli_files "$cur" ;;
+        submit:1) COMPREPLY=($(compgen -W 'read write flush' -- "$cur")) ;;
     esac
 }
 

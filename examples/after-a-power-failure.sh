@@ -5,7 +5,8 @@
 #
 # The passphrase is asked for; -j names a file whose first line it is, -p says that there is none. Work on a copy of
 # the image where you can. First the metadata are looked at, then the key is tried, then every sector is
-# read. Status 0: all can be read. Status 1: something can't, and standard output says what.
+# read, or verified where it is authenticated. Status 0: all can be read. Status 1: something can't, and standard
+# output says what.
 #
 # What it can't see: a sector whose 512-byte parts come from different writes, all of them whole. That is what a
 # crash may leave of sectors that were written after the last flush. Look at the filesystem inside with its
@@ -27,9 +28,12 @@ need
 readable "$image"
 key_ready
 
-python_part "$image" "${key[*]}" <<'PY'
+[ -n "${private:-}" ] || private_folder
+
+python_part "$image" "${key[*]}" "$private/place" <<'PY'
 import sys
-from lib import REQUEST, Progress, Session, length_of, run, told
+from lib import (REQUEST, WHY_UNREADABLE, Failed, Progress, Session, fields_of, is_tagged, length_of, ranges, run,
+                 tell_unreadable, told)
 
 
 def stop(session, *lines):
@@ -56,7 +60,7 @@ def metadata(session, length):
                    " Else copy the image to a sound disk first, and look at the copy."],
         }
         stop(session, f"metadata: {told(reply)}", *helps.get(reply.split(" ")[1], []))
-    return dict(row.split(": ") for row in rows)
+    return fields_of(rows)
 
 
 def open_by(session, key):
@@ -73,30 +77,30 @@ def open_by(session, key):
     session.look()
 
 
-def unreadable(session, units):
-    """The ranges of sectors that can't be read: of each the first, and the one behind the last."""
-    bad = []
-    progress = Progress(session.sectors * session.width)
-    at = 0
-    while at < session.sectors:
-        some = min(REQUEST // session.width, session.sectors - at)
-        _, reply = session.ask("read", session.image, at, some)
-        if reply.startswith("ok "):
-            at += some
-        elif reply.startswith("error 25 "):
-            here = int(reply.split(" ")[3]) // 512 // units
-            if bad and bad[-1][1] == here:
-                bad[-1][1] = here + 1
-            else:
-                bad.append([here, here + 1])
-            at = here + 1
-        else:
+def read_all(session):
+    """Reads every sector: without authentication none is unreadable but by a failure, which ends this."""
+    some = REQUEST // session.width
+    for at in range(0, session.sectors, some):
+        _, reply = session.ask("read", session.image, at, min(some, session.sectors - at))
+        if not reply.startswith("ok "):
             stop(session, f"from sector {at} on: {told(reply)}")
-        progress.at(at * session.width)
-    return bad
+        yield min(at + some, session.sectors), []
 
 
-def look(geli, image, key):
+def unreadable(session, fields, place):
+    """The ranges of sectors that can't be read."""
+    bad, at = [], 0
+    progress = Progress(session.sectors * session.width)
+    try:
+        for at, found in session.sweep(fields, place) if is_tagged(fields) else read_all(session):
+            bad += found
+            progress.at(at * session.width)
+    except Failed as failed:
+        stop(session, f"from sector {at} on: {failed}")
+    return ranges(bad)
+
+
+def look(geli, image, key, place):
     length = length_of(image)
     session = Session(geli, image)
     fields = metadata(session, length)
@@ -104,22 +108,16 @@ def look(geli, image, key):
     print(f"metadata: sound, version {fields['version']}, provider of {size} bytes in an image of {length}")
     open_by(session, key)
     print("key: it opens the provider")
-
-    # The device sectors of a logical sector, to tell its number by the byte offset of a bad part.
-    is_tagged = int(fields["flags"], 16) & 0x10
-    data = {"18": 480, "19": 464, "20": 448}[fields["aalgo"]] if is_tagged else 512
-    bad = unreadable(session, (session.width - 1) // data + 1)
+    bad = unreadable(session, fields, place)
     session.must("detach", image)
     session.end()
-    for first, end in bad:
-        print(f"unreadable: sector {first}" if end == first + 1 else f"unreadable: sectors {first} to {end - 1}")
+    tell_unreadable(bad)
     lost = sum(end - first for first, end in bad)
     print(f"data: {session.sectors} sectors of {session.width} bytes, {lost} of them unreadable")
     if bad:
-        print("An unreadable sector was never written, was cut off by the failure, or was changed from outside.",
-              "A write of the whole sector makes it readable again; what it held is lost.", sep="\n")
+        print(WHY_UNREADABLE)
         sys.exit(1)
-    if not is_tagged:
+    if not is_tagged(fields):
         print("These sectors are not authenticated: damage in them reads as other bytes and is not told.")
 
 

@@ -35,7 +35,13 @@ CAUSES = {
     "32": "the provider had another size",
     "34": "the image is not longer than before",
     "35": "the image is too small, or cannot be opened",
+    "46": "the file of the place is of another provider, or of this one when it was longer: begin anew",
+    "47": "the provider is not authenticated: nothing tells whether its sectors are as they were written",
+    "48": "the file of the place has no place: begin anew",
 }
+
+# The bytes of data in a device sector, by the number of the authentication.
+TAGGED = {"18": 480, "19": 464, "20": 448}
 
 
 class Failed(Exception):
@@ -65,6 +71,38 @@ def length_of(path):
     """The bytes of a file or a block device."""
     with open(path, "rb") as file:
         return file.seek(0, os.SEEK_END)
+
+
+def fields_of(rows):
+    """The fields of metadata, by the lines of a dump."""
+    return dict(row.split(": ") for row in rows)
+
+
+def is_tagged(fields):
+    """Whether the metadata are of an authenticated provider."""
+    return bool(int(fields["flags"], 16) & 0x10)
+
+
+def ranges(numbers):
+    """Ascending numbers as ranges: of each the first, and the one behind the last."""
+    found = []
+    for number in numbers:
+        if found and number <= found[-1][1]:
+            found[-1][1] = number + 1
+        else:
+            found.append([number, number + 1])
+    return found
+
+
+def tell_unreadable(bad):
+    """Says which ranges of sectors can't be read."""
+    for first, end in bad:
+        print(f"unreadable: sector {first}" if end == first + 1 else f"unreadable: sectors {first} to {end - 1}")
+
+
+WHY_UNREADABLE = """\
+An unreadable sector was never written, was cut off by a failure, or was changed from outside.
+A write of the whole sector makes it readable again; what it held is lost."""
 
 
 class Session:
@@ -172,6 +210,22 @@ class Session:
         runs = ((at, min(step, end - at)) for at in range(first, end, step))
         lines = ((f"read of {some} sectors from {at} on", ("read", self.image, at, some)) for at, some in runs)
         return map(bytes.fromhex, self.ahead(lines))
+
+    def sweep(self, fields, place, first=0, anew=True):
+        """Verifies an authenticated provider with these metadata to its end, anew or from the place that the file has.
+
+        Gives of each part where it ended, and the sectors in which a unit fails.
+        """
+        # Device sectors of a logical sector; without authentication the first line is refused.
+        units = (self.width - 1) // TAGGED.get(fields["aalgo"], self.width) + 1
+        options = ["-r"] if anew else []
+        while True:
+            rows, line = self.must("verify", *options, self.image, place, max(self.sectors - first, 1))
+            first = int(line.split(" ")[0])
+            yield first, [int(row.split(" ")[1]) // 512 // units for row in rows]
+            if first == self.sectors:
+                return
+            options = []
 
     def end(self):
         """The end of the script, which detaches, and its status. A flush that fails there is told by one line more."""

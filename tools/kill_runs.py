@@ -1,17 +1,18 @@
 #!/usr/bin/env python3
-"""Kills the program at random moments of sessions with `write`, `fill` and `flush` on a real file, and looks at what is left.
+"""Kills the program at random moments of sessions with `write`, `fill` and `flush` on real files, and looks at what is left.
 
     tools/kill_runs.py [-n RUNS] [-s SEED] [-d FOLDER] [PROGRAM]      without a word: the program that ./geli runs
 
 Each run is a `geli script` that attaches a provider and writes runs of sectors, some of them by `fill`, with a flush now and
 then, until SIGKILL ends it. The bytes of `fill` are made here by a PCG64 of its own. Then a reader of the format of its own, over python3's hmac, hashlib and `cryptography`, opens every sector and
-finds for each device sector which write it is of. What must hold:
+finds for each device sector which write it is of. Of each three sessions one is on a file, one on a file by `behind:`, and one on two files by
+`join:`, whose bytes are those of the first and then those of the second. What must hold:
 
 - a device sector that an answered flush covers reads as it was written before that flush, or as a later write of it;
 - each other one reads as before the run, or as a write of it. With AES-CBC and no authentication the first 16 bytes of a
   device sector are looked at only where the one before it is of the same write;
-- all writes that were answered are there, and what is there is that of the first so many device writes of the session,
-  in order;
+- all writes that were answered are there, by `behind:` all but the last 256 device writes at most, and what is there is that of the first so
+  many device writes of the session, in order;
 - the program's own `read` gives the same bytes, or the same refusal, for each sector;
 - an `init` that is killed leaves the metadata from before, or new ones that open;
 - so does a `setkey`, and the other slot as it was; a `delkey` leaves the metadata from before, or those without the key, and
@@ -43,7 +44,10 @@ CONFIGURATIONS = [  # cipher, bits, authentication, sector size
     ("AES-XTS", 256, "HMAC/SHA384", 4096), ("AES-CBC", 128, "HMAC/SHA512", 4096), ("AES-XTS", 128, "HMAC/SHA512", 8192),
 ]
 TAGS = {0: ("", 0), 18: ("sha256", 32), 19: ("sha384", 48), 20: ("sha512", 64)}
+LAYERS = ["", "behind", "join"]
+ROOM = 256  # how many device writes may wait by `behind:`
 LENGTH = 200 * 1024 + 512
+FRONT = 97 * 512  # what of it the first of two files has
 LINES = 60
 
 
@@ -156,20 +160,23 @@ class Reader:
 class Trial:
     """An image of one configuration, and the runs on it."""
 
-    def __init__(self, program, folder, number, chance):
-        self.program, self.chance = program, chance
+    def __init__(self, program, folder, layer, number, chance):
+        self.program, self.layer, self.chance = program, layer, chance
         self.cipher, self.bits, self.auth, self.size = CONFIGURATIONS[number]
-        self.image = os.path.join(folder, f"{number}.img")
+        # The files, the first of them the image where there is no layer, and the name that the program is given.
+        self.files = [os.path.join(folder, f"{number}{layer}.{part}") for part in ("img", "back")[: 1 + (layer == "join")]]
+        self.name = ":".join([layer] * bool(layer) + self.files)
         self.key = os.path.join(folder, "key")
         self.lines, self.replies = os.path.join(folder, "lines"), os.path.join(folder, "replies")
         self.other = os.path.join(folder, "other")
         for name, key in ((self.key, KEY), (self.other, OTHER)):
             with open(name, "wb") as file:
                 file.write(key)
-        with open(self.image, "wb") as file:
-            file.truncate(LENGTH)
+        for name, length in zip(self.files, [FRONT, LENGTH - FRONT] if layer == "join" else [LENGTH]):
+            with open(name, "wb") as file:
+                file.truncate(length)
         self.init = ["init", "-P", "-K", self.key, "-e", self.cipher, "-l", str(self.bits), "-s", str(self.size)]
-        self.init += (["-a", self.auth] if self.auth else []) + [self.image]
+        self.init += (["-a", self.auth] if self.auth else []) + [self.name]
         begun = time.monotonic()
         subprocess.run([self.program, *self.init], check=True, stdout=subprocess.DEVNULL)
         self.init_span = time.monotonic() - begun
@@ -177,8 +184,11 @@ class Trial:
         self.spans = {}  # from what times the moments of the other commands are drawn
 
     def bytes(self):
-        with open(self.image, "rb") as file:
-            return file.read()
+        found = b""
+        for name in self.files:
+            with open(name, "rb") as file:
+                found += file.read()
+        return found
 
     def session(self, reader):
         """Lines of random writes, fills and flushes: for each line its words, and the writes (first sector, bytes) or None for a flush."""
@@ -187,19 +197,19 @@ class Trial:
         for _ in range(LINES):
             kind = self.chance.random()
             if kind < 0.08:
-                said.append((f"flush {self.image}", None))
+                said.append((f"flush {self.name}", None))
             elif kind < 0.18:
                 # Up to the whole provider, so that one takes more pieces than one of 131,072 bytes.
                 count = self.chance.randint(1, reader.sectors if self.chance.random() < 0.3 else most)
                 at, seed = self.chance.randint(0, reader.sectors - count), self.chance.getrandbits(64)
-                said.append((f"fill {self.image} {seed} {at} {count}", (at, workload(seed, count * self.size))))
+                said.append((f"fill {self.name} {seed} {at} {count}", (at, workload(seed, count * self.size))))
             else:
                 count = self.chance.randint(1, most)
                 # Half of them go to a few sectors, so that these are written over and over.
                 last = reader.sectors - count
                 at = self.chance.randint(0, last if self.chance.random() < 0.5 else min(last, 3))
                 plain = self.chance.randbytes(count * self.size)
-                said.append((f"write {self.image} {at} {plain.hex()}", (at, plain)))
+                said.append((f"write {self.name} {at} {plain.hex()}", (at, plain)))
         return said
 
     def run(self):
@@ -208,7 +218,7 @@ class Trial:
         old = [reader.parts(before, sector) for sector in range(reader.sectors)]
         words, said = zip(*self.session(reader))
         with open(self.lines, "w", encoding="ascii") as file:
-            file.write(f"attach -p -k {self.key} {self.image}\n")
+            file.write(f"attach -p -k {self.key} {self.name}\n")
             file.writelines(f"{line}\n" for line in words)
         killed = self.play()
         with open(self.replies, encoding="ascii") as file:
@@ -217,7 +227,7 @@ class Trial:
         answered = max(answers.count("\n") - 1, 0)  # that of `attach` isn't one of the lines
         after = self.bytes()
         assert len(after) == len(before) and after[-512:] == before[-512:], "the metadata changed"
-        seen = self.judge(reader, old, said, answered, after)
+        seen = self.judge(reader, old, said, answered, after, killed)
         self.compare(reader, after)
         return killed, answered, seen
 
@@ -225,7 +235,7 @@ class Trial:
         """Runs the lines and kills the program at a random moment; whether it hadn't ended by itself."""
         begun = time.monotonic()
         with open(self.lines, "rb") as lines, open(self.replies, "wb") as replies:
-            run = subprocess.Popen([self.program, "script", self.image], stdin=lines, stdout=replies)
+            run = subprocess.Popen([self.program, "script", self.name], stdin=lines, stdout=replies)
             if self.span:
                 time.sleep(self.chance.uniform(0, self.span * 1.05))
                 run.kill()
@@ -236,8 +246,8 @@ class Trial:
             assert status == -9, f"status {status}"
         return status != 0
 
-    def judge(self, reader, old, said, answered, after):
-        """Which write each device sector is of; how many device writes there were in all and behind the answered lines."""
+    def judge(self, reader, old, said, answered, after, killed):
+        """Which write each device sector is of; how many device writes there are behind those of the answered lines, or are lost of these."""
         steps = []  # (line, place of the device sector, its plain bytes)
         for number, line in enumerate(said):
             if line is None:
@@ -273,18 +283,20 @@ class Trial:
             mixed += len(lines_here) > 1
         # The first so many device writes, in order, and at least those of the answered lines.
         done = max(found.values(), default=-1) + 1
-        least = sum(1 for number, _, _ in steps if number < answered)
+        told = sum(1 for number, _, _ in steps if number < answered)
+        # What waits is lost where the program is killed; at its end it flushes.
+        least = max(0, told - ROOM) if self.layer == "behind" and killed else told
         last = {}
         for step in range(done):
             last[steps[step][1]] = step
         assert all(found[place] == last.get(place, -1) for place in found), "these aren't the first device writes in order"
-        assert done >= least, f"{least} device writes were answered, {done} are there"
-        return done - least, mixed, flushed >= 0
+        assert done >= least, f"{least} device writes must be there, {done} are"
+        return done - told, mixed, flushed >= 0
 
     def compare(self, reader, after):
         """The program's own `read` of each sector."""
-        asked = [f"attach -r -p -k {self.key} {self.image}"] + [f"read {self.image} {n} 1" for n in range(reader.sectors)]
-        run = subprocess.run([self.program, "script", self.image], input="\n".join(asked).encode(), stdout=subprocess.PIPE)
+        asked = [f"attach -r -p -k {self.key} {self.name}"] + [f"read {self.name} {n} 1" for n in range(reader.sectors)]
+        run = subprocess.run([self.program, "script", self.name], input="\n".join(asked).encode(), stdout=subprocess.PIPE)
         wanted = ["ok"] + [reader.read(after, n) for n in range(reader.sectors)]
         assert run.stdout.decode().splitlines() == wanted, "the program reads something else"
         assert self.bytes() == after, "reading changed the image"
@@ -318,9 +330,9 @@ class Trial:
         return status == 0
 
     def killed_change(self, verb):
-        """Kills a command that changes the metadata of a copy; whether it hadn't ended by itself, and whether they are changed."""
-        image = self.image + ".copy"
-        shutil.copyfile(self.image, image)
+        """Kills a command that changes the metadata of a copy of a file; whether it hadn't ended by itself, and whether they are changed."""
+        image = self.name + ".copy"
+        shutil.copyfile(self.name, image)
         put = ["setkey", "-n", "1", "-p", "-k", self.key, "-P", "-K", self.other, image]
         take, grow = ["delkey", "-n", "1", image], ["resize", "-s", str(LENGTH), image]
         if verb == "delkey":
@@ -364,10 +376,10 @@ def main():
     chance = random.Random(given.s)
     folder = tempfile.mkdtemp(dir=given.d)
     program = os.path.realpath(given.program)
-    runs = killed = within = mixed = covered = answered = 0
+    runs = killed = within = lost = mixed = covered = answered = 0
     begun = time.monotonic()
     try:
-        trials = [Trial(program, folder, number, chance) for number in range(len(CONFIGURATIONS))]
+        trials = [Trial(program, folder, layer, number, chance) for number in range(len(CONFIGURATIONS)) for layer in LAYERS]
         for trial in trials:
             trial.run()  # to its end: how long a session takes
         for number in range(given.n):
@@ -377,11 +389,12 @@ def main():
             except AssertionError as error:
                 kept = tempfile.mkdtemp(prefix="kill_runs.")
                 shutil.copytree(folder, kept, dirs_exist_ok=True)
-                sys.exit(f"FAILS: run {number} of seed {given.s}, {trial.cipher} {trial.bits} {trial.auth} {trial.size}: {error} (kept in {kept})")
+                sys.exit(f"FAILS: run {number} of seed {given.s}, {trial.layer} {trial.cipher} {trial.bits} {trial.auth} {trial.size}: {error} (kept in {kept})")
             runs += 1
             killed += was_killed
             answered += lines
             within += more > 0
+            lost += more < 0
             mixed += parts
             covered += flushed
             if runs % 100 == 0:
@@ -392,15 +405,17 @@ def main():
             inits += was_killed
             new += was_killed and is_new
         changes = changed = 0
+        plain = [trial for trial in trials if not trial.layer]
         for number in range(given.n):
-            verb = ("setkey", "delkey", "resize", "kill")[number // len(trials) % 4]
-            was_killed, is_new = trials[number % len(trials)].killed_change(verb)
+            verb = ("setkey", "delkey", "resize", "kill")[number // len(plain) % 4]
+            was_killed, is_new = plain[number % len(plain)].killed_change(verb)
             changes += was_killed
             changed += was_killed and is_new
     finally:
         shutil.rmtree(folder)
     print(f"{runs} runs, {killed} killed before they ended, {covered} of them behind an answered flush; {answered} answered lines.")
     print(f"{within} were killed behind device writes of a line that wasn't answered; {mixed} logical sectors had parts of different lines.")
+    print(f"{lost} by `behind:` lost device writes that were answered and waited.")
     print(f"{inits} killed inits left sound metadata, {new} the new ones.")
     print(f"{changes} killed commands that change metadata left what they may, {changed} something new.")
     print("Every sector read as said, by the reader and by the program.")

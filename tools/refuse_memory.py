@@ -30,7 +30,7 @@ KEYS = "-k k -j p"
 SET = "-K k -J p -i 1000"
 DATA = "5a" * 4096
 NO_MEMORY = "error 33 NoMemory"
-NEVER = "read write flush detach fill sum dump delkey kill resize eject".split()
+NEVER = "read write flush detach fill sum dump delkey kill resize eject step reap suspend".split()
 
 # Lines and their replies; None: whatever the run with all its memory answers.
 ORDINARY = [

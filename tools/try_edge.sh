@@ -260,6 +260,45 @@ says "  and what was flushed stays" test "$(session c.img "$attach c.img" "read 
 says "what waits at the end of a run is written" test "$(session $late "$attach $late" "write $late 0 $b")" = "ok,ok"
 says "  and is there" test "$(session c.img "$attach c.img" "read c.img 0 1")" = "ok,ok ${b:0:21}"
 
+# ---- requests in flight, suspended providers and sweeps: `told IMAGE LINE...` gives the beginnings of the replies
+told() { printf '%s\n' "${@:2}" | "$program" script "$1" | cut -c 1-32 | paste -sd, ; }
+fresh
+"$program" init -P -K k.key c.img >out
+cp c.img copy
+says "a request writes a sector at each of its steps" test "$(told c.img "$attach c.img" "submit c.img write 0 $a$b" "step c.img 0" "eject c.img")" = "ok,ok 0,ok 1,ok"
+says "  and the next one stays" test "$(! cmp -s -n 512 c.img copy && cmp -s <(tail -c +513 c.img) <(tail -c +513 copy); echo $?)" = 0
+says "a request that isn't done isn't reaped" test "$(told c.img "$attach c.img" "submit c.img write 0 $a$b" "step c.img 0" "reap c.img 0" "step c.img 0" "step c.img 0" "reap c.img 0" "reap c.img 0")" = \
+    "ok,ok 0,ok 1,error 40 RequestNotDone 0 1,ok 0,error 41 RequestDone 0,ok,error 39 NoRequest 0"
+says "  and what it wrote is read back by another" test "$(told c.img "$attach c.img" "submit c.img read 1 1" "step c.img 0" "reap c.img 0")" = "ok,ok 0,ok 0,ok ${b:0:29}"
+head -c 64 /dev/zero >x.key
+says "a provider with an open request isn't suspended" test "$(told c.img "$attach c.img" "submit c.img flush" "suspend c.img" "step c.img 0" "reap c.img 0" "suspend c.img" list)" = \
+    "ok,ok 0,error 42 RequestsOpen 1,ok 0,ok,ok,c.img suspended 512 2,ok"
+says "a suspended one serves no sector, and is resumed by its key alone" test \
+    "$(told c.img "$attach c.img" "suspend c.img" "read c.img 0 1" "resume -p -k x.key c.img" "write c.img 0 $b" "resume -p -k k.key c.img" "read c.img 0 1" "resume -p -k k.key c.img")" = \
+    "ok,ok,error 43 Suspended,error 15 WrongKey,error 43 Suspended,ok,ok ${a:0:29},error 44 NotSuspended"
+cp c.img copy && cp c.img d.img && "$program" init -P -K k.key d.img >out
+begin c.img
+says "a suspended provider whose metadata another program replaces" test "$(ask "$attach c.img")$(ask suspend c.img)$(dd if=d.img of=c.img bs=512 skip=2 seek=2 conv=notrunc status=none)" = okok
+says "  isn't resumed by a key of the new ones" test "$(ask resume -p -k k.key c.img)" = "error 45 DifferentKey"
+says "  and is with its own in place" test "$(dd if=copy of=c.img bs=512 skip=2 seek=2 conv=notrunc status=none; ask resume -p -k k.key c.img)" = ok
+end
+says "  and nothing was written" same c.img copy
+
+head -c 4096 /dev/zero >e.img # three sectors of two device sectors each
+"$program" init -a HMAC/SHA256 -P -K k.key e.img >out
+says "a provider without authentication isn't swept" test "$(told c.img "$attach c.img" "verify c.img place 1")" = "ok,error 47 NotAuthenticated"
+says "  and no place is stored" test ! -e place
+says "a sector that is changed is listed, and where it goes on" test "$(told e.img "$attach e.img" "fill e.img 1 0 3" "detach e.img" && printf '\377\376' | dd of=e.img bs=1 seek=1064 conv=notrunc status=none; told e.img "$attach e.img" "verify e.img place 2")" = \
+    "$(printf 'ok,ok,ok\nok,bad 1024,ok 2 1')"
+says "  in a file of eight bytes, for its owner alone" test "$(od -An -v -tu8 place | tr -d ' ') $(stat -c %s place) $(mode place)" = "2 8 600"
+cp e.img copy
+says "the next run goes on there, to the end" test "$(told e.img "$attach -r e.img" "verify e.img place 2" "verify e.img place 2" "verify -r e.img place 1")" = "ok,ok 3 0,ok 3 0,ok 1 0"
+printf '\11\0\0\0\0\0\0\0' >far && printf abc >short
+says "a file that has no place is refused" test "$(told e.img "$attach e.img" "verify e.img far 1" "verify e.img short 1" "verify e.img k.key 1" "verify e.img copy 1")" = \
+    "ok,error 46 BadPlace 9 3,error 48 BadPlaceFile 2 3,error 48 BadPlaceFile 2 3,error 30 FileTooLong 2 8"
+says "  and an image of the run is" test "$(told e.img "$attach e.img" "verify e.img e.img 1" "verify -r e.img e.img 1")" = "ok,error 28 CabinetFault 2,error 28 CabinetFault 3"
+says "  and a sweep changes no image" same e.img copy
+
 # ---- calls of the system that fail, where strace can make them: `broken INJECTION` runs the lines on standard input
 broken() { strace -qq -o traced -P "$PWD/c.img" -e inject="$1" "$program" script c.img | cut -c 1-24 | paste -sd, ; }
 if strace -qq -o traced -e inject=fdatasync:error=EIO:when=1 true 2>/dev/null; then

@@ -42,7 +42,7 @@ says "the examples of the page" diff wanted printed
 says "  which are some" test "$(wc -l <wanted)" -gt 25
 
 # The lines of the README.
-sed -n '/^## The same by lines/,/^prints/s/^    //p' "$top/README.md" >lines
+sed -n '/^## The same by lines/,/^prints/p' "$top/README.md" | sed '1,/^```/d; /^```/,$d' >lines
 mkdir readme
 says "the lines of the README" test "$(cd readme && PATH=$folder/bin:$PATH bash ../lines)" = "$(printf 'ok\nok\nok\nok 68656c6c6f2020202')"
 
@@ -106,6 +106,28 @@ help=$("$look" -k key -j pass c.img 2>notes | sed -n 's/.*: geli \(restore BACKU
 eval "${help/BACKUP/c.backup}" >out 2>notes
 says "  and its help mends them" "$look" -k key -j pass c.img >report 2>notes
 says "after-a-power-failure.sh tells a wrong key" test "$("$look" -k key -j wrong c.img 2>notes | grep -c '^key: error 15')" = 1
+
+# A provider that is looked at in parts.
+scrub=$top/examples/scrub-provider.sh
+"$in" -c -k key -j pass plain c.img 2>notes
+rm -f place
+says "scrub-provider.sh finds no fault" "$scrub" -k key -j pass c.img place >report 2>notes
+says "  and says that all were looked at" grep -q '^./c.img: 1365 of 1365 sectors were looked at, from sector 0 on, 0 of them unreadable$' report
+says "  and shows no progress where nobody looks" test ! -s notes
+for at in 0 4000 1004544; do printf '\377\376\375' | dd of=c.img bs=1 seek=$at conv=notrunc status=none; done
+cp c.img before
+says "scrub-provider.sh begins anew behind the end" test "$("$scrub" -k key -j pass c.img place 2>notes | grep '^unreadable')" = "$(printf 'unreadable: sector 0\nunreadable: sector 218')"
+says "  with status 1" test "$("$scrub" -k key -j pass c.img place >report 2>notes; echo $?)" = 1
+says "  and changes nothing" cmp c.img before
+printf '\332\0\0\0\0\0\0\0' >place # 218
+says "  and goes on where it was" test "$("$scrub" -k key -j pass c.img place 2>notes | sed -n '1p;/^unreadable/p')" = "$(printf './c.img: 1147 of 1365 sectors were looked at, from sector 218 on, 1 of them unreadable\nunreadable: sector 218')"
+printf '\332\0\0\0\0\0\0\0' >place
+says "  or anew by -r" test "$("$scrub" -r -k key -j pass c.img place 2>notes | grep -c '^unreadable')" = 2
+printf 'abc' >place
+says "scrub-provider.sh leaves another file alone" test "$("$scrub" -k key -j pass c.img place 2>&1; echo $?)" = "$(printf '%s\n3' 'scrub-provider.sh: verify: error 48 BadPlaceFile 2 3: the file of the place has no place: begin anew')"
+says "  indeed" test "$(cat place)" = abc
+says "  and tells where nothing can be told" test "$("$scrub" -r -k key -j pass a.img place 2>&1 | grep -c 'error 47 NotAuthenticated')" = 1
+"$in" -c -k key -j pass plain c.img 2>notes
 
 # A new passphrase, and a longer image.
 change=$top/examples/change-passphrase.sh grow=$top/examples/grow-provider.sh
@@ -244,16 +266,25 @@ offered() { # WORD...: what is offered for the last word
     printf '%s ' "${COMPREPLY[@]}"
 }
 . "$top/completions/geli.bash"
-says "completions of verbs" test "$(offered '')" = "attach backup delkey detach dump eject fill flush init kill list read resize restore script setkey sum write "
+says "completions of verbs" test "$(offered '')" = "attach backup delkey detach dump eject fill flush init kill list read reap resize restore resume script setkey step submit sum suspend verify write "
 says "completions of options" test "$(offered attach -)" = "-C -p -r -v -j -k -n "
 says "completions of values" test "$(offered init -e '')" = "AES-XTS AES-CBC "
 says "  of detach" test "$(offered detach -)" = "-f -v "
 says "  of delkey" test "$(offered delkey -)" = "-a -f -v -n "
 says "  of setkey" test "$(offered setkey -)" = "-p -P -v -i -j -J -k -K -n "
+says "  of resume" test "$(offered resume -)" = "-p -v -j -k "
+says "  of suspend" test "$(offered suspend -)" = "-v "
+says "  of verify" test "$(offered verify -)" = "-r -v "
 says "  none of read" test "$(offered read -)" = " "
+says "  none of step" test "$(offered step -)" = " "
 says "completions of names" test "$(offered dump b.i)" = "b.img "
 says "  of each of a script's" test "$(offered script a.img b.i)" = "b.img "
 says "  of a backup" test "$(offered restore a.img b.i)" = "b.img "
+says "  of a request's image" test "$(offered submit b.i)" = "b.img "
+says "  of its job" test "$(offered submit b.img '')" = "read write flush "
+says "  none of its sector" test "$(offered submit b.img read b.i)" = " "
+says "  of a place" test "$(offered verify a.img b.i)" = "b.img "
+says "  none of a count" test "$(offered verify a.img place 1)" = " "
 says "  none behind it" test "$(offered restore a.img b.img b.i)" = " "
 says "  none of a list's" test "$(offered list b.i)" = " "
 

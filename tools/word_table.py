@@ -16,7 +16,7 @@ TABLE = Path(__file__).parent.parent / "crates/command_words/src/tests/table.rt"
 # Bytes that the tables write by other signs.
 SIGNS = {b"~": b"\0", b"`": b"\t", b"^": b"\r", b"!": b"\xff", b"%": b"\xc3", b"{": b"a" * 262140, b"}": b"a" * 37855}
 
-# The options of a verb without a value, those with one, and its operands.
+# The options of a verb without a value, those with one, and its operands: in each form that it has. A job has its name.
 VERBS = {
     b"init": ("PRv", "aBeiJKls", "prov"),
     b"attach": ("Cprv", "jkn", "prov"),
@@ -35,12 +35,19 @@ VERBS = {
     b"fill": ("", "", "prov seed sector many"),
     b"sum": ("", "", "prov sector many"),
     b"eject": ("", "", "prov"),
+    b"submit": ("", "", "prov job=flush|prov job=read sector few|prov job=write sector hex"),
+    b"step": ("", "", "prov tag"),
+    b"reap": ("", "", "prov tag"),
+    b"suspend": ("v", "", "prov"),
+    b"resume": ("pv", "jk", "prov"),
+    b"verify": ("rv", "", "prov file many"),
 }
 # The lowest and the highest value of an option or an operand that is a number, and the step from one to the next.
 BOUNDS = {
     "i": (0, 2**31 - 1, 1), "l": (0, 2**16 - 1, 1), "s": (0, 2**32 - 1, 1), "n": (0, 2**8 - 1, 1),
     "resize s": (1024, 2**53 - 512, 512),
     "sector": (0, 2**63 - 1, 1), "few": (1, 256, 1), "many": (1, 2**63 - 1, 1), "seed": (0, 2**64 - 1, 1),
+    "tag": (0, 31, 1),
 }
 # The names that an option may have.
 NAMES = {"a": {b"HMAC/SHA256": "Sha256", b"HMAC/SHA384": "Sha384", b"HMAC/SHA512": "Sha512"},
@@ -98,7 +105,19 @@ def operand_fault(kind, text):
         return "DashFile" if text == b"-" else None
     if kind == "hex":
         return None if len(text) <= 2**18 and re.fullmatch(rb"([0-9A-Fa-f]{2})+", text) else "BadHex"
+    if kind.startswith("job="):
+        return None if text == kind[4:].encode() else "BadName"
     return None
+
+
+def form_of(verb, operands):
+    """The kinds of these operands: of the forms with as many that whose job is named, or else the first; None without."""
+    forms = [form.split() for form in VERBS[verb][2].split("|")]
+    forms = [form for form in forms if len(form) == len(operands)]
+    for form in forms:
+        if not any(operand_fault(kind, word.text) for kind, word in zip(form, operands) if kind.startswith("job=")):
+            return form
+    return forms[0] if forms else None
 
 
 def options(verb, alone, valued, found):
@@ -152,20 +171,21 @@ def read(line, sep):
     verb = found[0].text
     if verb not in VERBS:
         raise Usage(0, "UnknownVerb")
-    alone, valued, kinds = VERBS[verb]
+    alone, valued, _ = VERBS[verb]
     given, operands = options(verb, alone, valued, found)
-    if len(operands) != len(kinds.split()):
+    kinds = form_of(verb, operands)
+    if kinds is None:
         raise Usage(len(found), "OperandCount")
     if verb == b"resize" and "s" not in given:
         raise Usage(len(found), "MissingOption")
     for own, one, other in APART:
         if own in (None, verb) and one in given and other in given:
             raise Usage(len(found), "Exclusive")
-    for kind, operand in zip(kinds.split(), operands):
+    for kind, operand in zip(kinds, operands):
         wrong = operand_fault(kind, operand.text)
         if wrong:
             raise Usage(operand.number, wrong)
-    return verb, given, dict(zip(kinds.split(), operands))
+    return verb, given, dict(zip(kinds, operands))
 
 
 def show_value(value):
@@ -188,7 +208,12 @@ FIELDS = {
     b"read": "prov sector count=few",
     b"fill": "prov seed start=sector count=many",
     b"sum": "prov start=sector count=many",
+    b"submit": "prov job",
+    b"resume": "prov old=kjp",
+    b"verify": "prov file count=many restart=r",
 }
+# Those of a request.
+JOBS = {"read": "sector count=few", "write": "sector hex", "flush": ""}
 
 
 def show_option(verb, given, last, letter):
@@ -208,20 +233,26 @@ def show_option(verb, given, last, letter):
     return NAMES[letter][last.get(letter, b"AES-XTS").upper()]
 
 
-def show_command(verb, given, operands):
+def show_named(name, fields, verb, given, operands):
     last = {letter: values[-1].text for letter, values in given.items() if values}
-    fields = []
-    for field in FIELDS.get(verb, VERBS[verb][2]).split():
-        name, _, place = field.partition("=")
-        operand = operands.get(place or name)
-        if operand is None:
-            shown = show_option(verb, given, last, place)
-        elif (place or name) in BOUNDS:
-            shown = int(operand.text)
+    shown = []
+    for field in fields.split():
+        label, _, place = field.partition("=")
+        operand = operands.get(place or label)
+        if label == "job":
+            job = next(kind[4:] for kind in operands if kind.startswith("job="))
+            shown.append(f"job: {show_named(job, JOBS[job], verb, given, operands)}")
+        elif operand is None:
+            shown.append(f"{label}: {show_option(verb, given, last, place)}")
+        elif (place or label) in BOUNDS:
+            shown.append(f"{label}: {int(operand.text)}")
         else:
-            shown = show_value(operand)
-        fields.append(f"{name}: {shown}")
-    return verb.decode().title() + (" { " + ", ".join(fields) + " }" if fields else "")
+            shown.append(f"{label}: {show_value(operand)}")
+    return name.title() + (" { " + ", ".join(shown) + " }" if shown else "")
+
+
+def show_command(verb, given, operands):
+    return show_named(verb.decode(), FIELDS.get(verb, VERBS[verb][2]), verb, given, operands)
 
 
 def reply(line, sep):

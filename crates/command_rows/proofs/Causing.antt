@@ -68,7 +68,7 @@ whole_by : (line : List ℕ) (command : Command) (a : Attachment) (bytes : ℕ) 
 whole_by line command a bytes true old given middle is by asked h = rw (h, by) tt
 whole_by line command a bytes false old given middle is by asked h = rw (h, by) (rw is (record { asked = asked; bad = by }))
 
-whole_why : (line : List ℕ) (command : Command) (a : Attachment) (bytes : ℕ) (old : Reach) (given : Result ℕ Refusal) (middle : Reach) → old.holding ≡ IsAttached a → AsksBytes line command bytes a → NeedsWhole a bytes old given middle → Why line command old given middle
+pub whole_why : (line : List ℕ) (command : Command) (a : Attachment) (bytes : ℕ) (old : Reach) (given : Result ℕ Refusal) (middle : Reach) → old.holding ≡ IsAttached a → AsksBytes line command bytes a → NeedsWhole a bytes old given middle → Why line command old given middle
 whole_why line command a bytes old given middle is asked h = whole_by line command a bytes _ old given middle is refl asked h.0
 
 -- the range

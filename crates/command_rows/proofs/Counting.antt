@@ -38,6 +38,7 @@ use Rattle.command_rows.specs.Restoring.{WritesBack}
 use Rattle.command_rows.specs.Saving.{FindsLastSector}
 use Rattle.command_rows.specs.SetKey.{StoresKey}
 use Rattle.command_rows.specs.Steps.{Attaches, BacksUp, Decides, Detaches, Does, DoesEvents, GoesOn, LoadsComponents, LoadsFile, MakesProvider, ReadsLastSector, ReadsSectors, SectorsAnswer, StoreAnswers, StoresBytes, Then, if_writable, or_refusal, without_value}
+use Rattle.command_rows.specs.Suspending.{Suspends}
 use Rattle.command_rows.specs.Turn.{AttachesUnless}
 use Rattle.command_rows.specs.World.{Attachment, Reach}
 use Rattle.command_rows.proofs.Causing.{Step}
@@ -176,6 +177,9 @@ does_counts events old answer new h = uncounted_step old answer new (does_uncoun
 
 pub detaching_counts : Counts Detaches
 detaching_counts old answer new h = uncounted_step old answer new (does_uncounted (Flush ∷ []) old.disk answer new.disk h.flushes) h.outside.cabinet h.outside.entropy
+
+pub suspending_counts : (a : Attachment) → Counts (Suspends a)
+suspending_counts a old answer new h = uncounted_step old answer new (does_uncounted (Flush ∷ []) old.disk answer new.disk h.flushes) h.outside.cabinet h.outside.entropy
 
 sectors_uncounted : (a : Attachment) (sector count : ℕ) (old : DiskState) (answer : Result (List ℕ) Refusal) (new : DiskState) → SectorsAnswer a.keying sector count old answer new → UncountedAnswer answer
 sectors_uncounted a sector count old (Ok bytes) new h = tt

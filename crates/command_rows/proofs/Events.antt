@@ -20,7 +20,8 @@ use Rattle.user_key.specs.declared.components.Components.{Components}
 use Rattle.command_rows.specs.Histories.{BreaksOff, WritesData, WritesMetadata}
 use Rattle.command_rows.specs.NewProvider.{InitRow}
 use Rattle.command_rows.specs.Steps.{Admits, Attaches, BacksUp, Decides, DoesEvents, GoesOn, LoadsComponents, NeedsSectors, NeedsWhole, NeedsWritable, ReadsLastSector, ReadsSectors, Then, WritesSectors}
-use Rattle.command_rows.specs.Turn.{AttachRow, AttachesUnless, DetachRow, FlushRow, ReadRow, TryRow, WriteRow}
+use Rattle.command_rows.specs.Trying.{TryRow}
+use Rattle.command_rows.specs.Turn.{AttachRow, AttachesUnless, DetachRow, FlushRow, ReadRow, WriteRow}
 use Rattle.command_rows.specs.World.{Attachment, IsAttached, Reach}
 
 -- ---- steps without events
@@ -163,7 +164,7 @@ writes_did a sector bytes old answer new h =
     (writable_did a sector count bytes middle answer new next))
     h
 
-quiet_attaching : (a : Attachment) → Quiet (Attaches a)
+pub quiet_attaching : (a : Attachment) → Quiet (Attaches a)
 quiet_attaching a old (Ok done) new h = same_disk old.disk new.disk (ap (λ (r : Reach). r.disk) h)
 quiet_attaching a old (Err refusals.NoMemory) new h = same_disk old.disk new.disk (ap (λ (r : Reach). r.disk) h)
 quiet_attaching a old (Err refusal) new h = absurd h
@@ -172,7 +173,7 @@ quiet_unless : (only_check : Bool) (a : Attachment) → Quiet (AttachesUnless on
 quiet_unless true a old answer new h = same_disk old.disk new.disk (ap (λ (r : Reach). r.disk) h.1)
 quiet_unless false a old answer new h = quiet_attaching a old answer new h
 
-quiet_trial : (line : List ℕ) (slot : Option ℕ) (readonly : Bool) (words : KeyWords) → Quiet (TryRow line slot readonly words)
+pub quiet_trial : (line : List ℕ) (slot : Option ℕ) (readonly : Bool) (words : KeyWords) → Quiet (TryRow line slot readonly words)
 quiet_trial line slot readonly words =
     quiet_then ReadsLastSector _ quiet_reading
     (λ m. quiet_then (Admits m slot) _ (λ old answer new h. same_disk old.disk new.disk (ap (λ (r : Reach). r.disk) h.1))

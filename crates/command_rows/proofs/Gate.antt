@@ -8,7 +8,7 @@ use Rattle.command_rows.specs.Answer.{Answer}
 use Rattle.command_rows.specs.Answer as answers
 use Rattle.command_rows.specs.Gate.{ASuspended, AnAttached, AnIdle, AnyOne, Needs, NoIdle, NoSuspended, needs, refused_by}
 use Rattle.command_rows.specs.Turn.{GoesThrough, IsRefused, Serves}
-use Rattle.command_rows.specs.World.{AttachedWith, Attachment, Holding, Idle, IsAttached, IsSuspended, Reach, attachment_in}
+use Rattle.command_rows.specs.World.{AttachedWith, Attachment, Holding, Idle, IsAttached, IsSuspended, Kept, Reach, SuspendedWith, attachment_in}
 
 -- ---- what is attached
 
@@ -29,6 +29,16 @@ unattached holding Without With is h = subst (λ (o : Option Attachment). MatchO
 pub attached : (holding : Holding) (Without : Type 0) (With : Attachment → Type 0) (a : Attachment) → holding ≡ IsAttached a → With a → MatchOption (attachment_in holding) Without With
 attached holding Without With a is h = subst (λ (x : Holding). MatchOption (attachment_in x) Without With) (sym is) h
 
+-- ---- what is suspended
+
+pub with_suspended : (holding : Holding) (Holds : Kept → Type 0) (Claim : Type 0) → ((kept : Kept) → holding ≡ IsSuspended kept → Holds kept → Claim) → SuspendedWith holding Holds → Claim
+with_suspended Idle Holds Claim with h = absurd h
+with_suspended (IsAttached a) Holds Claim with h = absurd h
+with_suspended (IsSuspended kept) Holds Claim with h = with kept refl h
+
+pub suspended : (holding : Holding) (Holds : Kept → Type 0) (kept : Kept) → holding ≡ IsSuspended kept → Holds kept → SuspendedWith holding Holds
+suspended holding Holds kept is h = subst (λ (x : Holding). SuspendedWith x Holds) (sym is) h
+
 -- ---- the gate
 
 by_refusal : (refused : Option Refusal) (Row : Type 0) (Refuses : Refusal → Type 0) (Claim : Type 0) → (Row → Claim) → ((refusal : Refusal) → refused ≡ Some refusal → Refuses refusal → Claim) → MatchOption refused Row Refuses → Claim
@@ -40,6 +50,16 @@ pub by_gate : (line : List ℕ) (command : Command) (old : Reach) (reply : Answe
     → ((refusal : Refusal) → refused_by (needs command) old.holding ≡ Some refusal → IsRefused old reply new refusal → Claim) → Serves line command old reply new → Claim
 by_gate line command old reply new Claim row refuses h =
     by_refusal (refused_by (needs command) old.holding) (GoesThrough line command old reply new) (IsRefused old reply new) Claim row refuses h
+
+passed_refusal : (refused : Option Refusal) (Row : Type 0) (Refuses : Refusal → Type 0) (Claim : Type 0) → (refused ≡ None → Row → Claim) → ((refusal : Refusal) → refused ≡ Some refusal → Refuses refusal → Claim) → MatchOption refused Row Refuses → Claim
+passed_refusal None Row Refuses Claim row refuses h = row refl h
+passed_refusal (Some refusal) Row Refuses Claim row refuses h = refuses refusal refl h
+
+-- the same, with what the gate says of a line that goes through its row
+pub by_passed_gate : (line : List ℕ) (command : Command) (old : Reach) (reply : Answer) (new : Reach) (Claim : Type 0) → (refused_by (needs command) old.holding ≡ None → GoesThrough line command old reply new → Claim)
+    → ((refusal : Refusal) → refused_by (needs command) old.holding ≡ Some refusal → IsRefused old reply new refusal → Claim) → Serves line command old reply new → Claim
+by_passed_gate line command old reply new Claim row refuses h =
+    passed_refusal (refused_by (needs command) old.holding) (GoesThrough line command old reply new) (IsRefused old reply new) Claim row refuses h
 
 -- by which refusals
 pub gate_refusals : (wanted : Needs) (holding : Holding) (refusal : Refusal) → refused_by wanted holding ≡ Some refusal

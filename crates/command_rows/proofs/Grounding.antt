@@ -51,6 +51,12 @@ plain_cause line command old (refusals.CabinetFault word) new plain ground = abs
 plain_cause line command old (refusals.FileAbsent word) new plain ground = absurd plain
 plain_cause line command old (refusals.FileTooLong word limit) new plain ground = absurd plain
 plain_cause line command old refusals.NoMemory new plain ground = absurd plain
+plain_cause line command old refusals.QueueFull new plain ground = absurd plain
+plain_cause line command old (refusals.NoRequest tag) new plain ground = absurd plain
+plain_cause line command old (refusals.RequestNotDone tag left) new plain ground = absurd plain
+plain_cause line command old (refusals.RequestDone tag) new plain ground = absurd plain
+plain_cause line command old (refusals.RequestsOpen count) new plain ground = absurd plain
+plain_cause line command old refusals.NotAuthenticated new plain ground = absurd plain
 plain_cause line command old refusal new plain ground = (plain, ground)
 
 pub decides_why : {A : Type 0} (line : List ℕ) (command : Command) (start : Reach) (decided : Result A Refusal) (old : Reach) (answer : Result A Refusal) (new : Reach) → PlainAnswer decided → Grounds line command start (λ refusal. decided ≡ Err refusal)

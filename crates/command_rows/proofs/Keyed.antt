@@ -19,7 +19,7 @@ use Rattle.user_key.specs.Derivation.{user_key}
 use Rattle.user_key.specs.declared.components.KeyFault.{KeyFault}
 use Rattle.user_key.specs.declared.components.UserKey.{UserKey}
 use Rattle.command_rows.specs.Steps.{GoesOn, admitted, attachment_by, or_refusal, or_wrong_key, settings_for_size, tried, unless_faulty}
-use Rattle.command_rows.specs.Turn.{TryRow}
+use Rattle.command_rows.specs.Trying.{TryRow}
 use Rattle.command_rows.specs.World.{Attachment, Reach}
 use Rattle.command_rows.proofs.Causing.{Step}
 

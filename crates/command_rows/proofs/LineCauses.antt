@@ -7,17 +7,20 @@ use Rattle.eli_base.specs.declared.refusals.Refusal.{Refusal}
 use Rattle.eli_base.specs.declared.refusals.Refusal.TheVariants as refusals
 use Rattle.command_rows.specs.Answer as answers
 use Rattle.command_rows.specs.Causes.{Caused, CausedAt, HasCause}
-use Rattle.command_rows.specs.Turn.{ChangesAt, GoesThrough, ListsAs, Serves, Turn, digest_or, done_or, dump_or, payload_or, reach}
+use Rattle.command_rows.specs.Turn.{ChangesAt, GoesThrough, ListsAs, Serves, Turn, digest_or, done_or, dump_or, left_or, payload_or, reach, verified_or, reaped_or, tag_or}
 use Rattle.command_rows.specs.World.{DrawerState, Reach, World}
 use Rattle.command_rows.proofs.Causing.{Why, detach_why, flush_why, gate_why, read_why, write_why}
 use Rattle.command_rows.proofs.KeyCauses.{delkey_why, setkey_why}
 use Rattle.command_rows.proofs.PlaceCauses.{backup_why, kill_why, resize_why, restore_why}
 use Rattle.command_rows.proofs.ProviderCauses.{attach_why, dump_why, init_why}
+use Rattle.command_rows.proofs.VerifyCauses.{verify_why}
+use Rattle.command_rows.proofs.SuspendCauses.{resume_why, suspend_why}
+use Rattle.command_rows.proofs.QueueingCauses.{reap_why, step_why, submit_why}
 use Rattle.command_rows.proofs.WorkloadCauses.{fill_why, sum_why}
 use Rattle.command_rows.proofs.Untouched.{get-set}
-use Rattle.command_rows.proofs.Gate.{by_gate, with_attached}
+use Rattle.command_rows.proofs.Gate.{by_gate, with_attached, with_suspended}
 use Rattle.command_rows.proofs.Turns.{by_turn}
-use Rattle.command_rows.proofs.Replies.{Replying, digest_replying, done_replying, dump_replying, payload_replying, refused_by_row}
+use Rattle.command_rows.proofs.Replies.{Replying, digest_replying, done_replying, dump_replying, left_replying, payload_replying, reaped_replying, refused_by_row, verified_replying, tag_replying}
 use Rattle.command_rows.specs.Answer.{Answer}
 
 -- ---- the lines
@@ -64,6 +67,25 @@ row_why line (commands.Fill prov seed start count) old refusal new h =
 row_why line (commands.Sum prov start count) old refusal new h =
     with_attached old.holding _ (HasCause line (commands.Sum prov start count) old refusal new)
     (λ a is row. row_refused line (commands.Sum prov start count) digest_or old row.answer new refusal digest_replying row.replied (sum_why line prov start count a old row.answer new is row.row)) h
+row_why line (commands.Submit prov job) old refusal new h =
+    with_attached old.holding _ (HasCause line (commands.Submit prov job) old refusal new)
+    (λ a is row. row_refused line (commands.Submit prov job) tag_or old row.answer new refusal tag_replying row.replied (submit_why line prov job a old row.answer new is row.row)) h
+row_why line (commands.Step prov tag) old refusal new h =
+    with_attached old.holding _ (HasCause line (commands.Step prov tag) old refusal new)
+    (λ a is row. row_refused line (commands.Step prov tag) left_or old row.answer new refusal left_replying row.replied (step_why line prov tag a old row.answer new is row.row)) h
+row_why line (commands.Reap prov tag) old refusal new h =
+    with_attached old.holding _ (HasCause line (commands.Reap prov tag) old refusal new)
+    (λ a is row. row_refused line (commands.Reap prov tag) reaped_or old row.answer new refusal reaped_replying row.replied (reap_why line prov tag a old row.answer new is row.row)) h
+row_why line (commands.Suspend prov) old refusal new h =
+    with_attached old.holding _ (HasCause line (commands.Suspend prov) old refusal new)
+    (λ a is row. row_refused line (commands.Suspend prov) done_or old row.answer new refusal done_replying row.replied (suspend_why line prov a old row.answer new is row.row)) h
+row_why line (commands.Resume prov words) old refusal new h =
+    with_suspended old.holding _ (HasCause line (commands.Resume prov words) old refusal new)
+    (λ kept is row. row_refused line (commands.Resume prov words) done_or old row.answer new refusal done_replying row.replied (resume_why line prov words kept old row.answer new is row.row)) h
+row_why line (commands.Verify prov file count restart) old refusal new h =
+    let command : Command = commands.Verify prov file count restart in
+    with_attached old.holding _ (HasCause line command old refusal new)
+    (λ a is row. row_refused line command verified_or old row.answer new refusal verified_replying row.replied (verify_why line prov file count restart a old row.answer new is row.row)) h
 row_why line _ old refusal new h = absurd h
 
 same_refusal : (refusal found : Refusal) → answers.Refused refusal ≡ answers.Refused found → found ≡ refusal

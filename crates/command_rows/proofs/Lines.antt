@@ -1,8 +1,9 @@
 -- The events of each line.
-use Rattle.std.proofs.Common.{◌≡◌, ℕ, List, Bool, false, Result, Err, [], ap, subst, sym}
+use Rattle.std.proofs.Common.{◌≡◌, ℕ, List, Bool, false, Result, Err, [], ◌∷◌, ap, subst, sym}
 use Rattle.std.specs.Prelude.{is_some}
 use Rattle.block_traits.specs.Disk.{DiskState, Logs}
 use Rattle.block_traits.specs.declared.disk.Event.{Event}
+use Rattle.block_traits.specs.declared.disk.Event.TheVariants.{Flush}
 use Rattle.command_words.specs.Places.{bytes_at}
 use Rattle.command_words.specs.declared.commands.Command.{Command}
 use Rattle.command_words.specs.declared.commands.Command.TheVariants as commands
@@ -10,15 +11,18 @@ use Rattle.eli_base.specs.declared.refusals.Refusal.{Refusal}
 use Rattle.command_rows.specs.Answer.{Answer}
 use Rattle.command_rows.specs.Answer as answers
 use Rattle.command_rows.specs.Digits.{bytes_spelled}
-use Rattle.command_rows.specs.Histories.{AreRowEvents, EventsBy, WritesData, WritesWorkload, stores_last}
-use Rattle.command_rows.specs.Turn.{GoesThrough, IsRefused, Serves, digest_or, done_or, dump_or, payload_or}
+use Rattle.command_rows.specs.Histories.{AreRowEvents, DoesNext, EventsBy, WritesData, WritesWorkload, stores_last}
+use Rattle.command_rows.specs.Turn.{GoesThrough, IsRefused, Serves, digest_or, done_or, dump_or, left_or, payload_or, verified_or, reaped_or, tag_or}
 use Rattle.command_rows.specs.World.{Holding, IsAttached, Reach}
 use Rattle.command_rows.proofs.Events.{Did, ResultEvents, detaches_did, flushes_did, init_did, nothing_done, quiet_attach_row, quiet_did, quiet_read_row, quiet_reading, same_disk, writes_did}
 use Rattle.command_rows.proofs.KeyEvents.{delkey_did, setkey_did}
 use Rattle.command_rows.proofs.PlaceEvents.{kill_did, quiet_backup_row, resize_did, restore_did}
+use Rattle.command_rows.proofs.VerifyEvents.{quiet_verify_row}
+use Rattle.command_rows.proofs.SuspendEvents.{quiet_resume_row, suspends_did}
+use Rattle.command_rows.proofs.QueueingEvents.{quiet_reap_row, quiet_submit_row, step_did}
 use Rattle.command_rows.proofs.WorkloadEvents.{fill_did, quiet_sum_row}
-use Rattle.command_rows.proofs.Gate.{by_gate, with_attached}
-use Rattle.command_rows.proofs.Replies.{IsServed, Replying, digest_replying, done_replying, dump_replying, of_reply, payload_replying}
+use Rattle.command_rows.proofs.Gate.{by_gate, with_attached, with_suspended}
+use Rattle.command_rows.proofs.Replies.{IsServed, Replying, digest_replying, done_replying, dump_replying, left_replying, of_reply, payload_replying, verified_replying, reaped_replying, tag_replying}
 
 -- ---- the lines
 
@@ -76,6 +80,25 @@ row_did line (commands.Fill prov seed start count) old said new h =
 row_did line (commands.Sum prov start count) old said new h =
     with_attached old.holding _ (LineDid (λ events. events ≡ []) false said old.disk new.disk)
     (λ a is row. reply_line digest_or _ false row.answer said old.disk new.disk digest_replying row.replied (quiet_did false old.disk row.answer new.disk (quiet_sum_row start count a old row.answer new row.row))) h
+row_did line (commands.Submit prov job) old said new h =
+    with_attached old.holding _ (LineDid (λ events. events ≡ []) false said old.disk new.disk)
+    (λ a is row. reply_line tag_or _ false row.answer said old.disk new.disk tag_replying row.replied (quiet_did false old.disk row.answer new.disk (quiet_submit_row line job a old row.answer new row.row))) h
+row_did line (commands.Step prov tag) old said new h =
+    with_attached old.holding _ (LineDid (DoesNext old.holding tag) false said old.disk new.disk)
+    (λ a is row. subst (λ (x : Holding). LineDid (DoesNext x tag) false said old.disk new.disk) (sym is)
+    (reply_line left_or (DoesNext (IsAttached a) tag) false row.answer said old.disk new.disk left_replying row.replied (step_did tag a old row.answer new row.row))) h
+row_did line (commands.Reap prov tag) old said new h =
+    with_attached old.holding _ (LineDid (λ events. events ≡ []) false said old.disk new.disk)
+    (λ a is row. reply_line reaped_or _ false row.answer said old.disk new.disk reaped_replying row.replied (quiet_did false old.disk row.answer new.disk (quiet_reap_row tag a old row.answer new row.row))) h
+row_did line (commands.Suspend prov) old said new h =
+    with_attached old.holding _ (LineDid (λ events. events ≡ Flush ∷ []) false said old.disk new.disk)
+    (λ a is row. reply_line done_or _ false row.answer said old.disk new.disk done_replying row.replied (suspends_did a old row.answer new row.row)) h
+row_did line (commands.Resume prov words) old said new h =
+    with_suspended old.holding _ (LineDid (λ events. events ≡ []) false said old.disk new.disk)
+    (λ kept is row. reply_line done_or _ false row.answer said old.disk new.disk done_replying row.replied (quiet_did false old.disk row.answer new.disk (quiet_resume_row line words kept old row.answer new row.row))) h
+row_did line (commands.Verify prov file count restart) old said new h =
+    with_attached old.holding _ (LineDid (λ events. events ≡ []) false said old.disk new.disk)
+    (λ a is row. reply_line verified_or _ false row.answer said old.disk new.disk verified_replying row.replied (quiet_did false old.disk row.answer new.disk (quiet_verify_row line file count restart a old row.answer new row.row))) h
 row_did line _ old said new h = absurd h
 
 -- one that is refused before its row

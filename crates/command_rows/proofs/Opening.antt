@@ -39,7 +39,7 @@ use Rattle.user_key.specs.declared.components.Components.{Components}
 use Rattle.user_key.specs.declared.components.UserKey.{UserKey}
 use Rattle.command_rows.specs.Opening.{NamesSameKey, OpensOrFails}
 use Rattle.command_rows.specs.Steps.{Admits, GoesOn, LoadsComponents, MakesProvider, Reads, Then, TriesKey, admitted, attachment_by, or_refusal, or_wrong_key, tried, unless_faulty}
-use Rattle.command_rows.specs.Turn.{TryRow}
+use Rattle.command_rows.specs.Trying.{TryRow}
 use Rattle.command_rows.specs.World.{Attachment, Reach}
 
 -- ---- what `init` leaves

@@ -52,7 +52,7 @@ backup_why line prov file old answer new h =
 -- ---- `restore`
 
 -- the one file that a step finds wrong
-wrong_file : (limit : ℕ) (line : List ℕ) (file : Span) (old : Reach) (refusal : Refusal) (new : Reach) → IfSome old.cabinet.files (λ files. Err refusal ≡ file_answer file.word limit (files (bytes_at line file))) → LoadsFile limit line file old (Err refusal) new
+pub wrong_file : (limit : ℕ) (line : List ℕ) (file : Span) (old : Reach) (refusal : Refusal) (new : Reach) → IfSome old.cabinet.files (λ files. Err refusal ≡ file_answer file.word limit (files (bytes_at line file))) → LoadsFile limit line file old (Err refusal) new
     → RefusesFile limit line file old.cabinet refusal new.cabinet
 wrong_file limit line file old refusal new told h =
     record { first = told_sym old.cabinet.files (λ files. file_answer file.word limit (files (bytes_at line file))) (Err refusal) told; named = h.word; cause = h.cause }

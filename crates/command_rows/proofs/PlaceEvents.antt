@@ -38,7 +38,7 @@ quiet_saves old before (Err refusal) bytes new h = h.reads.logs
 quiet_finding : Quiet FindsLastSector
 quiet_finding old answer new h = quiet_saves old.disk h.finds.before h.finds.read h.finds.bytes new.disk h.finds.saves
 
-quiet_storing : (line : List ℕ) (file : Span) (bytes : List ℕ) → Quiet (StoresBytes line file bytes)
+pub quiet_storing : (line : List ℕ) (file : Span) (bytes : List ℕ) → Quiet (StoresBytes line file bytes)
 quiet_storing line file bytes old answer new h = same_disk old.disk new.disk h.disk
 
 pub quiet_backup_row : (line : List ℕ) (file : Span) → Quiet (BackupRow line file)

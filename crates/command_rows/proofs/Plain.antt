@@ -26,6 +26,10 @@ use Rattle.command_rows.specs.DeleteKeys.{named_slots}
 use Rattle.command_rows.specs.Grounds.{IsGround}
 use Rattle.command_rows.specs.SetKey.{if_there, opened_by, or_wrong}
 use Rattle.command_rows.specs.Steps.{or_refusal, or_wrong_key, tried}
+use Rattle.command_rows.specs.Suspending.{same_key}
+use Rattle.command_rows.specs.World.{Attachment, Kept}
+use Rattle.sha2.specs.Sha256.{sha256}
+use Rattle.std.specs.Str.{bytes_eq}
 
 -- a refusal that is answered, or found, is a ground
 abbrev pub PlainAnswer : {A : Type 0} → Result A Refusal → Type 0
@@ -80,6 +84,13 @@ there_by slot false = tt
 pub there_plain : (slot : Option ℕ) → PlainAnswer (if_there slot)
 there_plain None = tt
 there_plain (Some slot) = there_by slot (nat_le slot 1)
+
+same_by : (same : Bool) → PlainAnswer {A = Unit {0}} (cond same (Ok tt) (Err refusals.DifferentKey))
+same_by true = tt
+same_by false = tt
+
+pub same_plain : (kept : Kept) (a : Attachment) → PlainAnswer (same_key kept a)
+same_plain kept a = same_by (bytes_eq (sha256 a.keying.master) kept.mark)
 
 wrong_plain : (found : Option (MasterKey × ℕ)) → PlainAnswer (or_wrong found)
 wrong_plain None = tt

@@ -20,7 +20,8 @@ use Rattle.command_rows.specs.Causes.{may_lack_memory}
 use Rattle.command_rows.specs.Grounds.{AreComponents, LacksMetadata, RefusesAttach, RefusesFiles, RefusesNew, RefusesTrial}
 use Rattle.command_rows.specs.NewProvider.{InitRow}
 use Rattle.command_rows.specs.Steps.{Admits, Attaches, BacksUp, LoadsComponents, MakesProvider, ReadsLastSector, Then, TriesKey, admitted, tried}
-use Rattle.command_rows.specs.Turn.{AttachRow, AttachesUnless, DumpRow, TryRow}
+use Rattle.command_rows.specs.Trying.{TryRow}
+use Rattle.command_rows.specs.Turn.{AttachRow, AttachesUnless, DumpRow}
 use Rattle.command_rows.specs.World.{Attachment, Reach}
 use Rattle.command_rows.proofs.Causing.{Why, then_since, then_why}
 use Rattle.command_rows.proofs.Grounding.{BadFiles, Grounds, Since, decides_why, loading_parts, loading_since, loading_why, plain_cause, reading_has, reading_since, reading_why, since_here, since_same, storing_why}
@@ -49,7 +50,7 @@ admitting_why line command slot readonly words m start old answer new memory bad
     (λ settings middle first next. loading_trial_why line command slot readonly words m settings start middle answer new memory bad (λ refusal trial. ground refusal (inr trial))
     (subst (λ (n : ℕ). admitted m n slot ≡ Ok settings) since.size (sym first.0)) (since_same start old middle since first.1) next) h
 
-trial_why : (line : List ℕ) (command : Command) (slot : Option ℕ) (readonly : Bool) (words : KeyWords) (old : Reach) (answer : Result Attachment Refusal) (new : Reach) → may_lack_memory command ≡ true
+pub trial_why : (line : List ℕ) (command : Command) (slot : Option ℕ) (readonly : Bool) (words : KeyWords) (old : Reach) (answer : Result Attachment Refusal) (new : Reach) → may_lack_memory command ≡ true
     → BadFiles line command old (RefusesFiles line words old.cabinet) → Grounds line command old (λ refusal. LacksMetadata old.disk refusal ⊎ RefusesAttach line slot readonly words old refusal) → TryRow line slot readonly words old answer new
     → Why line command old answer new
 trial_why line command slot readonly words old answer new memory bad ground h =
@@ -58,7 +59,7 @@ trial_why line command slot readonly words old answer new memory bad ground h =
     (λ m middle first next. admitting_why line command slot readonly words m old middle answer new memory bad
     (λ refusal is. ground refusal (inr (record { m = m; found = reading_has old m middle first; refused = is }))) (reading_since old m middle first) next) h
 
-attaching_why : (line : List ℕ) (command : Command) (start : Reach) (a : Attachment) (old : Reach) (answer : Result (Unit {0}) Refusal) (new : Reach) → may_lack_memory command ≡ true → Attaches a old answer new → Why line command start answer new
+pub attaching_why : (line : List ℕ) (command : Command) (start : Reach) (a : Attachment) (old : Reach) (answer : Result (Unit {0}) Refusal) (new : Reach) → may_lack_memory command ≡ true → Attaches a old answer new → Why line command start answer new
 attaching_why line command start a old (Ok done) new memory h = tt
 attaching_why line command start a old (Err refusals.NoMemory) new memory h = memory
 attaching_why line command start a old (Err refusal) new memory h = absurd h

@@ -1,12 +1,12 @@
 -- What the answer of a row comes to as a reply, whatever is answered, and its text.
-use Rattle.std.proofs.Common.{◌≡◌, ◌∙◌, ℕ, zero, suc, List, length, drop, refl, ap, sym, subst, Result, Ok, Err}
+use Rattle.std.proofs.Common.{◌≡◌, ◌∙◌, ℕ, zero, suc, List, length, drop, refl, ap, sym, subst, Option, Some, None, Result, Ok, Err}
 use Rattle.eli_base.specs.declared.refusals.Refusal.{Refusal}
 use Rattle.reply_text.specs.Text.{numbers_in, reply_text, verified_text}
 use Rattle.reply_text.specs.declared.reply.Reply.{Reply}
 use Rattle.reply_text.specs.declared.reply.Reply.TheVariants as replies
 use Rattle.command_rows.specs.Answer.{Answer, answer_of, answer_text}
 use Rattle.command_rows.specs.Answer as answers
-use Rattle.command_rows.specs.Turn.{digest_or, done_or, dump_or, payload_or}
+use Rattle.command_rows.specs.Turn.{digest_or, done_or, dump_or, left_or, payload_or, verified_or, reaped_or, tag_or}
 
 -- it is no refusal
 abbrev pub IsServed : Answer → Type 0
@@ -29,6 +29,22 @@ payload_replying = record { value = λ v. tt; refusal = λ r. refl }
 
 pub digest_replying : Replying digest_or
 digest_replying = record { value = λ v. tt; refusal = λ r. refl }
+
+pub tag_replying : Replying tag_or
+tag_replying = record { value = λ v. tt; refusal = λ r. refl }
+
+pub left_replying : Replying left_or
+left_replying = record { value = λ v. tt; refusal = λ r. refl }
+
+reaped_served : (given : Option (List ℕ)) → IsServed (reaped_or (Ok given))
+reaped_served (Some bytes) = tt
+reaped_served None = tt
+
+pub reaped_replying : Replying reaped_or
+reaped_replying = record { value = reaped_served; refusal = λ r. refl }
+
+pub verified_replying : Replying verified_or
+verified_replying = record { value = λ v. tt; refusal = λ r. refl }
 
 same_refusal : (found refusal : Refusal) → answers.Refused refusal ≡ answers.Refused found → found ≡ refusal
 same_refusal found refusal is = cc is

@@ -2,6 +2,7 @@
 use Rattle.std.proofs.Common.{◌≡◌, ℕ, ◌*◌, List, [], ◌∷◌, length, ap, sym, subst, arith, Bool, true, false, Option, None, Some, Result, Ok, Err}
 use Rattle.std.specs.Prelude.{ℤ, unwrap_or}
 use Rattle.std.specs.Option.{option_or}
+use Rattle.bio_queue.specs.Requests.{Request}
 use Rattle.block_traits.specs.Cabinet.{CabinetState}
 use Rattle.block_traits.specs.Streams.{EntropyState}
 use Rattle.block_traits.specs.declared.disk.Event.{Event}
@@ -33,8 +34,12 @@ use Rattle.command_rows.specs.Resizing.{MovesMetadata, ResizeRow}
 use Rattle.command_rows.specs.Restoring.{RestoreRow, WritesBack}
 use Rattle.command_rows.specs.Saving.{BackupRow, FindsLastSector}
 use Rattle.command_rows.specs.SetKey.{IsUsed, NeedsSlot, OpensSlot, SetkeyAttachedRow, SetkeyIdleRow, SetkeyRow, StoresKey, if_there, opened_by, usable}
-use Rattle.command_rows.specs.Steps.{Admits, BacksUp, Decides, Detaches, Does, GoesOn, LoadsComponents, LoadsFile, MakesProvider, NeedsSectors, NeedsWhole, NeedsWritable, ReadsLastSector, ReadsSectors, StoresBytes, Then, TriesKey, admitted, if_writable, in_range, tried, whole_sectors}
-use Rattle.command_rows.specs.Turn.{AttachRow, AttachesUnless, ChangesAt, DetachRow, DumpRow, FlushRow, GoesThrough, IsRefused, ListsAs, ReadRow, Replies, Serves, TryRow, Turn, WriteRow, digest_or, done_or, dump_or, payload_or, reach}
+use Rattle.command_rows.specs.Steps.{Admits, Attaches, BacksUp, Decides, Detaches, Does, GoesOn, LoadsComponents, LoadsFile, MakesProvider, NeedsSectors, NeedsWhole, NeedsWritable, ReadsLastSector, ReadsSectors, StoresBytes, Then, TriesKey, admitted, if_writable, in_range, tried, whole_sectors}
+use Rattle.command_rows.specs.Trying.{TryRow}
+use Rattle.command_rows.specs.Turn.{AttachRow, AttachesUnless, ChangesAt, DetachRow, DumpRow, FlushRow, GoesThrough, IsRefused, ListsAs, ReadRow, Replies, Serves, Turn, WriteRow, digest_or, done_or, dump_or, left_or, payload_or, reach, verified_or, reaped_or, tag_or}
+use Rattle.command_rows.specs.Verifying.{FindsPlace, LoadsPlace, NeedsPlace, NeedsTags, Sweeps, SweepsFrom, VerifyRow, if_inside, if_tagged, place_in}
+use Rattle.command_rows.specs.Queueing.{NeedsNoRequests, if_none_open}
+use Rattle.command_rows.specs.Suspending.{AttachesAgain, NeedsSameKey, ResumeRow, SuspendRow, Suspends, same_key}
 use Rattle.command_rows.specs.Workloads.{FillRow, SumRow}
 use Rattle.command_rows.specs.World.{Attachment, DrawerState, Holding, Reach, World}
 use Rattle.command_rows.proofs.Causing.{Step}
@@ -45,14 +50,18 @@ use Rattle.std.specs.Prelude.{unwrap_or, ℤ}
 use Rattle.eli_metadata.specs.Checks.{Settings}
 use Rattle.range_keys.specs.Ring.{IsKeying}
 use Rattle.command_rows.specs.Steps.{Admits, BacksUp, Decides, GoesOn, LoadsComponents, MakesProvider, NeedsSectors, NeedsWhole, NeedsWritable, ReadsLastSector, ReadsSectors, Then}
-use Rattle.command_rows.specs.Turn.{AttachRow, AttachesUnless, ChangesAt, DetachRow, FlushRow, GoesThrough, ReadRow, Serves, TryRow, WriteRow, reach}
-use Rattle.command_rows.specs.World.{Attachment, DrawerState, Holding, HoldsKeying, Idle, IsAttached, Reach, World}
-use Rattle.command_rows.proofs.Gate.{by_attachment, by_gate, with_attached}
-use Rattle.command_rows.proofs.Counting.{Counts, CountsResult, Later, Uncounted, UncountedAnswer, backing_counts, by_plain, components_counts, decision_counts, deleting_counts, detaching_counts, does_counts, file_counts, finding_counts, killing_counts, making_counts, moving_counts, range_uncounted, reading_counts, sectors_counts, setting_counts, storing_counts, then_counts, uncounted_step, unless_counts, whole_uncounted, withdrawing_counts, writable_uncounted, writing_counts}
+use Rattle.command_rows.specs.Turn.{AttachRow, AttachesUnless, ChangesAt, DetachRow, FlushRow, GoesThrough, ReadRow, Serves, WriteRow, reach}
+use Rattle.command_rows.specs.World.{Attachment, DrawerState, Holding, HoldsKeying, Idle, IsAttached, Kept, Reach, World}
+use Rattle.command_rows.proofs.Gate.{by_attachment, by_gate, with_attached, with_suspended}
+use Rattle.command_rows.proofs.Counting.{Counts, CountsResult, Later, Uncounted, UncountedAnswer, attaching_counts, backing_counts, by_plain, components_counts, decision_counts, deleting_counts, detaching_counts, does_counts, file_counts, finding_counts, killing_counts, making_counts, moving_counts, range_uncounted, reading_counts, sectors_counts, setting_counts, storing_counts, suspending_counts, then_counts, uncounted_step, unless_counts, whole_uncounted, withdrawing_counts, writable_uncounted, writing_counts}
 use Rattle.command_rows.proofs.Keyed.{GivesAttachment, attachment_keyed, try_gives}
-use Rattle.command_rows.proofs.Replies.{IsServed, Replying, digest_replying, done_replying, dump_replying, of_reply, payload_replying}
-use Rattle.command_rows.proofs.Plain.{named_plain, opened_plain, or_plain, there_plain, tried_plain}
-use Rattle.provider.specs.Attached.{media}
+use Rattle.command_rows.proofs.Replies.{IsServed, Replying, digest_replying, done_replying, dump_replying, left_replying, of_reply, payload_replying, verified_replying, reaped_replying, tag_replying}
+use Rattle.command_rows.proofs.QueueingSound.{HoldsSame, reap_counts, reap_holds, same_keyed, step_counts, step_holds, submit_counts, submit_holds}
+use Rattle.command_rows.proofs.Plain.{named_plain, opened_plain, or_plain, same_plain, there_plain, tried_plain}
+use Rattle.command_rows.proofs.SweepCounts.{loading_place_counts, sweeping_counts, tagged_uncounted}
+use Rattle.command_rows.proofs.VerifyCauses.{inside_plain, place_plain}
+use Rattle.provider.specs.Attached.{media, has_tags}
+use Rattle.range_keys.specs.Keys.{le64}
 use Rattle.user_key.specs.Derivation.{user_key}
 
 -- ---- what is attached
@@ -122,7 +131,7 @@ file_sound limit line file = sound_step (LoadsFile limit line file) (file_counts
 storing_sound : (line : List ℕ) (file : Span) (bytes : List ℕ) → Sound (StoresBytes line file bytes)
 storing_sound line file bytes = sound_step (StoresBytes line file bytes) (storing_counts line file bytes) (λ old answer new h. h.holding)
 
-backing_stays : (line : List ℕ) (backup : Option Span) (m : Metadata) (old : Reach) (answer : Result (Unit {0}) Refusal) (new : Reach) → BacksUp line backup m old answer new → new.holding ≡ old.holding
+pub backing_stays : (line : List ℕ) (backup : Option Span) (m : Metadata) (old : Reach) (answer : Result (Unit {0}) Refusal) (new : Reach) → BacksUp line backup m old answer new → new.holding ≡ old.holding
 backing_stays line None m old answer new h = ap (λ (r : Reach). r.holding) h.1
 backing_stays line (Some span) m old answer new h = h.holding
 
@@ -250,6 +259,28 @@ sum_sound start count a =
     (λ there. sound_then (ReadsSectors a start count) _ (sectors_sound a start count)
     (λ bytes. done_sound (sha256 bytes)))
 
+tags_sound : (a : Attachment) → Sound (NeedsTags a)
+tags_sound a = sound_decision (λ r. if_tagged (has_tags a.keying.auth)) (λ r. tagged_uncounted (has_tags a.keying.auth))
+
+place_sound : (restart : Bool) (line : List ℕ) (file : Span) → Sound (FindsPlace restart line file)
+place_sound true line file = done_sound 0
+place_sound false line file =
+    sound_then (LoadsPlace line file) _ (sound_step (LoadsPlace line file) (loading_place_counts line file) (λ old answer new h. h.loads.holding))
+    (λ found. sound_decision (λ r. place_in file.word found) (λ r. by_plain (place_in file.word found) (place_plain file.word found)))
+
+sweep_sound : (a : Attachment) (place count : ℕ) → Sound (SweepsFrom a place count)
+sweep_sound a place count =
+    sound_then (NeedsPlace a place) _ (sound_decision (λ r. if_inside place (media a.keying r.disk)) (λ r. by_plain (if_inside place (media a.keying r.disk)) (inside_plain place (media a.keying r.disk))))
+    (λ done. sound_step (Sweeps a place count) (sweeping_counts a place count) (λ old answer new h. h.holding))
+
+verify_sound : (line : List ℕ) (file : Span) (count : ℕ) (restart : Bool) (a : Attachment) → Sound (VerifyRow line file count restart a)
+verify_sound line file count restart a =
+    sound_then (NeedsTags a) _ (tags_sound a)
+    (λ done. sound_then (FindsPlace restart line file) _ (place_sound restart line file)
+    (λ place. sound_then (SweepsFrom a place count) _ (sweep_sound a place count)
+    (λ part. sound_then (StoresBytes line file (le64 part.next)) _ (storing_sound line file (le64 part.next))
+    (λ stored. done_sound part))))
+
 setkey_idle_sound : (line : List ℕ) (iterations : Option ℤ) (slot : Option ℕ) (words fresh : KeyWords) → Sound (SetkeyIdleRow line iterations slot words fresh)
 setkey_idle_sound line iterations slot words fresh =
     sound_then ReadsLastSector _ reading_sound
@@ -303,6 +334,44 @@ restore_sound line file force =
 resize_sound : (oldsize : ℕ) → Sound (ResizeRow oldsize)
 resize_sound oldsize = moving_sound oldsize
 
+open_uncounted : (queue : List Request) → UncountedAnswer (if_none_open queue)
+open_uncounted [] = tt
+open_uncounted (r ∷ queue) = tt
+
+none_open_sound : (a : Attachment) → Sound (NeedsNoRequests a)
+none_open_sound a = sound_decision (λ r. if_none_open a.queue) (λ r. open_uncounted a.queue)
+
+suspends_sound : (a : Attachment) → Sound (Suspends a)
+suspends_sound a = record { counts = suspending_counts a; keeps = λ old answer new h had. subst HoldsKeying (sym h.holding) tt }
+
+suspend_sound : (a : Attachment) → Sound (SuspendRow a)
+suspend_sound a = sound_then (NeedsNoRequests a) _ (none_open_sound a) (λ done. suspends_sound a)
+
+same_sound : (kept : Kept) (a : Attachment) → Sound (NeedsSameKey kept a)
+same_sound kept a = sound_decision (λ r. same_key kept a) (λ r. by_plain _ (same_plain kept a))
+
+again_counts : (kept : Kept) (a : Attachment) → Counts (AttachesAgain kept a)
+again_counts kept a = then_counts (NeedsSameKey kept a) _ (same_sound kept a).counts (λ done. attaching_counts a)
+
+again_keeps : (kept : Kept) (a : Attachment) (old : Reach) (answer : Result (Unit {0}) Refusal) (new : Reach) → IsKeying a.keying → AttachesAgain kept a old answer new → HoldsKeying old.holding → HoldsKeying new.holding
+again_keeps kept a old answer new is h had =
+    keeps_next (λ done. Attaches a) h.given h.middle answer new (λ done same next middle. attaches_keep false a h.middle answer new is next middle)
+    h.next ((same_sound kept a).keeps old h.given h.middle h.first had)
+
+keeps_resume_row : (line : List ℕ) (words : KeyWords) (kept : Kept) → Keeps (ResumeRow line words kept)
+keeps_resume_row line words kept old answer new h had =
+    keeps_next (λ a. AttachesAgain kept a) h.given h.middle answer new
+    (λ a is next middle. again_keeps kept a h.middle answer new (attachment_keyed a (subst GivesAttachment is (try_gives line None kept.readonly words old h.given h.middle h.first))) next middle)
+    h.next ((try_sound line None kept.readonly words).keeps old h.given h.middle h.first had)
+
+resume_sound : (line : List ℕ) (words : KeyWords) (kept : Kept) → Sound (ResumeRow line words kept)
+resume_sound line words kept = record {
+  counts =
+      then_counts (TryRow line None kept.readonly words) _ (try_sound line None kept.readonly words).counts
+      (λ a. again_counts kept a);
+  keeps = keeps_resume_row line words kept;
+}
+
 -- ---- the answers
 
 -- what a line counts where it names a drawer
@@ -328,6 +397,12 @@ pub record SoundReply (old : Reach) (reply : Answer) (new : Reach) : Type 0 wher
 sound_reply : {A : Type 0} (answer_to : Result A Refusal → Answer) (Row : Step A) (old : Reach) (reply : Answer) (new : Reach) → Replying answer_to → Sound Row → Replies answer_to Row old reply new → SoundReply old reply new
 sound_reply answer_to Row old reply new replying sound h = record { counts = by_reply answer_to h.answer old reply new replying h.replied (sound.counts old h.answer new h.row); keeps = sound.keeps old h.answer new h.row }
 
+-- a row that leaves a provider with the same keying attached
+attached_reply : {A : Type 0} (answer_to : Result A Refusal → Answer) (Row : Step A) (a : Attachment) (old : Reach) (reply : Answer) (new : Reach) → Replying answer_to → Counts Row → old.holding ≡ IsAttached a → (h : Replies answer_to Row old reply new)
+    → HoldsSame a new.holding → SoundReply old reply new
+attached_reply answer_to Row a old reply new replying counts is h same =
+    record { counts = by_reply answer_to h.answer old reply new replying h.replied (counts old h.answer new h.row); keeps = same_keyed a old.holding new.holding is same }
+
 -- ---- a line
 
 row_sound : (line : List ℕ) (command : Command) (old : Reach) (reply : Answer) (new : Reach) → GoesThrough line command old reply new → SoundReply old reply new
@@ -347,6 +422,17 @@ row_sound line (commands.Restore file prov force) old reply new h = sound_reply 
 row_sound line (commands.Resize prov oldsize) old reply new h = sound_reply done_or _ old reply new done_replying (resize_sound oldsize) h
 row_sound line (commands.Fill prov seed start count) old reply new h = with_attached old.holding _ (SoundReply old reply new) (λ a is row. sound_reply done_or _ old reply new done_replying (fill_sound seed start count a) row) h
 row_sound line (commands.Sum prov start count) old reply new h = with_attached old.holding _ (SoundReply old reply new) (λ a is row. sound_reply digest_or _ old reply new digest_replying (sum_sound start count a) row) h
+row_sound line (commands.Submit prov job) old reply new h =
+    with_attached old.holding _ (SoundReply old reply new)
+    (λ a is row. attached_reply tag_or _ a old reply new tag_replying (submit_counts line job a) is row (submit_holds line job a old row.answer new is row.row)) h
+row_sound line (commands.Step prov tag) old reply new h =
+    with_attached old.holding _ (SoundReply old reply new) (λ a is row. attached_reply left_or _ a old reply new left_replying (step_counts tag a) is row (step_holds tag a old row.answer new is row.row)) h
+row_sound line (commands.Reap prov tag) old reply new h =
+    with_attached old.holding _ (SoundReply old reply new) (λ a is row. attached_reply reaped_or _ a old reply new reaped_replying (reap_counts tag a) is row (reap_holds tag a old row.answer new is row.row)) h
+row_sound line (commands.Suspend prov) old reply new h = with_attached old.holding _ (SoundReply old reply new) (λ a is row. sound_reply done_or _ old reply new done_replying (suspend_sound a) row) h
+row_sound line (commands.Resume prov words) old reply new h = with_suspended old.holding _ (SoundReply old reply new) (λ kept is row. sound_reply done_or _ old reply new done_replying (resume_sound line words kept) row) h
+row_sound line (commands.Verify prov file count restart) old reply new h =
+    with_attached old.holding _ (SoundReply old reply new) (λ a is row. sound_reply verified_or _ old reply new verified_replying (verify_sound line file count restart a) row) h
 row_sound line _ old reply new h = absurd h
 
 gate_uncounted : (wanted : Needs) (holding : Holding) (refusal : Refusal) → refused_by wanted holding ≡ Some refusal → Uncounted refusal

@@ -1,18 +1,23 @@
 -- Why a line is refused, whatever its row.
-use Rattle.std.specs.Prelude.{◌≡◌, ℕ, ◌+◌, ◌*◌, ◌<◌, List, length, Bool, true, false, IsTrue, MatchOption, Option, Some, Ok, Err, slice_get}
+use Rattle.std.specs.Prelude.{◌≡◌, ℕ, ◌+◌, ◌*◌, ◌<◌, ◌≤◌, List, length, Bool, true, false, IsTrue, MatchOption, Option, Some, Ok, Err, slice_get}
+use Rattle.bio_queue.specs.Answers.{HasBadUnit, IsAllDone, IsNotDone}
+use Rattle.bio_queue.specs.Requests.{Request, left_of, request_with}
 use Rattle.block_traits.specs.Causes.{Rose}
 use Rattle.block_traits.specs.Disk.{DiskState}
 use Rattle.command_words.specs.Places.{bytes_at, provider_of}
 use Rattle.command_words.specs.declared.commands.Command.{Command}
 use Rattle.command_words.specs.declared.commands.Command.TheVariants as commands
+use Rattle.command_words.specs.declared.commands.JobWords.{JobWords}
+use Rattle.command_words.specs.declared.commands.JobWords.TheVariants as jobs
 use Rattle.command_words.specs.declared.spans.Span.{Span}
 use Rattle.eli_base.specs.declared.refusals.Refusal.{Refusal}
 use Rattle.eli_base.specs.declared.refusals.Refusal.TheVariants as refusals
-use Rattle.provider.specs.Attached.{media}
+use Rattle.provider.specs.Attached.{has_tags, media}
 use Rattle.provider.specs.Reading.{ReadsAs}
 use Rattle.command_rows.specs.Digits.{bytes_spelled}
 use Rattle.command_rows.specs.Gate.{needs, refused_by}
 use Rattle.command_rows.specs.Grounds.{FindsBadFile, HasGround, IsGround}
+use Rattle.command_rows.specs.Queueing.{HasRequest}
 use Rattle.command_rows.specs.Steps.{whole_sectors}
 use Rattle.command_rows.specs.Turn.{reach}
 use Rattle.command_rows.specs.World.{AttachedWith, Attachment, DrawerState, Reach, World, place_of}
@@ -25,19 +30,47 @@ may_lack_memory (commands.Setkey prov iterations slot old fresh) = true
 may_lack_memory (commands.Backup prov file) = true
 may_lack_memory (commands.Restore file prov force) = true
 may_lack_memory commands.List = true
+may_lack_memory (commands.Submit prov job) = true
+may_lack_memory (commands.Resume prov words) = true
+may_lack_memory (commands.Verify prov file count restart) = true
 may_lack_memory command = false
 
--- whether a command is refused by a provider that is only read
+-- whether a request is refused by a provider that is only read
+abbrev pub job_writes : JobWords → Bool
+job_writes (jobs.Read sector count) = false
+job_writes (jobs.Write sector hex) = true
+job_writes jobs.Flush = false
+
+-- whether a command is
 abbrev pub writes_data : Command → Bool
 writes_data (commands.Write prov sector hex) = true
 writes_data (commands.Fill prov seed start count) = true
+writes_data (commands.Submit prov job) = job_writes job
 writes_data command = false
+
+-- the bytes that a request asks for are so many
+abbrev pub JobAsksBytes : List ℕ → JobWords → ℕ → Attachment → Type 0
+JobAsksBytes line (jobs.Read sector count) bytes a = bytes ≡ count * a.keying.sectorsize
+JobAsksBytes line (jobs.Write sector hex) bytes a = bytes ≡ length (bytes_spelled (bytes_at line hex))
+JobAsksBytes line jobs.Flush bytes a = ⊥
+
+-- whether a command is refused by a provider without authentication
+abbrev pub needs_tags : Command → Bool
+needs_tags (commands.Verify prov file count restart) = true
+needs_tags command = false
 
 -- the bytes that a line asks for at once are so many
 abbrev pub AsksBytes : List ℕ → Command → ℕ → Attachment → Type 0
 AsksBytes line (commands.Read prov sector count) bytes a = bytes ≡ count * a.keying.sectorsize
 AsksBytes line (commands.Write prov sector hex) bytes a = bytes ≡ length (bytes_spelled (bytes_at line hex))
+AsksBytes line (commands.Submit prov job) bytes a = JobAsksBytes line job bytes a
 AsksBytes line command bytes a = ⊥
+
+-- the sectors that a request asks for are so many from this one on
+abbrev pub JobAsksSectors : List ℕ → JobWords → ℕ → ℕ → Attachment → Type 0
+JobAsksSectors line (jobs.Read sector count) first many a = (first ≡ sector) × (whole_sectors a.keying.sectorsize (count * a.keying.sectorsize) ≡ Ok many)
+JobAsksSectors line (jobs.Write sector hex) first many a = (first ≡ sector) × (whole_sectors a.keying.sectorsize (length (bytes_spelled (bytes_at line hex))) ≡ Ok many)
+JobAsksSectors line jobs.Flush first many a = ⊥
 
 -- the sectors that a line asks for are so many from this one on
 abbrev pub AsksSectors : List ℕ → Command → ℕ → ℕ → Attachment → Type 0
@@ -45,6 +78,7 @@ AsksSectors line (commands.Read prov sector count) first many a = (first ≡ sec
 AsksSectors line (commands.Write prov sector hex) first many a = (first ≡ sector) × (whole_sectors a.keying.sectorsize (length (bytes_spelled (bytes_at line hex))) ≡ Ok many)
 AsksSectors line (commands.Fill prov seed start count) first many a = (first ≡ start) × (many ≡ count)
 AsksSectors line (commands.Sum prov start count) first many a = (first ≡ start) × (many ≡ count)
+AsksSectors line (commands.Submit prov job) first many a = JobAsksSectors line job first many a
 AsksSectors line command first many a = ⊥
 
 -- the bytes are no whole sectors, or too many
@@ -64,10 +98,28 @@ pub record ReadsFault (a : Attachment) (sector count : ℕ) (disk : DiskState) (
   pub whole : whole_sectors a.keying.sectorsize (count * a.keying.sectorsize) ≡ Ok sectors
   pub reads : ReadsAs disk a.keying sector sectors (Err offset)
 
+-- the request with this tag is done, and has a unit that was read with another tag than its cipher text: the first one at this offset
+pub record HasReadFault (tag offset : ℕ) (a : Attachment) : Type 0 where
+  pub request : Request
+  pub found : request_with tag a.queue ≡ Some request
+  pub none : left_of request ≡ 0
+  pub bad : HasBadUnit a.keying request.job request.device offset
+
 abbrev pub FindsFault : Command → DiskState → ℕ → Attachment → Type 0
 FindsFault (commands.Read prov sector count) disk offset a = ReadsFault a sector count disk offset
 FindsFault (commands.Sum prov start count) disk offset a = ReadsAs disk a.keying start count (Err offset)
+FindsFault (commands.Reap prov tag) disk offset a = HasReadFault tag offset a
 FindsFault command disk offset a = ⊥
+
+-- for this a line is refused by the open requests: as many are open as may be, none has the tag, units are left of it, or none is
+abbrev pub FindsInQueue : Command → DiskState → Refusal → Attachment → Type 0
+FindsInQueue (commands.Submit prov job) disk refusals.QueueFull a = length a.queue ≡ 32
+FindsInQueue (commands.Step prov named) disk (refusals.NoRequest tag) a = (tag ≡ named) × (¬ HasRequest a tag disk)
+FindsInQueue (commands.Step prov named) disk (refusals.RequestDone tag) a = (tag ≡ named) × IsAllDone tag a.queue
+FindsInQueue (commands.Reap prov named) disk (refusals.NoRequest tag) a = (tag ≡ named) × (¬ HasRequest a tag disk)
+FindsInQueue (commands.Reap prov named) disk (refusals.RequestNotDone tag left) a = (tag ≡ named) × IsNotDone tag left a.queue
+FindsInQueue (commands.Suspend prov) disk (refusals.RequestsOpen count) a = (count ≡ length a.queue) × (1 ≤ count)
+FindsInQueue command disk refusal a = ⊥
 
 -- the cause of a refusal of a line that names a drawer, by what the line reached before and after
 abbrev pub HasCause : List ℕ → Command → Reach → Refusal → Reach → Type 0
@@ -79,12 +131,18 @@ HasCause line command old refusals.ReadOnly new = IsTrue (writes_data command) �
 HasCause line command old (refusals.OutOfRange sector count there) new = AttachedWith old.holding (PassesEnd line command old.disk sector count there)
 HasCause line command old (refusals.BadLength given size) new = AttachedWith old.holding (HasBadLength line command given size)
 HasCause line command old (refusals.Integrity offset) new = AttachedWith old.holding (FindsFault command old.disk offset)
+HasCause line command old refusals.NotAuthenticated new = IsTrue (needs_tags command) × AttachedWith old.holding (λ a. has_tags a.keying.auth ≡ false)
 HasCause line command old refusals.DeviceFault new = Rose old.disk.faults new.disk.faults
 HasCause line command old refusals.EntropyFault new = Rose old.entropy.faults new.entropy.faults
 HasCause line command old (refusals.CabinetFault word) new = Rose old.cabinet.faults new.cabinet.faults
 HasCause line command old (refusals.FileAbsent word) new = FindsBadFile line command old.holding old.cabinet (refusals.FileAbsent word) new.cabinet
 HasCause line command old (refusals.FileTooLong word limit) new = FindsBadFile line command old.holding old.cabinet (refusals.FileTooLong word limit) new.cabinet
 HasCause line command old refusals.NoMemory new = IsTrue (may_lack_memory command)
+HasCause line command old refusals.QueueFull new = AttachedWith old.holding (FindsInQueue command old.disk refusals.QueueFull)
+HasCause line command old (refusals.NoRequest tag) new = AttachedWith old.holding (FindsInQueue command old.disk (refusals.NoRequest tag))
+HasCause line command old (refusals.RequestNotDone tag left) new = AttachedWith old.holding (FindsInQueue command old.disk (refusals.RequestNotDone tag left))
+HasCause line command old (refusals.RequestDone tag) new = AttachedWith old.holding (FindsInQueue command old.disk (refusals.RequestDone tag))
+HasCause line command old (refusals.RequestsOpen count) new = AttachedWith old.holding (FindsInQueue command old.disk (refusals.RequestsOpen count))
 HasCause line command old refusal new = IsGround refusal × HasGround line command old refusal
 
 -- the same of the drawer at a place

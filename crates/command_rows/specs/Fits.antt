@@ -1,7 +1,11 @@
 -- What a line finds where nothing refuses it, in a drawer and a cabinet that tell what they hold.
-use Rattle.std.specs.Prelude.{◌≡◌, ℕ, ℤ, ◌+◌, ◌*◌, ◌≤◌, Bool, false, List, length, Option, Some, None, unwrap_or, Ok, Err, slice_get, MatchOption}
+use Rattle.std.specs.Prelude.{◌≡◌, ℕ, ℤ, ◌+◌, ◌*◌, ◌<◌, ◌≤◌, Bool, true, false, List, [], length, Option, Some, None, unwrap_or, Ok, Err, slice_get, MatchOption}
+use Rattle.std.specs.Int.{from_le_bytes, w64}
 use Rattle.std.specs.Option.{option_or}
 use Rattle.backup_restore.specs.Restoring.{restored}
+use Rattle.bio_queue.specs.Answers.{HasBadUnit}
+use Rattle.bio_queue.specs.Owners.{IsOf}
+use Rattle.bio_queue.specs.Requests.{Request, left_of, request_with}
 use Rattle.block_traits.specs.Cabinet.{CabinetState, Files}
 use Rattle.block_traits.specs.Causes.{Rose}
 use Rattle.block_traits.specs.Content.{Content, present}
@@ -9,6 +13,8 @@ use Rattle.block_traits.specs.Disk.{DiskState, last_sector}
 use Rattle.command_words.specs.Places.{bytes_at}
 use Rattle.command_words.specs.declared.commands.Command.{Command}
 use Rattle.command_words.specs.declared.commands.Command.TheVariants as commands
+use Rattle.command_words.specs.declared.commands.JobWords.{JobWords}
+use Rattle.command_words.specs.declared.commands.JobWords.TheVariants as jobs
 use Rattle.command_words.specs.declared.spans.KeyWords.{KeyWords}
 use Rattle.command_words.specs.declared.spans.Span.{Span}
 use Rattle.eli_base.specs.declared.parameters.MasterKey.{MasterKey}
@@ -23,7 +29,7 @@ use Rattle.key_commands.specs.declared.overwriting.Which.{Which}
 use Rattle.key_components.specs.Answers.{file_answer}
 use Rattle.key_components.specs.Files.{file_limit}
 use Rattle.key_components.specs.Key.{components_of}
-use Rattle.provider.specs.Attached.{media}
+use Rattle.provider.specs.Attached.{has_tags, media}
 use Rattle.provider.specs.Reading.{ReadsAs}
 use Rattle.resize_kill.specs.Resizing.{old_place, old_refusal, size_refusal}
 use Rattle.user_key.specs.Derivation.{user_key}
@@ -34,8 +40,10 @@ use Rattle.command_rows.specs.Gate.{needs, refused_by}
 use Rattle.command_rows.specs.NewProvider.{iterations_of}
 use Rattle.command_rows.specs.SetKey.{if_there, opened_by, usable}
 use Rattle.command_rows.specs.Steps.{admitted, tried, whole_sectors}
+use Rattle.command_rows.specs.Suspending.{same_key}
 use Rattle.command_rows.specs.Turn.{reach}
-use Rattle.command_rows.specs.World.{AttachedWith, Attachment, DrawerState, Holding, Reach, World, attachment_in, place_of}
+use Rattle.command_rows.specs.Verifying.{place_size}
+use Rattle.command_rows.specs.World.{AttachedWith, Attachment, DrawerState, Holding, Kept, Reach, SuspendedWith, World, attachment_in, place_of}
 
 -- the disk tells its content, of which a sector is read as these metadata
 pub record ShowsMetadataAt (disk : DiskState) (place : ℕ) (m : Metadata) : Type 0 where
@@ -81,6 +89,11 @@ pub record FindsKey (line : List ℕ) (slot : Option ℕ) (readonly : Bool) (wor
   pub names : NamesParts line words old.cabinet parts
   pub a : Attachment
   pub opens : tried m settings slot readonly (user_key parts m.salt m.iterations) ≡ Ok a
+
+-- `resume`: the same of the suspended provider, and the master key is the one that it had
+pub record FindsSameKey (line : List ℕ) (words : KeyWords) (old : Reach) (kept : Kept) : Type 0 where
+  pub key : FindsKey line None kept.readonly words old
+  pub same : same_key kept key.a ≡ Ok tt
 
 -- `setkey`: the new key can be put into the slot
 pub record FindsNewKey (line : List ℕ) (iterations : Option ℤ) (slot : ℕ) (master : List ℕ) (fresh : KeyWords) (m : Metadata) (old : Reach) : Type 0 where
@@ -158,6 +171,51 @@ pub record FitsSum (start count : ℕ) (disk : DiskState) (a : Attachment) : Typ
   pub within : start + count ≤ media a.keying disk
   pub right : (offset : ℕ) → ¬ ReadsAs disk a.keying start count (Err offset)
 
+-- so many bytes are whole sectors that are there
+pub record FitsBytes (sector bytes : ℕ) (disk : DiskState) (a : Attachment) : Type 0 where
+  pub sectors : ℕ
+  pub whole : whole_sectors a.keying.sectorsize bytes ≡ Ok sectors
+  pub within : sector + sectors ≤ media a.keying disk
+
+abbrev pub FitsJob : List ℕ → JobWords → DiskState → Attachment → Type 0
+FitsJob line (jobs.Read sector count) disk a = FitsBytes sector (count * a.keying.sectorsize) disk a
+FitsJob line (jobs.Write sector hex) disk a = (a.readonly ≡ false) × FitsBytes sector (length (bytes_spelled (bytes_at line hex))) disk a
+FitsJob line jobs.Flush disk a = Unit {0}
+
+-- requests in flight: there is room for one more
+pub record FitsSubmit (line : List ℕ) (job : JobWords) (disk : DiskState) (a : Attachment) : Type 0 where
+  pub fits : FitsJob line job disk a
+  pub room : length a.queue < 32
+
+-- a request of the provider has the tag, and a unit of it is left
+pub record FitsStep (tag : ℕ) (disk : DiskState) (a : Attachment) : Type 0 where
+  pub request : Request
+  pub found : request_with tag a.queue ≡ Some request
+  pub is_of : IsOf a.keying (media a.keying disk) request
+  pub more : 1 ≤ left_of request
+
+-- a request of the provider has the tag, none of its units is left, and the tags of what was read fit
+pub record FitsReap (tag : ℕ) (disk : DiskState) (a : Attachment) : Type 0 where
+  pub request : Request
+  pub found : request_with tag a.queue ≡ Some request
+  pub is_of : IsOf a.keying (media a.keying disk) request
+  pub none : left_of request ≡ 0
+  pub right : (offset : ℕ) → ¬ HasBadUnit a.keying request.job request.device offset
+
+-- `verify`: there is authentication, and unless the sweep begins anew the cabinet tells its files, of which the named one is absent or says a place that is there
+abbrev pub SaysPlace : ℕ → Option (List ℕ) → Type 0
+SaysPlace there None = Unit {0}
+SaysPlace there (Some bytes) = (length bytes ≡ place_size) × (from_le_bytes w64 bytes ≤ there)
+
+pub record FindsPlaceTold (line : List ℕ) (file : Span) (cabinet : CabinetState) (there : ℕ) : Type 0 where
+  pub files : Files
+  pub told : cabinet.files ≡ Some files
+  pub says : SaysPlace there (files (bytes_at line file))
+
+pub record FitsVerify (line : List ℕ) (file : Span) (restart : Bool) (disk : DiskState) (cabinet : CabinetState) (a : Attachment) : Type 0 where
+  pub tagged : has_tags a.keying.auth ≡ true
+  pub place : restart ≡ false → FindsPlaceTold line file cabinet (media a.keying disk)
+
 -- by the verb; `list` names no drawer, and `eject` has no row
 abbrev pub FitsRow : List ℕ → Command → Reach → Type 0
 FitsRow line (commands.Dump prov) old = FindsMetadata old
@@ -177,6 +235,12 @@ FitsRow line (commands.Read prov sector count) old = AttachedWith old.holding (F
 FitsRow line (commands.Write prov sector hex) old = AttachedWith old.holding (FitsWrite sector (bytes_spelled (bytes_at line hex)) old.disk)
 FitsRow line (commands.Fill prov seed start count) old = AttachedWith old.holding (FitsFill start count old.disk)
 FitsRow line (commands.Sum prov start count) old = AttachedWith old.holding (FitsSum start count old.disk)
+FitsRow line (commands.Submit prov job) old = AttachedWith old.holding (FitsSubmit line job old.disk)
+FitsRow line (commands.Step prov tag) old = AttachedWith old.holding (FitsStep tag old.disk)
+FitsRow line (commands.Reap prov tag) old = AttachedWith old.holding (FitsReap tag old.disk)
+FitsRow line (commands.Suspend prov) old = AttachedWith old.holding (λ a. a.queue ≡ [])
+FitsRow line (commands.Resume prov words) old = SuspendedWith old.holding (FindsSameKey line words old)
+FitsRow line (commands.Verify prov file count restart) old = AttachedWith old.holding (FitsVerify line file restart old.disk old.cabinet)
 FitsRow line command old = ⊥
 
 -- the drawer is such a one as the verb needs, and in it the row finds such

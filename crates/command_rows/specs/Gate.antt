@@ -34,6 +34,12 @@ needs (commands.Resize prov oldsize) = AnIdle
 needs (commands.Fill prov seed start count) = AnAttached
 needs (commands.Sum prov start count) = AnAttached
 needs (commands.Eject prov) = AnyOne
+needs (commands.Submit prov job) = AnAttached
+needs (commands.Step prov tag) = AnAttached
+needs (commands.Reap prov tag) = AnAttached
+needs (commands.Suspend prov) = AnAttached
+needs (commands.Resume prov words) = ASuspended
+needs (commands.Verify prov file count restart) = AnAttached
 
 -- why a drawer isn't such a one, if it isn't
 abbrev pub refused_by : Needs → Holding → Option Refusal

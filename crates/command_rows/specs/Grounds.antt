@@ -1,5 +1,5 @@
 -- For what the metadata, the files of a key or a backup, the image and the words of a line are like, it is refused: each verb's refusals in their order.
-use Rattle.std.specs.Prelude.{◌≡◌, ◌⊎◌, ℕ, ℤ, ◌*◌, ◌<◌, ◌≤◌, Bool, List, length, Option, Some, None, unwrap_or, IfSome, Result, Ok, Err, MatchOption}
+use Rattle.std.specs.Prelude.{◌≡◌, ◌⊎◌, ℕ, ℤ, ◌*◌, ◌<◌, ◌≤◌, Bool, false, List, length, Option, Some, None, unwrap_or, IfSome, Result, Ok, Err, MatchOption}
 use Rattle.std.specs.Option.{option_or}
 use Rattle.backup_restore.specs.Restoring.{restored}
 use Rattle.block_traits.specs.Cabinet.{CabinetState, Files}
@@ -25,6 +25,7 @@ use Rattle.key_commands.specs.declared.overwriting.Which.{Which}
 use Rattle.key_components.specs.Answers.{MayRefuse, StopsAtFile, file_answer, word_of}
 use Rattle.key_components.specs.Files.{file_limit}
 use Rattle.key_components.specs.Key.{FitsWords, components_of}
+use Rattle.provider.specs.Attached.{media}
 use Rattle.resize_kill.specs.Resizing.{old_place, old_refusal, size_refusal}
 use Rattle.user_key.specs.Derivation.{user_key}
 use Rattle.user_key.specs.declared.components.Components.{Components}
@@ -32,7 +33,9 @@ use Rattle.command_rows.specs.DeleteKeys.{named_slots, slot_of}
 use Rattle.command_rows.specs.NewProvider.{iterations_of}
 use Rattle.command_rows.specs.SetKey.{if_there, opened_by, usable}
 use Rattle.command_rows.specs.Steps.{admitted, tried}
-use Rattle.command_rows.specs.World.{Holding, Reach, attachment_in}
+use Rattle.command_rows.specs.Verifying.{if_inside, place_in, place_size}
+use Rattle.command_rows.specs.Suspending.{same_key}
+use Rattle.command_rows.specs.World.{Attachment, Holding, Kept, Reach, SuspendedWith, attachment_in, AttachedWith}
 
 -- ---- what stands on a disk
 
@@ -86,6 +89,12 @@ pub record RefusesFile (limit : ℕ) (line : List ℕ) (file : Span) (old : Cabi
   pub named : IfSome (word_of refusal) (λ word. file.word ≡ word)
   pub cause : MayRefuse limit old new refusal
 
+-- the file of a place has more bytes than a place; it isn't loaded where the sweep begins anew, and one that is absent isn't refused
+pub record RefusesLong (restart : Bool) (line : List ℕ) (file : Span) (old : CabinetState) (refusal : Refusal) (new : CabinetState) : Type 0 where
+  pub loads : restart ≡ false
+  pub long : refusal ≡ refusals.FileTooLong file.word place_size
+  pub refuses : RefusesFile place_size line file old refusal new
+
 -- `setkey` loads the files of the old key for an idle drawer alone
 abbrev pub RefusesBoth : Holding → List ℕ → KeyWords → KeyWords → CabinetState → Refusal → CabinetState → Type 0
 RefusesBoth holding line words fresh old refusal new =
@@ -97,6 +106,8 @@ FindsBadFile line (commands.Init prov cipher auth keylen sectorsize iterations a
 FindsBadFile line (commands.Attach prov only_check readonly slot words) holding old refusal new = RefusesFiles line words old refusal new
 FindsBadFile line (commands.Setkey prov iterations slot words fresh) holding old refusal new = RefusesBoth holding line words fresh old refusal new
 FindsBadFile line (commands.Restore file prov force) holding old refusal new = RefusesFile file_limit line file old refusal new
+FindsBadFile line (commands.Resume prov words) holding old refusal new = RefusesFiles line words old refusal new
+FindsBadFile line (commands.Verify prov file count restart) holding old refusal new = RefusesLong restart line file old refusal new
 FindsBadFile line command holding old refusal new = ⊥
 
 -- ---- `init`
@@ -186,6 +197,43 @@ pub record RefusesOldPlace (oldsize : ℕ) (old : Reach) (refusal : Refusal) : T
   pub read : IsReadAs old.disk (old_place oldsize) found
   pub refused : old_refusal found oldsize ≡ Some refusal
 
+-- ---- `resume`
+
+-- the metadata are admitted, and the key opens a slot that is asked for: this would be attached
+pub record OpensWith (line : List ℕ) (slot : Option ℕ) (readonly : Bool) (words : KeyWords) (old : Reach) (a : Attachment) : Type 0 where
+  pub m : Metadata
+  pub found : HasMetadata old.disk m
+  pub settings : Settings
+  pub admits : admitted m old.disk.size slot ≡ Ok settings
+  pub parts : Components
+  pub named : AreComponents old.cabinet.files line words parts
+  pub opens : tried m settings slot readonly (user_key parts m.salt m.iterations) ≡ Ok a
+
+-- the key opens another master key than the suspended provider had
+pub record OpensAnother (line : List ℕ) (words : KeyWords) (kept : Kept) (old : Reach) (refusal : Refusal) : Type 0 where
+  pub a : Attachment
+  pub opens : OpensWith line None kept.readonly words old a
+  pub refused : same_key kept a ≡ Err refusal
+
+-- the metadata aren't admitted, the key isn't, or it is another
+abbrev pub RefusesResume : List ℕ → KeyWords → Kept → Reach → Refusal → Type 0
+RefusesResume line words kept old refusal = RefusesAttach line None kept.readonly words old refusal ⊎ OpensAnother line words kept old refusal
+
+-- ---- `verify`
+
+-- the bytes say a place behind the last of so many sectors
+pub record SaysTooFar (word : ℕ) (bytes : List ℕ) (there : ℕ) (refusal : Refusal) : Type 0 where
+  pub place : ℕ
+  pub says : place_in word (Some bytes) ≡ Ok place
+  pub refused : if_inside place there ≡ Err refusal
+
+-- the file has too few bytes for a place, or says one behind the last sector of what is attached
+pub record RefusesPlace (line : List ℕ) (file : Span) (restart : Bool) (disk : DiskState) (told : Option Files) (refusal : Refusal) (a : Attachment) : Type 0 where
+  pub loads : restart ≡ false
+  pub bytes : List ℕ
+  pub named : IsFile place_size told line file bytes
+  pub refused : (place_in file.word (Some bytes) ≡ Err refusal) ⊎ SaysTooFar file.word bytes (media a.keying disk) refusal
+
 -- ---- a line
 
 -- A refusal for what the metadata, the files, the image or the words are like. The others have causes of their own: the words alone, the drawer that isn't there, what it does with its
@@ -253,4 +301,6 @@ HasGround line (commands.Kill prov) old refusal = LacksRoom old.disk refusal
 HasGround line (commands.Backup prov file) old refusal = LacksMetadata old.disk refusal
 HasGround line (commands.Restore file prov force) old refusal = RefusesBackup line file force old refusal
 HasGround line (commands.Resize prov oldsize) old refusal = (size_refusal old.disk.size oldsize ≡ Some refusal) ⊎ RefusesOldPlace oldsize old refusal
+HasGround line (commands.Resume prov words) old refusal = LacksMetadata old.disk refusal ⊎ SuspendedWith old.holding (λ kept. RefusesResume line words kept old refusal)
+HasGround line (commands.Verify prov file count restart) old refusal = AttachedWith old.holding (RefusesPlace line file restart old.disk old.cabinet.files refusal)
 HasGround line command old refusal = ⊥

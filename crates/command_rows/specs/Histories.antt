@@ -22,6 +22,7 @@ use Rattle.resize_kill.specs.Trash.{random_size}
 use Rattle.command_rows.specs.Answer.{Answer}
 use Rattle.command_rows.specs.Answer as answers
 use Rattle.command_rows.specs.Digits.{bytes_spelled}
+use Rattle.command_rows.specs.Queueing.{next_events}
 use Rattle.command_rows.specs.Turn.{takes_out}
 use Rattle.command_rows.specs.Workloads.{words_of, workload}
 use Rattle.command_rows.specs.World.{AttachedWith, DrawerState, Holding, place_of}
@@ -67,6 +68,10 @@ WritesData holding sector bytes events = AttachedWith holding (λ a. events ≡ 
 abbrev pub WritesWorkload : Holding → ℕ → ℕ → ℕ → List Event → Type 0
 WritesWorkload holding seed start count events = AttachedWith holding (λ a. events ≡ data_writes a.keying start count (workload seed (words_of a.keying.sectorsize count)))
 
+-- the next unit of the request with this tag is done
+abbrev pub DoesNext : Holding → ℕ → List Event → Type 0
+DoesNext holding tag events = AttachedWith holding (λ a. events ≡ next_events tag a.queue)
+
 -- the events of a line that is served to its end
 abbrev pub AreRowEvents : List ℕ → Command → DiskState → Holding → List Event → Type 0
 AreRowEvents line (commands.Init prov cipher auth keylen sectorsize iterations autoresize fresh backup) disk holding events = WritesMetadata disk events
@@ -79,6 +84,8 @@ AreRowEvents line (commands.Fill prov seed start count) disk holding events = Wr
 AreRowEvents line (commands.Write prov sector hex) disk holding events = WritesData holding sector (bytes_spelled (bytes_at line hex)) events
 AreRowEvents line (commands.Flush prov) disk holding events = events ≡ Flush ∷ []
 AreRowEvents line (commands.Detach prov) disk holding events = events ≡ Flush ∷ []
+AreRowEvents line (commands.Step prov tag) disk holding events = DoesNext holding tag events
+AreRowEvents line (commands.Suspend prov) disk holding events = events ≡ Flush ∷ []
 AreRowEvents line command disk holding events = events ≡ []
 
 -- the first of some row's events, or all

@@ -1,4 +1,5 @@
 pub mod Answer
+pub mod Becoming
 pub mod Causes
 pub mod Counts
 pub mod DeleteKeys
@@ -10,6 +11,7 @@ pub mod Histories
 pub mod Killing
 pub mod NewProvider
 pub mod Opening
+pub mod Queueing
 pub mod Requests
 pub mod Resizing
 pub mod Restoring
@@ -17,6 +19,9 @@ pub mod Saving
 pub mod SetKey
 pub mod Steps
 pub mod Stops
+pub mod Suspending
+pub mod Trying
 pub mod Turn
+pub mod Verifying
 pub mod Workloads
 pub mod World

@@ -1,5 +1,5 @@
 -- What the calls of a provider come to as refusals, and the bytes that were read.
-use Rattle.std.specs.Prelude.{ℕ, List, take, Result, Ok, Err}
+use Rattle.std.specs.Prelude.{ℕ, List, take, Option, Some, None, Result, Ok, Err}
 use Rattle.eli_base.specs.declared.refusals.Refusal.{Refusal}
 use Rattle.eli_base.specs.declared.refusals.Refusal.TheVariants as refusals
 use Rattle.provider.specs.declared.faults.ReadFault.{ReadFault}
@@ -26,6 +26,12 @@ handed_out bytes (Err refusal) = Err refusal
 abbrev pub bytes_read : List ℕ → Result ℕ Refusal → Result (List ℕ) Refusal
 bytes_read buffer (Ok count) = Ok (take count buffer)
 bytes_read buffer (Err refusal) = Err refusal
+
+-- the same where it may be that nothing was read
+abbrev pub bytes_given : List ℕ → Result (Option ℕ) Refusal → Result (Option (List ℕ)) Refusal
+bytes_given buffer (Ok (Some count)) = Ok (Some (take count buffer))
+bytes_given buffer (Ok None) = Ok None
+bytes_given buffer (Err refusal) = Err refusal
 
 abbrev pub read_answer : ℕ → Result (Unit {0}) ReadFault → Result ℕ Refusal
 read_answer count (Ok done) = Ok count

@@ -171,12 +171,13 @@ BacksUp line (Some span) m old answer new = StoresBytes line span (encoded m) ol
 
 -- ---- a key is tried
 
--- with what a provider is attached by these settings, with the master key of a slot
+-- with what a provider is attached by these settings, with the master key of a slot: no request is open
 abbrev pub attachment_by : Settings → Bool → MasterKey × ℕ → Attachment
 attachment_by s readonly found = record {
   slot = found.1;
   keying = record { version = s.version; auth = s.auth; cipher = s.cipher; keylen = s.keylen; sectorsize = s.sectorsize; master = found.0.bytes };
   readonly = readonly || s.readonly;
+  queue = [];
 }
 
 -- a slot that is asked for opened

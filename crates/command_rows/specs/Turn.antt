@@ -21,27 +21,23 @@ use Rattle.command_rows.specs.Digits.{bytes_spelled}
 use Rattle.command_rows.specs.Gate.{needs, refused_by}
 use Rattle.command_rows.specs.Killing.{KillRow}
 use Rattle.command_rows.specs.NewProvider.{InitRow, iterations_of}
+use Rattle.command_rows.specs.Queueing.{ReapRow, StepRow, SubmitRow}
 use Rattle.command_rows.specs.Resizing.{ResizeRow}
 use Rattle.command_rows.specs.Restoring.{RestoreRow}
 use Rattle.command_rows.specs.Saving.{BackupRow}
 use Rattle.command_rows.specs.SetKey.{SetkeyRow}
-use Rattle.command_rows.specs.Steps.{Admits, Attaches, Decides, Detaches, Does, LoadsComponents, NeedsSectors, NeedsWhole, NeedsWritable, ReadsLastSector, ReadsSectors, Then, TriesKey, WritesSectors}
+use Rattle.command_rows.specs.Steps.{Attaches, Decides, Detaches, Does, NeedsSectors, NeedsWhole, NeedsWritable, ReadsLastSector, ReadsSectors, Then, WritesSectors}
+use Rattle.command_rows.specs.Verifying.{SweptPart, VerifyRow}
+use Rattle.command_rows.specs.Suspending.{ResumeRow, SuspendRow}
+use Rattle.command_rows.specs.Trying.{TryRow}
 use Rattle.command_rows.specs.Workloads.{FillRow, SumRow}
-use Rattle.command_rows.specs.World.{AttachedWith, Attachment, DrawerState, Holding, Idle, IsAttached, IsSuspended, Reach, World, is_idle, place_of}
+use Rattle.command_rows.specs.World.{AttachedWith, Attachment, DrawerState, Holding, Idle, IsAttached, IsSuspended, Reach, SuspendedWith, World, is_idle, place_of}
 
 -- ---- the rows
 
 -- `dump`: the metadata are read
 abbrev pub DumpRow : Reach → Result Metadata Refusal → Reach → Type 0
 DumpRow old answer new = ReadsLastSector old answer new
-
--- the metadata are read and admitted, the files are loaded, and the key is tried
-abbrev pub TryRow : List ℕ → Option ℕ → Bool → KeyWords → Reach → Result Attachment Refusal → Reach → Type 0
-TryRow line slot readonly words old answer new =
-    Then ReadsLastSector
-    (λ m. Then (Admits m slot)
-    (λ settings. Then (LoadsComponents line words)
-    (λ parts. TriesKey m settings slot readonly parts))) old answer new
 
 -- what follows the trial of a key: nothing with `-C`, else the provider is attached
 abbrev pub AttachesUnless : Bool → Attachment → Reach → Result (Unit {0}) Refusal → Reach → Type 0
@@ -95,6 +91,24 @@ abbrev pub digest_or : Result (List ℕ) Refusal → Answer
 digest_or (Ok digest) = answers.Digest digest
 digest_or (Err refusal) = answers.Refused refusal
 
+abbrev pub tag_or : Result ℕ Refusal → Answer
+tag_or (Ok tag) = answers.Tag tag
+tag_or (Err refusal) = answers.Refused refusal
+
+abbrev pub left_or : Result ℕ Refusal → Answer
+left_or (Ok left) = answers.Left left
+left_or (Err refusal) = answers.Refused refusal
+
+-- the bytes of a read that was reaped, or that it was done
+abbrev pub reaped_or : Result (Option (List ℕ)) Refusal → Answer
+reaped_or (Ok (Some bytes)) = answers.Payload bytes
+reaped_or (Ok None) = answers.Done
+reaped_or (Err refusal) = answers.Refused refusal
+
+abbrev pub verified_or : Result SweptPart Refusal → Answer
+verified_or (Ok part) = answers.Verified part.offsets part.next
+verified_or (Err refusal) = answers.Refused refusal
+
 -- the row was gone through, and what it answers is answered so
 pub record Replies {A : Type 0} (answer_to : Result A Refusal → Answer) (Row : Reach → Result A Refusal → Reach → Type 0) (old : Reach) (reply : Answer) (new : Reach) : Type 0 where
   pub answer : Result A Refusal
@@ -120,6 +134,12 @@ GoesThrough line (commands.Restore file prov force) old reply new = Replies done
 GoesThrough line (commands.Resize prov oldsize) old reply new = Replies done_or (ResizeRow oldsize) old reply new
 GoesThrough line (commands.Fill prov seed start count) old reply new = AttachedWith old.holding (λ a. Replies done_or (FillRow seed start count a) old reply new)
 GoesThrough line (commands.Sum prov start count) old reply new = AttachedWith old.holding (λ a. Replies digest_or (SumRow start count a) old reply new)
+GoesThrough line (commands.Submit prov job) old reply new = AttachedWith old.holding (λ a. Replies tag_or (SubmitRow line job a) old reply new)
+GoesThrough line (commands.Step prov tag) old reply new = AttachedWith old.holding (λ a. Replies left_or (StepRow tag a) old reply new)
+GoesThrough line (commands.Reap prov tag) old reply new = AttachedWith old.holding (λ a. Replies reaped_or (ReapRow tag a) old reply new)
+GoesThrough line (commands.Suspend prov) old reply new = AttachedWith old.holding (λ a. Replies done_or (SuspendRow a) old reply new)
+GoesThrough line (commands.Resume prov words) old reply new = SuspendedWith old.holding (λ kept. Replies done_or (ResumeRow line words kept) old reply new)
+GoesThrough line (commands.Verify prov file count restart) old reply new = AttachedWith old.holding (λ a. Replies verified_or (VerifyRow line file count restart a) old reply new)
 GoesThrough line _ old reply new = ⊥
 
 -- the drawer isn't such a one, and nothing changes

@@ -2,6 +2,7 @@
 use Rattle.std.specs.Prelude.{◌≡◌, ℕ, ◌+◌, Bool, true, false, List, [], ◌∷◌, Option, Some, None, map, if◌then◌else◌, slice_get, IfSome, MatchOption}
 use Rattle.std.specs.Option.{option_map}
 use Rattle.std.specs.Str.{bytes_eq}
+use Rattle.bio_queue.specs.Requests.{Request}
 use Rattle.block_traits.specs.Cabinet.{CabinetState}
 use Rattle.block_traits.specs.Content.{Content}
 use Rattle.block_traits.specs.Disk.{DiskState}
@@ -9,11 +10,13 @@ use Rattle.block_traits.specs.Streams.{EntropyState}
 use Rattle.eli_base.specs.Keying.{Keying}
 use Rattle.range_keys.specs.Ring.{IsKeying}
 
--- with what a provider is attached: the slot that gave the master key, the keying, and whether it is only read
+-- with what a provider is attached: the slot that gave the master key, the keying, whether it is only read, and the requests that are
+-- open on it, in order of their tags
 pub record Attachment : Type 0 where
   pub slot : ℕ
   pub keying : Keying
   pub readonly : Bool
+  pub queue : List Request
 
 -- what is kept of a provider that is suspended: the bytes of a logical sector and how many there were, the slot that gave the master key, whether it is only read, and
 -- the digest of the master key
@@ -45,6 +48,16 @@ attachment_in (IsSuspended kept) = None
 -- it is attached, with something of which this holds
 abbrev pub AttachedWith : Holding → (Attachment → Type 0) → Type 0
 AttachedWith holding Holds = MatchOption (attachment_in holding) ⊥ Holds
+
+-- what is kept of the provider of a drawer, if it is suspended
+abbrev pub kept_in : Holding → Option Kept
+kept_in Idle = None
+kept_in (IsAttached a) = None
+kept_in (IsSuspended kept) = Some kept
+
+-- it is suspended, and this holds of what is kept
+abbrev pub SuspendedWith : Holding → (Kept → Type 0) → Type 0
+SuspendedWith holding Holds = MatchOption (kept_in holding) ⊥ Holds
 
 -- a drawer: its name, what its disk tells of itself, and what it does with it
 pub record DrawerState : Type 0 where

@@ -1,12 +1,15 @@
 // What holds of one command after another.
 ghost use Rattle.std.specs.Prelude.{◌≡◌, ℕ, Bool, List, Option, Result, Ok, Some, IfSome, IsSome, IsTrue};
+ghost use Rattle.block_traits.specs.Disk.{DiskState};
 ghost use Rattle.command_words.specs.Places.{bytes_at, provider_of};
 ghost use Rattle.command_words.specs.declared.commands.Command.{Command};
 ghost use Rattle.command_words.specs.declared.spans.Span.{Span};
+ghost use Rattle.eli_base.specs.Keying.{Keying};
 ghost use Rattle.eli_base.specs.declared.refusals.Refusal.{Refusal};
 ghost use Rattle.eli_base.specs.declared.refusals.Refusal.TheVariants.{NoMemory};
 ghost use Rattle.eli_metadata.specs.declared.metadata.Metadata.{Metadata};
 ghost use Rattle.command_rows.specs.Answer.{Answer, Refused};
+ghost use Rattle.command_rows.specs.Becoming.{BecomesSo};
 ghost use Rattle.command_rows.specs.Causes.{Caused, may_lack_memory};
 ghost use Rattle.command_rows.specs.Counts.{CountsFailures};
 ghost use Rattle.command_rows.specs.Fits.{FindsAt, Fits};
@@ -14,7 +17,9 @@ ghost use Rattle.command_rows.specs.Histories.{OnlySteps};
 ghost use Rattle.command_rows.specs.Opening.{NamesSameKey, OpensOrFails};
 ghost use Rattle.command_rows.specs.Steps.{LoadsComponents, MakesProvider};
 ghost use Rattle.command_rows.specs.Stops.{LeavesOldOrNew};
-ghost use Rattle.command_rows.specs.Turn.{TryRow, Turn};
+ghost use Rattle.command_rows.specs.Trying.{TryRow};
+ghost use Rattle.command_rows.specs.Turn.{Turn};
+ghost use Rattle.command_rows.specs.Verifying.{ListsEachOnce, ListsUnits};
 ghost use Rattle.command_rows.specs.World.{Attachment, Reach, World};
 ghost use Rattle.user_key.specs.declared.components.Components.{Components};
 
@@ -37,26 +42,32 @@ pub fn what_init_makes_can_be_attached()
 /// order. `eject` takes it out of the list, and those behind it move up. Else the history of its disk grows by the events of the line.
 /// A line that is served has those of its row: `init` and `restore` write metadata between two flushes, `setkey` stores metadata,
 /// `delkey` and `kill` write over the last sector in six passes, `resize` moves metadata and writes over their old place, `write` and
-/// `fill` write the sealed sectors in ascending order, `flush` and `detach` flush, and the others do nothing. One that is refused has
-/// none; but where the disk failed the first ones, and where the backup of `init` isn't stored it may have all.
+/// `fill` write the sealed sectors in ascending order, `step` does the next unit of its request, `flush`, `detach` and `suspend` flush, and the
+/// others do nothing. One that is refused has none; but where the disk failed the first ones, and where the backup of `init` isn't stored it may
+/// have all.
 pub fn a_line_changes_only_its_drawer()
     ensures { (line : List ℕ) (command : Command) (old : World) (answer : Answer) (new : World) →
         Turn line command old answer new → OnlySteps line command answer old.drawers new.drawers }
 {}
 
-/// Each refusal has its cause, so a line without one is served. `detach`, `flush`, `read`, `write`, `fill` and `sum` are refused only where
-/// the drawer is idle, where it is suspended (all but `detach`), where the provider is only read (`write` and `fill`), by the length (`read`
-/// and `write`) and the range of what they ask for, or by a unit whose tag differs. `eject` is refused only where no drawer has the name.
+/// Each refusal has its cause, so a line without one is served. `detach`, `flush`, `read`, `write`, `fill`, `sum`, `submit`, `step`, `reap` and
+/// `suspend` are refused only where the drawer is idle, where it is suspended (all but `detach`), where the provider is only read (`write`, `fill`,
+/// `submit` of a write), by the length (`read`, `write`, `submit` of either) and the range of what they ask for, by a unit whose tag differs, or by
+/// the open requests: `submit` where 32 are open, `step` and `reap` where none of the provider has the tag, `step` where no unit of it is left, `reap`
+/// where some are, `suspend` where any is open. `verify` is refused where the drawer is idle or suspended, where the data aren't authenticated and,
+/// unless it begins anew, where the file of its place has fewer or more than eight bytes or says a place behind the last sector; never for a file that
+/// is absent. `eject` is refused only where no drawer has the name.
 /// Only `init`, `attach`, `restore` and `resize` are refused because the drawer is attached, and then also where it is suspended; for that
-/// alone `setkey` and `delkey` are refused too. Want of memory is answered by `init`, `attach`, `setkey`, `backup`, `restore` and
-/// `list` alone. That the disk, the cabinet or the entropy failed shows in their counts.
+/// alone `setkey` and `delkey` are refused too. `resume` is refused where the drawer is idle or attached. Want of memory is answered by `init`, `attach`,
+/// `setkey`, `backup`, `restore`, `list`, `submit`, `resume` and `verify` alone. That the disk, the cabinet or the entropy failed shows in their counts.
 ///
 /// The verbs on metadata are refused besides only for what they find and are told, said of the disk and the cabinet as they were before:
-/// - `dump`, `attach`, `setkey`, `delkey`, `backup`: the image has fewer than two sectors, or its last sector has no metadata.
-/// - `init`, `attach`, `setkey`, `restore`: the file that is refused is the first wrong one of those that a key, or the backup, names.
+/// - `dump`, `attach`, `setkey`, `delkey`, `backup`, `resume`: the image has fewer than two sectors, or its last sector has no metadata.
+/// - `init`, `attach`, `setkey`, `restore`, `resume`: the file that is refused is the first wrong one of those that a key, or the backup, names.
 /// - `init`: the options, the image or the components of the key make no provider.
 /// - `attach`: the metadata aren't admitted for the image and the slot that is named, the components make no user key, the provider has no
-///   sector, or the key opens no slot that is asked for.
+///   sector, or the key opens no slot that is asked for. `resume`: the same of any slot, or the key opens another master key than the one of which the
+///   digest was kept.
 /// - `setkey`: the metadata aren't admitted (of an attached provider: can't be used), the slot isn't there, the old key of an idle drawer
 ///   opens none, or the new key is refused for the slot.
 /// - `delkey`: no slot is named, or the slot that is named isn't there, has no key or, without `-f`, the last one.
@@ -88,6 +99,13 @@ pub fn a_line_counts_failures()
         Turn line command old answer new → CountsFailures old answer new }
 {}
 
+/// A sweep lists just the units that fail: of the device sectors that its line read, an offset is listed exactly where the unit there fails,
+/// and once.
+pub fn a_sweep_lists_each_failing_unit_once()
+    ensures { (k : Keying) (n count : ℕ) (offsets : List ℕ) (old new : DiskState) →
+        ListsUnits k n count offsets old new → ListsEachOnce k n count offsets old }
+{}
+
 /// A line that changes metadata leaves the old or the new whenever power fails. At each moment of `setkey`, `init` and `restore` each
 /// value that the last sector of the named drawer may hold is one from before or the new metadata; once the line is done, they are the
 /// only one. The new metadata are made of what the line names: the key of `init` and the new key of `setkey` are of the components that its words
@@ -100,4 +118,15 @@ pub fn a_line_counts_failures()
 pub fn a_line_leaves_old_or_new()
     ensures { (line : List ℕ) (command : Command) (old : World) (answer : Answer) (new : World) →
         Turn line command old answer new → LeavesOldOrNew line command answer old new }
+{}
+
+/// What a drawer does with its disk changes by few verbs, and only as they say. After a line that leaves it in the list it is idle only where it was so before, or
+/// by `detach` or `kill`. It is attached only where it was so, with the same slot, keying and read-only state, or by `attach` or `resume` that are
+/// done, with a key that opens the metadata of the disk. After `resume` the master key has the digest that was kept. It is suspended only where it was so, and then
+/// exactly the same is kept, or by `suspend`, and then what is kept is that of the provider as it was, also where the flush failed.
+///
+/// A drawer that a line finds suspended and leaves suspended or attached has logged nothing, so no line writes it: `kill` and `detach` leave it idle.
+pub fn a_line_says_what_its_drawer_becomes()
+    ensures { (line : List ℕ) (command : Command) (old : World) (answer : Answer) (new : World) →
+        Turn line command old answer new → BecomesSo line command answer old new }
 {}

@@ -1,28 +1,30 @@
 -- The numbers of a command lie within their bounds, and its digits are hexadecimal.
-use Rattle.std.proofs.Common.{◌≡◌, ℕ, ◌+◌, ◌%◌, ◌≤◌, List, [], ◌∷◌, ◌++◌, length, refl, subst, arith, Bool, true, false, cond, not, ◌&&◌, Option, None, Some, IfOk, IfSome, ◌==◌, nat_le}
+use Rattle.std.proofs.Common.{◌≡◌, ℕ, ◌+◌, ◌%◌, ◌≤◌, List, [], ◌∷◌, ◌++◌, length, refl, arith, Bool, true, false, cond, not, ◌&&◌, Option, None, Some, IfOk, IfSome, ◌==◌, nat_le}
 use Rattle.std.proofs.lemmas.Bool.Decides.{nat_tests}
-use Rattle.std.specs.Prelude.{option_map, unwrap_or, is_some, IsTrue}
+use Rattle.std.specs.Prelude.{codes, option_map, unwrap_or, is_some, IsTrue}
 use Rattle.std.specs.List.{AllByRecursion}
-use Rattle.std.specs.Str.{is_utf8}
+use Rattle.std.specs.Str.{bytes_eq, is_utf8}
 use Rattle.eli_base.specs.declared.Reason.{Reason}
-use Rattle.eli_base.specs.declared.Reason.TheVariants.{BadNumber, BadHex, MissingOption}
+use Rattle.eli_base.specs.declared.Reason.TheVariants.{BadNumber, BadName, BadHex, DashFile, MissingOption}
 use Rattle.command_words.specs.declared.commands.Usage.{Usage}
 use Rattle.command_words.specs.declared.spans.Sep.{Sep}
 use Rattle.command_words.specs.declared.table.Verb.{Verb}
-use Rattle.command_words.specs.declared.table.Verb.TheVariants.{Resize, Read, Write, Fill, Sum}
+use Rattle.command_words.specs.declared.table.Verb.TheVariants.{Resize, Read, Write, Fill, Sum, Submit, Step, Reap, Verify}
 use Rattle.command_words.specs.declared.table.Valued.{Valued}
 use Rattle.command_words.specs.declared.table.Valued.TheVariants.{OldSize}
+use Rattle.command_words.specs.declared.table.JobName.TheVariants as jobs
 use Rattle.command_words.specs.declared.table.Operand.{Operand}
-use Rattle.command_words.specs.declared.table.Operand.TheVariants.{Provider, Sector, FewSectors, ManySectors, Seed, Digits}
+use Rattle.command_words.specs.declared.table.Operand.TheVariants.{Provider, File, Sector, FewSectors, ManySectors, Seed, Digits, Job, Tag}
 use Rattle.command_words.specs.Words.{Word, words}
 use Rattle.command_words.specs.Table.{verb_named, form_of}
 use Rattle.command_words.specs.Values.{decimal, is_numeral, number_within, is_hexadecimal, value_fault}
 use Rattle.command_words.specs.Options.{Item, Set, Given, Unknown, Missing, Options, options, values, value_in, fault_of, first_fault, or_else}
 use Rattle.command_words.specs.Settings.{settings_of, last, last_value}
-use Rattle.command_words.specs.Operands.{operands_of, operands_fault, number_as, span_as}
-use Rattle.command_words.specs.Reading.{reading, by_words, by_verb, complaint, command_at, is_comment}
+use Rattle.command_words.specs.Operands.{operands_of, operands_fault, job_as, number_as, span_as}
+use Rattle.command_words.specs.Reading.{reading, by_words, by_verb, complaint, command_at, job_at, is_comment}
 use Rattle.command_words.specs.Places.{bytes_at}
-use Rattle.command_words.specs.Bounds.{IsBounded, AreSectors, IsOldSize}
+use Rattle.command_words.specs.Bounds.{IsBounded, IsBoundedJob, AreSectors, IsOldSize}
+use Rattle.command_words.proofs.Forms.{found_keeps}
 use Rattle.command_words.proofs.Places.{AllStand, words_stand, OptionsStand, options_stand, verb_keeps, text_keeps, bytes_of_span}
 
 and_parts : (a b : Bool) → (a && b) ≡ true → (a ≡ true) × (b ≡ true)
@@ -51,9 +53,11 @@ fault_passes : (t : Bool) (reason : Reason) (number : ℕ) (rest : Option Usage)
 fault_passes true reason number rest h = (refl, h)
 fault_passes false reason number rest h = let no : ⊥ = cc in absurd no
 
-form_is : (b : Bool) (own form : List Operand) → cond b (Some own) None ≡ Some form → (b ≡ true) × (own ≡ form)
-form_is true own form h = let same : own ≡ form = cc in (refl, same)
-form_is false own form h = let no : ⊥ = cc in absurd no
+-- a file without a fault, and no fault behind it
+file_passes : (t : Bool) (reason : Reason) (number : ℕ) (rest : Option Usage)
+    → or_else (option_map (λ r. record { word = number; reason = r }) (cond t (Some reason) None)) rest ≡ None → rest ≡ None
+file_passes true reason number rest h = let no : ⊥ = cc in absurd no
+file_passes false reason number rest h = h
 
 few_own : (words : List Word) → (3 == length words) ≡ true → operands_fault (Provider ∷ Sector ∷ FewSectors ∷ []) words ≡ None
     → AreSectors 256 (number_as Sector (Provider ∷ Sector ∷ FewSectors ∷ []) words) (number_as FewSectors (Provider ∷ Sector ∷ FewSectors ∷ []) words)
@@ -90,6 +94,16 @@ seed_own (a ∷ b ∷ c ∷ d ∷ words) t h =
     let count = number_good 1 9223372036854775807 d.bytes second.0 in
     ((number_good 0 9223372036854775807 c.bytes first.0).1, count.0, count.1)
 
+count_own : (words : List Word) → (3 == length words) ≡ true → operands_fault (Provider ∷ File ∷ ManySectors ∷ []) words ≡ None
+    → (1 ≤ number_as ManySectors (Provider ∷ File ∷ ManySectors ∷ []) words) × (number_as ManySectors (Provider ∷ File ∷ ManySectors ∷ []) words ≤ 9223372036854775807)
+count_own [] t h = let no : ⊥ = cc in absurd no
+count_own (a ∷ []) t h = let no : ⊥ = cc in absurd no
+count_own (a ∷ b ∷ []) t h = let no : ⊥ = cc in absurd no
+count_own (a ∷ b ∷ c ∷ words) t h =
+    let first = file_passes (bytes_eq b.bytes (codes "-")) DashFile b.number _ h in
+    let second = fault_passes (is_some (number_within 1 9223372036854775807 c.bytes)) BadNumber c.number _ first in
+    number_good 1 9223372036854775807 c.bytes second.0
+
 digits_own : (line : List ℕ) (words : List Word) → AllStand line words → (3 == length words) ≡ true → operands_fault (Provider ∷ Sector ∷ Digits ∷ []) words ≡ None
     → (number_as Sector (Provider ∷ Sector ∷ Digits ∷ []) words ≤ 9223372036854775807) × IsTrue (is_hexadecimal (bytes_at line (span_as Digits (Provider ∷ Sector ∷ Digits ∷ []) words)))
 digits_own line [] g t h = let no : ⊥ = cc in absurd no
@@ -99,6 +113,45 @@ digits_own line (a ∷ b ∷ c ∷ words) g t h =
     let first = fault_passes (is_some (number_within 0 9223372036854775807 b.bytes)) BadNumber b.number _ h in
     let second = fault_passes (is_hexadecimal c.bytes) BadHex c.number _ first.1 in
     ((number_good 0 9223372036854775807 b.bytes first.0).1, rw (bytes_of_span line c g.1.1.0) second.0)
+
+-- the numbers of a request that operands without a fault say
+abbrev IsJobOf : List ℕ → List Word → List Operand → Type 0
+IsJobOf line words form = operands_fault form words ≡ None → IsBoundedJob line (job_at (job_as form words) (operands_of form words))
+
+flush_own : (line : List ℕ) (words : List Word) → (2 == length words) ≡ true → IsJobOf line words (Provider ∷ Job jobs.Flush ∷ [])
+flush_own line [] t h = tt
+flush_own line (a ∷ []) t h = tt
+flush_own line (a ∷ b ∷ words) t h = tt
+
+read_own : (line : List ℕ) (words : List Word) → (4 == length words) ≡ true → IsJobOf line words (Provider ∷ Job jobs.Read ∷ Sector ∷ FewSectors ∷ [])
+read_own line [] t h = let no : ⊥ = cc in absurd no
+read_own line (a ∷ []) t h = let no : ⊥ = cc in absurd no
+read_own line (a ∷ b ∷ []) t h = let no : ⊥ = cc in absurd no
+read_own line (a ∷ b ∷ c ∷ []) t h = let no : ⊥ = cc in absurd no
+read_own line (a ∷ b ∷ c ∷ d ∷ words) t h =
+    let named = fault_passes (bytes_eq b.bytes (codes "read")) BadName b.number _ h in
+    let first = fault_passes (is_some (number_within 0 9223372036854775807 c.bytes)) BadNumber c.number _ named.1 in
+    let second = fault_passes (is_some (number_within 1 256 d.bytes)) BadNumber d.number _ first.1 in
+    let count = number_good 1 256 d.bytes second.0 in
+    ((number_good 0 9223372036854775807 c.bytes first.0).1, count.0, count.1)
+
+write_own : (line : List ℕ) (words : List Word) → AllStand line words → (4 == length words) ≡ true → IsJobOf line words (Provider ∷ Job jobs.Write ∷ Sector ∷ Digits ∷ [])
+write_own line [] g t h = let no : ⊥ = cc in absurd no
+write_own line (a ∷ []) g t h = let no : ⊥ = cc in absurd no
+write_own line (a ∷ b ∷ []) g t h = let no : ⊥ = cc in absurd no
+write_own line (a ∷ b ∷ c ∷ []) g t h = let no : ⊥ = cc in absurd no
+write_own line (a ∷ b ∷ c ∷ d ∷ words) g t h =
+    let named = fault_passes (bytes_eq b.bytes (codes "write")) BadName b.number _ h in
+    let first = fault_passes (is_some (number_within 0 9223372036854775807 c.bytes)) BadNumber c.number _ named.1 in
+    let second = fault_passes (is_hexadecimal d.bytes) BadHex d.number _ first.1 in
+    ((number_good 0 9223372036854775807 c.bytes first.0).1, rw (bytes_of_span line d g.1.1.1.0) second.0)
+
+tag_own : (words : List Word) → (2 == length words) ≡ true → operands_fault (Provider ∷ Tag ∷ []) words ≡ None → number_as Tag (Provider ∷ Tag ∷ []) words ≤ 31
+tag_own [] t h = let no : ⊥ = cc in absurd no
+tag_own (a ∷ []) t h = let no : ⊥ = cc in absurd no
+tag_own (a ∷ b ∷ words) t h =
+    let tag = fault_passes (is_some (number_within 0 31 b.bytes)) BadNumber b.number _ h in
+    (number_good 0 31 b.bytes tag.0).1
 
 -- the options without a fault
 
@@ -176,23 +229,31 @@ size_found None rest h e = let no : ⊥ = cc in absurd no
 size_found (Some word) rest h e = size_good word h
 
 command_bounded : (line : List ℕ) (verb : Verb) (items : List Item) (form : List Operand) (words : List Word) → AllStand line words
-    → first_fault [] items ≡ None → form_of verb (length words) ≡ Some form → complaint verb (settings_of items) ≡ None → operands_fault form words ≡ None
+    → first_fault [] items ≡ None → form_of verb words ≡ Some form → complaint verb (settings_of items) ≡ None → operands_fault form words ≡ None
     → IsBounded line (command_at verb (settings_of items) (operands_of form words))
 command_bounded line Resize items form words g fault found good none =
     size_found (last_value OldSize items) _ (last_good (values OldSize items) (sizes_good items (items_good [] items fault))) good
 command_bounded line Read items form words g fault found good none =
-    let is = form_is _ _ form found in
-    subst (λ (f : List Operand). operands_fault f words ≡ None → AreSectors 256 (number_as Sector f words) (number_as FewSectors f words)) is.1 (few_own words is.0) none
+    found_keeps (λ (f : List Operand). operands_fault f words ≡ None → AreSectors 256 (number_as Sector f words) (number_as FewSectors f words)) Read words form
+    (few_own words, tt) found none
 command_bounded line Write items form words g fault found good none =
-    let is = form_is _ _ form found in
-    subst (λ (f : List Operand). operands_fault f words ≡ None → (number_as Sector f words ≤ 9223372036854775807) × IsTrue (is_hexadecimal (bytes_at line (span_as Digits f words)))) is.1
-    (digits_own line words g is.0) none
+    found_keeps (λ (f : List Operand). operands_fault f words ≡ None → (number_as Sector f words ≤ 9223372036854775807) × IsTrue (is_hexadecimal (bytes_at line (span_as Digits f words)))) Write words form
+    (digits_own line words g, tt) found none
 command_bounded line Fill items form words g fault found good none =
-    let is = form_is _ _ form found in
-    subst (λ (f : List Operand). operands_fault f words ≡ None → AreSectors 9223372036854775807 (number_as Sector f words) (number_as ManySectors f words)) is.1 (seed_own words is.0) none
+    found_keeps (λ (f : List Operand). operands_fault f words ≡ None → AreSectors 9223372036854775807 (number_as Sector f words) (number_as ManySectors f words)) Fill words form
+    (seed_own words, tt) found none
 command_bounded line Sum items form words g fault found good none =
-    let is = form_is _ _ form found in
-    subst (λ (f : List Operand). operands_fault f words ≡ None → AreSectors 9223372036854775807 (number_as Sector f words) (number_as ManySectors f words)) is.1 (many_own words is.0) none
+    found_keeps (λ (f : List Operand). operands_fault f words ≡ None → AreSectors 9223372036854775807 (number_as Sector f words) (number_as ManySectors f words)) Sum words form
+    (many_own words, tt) found none
+command_bounded line Submit items form words g fault found good none =
+    found_keeps (IsJobOf line words) Submit words form (flush_own line words, (read_own line words, (write_own line words g, tt))) found none
+command_bounded line Step items form words g fault found good none =
+    found_keeps (λ (f : List Operand). operands_fault f words ≡ None → number_as Tag f words ≤ 31) Step words form (tag_own words, tt) found none
+command_bounded line Reap items form words g fault found good none =
+    found_keeps (λ (f : List Operand). operands_fault f words ≡ None → number_as Tag f words ≤ 31) Reap words form (tag_own words, tt) found none
+command_bounded line Verify items form words g fault found good none =
+    found_keeps (λ (f : List Operand). operands_fault f words ≡ None → (1 ≤ number_as ManySectors f words) × (number_as ManySectors f words ≤ 9223372036854775807)) Verify words form
+    (count_own words, tt) found none
 command_bounded line _ items form words g fault found good none = tt
 
 verb_bounded : (line : List ℕ) (verb : Option Verb) (total : ℕ) (words : List Word) → AllStand line words → IfOk (by_verb verb total words) (IsBounded line)

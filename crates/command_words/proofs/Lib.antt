@@ -1,4 +1,5 @@
 mod Bounds
+mod Forms
 mod Joining
 mod Numbers
 mod OperandsLemmas

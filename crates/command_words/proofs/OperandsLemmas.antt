@@ -1,22 +1,25 @@
 -- One pass over the operands gives what they say.
-use Rattle.std.proofs.Common.{◌≡◌, ℕ, List, [], ◌∷◌, length, refl, ◌∙◌, ap, subst, Bool, true, false, cond, Option, None, Some, Result, Ok}
+use Rattle.std.proofs.Common.{◌≡◌, ℕ, List, [], ◌∷◌, length, refl, ◌∙◌, ap, Option, None, Some, Result, Ok}
 use Rattle.std.specs.Prelude.{option_map}
+use Rattle.std.specs.List.{AllByRecursion}
 use Rattle.eli_base.specs.declared.Reason.{Reason}
 use Rattle.command_words.specs.declared.commands.Command.{Command}
 use Rattle.command_words.specs.declared.commands.Usage.{Usage}
 use Rattle.command_words.specs.declared.operands.Operands.{Operands}
 use Rattle.command_words.specs.declared.settings.Settings.{Settings}
 use Rattle.command_words.specs.declared.table.Verb.{Verb}
-use Rattle.command_words.specs.declared.table.Verb.TheVariants.{Init, Attach, Detach, Setkey, Delkey, Kill, Backup, Restore, Resize, Dump, Read, Write, Flush, List as ListVerb, Fill, Sum, Eject}
+use Rattle.command_words.specs.declared.table.Verb.TheVariants.{Init, Attach, Detach, Setkey, Delkey, Kill, Backup, Restore, Resize, Dump, Read, Write, Flush, List as ListVerb, Fill, Sum, Eject, Submit, Step, Reap, Suspend, Resume, Verify}
+use Rattle.command_words.specs.declared.table.JobName.TheVariants as jobs
 use Rattle.command_words.specs.declared.table.Operand.{Operand}
-use Rattle.command_words.specs.declared.table.Operand.TheVariants.{Provider, File, Sector, FewSectors, ManySectors, Seed, Digits}
+use Rattle.command_words.specs.declared.table.Operand.TheVariants.{Provider, File, Sector, FewSectors, ManySectors, Seed, Digits, Job, Tag}
 use Rattle.command_words.specs.Words.{Word}
-use Rattle.command_words.specs.Table.{form_of}
+use Rattle.command_words.specs.Table.{row_of, form_of}
 use Rattle.command_words.specs.Values.{operand_fault}
 use Rattle.command_words.specs.Options.{or_else}
 use Rattle.command_words.specs.Operands.{operands_of, operands_fault}
 use Rattle.command_words.specs.Reading.{unless_fault, or_complaint, complaint, command_at, by_form, settled}
 use Rattle.command_words.specs.Pass.{after, checked, with_operand, taken_operands}
+use Rattle.command_words.proofs.Forms.{found_keeps, where_long}
 use Rattle.command_words.proofs.Options.{outcome}
 
 -- each operand in turn
@@ -77,6 +80,12 @@ many_sectors (a ∷ []) = refl
 many_sectors (a ∷ b ∷ []) = refl
 many_sectors (a ∷ b ∷ c ∷ words) = refl
 
+file_many_sectors : Agrees (Provider ∷ File ∷ ManySectors ∷ [])
+file_many_sectors [] = refl
+file_many_sectors (a ∷ []) = refl
+file_many_sectors (a ∷ b ∷ []) = refl
+file_many_sectors (a ∷ b ∷ c ∷ words) = refl
+
 seed_many_sectors : Agrees (Provider ∷ Seed ∷ Sector ∷ ManySectors ∷ [])
 seed_many_sectors [] = refl
 seed_many_sectors (a ∷ []) = refl
@@ -84,45 +93,73 @@ seed_many_sectors (a ∷ b ∷ []) = refl
 seed_many_sectors (a ∷ b ∷ c ∷ []) = refl
 seed_many_sectors (a ∷ b ∷ c ∷ d ∷ words) = refl
 
-only_form : (b : Bool) (own form : List Operand) → cond b (Some own) None ≡ Some form → Agrees own → Agrees form
-only_form true own form h agrees = let same : own ≡ form = cc in subst (λ (f : List Operand). Agrees f) same agrees
-only_form false own form h agrees = let no : ⊥ = cc in absurd no
+job_flush : Agrees (Provider ∷ Job jobs.Flush ∷ [])
+job_flush [] = refl
+job_flush (a ∷ []) = refl
+job_flush (a ∷ b ∷ words) = refl
 
-forms_agree : (verb : Verb) (count : ℕ) (form : List Operand) → form_of verb count ≡ Some form → Agrees form
-forms_agree Init count form h = only_form _ _ form h provider
-forms_agree Attach count form h = only_form _ _ form h provider
-forms_agree Detach count form h = only_form _ _ form h provider
-forms_agree Setkey count form h = only_form _ _ form h provider
-forms_agree Delkey count form h = only_form _ _ form h provider
-forms_agree Kill count form h = only_form _ _ form h provider
-forms_agree Backup count form h = only_form _ _ form h provider_file
-forms_agree Restore count form h = only_form _ _ form h file_provider
-forms_agree Resize count form h = only_form _ _ form h provider
-forms_agree Dump count form h = only_form _ _ form h provider
-forms_agree Read count form h = only_form _ _ form h few_sectors
-forms_agree Write count form h = only_form _ _ form h sector_digits
-forms_agree Flush count form h = only_form _ _ form h provider
-forms_agree ListVerb count form h = only_form _ _ form h no_operand
-forms_agree Fill count form h = only_form _ _ form h seed_many_sectors
-forms_agree Sum count form h = only_form _ _ form h many_sectors
-forms_agree Eject count form h = only_form _ _ form h provider
+job_read : Agrees (Provider ∷ Job jobs.Read ∷ Sector ∷ FewSectors ∷ [])
+job_read [] = refl
+job_read (a ∷ []) = refl
+job_read (a ∷ b ∷ []) = refl
+job_read (a ∷ b ∷ c ∷ []) = refl
+job_read (a ∷ b ∷ c ∷ d ∷ words) = refl
+
+job_write : Agrees (Provider ∷ Job jobs.Write ∷ Sector ∷ Digits ∷ [])
+job_write [] = refl
+job_write (a ∷ []) = refl
+job_write (a ∷ b ∷ []) = refl
+job_write (a ∷ b ∷ c ∷ []) = refl
+job_write (a ∷ b ∷ c ∷ d ∷ words) = refl
+
+provider_tag : Agrees (Provider ∷ Tag ∷ [])
+provider_tag [] = refl
+provider_tag (a ∷ []) = refl
+provider_tag (a ∷ b ∷ words) = refl
+
+row_agrees : (verb : Verb) → AllByRecursion Agrees (row_of verb).forms
+row_agrees Init = (provider, tt)
+row_agrees Attach = (provider, tt)
+row_agrees Detach = (provider, tt)
+row_agrees Setkey = (provider, tt)
+row_agrees Delkey = (provider, tt)
+row_agrees Kill = (provider, tt)
+row_agrees Backup = (provider_file, tt)
+row_agrees Restore = (file_provider, tt)
+row_agrees Resize = (provider, tt)
+row_agrees Dump = (provider, tt)
+row_agrees Read = (few_sectors, tt)
+row_agrees Write = (sector_digits, tt)
+row_agrees Flush = (provider, tt)
+row_agrees ListVerb = (no_operand, tt)
+row_agrees Fill = (seed_many_sectors, tt)
+row_agrees Sum = (many_sectors, tt)
+row_agrees Eject = (provider, tt)
+row_agrees Submit = (job_flush, (job_read, (job_write, tt)))
+row_agrees Step = (provider_tag, tt)
+row_agrees Reap = (provider_tag, tt)
+row_agrees Suspend = (provider, tt)
+row_agrees Resume = (provider, tt)
+row_agrees Verify = (file_many_sectors, tt)
+
+form_agrees : (verb : Verb) (words : List Word) (form : List Operand) → form_of verb words ≡ Some form → Agrees form
+form_agrees verb words form h = found_keeps Agrees verb words form (where_long Agrees (length words) (row_of verb).forms (row_agrees verb)) h
 
 follow : (fault : Option Usage) (o : Operands) (command : Operands → Command) → unless_fault fault (Ok (command o)) ≡ after (outcome fault o) (λ read. Ok (command read))
 follow None o command = refl
 follow (Some usage) o command = refl
 
 -- What the operands of a verb say is what one pass over them gives.
-pub operands_taken : (verb : Verb) (count : ℕ) (form : List Operand) (words : List Word) (s : Settings) → form_of verb count ≡ Some form
+pub operands_taken : (verb : Verb) (form : List Operand) (words : List Word) (s : Settings) → form_of verb words ≡ Some form
     → unless_fault (operands_fault form words) (Ok (command_at verb s (operands_of form words))) ≡ after (taken_operands form words (operands_of [] [])) (λ read. Ok (command_at verb s read))
-operands_taken verb count form words s h =
-    rw (taken_is form words (operands_of [] []), forms_agree verb count form h words) (follow (operands_fault form words) (operands_of form words) (λ read. command_at verb s read))
+operands_taken verb form words s h =
+    rw (taken_is form words (operands_of [] []), form_agrees verb words form h words) (follow (operands_fault form words) (operands_of form words) (λ read. command_at verb s read))
 
--- What follows the options is what one pass over the operands gives, where they are as many as in this form.
-pub settled_taken : (verb : Verb) (total count : ℕ) (form : List Operand) (words : List Word) (s : Settings)
-    → count ≡ length words → form_of verb count ≡ Some form → complaint verb s ≡ None
+-- What follows the options is what one pass over the operands gives, where they are read by this form.
+pub settled_taken : (verb : Verb) (total : ℕ) (form : List Operand) (words : List Word) (s : Settings)
+    → form_of verb words ≡ Some form → complaint verb s ≡ None
     → settled verb total s words ≡ after (taken_operands form words (operands_of [] [])) (λ read. Ok (command_at verb s read))
-settled_taken verb total count form words s e h k =
-    let found : form_of verb (length words) ≡ Some form = subst (λ (n : ℕ). form_of verb n ≡ Some form) e h in
-    ap (λ (f : Option (List Operand)). by_form f verb total s words) found
+settled_taken verb total form words s h k =
+    ap (λ (f : Option (List Operand)). by_form f verb total s words) h
     ∙ ap (λ (c : Option Reason). or_complaint c total (unless_fault (operands_fault form words) (Ok (command_at verb s (operands_of form words))))) k
-    ∙ operands_taken verb count form words s h
+    ∙ operands_taken verb form words s h

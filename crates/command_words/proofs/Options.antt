@@ -7,7 +7,7 @@ use Rattle.command_words.specs.declared.commands.Usage.{Usage}
 use Rattle.command_words.specs.declared.settings.Settings.{Settings}
 use Rattle.command_words.specs.declared.table.Verb.{Verb}
 use Rattle.command_words.specs.declared.table.Switch.{Switch}
-use Rattle.command_words.specs.declared.table.Switch.TheVariants.{WithoutOld, WithoutFresh, FixedSize, OnlyCheck, ReadOnly, AllSlots, Force, Verbose}
+use Rattle.command_words.specs.declared.table.Switch.TheVariants.{WithoutOld, WithoutFresh, FixedSize, OnlyCheck, ReadOnly, AllSlots, Force, Restart, Verbose}
 use Rattle.command_words.specs.declared.table.Valued.{Valued}
 use Rattle.command_words.specs.declared.table.Valued.TheVariants.{AuthName, CipherName, Iterations, KeyLength, SectorSize, OldSize, Slot, BackupFile, OldFile, OldPass, FreshFile, FreshPass}
 use Rattle.command_words.specs.declared.table.Letter.{Letter}
@@ -65,6 +65,7 @@ settings-push_switch items OnlyCheck = simp (values-push, is_set-push, append-ni
 settings-push_switch items ReadOnly = simp (values-push, is_set-push, append-nil)
 settings-push_switch items AllSlots = simp (values-push, is_set-push, append-nil)
 settings-push_switch items Force = simp (values-push, is_set-push, append-nil)
+settings-push_switch items Restart = simp (values-push, is_set-push, append-nil)
 settings-push_switch items Verbose = simp (values-push, is_set-push, append-nil)
 
 -- the fault of a value looks at the files so far alone

@@ -12,9 +12,12 @@ use Rattle.command_words.specs.declared.commands.Usage.{Usage}
 use Rattle.command_words.specs.declared.settings.Settings.{Settings}
 use Rattle.command_words.specs.declared.spans.Sep.{Sep}
 use Rattle.command_words.specs.declared.table.Verb.{Verb}
+use Rattle.command_words.specs.declared.operands.Operands.{Operands}
+use Rattle.command_words.specs.declared.table.JobName.{JobName}
+use Rattle.command_words.specs.declared.table.JobName.TheVariants as jobs
 use Rattle.command_words.specs.declared.table.Operand.{Operand}
 use Rattle.command_words.specs.declared.table.Operand.TheVariants.{Provider, File, Digits}
-use Rattle.command_words.specs.declared.table.Verb.TheVariants.{Init, Attach, Detach, Setkey, Delkey, Kill, Backup, Restore, Resize, Dump, Read, Write, Flush, List as ListVerb, Fill, Sum, Eject}
+use Rattle.command_words.specs.declared.table.Verb.TheVariants.{Init, Attach, Detach, Setkey, Delkey, Kill, Backup, Restore, Resize, Dump, Read, Write, Flush, List as ListVerb, Fill, Sum, Eject, Submit, Step, Reap, Suspend, Resume, Verify}
 use Rattle.command_words.specs.declared.table.Valued.{Valued}
 use Rattle.command_words.specs.declared.table.Valued.TheVariants.{BackupFile, OldFile, OldPass, FreshFile, FreshPass}
 use Rattle.command_words.specs.declared.table.Letter.{Letter}
@@ -23,9 +26,9 @@ use Rattle.command_words.specs.Words.{Word, words, placed, is_between, is_word}
 use Rattle.command_words.specs.Table.{letter_of, verb_named, form_of}
 use Rattle.command_words.specs.Options.{Item, Set, Given, Unknown, Missing, Group, letters, with_letter, Kind, Ends, Letters, Other, kind_of, Options, options, onto, with_word, values, value_in, place, first_fault}
 use Rattle.command_words.specs.Settings.{settings_of, span_of, last, files_of, backup_of}
-use Rattle.command_words.specs.Operands.{operands_of, operands_fault, operand_place, word_as, span_as, no_span}
-use Rattle.command_words.specs.Reading.{reading, by_words, by_verb, unless_fault, by_form, settled, or_complaint, complaint, command_at, is_comment, some_command}
-use Rattle.command_words.specs.Places.{IsWithin, CommandIsWithin, bytes_at}
+use Rattle.command_words.specs.Operands.{operands_of, operands_fault, job_as, operand_place, word_as, span_as, no_span}
+use Rattle.command_words.specs.Reading.{reading, by_words, by_verb, unless_fault, by_form, settled, or_complaint, complaint, command_at, job_at, is_comment, some_command}
+use Rattle.command_words.specs.Places.{IsWithin, CommandIsWithin, JobIsWithin, bytes_at}
 
 -- a word stands in the line
 abbrev pub Stands : List ℕ → Word → Type 0
@@ -228,6 +231,11 @@ found_within line (Some word) h = span_within line word h
 operand_within : (line : List ℕ) (wanted : Operand) (form : List Operand) (words : List Word) → AllStand line words → IsWithin (length line) (span_as wanted form words)
 operand_within line wanted form words h = found_within line (word_as wanted form words) (word_keeps (Stands line) wanted form words h)
 
+job_within : (line : List ℕ) (job : JobName) (o : Operands) → IsWithin (length line) o.digits → JobIsWithin (length line) (job_at job o)
+job_within line jobs.Read o h = tt
+job_within line jobs.Write o h = h
+job_within line jobs.Flush o h = tt
+
 command_within : (line : List ℕ) (verb : Verb) (items : List Item) (form : List Operand) (words : List Word) → ItemsStand line items → AllStand line words
     → CommandIsWithin (length line) (command_at verb (settings_of items) (operands_of form words))
 command_within line Init items form words h g =
@@ -250,6 +258,14 @@ command_within line ListVerb items form words h g = tt
 command_within line Fill items form words h g = operand_within line Provider form words g
 command_within line Sum items form words h g = operand_within line Provider form words g
 command_within line Eject items form words h g = operand_within line Provider form words g
+command_within line Submit items form words h g =
+    (operand_within line Provider form words g, job_within line (job_as form words) (operands_of form words) (operand_within line Digits form words g))
+command_within line Step items form words h g = operand_within line Provider form words g
+command_within line Reap items form words h g = operand_within line Provider form words g
+command_within line Suspend items form words h g = operand_within line Provider form words g
+command_within line Resume items form words h g =
+    (operand_within line Provider form words g, (files_within line OldFile items h, files_within line OldPass items h))
+command_within line Verify items form words h g = (operand_within line Provider form words g, operand_within line File form words g)
 
 -- what holds of a command holds of a result that may refuse it
 
@@ -270,9 +286,9 @@ form_keeps Q (Some form) verb total s words h =
 
 -- where options and operands have no fault
 pub verb_keeps : (Q : Command → Type 0) (fault : Option Usage) (verb : Verb) (total : ℕ) (s : Settings) (words : List Word)
-    → (fault ≡ None → (form : List Operand) → form_of verb (length words) ≡ Some form → complaint verb s ≡ None → operands_fault form words ≡ None → Q (command_at verb s (operands_of form words)))
+    → (fault ≡ None → (form : List Operand) → form_of verb words ≡ Some form → complaint verb s ≡ None → operands_fault form words ≡ None → Q (command_at verb s (operands_of form words)))
     → IfOk (unless_fault fault (settled verb total s words)) Q
-verb_keeps Q fault verb total s words h = fault_keeps Q fault _ (λ none. form_keeps Q (form_of verb (length words)) verb total s words (h none))
+verb_keeps Q fault verb total s words h = fault_keeps Q fault _ (λ none. form_keeps Q (form_of verb words) verb total s words (h none))
 
 some_keeps : (Q : Command → Type 0) (result : Result Command Usage) → IfOk result Q → IfOk (some_command result) (λ read. IfSome read Q)
 some_keeps Q (Ok command) h = h

@@ -2,6 +2,8 @@
 use Rattle.std.specs.Prelude.{◌≡◌, ℕ, ◌%◌, ◌≤◌, List, IsTrue}
 use Rattle.command_words.specs.declared.commands.Command.{Command}
 use Rattle.command_words.specs.declared.commands.Command.TheVariants as commands
+use Rattle.command_words.specs.declared.commands.JobWords.{JobWords}
+use Rattle.command_words.specs.declared.commands.JobWords.TheVariants as jobs
 use Rattle.command_words.specs.Values.{is_hexadecimal}
 use Rattle.command_words.specs.Places.{bytes_at}
 
@@ -13,6 +15,12 @@ AreSectors most first count = (first ≤ 9223372036854775807) × (1 ≤ count) �
 abbrev pub IsOldSize : ℕ → Type 0
 IsOldSize size = (1024 ≤ size) × (size ≤ 9007199254740480) × (size % 512 ≡ 0)
 
+-- The numbers of a request lie within their bounds, and its digits are hexadecimal.
+abbrev pub IsBoundedJob : List ℕ → JobWords → Type 0
+IsBoundedJob line (jobs.Read sector count) = AreSectors 256 sector count
+IsBoundedJob line (jobs.Write sector hex) = (sector ≤ 9223372036854775807) × IsTrue (is_hexadecimal (bytes_at line hex))
+IsBoundedJob line jobs.Flush = Unit {0}
+
 -- The numbers of a command lie within their bounds, and its digits are hexadecimal.
 abbrev pub IsBounded : List ℕ → Command → Type 0
 IsBounded line (commands.Resize prov oldsize) = IsOldSize oldsize
@@ -20,4 +28,8 @@ IsBounded line (commands.Read prov sector count) = AreSectors 256 sector count
 IsBounded line (commands.Write prov sector hex) = (sector ≤ 9223372036854775807) × IsTrue (is_hexadecimal (bytes_at line hex))
 IsBounded line (commands.Fill prov seed start count) = AreSectors 9223372036854775807 start count
 IsBounded line (commands.Sum prov start count) = AreSectors 9223372036854775807 start count
+IsBounded line (commands.Submit prov job) = IsBoundedJob line job
+IsBounded line (commands.Step prov tag) = tag ≤ 31
+IsBounded line (commands.Reap prov tag) = tag ≤ 31
+IsBounded line (commands.Verify prov file count restart) = (1 ≤ count) × (count ≤ 9223372036854775807)
 IsBounded line _ = Unit {0}

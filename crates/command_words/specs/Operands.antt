@@ -4,8 +4,10 @@ use Rattle.std.specs.Option.{option_map_or}
 use Rattle.command_words.specs.declared.commands.Usage.{Usage}
 use Rattle.command_words.specs.declared.operands.Operands.{Operands}
 use Rattle.command_words.specs.declared.spans.Span.{Span}
+use Rattle.command_words.specs.declared.table.JobName.{JobName}
+use Rattle.command_words.specs.declared.table.JobName.TheVariants as jobs
 use Rattle.command_words.specs.declared.table.Operand.{Operand}
-use Rattle.command_words.specs.declared.table.Operand.TheVariants.{Provider, File, Sector, FewSectors, ManySectors, Seed, Digits}
+use Rattle.command_words.specs.declared.table.Operand.TheVariants.{Provider, File, Sector, FewSectors, ManySectors, Seed, Digits, Job, Tag}
 use Rattle.command_words.specs.Words.{Word}
 use Rattle.command_words.specs.Values.{decimal, operand_fault}
 use Rattle.command_words.specs.Options.{or_else}
@@ -27,6 +29,8 @@ operand_place FewSectors = 3
 operand_place ManySectors = 4
 operand_place Seed = 5
 operand_place Digits = 6
+operand_place (Job job) = 7
+operand_place Tag = 8
 
 -- The word that stands as an operand of a form.
 abbrev pub word_as : Operand → List Operand → List Word → Option Word
@@ -46,6 +50,16 @@ span_as wanted form words = option_map_or span_of (word_as wanted form words) no
 abbrev pub number_as : Operand → List Operand → List Word → ℕ
 number_as wanted form words = option_map_or (λ word. decimal word.bytes) (word_as wanted form words) 0
 
+abbrev pub job_or : Operand → JobName → JobName
+job_or (Job job) other = job
+job_or _ other = other
+
+-- The job that a form names.
+abbrev pub job_as : List Operand → List Word → JobName
+job_as [] words = jobs.Flush
+job_as (operand ∷ form) [] = jobs.Flush
+job_as (operand ∷ form) (word ∷ words) = job_or operand (job_as form words)
+
 -- What the operands of a form come to.
 abbrev pub operands_of : List Operand → List Word → Operands
 operands_of form words = record {
@@ -56,4 +70,6 @@ operands_of form words = record {
   sector = number_as Sector form words;
   few = number_as FewSectors form words;
   many = number_as ManySectors form words;
+  job = job_as form words;
+  tag = number_as Tag form words;
 }

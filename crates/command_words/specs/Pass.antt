@@ -11,11 +11,12 @@ use Rattle.command_words.specs.declared.spans.Span.{Span}
 use Rattle.command_words.specs.declared.spans.KeyWords.{KeyWords}
 use Rattle.command_words.specs.declared.table.Verb.{Verb}
 use Rattle.command_words.specs.declared.table.Switch.{Switch}
-use Rattle.command_words.specs.declared.table.Switch.TheVariants.{WithoutOld, WithoutFresh, FixedSize, OnlyCheck, ReadOnly, AllSlots, Force, Verbose}
+use Rattle.command_words.specs.declared.table.Switch.TheVariants.{WithoutOld, WithoutFresh, FixedSize, OnlyCheck, ReadOnly, AllSlots, Force, Restart, Verbose}
 use Rattle.command_words.specs.declared.table.Valued.{Valued}
 use Rattle.command_words.specs.declared.table.Valued.TheVariants.{AuthName, CipherName, Iterations, KeyLength, SectorSize, OldSize, Slot, BackupFile, OldFile, OldPass, FreshFile, FreshPass}
+use Rattle.command_words.specs.declared.table.JobName.TheVariants as jobs
 use Rattle.command_words.specs.declared.table.Operand.{Operand}
-use Rattle.command_words.specs.declared.table.Operand.TheVariants.{Provider, File, Sector, FewSectors, ManySectors, Seed, Digits}
+use Rattle.command_words.specs.declared.table.Operand.TheVariants.{Provider, File, Sector, FewSectors, ManySectors, Seed, Digits, Job, Tag}
 use Rattle.command_words.specs.declared.table.Letter.{Letter}
 use Rattle.command_words.specs.declared.table.Letter.TheVariants.{Alone, WithValue}
 use Rattle.command_words.specs.declared.kinds.WordKind.{WordKind}
@@ -77,6 +78,7 @@ with_switch s OnlyCheck = record s { only_check = true }
 with_switch s ReadOnly = record s { readonly = true }
 with_switch s AllSlots = record s { all = true }
 with_switch s Force = record s { force = true }
+with_switch s Restart = record s { restart = true }
 with_switch s Verbose = s
 
 -- What a step leaves, or why the line is no command.
@@ -135,6 +137,8 @@ with_operand o FewSectors word = record o { few = decimal word.bytes }
 with_operand o ManySectors word = record o { many = decimal word.bytes }
 with_operand o Seed word = record o { seed = decimal word.bytes }
 with_operand o Digits word = record o { digits = span_of word }
+with_operand o (Job job) word = record o { job = job }
+with_operand o Tag word = record o { tag = decimal word.bytes }
 
 -- The operands of a form among the words.
 abbrev pub taken_operands : List Operand → List Word → Operands → Result Operands Usage
@@ -145,4 +149,4 @@ taken_operands (operand ∷ form) (word ∷ words) o =
 
 -- The operands of a line that has a provider alone.
 abbrev pub provider_alone : Span → Operands
-provider_alone prov = record { prov = prov; file = no_span; digits = no_span; seed = 0; sector = 0; few = 0; many = 0 }
+provider_alone prov = record { prov = prov; file = no_span; digits = no_span; seed = 0; sector = 0; few = 0; many = 0; job = jobs.Flush; tag = 0 }

@@ -3,6 +3,8 @@ use Rattle.std.specs.Prelude.{ℕ, ◌≤◌, List, All, IfSome, slice_range, Op
 use Rattle.std.specs.Str.{IsUtf8}
 use Rattle.command_words.specs.declared.commands.Command.{Command}
 use Rattle.command_words.specs.declared.commands.Command.TheVariants as commands
+use Rattle.command_words.specs.declared.commands.JobWords.{JobWords}
+use Rattle.command_words.specs.declared.commands.JobWords.TheVariants as jobs
 use Rattle.command_words.specs.declared.spans.Span.{Span}
 use Rattle.command_words.specs.declared.spans.KeyWords.{KeyWords}
 
@@ -13,6 +15,12 @@ IsWithin len span = (span.start ≤ span.end) × (span.end ≤ len)
 -- The spans of a key lie in the line.
 abbrev pub KeyIsWithin : ℕ → KeyWords → Type 0
 KeyIsWithin len key = All (IsWithin len) key.files × All (IsWithin len) key.pass
+
+-- The spans of a request lie in the line.
+abbrev pub JobIsWithin : ℕ → JobWords → Type 0
+JobIsWithin len (jobs.Read sector count) = Unit {0}
+JobIsWithin len (jobs.Write sector hex) = IsWithin len hex
+JobIsWithin len jobs.Flush = Unit {0}
 
 -- The spans of a command lie in the line.
 abbrev pub CommandIsWithin : ℕ → Command → Type 0
@@ -34,6 +42,12 @@ CommandIsWithin len commands.List = Unit {0}
 CommandIsWithin len (commands.Fill prov seed start count) = IsWithin len prov
 CommandIsWithin len (commands.Sum prov start count) = IsWithin len prov
 CommandIsWithin len (commands.Eject prov) = IsWithin len prov
+CommandIsWithin len (commands.Submit prov job) = IsWithin len prov × JobIsWithin len job
+CommandIsWithin len (commands.Step prov tag) = IsWithin len prov
+CommandIsWithin len (commands.Reap prov tag) = IsWithin len prov
+CommandIsWithin len (commands.Suspend prov) = IsWithin len prov
+CommandIsWithin len (commands.Resume prov old) = IsWithin len prov × KeyIsWithin len old
+CommandIsWithin len (commands.Verify prov file count restart) = IsWithin len prov × IsWithin len file
 
 -- The provider that a command names, if it names one.
 abbrev pub provider_of : Command → Option Span
@@ -54,6 +68,12 @@ provider_of commands.List = None
 provider_of (commands.Fill prov seed start count) = Some prov
 provider_of (commands.Sum prov start count) = Some prov
 provider_of (commands.Eject prov) = Some prov
+provider_of (commands.Submit prov job) = Some prov
+provider_of (commands.Step prov tag) = Some prov
+provider_of (commands.Reap prov tag) = Some prov
+provider_of (commands.Suspend prov) = Some prov
+provider_of (commands.Resume prov old) = Some prov
+provider_of (commands.Verify prov file count restart) = Some prov
 
 -- The bytes of a span.
 abbrev pub bytes_at : List ℕ → Span → List ℕ

@@ -5,6 +5,8 @@ use Rattle.eli_base.specs.declared.Reason.{Reason}
 use Rattle.eli_base.specs.declared.Reason.TheVariants.{UnknownVerb, OperandCount, MissingOption, Exclusive, NotText}
 use Rattle.command_words.specs.declared.commands.Command.{Command}
 use Rattle.command_words.specs.declared.commands.Command.TheVariants as commands
+use Rattle.command_words.specs.declared.commands.JobWords.{JobWords}
+use Rattle.command_words.specs.declared.commands.JobWords.TheVariants as job_words
 use Rattle.command_words.specs.declared.commands.Usage.{Usage}
 use Rattle.command_words.specs.declared.operands.Operands.{Operands}
 use Rattle.command_words.specs.declared.spans.Sep.{Sep}
@@ -12,9 +14,11 @@ use Rattle.command_words.specs.declared.spans.Sep.TheVariants.{Blanks, Zeros}
 use Rattle.command_words.specs.declared.spans.Span.{Span}
 use Rattle.command_words.specs.declared.spans.KeyWords.{KeyWords}
 use Rattle.command_words.specs.declared.settings.Settings.{Settings}
+use Rattle.command_words.specs.declared.table.JobName.{JobName}
+use Rattle.command_words.specs.declared.table.JobName.TheVariants as jobs
 use Rattle.command_words.specs.declared.table.Operand.{Operand}
 use Rattle.command_words.specs.declared.table.Verb.{Verb}
-use Rattle.command_words.specs.declared.table.Verb.TheVariants.{Init, Attach, Detach, Setkey, Delkey, Kill, Backup, Restore, Resize, Dump, Read, Write, Flush, List as ListVerb, Fill, Sum, Eject}
+use Rattle.command_words.specs.declared.table.Verb.TheVariants.{Init, Attach, Detach, Setkey, Delkey, Kill, Backup, Restore, Resize, Dump, Read, Write, Flush, List as ListVerb, Fill, Sum, Eject, Submit, Step, Reap, Suspend, Resume, Verify}
 use Rattle.command_words.specs.Words.{Word, words}
 use Rattle.command_words.specs.Table.{verb_named, form_of}
 use Rattle.command_words.specs.Options.{Options, options, first_fault}
@@ -49,6 +53,12 @@ excludes verb settings = excludes_itself settings.old_key || excludes_itself set
 abbrev pub complaint : Verb → Settings → Option Reason
 complaint verb settings = if lacks_option verb settings then Some MissingOption else (if excludes verb settings then Some Exclusive else None)
 
+-- A job of this name, by what the operands come to.
+abbrev pub job_at : JobName → Operands → JobWords
+job_at jobs.Read o = job_words.Read o.sector o.few
+job_at jobs.Write o = job_words.Write o.sector o.digits
+job_at jobs.Flush o = job_words.Flush
+
 -- The command of a verb, by what its options and its operands come to.
 abbrev pub command_at : Verb → Settings → Operands → Command
 command_at Init s o = commands.Init o.prov s.cipher s.auth s.keylen s.sectorsize s.iterations s.autoresize s.fresh_key s.backup
@@ -68,6 +78,12 @@ command_at ListVerb s o = commands.List
 command_at Fill s o = commands.Fill o.prov o.seed o.sector o.many
 command_at Sum s o = commands.Sum o.prov o.sector o.many
 command_at Eject s o = commands.Eject o.prov
+command_at Submit s o = commands.Submit o.prov (job_at o.job o)
+command_at Step s o = commands.Step o.prov o.tag
+command_at Reap s o = commands.Reap o.prov o.tag
+command_at Suspend s o = commands.Suspend o.prov
+command_at Resume s o = commands.Resume o.prov s.old_key
+command_at Verify s o = commands.Verify o.prov o.file o.many s.restart
 
 -- The fault, or what follows without one.
 abbrev pub unless_fault : Option Usage → Result Command Usage → Result Command Usage
@@ -87,7 +103,7 @@ by_form (Some form) verb total settings words =
 
 -- What follows the options: how many operands there are, the options together, and then the operands from left to right.
 abbrev pub settled : Verb → ℕ → Settings → List Word → Result Command Usage
-settled verb total settings words = by_form (form_of verb (length words)) verb total settings words
+settled verb total settings words = by_form (form_of verb words) verb total settings words
 
 abbrev pub by_options : Verb → ℕ → Options → Result Command Usage
 by_options verb total read = unless_fault (first_fault [] read.items) (settled verb total (settings_of read.items) read.operands)

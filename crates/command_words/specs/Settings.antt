@@ -8,7 +8,7 @@ use Rattle.eli_base.specs.declared.algorithms.Cipher.TheVariants.{AesXts}
 use Rattle.command_words.specs.declared.spans.Span.{Span}
 use Rattle.command_words.specs.declared.settings.Settings.{Settings}
 use Rattle.command_words.specs.declared.table.Switch.{Switch}
-use Rattle.command_words.specs.declared.table.Switch.TheVariants.{WithoutOld, WithoutFresh, FixedSize, OnlyCheck, ReadOnly, AllSlots, Force, Verbose}
+use Rattle.command_words.specs.declared.table.Switch.TheVariants.{WithoutOld, WithoutFresh, FixedSize, OnlyCheck, ReadOnly, AllSlots, Force, Restart, Verbose}
 use Rattle.command_words.specs.declared.table.Valued.{Valued}
 use Rattle.command_words.specs.declared.table.Valued.TheVariants.{AuthName, CipherName, Iterations, KeyLength, SectorSize, OldSize, Slot, BackupFile, OldFile, OldPass, FreshFile, FreshPass}
 use Rattle.command_words.specs.Words.{Word}
@@ -38,6 +38,7 @@ switch_place ReadOnly = 4
 switch_place AllSlots = 5
 switch_place Force = 6
 switch_place Verbose = 7
+switch_place Restart = 8
 
 abbrev pub sets : Switch → Item → Bool
 sets switch (Set given) = switch_place switch == switch_place given
@@ -73,6 +74,7 @@ settings_of items = record {
   readonly = is_set ReadOnly items;
   all = is_set AllSlots items;
   force = is_set Force items;
+  restart = is_set Restart items;
   old_key = record { files = files_of OldFile items; pass = files_of OldPass items; without = is_set WithoutOld items };
   fresh_key = record { files = files_of FreshFile items; pass = files_of FreshPass items; without = is_set WithoutFresh items };
 }

@@ -1,20 +1,23 @@
 -- The verbs, their options and their operands.
-use Rattle.std.specs.Prelude.{ℕ, List, [], ◌∷◌, length, ◌==◌, if◌then◌else◌, Option, None, Some, codes, map, option_map}
+use Rattle.std.specs.Prelude.{ℕ, List, [], ◌∷◌, length, Bool, true, ◌&&◌, ◌==◌, if◌then◌else◌, Option, None, Some, codes, map, option_map}
 use Rattle.std.specs.Str.{byte, bytes_eq}
 use Rattle.command_words.specs.declared.table.Verb.{Verb}
-use Rattle.command_words.specs.declared.table.Verb.TheVariants.{Init, Attach, Detach, Setkey, Delkey, Kill, Backup, Restore, Resize, Dump, Read, Write, Flush, List as ListVerb, Fill, Sum, Eject}
+use Rattle.command_words.specs.declared.table.Verb.TheVariants.{Init, Attach, Detach, Setkey, Delkey, Kill, Backup, Restore, Resize, Dump, Read, Write, Flush, List as ListVerb, Fill, Sum, Eject, Submit, Step, Reap, Suspend, Resume, Verify}
 use Rattle.command_words.specs.declared.table.Switch.{Switch}
-use Rattle.command_words.specs.declared.table.Switch.TheVariants.{WithoutOld, WithoutFresh, FixedSize, OnlyCheck, ReadOnly, AllSlots, Force, Verbose}
+use Rattle.command_words.specs.declared.table.Switch.TheVariants.{WithoutOld, WithoutFresh, FixedSize, OnlyCheck, ReadOnly, AllSlots, Force, Restart, Verbose}
 use Rattle.command_words.specs.declared.table.Valued.{Valued}
 use Rattle.command_words.specs.declared.table.Valued.TheVariants.{AuthName, CipherName, Iterations, KeyLength, SectorSize, OldSize, Slot, BackupFile, OldFile, OldPass, FreshFile, FreshPass}
 use Rattle.command_words.specs.declared.table.Letter.{Letter}
 use Rattle.command_words.specs.declared.table.Letter.TheVariants.{Alone, WithValue}
 use Rattle.command_words.specs.declared.table.Operand.{Operand}
-use Rattle.command_words.specs.declared.table.Operand.TheVariants.{Provider, File, Sector, FewSectors, ManySectors, Seed, Digits}
+use Rattle.command_words.specs.declared.table.Operand.TheVariants.{Provider, File, Sector, FewSectors, ManySectors, Seed, Digits, Job, Tag}
+use Rattle.command_words.specs.declared.table.JobName.TheVariants as jobs
 use Rattle.command_words.specs.declared.table.Row as Code
+use Rattle.command_words.specs.Words.{Word}
+use Rattle.command_words.specs.Values.{job_name}
 
 -- A line of the table of verbs: the name, the letters without a value, the letters with a value, and the operands in
--- order, in each form that the verb has; forms differ by how many operands they have.
+-- order, in each form that the verb has; forms differ by how many operands they have, or by the name of a job.
 pub record Row : Type 0 where
   pub name : List ℕ
   pub alone : List (ℕ × Switch)
@@ -24,7 +27,7 @@ pub record Row : Type 0 where
 abbrev pub row : List ℕ → List (ℕ × Switch) → List (ℕ × Valued) → List (List Operand) → Row
 row name alone valued forms = record { name = name; alone = alone; valued = valued; forms = forms }
 
--- The table of verbs: geli(8), SYNOPSIS; `dump` and those from `read` on are this program's own.
+-- The table of verbs: geli(8), SYNOPSIS; `dump`, `verify` and those from `read` to `reap` are this program's own.
 abbrev pub row_of : Verb → Row
 row_of Init = row (codes "init")
     ((byte "P", WithoutFresh) ∷ (byte "R", FixedSize) ∷ (byte "v", Verbose) ∷ [])
@@ -52,10 +55,17 @@ row_of ListVerb = row (codes "list") [] [] ([] ∷ [])
 row_of Fill = row (codes "fill") [] [] ((Provider ∷ Seed ∷ Sector ∷ ManySectors ∷ []) ∷ [])
 row_of Sum = row (codes "sum") [] [] ((Provider ∷ Sector ∷ ManySectors ∷ []) ∷ [])
 row_of Eject = row (codes "eject") [] [] ((Provider ∷ []) ∷ [])
+row_of Submit = row (codes "submit") [] []
+    ((Provider ∷ Job jobs.Flush ∷ []) ∷ (Provider ∷ Job jobs.Read ∷ Sector ∷ FewSectors ∷ []) ∷ (Provider ∷ Job jobs.Write ∷ Sector ∷ Digits ∷ []) ∷ [])
+row_of Step = row (codes "step") [] [] ((Provider ∷ Tag ∷ []) ∷ [])
+row_of Reap = row (codes "reap") [] [] ((Provider ∷ Tag ∷ []) ∷ [])
+row_of Suspend = row (codes "suspend") ((byte "v", Verbose) ∷ []) [] ((Provider ∷ []) ∷ [])
+row_of Resume = row (codes "resume") ((byte "p", WithoutOld) ∷ (byte "v", Verbose) ∷ []) ((byte "j", OldPass) ∷ (byte "k", OldFile) ∷ []) ((Provider ∷ []) ∷ [])
+row_of Verify = row (codes "verify") ((byte "r", Restart) ∷ (byte "v", Verbose) ∷ []) [] ((Provider ∷ File ∷ ManySectors ∷ []) ∷ [])
 
 -- All verbs.
 abbrev pub verbs : List Verb
-verbs = Init ∷ Attach ∷ Detach ∷ Setkey ∷ Delkey ∷ Kill ∷ Backup ∷ Restore ∷ Resize ∷ Dump ∷ Read ∷ Write ∷ Flush ∷ ListVerb ∷ Fill ∷ Sum ∷ Eject ∷ []
+verbs = Init ∷ Attach ∷ Detach ∷ Setkey ∷ Delkey ∷ Kill ∷ Backup ∷ Restore ∷ Resize ∷ Dump ∷ Read ∷ Write ∷ Flush ∷ ListVerb ∷ Fill ∷ Sum ∷ Eject ∷ Submit ∷ Step ∷ Reap ∷ Suspend ∷ Resume ∷ Verify ∷ []
 
 abbrev pub named_among : List ℕ → List Verb → Option Verb
 named_among name [] = None
@@ -78,13 +88,39 @@ letter_or None valued = option_map WithValue valued
 abbrev pub letter_of : Verb → ℕ → Option Letter
 letter_of verb letter = letter_or (entry letter (row_of verb).alone) (entry letter (row_of verb).valued)
 
+-- The first form of so many operands.
 abbrev pub of_length : ℕ → List (List Operand) → Option (List Operand)
 of_length count [] = None
 of_length count (form ∷ forms) = if length form == count then Some form else of_length count forms
 
--- The operands of a verb where there are so many.
-abbrev pub form_of : Verb → ℕ → Option (List Operand)
-form_of verb count = of_length count (row_of verb).forms
+-- Whether a word may stand for an operand by its name: a job has its own.
+abbrev pub is_named : Operand → List ℕ → Bool
+is_named (Job job) bytes = bytes_eq bytes (job_name job)
+is_named _ bytes = true
+
+-- Whether the jobs that a form names are those of the words.
+abbrev pub are_named : List Operand → List Word → Bool
+are_named [] words = true
+are_named (operand ∷ form) [] = true
+are_named (operand ∷ form) (word ∷ words) = is_named operand word.bytes && are_named form words
+
+-- The first form of as many operands as there are words, where the words name the jobs of the form.
+abbrev pub of_words : List Word → List (List Operand) → Option (List Operand)
+of_words words [] = None
+of_words words (form ∷ forms) = if length form == length words && are_named form words then Some form else of_words words forms
+
+abbrev pub form_or : Option (List Operand) → Option (List Operand) → Option (List Operand)
+form_or (Some form) other = Some form
+form_or None other = other
+
+-- The form among others that these words are read by: where no form of so many operands has the jobs that they name, the
+-- first of so many, whose job they then don't name.
+abbrev pub form_among : List Word → List (List Operand) → Option (List Operand)
+form_among words forms = form_or (of_words words forms) (of_length (length words) forms)
+
+-- The operands of a verb, as these words are read.
+abbrev pub form_of : Verb → List Word → Option (List Operand)
+form_of verb words = form_among words (row_of verb).forms
 
 -- A line of the code's table.
 abbrev pub row_seen : Code.Row → Row

@@ -11,8 +11,10 @@ use Rattle.eli_base.specs.declared.Reason.{Reason}
 use Rattle.eli_base.specs.declared.Reason.TheVariants.{BadNumber, BadName, BadHex, DashFile, TooManyFiles}
 use Rattle.command_words.specs.declared.table.Valued.{Valued}
 use Rattle.command_words.specs.declared.table.Valued.TheVariants.{AuthName, CipherName, Iterations, KeyLength, SectorSize, OldSize, Slot, BackupFile, OldFile, OldPass, FreshFile, FreshPass}
+use Rattle.command_words.specs.declared.table.JobName.{JobName}
+use Rattle.command_words.specs.declared.table.JobName.TheVariants as jobs
 use Rattle.command_words.specs.declared.table.Operand.{Operand}
-use Rattle.command_words.specs.declared.table.Operand.TheVariants.{Provider, File, Sector, FewSectors, ManySectors, Seed, Digits}
+use Rattle.command_words.specs.declared.table.Operand.TheVariants.{Provider, File, Sector, FewSectors, ManySectors, Seed, Digits, Job, Tag}
 
 -- The value of decimal digits: each counts the power of ten of its place.
 abbrev pub decimal : List ℕ → ℕ
@@ -77,6 +79,12 @@ value_fault OldPass before bytes = files_fault before bytes
 value_fault FreshFile before bytes = files_fault before bytes
 value_fault FreshPass before bytes = files_fault before bytes
 
+-- The word that names a job.
+abbrev pub job_name : JobName → List ℕ
+job_name jobs.Read = codes "read"
+job_name jobs.Write = codes "write"
+job_name jobs.Flush = codes "flush"
+
 -- What is wrong with an operand.
 abbrev pub operand_fault : Operand → List ℕ → Option Reason
 operand_fault Provider bytes = None
@@ -86,3 +94,5 @@ operand_fault FewSectors bytes = unless (is_some (number_within 1 256 bytes)) Ba
 operand_fault ManySectors bytes = unless (is_some (number_within 1 9223372036854775807 bytes)) BadNumber
 operand_fault Seed bytes = unless (is_some (number_within 0 18446744073709551615 bytes)) BadNumber
 operand_fault Digits bytes = unless (is_hexadecimal bytes) BadHex
+operand_fault (Job job) bytes = unless (bytes_eq bytes (job_name job)) BadName
+operand_fault Tag bytes = unless (is_some (number_within 0 31 bytes)) BadNumber

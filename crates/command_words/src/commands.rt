@@ -5,6 +5,27 @@ ghost use Rattle.command_words.specs.Places.{provider_of};
 use crate::spans::{KeyWords, Span};
 use eli_base::{Auth, Cipher, Reason};
 
+/// A request that is submitted, with the place of its bytes in the line.
+#[derive(Clone, Copy, Debug, PartialEq, Eq)]
+pub enum JobWords {
+    /// `read`: reads logical sectors.
+    Read {
+        /// The number of the first sector.
+        sector: u64,
+        /// How many sectors.
+        count: u32,
+    },
+    /// `write`: writes logical sectors.
+    Write {
+        /// The number of the first sector.
+        sector: u64,
+        /// The bytes, in hexadecimal.
+        hex: Span,
+    },
+    /// `flush`: flushes the image.
+    Flush,
+}
+
 /// One command, with the places of its names in the line.
 #[derive(Debug, Drop)]
 pub enum Command {
@@ -154,6 +175,50 @@ pub enum Command {
         /// The provider.
         prov: Span,
     },
+    /// `submit`: opens a request.
+    Submit {
+        /// The provider.
+        prov: Span,
+        /// What is asked for.
+        job: JobWords,
+    },
+    /// `step`: makes the next step of an open request.
+    Step {
+        /// The provider.
+        prov: Span,
+        /// The tag of the request.
+        tag: u8,
+    },
+    /// `reap`: takes a request out that has no step left.
+    Reap {
+        /// The provider.
+        prov: Span,
+        /// The tag of the request.
+        tag: u8,
+    },
+    /// `suspend`: lets the keys of a provider go.
+    Suspend {
+        /// The provider.
+        prov: Span,
+    },
+    /// `resume`: opens a suspended provider.
+    Resume {
+        /// The provider.
+        prov: Span,
+        /// The key.
+        old: KeyWords,
+    },
+    /// `verify`: lists the units that fail.
+    Verify {
+        /// The provider.
+        prov: Span,
+        /// The file that has the place where the sweep begins.
+        file: Span,
+        /// How many sectors.
+        count: u64,
+        /// `-r`: the sweep begins at the first sector.
+        restart: bool,
+    },
 }
 
 impl Command {
@@ -177,7 +242,13 @@ impl Command {
             | Command::Flush { prov }
             | Command::Fill { prov, .. }
             | Command::Sum { prov, .. }
-            | Command::Eject { prov } => Some(*prov),
+            | Command::Eject { prov }
+            | Command::Submit { prov, .. }
+            | Command::Step { prov, .. }
+            | Command::Reap { prov, .. }
+            | Command::Suspend { prov }
+            | Command::Resume { prov, .. }
+            | Command::Verify { prov, .. } => Some(*prov),
             Command::List => None,
         }
     }

@@ -14,7 +14,7 @@ mod spans;
 mod table;
 mod values;
 
-pub use commands::{Command, Usage};
+pub use commands::{Command, JobWords, Usage};
 pub use images::{ImageNames, images_of, joined, script_images};
 pub use lines::{command_in, read_line};
 pub use spans::{KeyWords, Sep, Span, SpanList};

@@ -5,15 +5,15 @@ ghost use Rattle.command_words.specs.Cursor.{left};
 ghost use Rattle.command_words.specs.Pass.{provider_alone};
 ghost use Rattle.command_words.specs.Bounds.{IsBounded};
 ghost use Rattle.command_words.specs.Places.{CommandIsWithin, ProviderIsText};
-ghost use Rattle.command_words.specs.Reading.{reading, by_verb, settled, is_comment, complaint, command_at, command_in, excludes_itself, lacks_option, excludes_own, excludes, line_limit};
+ghost use Rattle.command_words.specs.Reading.{reading, by_verb, settled, is_comment, complaint, command_at, job_at, command_in, excludes_itself, lacks_option, excludes_own, excludes, line_limit};
 
-use crate::commands::{Command, Usage};
+use crate::commands::{Command, JobWords, Usage};
 use crate::cursor::Words;
 use crate::operands::{Operands, take_operands};
 use crate::pass::take_options;
 use crate::settings::Settings;
 use crate::spans::{KeyWords, Sep, Span};
-use crate::table::Verb;
+use crate::table::{JobName, Verb};
 use eli_base::Reason;
 
 // The most bytes of a line.
@@ -134,6 +134,23 @@ fn delkey(settings: &Settings, prov: Span) -> Command
     }
 }
 
+// The request that the operands of `submit` say.
+fn job(operands: &Operands) -> JobWords
+    ensures { result ≡ job_at operands.now.job operands.now }
+{
+    match operands.job {
+        JobName::Read => JobWords::Read {
+            sector: operands.sector,
+            count: operands.few,
+        },
+        JobName::Write => JobWords::Write {
+            sector: operands.sector,
+            hex: operands.digits,
+        },
+        JobName::Flush => JobWords::Flush,
+    }
+}
+
 // The command of a verb with these options and operands.
 fn command(verb: Verb, settings: Settings, operands: Operands) -> Command
     ensures { result ≡ command_at verb settings operands }
@@ -146,8 +163,11 @@ fn command(verb: Verb, settings: Settings, operands: Operands) -> Command
         sector,
         few,
         many: count,
+        tag,
+        ..
     } = operands;
     let force = settings.force;
+    let restart = settings.restart;
     let oldsize = settings.oldsize.unwrap_or(0);
     let start = sector;
     match verb {
@@ -177,6 +197,23 @@ fn command(verb: Verb, settings: Settings, operands: Operands) -> Command
         },
         Verb::Sum => Command::Sum { prov, start, count },
         Verb::Eject => Command::Eject { prov },
+        Verb::Submit => Command::Submit {
+            prov,
+            job: job(&operands),
+        },
+        Verb::Step => Command::Step { prov, tag },
+        Verb::Reap => Command::Reap { prov, tag },
+        Verb::Suspend => Command::Suspend { prov },
+        Verb::Resume => Command::Resume {
+            prov,
+            old: settings.old_key,
+        },
+        Verb::Verify => Command::Verify {
+            prov,
+            file,
+            count,
+            restart,
+        },
     }
 }
 
@@ -186,7 +223,7 @@ fn settle(verb: Verb, settings: Settings, words: Words) -> Result<Command, Usage
 {
     let count = words.count();
     let total = words.number() + count;
-    let Some(form) = verb.operands(count) else {
+    let Some(form) = verb.operands(words) else {
         return Err(Usage {
             word: total,
             reason: Reason::OperandCount,

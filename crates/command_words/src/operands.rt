@@ -10,7 +10,7 @@ use crate::commands::Usage;
 use crate::cursor::{Piece, Words};
 use crate::settings::named_file;
 use crate::spans::Span;
-use crate::table::Operand;
+use crate::table::{JobName, Operand};
 use crate::values;
 use eli_base::Reason;
 
@@ -24,6 +24,8 @@ pub struct Operands {
     pub sector: u64,
     pub few: u32,
     pub many: u64,
+    pub job: JobName,
+    pub tag: u8,
 }
 
 fn number(value: Piece, low: u64, high: u64) -> Result<u64, Reason>
@@ -45,6 +47,18 @@ fn hexadecimal(value: Piece) -> Result<Span, Reason>
     Ok(value.span())
 }
 
+// The job, where the word names it.
+fn named_job(job: JobName, value: Piece) -> Result<JobName, Reason>
+    ensures { MatchResult result
+        (λ named. (operand_fault (Operand.Job job) value.entry.bytes.now ≡ None) × (named ≡ job))
+        (λ reason. operand_fault (Operand.Job job) value.entry.bytes.now ≡ Some reason) }
+{
+    if value.bytes != job.name() {
+        return Err(Reason::BadName);
+    }
+    Ok(job)
+}
+
 impl Operands {
     // What no operand says.
     fn new() -> Operands
@@ -63,6 +77,8 @@ impl Operands {
             sector: 0,
             few: 0,
             many: 0,
+            job: JobName::Flush,
+            tag: 0,
         }
     }
 
@@ -80,6 +96,8 @@ impl Operands {
             Operand::ManySectors => self.many = number(word, 1, 9_223_372_036_854_775_807)?,
             Operand::Seed => self.seed = number(word, 0, 18_446_744_073_709_551_615)?,
             Operand::Digits => self.digits = hexadecimal(word)?,
+            Operand::Job(job) => self.job = named_job(job, word)?,
+            Operand::Tag => self.tag = number(word, 0, 31)? as u8,
         }
         Ok(())
     }

@@ -26,6 +26,7 @@ pub struct Settings {
     pub readonly: bool,
     pub all: bool,
     pub force: bool,
+    pub restart: bool,
     pub old_key: KeyWords,
     pub fresh_key: KeyWords,
 }
@@ -149,6 +150,7 @@ impl Settings {
             readonly: false,
             all: false,
             force: false,
+            restart: false,
             old_key: KeyWords::new(),
             fresh_key: KeyWords::new(),
         }
@@ -166,6 +168,7 @@ impl Settings {
             Switch::ReadOnly => self.readonly = true,
             Switch::AllSlots => self.all = true,
             Switch::Force => self.force = true,
+            Switch::Restart => self.restart = true,
             Switch::Verbose => {}
         }
     }

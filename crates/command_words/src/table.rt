@@ -1,6 +1,10 @@
 // The verbs, their options and their operands.
-ghost use Rattle.std.specs.Prelude.{◌≡◌, ℕ, MatchOption, map};
-ghost use Rattle.command_words.specs.Table.{row_seen, row_of, named_among, verb_named, letter_of, entry, of_length, form_of};
+ghost use Rattle.std.specs.Prelude.{◌≡◌, ℕ, MatchOption, map, length};
+ghost use Rattle.command_words.specs.Table.{row_seen, row_of, named_among, verb_named, letter_of, entry, of_length, are_named, is_named, of_words, form_of};
+ghost use Rattle.command_words.specs.Values.{job_name};
+ghost use Rattle.command_words.specs.Cursor.{left};
+
+use crate::cursor::Words;
 
 /// The verbs of the command line.
 #[derive(Clone, Copy)]
@@ -22,6 +26,12 @@ pub enum Verb {
     Fill,
     Sum,
     Eject,
+    Submit,
+    Step,
+    Reap,
+    Suspend,
+    Resume,
+    Verify,
 }
 
 /// An option without a value.
@@ -41,6 +51,8 @@ pub enum Switch {
     AllSlots,
     /// `-f`, which has no effect on `detach`.
     Force,
+    /// `-r` of `verify`: the sweep begins at the first sector.
+    Restart,
     /// `-v`, which has no effect.
     Verbose,
 }
@@ -81,6 +93,30 @@ pub enum Letter {
     WithValue(Valued),
 }
 
+/// What a request asks for, by the word that names it.
+#[derive(Clone, Copy)]
+pub enum JobName {
+    /// `read`.
+    Read,
+    /// `write`.
+    Write,
+    /// `flush`.
+    Flush,
+}
+
+impl JobName {
+    /// The word.
+    pub fn name(self) -> &'static [u8]
+        ensures { result.now ≡ job_name self }
+    {
+        match self {
+            JobName::Read => b"read",
+            JobName::Write => b"write",
+            JobName::Flush => b"flush",
+        }
+    }
+}
+
 /// An operand.
 #[derive(Clone, Copy)]
 pub enum Operand {
@@ -98,6 +134,10 @@ pub enum Operand {
     Seed,
     /// Bytes in hexadecimal.
     Digits,
+    /// The name of a job, and no other word.
+    Job(JobName),
+    /// The tag of a request.
+    Tag,
 }
 
 /// A line of the table of verbs.
@@ -113,7 +153,7 @@ pub struct Row {
     pub forms: &'static [&'static [Operand]],
 }
 
-const VERBS: [Verb; 17] = [
+const VERBS: [Verb; 23] = [
     Verb::Init,
     Verb::Attach,
     Verb::Detach,
@@ -131,6 +171,12 @@ const VERBS: [Verb; 17] = [
     Verb::Fill,
     Verb::Sum,
     Verb::Eject,
+    Verb::Submit,
+    Verb::Step,
+    Verb::Reap,
+    Verb::Suspend,
+    Verb::Resume,
+    Verb::Verify,
 ];
 
 // The table of verbs, a line for each.
@@ -296,6 +342,62 @@ static EJECT: Row = Row {
     forms: &[&[Operand::Provider]],
 };
 
+static SUBMIT: Row = Row {
+    name: b"submit",
+    alone: &[],
+    valued: &[],
+    forms: &[
+        &[Operand::Provider, Operand::Job(JobName::Flush)],
+        &[
+            Operand::Provider,
+            Operand::Job(JobName::Read),
+            Operand::Sector,
+            Operand::FewSectors,
+        ],
+        &[
+            Operand::Provider,
+            Operand::Job(JobName::Write),
+            Operand::Sector,
+            Operand::Digits,
+        ],
+    ],
+};
+
+static STEP: Row = Row {
+    name: b"step",
+    alone: &[],
+    valued: &[],
+    forms: &[&[Operand::Provider, Operand::Tag]],
+};
+
+static REAP: Row = Row {
+    name: b"reap",
+    alone: &[],
+    valued: &[],
+    forms: &[&[Operand::Provider, Operand::Tag]],
+};
+
+static SUSPEND: Row = Row {
+    name: b"suspend",
+    alone: &[(b'v', Switch::Verbose)],
+    valued: &[],
+    forms: &[&[Operand::Provider]],
+};
+
+static RESUME: Row = Row {
+    name: b"resume",
+    alone: &[(b'p', Switch::WithoutOld), (b'v', Switch::Verbose)],
+    valued: &[(b'j', Valued::OldPass), (b'k', Valued::OldFile)],
+    forms: &[&[Operand::Provider]],
+};
+
+static VERIFY: Row = Row {
+    name: b"verify",
+    alone: &[(b'r', Switch::Restart), (b'v', Switch::Verbose)],
+    valued: &[],
+    forms: &[&[Operand::Provider, Operand::File, Operand::ManySectors]],
+};
+
 // What a letter means among others.
 fn entry<V: Copy>(letters: &[(u8, V)], letter: u8) -> Option<V>
     ensures { result ≡ entry letter letters.now }
@@ -315,6 +417,64 @@ fn named_among(name: &[u8], verbs: &[Verb]) -> Option<Verb>
     for verb in verbs {
         if name == verb.row().name {
             return Some(*verb);
+        }
+    }
+    None
+}
+
+// Whether a word may stand for an operand by its name: a job has its own.
+fn is_named(operand: Operand, bytes: &[u8]) -> bool
+    ensures { result ≡ is_named operand bytes.now }
+{
+    match operand {
+        Operand::Job(job) => bytes == job.name(),
+        _ => true,
+    }
+}
+
+// Whether the jobs that a form names are those of the words.
+fn are_named(form: &[Operand], words: Words) -> bool
+    ensures { result ≡ are_named form.now (left words.entry) }
+{
+    let mut form = form;
+    let mut at = words;
+    'operands: while let [operand, others @ ..] = form {
+        let Some((word, behind)) = at.split_first() else {
+            return true;
+        };
+        if !is_named(*operand, word.bytes) {
+            return false;
+        }
+        form = others;
+        at = behind;
+    }
+    true
+}
+
+// The first form of as many operands as there are words, where the words name the jobs of the form.
+fn of_words(forms: &'static [&'static [Operand]], words: Words) -> Option<&'static [Operand]>
+    ensures { MatchOption result
+        (of_words (left words.entry) (map (λ form. form.now) forms.now) ≡ None)
+        (λ form. of_words (left words.entry) (map (λ form. form.now) forms.now) ≡ Some form.now) }
+{
+    let count = words.count();
+    for form in forms {
+        if form.len() == count as usize && are_named(form, words) {
+            return Some(form);
+        }
+    }
+    None
+}
+
+// The first form of so many operands.
+fn of_length(forms: &'static [&'static [Operand]], count: u32) -> Option<&'static [Operand]>
+    ensures { MatchOption result
+        (of_length count (map (λ form. form.now) forms.now) ≡ None)
+        (λ form. of_length count (map (λ form. form.now) forms.now) ≡ Some form.now) }
+{
+    for form in forms {
+        if form.len() == count as usize {
+            return Some(form);
         }
     }
     None
@@ -343,6 +503,12 @@ impl Verb {
             Verb::Fill => &FILL,
             Verb::Sum => &SUM,
             Verb::Eject => &EJECT,
+            Verb::Submit => &SUBMIT,
+            Verb::Step => &STEP,
+            Verb::Reap => &REAP,
+            Verb::Suspend => &SUSPEND,
+            Verb::Resume => &RESUME,
+            Verb::Verify => &VERIFY,
         }
     }
 
@@ -364,15 +530,14 @@ impl Verb {
         }
     }
 
-    /// The operands of the verb where there are so many.
-    pub fn operands(self, count: u32) -> Option<&'static [Operand]>
-        ensures { MatchOption result (form_of self count ≡ None) (λ form. form_of self count ≡ Some form.now) }
+    /// The operands of the verb, as these words are read.
+    pub fn operands(self, words: Words) -> Option<&'static [Operand]>
+        ensures { MatchOption result (form_of self (left words.entry) ≡ None) (λ form. form_of self (left words.entry) ≡ Some form.now) }
     {
-        for form in self.row().forms {
-            if form.len() == count as usize {
-                return Some(form);
-            }
+        let forms = self.row().forms;
+        match of_words(forms, words) {
+            Some(form) => Some(form),
+            None => of_length(forms, words.count()),
         }
-        None
     }
 }

@@ -1,18 +1,17 @@
 // The program's run over disks.
+use crate::disks::Disks;
 use crate::fault::Fault;
-use block_traits::{Disk, Event};
+use crate::run_disk::RunDisk;
+use block_traits::Disk;
 use crash_disk::{MemCabinet, MemEntropy, MemSink, MemSource, SparseDisk};
-use geli_core::{AddFault, Shelf, run_images};
+use geli_core::{AddFault, Drawers, run_images};
 use std::alloc::Global;
-
-/// What the shelf answers to a disk that it takes.
-pub const TAKEN_IN: &str = "ok";
 
 /// A disk of a run, and its name.
 #[derive(Drop)]
 pub struct Drawer {
     name: String,
-    disk: SparseDisk,
+    disk: RunDisk,
 }
 
 /// What the top call is given besides the words and the shelf.
@@ -24,62 +23,38 @@ pub struct Objects {
     pub entropy: MemEntropy,
 }
 
-/// What came of a run.
-#[derive(Drop)]
-pub struct Outcome {
-    /// The number of the status.
-    pub status: u8,
-    /// What came of each disk, in order.
-    pub disks: Vec<DiskOutcome>,
-}
-
-/// What came of a disk.
-#[derive(Drop)]
-pub struct DiskOutcome {
-    /// Its name.
-    pub name: String,
-    /// What the shelf answered to it.
-    pub answer: &'static str,
-    /// What was done to it, if it is still on the shelf.
-    pub events: Option<Vec<Event>>,
-}
-
 /// Adds a disk to those of a run.
 pub fn add_drawer(
     alloc: Global,
     name: &str,
-    disk: SparseDisk,
+    disk: RunDisk,
     into: &mut Vec<Drawer>,
 ) -> Result<(), Fault> {
     let name = String::from_str(alloc, name)?;
     Ok(into.push(Drawer { name, disk })?)
 }
 
-/// Makes the program's run over the disks, in order, that a shelf takes.
+/// Makes the program's run over the disks, in order, and answers the number of its status. The disks of the case note which
+/// of them are on the shelf still.
 pub fn top_call(
     alloc: Global,
     drawers: Vec<Drawer>,
     words: &[String],
     objects: &mut Objects,
-) -> Result<Outcome, Fault> {
-    let answers = answers_to(alloc, &drawers)?;
-    let mut outcomes = Vec::new(alloc);
+    disks_of_case: &mut Disks,
+) -> Result<u8, Fault> {
     let mut names = Vec::new(alloc);
     let mut disks: Vec<Box<dyn Disk>> = Vec::new(alloc);
-    for (drawer, answer) in drawers.into_iter().zip(answers) {
+    for drawer in drawers {
         let Drawer { name, disk } = drawer;
-        if answer == TAKEN_IN {
-            names.push(name.clone()?)?;
-            let disk: Box<dyn Disk> = Box::new(alloc, disk)?;
-            disks.push(disk)?;
-        }
-        outcomes.push(DiskOutcome {
-            name,
-            answer,
-            events: None,
-        })?;
+        names.push(name)?;
+        let disk: Box<dyn Disk> = Box::new(alloc, disk)?;
+        disks.push(disk)?;
     }
-    let Ok((status, shelf)) = run_images(
+    if disks.len() != names.len() {
+        return Err(Fault::Bad("a disk without a name"));
+    }
+    match run_images(
         alloc,
         words,
         &names,
@@ -88,30 +63,29 @@ pub fn top_call(
         &mut objects.output,
         &mut objects.cabinet,
         &mut objects.entropy,
-    ) else {
-        return Err(Fault::Bad("the shelf refuses a disk"));
-    };
-    for outcome in outcomes.iter_mut() {
-        outcome.events = listed(alloc, shelf.events(outcome.name.as_str()))?;
+    ) {
+        Ok((status, _shelf)) => {
+            disks_of_case.note_kept();
+            Ok(status.number())
+        }
+        Err(_) => Err(Fault::Bad("the shelf refuses a disk")),
     }
-    Ok(Outcome {
-        status: status.number(),
-        disks: outcomes,
-    })
 }
 
-// What a shelf answers to disks under these names, one after another.
-fn answers_to(alloc: Global, drawers: &[Drawer]) -> Result<Vec<&'static str>, Fault> {
-    let mut shelf = Shelf::new(alloc)?;
-    let mut answers = Vec::new(alloc);
+/// What a shelf that has these drawers answers to a further disk of this name, or none where it takes that.
+pub fn refusal_of(
+    alloc: Global,
+    drawers: &[Drawer],
+    name: &str,
+) -> Result<Option<&'static str>, Fault> {
+    let mut shelf = Drawers::new(alloc)?;
     for drawer in drawers {
-        let disk: Box<dyn Disk> = Box::new(alloc, SparseDisk::new(alloc, 2, 0)?)?;
-        answers.push(match shelf.add(drawer.name.as_str(), disk) {
-            Ok(()) => TAKEN_IN,
-            Err((_, fault)) => refusal(fault),
-        })?;
+        let _ = shelf.add(drawer.name.as_str(), SparseDisk::new(alloc, 2, 0)?);
     }
-    Ok(answers)
+    match shelf.add(name, SparseDisk::new(alloc, 2, 0)?) {
+        Ok(()) => Ok(None),
+        Err((_, fault)) => Ok(Some(refusal(fault))),
+    }
 }
 
 // How the transcript tells that the shelf refused a disk.
@@ -120,12 +94,5 @@ fn refusal(fault: AddFault) -> &'static str {
         AddFault::Full => "Full",
         AddFault::Taken => "Taken",
         AddFault::NoMemory => "NoMemory",
-    }
-}
-
-fn listed(alloc: Global, events: Option<&[Event]>) -> Result<Option<Vec<Event>>, Fault> {
-    match events {
-        None => Ok(None),
-        Some(events) => Ok(Some(Vec::from_slice(alloc, events)?)),
     }
 }

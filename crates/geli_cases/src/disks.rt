@@ -1,11 +1,17 @@
 // The disks of a case between its runs. A run has disks of their own, and its events are then done to these.
 use crate::call::{Drawer, add_drawer};
 use crate::fault::Fault;
+use crate::layers::{Layer, LayerKind, Layers, behind, joined, opened};
 use crate::line::{Form, Line};
 use crate::next_run::{NamedFail, add_name, fail_calls};
+use crate::run_disk::RunDisk;
+use crate::traced_disk::{SharedTrace, TracedDisk, new_trace};
+use crate::transcript::{Part, Transcript};
 use block_traits::{Disk, Event, Sector};
 use crash_disk::SparseDisk;
 use std::alloc::Global;
+use std::mem;
+use std::rc::Rc;
 
 // A disk has fewer sectors.
 const MOST_SECTORS: u64 = 1 << 44;
@@ -14,8 +20,9 @@ const MOST_SECTORS: u64 = 1 << 44;
 #[derive(Drop)]
 pub struct Disks {
     disks: Vec<CaseDisk>,
+    layers: Layers,
     shelf: Vec<String>,
-    // Whether a line named the disks on the shelf; else all are there.
+    // Whether a line named the disks on the shelf; else all are there, and no layer is.
     is_named: bool,
 }
 
@@ -25,6 +32,10 @@ pub struct CaseDisk {
     name: String,
     // Its history is that of the last run, if nothing was changed since.
     disk: SparseDisk,
+    // What the run that goes on does to it, if it is on the shelf.
+    trace: Option<SharedTrace>,
+    // Whether it was on the shelf still as the last run ended.
+    is_kept: bool,
 }
 
 impl Disks {
@@ -32,6 +43,7 @@ impl Disks {
     pub fn new(alloc: Global) -> Disks {
         Disks {
             disks: Vec::new(alloc),
+            layers: Layers::new(alloc),
             shelf: Vec::new(alloc),
             is_named: false,
         }
@@ -70,7 +82,24 @@ impl Disks {
             add_name(alloc, name, &mut self.shelf)?;
         }
         let name = String::from_str(alloc, name)?;
-        Ok(self.disks.push(CaseDisk { name, disk })?)
+        Ok(
+            self.disks.push(CaseDisk {
+                name,
+                disk,
+                trace: None,
+                is_kept: false,
+            })?,
+        )
+    }
+
+    /// Puts a layer upon disks of the case.
+    pub fn lay_over(
+        &mut self,
+        alloc: Global,
+        kind: LayerKind,
+        line: &mut Line<'_>,
+    ) -> Result<(), Fault> {
+        self.layers.tell(alloc, kind, line)
     }
 
     /// Gives a sector some bytes from an offset on.
@@ -120,17 +149,54 @@ impl Disks {
         let mut drawers = Vec::new(alloc);
         for name in &self.shelf {
             let name = name.as_str();
-            let mut disk = anew(alloc, &find(&mut self.disks, name)?.disk)?;
-            fail_calls(alloc, fails, name, &mut disk)?;
+            let disk = run_disk(alloc, &mut self.disks, &self.layers, name, fails)?;
             add_drawer(alloc, name, disk, &mut drawers)?;
         }
         Ok(drawers)
     }
 
-    /// A disk that left the shelf leaves the case.
-    pub fn forget(&mut self, name: &str) {
-        self.disks.retain(|disk| disk.name.as_str() != name);
-        self.shelf.retain(|other| other.as_str() != name);
+    /// Notes which disks are on the shelf of a run still, while that is there.
+    pub fn note_kept(&mut self) {
+        for disk in self.disks.iter_mut() {
+            disk.is_kept = disk.is_in_use();
+        }
+    }
+
+    /// Keeps and tells what a run did to each disk on the shelf. What left the shelf leaves the case, but for the disks
+    /// below a layer.
+    pub fn settle(&mut self, alloc: Global, transcript: &mut Transcript) -> Result<(), Fault> {
+        let names = mem::replace(&mut self.shelf, Vec::new(alloc));
+        for name in names {
+            if self.settle_drawer(alloc, name.as_str(), transcript)? {
+                self.shelf.push(name)?;
+            }
+        }
+        Ok(())
+    }
+
+    // The same for one name, and whether it is still on the shelf.
+    fn settle_drawer(
+        &mut self,
+        alloc: Global,
+        name: &str,
+        transcript: &mut Transcript,
+    ) -> Result<bool, Fault> {
+        let first = self.layers.first_below(name);
+        let is_there = find(&mut self.disks, first)?.is_kept;
+        if !is_there {
+            transcript.line(&[Part::Text("gone"), Part::Text(name)]);
+        }
+        if is_there || first != name {
+            find(&mut self.disks, first)?.settle(alloc, transcript)?;
+        }
+        if let Some(second) = self.layers.second_below(name) {
+            find(&mut self.disks, second)?.settle(alloc, transcript)?;
+        }
+        if !is_there {
+            self.layers.forget(name);
+            self.disks.retain(|disk| disk.name.as_str() != name);
+        }
+        Ok(is_there)
     }
 
     /// The disk of this name.
@@ -145,10 +211,32 @@ impl CaseDisk {
         &self.disk
     }
 
-    /// Keeps what a run did.
-    pub fn settle(&mut self, alloc: Global, events: &[Event]) -> Result<(), Fault> {
+    // The disk for a run, with the calls that fail.
+    fn lend(&mut self, alloc: Global, fails: &[NamedFail]) -> Result<TracedDisk, Fault> {
+        if self.trace.is_some() {
+            return Err(Fault::Bad("a disk is on the shelf twice"));
+        }
+        let mut disk = anew(alloc, &self.disk)?;
+        fail_calls(alloc, fails, self.name.as_str(), &mut disk)?;
+        let trace = new_trace(alloc)?;
+        self.trace = Some(trace.clone()?);
+        Ok(TracedDisk::new(disk, trace))
+    }
+
+    // Whether the run has the disk still.
+    fn is_in_use(&self) -> bool {
+        match &self.trace {
+            Some(trace) => Rc::strong_count(trace) > 1,
+            None => false,
+        }
+    }
+
+    // Keeps and tells what a run did.
+    fn settle(&mut self, alloc: Global, transcript: &mut Transcript) -> Result<(), Fault> {
+        let events = events_of(alloc, self.trace.take())?;
+        transcript.events(self.name.as_str(), &events);
         self.forget_run(alloc)?;
-        for event in events {
+        for event in &events {
             replay(event, &mut self.disk)?;
         }
         Ok(())
@@ -177,6 +265,47 @@ impl CaseDisk {
             Err(Fault::Bad("no such sector"))
         }
     }
+}
+
+// The disk under a name on the shelf.
+fn run_disk(
+    alloc: Global,
+    disks: &mut [CaseDisk],
+    layers: &Layers,
+    name: &str,
+    fails: &[NamedFail],
+) -> Result<RunDisk, Fault> {
+    match layers.find(name) {
+        None => Ok(RunDisk::Plain(find(disks, name)?.lend(alloc, fails)?)),
+        Some(Layer::Behind { under, room }) => {
+            behind(
+                alloc,
+                find(disks, under.as_str())?.lend(alloc, fails)?,
+                *room,
+            )
+        }
+        Some(Layer::Join { first, second }) => {
+            let first = find(disks, first.as_str())?.lend(alloc, fails)?;
+            joined(first, find(disks, second.as_str())?.lend(alloc, fails)?)
+        }
+        Some(Layer::Provider { under, passphrase }) => {
+            let disk = find(disks, under.as_str())?;
+            let last = disk.sector(disk.disk.sectors().saturating_sub(1))?;
+            opened(alloc, disk.lend(alloc, fails)?, &last, passphrase.as_str())
+        }
+    }
+}
+
+// The events of a trace.
+fn events_of(alloc: Global, trace: Option<SharedTrace>) -> Result<Vec<Event>, Fault> {
+    if let Some(trace) = trace {
+        if let Ok(noted) = trace.try_borrow() {
+            if !noted.is_cut {
+                return Ok(Vec::from_slice(alloc, &noted.events)?);
+            }
+        }
+    }
+    Err(Fault::NoMemory)
 }
 
 /// A disk of zeros.

@@ -1,5 +1,6 @@
 // The lines of a case file, as docs/CASES.md says them: a word, and arguments between single spaces.
 use crate::fault::Fault;
+use crate::layers::LayerKind;
 use std::alloc::{AllocError, Global};
 
 /// What a line says. The names are those of the words in `KINDS`.
@@ -31,6 +32,7 @@ pub enum Has {
     Alter,
     Cover,
     Take,
+    Layer(LayerKind),
     Shelf,
     File(Form),
     Watch,
@@ -73,7 +75,7 @@ pub enum Form {
 }
 
 // The word that each kind of line begins with.
-const KINDS: [(&str, Kind); 35] = [
+const KINDS: [(&str, Kind); 38] = [
     ("case", Kind::Case),
     ("run", Kind::Run),
     ("pick", Kind::Pick),
@@ -85,6 +87,9 @@ const KINDS: [(&str, Kind); 35] = [
     ("alter", Kind::Has(Has::Alter)),
     ("cover", Kind::Has(Has::Cover)),
     ("take", Kind::Has(Has::Take)),
+    ("behind", Kind::Has(Has::Layer(LayerKind::Behind))),
+    ("join", Kind::Has(Has::Layer(LayerKind::Join))),
+    ("provider", Kind::Has(Has::Layer(LayerKind::Provider))),
     ("shelf", Kind::Has(Has::Shelf)),
     ("file", Kind::Has(Has::File(Form::Hex))),
     ("file-count", Kind::Has(Has::File(Form::Counted))),

@@ -8,8 +8,11 @@ mod crash;
 mod disks;
 mod fault;
 mod files;
+mod layers;
 mod line;
 mod next_run;
+mod run_disk;
+mod traced_disk;
 mod transcript;
 mod world;
 

@@ -1,8 +1,11 @@
 // What the next run of a case is given.
-use crate::call::{Drawer, add_drawer};
+use crate::call::{Drawer, add_drawer, refusal_of};
 use crate::disks::blank;
 use crate::fault::Fault;
 use crate::line::{Form, Given, Line};
+use crate::run_disk::RunDisk;
+use crate::traced_disk::untraced;
+use crate::transcript::{Part, Transcript};
 use crash_disk::{CallKind, FailAt, MemSink, MemSource, SparseDisk};
 use std::alloc::Global;
 
@@ -180,11 +183,25 @@ pub fn fail_calls(
     Ok(disk.fail_calls(&calls)?)
 }
 
-/// Adds the disks of these names, which are offered.
-pub fn add_offers(alloc: Global, names: &[String], drawers: &mut Vec<Drawer>) -> Result<(), Fault> {
+/// Offers disks of these names to the shelf, behind the drawers, and tells what it answers. Those that it takes are added.
+pub fn add_offers(
+    alloc: Global,
+    names: &[String],
+    drawers: &mut Vec<Drawer>,
+    transcript: &mut Transcript,
+) -> Result<(), Fault> {
     for name in names {
-        let disk = blank(alloc, OFFERED_SECTORS, OFFERED_ROOM)?;
-        add_drawer(alloc, name.as_str(), disk, drawers)?;
+        let name = name.as_str();
+        let refusal = refusal_of(alloc, drawers, name)?;
+        transcript.line(&[
+            Part::Text("offer"),
+            Part::Text(name),
+            Part::Text(refusal.unwrap_or("ok")),
+        ]);
+        if refusal.is_none() {
+            let disk = untraced(alloc, blank(alloc, OFFERED_SECTORS, OFFERED_ROOM)?)?;
+            add_drawer(alloc, name, RunDisk::Plain(disk), drawers)?;
+        }
     }
     Ok(())
 }

@@ -1,11 +1,13 @@
 // The world of a case: its disks, files and random bytes, what the next run is given, and the runs.
-use crate::call::{Objects, Outcome, TAKEN_IN, add_drawer, top_call};
+use crate::call::{Objects, add_drawer, top_call};
 use crate::crash::{Choices, Crashed, survivor_at};
 use crate::disks::Disks;
 use crate::fault::Fault;
 use crate::files::Files;
 use crate::line::{Has, Kind, Line};
 use crate::next_run::{NextRun, add_offers};
+use crate::run_disk::RunDisk;
+use crate::traced_disk::untraced;
 use crate::transcript::{Part, Transcript};
 use block_traits::{Entropy, Source};
 use crash_disk::{MemEntropy, MemSource, Pick, SparseDisk};
@@ -69,6 +71,7 @@ impl World {
             Has::Alter => self.disks.alter(alloc, line),
             Has::Cover => self.disks.cover(alloc, line),
             Has::Take => self.disks.take(alloc, line),
+            Has::Layer(kind) => self.disks.lay_over(alloc, kind, line),
             Has::Shelf => self.disks.set_shelf(alloc, line),
             Has::File(form) => self.files.tell(alloc, form, line),
             Has::Watch => self.files.watch(alloc, line.word()),
@@ -84,13 +87,12 @@ impl World {
         self.runs = self.runs.saturating_add(1);
         transcript.line(&[Part::Text("run"), Part::Number(self.runs)]);
         let mut drawers = self.disks.drawers(alloc, &self.next.disk_fails)?;
-        let own = drawers.len();
-        add_offers(alloc, &self.next.offers, &mut drawers)?;
+        add_offers(alloc, &self.next.offers, &mut drawers, transcript)?;
         let mut objects = self.objects(alloc)?;
-        let outcome = top_call(alloc, drawers, &self.next.words, &mut objects)?;
-        tell_answers(&outcome, own, transcript)?;
-        self.tell_streams(outcome.status, &mut objects, transcript);
-        self.settle_disks(alloc, &outcome, own, transcript)?;
+        let words = &self.next.words;
+        let status = top_call(alloc, drawers, words, &mut objects, &mut self.disks)?;
+        self.tell_streams(status, &mut objects, transcript);
+        self.disks.settle(alloc, transcript)?;
         self.settle_rest(alloc, &mut objects, transcript)
     }
 
@@ -114,33 +116,6 @@ impl World {
             let left = left_of_input(&mut objects.input);
             transcript.line(&[Part::Text("unread"), Part::Number(left)]);
         }
-    }
-
-    // Keeps what was done to each of the first disks. One that left the shelf leaves the case.
-    fn settle_disks(
-        &mut self,
-        alloc: Global,
-        outcome: &Outcome,
-        own: usize,
-        transcript: &mut Transcript,
-    ) -> Result<(), Fault> {
-        for (place, disk) in outcome.disks.iter().enumerate() {
-            if place >= own {
-                break;
-            }
-            let name = disk.name.as_str();
-            match &disk.events {
-                None => {
-                    transcript.line(&[Part::Text("gone"), Part::Text(name)]);
-                    self.disks.forget(name);
-                }
-                Some(events) => {
-                    transcript.events(name, events);
-                    self.disks.find(name)?.settle(alloc, events)?;
-                }
-            }
-        }
-        Ok(())
     }
 
     // Keeps what the entropy has left, and the files; what was gathered for the run is forgotten.
@@ -231,25 +206,11 @@ impl World {
         objects: &mut Objects,
     ) -> Result<u8, Fault> {
         let mut drawers = Vec::new(alloc);
+        let disk = RunDisk::Plain(untraced(alloc, disk)?);
         add_drawer(alloc, name, disk, &mut drawers)?;
-        Ok(top_call(alloc, drawers, &self.next.words, objects)?.status)
+        let mut others = Disks::new(alloc);
+        top_call(alloc, drawers, &self.next.words, objects, &mut others)
     }
-}
-
-// What the shelf answered: to the first disks, which it takes, and to those that were offered.
-fn tell_answers(outcome: &Outcome, own: usize, transcript: &mut Transcript) -> Result<(), Fault> {
-    for (place, disk) in outcome.disks.iter().enumerate() {
-        if place >= own {
-            transcript.line(&[
-                Part::Text("offer"),
-                Part::Text(disk.name.as_str()),
-                Part::Text(disk.answer),
-            ]);
-        } else if disk.answer != TAKEN_IN {
-            return Err(Fault::Bad("the shelf refuses a disk"));
-        }
-    }
-    Ok(())
 }
 
 // How many bytes a source has left. A call that is to fail takes nothing, and is asked once more.

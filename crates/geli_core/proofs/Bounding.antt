@@ -1,5 +1,5 @@
 -- Each flush that failed at the end of a run is that of a drawer.
-use Rattle.std.proofs.Common.{◌≡◌, ℕ, ◌+◌, List, [], ◌∷◌, refl, subst, arith, inl, inr, Bool, true, false, Option, None, Some, sym}
+use Rattle.std.proofs.Common.{◌≡◌, ℕ, ◌+◌, List, [], ◌∷◌, refl, subst, arith, inl, inr, Bool, true, false, Option}
 use Rattle.command_words.specs.declared.spans.Sep.{Sep}
 use Rattle.command_rows.specs.Answer.{Answer}
 use Rattle.shelf.specs.Closing.{Closes, ClosesAs, Closing, failures}

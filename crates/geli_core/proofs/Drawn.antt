@@ -20,7 +20,7 @@ use Rattle.command_rows.specs.Answer as answers
 use Rattle.shelf.specs.Closing.{ClosesAs, Closing, Flushes}
 use Rattle.command_rows.specs.Histories.{ChangesBy, OnlyAt, StepsAt, place_named}
 use Rattle.command_rows.specs.Turn.{takes_out}
-use Rattle.command_rows.specs.World.{Attachment, DrawerState, World, attachment_in, is_idle, place_of}
+use Rattle.command_rows.specs.World.{DrawerState, World, is_idle, place_of}
 use Rattle.command_rows.proofs.Untouched.{get-set, get-set_other, turn_only_steps}
 use Rattle.geli_core.specs.Histories.{AnyEjects, DrawerSteps, EachGrew, Grew, RunsAt, TakesDrawer, ejects, names, names_by, says_eject, says_name}
 use Rattle.geli_core.specs.Run.{Run, RunsAndCloses, ServesLine, ServesReading}

@@ -25,17 +25,18 @@ among_removed (d ∷ ds) (suc place) drawer (suc n, is) =
     let behind = among_removed ds place drawer (n, is) in
     (suc behind.0, behind.1)
 
-put_back : (drawers : List DrawerState) (place n : ℕ) (before after drawer : DrawerState) → HoldKeyings drawers → HoldsKeying after.holding → slice_get drawers place ≡ Some before
-    → slice_get (set drawers place after) n ≡ Some drawer → (place ≡ n) ⊎ (place ≡ n → ⊥) → HoldsKeying drawer.holding
-put_back drawers place n before after drawer all one found there (inl here) =
+-- what holds of each drawer, where one changed of which it holds then
+pub put_back : (P : DrawerState → Type 0) (drawers : List DrawerState) (place n : ℕ) (before after drawer : DrawerState) → ((d : DrawerState) → IsAmong drawers d → P d) → P after → slice_get drawers place ≡ Some before
+    → slice_get (set drawers place after) n ≡ Some drawer → (place ≡ n) ⊎ (place ≡ n → ⊥) → P drawer
+put_back P drawers place n before after drawer all one found there (inl here) =
     let same : after ≡ drawer = same_some after drawer (sym (get-set drawers place before after found) ∙ ap (slice_get (set drawers place after)) here ∙ there) in
-    subst (λ (d : DrawerState). HoldsKeying d.holding) same one
-put_back drawers place n before after drawer all one found there (inr other) = all drawer (n, sym (get-set_other drawers place n after other) ∙ there)
+    subst P same one
+put_back P drawers place n before after drawer all one found there (inr other) = all drawer (n, sym (get-set_other drawers place n after other) ∙ there)
 
 changed_keeps : (line : List ℕ) (command : Command) (old : World) (said : Answer) (new : World) (place : ℕ) → ChangesAt (Serves line command) old said new place → HoldKeyings old.drawers → HoldKeyings new.drawers
 changed_keeps line command old said new place h all drawer there =
     let one = (serves_sound line command (reach h.before old) said (reach h.after new) h.step).keeps (all h.before (place, h.found)) in
-    put_back old.drawers place there.0 h.before h.after drawer all one h.found (ap (λ (ds : List DrawerState). slice_get ds there.0) (sym h.others) ∙ there.1) (here_or place there.0)
+    put_back (λ d. HoldsKeying d.holding) old.drawers place there.0 h.before h.after drawer all one h.found (ap (λ (ds : List DrawerState). slice_get ds there.0) (sym h.others) ∙ there.1) (here_or place there.0)
 
 all_stay : (old new : World) → new ≡ old → HoldKeyings old.drawers → HoldKeyings new.drawers
 all_stay old new is all = rw is all

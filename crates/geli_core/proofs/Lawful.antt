@@ -10,6 +10,8 @@ use Rattle.geli_core.proofs.Completing.{runs_complete}
 use Rattle.geli_core.proofs.LineLaws.{lines_laws}
 use Rattle.geli_core.proofs.ReadsBack.{reads_back}
 use Rattle.geli_core.proofs.Surviving.{runs_survive}
+use Rattle.geli_core.proofs.Sweeps.{sweeps_follow}
+use Rattle.geli_core.proofs.Suspensions.{keeps_suspended}
 
 pub runs_lawfully : (words : List (List ℕ)) (old new : Whole) (status : Status) → Runs words old status new → HoldKeyings old.world.drawers → RunsLawfully words old status new
 runs_lawfully words old new status h keyed = record {
@@ -19,6 +21,8 @@ runs_lawfully words old new status h keyed = record {
   lines = lines_laws old.world new.world;
   survivors = runs_survive words old new status h keyed;
   reads_back = reads_back old.world new.world keyed;
+  suspensions = keeps_suspended old.world new.world;
+  sweeps = sweeps_follow old.world new.world;
   bounds = bounds_replies old.world new.world;
   ends = runs_end words old new status h;
   histories = runs_grew words old new status h;

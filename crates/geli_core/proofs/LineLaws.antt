@@ -16,6 +16,7 @@ use Rattle.command_rows.specs.Causes.{Caused, CausedAt, CausedBy, may_lack_memor
 use Rattle.command_rows.specs.Fits.{FindsAt, Fits}
 use Rattle.command_rows.specs.Turn.{Turn}
 use Rattle.command_rows.specs.World.{World, place_of}
+use Rattle.command_rows.proofs.Becoming.{turn_becomes}
 use Rattle.command_rows.proofs.Sound.{turn_counts}
 use Rattle.command_rows.proofs.Fitting.{fits_refused}
 use Rattle.command_rows.proofs.LineCauses.{refusal_caused}
@@ -73,6 +74,7 @@ turn_laws line command old answer new h =
       fits = fits_of line command old answer new h;
       drawers = turn_only_steps line command old answer new h;
       leaves = turn_leaves line command old answer new h;
+      becomes = turn_becomes line command old answer new h;
       counts = turn_counts line command old answer new h;
     }
 

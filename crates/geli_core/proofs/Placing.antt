@@ -1,239 +1,46 @@
 -- What a run places on each drawer's disk.
-use Rattle.std.proofs.Common.{◌≡◌, ◌∙◌, ◌⊎◌, inl, inr, ℕ, zero, suc, ◌+◌, ◌*◌, ◌/◌, ◌%◌, ◌<◌, List, [], ◌∷◌, ◌++◌, length, take, refl, sym, ap, subst, arith, append_assoc, length-append, All, Bool, true, false, Option, None, Some, Result, Ok, Err, slice_get}
-use Rattle.std.specs.Prelude.{IfSome, option_and_then, MatchOption}
+use Rattle.std.proofs.Common.{◌≡◌, ◌∙◌, ◌⊎◌, inl, inr, ℕ, zero, suc, List, [], ◌∷◌, length, append-nil, take, refl, sym, ap, subst, Bool, true, false, Option, None, Some, Result, Ok, Err, slice_get}
+use Rattle.std.specs.Prelude.{IfSome, MatchOption, map, option_and_then}
 use Rattle.std.specs.Str.{bytes_eq}
 use Rattle.std.specs.Option.{option_map}
-use Rattle.std.proofs.Math.Nat.{div-mul-le_self}
-use Rattle.std.proofs.Math.Seq.{take-append-add, take-length}
-use Rattle.std.proofs.lemmas.List.{append-nil, get_or_append_left, map-append, take-map}
-use Rattle.std.proofs.lemmas.List.Elements.{All-weaker}
-use Rattle.std.specs.Int.{byte_at, bytes_low_first, to_le_bytes, w64}
-use Rattle.aes_core.specs.Schedule.{AreBytes}
-use Rattle.aes_core.proofs.KeyBytes.{AreBytes-append, AreBytes-cons, byte_at-lt}
-use Rattle.rand_core.specs.Steps.{word_bytes}
-use Rattle.rand_pcg.specs.Lcg.{Lcg}
-use Rattle.rand_pcg.specs.Pcg.{pcg64}
-use Rattle.command_rows.specs.Workloads.{generated, generator, words_of, workload}
-use Rattle.command_rows.proofs.Generated.{length-generated}
-use Rattle.block_traits.specs.Content.{Content, IsContentOf, IsEventOf, logged}
+use Rattle.block_traits.specs.Content.{Content, IsContentOf, logged}
 use Rattle.block_traits.specs.Disk.{DiskState, FitsSize, Logs}
 use Rattle.block_traits.specs.declared.disk.Event.{Event}
 use Rattle.block_traits.specs.declared.disk.Event.TheVariants.{Flush}
-use Rattle.block_traits.proofs.Logs.{Logs-nothing, Logs-then}
+use Rattle.block_traits.proofs.Logs.{Logs-nothing}
 use Rattle.command_words.specs.Places.{bytes_at, provider_of}
 use Rattle.command_words.specs.declared.commands.Command.{Command}
-use Rattle.command_words.specs.declared.commands.Command.TheVariants as commands
 use Rattle.command_words.specs.declared.commands.Usage.{Usage}
 use Rattle.command_words.specs.declared.spans.Sep.{Sep}
 use Rattle.command_words.specs.declared.spans.Span.{Span}
-use Rattle.eli_base.specs.declared.refusals.Refusal.{Refusal}
-use Rattle.eli_base.specs.declared.refusals.Refusal.TheVariants as refusals
-use Rattle.hex.specs.Hex.{decode_of}
-use Rattle.hex.specs.declared.error.FromHexError.{FromHexError}
-use Rattle.hex.proofs.HexLemmas.{decode_of-ok}
-use Rattle.provider.specs.Writing.{data_writes}
-use Rattle.provider_readings.proofs.Data.{events_of-data}
-use Rattle.readings.specs.Writings.{Writing}
-use Rattle.readings.specs.Steps.{Step, after, event_of, events_of}
-use Rattle.readings.specs.Survivors.{AreSteps, placed}
-use Rattle.readings.specs.Writes.{AreStepsBelow, IsNumberedBelow, data_steps, raw_steps}
-use Rattle.readings.specs.Writings.{Put, Raw}
-use Rattle.readings.proofs.Crashes.{endures}
-use Rattle.readings.proofs.Writes.{AreStepsBelow-none, AreStepsBelow-raw, AreStepsBelow-take, AreStepsBelow-write, events_of-raw}
+use Rattle.queue_readings.specs.Play.{Play, pending}
+use Rattle.queue_readings.specs.Tasks.{Task, request_of}
+use Rattle.queue_readings.proofs.Among.{fit_front}
+use Rattle.queue_readings.proofs.Calls.{nothing_yet}
 use Rattle.range_keys.specs.Ring.{IsKeying}
+use Rattle.readings.specs.Steps.{after}
+use Rattle.readings.specs.Survivors.{AreSteps}
+use Rattle.readings.specs.Writes.{raw_steps}
+use Rattle.readings.proofs.Crashes.{endures}
+use Rattle.readings.proofs.Writes.{AreStepsBelow-none}
 use Rattle.command_rows.specs.Answer.{Answer}
-use Rattle.command_rows.specs.Answer as answers
 use Rattle.shelf.specs.Closing.{Closes, ClosesAs, Closing, Flushes}
-use Rattle.command_rows.specs.Digits.{bytes_spelled, decoded}
-use Rattle.command_rows.specs.Histories.{AreFirst, AreRowEvents, BreaksOff, ChangesBy, EventsBy, OnlyAt, StepsAt, StepsBy, place_named, stores_last}
-use Rattle.command_rows.specs.Turn.{takes_out}
-use Rattle.command_rows.specs.World.{Attachment, DrawerState, HoldKeyings, Holding, HoldsKeying, IsAmong, World, attachment_in, is_idle, place_of}
-use Rattle.command_rows.proofs.Untouched.{get-set, get-set_other, turn_only_steps}
+use Rattle.command_rows.specs.Histories.{place_named}
+use Rattle.command_rows.specs.Turn.{ChangesAt, Serves, TakesOut, Turn, reach}
+use Rattle.command_rows.specs.World.{Attachment, DrawerState, HoldKeyings, Holding, HoldsKeying, Idle, IsAmong, IsAttached, IsSuspended, World, attachment_in, is_idle, place_of}
+use Rattle.command_rows.proofs.Lines.{line_did}
+use Rattle.command_rows.proofs.Turns.{by_turn}
+use Rattle.command_rows.proofs.Untouched.{get-set, get-set_other}
 use Rattle.command_words.specs.Reading.{reading}
-use Rattle.geli_core.specs.Histories.{DrawerSteps, names_by, says_name}
-use Rattle.geli_core.specs.Placing.{ClosesWith, DrawerPlaces, asked_steps, command_steps, fill_steps, line_steps, write_steps}
+use Rattle.geli_core.specs.Histories.{ServesDrawer, names_by, says_name}
+use Rattle.geli_core.specs.Placing.{ClosesWith, DrawerPlaces, DrawerPlays, DrawerPlaysAndCloses, LinePlays, goes_on, no_play, played_by}
 use Rattle.geli_core.specs.Run.{Run, RunsAndCloses, ServesLine, ServesReading}
-use Rattle.geli_core.specs.Survivors.{EachSurvives, EachSurvivesClosing, EnduresCrashes}
-use Rattle.geli_core.proofs.Drawn.{here_or, named_more, same_some, step_logs, step_name}
+use Rattle.geli_core.specs.Survivors.{EachSurvives, EachSurvivesClosing, EnduresCrashes, HasNoRequests, HasTasks, SurvivesBy}
+use Rattle.geli_core.proofs.Drawn.{here_or, named_more, same_some}
+use Rattle.geli_core.proofs.Following.{tracks_raw}
 use Rattle.geli_core.proofs.Keyings.{among_removed, line_keeps}
-
--- ---- the events of the steps
-
-take-taken : {X : Type 0} (n : ℕ) (xs : List X) → take n xs ≡ take (length (take n xs)) xs
-take-taken zero [] = refl
-take-taken (suc n) [] = refl
-take-taken zero (x ∷ xs) = refl
-take-taken (suc n) (x ∷ xs) = ap (λ l. x ∷ l) (take-taken n xs)
-
--- what a row logged that has these events in the end
-first_of_row : (row events : List Event) → AreFirst (λ found. found ≡ row) events → events ≡ take (length events) row
-first_of_row row events h =
-    let is : events ≡ take h.count row = h.part ∙ ap (take h.count) h.is_row in
-    is ∙ take-taken h.count row ∙ ap (λ (e : List Event). take (length e) row) (sym is)
-
-whole_row : (row events : List Event) → events ≡ row → events ≡ take (length events) row
-whole_row row events h = h ∙ sym (take-length row) ∙ ap (λ (e : List Event). take (length e) row) (sym h)
-
-no_event : (row events : List Event) → events ≡ [] → events ≡ take (length events) row
-no_event row events h = rw h refl
-
-broken_row : (row : List Event) (refusal : Refusal) (events : List Event) → BreaksOff (λ found. found ≡ row) false refusal events → events ≡ take (length events) row
-broken_row row refusals.DeviceFault events (inl none) = no_event row events none
-broken_row row refusals.DeviceFault events (inr first) = first_of_row row events first
-broken_row row refusal events h = no_event row events h
-
-row_events : (row : List Event) (said : Answer) (events : List Event) → EventsBy (λ found. found ≡ row) false said events → events ≡ take (length events) row
-row_events row (answers.Refused refusal) events h = broken_row row refusal events h
-row_events row said events h = whole_row row events h
-
-events_of-take : (n : ℕ) (steps : List Step) → events_of (take n steps) ≡ take n (events_of steps)
-events_of-take n steps = sym (take-map event_of n steps)
-
-write_events : (number : ℕ) (found : Option Attachment) (sector : ℕ) (bytes : List ℕ) (said : Answer) (events : List Event)
-    → EventsBy (λ wanted. MatchOption found ⊥ (λ a. wanted ≡ data_writes a.keying sector (length bytes / a.keying.sectorsize) bytes)) false said events
-    → events_of (write_steps number found sector bytes events) ≡ events
-write_events number None sector bytes said events h = events_of-raw events
-write_events number (Some a) sector bytes said events h =
-    let count : ℕ = length bytes / a.keying.sectorsize in
-    events_of-take (length events) (data_steps number a.keying sector count bytes)
-    ∙ ap (take (length events)) (events_of-data number a.keying sector count bytes)
-    ∙ sym (row_events (data_writes a.keying sector count bytes) said events h)
-
-fill_events : (number : ℕ) (found : Option Attachment) (seed start count : ℕ) (said : Answer) (events : List Event)
-    → EventsBy (λ wanted. MatchOption found ⊥ (λ a. wanted ≡ data_writes a.keying start count (workload seed (words_of a.keying.sectorsize count)))) false said events
-    → events_of (fill_steps number found seed start count events) ≡ events
-fill_events number None seed start count said events h = events_of-raw events
-fill_events number (Some a) seed start count said events h =
-    let bytes : List ℕ = workload seed (words_of a.keying.sectorsize count) in
-    events_of-take (length events) (data_steps number a.keying start count bytes)
-    ∙ ap (take (length events)) (events_of-data number a.keying start count bytes)
-    ∙ sym (row_events (data_writes a.keying start count bytes) said events h)
-
-command_events : (number : ℕ) (line : List ℕ) (command : Command) (disk : DiskState) (holding : Holding) (said : Answer) (events : List Event)
-    → EventsBy (AreRowEvents line command disk holding) (stores_last command) said events → events_of (command_steps number line command holding events) ≡ events
-command_events number line (commands.Write prov sector hex) disk holding said events h = write_events number (attachment_in holding) sector (bytes_spelled (bytes_at line hex)) said events h
-command_events number line (commands.Fill prov seed start count) disk holding said events h = fill_events number (attachment_in holding) seed start count said events h
-command_events number line command disk holding said events h = events_of-raw events
-
-nothing_written : (number : ℕ) (found : Option Attachment) (sector : ℕ) (bytes : List ℕ) → events_of (write_steps number found sector bytes []) ≡ []
-nothing_written number None sector bytes = refl
-nothing_written number (Some a) sector bytes = events_of-take 0 (data_steps number a.keying sector (length bytes / a.keying.sectorsize) bytes)
-
-nothing_filled : (number : ℕ) (found : Option Attachment) (seed start count : ℕ) → events_of (fill_steps number found seed start count []) ≡ []
-nothing_filled number None seed start count = refl
-nothing_filled number (Some a) seed start count = events_of-take 0 (data_steps number a.keying start count (workload seed (words_of a.keying.sectorsize count)))
-
-nothing_placed : (number : ℕ) (line : List ℕ) (read : Result (Option Command) Usage) (holding : Holding) → events_of (asked_steps number line read holding []) ≡ []
-nothing_placed number line (Ok (Some (commands.Write prov sector hex))) holding = nothing_written number (attachment_in holding) sector (bytes_spelled (bytes_at line hex))
-nothing_placed number line (Ok (Some (commands.Fill prov seed start count))) holding = nothing_filled number (attachment_in holding) seed start count
-nothing_placed number line (Ok (Some command)) holding = refl
-nothing_placed number line (Ok None) holding = refl
-nothing_placed number line (Err usage) holding = refl
-
-line_events : (number : ℕ) (sep : Sep) (line : List ℕ) (answer : Option Answer) (old : DrawerState) (events : List Event) (new : DrawerState) → DrawerSteps sep line answer old events new
-    → events_of (line_steps number sep line old.holding events) ≡ events
-line_events number sep line answer old events new (inl stays) = rw stays.1 (nothing_placed number line (reading sep line) old.holding)
-line_events number sep line answer old events new (inr h) =
-    rw h.asked (command_events number line h.command old.disk old.holding h.said events h.of_line)
-
-events_of-append : (steps more : List Step) → events_of (steps ++ more) ≡ events_of steps ++ events_of more
-events_of-append steps more = map-append event_of steps more
-
--- ---- the numbers of the writes
-
-below_more : (next : ℕ) (w : Writing) → IsNumberedBelow next w → IsNumberedBelow (next + 1) w
-below_more next (Put p) h = omega (arith, h)
-below_more next (Raw bytes) h = tt
-
-AreStepsBelow-more : (next : ℕ) (steps : List Step) → AreStepsBelow next steps → AreStepsBelow (next + 1) steps
-AreStepsBelow-more next steps h = record { fit = h.fit; below = All-weaker (IsNumberedBelow next) (IsNumberedBelow (next + 1)) (below_more next) (placed steps) h.below }
-
-spelled_by : (r : Result (List ℕ) FromHexError) → ((bytes : List ℕ) → r ≡ Ok bytes → AreBytes bytes) → AreBytes (decoded r)
-spelled_by (Ok bytes) h = h bytes refl
-spelled_by (Err fault) h = λ k. (let small : 0 < 256 = omega arith in small)
-
-bytes_spelled-bytes : (digits : List ℕ) → AreBytes (bytes_spelled digits)
-bytes_spelled-bytes digits = spelled_by (decode_of digits) (λ bytes is. (decode_of-ok digits bytes is).3)
-
-raw_fits : (next size : ℕ) (steps : List Step) (events : List Event) → AreStepsBelow next steps → All (IsEventOf size) events → AreStepsBelow (next + 1) (steps ++ raw_steps events)
-raw_fits next size steps events are fit = AreStepsBelow-more next (steps ++ raw_steps events) (AreStepsBelow-raw next size steps events are fit)
-
-write_fits : (next size : ℕ) (steps : List Step) (found : Option Attachment) (sector : ℕ) (bytes : List ℕ) (events : List Event) → AreStepsBelow next steps → IfSome found (λ a. IsKeying a.keying) → AreBytes bytes → All (IsEventOf size) events
-    → AreStepsBelow (next + 1) (steps ++ write_steps next found sector bytes events)
-write_fits next size steps None sector bytes events are keyed small fit = raw_fits next size steps events are fit
-write_fits next size steps (Some a) sector bytes events are keyed small fit =
-    let count : ℕ = length bytes / a.keying.sectorsize in
-    let new : List Step = data_steps next a.keying sector count bytes in
-    let whole = AreStepsBelow-write next steps a.keying sector count bytes are keyed small (div-mul-le_self (length bytes) a.keying.sectorsize) in
-    subst (AreStepsBelow (next + 1)) (take-append-add steps new (length events)) (AreStepsBelow-take (next + 1) (length steps + length events) (steps ++ new) whole)
-
--- the bytes of words are bytes, eight of each
-low_first-bytes : (i k n : ℕ) → AreBytes (bytes_low_first i k n)
-low_first-bytes i zero n = λ j. (let small : 0 < 256 = omega arith in small)
-low_first-bytes i (suc k) n = AreBytes-cons (byte_at i n) (bytes_low_first (suc i) k n) (byte_at-lt i n) (low_first-bytes (suc i) k n)
-
-generated-bytes : (words : ℕ) (g : Lcg) → AreBytes (generated words g).0
-unfolding word_bytes
-generated-bytes zero g = λ j. (let small : 0 < 256 = omega arith in small)
-generated-bytes (suc words) g =
-    let before = generated words g in
-    AreBytes-append before.0 (to_le_bytes w64 (pcg64 before.1).0) (generated-bytes words g) (low_first-bytes 0 8 (pcg64 before.1).0)
-
-whole_words : (size count : ℕ) → size % 512 ≡ 0 → count * size ≡ 8 * words_of size count
-whole_words size count whole =
-    let eight : size ≡ 8 * (size / 8) = omega arith in
-    ap (λ (s : ℕ). count * s) eight ∙ omega arith
-
-fill_fits : (next size : ℕ) (steps : List Step) (found : Option Attachment) (seed start count : ℕ) (events : List Event) → AreStepsBelow next steps → IfSome found (λ a. IsKeying a.keying) → All (IsEventOf size) events
-    → AreStepsBelow (next + 1) (steps ++ fill_steps next found seed start count events)
-fill_fits next size steps None seed start count events are keyed fit = raw_fits next size steps events are fit
-fill_fits next size steps (Some a) seed start count events are keyed fit =
-    let words : ℕ = words_of a.keying.sectorsize count in
-    let bytes : List ℕ = workload seed words in
-    let new : List Step = data_steps next a.keying start count bytes in
-    let long : length bytes ≡ 8 * words = length-generated words (generator seed) in
-    let whole = AreStepsBelow-write next steps a.keying start count bytes are keyed (generated-bytes words (generator seed)) (omega (arith, long, whole_words a.keying.sectorsize count keyed.whole)) in
-    subst (AreStepsBelow (next + 1)) (take-append-add steps new (length events)) (AreStepsBelow-take (next + 1) (length steps + length events) (steps ++ new) whole)
-
-command_fits : (next size : ℕ) (steps : List Step) (line : List ℕ) (command : Command) (holding : Holding) (events : List Event) → AreStepsBelow next steps → HoldsKeying holding → All (IsEventOf size) events
-    → AreStepsBelow (next + 1) (steps ++ command_steps next line command holding events)
-command_fits next size steps line (commands.Write prov sector hex) holding events are keyed fit =
-    write_fits next size steps (attachment_in holding) sector (bytes_spelled (bytes_at line hex)) events are keyed (bytes_spelled-bytes (bytes_at line hex)) fit
-command_fits next size steps line (commands.Fill prov seed start count) holding events are keyed fit = fill_fits next size steps (attachment_in holding) seed start count events are keyed fit
-command_fits next size steps line command holding events are keyed fit = raw_fits next size steps events are fit
-
-asked_fits : (next size : ℕ) (steps : List Step) (line : List ℕ) (read : Result (Option Command) Usage) (holding : Holding) (events : List Event) → AreStepsBelow next steps → HoldsKeying holding → All (IsEventOf size) events
-    → AreStepsBelow (next + 1) (steps ++ asked_steps next line read holding events)
-asked_fits next size steps line (Ok (Some command)) holding events are keyed fit = command_fits next size steps line command holding events are keyed fit
-asked_fits next size steps line (Ok None) holding events are keyed fit = raw_fits next size steps events are fit
-asked_fits next size steps line (Err usage) holding events are keyed fit = raw_fits next size steps events are fit
-
--- ---- a drawer while lines are served
-
--- events that fit, in two parts
-All-first : (P : Event → Type 0) (xs ys : List Event) → All P (xs ++ ys) → All P xs
-All-first P xs ys all = λ i d lt. subst P (get_or_append_left xs ys d i lt) (all i d (omega (arith, length-append xs ys)))
-
-All-rest : (P : Event → Type 0) (xs ys : List Event) → All P (xs ++ ys) → All P ys
-All-rest P [] ys all = all
-All-rest P (x ∷ xs) ys all = All-rest P xs ys (λ i d lt. all (suc i) d (omega arith))
-
--- a drawer that is there after some lines, the first of which has this number, and as which it was there before
-record Came (number : ℕ) (sep : Sep) (start : World) (lines : List (List ℕ)) (answers : List (Option Answer)) (end : World) (new : DrawerState) : Type 0 where
-  before : DrawerState
-  was : IsAmong start.drawers before
-  name : new.name ≡ before.name
-  steps : List Step
-  places : DrawerPlaces number sep start lines answers end before steps new
-  logs : Logs (events_of steps) before.disk new.disk
-  fits : (earlier : List Step) (size : ℕ) → AreStepsBelow number earlier → All (IsEventOf size) (events_of steps) → (next : ℕ) × AreStepsBelow next (earlier ++ steps)
-
--- the drawer before one line
-record CameBy (sep : Sep) (line : List ℕ) (answer : Option Answer) (olds : List DrawerState) (new : DrawerState) : Type 0 where
-  before : DrawerState
-  was : IsAmong olds before
-  events : List Event
-  step : DrawerSteps sep line answer before events new
+use Rattle.geli_core.proofs.Playing.{Follows, FollowsBy, Rests, line_follows, raw_gone, rests_raw}
+use Rattle.geli_core.proofs.Queues.{within_none}
 
 -- ---- the drawer before a line
 
@@ -252,50 +59,82 @@ named_at : (line : List ℕ) (drawers : List DrawerState) (prov : Option Span) (
 named_at line drawers None n d h there = absurd (let none : ⊥ = cc h in none)
 named_at line drawers (Some prov) n d h there = has_name (bytes_at line prov) drawers n d h there
 
--- the drawer was as it is
+-- ---- a drawer and one line
+
+-- the line names it, and it goes through the row
+pub record Served (sep : Sep) (line : List ℕ) (answer : Option Answer) (old new : DrawerState) : Type 0 where
+  pub events : List Event
+  pub serves : ServesDrawer sep line answer old events new
+  pub start : World
+  pub end : World
+  pub row : Serves line serves.command (reach old start) serves.said (reach new end)
+
+abbrev pub Did : Sep → List ℕ → Option Answer → DrawerState → DrawerState → Type 0
+Did sep line answer old new = (new ≡ old) ⊎ Served sep line answer old new
+
+-- a drawer that is there after the line, as which it was there before
+record CameBy (sep : Sep) (line : List ℕ) (answer : Option Answer) (olds : List DrawerState) (new : DrawerState) : Type 0 where
+  before : DrawerState
+  was : IsAmong olds before
+  did : Did sep line answer before new
+
 stayed : (sep : Sep) (line : List ℕ) (answer : Option Answer) (olds : List DrawerState) (drawer : DrawerState) → IsAmong olds drawer → CameBy sep line answer olds drawer
-stayed sep line answer olds drawer was = record { before = drawer; was = was; events = []; step = inl (refl, refl) }
+stayed sep line answer olds drawer was = record { before = drawer; was = was; did = inl refl }
 
 -- the line names it
-did : (sep : Sep) (line : List ℕ) (command : Command) (said : Answer) (olds : List DrawerState) (place : ℕ) (before after : DrawerState) → reading sep line ≡ Ok (Some command) → place_named line command olds ≡ Some place
-    → slice_get olds place ≡ Some before → StepsBy line command said before after → CameBy sep line (Some said) olds after
-did sep line command said olds place before after asked at found steps = record {
-  before = before;
-  was = (place, found);
-  events = steps.events;
-  step = inr (record {
-    command = command;
-    asked = asked;
-    named = ap (λ (r : Result (Option Command) Usage). says_name r line before.name) asked ∙ named_at line olds (provider_of command) place before at found;
-    said = said;
-    answered = refl;
-    name = steps.name;
-    logs = steps.logs;
-    of_line = steps.of_line;
-  });
-}
+served : (sep : Sep) (line : List ℕ) (command : Command) (said : Answer) (old new : World) (place : ℕ) → reading sep line ≡ Ok (Some command) → place_named line command old.drawers ≡ Some place
+    → (h : ChangesAt (Serves line command) old said new place) → Served sep line (Some said) h.before h.after
+served sep line command said old new place asked at h =
+    let d = line_did line command (reach h.before old) said (reach h.after new) h.step in
+    record {
+      events = d.events;
+      serves = record {
+        command = command;
+        asked = asked;
+        named = ap (λ (r : Result (Option Command) Usage). says_name r line h.before.name) asked ∙ named_at line old.drawers (provider_of command) place h.before at h.found;
+        said = said;
+        answered = refl;
+        name = h.name;
+        logs = d.logs;
+        of_line = d.are;
+      };
+      start = old;
+      end = new;
+      row = h.step;
+    }
 
 -- at the place that the line names, or at another
-stepped_at : (sep : Sep) (line : List ℕ) (command : Command) (said : Answer) (olds news : List DrawerState) (drawer : DrawerState) (n place : ℕ) → reading sep line ≡ Ok (Some command) → place_named line command olds ≡ Some place
-    → slice_get news n ≡ Some drawer → StepsAt line command said olds news place → (place ≡ n) ⊎ (place ≡ n → ⊥) → CameBy sep line (Some said) olds drawer
-stepped_at sep line command said olds news drawer n place asked at there h (inl here) =
-    let put : slice_get news place ≡ Some h.after = rw h.others (get-set olds place h.before h.after h.found) in
-    let same : h.after ≡ drawer = same_some h.after drawer (sym put ∙ ap (slice_get news) here ∙ there) in
-    subst (CameBy sep line (Some said) olds) same (did sep line command said olds place h.before h.after asked at h.found h.steps)
-stepped_at sep line command said olds news drawer n place asked at there h (inr other) =
-    stayed sep line (Some said) olds drawer (n, sym (ap (λ (l : List DrawerState). slice_get l n) h.others ∙ get-set_other olds place n h.after other) ∙ there)
+served_at : (sep : Sep) (line : List ℕ) (command : Command) (said : Answer) (old new : World) (drawer : DrawerState) (n place : ℕ) → reading sep line ≡ Ok (Some command) → place_named line command old.drawers ≡ Some place
+    → slice_get new.drawers n ≡ Some drawer → ChangesAt (Serves line command) old said new place → (place ≡ n) ⊎ (place ≡ n → ⊥) → CameBy sep line (Some said) old.drawers drawer
+served_at sep line command said old new drawer n place asked at there h (inl here) =
+    let put : slice_get new.drawers place ≡ Some h.after = rw h.others (get-set old.drawers place h.before h.after h.found) in
+    let same : h.after ≡ drawer = same_some h.after drawer (sym put ∙ ap (slice_get new.drawers) here ∙ there) in
+    subst (CameBy sep line (Some said) old.drawers) same (record { before = h.before; was = (place, h.found); did = inr (served sep line command said old new place asked at h) })
+served_at sep line command said old new drawer n place asked at there h (inr other) =
+    stayed sep line (Some said) old.drawers drawer (n, sym (ap (λ (l : List DrawerState). slice_get l n) h.others ∙ get-set_other old.drawers place n h.after other) ∙ there)
 
--- by whether the line takes a drawer out
-changed_at : (out : Bool) (sep : Sep) (line : List ℕ) (command : Command) (said : Answer) (olds news : List DrawerState) (drawer : DrawerState) (n place : ℕ) → reading sep line ≡ Ok (Some command) → place_named line command olds ≡ Some place
-    → slice_get news n ≡ Some drawer → ChangesBy out line command said olds news place → CameBy sep line (Some said) olds drawer
-changed_at true sep line command said olds news drawer n place asked at there h =
-    stayed sep line (Some said) olds drawer (among_removed olds place drawer (n, ap (λ (l : List DrawerState). slice_get l n) (sym h.others) ∙ there))
-changed_at false sep line command said olds news drawer n place asked at there h = stepped_at sep line command said olds news drawer n place asked at there h (here_or place n)
+-- by the place of the drawer that it names, if it names one
+abbrev ChangedBy : List ℕ → Command → World → Answer → World → Option ℕ → Type 0
+ChangedBy line command old said new None = new.drawers ≡ old.drawers
+ChangedBy line command old said new (Some place) = TakesOut old said new place ⊎ ChangesAt (Serves line command) old said new place
 
-only_at : (sep : Sep) (line : List ℕ) (command : Command) (said : Answer) (olds news : List DrawerState) (drawer : DrawerState) (n : ℕ) (place : Option ℕ) → reading sep line ≡ Ok (Some command) → place_named line command olds ≡ place
-    → slice_get news n ≡ Some drawer → OnlyAt line command said olds news place → CameBy sep line (Some said) olds drawer
-only_at sep line command said olds news drawer n None asked at there h = stayed sep line (Some said) olds drawer (n, ap (λ (l : List DrawerState). slice_get l n) (sym h) ∙ there)
-only_at sep line command said olds news drawer n (Some place) asked at there h = changed_at (takes_out command) sep line command said olds news drawer n place asked at there h
+changed_named : (line : List ℕ) (command : Command) (old : World) (said : Answer) (new : World) (named : Option Span) → MatchOption named (new.drawers ≡ old.drawers) (λ prov. ChangedBy line command old said new (place_of (bytes_at line prov) old.drawers))
+    → ChangedBy line command old said new (option_and_then (λ prov. place_of (bytes_at line prov) old.drawers) named)
+changed_named line command old said new None h = h
+changed_named line command old said new (Some prov) h = h
+
+changed : (line : List ℕ) (command : Command) (old : World) (said : Answer) (new : World) → Turn line command old said new → ChangedBy line command old said new (place_named line command old.drawers)
+changed line command old said new h =
+    changed_named line command old said new (provider_of command)
+    (by_turn line command old said new (new.drawers ≡ old.drawers) (ChangedBy line command old said new) (λ lists. ap (λ (w : World). w.drawers) lists.unchanged) (λ unknown. ap (λ (w : World). w.drawers) unknown.unchanged)
+    (λ place is left. inl left) (λ place is changes. inr changes) h)
+
+came_at : (sep : Sep) (line : List ℕ) (command : Command) (said : Answer) (old new : World) (drawer : DrawerState) (n : ℕ) (place : Option ℕ) → reading sep line ≡ Ok (Some command) → place_named line command old.drawers ≡ place
+    → slice_get new.drawers n ≡ Some drawer → ChangedBy line command old said new place → CameBy sep line (Some said) old.drawers drawer
+came_at sep line command said old new drawer n None asked at there h = stayed sep line (Some said) old.drawers drawer (n, ap (λ (l : List DrawerState). slice_get l n) (sym h) ∙ there)
+came_at sep line command said old new drawer n (Some place) asked at there (inl left) =
+    stayed sep line (Some said) old.drawers drawer (among_removed old.drawers place drawer (n, ap (λ (w : World). slice_get w.drawers n) (sym left.left) ∙ there))
+came_at sep line command said old new drawer n (Some place) asked at there (inr changes) = served_at sep line command said old new drawer n place asked at there changes (here_or place n)
 
 read_by : (sep : Sep) (line : List ℕ) (read : Result (Option Command) Usage) (answer : Option Answer) (old new : World) (drawer : DrawerState) → reading sep line ≡ read → ServesReading read line old answer new → IsAmong new.drawers drawer
     → CameBy sep line answer old.drawers drawer
@@ -303,83 +142,192 @@ read_by sep line (Err usage) answer old new drawer asked h there = stayed sep li
 read_by sep line (Ok None) answer old new drawer asked h there = stayed sep line answer old.drawers drawer (there.0, ap (λ (w : World). slice_get w.drawers there.0) (sym h.1) ∙ there.1)
 read_by sep line (Ok (Some command)) None old new drawer asked h there = absurd h
 read_by sep line (Ok (Some command)) (Some said) old new drawer asked h there =
-    only_at sep line command said old.drawers new.drawers drawer there.0 (place_named line command old.drawers) asked refl there.1 (turn_only_steps line command old said new h)
+    came_at sep line command said old new drawer there.0 (place_named line command old.drawers) asked refl there.1 (changed line command old said new h)
 
 came_by : (sep : Sep) (line : List ℕ) (answer : Option Answer) (old new : World) (drawer : DrawerState) → ServesLine sep line old answer new → IsAmong new.drawers drawer → CameBy sep line answer old.drawers drawer
 came_by sep line answer old new drawer h there = read_by sep line (reading sep line) answer old new drawer refl h there
 
-came-more : (number : ℕ) (sep : Sep) (line : List ℕ) (lines : List (List ℕ)) (answer : Option Answer) (answers : List (Option Answer)) (start between end : World) (new : DrawerState) → ServesLine sep line start answer between
-    → HoldKeyings start.drawers → (behind : Came (number + 1) sep between lines answers end new) → CameBy sep line answer start.drawers behind.before → Came number sep start (line ∷ lines) (answer ∷ answers) end new
-came-more number sep line lines answer answers start between end new serves keyed behind by =
-    let first : List Step = line_steps number sep line by.before.holding by.events in
-    let are : events_of first ≡ by.events = line_events number sep line answer by.before by.events behind.before by.step in
-    let both : events_of (first ++ behind.steps) ≡ by.events ++ events_of behind.steps = events_of-append first behind.steps ∙ ap (λ (e : List Event). e ++ events_of behind.steps) are in
+-- ---- a drawer's way through lines
+
+abbrev pub Way : Sep → World → List (List ℕ) → List (Option Answer) → World → DrawerState → DrawerState → Type 0
+Way sep start [] [] end old new = (end ≡ start) × (new ≡ old)
+Way sep start (line ∷ lines) (answer ∷ answers) end old new =
+    (between : World) × (middle : DrawerState) × ServesLine sep line start answer between × IsAmong start.drawers old × IsAmong between.drawers middle × Did sep line answer old middle × Way sep between lines answers end middle new
+Way sep start [] (answer ∷ answers) end old new = ⊥
+Way sep start (line ∷ lines) [] end old new = ⊥
+
+pub record Came (sep : Sep) (start : World) (lines : List (List ℕ)) (answers : List (Option Answer)) (end : World) (new : DrawerState) : Type 0 where
+  pub before : DrawerState
+  pub was : IsAmong start.drawers before
+  pub way : Way sep start lines answers end before new
+
+pub came : (sep : Sep) (lines : List (List ℕ)) (answers : List (Option Answer)) (start end : World) (drawer : DrawerState) → Run sep start lines answers end → IsAmong end.drawers drawer → Came sep start lines answers end drawer
+came sep [] [] start end drawer run there = record { before = drawer; was = (there.0, ap (λ (w : World). slice_get w.drawers there.0) (sym run) ∙ there.1); way = (run, refl) }
+came sep (line ∷ lines) (answer ∷ answers) start end drawer run there =
+    let behind = came sep lines answers run.0 end drawer run.2 there in
+    let by = came_by sep line answer start run.0 behind.before run.1 behind.was in
+    record { before = by.before; was = by.was; way = (run.0, behind.before, run.1, by.was, behind.was, by.did, behind.way) }
+came sep [] (answer ∷ answers) start end drawer run there = absurd run
+came sep (line ∷ lines) [] start end drawer run there = absurd run
+
+-- ---- its play
+
+-- what its disk tells, as the play says
+pub Tells : Type 0 → Option Content → Play → DrawerState → Type 0
+Tells Fresh told m drawer = MatchOption told (drawer.disk.content ≡ None) (λ c. Follows Fresh c m drawer.holding drawer.disk)
+
+still_none : (c : Content) (m : Play) (d : DiskState) → Rests c m d → Rests c (goes_on [] m.tasks m) d
+still_none c m d r = subst (λ (l : List Task). Rests c (goes_on [] l m) d) (sym r.none) (rests_raw c m d d [] r (Logs-nothing d))
+
+still_follows : (Fresh : Type 0) (c : Content) (m : Play) (found : Option Attachment) (d : DiskState) → FollowsBy Fresh c m found d → FollowsBy Fresh c (goes_on [] m.tasks m) found d
+still_follows Fresh c m None d f = still_none c m d f
+still_follows Fresh c m (Some a) d f = tracks_raw Fresh c m a.keying a.queue d d [] f (Logs-nothing d)
+
+stays_tells : (Fresh : Type 0) (told : Option Content) (m : Play) (drawer : DrawerState) → Tells Fresh told m drawer → Tells Fresh told (goes_on [] m.tasks m) drawer
+unfolding Tells
+stays_tells Fresh None m drawer t = t
+stays_tells Fresh (Some c) m drawer t = still_follows Fresh c m (attachment_in drawer.holding) drawer.disk t
+
+serves_tells : (Fresh : Type 0) (told : Option Content) (m : Play) (sep : Sep) (line : List ℕ) (answer : Option Answer) (old new : DrawerState) (s : Served sep line answer old new) → HoldsKeying old.holding → HoldsKeying new.holding → Tells Fresh told m old
+    → Tells Fresh told (played_by (attachment_in new.holding) line s.serves.command told s.serves.said s.events m) new
+unfolding Tells
+serves_tells Fresh None m sep line answer old new s had keyed t = s.serves.logs.content ∙ ap (logged s.events) t
+serves_tells Fresh (Some c) m sep line answer old new s had keyed t =
+    line_follows Fresh c m line s.serves.command s.serves.said (reach old s.start) (reach new s.end) s.events s.row s.serves.logs s.serves.of_line had keyed t
+
+-- the play after a line
+record Goes (Fresh : Type 0) (told : Option Content) (sep : Sep) (line : List ℕ) (answer : Option Answer) (old : DrawerState) (m : Play) (new : DrawerState) : Type 0 where
+  next : Play
+  plays : LinePlays told sep line answer old m next new
+  tells : Tells Fresh told next new
+  name : new.name ≡ old.name
+
+line_goes : (Fresh : Type 0) (told : Option Content) (sep : Sep) (line : List ℕ) (answer : Option Answer) (old : DrawerState) (m : Play) (new : DrawerState) → Did sep line answer old new → HoldsKeying old.holding → HoldsKeying new.holding → Tells Fresh told m old
+    → Goes Fresh told sep line answer old m new
+line_goes Fresh told sep line answer old m new (inl same) had keyed t = record {
+  next = goes_on [] m.tasks m;
+  plays = inl (same, refl);
+  tells = subst (Tells Fresh told (goes_on [] m.tasks m)) (sym same) (stays_tells Fresh told m old t);
+  name = ap (λ (d : DrawerState). d.name) same;
+}
+line_goes Fresh told sep line answer old m new (inr s) had keyed t = record {
+  next = played_by (attachment_in new.holding) line s.serves.command told s.serves.said s.events m;
+  plays = inr (record { events = s.events; serves = s.serves; play = refl });
+  tells = serves_tells Fresh told m sep line answer old new s had keyed t;
+  name = s.serves.name;
+}
+
+-- and after lines
+pub record GoesFar (Fresh : Type 0) (told : Option Content) (sep : Sep) (start : World) (lines : List (List ℕ)) (answers : List (Option Answer)) (end : World) (old : DrawerState) (m : Play) (new : DrawerState) : Type 0 where
+  pub last : Play
+  pub places : DrawerPlaces told sep start lines answers end old m last new
+  pub tells : Tells Fresh told last new
+  pub name : new.name ≡ old.name
+
+pub goes : (Fresh : Type 0) (told : Option Content) (sep : Sep) (lines : List (List ℕ)) (answers : List (Option Answer)) (start end : World) (old : DrawerState) (m : Play) (new : DrawerState) → Way sep start lines answers end old new → HoldKeyings start.drawers → Tells Fresh told m old
+    → GoesFar Fresh told sep start lines answers end old m new
+goes Fresh told sep [] [] start end old m new way keyed t = record { last = m; places = (way.0, way.1, refl); tells = subst (Tells Fresh told m) (sym way.1) t; name = ap (λ (d : DrawerState). d.name) way.1 }
+goes Fresh told sep (line ∷ lines) (answer ∷ answers) start end old m new (between, middle, serves, was, there, did, way) keyed t =
+    let after_keyed = line_keeps sep line start answer between serves keyed in
+    let one = line_goes Fresh told sep line answer old m middle did (keyed old was) (after_keyed middle there) t in
+    let rest = goes Fresh told sep lines answers between end middle one.next new way after_keyed one.tells in
+    record { last = rest.last; places = (between, middle, one.next, serves, there, one.plays, rest.places); tells = rest.tells; name = rest.name ∙ one.name }
+goes Fresh told sep [] (answer ∷ answers) start end old m new way keyed t = absurd way
+goes Fresh told sep (line ∷ lines) [] start end old m new way keyed t = absurd way
+
+-- ---- from the entry of a run
+
+entry_none : (c : Content) (d : DiskState) → d.content ≡ Some c → Rests c no_play d
+entry_none c d told =
+    let fits : IsContentOf d.size c = subst (FitsSize d.size) told d.well_formed.fits in
     record {
-      before = by.before;
-      was = by.was;
-      name = behind.name ∙ step_name sep line answer by.before by.events behind.before by.step;
-      steps = first ++ behind.steps;
-      places = (between, behind.before, by.events, behind.steps, serves, behind.was, by.step, behind.places, refl);
-      logs = subst (λ (e : List Event). Logs e by.before.disk new.disk) (sym both)
-          (Logs-then by.events (events_of behind.steps) (step_logs sep line answer by.before by.events behind.before by.step) behind.logs);
-      fits = λ earlier size below fit.
-          let all : All (IsEventOf size) (by.events ++ events_of behind.steps) = subst (All (IsEventOf size)) both fit in
-          let more = asked_fits number size earlier line (reading sep line) by.before.holding by.events below (keyed by.before by.was) (All-first (IsEventOf size) by.events (events_of behind.steps) all) in
-          let last = behind.fits (earlier ++ first) size more (All-rest (IsEventOf size) by.events (events_of behind.steps) all) in
-          (last.0, subst (AreStepsBelow last.0) (append_assoc earlier first behind.steps) last.1);
+      content = subst (λ (n : ℕ). IsContentOf n c) (sym fits.sectors) fits;
+      told = told ∙ ap (λ (h : List Event). Some (record { base = c.base; history = h })) (sym (append-nil c.history));
+      steps = AreStepsBelow-none;
+      none = refl;
     }
 
-came : (number : ℕ) (sep : Sep) (lines : List (List ℕ)) (answers : List (Option Answer)) (old new : World) (drawer : DrawerState) → Run sep old lines answers new → HoldKeyings old.drawers → IsAmong new.drawers drawer
-    → Came number sep old lines answers new drawer
-came number sep [] [] old new drawer run keyed there = record {
-  before = drawer;
-  was = (there.0, ap (λ (w : World). slice_get w.drawers there.0) (sym run) ∙ there.1);
-  name = refl;
-  steps = [];
-  places = (run, refl, refl);
-  logs = Logs-nothing drawer.disk;
-  fits = λ earlier size below fit. (number, subst (AreStepsBelow number) (sym (append-nil earlier)) below);
-}
-came number sep (line ∷ lines) (answer ∷ answers) old new drawer run keyed there =
-    let behind = came (number + 1) sep lines answers run.0 new drawer run.2 (line_keeps sep line old answer run.0 run.1 keyed) there in
-    came-more number sep line lines answer answers old run.0 new drawer run.1 keyed behind (came_by sep line answer old run.0 behind.before run.1 behind.was)
-came number sep [] (answer ∷ answers) old new drawer run keyed there = absurd run
-came number sep (line ∷ lines) [] old new drawer run keyed there = absurd run
+entry_follows : (c : Content) (found : Option Attachment) (d : DiskState) → IfSome found (λ a. IsKeying a.keying) → d.content ≡ Some c → FollowsBy (IfSome found (λ a. a.queue ≡ [])) c no_play found d
+entry_follows c None d keyed told = entry_none c d told
+entry_follows c (Some a) d keyed told = record { shows = nothing_yet a.keying c d keyed told; within = within_none a.queue; apart = tt; whole = λ fresh. fresh }
+
+entry_tells : (told : Option Content) (drawer : DrawerState) → HoldsKeying drawer.holding → drawer.disk.content ≡ told → Tells (HasNoRequests drawer.holding) told no_play drawer
+unfolding Tells
+entry_tells None drawer keyed is = is
+entry_tells (Some c) drawer keyed is = entry_follows c (attachment_in drawer.holding) drawer.disk keyed is
 
 -- ---- what is promised of the disk
 
-after_fits : (steps : List Step) (told : Option Content) (new : DiskState) → new.content ≡ option_map (after steps) told → FitsSize new.size (option_map (after steps) told)
-after_fits steps told new is = subst (FitsSize new.size) is new.well_formed.fits
+by_content : (c : Content) (m : Play) → IsContentOf (length c.base) c → AreSteps m.steps → EnduresCrashes m.steps c
+by_content c m content are = record { fit = are; endures = λ t k sector is below. endures c m.steps t k sector content are is below }
 
-told_endures : (steps : List Step) (told : Option Content) (old new : DiskState) → old.content ≡ told → new.content ≡ option_map (after steps) told
-    → ((size : ℕ) → All (IsEventOf size) (events_of steps) → AreSteps steps) → IfSome told (EnduresCrashes steps)
-told_endures steps None old new was is fits = tt
-told_endures steps (Some c) old new was is fits =
-    let later : IsContentOf new.size (after steps c) = after_fits steps (Some c) new is in
-    let first : IsContentOf old.size c = subst (FitsSize old.size) was old.well_formed.fits in
-    let content : IsContentOf (length c.base) c = subst (λ (n : ℕ). IsContentOf n c) (sym first.sectors) first in
-    let are = fits new.size (All-rest (IsEventOf new.size) c.history (events_of steps) later.events) in
-    record { fit = are; endures = λ t k sector is below. endures c steps t k sector content are is below }
+follows_endures : (Fresh : Type 0) (c : Content) (m : Play) (found : Option Attachment) (d : DiskState) → FollowsBy Fresh c m found d → EnduresCrashes m.steps c
+follows_endures Fresh c m None d r = by_content c m r.content r.steps.fit
+follows_endures Fresh c m (Some a) d t = by_content c m t.shows.play.content (fit_front m.next m.steps (pending a.keying m.tasks) t.shows.play.steps)
 
-logged-after : (steps : List Step) (told : Option Content) → logged (events_of steps) told ≡ option_map (after steps) told
-logged-after steps None = refl
-logged-after steps (Some c) = refl
+follows_told : (Fresh : Type 0) (c : Content) (m : Play) (found : Option Attachment) (d : DiskState) → FollowsBy Fresh c m found d → d.content ≡ Some (after m.steps c)
+follows_told Fresh c m None d r = r.told
+follows_told Fresh c m (Some a) d t = t.shows.told
 
-disk_endures : (steps : List Step) (old new : DiskState) → Logs (events_of steps) old new → ((size : ℕ) → All (IsEventOf size) (events_of steps) → AreSteps steps) → IfSome old.content (EnduresCrashes steps)
-disk_endures steps old new logs fits = told_endures steps old.content old new refl (logs.content ∙ logged-after steps old.content) fits
+follows_tasks : (Fresh : Type 0) (c : Content) (m : Play) (found : Option Attachment) (d : DiskState) → FollowsBy Fresh c m found d → Fresh → MatchOption found (m.tasks ≡ []) (λ a. a.queue ≡ map (request_of a.keying) m.tasks)
+follows_tasks Fresh c m None d r fresh = r.none
+follows_tasks Fresh c m (Some a) d t fresh = t.whole fresh
+
+pub tells_content : (Fresh : Type 0) (told : Option Content) (m : Play) (drawer : DrawerState) → Tells Fresh told m drawer → drawer.disk.content ≡ option_map (after m.steps) told
+unfolding Tells
+tells_content Fresh None m drawer t = t
+tells_content Fresh (Some c) m drawer t = follows_told Fresh c m (attachment_in drawer.holding) drawer.disk t
+
+pub tells_endures : (Fresh : Type 0) (told : Option Content) (m : Play) (drawer : DrawerState) → Tells Fresh told m drawer → IfSome told (EnduresCrashes m.steps)
+unfolding Tells
+tells_endures Fresh None m drawer t = tt
+tells_endures Fresh (Some c) m drawer t = follows_endures Fresh c m (attachment_in drawer.holding) drawer.disk t
+
+pub tells_tasks : (Fresh : Type 0) (told : Option Content) (m : Play) (drawer : DrawerState) → Tells Fresh told m drawer → Fresh → IfSome told (λ c. HasTasks drawer.holding m.tasks)
+unfolding Tells
+tells_tasks Fresh None m drawer t fresh = tt
+tells_tasks Fresh (Some c) m drawer t fresh = follows_tasks Fresh c m (attachment_in drawer.holding) drawer.disk t fresh
+
+-- what holds by the play holds where the disk tells its content
+pub told_holds : (Fresh : Type 0) (told : Option Content) (m : Play) (drawer : DrawerState) (Holds : Content → Type 0) → Tells Fresh told m drawer → ((c : Content) → Follows Fresh c m drawer.holding drawer.disk → Holds c) → IfSome told Holds
+unfolding Tells
+told_holds Fresh None m drawer Holds t holds = tt
+told_holds Fresh (Some c) m drawer Holds t holds = holds c t
+
+abbrev pub survives_by : (Plays : DrawerState → Play → DrawerState → Type 0) (olds : List DrawerState) (before : DrawerState) (m : Play) (new : DrawerState) → IsAmong olds before → new.name ≡ before.name → Plays before m new → Tells (HasNoRequests before.holding) before.disk.content m new
+    → SurvivesBy Plays olds new
+survives_by Plays olds before m new was name plays t = record {
+  before = before;
+  was = was;
+  name = name;
+  play = m;
+  plays = plays;
+  content = tells_content (HasNoRequests before.holding) before.disk.content m new t;
+  endures = tells_endures (HasNoRequests before.holding) before.disk.content m new t;
+  requests = λ fresh. tells_tasks (HasNoRequests before.holding) before.disk.content m new t fresh;
+}
+
+-- a drawer that is there after lines, as which it was there before, and what its disk tells
+pub record Survived (sep : Sep) (lines : List (List ℕ)) (answers : List (Option Answer)) (old new : World) (drawer : DrawerState) : Type 0 where
+  pub before : DrawerState
+  pub was : IsAmong old.drawers before
+  pub name : drawer.name ≡ before.name
+  pub play : Play
+  pub plays : DrawerPlays sep old lines answers new before play drawer
+  pub tells : Tells (HasNoRequests before.holding) before.disk.content play drawer
+
+pub survived : (sep : Sep) (lines : List (List ℕ)) (answers : List (Option Answer)) (old new : World) → Run sep old lines answers new → HoldKeyings old.drawers → (drawer : DrawerState) → IsAmong new.drawers drawer → Survived sep lines answers old new drawer
+survived sep lines answers old new run keyed drawer there =
+    let from = came sep lines answers old new drawer run there in
+    let b = from.before in
+    let g = goes (HasNoRequests b.holding) b.disk.content sep lines answers old new b no_play drawer from.way keyed (entry_tells b.disk.content b (keyed b from.was) refl) in
+    record { before = b; was = from.was; name = g.name; play = g.last; plays = g.places; tells = g.tells }
+
+abbrev pub survives_so : (sep : Sep) (lines : List (List ℕ)) (answers : List (Option Answer)) (old new : World) (drawer : DrawerState) → Survived sep lines answers old new drawer → SurvivesBy (DrawerPlays sep old lines answers new) old.drawers drawer
+survives_so sep lines answers old new drawer s = survives_by (DrawerPlays sep old lines answers new) old.drawers s.before s.play drawer s.was s.name s.plays s.tells
 
 pub each_survives : (sep : Sep) (lines : List (List ℕ)) (answers : List (Option Answer)) (old new : World) → Run sep old lines answers new → HoldKeyings old.drawers → EachSurvives sep lines answers old new
-each_survives sep lines answers old new run keyed drawer there =
-    let c = came 0 sep lines answers old new drawer run keyed there in
-    record {
-      before = c.before;
-      was = c.was;
-      name = c.name;
-      steps = c.steps;
-      places = c.places;
-      content = c.logs.content ∙ logged-after c.steps c.before.disk.content;
-      endures = disk_endures c.steps c.before.disk drawer.disk c.logs (λ size fit. (c.fits [] size AreStepsBelow-none fit).1.fit);
-    }
+each_survives sep lines answers old new run keyed drawer there = survives_so sep lines answers old new drawer (survived sep lines answers old new run keyed drawer there)
 
 pub run_keeps : (sep : Sep) (lines : List (List ℕ)) (answers : List (Option Answer)) (old new : World) → Run sep old lines answers new → HoldKeyings old.drawers → HoldKeyings new.drawers
 run_keeps sep [] [] old new run all = subst (λ (w : World). HoldKeyings w.drawers) (sym run) all
@@ -425,24 +373,28 @@ came_closing (d ∷ ds) count news zero new h there =
 came_closing (d ∷ ds) count news (suc place) new h there =
     closed_behind d ds new (came_closing ds h.2 h.3 place new h.5 (sym (ap (λ (l : List DrawerState). slice_get l (suc place)) h.7) ∙ there))
 
+closed_unheld : (holding : Holding) → is_idle holding ≡ true → attachment_in holding ≡ None
+closed_unheld Idle h = refl
+closed_unheld (IsAttached a) h = absurd (let none : ⊥ = cc h in none)
+closed_unheld (IsSuspended kept) h = absurd (let none : ⊥ = cc h in none)
+
+closed_as : (idle : Bool) (old : DrawerState) (failed : Bool) (new : DrawerState) → is_idle old.holding ≡ idle → ClosesAs idle old failed new → attachment_in new.holding ≡ None
+closed_as true old failed new is h = ap (λ (d : DrawerState). attachment_in d.holding) h.1 ∙ closed_unheld old.holding is
+closed_as false old failed new is h = ap (λ (d : DrawerState). attachment_in d.holding) h.1
+
+closing_tells : (Fresh : Type 0) (told : Option Content) (m : Play) (old : DrawerState) (events : List Event) (new : DrawerState) → ClosesWith old events new → Tells Fresh told m old → Tells Fresh told (goes_on (raw_steps events) [] m) new
+unfolding Tells
+closing_tells Fresh None m old events new h t = h.logs.content ∙ ap (logged events) t
+closing_tells Fresh (Some c) m old events new h t =
+    subst (λ (o : Option Attachment). FollowsBy Fresh c (goes_on (raw_steps events) [] m) o new.disk) (sym (closed_as (is_idle old.holding) old h.failed new refl h.closes))
+    (raw_gone Fresh c m (attachment_in old.holding) old.disk new.disk events h.logs t)
+
 pub each_survives_closing : (sep : Sep) (lines : List (List ℕ)) (answers : List (Option Answer)) (failed : ℕ) (old new : World) → RunsAndCloses sep old lines answers failed new → HoldKeyings old.drawers
     → EachSurvivesClosing sep lines answers old new
 each_survives_closing sep lines answers failed old new h keyed drawer there =
     let e = came_closing h.middle.drawers failed new.drawers there.0 drawer h.closes.drawers there.1 in
-    let c = came 0 sep lines answers old h.middle e.before h.run keyed e.was in
-    let steps : List Step = c.steps ++ raw_steps e.last in
-    let are : events_of steps ≡ events_of c.steps ++ e.last = events_of-append c.steps (raw_steps e.last) ∙ ap (λ (l : List Event). events_of c.steps ++ l) (events_of-raw e.last) in
-    let logs : Logs (events_of steps) c.before.disk drawer.disk = subst (λ (l : List Event). Logs l c.before.disk drawer.disk) (sym are) (Logs-then (events_of c.steps) e.last c.logs e.closes.logs) in
-    record {
-      before = c.before;
-      was = c.was;
-      name = e.name ∙ c.name;
-      steps = steps;
-      places = record { end = h.middle; middle = e.before; among = e.was; served = c.steps; places = c.places; last = e.last; closes = e.closes; are = refl };
-      content = logs.content ∙ logged-after steps c.before.disk.content;
-      endures = disk_endures steps c.before.disk drawer.disk logs
-          (λ size fit.
-          let all : All (IsEventOf size) (events_of c.steps ++ e.last) = subst (All (IsEventOf size)) are fit in
-          let served = c.fits [] size AreStepsBelow-none (All-first (IsEventOf size) (events_of c.steps) e.last all) in
-          (AreStepsBelow-raw served.0 size c.steps e.last served.1 (All-rest (IsEventOf size) (events_of c.steps) e.last all)).fit);
-    }
+    let s = survived sep lines answers old h.middle h.run keyed e.before e.was in
+    let play : Play = goes_on (raw_steps e.last) [] s.play in
+    survives_by (DrawerPlaysAndCloses sep old lines answers) old.drawers s.before play drawer s.was (e.name ∙ s.name)
+    (record { end = h.middle; middle = e.before; among = e.was; served = s.play; places = s.plays; last = e.last; closes = e.closes; are = refl })
+    (closing_tells (HasNoRequests s.before.holding) s.before.disk.content s.play e.before e.last drawer e.closes s.tells)

@@ -1,5 +1,5 @@
 -- What you write is what you read.
-use Rattle.std.proofs.Common.{◌≡◌, ◌∙◌, ap, arith, cond, false, refl, subst, sym, true, Bool, ℕ, zero, ◌+◌, ◌*◌, ◌/◌, ◌<◌, ◌≤◌, List, [], ◌∷◌, ◌++◌, length, Option, None, Some, Result, Ok, Err}
+use Rattle.std.proofs.Common.{◌≡◌, ◌∙◌, ap, arith, cond, false, refl, subst, sym, true, Bool, ℕ, ◌+◌, ◌*◌, ◌/◌, ◌<◌, ◌≤◌, List, [], ◌∷◌, ◌++◌, length, Option, None, Some, Result, Ok, Err}
 use Rattle.std.specs.Prelude.{IfSome, MatchOption, nat_le, slice_get}
 use Rattle.std.specs.Option.{option_map}
 use Rattle.std.proofs.lemmas.Bool.Decides.{nat_tests}
@@ -24,22 +24,25 @@ use Rattle.provider_readings.specs.Data.{data_read}
 use Rattle.range_keys.specs.Ring.{IsKeying}
 use Rattle.readings.specs.Steps.{Step, after, cell}
 use Rattle.readings.specs.Survivors as survivors
-use Rattle.readings.specs.Writings.{Writing}
 use Rattle.sha2.specs.Sha256.{sha256}
 use Rattle.command_rows.proofs.Gate.{by_gate, by_gate_refusal, with_attached}
 use Rattle.command_rows.specs.Answer.{Answer}
 use Rattle.command_rows.specs.Answer as answers
-use Rattle.command_rows.specs.Steps.{Decides, GoesOn, NeedsSectors, NeedsWhole, ReadsSectors, SectorsAnswer, Then, in_range, whole_sectors}
+use Rattle.command_rows.specs.Steps.{Decides, GoesOn, SectorsAnswer, in_range, whole_sectors}
+use Rattle.command_rows.specs.Queueing.{ReapRow}
 use Rattle.command_rows.specs.Gate.{Needs, needs, refused_by}
-use Rattle.command_rows.specs.Turn.{ChangesAt, GoesThrough, IsUnknown, ReadRow, Replies, Serves, digest_or, payload_or, reach}
+use Rattle.command_rows.specs.Turn.{ChangesAt, GoesThrough, IsUnknown, ReadRow, Replies, Serves, digest_or, payload_or, reach, reaped_or}
 use Rattle.command_rows.specs.Workloads.{SumRow}
 use Rattle.command_rows.specs.World.{AttachedWith, Attachment, DrawerState, HoldKeyings, Holding, HoldsKeying, IsAttached, Reach, World, place_of}
-use Rattle.geli_core.specs.Placing.{DrawerPlaces}
-use Rattle.geli_core.specs.ReadsBack.{EachReadsBack, IsDigestOf, LineReads, ReadsBack, StandsSo}
+use Rattle.geli_core.specs.ReadsBack.{EachReadsBack, IsDigestOf, IsDoneAsAsked, LineReads, ReadsAsAsked, ReadsBack, StandsSo}
+use Rattle.queue_readings.specs.Play.{Play}
 use Rattle.geli_core.specs.Run.{Run, ServesReading}
-use Rattle.geli_core.specs.Survivors.{EnduresCrashes, SurvivesBy}
+use Rattle.geli_core.specs.Survivors.{EnduresCrashes, HasNoRequests}
 use Rattle.geli_core.proofs.Keyings.{line_keeps}
-use Rattle.geli_core.proofs.Placing.{each_survives}
+use Rattle.geli_core.proofs.Placing.{Survived, survived, survives_so, told_holds}
+use Rattle.geli_core.proofs.Playing.{keyed_by}
+use Rattle.geli_core.proofs.Requested.{passed}
+use Rattle.geli_core.proofs.Reaping.{reaped_bytes, reaped_done, reaped_fault}
 use Rattle.geli_core.proofs.Running.{Run-more}
 
 -- ---- the steps of a row that decide
@@ -59,10 +62,6 @@ no_test : {A B : Type 0} (test : Bool) (v : A) (r : Refusal) (answer : Result B 
 no_test true v r answer never refusal d is = absurd (let none : ⊥ = cc d in none)
 no_test false v r answer never refusal d is = let same : r ≡ refusal = cc d in never (is ∙ ap (λ (x : Refusal). Err x) (sym same))
 
-passed : {A : Type 0} (test : Bool) (v w : A) (r : Refusal) → cond test (Ok v) (Err r) ≡ Ok w → (test ≡ true) × (v ≡ w)
-passed true v w r h = (refl, (let same : v ≡ w = cc h in same))
-passed false v w r h = absurd (let none : ⊥ = cc h in none)
-
 -- ---- what a read finds
 
 record Found (sector count : ℕ) (disk : DiskState) (holding : Holding) (answer : Result (List ℕ) Refusal) (new : DiskState) : Type 0 where
@@ -71,9 +70,6 @@ record Found (sector count : ℕ) (disk : DiskState) (holding : Holding) (answer
   keyed : IsKeying attachment.keying
   fits : sector + count ≤ media attachment.keying disk
   reads : SectorsAnswer attachment.keying sector count disk answer new
-
-keyed_by : (holding : Holding) (a : Attachment) → holding ≡ IsAttached a → HoldsKeying holding → IsKeying a.keying
-keyed_by holding a is had = subst HoldsKeying is had
 
 within : (sector count there : ℕ) (done : Unit {0}) → in_range sector count there ≡ Ok done → sector + count ≤ there
 within sector count there done h =
@@ -115,11 +111,12 @@ by_writings k sector count before disk (Some c) steps answer was is e keyed fits
     let there : sector + count ≤ survivors.media k c = subst (λ (n : ℕ). sector + count ≤ media_of k n) size fits in
     sym (data-read c steps k sector count content e.fit keyed there) ∙ subst (λ (o : Option Content). ReadsFrom o k sector count answer) is reads
 
-stands : (sep : Sep) (entry : World) (served : List (List ℕ)) (said : List (Option Answer)) (start : World) (line : List ℕ) (prov : Span) (sector count : ℕ) (answer : Result (List ℕ) ℕ) (place : ℕ) (before : DrawerState) (a : Attachment)
-    → Run sep entry served said start → HoldKeyings entry.drawers → place_of (bytes_at line prov) start.drawers ≡ Some place → slice_get start.drawers place ≡ Some before → before.holding ≡ IsAttached a → IsKeying a.keying
-    → sector + count ≤ media a.keying before.disk → ReadsAs before.disk a.keying sector count answer → StandsSo sep entry served said start line prov (λ k cells. data_read k sector count cells ≡ answer)
-stands sep entry served said start line prov sector count answer place before a run all named there attached keyed fits reads =
-    let survives : SurvivesBy (DrawerPlaces 0 sep entry served said start) entry.drawers before = each_survives sep served said entry start run all before (place, there) in
+-- of the drawer that a line names, by what its play says
+stands_by : (sep : Sep) (entry : World) (served : List (List ℕ)) (said : List (Option Answer)) (start : World) (line : List ℕ) (prov : Span) (Holds : Keying → Content → Play → Type 0) (place : ℕ) (before : DrawerState) (a : Attachment)
+    → Run sep entry served said start → HoldKeyings entry.drawers → place_of (bytes_at line prov) start.drawers ≡ Some place → slice_get start.drawers place ≡ Some before → before.holding ≡ IsAttached a
+    → ((s : Survived sep served said entry start before) → IfSome s.before.disk.content (λ c. Holds a.keying c s.play)) → StandsSo sep entry served said start line prov Holds
+stands_by sep entry served said start line prov Holds place before a run all named there attached holds =
+    let s = survived sep served said entry start run all before (place, there) in
     record {
       place = place;
       named = named;
@@ -127,9 +124,18 @@ stands sep entry served said start line prov sector count answer place before a 
       there = there;
       attachment = a;
       attached = attached;
-      survives = survives;
-      holds = by_writings a.keying sector count survives.before.disk before.disk survives.before.disk.content survives.steps answer refl survives.content survives.endures keyed fits reads;
+      survives = survives_so sep served said entry start before s;
+      holds = holds s;
     }
+
+stands : (sep : Sep) (entry : World) (served : List (List ℕ)) (said : List (Option Answer)) (start : World) (line : List ℕ) (prov : Span) (sector count : ℕ) (answer : Result (List ℕ) ℕ) (place : ℕ) (before : DrawerState) (a : Attachment)
+    → Run sep entry served said start → HoldKeyings entry.drawers → place_of (bytes_at line prov) start.drawers ≡ Some place → slice_get start.drawers place ≡ Some before → before.holding ≡ IsAttached a → IsKeying a.keying
+    → sector + count ≤ media a.keying before.disk → ReadsAs before.disk a.keying sector count answer → StandsSo sep entry served said start line prov (λ k c m. data_read k sector count (cell c m.steps) ≡ answer)
+stands sep entry served said start line prov sector count answer place before a run all named there attached keyed fits reads =
+    stands_by sep entry served said start line prov (λ k c m. data_read k sector count (cell c m.steps) ≡ answer) place before a run all named there attached
+    (λ s.
+    let survives = survives_so sep served said entry start before s in
+    by_writings a.keying sector count s.before.disk before.disk s.before.disk.content s.play.steps answer refl survives.content survives.endures keyed fits reads)
 
 digest_there : (told : Option Content) (k : Keying) (sector count : ℕ) (steps : List Step) (bytes digest : List ℕ) → digest ≡ sha256 bytes → IfSome told (λ c. data_read k sector count (cell c steps) ≡ Ok bytes)
     → IfSome told (λ c. IsDigestOf (data_read k sector count (cell c steps)) digest)
@@ -137,7 +143,7 @@ digest_there None k sector count steps bytes digest is h = tt
 digest_there (Some c) k sector count steps bytes digest is h = record { bytes = bytes; is = h; digest_is = is }
 
 stands_digest : (sep : Sep) (entry : World) (served : List (List ℕ)) (said : List (Option Answer)) (start : World) (line : List ℕ) (prov : Span) (sector count : ℕ) (bytes digest : List ℕ) → digest ≡ sha256 bytes
-    → StandsSo sep entry served said start line prov (λ k cells. data_read k sector count cells ≡ Ok bytes) → StandsSo sep entry served said start line prov (λ k cells. IsDigestOf (data_read k sector count cells) digest)
+    → StandsSo sep entry served said start line prov (λ k c m. data_read k sector count (cell c m.steps) ≡ Ok bytes) → StandsSo sep entry served said start line prov (λ k c m. IsDigestOf (data_read k sector count (cell c m.steps)) digest)
 stands_digest sep entry served said start line prov sector count bytes digest is s = record {
   place = s.place;
   named = s.named;
@@ -146,7 +152,7 @@ stands_digest sep entry served said start line prov sector count bytes digest is
   attachment = s.attachment;
   attached = s.attached;
   survives = s.survives;
-  holds = digest_there s.survives.before.disk.content s.attachment.keying sector count s.survives.steps bytes digest is s.holds;
+  holds = digest_there s.survives.before.disk.content s.attachment.keying sector count s.survives.play.steps bytes digest is s.holds;
 }
 
 -- ---- a `sum`
@@ -185,15 +191,16 @@ sum_found sector count a old answer new is had told h =
 
 -- ---- a line
 
-turned : (line : List ℕ) (command : Command) (name : List ℕ) (old : World) (said : Answer) (new : World) (found : Option ℕ) → place_of name old.drawers ≡ found → MatchOption found (IsUnknown old said new) (ChangesAt (Serves line command) old said new)
+pub turned : (line : List ℕ) (command : Command) (name : List ℕ) (old : World) (said : Answer) (new : World) (found : Option ℕ) → place_of name old.drawers ≡ found → MatchOption found (IsUnknown old said new) (ChangesAt (Serves line command) old said new)
     → (IsUnknown old said new → ⊥) → (place : ℕ) × (place_of name old.drawers ≡ Some place) × ChangesAt (Serves line command) old said new place
 turned line command name old said new None is h never = absurd (never h)
 turned line command name old said new (Some place) is h never = (place, is, h)
 
 -- an answer that tells of data
-abbrev TellsReply : Answer → Type 0
+abbrev pub TellsReply : Answer → Type 0
 TellsReply (answers.Payload bytes) = Unit {0}
 TellsReply (answers.Digest digest) = Unit {0}
+TellsReply answers.Done = Unit {0}
 TellsReply (answers.Refused (refusals.Integrity offset)) = Unit {0}
 TellsReply reply = ⊥
 
@@ -201,7 +208,7 @@ no_gate : (wanted : Needs) (holding : Holding) (refusal : Refusal) → refused_b
 no_gate wanted holding refusal is told = by_gate_refusal wanted holding refusal (λ r. TellsReply (answers.Refused r) → ⊥) is (λ h none. none) (λ h none. none) (λ h none. none) (λ h none. none) told
 
 -- it comes from the row, of an attached drawer
-from_row : (line : List ℕ) (command : Command) (old : Reach) (reply : Answer) (new : Reach) (Row : Attachment → Type 0) (Claim : Type 0) → TellsReply reply → (GoesThrough line command old reply new → AttachedWith old.holding Row)
+pub from_row : (line : List ℕ) (command : Command) (old : Reach) (reply : Answer) (new : Reach) (Row : Attachment → Type 0) (Claim : Type 0) → TellsReply reply → (GoesThrough line command old reply new → AttachedWith old.holding Row)
     → ((a : Attachment) → old.holding ≡ IsAttached a → Row a → Claim) → Serves line command old reply new → Claim
 from_row line command old reply new Row Claim told row goes h =
     by_gate line command old reply new Claim (λ through. with_attached old.holding Row Claim goes (row through))
@@ -225,7 +232,7 @@ unsummed_is (Err r) refusal h = (let same : refusal ≡ r = cc h in ap (λ (x : 
 
 summed : (sep : Sep) (entry : World) (served : List (List ℕ)) (said : List (Option Answer)) (start : World) (line : List ℕ) (prov : Span) (sector count : ℕ) (digest : List ℕ) (place : ℕ) (before : DrawerState) (read : Result (List ℕ) Refusal) (middle : DiskState)
     → Run sep entry served said start → HoldKeyings entry.drawers → place_of (bytes_at line prov) start.drawers ≡ Some place → slice_get start.drawers place ≡ Some before → Found sector count before.disk before.holding read middle
-    → Ok digest ≡ digested read → StandsSo sep entry served said start line prov (λ k cells. IsDigestOf (data_read k sector count cells) digest)
+    → Ok digest ≡ digested read → StandsSo sep entry served said start line prov (λ k c m. IsDigestOf (data_read k sector count (cell c m.steps)) digest)
 summed sep entry served said start line prov sector count digest place before (Ok bytes) middle run all named there f is =
     let same : digest ≡ sha256 bytes = cc is in
     stands_digest sep entry served said start line prov sector count bytes digest same
@@ -234,7 +241,7 @@ summed sep entry served said start line prov sector count digest place before (E
 
 faulted : (sep : Sep) (entry : World) (served : List (List ℕ)) (said : List (Option Answer)) (start : World) (line : List ℕ) (prov : Span) (sector count offset place : ℕ) (before : DrawerState) (read : Result (List ℕ) Refusal) (middle : DiskState)
     → Run sep entry served said start → HoldKeyings entry.drawers → place_of (bytes_at line prov) start.drawers ≡ Some place → slice_get start.drawers place ≡ Some before → Found sector count before.disk before.holding read middle
-    → Err (refusals.Integrity offset) ≡ digested read → StandsSo sep entry served said start line prov (λ k cells. data_read k sector count cells ≡ Err offset)
+    → Err (refusals.Integrity offset) ≡ digested read → StandsSo sep entry served said start line prov (λ k c m. data_read k sector count (cell c m.steps) ≡ Err offset)
 faulted sep entry served said start line prov sector count offset place before (Ok bytes) middle run all named there f is = absurd (let no : ⊥ = cc is in no)
 faulted sep entry served said start line prov sector count offset place before (Err r) middle run all named there f is =
     let same : r ≡ refusals.Integrity offset = cc is in
@@ -247,7 +254,7 @@ reads_line sep entry served said start next (Ok (Some (commands.Read prov sector
     let t = turned line (commands.Read prov sector count) (bytes_at line prov) start (answers.Payload bytes) next (place_of (bytes_at line prov) start.drawers) refl h (λ u. (let no : ⊥ = cc (u.refused) in no)) in
     from_row line (commands.Read prov sector count) (reach t.2.before start) (answers.Payload bytes) (reach t.2.after next)
     (λ a. Replies payload_or (ReadRow sector count a) (reach t.2.before start) (answers.Payload bytes) (reach t.2.after next))
-    (StandsSo sep entry served said start line prov (λ k cells. data_read k sector count cells ≡ Ok bytes)) tt (λ through. through)
+    (StandsSo sep entry served said start line prov (λ k c m. data_read k sector count (cell c m.steps) ≡ Ok bytes)) tt (λ through. through)
     (λ a is step.
     let row = subst (λ (r : Result (List ℕ) Refusal). ReadRow sector count a (reach t.2.before start) r (reach t.2.after next)) (payload_is step.answer bytes step.replied) step.row in
     let f = read_found sector count a (reach t.2.before start) (Ok bytes) (reach t.2.after next) is (here t.2.before (t.0, t.2.found)) tt row in
@@ -257,7 +264,7 @@ reads_line sep entry served said start next (Ok (Some (commands.Read prov sector
     let t = turned line (commands.Read prov sector count) (bytes_at line prov) start (answers.Refused (refusals.Integrity offset)) next (place_of (bytes_at line prov) start.drawers) refl h (λ u. (let no : ⊥ = cc (u.refused) in no)) in
     from_row line (commands.Read prov sector count) (reach t.2.before start) (answers.Refused (refusals.Integrity offset)) (reach t.2.after next)
     (λ a. Replies payload_or (ReadRow sector count a) (reach t.2.before start) (answers.Refused (refusals.Integrity offset)) (reach t.2.after next))
-    (StandsSo sep entry served said start line prov (λ k cells. data_read k sector count cells ≡ Err offset)) tt (λ through. through)
+    (StandsSo sep entry served said start line prov (λ k c m. data_read k sector count (cell c m.steps) ≡ Err offset)) tt (λ through. through)
     (λ a is step.
     let row = subst (λ (r : Result (List ℕ) Refusal). ReadRow sector count a (reach t.2.before start) r (reach t.2.after next)) (refused_is step.answer (refusals.Integrity offset) step.replied) step.row in
     let f = read_found sector count a (reach t.2.before start) (Err (refusals.Integrity offset)) (reach t.2.after next) is (here t.2.before (t.0, t.2.found)) tt row in
@@ -267,7 +274,7 @@ reads_line sep entry served said start next (Ok (Some (commands.Sum prov sector 
     let t = turned line (commands.Sum prov sector count) (bytes_at line prov) start (answers.Digest digest) next (place_of (bytes_at line prov) start.drawers) refl h (λ u. (let no : ⊥ = cc (u.refused) in no)) in
     from_row line (commands.Sum prov sector count) (reach t.2.before start) (answers.Digest digest) (reach t.2.after next)
     (λ a. Replies digest_or (SumRow sector count a) (reach t.2.before start) (answers.Digest digest) (reach t.2.after next))
-    (StandsSo sep entry served said start line prov (λ k cells. IsDigestOf (data_read k sector count cells) digest)) tt (λ through. through)
+    (StandsSo sep entry served said start line prov (λ k c m. IsDigestOf (data_read k sector count (cell c m.steps)) digest)) tt (λ through. through)
     (λ a is step.
     let row = subst (λ (r : Result (List ℕ) Refusal). SumRow sector count a (reach t.2.before start) r (reach t.2.after next)) (digest_is step.answer digest step.replied) step.row in
     let f = sum_found sector count a (reach t.2.before start) (Ok digest) (reach t.2.after next) is (here t.2.before (t.0, t.2.found)) tt row in
@@ -277,11 +284,42 @@ reads_line sep entry served said start next (Ok (Some (commands.Sum prov sector 
     let t = turned line (commands.Sum prov sector count) (bytes_at line prov) start (answers.Refused (refusals.Integrity offset)) next (place_of (bytes_at line prov) start.drawers) refl h (λ u. (let no : ⊥ = cc (u.refused) in no)) in
     from_row line (commands.Sum prov sector count) (reach t.2.before start) (answers.Refused (refusals.Integrity offset)) (reach t.2.after next)
     (λ a. Replies digest_or (SumRow sector count a) (reach t.2.before start) (answers.Refused (refusals.Integrity offset)) (reach t.2.after next))
-    (StandsSo sep entry served said start line prov (λ k cells. data_read k sector count cells ≡ Err offset)) tt (λ through. through)
+    (StandsSo sep entry served said start line prov (λ k c m. data_read k sector count (cell c m.steps) ≡ Err offset)) tt (λ through. through)
     (λ a is step.
     let row = subst (λ (r : Result (List ℕ) Refusal). SumRow sector count a (reach t.2.before start) r (reach t.2.after next)) (unsummed_is step.answer (refusals.Integrity offset) step.replied) step.row in
     let f = sum_found sector count a (reach t.2.before start) (Err (refusals.Integrity offset)) (reach t.2.after next) is (here t.2.before (t.0, t.2.found)) tt row in
     faulted sep entry served said start line prov sector count offset t.0 t.2.before f.read f.middle run all t.1 t.2.found f.found f.is)
+    t.2.step
+reads_line sep entry served said start next (Ok (Some (commands.Reap prov tag))) line (Some (answers.Payload bytes)) run all here h =
+    let t = turned line (commands.Reap prov tag) (bytes_at line prov) start (answers.Payload bytes) next (place_of (bytes_at line prov) start.drawers) refl h (λ u. (let no : ⊥ = cc (u.refused) in no)) in
+    let old = reach t.2.before start in
+    from_row line (commands.Reap prov tag) old (answers.Payload bytes) (reach t.2.after next) (λ a. Replies reaped_or (ReapRow tag a) old (answers.Payload bytes) (reach t.2.after next))
+    (StandsSo sep entry served said start line prov (ReadsAsAsked tag (Ok bytes))) tt (λ through. through)
+    (λ a is step.
+    stands_by sep entry served said start line prov (ReadsAsAsked tag (Ok bytes)) t.0 t.2.before a run all t.1 t.2.found is
+    (λ s. told_holds (HasNoRequests s.before.holding) s.before.disk.content s.play t.2.before (λ c. ReadsAsAsked tag (Ok bytes) a.keying c s.play) s.tells
+    (λ c f. reaped_bytes (HasNoRequests s.before.holding) c s.play a tag old step.answer (reach t.2.after next) bytes is f step.row step.replied)))
+    t.2.step
+reads_line sep entry served said start next (Ok (Some (commands.Reap prov tag))) line (Some (answers.Refused (refusals.Integrity offset))) run all here h =
+    let said_so : Answer = answers.Refused (refusals.Integrity offset) in
+    let t = turned line (commands.Reap prov tag) (bytes_at line prov) start said_so next (place_of (bytes_at line prov) start.drawers) refl h (λ u. (let no : ⊥ = cc (u.refused) in no)) in
+    let old = reach t.2.before start in
+    from_row line (commands.Reap prov tag) old said_so (reach t.2.after next) (λ a. Replies reaped_or (ReapRow tag a) old said_so (reach t.2.after next))
+    (StandsSo sep entry served said start line prov (ReadsAsAsked tag (Err offset))) tt (λ through. through)
+    (λ a is step.
+    stands_by sep entry served said start line prov (ReadsAsAsked tag (Err offset)) t.0 t.2.before a run all t.1 t.2.found is
+    (λ s. told_holds (HasNoRequests s.before.holding) s.before.disk.content s.play t.2.before (λ c. ReadsAsAsked tag (Err offset) a.keying c s.play) s.tells
+    (λ c f. reaped_fault (HasNoRequests s.before.holding) c s.play a tag old step.answer (reach t.2.after next) offset is f step.row step.replied)))
+    t.2.step
+reads_line sep entry served said start next (Ok (Some (commands.Reap prov tag))) line (Some answers.Done) run all here h =
+    let t = turned line (commands.Reap prov tag) (bytes_at line prov) start answers.Done next (place_of (bytes_at line prov) start.drawers) refl h (λ u. (let no : ⊥ = cc (u.refused) in no)) in
+    let old = reach t.2.before start in
+    from_row line (commands.Reap prov tag) old answers.Done (reach t.2.after next) (λ a. Replies reaped_or (ReapRow tag a) old answers.Done (reach t.2.after next))
+    (StandsSo sep entry served said start line prov (IsDoneAsAsked tag)) tt (λ through. through)
+    (λ a is step.
+    stands_by sep entry served said start line prov (IsDoneAsAsked tag) t.0 t.2.before a run all t.1 t.2.found is
+    (λ s. told_holds (HasNoRequests s.before.holding) s.before.disk.content s.play t.2.before (λ c. IsDoneAsAsked tag a.keying c s.play) s.tells
+    (λ c f. reaped_done (HasNoRequests s.before.holding) c s.play a tag old step.answer (reach t.2.after next) is f step.row step.replied)))
     t.2.step
 reads_line sep entry served said start next read line answer run all here h = tt
 

@@ -7,6 +7,8 @@ use Rattle.geli_core.specs.Laws.{LinesKeepLaws}
 use Rattle.geli_core.specs.ReadsBack.{ReadsBack}
 use Rattle.geli_core.specs.Script.{Ends, HasCause, Runs, Whole}
 use Rattle.geli_core.specs.Survivors.{SurvivesCrashes}
+use Rattle.geli_core.specs.Sweeps.{SweepsFollow}
+use Rattle.geli_core.specs.Suspensions.{KeepsSuspended}
 use Rattle.geli_core.specs.declared.status.Status.{Status}
 
 -- `cause`: a status that breaks the run off has its cause: where no count of faults rose, and the input is within its limits, the run is gone through
@@ -24,6 +26,13 @@ use Rattle.geli_core.specs.declared.status.Status.{Status}
 -- `reads_back`: what you write is what you read. By whatever lines the run came about, where the disk of the drawer told its content at entry, the
 -- bytes that a `read` is answered by are what the writings say that stand there last, of those that the lines before it placed and of what was there; a
 -- `sum` is answered by their SHA-256, and a refusal for a tag names the offset that they say.
+-- `suspensions`: by whatever lines the run came about, between any two of them, the disk of a drawer that is suspended there has logged nothing since a line suspended it,
+-- or since entry; so no line writes it, whatever lines name it. After a `resume` that is done the master key opens with the given key, and it is the one that
+-- was let go, or the two collide under SHA-256.
+-- `sweeps`: by whatever lines the run came about, where a `verify -r` on an attached drawer is answered that a part was swept and the cabinet tells its files, the
+-- lines behind it that are `verify` on this drawer and file go on where those before them ended, as long as each finds the drawer under the same keying, none begins
+-- anew, and no other line stores the file: each lists just the units that fail in its sectors, all together go over each sector before the last place once, and
+-- where their counts, each cut to the sectors of a part, reach the end, the last place is the end.
 -- `bounds`: by whatever lines the run came about, of the answers to them: those that the cabinet failed, that a file was absent or longer than a file
 -- may be, and that the entropy failed are each at most as many as the count of such failures rose by; where no two drawers have one name, those to
 -- the lines that name a drawer that its disk failed at most as many as that disk's count of faults rose by, until the end or until a line takes it
@@ -38,6 +47,8 @@ pub record RunsLawfully (words : List (List ℕ)) (old : Whole) (status : Status
   pub lines : LinesKeepLaws old.world new.world
   pub survivors : SurvivesCrashes old.world new.world
   pub reads_back : ReadsBack old.world new.world
+  pub suspensions : KeepsSuspended old.world new.world
+  pub sweeps : SweepsFollow old.world new.world
   pub bounds : BoundsReplies old.world new.world
   pub ends : Ends words status
   pub histories : KeepsDrawers words old new

@@ -9,6 +9,7 @@ use Rattle.eli_base.specs.declared.refusals.Refusal.{Refusal}
 use Rattle.eli_base.specs.declared.refusals.Refusal.TheVariants as refusals
 use Rattle.command_rows.specs.Answer.{Answer}
 use Rattle.command_rows.specs.Answer as answers
+use Rattle.command_rows.specs.Becoming.{BecomesSo}
 use Rattle.command_rows.specs.Causes.{Caused, may_lack_memory}
 use Rattle.command_rows.specs.Counts.{CountsFailures}
 use Rattle.command_rows.specs.Fits.{FindsAt, Fits}
@@ -28,8 +29,8 @@ IfRefused answer Holds = Unit {0}
 
 -- Of a command: a refusal has its cause. Want of memory is answered only to verbs that may lack it. Where the drawer that it names has
 -- what its verb needs, and nothing fails, it is served, or there was no memory and its verb may lack it. It changes only the drawer that it names, whose disk logs
--- events of the line. Where it changes metadata, the disk holds the old or the new at each moment of it. No count of the cabinet or the
--- entropy falls, and a failure of theirs is answered only where its count rose.
+-- events of the line. Where it changes metadata, the disk holds the old or the new at each moment of it. What the drawer does with its disk changes by the verbs that
+-- do that alone. No count of the cabinet or the entropy falls, and a failure of theirs is answered only where its count rose.
 pub record KeepsLaws (line : List ℕ) (command : Command) (old : World) (answer : Answer) (new : World) : Type 0 where
   pub caused : IfRefused answer (λ refusal. Caused line command refusal old new)
   pub memory : IfRefused answer (λ refusal. refusal ≡ refusals.NoMemory → IsTrue (may_lack_memory command))
@@ -37,6 +38,7 @@ pub record KeepsLaws (line : List ℕ) (command : Command) (old : World) (answer
       → IfRefused answer (λ refusal. (refusal ≡ refusals.NoMemory) × IsTrue (may_lack_memory command))
   pub drawers : OnlySteps line command answer old.drawers new.drawers
   pub leaves : LeavesOldOrNew line command answer old new
+  pub becomes : BecomesSo line command answer old new
   pub counts : CountsFailures old answer new
 
 -- the same of a line that says a command

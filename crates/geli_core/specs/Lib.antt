@@ -9,8 +9,11 @@ pub mod Laws
 pub mod Lines
 pub mod Placing
 pub mod ReadsBack
+pub mod Requests
 pub mod Run
 pub mod Script
 pub mod Served
 pub mod Status
+pub mod Suspensions
 pub mod Survivors
+pub mod Sweeps

@@ -1,5 +1,6 @@
 -- What you write is what you read: what the lines of a run that read logical sectors answer, from what its lines wrote before.
-use Rattle.std.specs.Prelude.{◌≡◌, ℕ, List, [], ◌∷◌, ◌++◌, Option, Some, IfSome, Result, Ok, Err, slice_get}
+use Rattle.std.specs.Prelude.{◌≡◌, ℕ, List, [], ◌∷◌, ◌++◌, Option, Some, IfSome, Result, Ok, Err, All, Contains, slice_get}
+use Rattle.block_traits.specs.Content.{Content}
 use Rattle.command_words.specs.Places.{bytes_at}
 use Rattle.command_words.specs.Reading.{reading}
 use Rattle.command_words.specs.declared.commands.Command.{Command}
@@ -11,26 +12,28 @@ use Rattle.eli_base.specs.Keying.{Keying}
 use Rattle.eli_base.specs.declared.refusals.Refusal.TheVariants as refusals
 use Rattle.sha2.specs.Sha256.{sha256}
 use Rattle.provider_readings.specs.Data.{data_read}
-use Rattle.readings.specs.Steps.{cell}
-use Rattle.readings.specs.Writings.{Writing}
+use Rattle.queue_readings.specs.Play.{Play}
+use Rattle.queue_readings.specs.Tasks.{Flushes, Reads, Work, Writes, data_from, task_with}
+use Rattle.readings.specs.Steps.{Step, cell}
+use Rattle.readings.specs.Writes.{data_steps}
 use Rattle.command_rows.specs.Answer.{Answer}
 use Rattle.command_rows.specs.Answer as answers
 use Rattle.command_rows.specs.World.{Attachment, DrawerState, IsAttached, World, place_of}
-use Rattle.geli_core.specs.Placing.{DrawerPlaces}
+use Rattle.geli_core.specs.Placing.{DrawerPlays}
 use Rattle.geli_core.specs.Run.{Run, RunsAndCloses}
 use Rattle.geli_core.specs.Survivors.{SurvivesBy}
 
--- When a line comes that names this provider, after these lines with these answers, its drawer is attached. It was there at entry, and did steps since, line
--- by line. Where its disk told its content at entry, this holds of the keying that is attached and of the writings that the cells hold by those steps.
-pub record StandsSo (sep : Sep) (entry : World) (served : List (List ℕ)) (said : List (Option Answer)) (start : World) (line : List ℕ) (prov : Span) (Holds : Keying → (ℕ → List Writing) → Type 0) : Type 0 where
+-- When a line comes that names this provider, after these lines with these answers, its drawer is attached. It was there at entry, and did the steps of a play
+-- since, line by line. Where its disk told its content at entry, this holds of the keying that is attached, of that content and of the play.
+pub record StandsSo (sep : Sep) (entry : World) (served : List (List ℕ)) (said : List (Option Answer)) (start : World) (line : List ℕ) (prov : Span) (Holds : Keying → Content → Play → Type 0) : Type 0 where
   pub place : ℕ
   pub named : place_of (bytes_at line prov) start.drawers ≡ Some place
   pub drawer : DrawerState
   pub there : slice_get start.drawers place ≡ Some drawer
   pub attachment : Attachment
   pub attached : drawer.holding ≡ IsAttached attachment
-  pub survives : SurvivesBy (DrawerPlaces 0 sep entry served said start) entry.drawers drawer
-  pub holds : IfSome survives.before.disk.content (λ c. Holds attachment.keying (cell c survives.steps))
+  pub survives : SurvivesBy (DrawerPlays sep entry served said start) entry.drawers drawer
+  pub holds : IfSome survives.before.disk.content (λ c. Holds attachment.keying c survives.play)
 
 -- a digest of what some logical sectors read as
 pub record IsDigestOf (read : Result (List ℕ) ℕ) (digest : List ℕ) : Type 0 where
@@ -38,17 +41,41 @@ pub record IsDigestOf (read : Result (List ℕ) ℕ) (digest : List ℕ) : Type 
   pub is : read ≡ Ok bytes
   pub digest_is : digest ≡ sha256 bytes
 
+-- a task is a read, whose writings read so: those that stood in its device sectors, each at its own step
+abbrev pub ReadsAsTask : Keying → (Result (List ℕ) ℕ) → Work → Type 0
+ReadsAsTask k read (Reads sector count ws) = data_from k sector count ws ≡ read
+ReadsAsTask k read (Writes number sector count bytes) = ⊥
+ReadsAsTask k read Flushes = ⊥
+
+-- so does the request with this tag that was submitted in the run. One of a drawer that had open requests at entry may be one of those
+abbrev pub ReadsAsAsked : ℕ → Result (List ℕ) ℕ → Keying → Content → Play → Type 0
+ReadsAsAsked tag read k c m = IfSome (task_with tag m.tasks) (λ t. ReadsAsTask k read t.work)
+
+-- each unit of a write is among the steps
+abbrev pub IsAmongSteps : List Step → Keying → Work → Type 0
+IsAmongSteps steps k (Reads sector count ws) = ⊥
+IsAmongSteps steps k (Writes number sector count bytes) = All (Contains steps) (data_steps number k sector count bytes)
+IsAmongSteps steps k Flushes = Unit {0}
+
+abbrev pub IsDoneAsAsked : ℕ → Keying → Content → Play → Type 0
+IsDoneAsAsked tag k c m = IfSome (task_with tag m.tasks) (λ t. IsAmongSteps m.steps k t.work)
+
 -- A `read` is answered by the bytes of its logical sectors, as the writings say that stand there last, and a `sum` by their SHA-256; or a fault at a byte offset by
--- the first that they say.
+-- the first that they say. A `reap` of a read is answered by the bytes of the writings that stood in its device sectors at its own steps, or by the first fault that
+-- they say; and when a write is reaped, each of its units was done.
 abbrev pub LineReads : Sep → World → List (List ℕ) → List (Option Answer) → World → Result (Option Command) Usage → List ℕ → Option Answer → Type 0
 LineReads sep entry served said start (Ok (Some (commands.Read prov sector count))) line (Some (answers.Payload bytes)) =
-    StandsSo sep entry served said start line prov (λ k cells. data_read k sector count cells ≡ Ok bytes)
+    StandsSo sep entry served said start line prov (λ k c m. data_read k sector count (cell c m.steps) ≡ Ok bytes)
 LineReads sep entry served said start (Ok (Some (commands.Read prov sector count))) line (Some (answers.Refused (refusals.Integrity offset))) =
-    StandsSo sep entry served said start line prov (λ k cells. data_read k sector count cells ≡ Err offset)
+    StandsSo sep entry served said start line prov (λ k c m. data_read k sector count (cell c m.steps) ≡ Err offset)
 LineReads sep entry served said start (Ok (Some (commands.Sum prov sector count))) line (Some (answers.Digest digest)) =
-    StandsSo sep entry served said start line prov (λ k cells. IsDigestOf (data_read k sector count cells) digest)
+    StandsSo sep entry served said start line prov (λ k c m. IsDigestOf (data_read k sector count (cell c m.steps)) digest)
 LineReads sep entry served said start (Ok (Some (commands.Sum prov sector count))) line (Some (answers.Refused (refusals.Integrity offset))) =
-    StandsSo sep entry served said start line prov (λ k cells. data_read k sector count cells ≡ Err offset)
+    StandsSo sep entry served said start line prov (λ k c m. data_read k sector count (cell c m.steps) ≡ Err offset)
+LineReads sep entry served said start (Ok (Some (commands.Reap prov tag))) line (Some (answers.Payload bytes)) = StandsSo sep entry served said start line prov (ReadsAsAsked tag (Ok bytes))
+LineReads sep entry served said start (Ok (Some (commands.Reap prov tag))) line (Some answers.Done) = StandsSo sep entry served said start line prov (IsDoneAsAsked tag)
+LineReads sep entry served said start (Ok (Some (commands.Reap prov tag))) line (Some (answers.Refused (refusals.Integrity offset))) =
+    StandsSo sep entry served said start line prov (ReadsAsAsked tag (Err offset))
 LineReads sep entry served said start read line answer = Unit {0}
 
 -- each line of a run does, behind those that were served before it

@@ -1,16 +1,18 @@
 -- What the lines of a run leave of each drawer's disk if power fails at any moment of them.
-use Rattle.std.specs.Prelude.{◌≡◌, ◌⊎◌, ℕ, ◌<◌, List, Option, IfSome}
+use Rattle.std.specs.Prelude.{◌≡◌, ◌⊎◌, ℕ, ◌<◌, List, [], map, Option, IfSome, MatchOption}
 use Rattle.std.specs.Option.{option_map}
 use Rattle.block_traits.specs.Content.{Content}
 use Rattle.command_words.specs.declared.spans.Sep.{Sep}
 use Rattle.eli_base.specs.Keying.{Keying}
 use Rattle.range_keys.specs.Ring.{IsKeying}
+use Rattle.queue_readings.specs.Play.{Play}
+use Rattle.queue_readings.specs.Tasks.{Task, request_of}
 use Rattle.readings.specs.Crashes.{Endures}
 use Rattle.readings.specs.Steps.{Step, after}
 use Rattle.readings.specs.Survivors.{AreSteps, media}
 use Rattle.command_rows.specs.Answer.{Answer}
-use Rattle.command_rows.specs.World.{DrawerState, IsAmong, World}
-use Rattle.geli_core.specs.Placing.{DrawerPlaces, DrawerPlacesAndCloses}
+use Rattle.command_rows.specs.World.{DrawerState, Holding, IsAmong, World, attachment_in}
+use Rattle.geli_core.specs.Placing.{DrawerPlays, DrawerPlaysAndCloses}
 use Rattle.geli_core.specs.Run.{RunsAndCloses}
 
 -- What is promised of steps that were done on a disk that had this content before: each of their writes has a number of its own, and at
@@ -19,24 +21,33 @@ pub record EnduresCrashes (steps : List Step) (c : Content) : Type 0 where
   pub fit : AreSteps steps
   pub endures : (t : ℕ) (k : Keying) (sector : ℕ) → IsKeying k → sector < media k c → Endures c steps t k sector
 
--- A drawer that is there in the end was there before under its name, and did these steps line by line. Where its disk tells its content, the
--- history grew by exactly the events of the steps, and they endure crashes.
-pub record SurvivesBy (Places : DrawerState → List Step → DrawerState → Type 0) (olds : List DrawerState) (new : DrawerState) : Type 0 where
+-- no request is open on a drawer that does this
+abbrev pub HasNoRequests : Holding → Type 0
+HasNoRequests holding = IfSome (attachment_in holding) (λ a. a.queue ≡ [])
+
+-- the requests that are open are just those of these tasks; a drawer that isn't attached has none
+abbrev pub HasTasks : Holding → List Task → Type 0
+HasTasks holding tasks = MatchOption (attachment_in holding) (tasks ≡ []) (λ a. a.queue ≡ map (request_of a.keying) tasks)
+
+-- A drawer that is there in the end was there before under its name, and did the steps of this play line by line. Where its disk tells its content, the
+-- history grew by exactly the events of the steps, and they endure crashes; and the open requests are those of the play, where none was open before.
+pub record SurvivesBy (Plays : DrawerState → Play → DrawerState → Type 0) (olds : List DrawerState) (new : DrawerState) : Type 0 where
   pub before : DrawerState
   pub was : IsAmong olds before
   pub name : new.name ≡ before.name
-  pub steps : List Step
-  pub places : Places before steps new
-  pub content : new.disk.content ≡ option_map (after steps) before.disk.content
-  pub endures : IfSome before.disk.content (EnduresCrashes steps)
+  pub play : Play
+  pub plays : Plays before play new
+  pub content : new.disk.content ≡ option_map (after play.steps) before.disk.content
+  pub endures : IfSome before.disk.content (EnduresCrashes play.steps)
+  pub requests : HasNoRequests before.holding → IfSome before.disk.content (λ c. HasTasks new.holding play.tasks)
 
 -- the same of each drawer that is there after lines were served
 abbrev pub EachSurvives : Sep → List (List ℕ) → List (Option Answer) → World → World → Type 0
-EachSurvives sep lines answers old new = (drawer : DrawerState) → IsAmong new.drawers drawer → SurvivesBy (DrawerPlaces 0 sep old lines answers new) old.drawers drawer
+EachSurvives sep lines answers old new = (drawer : DrawerState) → IsAmong new.drawers drawer → SurvivesBy (DrawerPlays sep old lines answers new) old.drawers drawer
 
 -- and after the drawers were closed
 abbrev pub EachSurvivesClosing : Sep → List (List ℕ) → List (Option Answer) → World → World → Type 0
-EachSurvivesClosing sep lines answers old new = (drawer : DrawerState) → IsAmong new.drawers drawer → SurvivesBy (DrawerPlacesAndCloses sep old lines answers) old.drawers drawer
+EachSurvivesClosing sep lines answers old new = (drawer : DrawerState) → IsAmong new.drawers drawer → SurvivesBy (DrawerPlaysAndCloses sep old lines answers) old.drawers drawer
 
 -- lines were served, and then the drawers were closed
 pub record Ran (old new : World) : Type 0 where

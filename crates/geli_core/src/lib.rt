@@ -7,6 +7,7 @@ mod feeding;
 mod images;
 mod laws;
 mod line;
+mod requests;
 mod serving;
 mod status;
 mod survivors;
@@ -19,6 +20,10 @@ pub use bounds::{
 pub use images::run_images;
 pub use laws::{a_line_keeps_the_laws, a_run_logs_the_events_of_its_lines};
 pub use line::serve_line;
+pub use requests::{
+    flushes_cover_reaped_writes, missing_requests_are_refused, requests_alone_are_lines,
+    requests_are_of_their_providers,
+};
 pub use serving::LineEnd;
 pub use shelf::{AddFault, Drawers, Shelf};
 pub use status::Status;

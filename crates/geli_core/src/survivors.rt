@@ -45,5 +45,5 @@ pub fn crashed_runs_attach_and_read<D: Disk>()
     ensures runs { (old new : World) (survives : SurvivesCrashes old new) (sep : Sep) (lines : List (List ℕ)) (answers : List (Option Answer)) (failed : ℕ) →
         (ran : RunsAndCloses sep old lines answers failed new) (drawer : DrawerState) (among : IsAmong new.drawers drawer) →
         let left = survives.each sep lines answers failed ran drawer among in
-        IfSome left.before.disk.content (ReadsAfterCrashes D.state left.steps) }
+        IfSome left.before.disk.content (ReadsAfterCrashes D.state left.play.steps) }
 {}

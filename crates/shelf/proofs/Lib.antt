@@ -1,6 +1,7 @@
 pub mod Closings
 pub mod Openings
 pub mod Batches
+pub mod Listing
 pub mod Places
 pub mod Sectors
 pub mod Rows
@@ -9,5 +10,8 @@ pub mod Storing
 pub mod KeyRows
 pub mod PlaceRows
 pub mod WorkloadRows
+pub mod QueueingRows
+pub mod VerifyRows
 pub mod Digits
+pub mod ResumingLemmas
 pub mod Suspensions

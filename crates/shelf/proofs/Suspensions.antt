@@ -1,9 +1,40 @@
--- A suspended provider that keeps all that was kept of it.
-use Rattle.std.proofs.Common.{◌≡◌}
-use Rattle.command_rows.specs.World.{IsSuspended}
-use Rattle.shelf.specs.Shelved.{kept_of}
-use Rattle.suspend.specs.Suspension.{Suspension}
+-- What is kept of a suspended provider: that of the provider, and it stays.
+use Rattle.std.proofs.Common.{◌≡◌, ◌<◌, ◌≤◌, List, [], ◌∷◌, length, ap, arith, refl, sym, Result, Ok, Err}
+use Rattle.bio_queue.specs.Requests.{Request}
+use Rattle.block_traits.specs.Disk.{DiskState}
+use Rattle.eli_base.specs.declared.refusals.Refusal.{Refusal}
+use Rattle.eli_base.specs.declared.refusals.Refusal.TheVariants as refusals
+use Rattle.command_rows.specs.Queueing.{if_none_open}
+use Rattle.command_rows.specs.Suspending.{SuspendRow, Suspends, kept_by}
+use Rattle.command_rows.specs.World.{Attachment, IsSuspended, Reach}
+use Rattle.provider.specs.Attached.{Attached}
+use Rattle.shelf.specs.Shelved.{attachment_of, kept_of}
+use Rattle.suspend.specs.Suspension.{KeepsOf, Suspension}
+
+pub kept_of_provider : {D : Type 0} (state : D → DiskState) (queue : List Request) (p : Attached D) (s : Suspension D) → KeepsOf state p s → IsSuspended (kept_of s) ≡ IsSuspended (kept_by (attachment_of queue p) (state p.disk))
+kept_of_provider state queue p s keeps = cc (keeps.sectorsize, keeps.sectors, keeps.slot, keeps.readonly, keeps.mark)
+
+pub kept_same : {D : Type 0} (old new : Suspension D) → new.slot ≡ old.slot → new.sectorsize ≡ old.sectorsize → new.sectors ≡ old.sectors → new.readonly ≡ old.readonly → new.mark ≡ old.mark → kept_of new ≡ kept_of old
+kept_same old new slot sectorsize sectors readonly mark = cc (slot, sectorsize, sectors, readonly, mark)
 
 pub kept_suspension : {D : Type 0} (old new : Suspension D) → new.slot ≡ old.slot → new.sectorsize ≡ old.sectorsize → new.sectors ≡ old.sectors → new.readonly ≡ old.readonly → new.mark ≡ old.mark
     → IsSuspended (kept_of new) ≡ IsSuspended (kept_of old)
-kept_suspension old new slot sectorsize sectors readonly mark = cc (slot, sectorsize, sectors, readonly, mark)
+kept_suspension old new slot sectorsize sectors readonly mark = ap IsSuspended (kept_same old new slot sectorsize sectors readonly mark)
+
+-- ---- open requests
+
+some_open : (queue : List Request) → 0 < length queue → if_none_open queue ≡ Err (refusals.RequestsOpen (length queue))
+some_open [] some = absurd (omega (arith, some))
+some_open (r ∷ queue) some = refl
+
+none_open : (queue : List Request) → length queue ≤ 0 → if_none_open queue ≡ Ok tt
+none_open [] none = refl
+none_open (r ∷ queue) none = absurd (omega (arith, none))
+
+-- requests are open, and nothing changes
+pub refused_open : (a : Attachment) (old : Reach) → 0 < length a.queue → SuspendRow a old (Err (refusals.RequestsOpen (length a.queue))) old
+refused_open a old some = record { given = Err (refusals.RequestsOpen (length a.queue)); middle = old; first = (sym (some_open a.queue some), refl); next = (refl, refl) }
+
+-- none is, and it is suspended
+pub suspended_so : (a : Attachment) (old : Reach) (answer : Result (Unit {0}) Refusal) (new : Reach) → length a.queue ≤ 0 → Suspends a old answer new → SuspendRow a old answer new
+suspended_so a old answer new none h = record { given = Ok tt; middle = old; first = (sym (none_open a.queue none), refl); next = h }

@@ -1,17 +1,38 @@
 -- Which commands may change the buffer of requests.
-use Rattle.std.specs.Prelude.{ℕ, Bool, true, false, List, [], ◌∷◌, if◌then◌else◌}
+use Rattle.std.specs.Prelude.{ℕ, Bool, true, false, List, [], ◌∷◌, Option, Some, None, Result, Ok, Err, if◌then◌else◌}
 use Rattle.std.specs.Str.{bytes_eq}
 use Rattle.command_words.specs.declared.commands.Command.{Command}
 use Rattle.command_words.specs.declared.commands.Command.TheVariants as commands
+use Rattle.eli_base.specs.declared.refusals.Refusal.{Refusal}
+use Rattle.eli_base.specs.declared.refusals.Refusal.TheVariants as refusals
+use Rattle.reply_text.specs.declared.reply.Reply.{Reply}
+use Rattle.reply_text.specs.declared.reply.Reply.TheVariants as replies
+use Rattle.command_rows.specs.Causes.{job_writes}
 use Rattle.command_rows.specs.World.{DrawerState, Holding, Idle, IsAttached, IsSuspended}
 
--- these verbs go through the buffer
-abbrev pub uses_buffer : Command → Bool
-uses_buffer (commands.Read prov sector count) = true
-uses_buffer (commands.Write prov sector hex) = true
-uses_buffer (commands.Fill prov seed start count) = true
-uses_buffer (commands.Sum prov start count) = true
-uses_buffer command = false
+-- whether bytes of a request that was reaped are given out, or refused
+abbrev pub gives_out : Result (Option ℕ) Refusal → Bool
+gives_out (Ok (Some count)) = true
+gives_out (Ok None) = false
+gives_out (Err (refusals.Integrity offset)) = true
+gives_out (Err refusal) = false
+
+-- the same by the reply
+abbrev pub gives_bytes : Reply → Bool
+gives_bytes (replies.Payload count) = true
+gives_bytes (replies.Refused (refusals.Integrity offset)) = true
+gives_bytes reply = false
+
+-- these verbs go through the buffer; of requests in flight a write that is submitted, and a read that is reaped, by the reply
+abbrev pub uses_buffer : Command → Reply → Bool
+uses_buffer (commands.Read prov sector count) reply = true
+uses_buffer (commands.Write prov sector hex) reply = true
+uses_buffer (commands.Fill prov seed start count) reply = true
+uses_buffer (commands.Sum prov start count) reply = true
+uses_buffer (commands.Submit prov job) reply = job_writes job
+uses_buffer (commands.Reap prov tag) reply = gives_bytes reply
+uses_buffer (commands.Verify prov file count restart) reply = true
+uses_buffer command reply = false
 
 -- a provider is attached
 abbrev pub is_attached : Holding → Bool

@@ -1,5 +1,6 @@
 -- A shelf: its drawers, and the buffer of requests; and the drawers of the code as plain data.
 use Rattle.std.specs.Prelude.{ℕ, List, map}
+use Rattle.bio_queue.specs.Requests.{Request}
 use Rattle.block_traits.specs.Cabinet.{CabinetState}
 use Rattle.block_traits.specs.Disk.{DiskState}
 use Rattle.block_traits.specs.Streams.{EntropyState}
@@ -15,8 +16,9 @@ pub record Shelved (D : Type 0) : Type 0 where
   pub drawers : List (Drawer D)
   pub buffer : List ℕ
 
-abbrev pub attachment_of : {D : Type 0} → Attached D → Attachment
-attachment_of p = record { slot = p.slot; keying = p.keying; readonly = p.readonly }
+-- a provider on which these requests are open
+abbrev pub attachment_of : {D : Type 0} → List Request → Attached D → Attachment
+attachment_of queue p = record { slot = p.slot; keying = p.keying; readonly = p.readonly; queue = queue }
 
 abbrev pub kept_of : {D : Type 0} → Suspension D → Kept
 kept_of s = record { sectorsize = s.sectorsize; sectors = s.sectors; slot = s.slot; readonly = s.readonly; mark = s.mark }
@@ -24,13 +26,13 @@ kept_of s = record { sectorsize = s.sectorsize; sectors = s.sectors; slot = s.sl
 -- the disk in a drawer, and what the drawer does with it
 abbrev pub disk_in : {D : Type 0} → (D → DiskState) → Held D → DiskState
 disk_in state (held.Idle disk) = state disk
-disk_in state (held.Attached provider) = state provider.disk
-disk_in state (held.Suspended suspended) = state suspended.disk
+disk_in state (held.Attached provider queue) = state provider.disk
+disk_in state (held.Suspended suspended queue) = state suspended.disk
 
 abbrev pub holding_of : {D : Type 0} → Held D → Holding
 holding_of (held.Idle disk) = Idle
-holding_of (held.Attached provider) = IsAttached (attachment_of provider)
-holding_of (held.Suspended suspended) = IsSuspended (kept_of suspended)
+holding_of (held.Attached provider queue) = IsAttached (attachment_of queue provider)
+holding_of (held.Suspended suspended queue) = IsSuspended (kept_of suspended)
 
 abbrev pub drawer_of : {D : Type 0} → (D → DiskState) → Drawer D → DrawerState
 drawer_of state drawer = record { name = drawer.name; disk = disk_in state drawer.held; holding = holding_of drawer.held }

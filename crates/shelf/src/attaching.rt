@@ -12,6 +12,7 @@ ghost use Rattle.shelf.specs.Shelved.{disk_in, holding_of};
 
 use crate::Held;
 use crate::trying::{Trial, prepare, try_key};
+use bio_queue::Queue;
 use block_traits::{Cabinet, Disk, LastSector};
 use command_words::KeyWords;
 use eli_base::Refusal;
@@ -28,7 +29,7 @@ fn attach_refusal(fault: AttachFault) -> Refusal
     }
 }
 
-// Attaches the provider, if the key opens it. This alone opens a slot.
+// Attaches the provider, if the key opens it, with no request open on it.
 fn take_over<D: Disk>(
     alloc: Global,
     disk: D,
@@ -43,8 +44,15 @@ fn take_over<D: Disk>(
         (reach_of (disk_in D.state result.0) (holding_of result.0) cabinet entropy) }
 {
     let Trial { meta, params, key } = trial;
+    let Ok(queue) = Queue::new(alloc) else {
+        // A key that doesn't fit is refused before.
+        return match try_key(trial, slot) {
+            Ok(()) => (Held::Idle(disk), Err(Refusal::NoMemory)),
+            Err(refusal) => (Held::Idle(disk), Err(refusal)),
+        };
+    };
     match Provider::attach(alloc, disk, meta, params, key, slot, readonly) {
-        Ok(provider) => (Held::Attached(provider), Ok(())),
+        Ok(provider) => (Held::Attached(provider, queue), Ok(())),
         Err((disk, fault)) => (Held::Idle(disk), Err(attach_refusal(fault))),
     }
 }

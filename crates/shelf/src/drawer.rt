@@ -3,27 +3,33 @@ ghost use Rattle.command_words.specs.Bounds.{IsBounded};
 ghost use Rattle.command_words.specs.Places.{CommandIsWithin, provider_of};
 ghost use Rattle.reply_text.specs.Text.{FitsPayload};
 ghost use Rattle.command_rows.specs.Answer.{answer_of};
-ghost use Rattle.shelf.specs.Buffers.{is_attached, uses_buffer};
+ghost use Rattle.shelf.specs.Buffers.{gives_bytes, gives_out, is_attached, uses_buffer};
 ghost use Rattle.shelf.specs.Closing.{Closes};
 ghost use Rattle.command_rows.specs.Gate.{needs, refused_by};
-ghost use Rattle.command_rows.specs.Requests.{bytes_read};
+ghost use Rattle.command_rows.specs.Requests.{bytes_given, bytes_read};
 ghost use Rattle.command_rows.specs.Steps.{request_limit};
-ghost use Rattle.command_rows.specs.Turn.{GoesThrough, Serves, ShowsBy, digest_or, done_or, dump_or, entry_of, payload_or, takes_out};
+ghost use Rattle.command_rows.specs.Turn.{GoesThrough, Serves, ShowsBy, digest_or, done_or, dump_or, entry_of, left_or, payload_or, reaped_or, tag_or, takes_out, verified_or};
 ghost use Rattle.command_rows.specs.World.{HoldsKeying, Idle, IsAttached, IsSuspended, reach_of};
 ghost use Rattle.shelf.specs.Shelved.{attachment_of, disk_in, drawer_of, holding_of, kept_of};
-ghost use Rattle.std.specs.Prelude.{◌≡◌, ◌≤◌, ℕ, List, IfOk, IsSome, None, false, length, option_copied};
+ghost use Rattle.shelf.specs.Verifying.{swept_part};
+ghost use Rattle.std.specs.Prelude.{◌≡◌, ◌*◌, ◌≤◌, ℕ, List, IfOk, IfSome, IsSome, None, false, length, option_copied};
 
 use crate::attaching::attach;
 use crate::delete_keys::delkey;
 use crate::killing::kill;
 use crate::new_provider::{init, iterations_of};
+use crate::queueing::{reap, step, submit};
 use crate::reading::read_last;
 use crate::requests::{flush_answer, read, write};
 use crate::resizing::resize;
 use crate::restoring::restore;
+use crate::resuming::resume;
 use crate::saving::backup;
 use crate::set_key::{setkey_attached, setkey_idle};
+use crate::suspending::suspend;
+use crate::verifying::verify;
 use crate::workloads::{fill, sum};
+use bio_queue::Queue;
 use block_traits::{ByteList, Cabinet, Disk, Entropy, Event, LastSector};
 use command_words::Command;
 use eli_base::Refusal;
@@ -33,16 +39,17 @@ use provider::{Provider, rest_tells_all};
 use reply_text::{Reply, Row};
 use std::alloc::{AllocError, Global};
 use suspend::{Suspended, rest_tells_all as suspension_tells_all};
+use verify_sweep::Swept;
 
 /// A disk, idle, or with its provider attached or suspended.
 #[derive(Drop)]
 pub enum Held<D: Drop> {
     /// The disk.
     Idle(D),
-    /// The provider, which has the disk.
-    Attached(Provider<D>),
-    /// What is kept of the provider, with the disk.
-    Suspended(Suspended<D>),
+    /// The provider, which has the disk, and the requests that are open on it.
+    Attached(Provider<D>, Queue),
+    /// What is kept of the provider, with the disk, and the room of the requests.
+    Suspended(Suspended<D>, Queue),
 }
 
 /// A disk under its name.
@@ -76,7 +83,7 @@ impl<D: Disk> Drawer<D> {
             (reach_of (disk_in D.state self.held) (holding_of self.held) (C.state files.old) (E.state entropy.old)) (answer_of buffer.new result.1)
             (reach_of (disk_in D.state result.0.held) (holding_of result.0.held) (C.state files.new) (E.state entropy.new)) }
         ensures payload { FitsPayload request_limit result.1 }
-        ensures buffer { uses_buffer command.now ≡ false → buffer.new ≡ buffer.old }
+        ensures buffer { uses_buffer command.now result.1 ≡ false → buffer.new ≡ buffer.old }
         ensures idle { is_attached (holding_of self.held) ≡ false → buffer.new ≡ buffer.old }
     {
         let Drawer { name, held } = self;
@@ -85,11 +92,11 @@ impl<D: Disk> Drawer<D> {
         }
         let (held, reply) = match held {
             Held::Idle(disk) => serve_idle(alloc, disk, line, command, files, entropy),
-            Held::Attached(provider) => serve_attached(
-                alloc, provider, line, command, buffer, files, entropy,
+            Held::Attached(provider, queue) => serve_attached(
+                alloc, provider, queue, line, command, buffer, files, entropy,
             ),
-            Held::Suspended(suspended) => serve_suspended(
-                alloc, suspended, line, command, files, entropy,
+            Held::Suspended(suspended, queue) => serve_suspended(
+                alloc, suspended, queue, line, command, files, entropy,
             ),
         };
         (Drawer { name, held }, reply)
@@ -105,12 +112,12 @@ impl<D: Disk> Drawer<D> {
                 let held = Held::Idle(disk);
                 (Drawer { name, held }, false)
             }
-            Held::Attached(provider) => {
+            Held::Attached(provider, _) => {
                 let (disk, closed) = provider.detach();
                 let held = Held::Idle(disk);
                 (Drawer { name, held }, closed.is_err())
             }
-            Held::Suspended(suspended) => {
+            Held::Suspended(suspended, _) => {
                 let (disk, closed) = suspended.detach();
                 let held = Held::Idle(disk);
                 (Drawer { name, held }, closed.is_err())
@@ -131,14 +138,14 @@ impl<D: Disk> Drawer<D> {
                 sectorsize: 0,
                 sectors: 0,
             }),
-            Held::Attached(provider) => Ok(Row {
+            Held::Attached(provider, _) => Ok(Row {
                 name,
                 attached: true,
                 suspended: false,
                 sectorsize: provider.sector_size(),
                 sectors: provider.sectors(),
             }),
-            Held::Suspended(suspended) => Ok(Row {
+            Held::Suspended(suspended, _) => Ok(Row {
                 name,
                 attached: false,
                 suspended: true,
@@ -154,8 +161,8 @@ impl<D: Disk> Drawer<D> {
     {
         match &self.held {
             Held::Idle(_) => {}
-            Held::Attached(provider) => provider.is_of_a_keying(),
-            Held::Suspended(_) => {}
+            Held::Attached(provider, _) => provider.is_of_a_keying(),
+            Held::Suspended(..) => {}
         }
     }
 
@@ -165,7 +172,7 @@ impl<D: Disk> Drawer<D> {
     {
         match &self.held {
             Held::Idle(disk) => disk.events(),
-            Held::Attached(_) | Held::Suspended(_) => None,
+            Held::Attached(..) | Held::Suspended(..) => None,
         }
     }
 }
@@ -180,24 +187,34 @@ fn refused_by<D: Disk>(command: &Command, held: &Held<D>) -> Option<Refusal>
         | Command::Restore { .. }
         | Command::Resize { .. } => match held {
             Held::Idle(_) => None,
-            Held::Attached(_) | Held::Suspended(_) => Some(Refusal::StillAttached),
+            Held::Attached(..) | Held::Suspended(..) => Some(Refusal::StillAttached),
         },
         Command::Read { .. }
         | Command::Write { .. }
         | Command::Flush { .. }
         | Command::Fill { .. }
-        | Command::Sum { .. } => match held {
+        | Command::Sum { .. }
+        | Command::Submit { .. }
+        | Command::Step { .. }
+        | Command::Reap { .. }
+        | Command::Suspend { .. }
+        | Command::Verify { .. } => match held {
             Held::Idle(_) => Some(Refusal::NotAttached),
-            Held::Attached(_) => None,
-            Held::Suspended(_) => Some(Refusal::Suspended),
+            Held::Attached(..) => None,
+            Held::Suspended(..) => Some(Refusal::Suspended),
+        },
+        Command::Resume { .. } => match held {
+            Held::Idle(_) => Some(Refusal::NotAttached),
+            Held::Attached(..) => Some(Refusal::NotSuspended),
+            Held::Suspended(..) => None,
         },
         Command::Detach { .. } => match held {
             Held::Idle(_) => Some(Refusal::NotAttached),
-            Held::Attached(_) | Held::Suspended(_) => None,
+            Held::Attached(..) | Held::Suspended(..) => None,
         },
         Command::Setkey { .. } | Command::Delkey { .. } => match held {
-            Held::Idle(_) | Held::Attached(_) => None,
-            Held::Suspended(_) => Some(Refusal::Suspended),
+            Held::Idle(_) | Held::Attached(..) => None,
+            Held::Suspended(..) => Some(Refusal::Suspended),
         },
         Command::List
         | Command::Dump { .. }
@@ -333,7 +350,13 @@ fn serve_idle<D: Disk, C: Cabinet, E: Entropy>(
         | Command::Fill { .. }
         | Command::Sum { .. }
         | Command::List
-        | Command::Eject { .. } => unreachable!(),
+        | Command::Eject { .. }
+        | Command::Submit { .. }
+        | Command::Step { .. }
+        | Command::Reap { .. }
+        | Command::Suspend { .. }
+        | Command::Resume { .. }
+        | Command::Verify { .. } => unreachable!(),
     }
 }
 
@@ -341,6 +364,7 @@ fn serve_idle<D: Disk, C: Cabinet, E: Entropy>(
 fn serve_attached<D: Disk, C: Cabinet, E: Entropy>(
     alloc: Global,
     provider: Provider<D>,
+    queue: Queue,
     line: &[u8],
     command: &Command,
     buffer: &mut [u8],
@@ -351,20 +375,21 @@ fn serve_attached<D: Disk, C: Cabinet, E: Entropy>(
     requires bounds { IsBounded line.now command.now }
     requires named { IsSome (provider_of command.now) }
     requires stays { takes_out command.now ≡ false }
-    requires needed { refused_by (needs command.now) (IsAttached (attachment_of provider)) ≡ None }
+    requires needed { refused_by (needs command.now) (IsAttached (attachment_of queue provider)) ≡ None }
     requires room { length buffer.old ≡ request_limit }
     ensures serves { GoesThrough line.now command.now
-        (reach_of (D.state provider.disk) (IsAttached (attachment_of provider)) (C.state files.old) (E.state entropy.old)) (answer_of buffer.new result.1)
+        (reach_of (D.state provider.disk) (IsAttached (attachment_of queue provider)) (C.state files.old) (E.state entropy.old)) (answer_of buffer.new result.1)
         (reach_of (disk_in D.state result.0) (holding_of result.0) (C.state files.new) (E.state entropy.new)) }
     ensures payload { FitsPayload request_limit result.1 }
-    ensures buffer { uses_buffer command.now ≡ false → buffer.new ≡ buffer.old }
+    ensures buffer { uses_buffer command.now result.1 ≡ false → buffer.new ≡ buffer.old }
 {
     let mut provider = provider;
+    let mut queue = queue;
     match command {
         Command::Dump { .. } => {
             rest_tells_all();
             let reply = dump_or(read_last(&mut provider));
-            (Held::Attached(provider), reply)
+            (Held::Attached(provider, queue), reply)
         }
         Command::Setkey {
             iterations,
@@ -385,7 +410,7 @@ fn serve_attached<D: Disk, C: Cabinet, E: Entropy>(
                 fresh,
                 files,
             );
-            (Held::Attached(provider), done_or(answer))
+            (Held::Attached(provider, queue), done_or(answer))
         }
         Command::Delkey {
             all,
@@ -396,7 +421,7 @@ fn serve_attached<D: Disk, C: Cabinet, E: Entropy>(
             rest_tells_all();
             let slot = slot.or(Some(provider.slot()));
             let answer = delkey(&mut provider, *all, *force, slot, entropy);
-            (Held::Attached(provider), done_or(answer))
+            (Held::Attached(provider, queue), done_or(answer))
         }
         Command::Kill { .. } => {
             let mut disk = provider.withdraw();
@@ -406,7 +431,7 @@ fn serve_attached<D: Disk, C: Cabinet, E: Entropy>(
         Command::Backup { file, .. } => {
             rest_tells_all();
             let answer = backup(alloc, &mut provider, line, *file, files);
-            (Held::Attached(provider), done_or(answer))
+            (Held::Attached(provider, queue), done_or(answer))
         }
         Command::Detach { .. } => {
             let (disk, flushed) = provider.detach();
@@ -414,15 +439,15 @@ fn serve_attached<D: Disk, C: Cabinet, E: Entropy>(
         }
         Command::Read { sector, count, .. } => {
             let answer = read(&mut provider, *sector, *count, buffer);
-            (Held::Attached(provider), payload_or(answer))
+            (Held::Attached(provider, queue), payload_or(answer))
         }
         Command::Write { sector, hex, .. } => {
             let answer = write(&mut provider, *sector, hex.bytes_in(line), buffer);
-            (Held::Attached(provider), done_or(answer))
+            (Held::Attached(provider, queue), done_or(answer))
         }
         Command::Flush { .. } => {
             let answer = flush_answer(provider.flush());
-            (Held::Attached(provider), done_or(answer))
+            (Held::Attached(provider, queue), done_or(answer))
         }
         Command::Fill {
             seed,
@@ -431,18 +456,53 @@ fn serve_attached<D: Disk, C: Cabinet, E: Entropy>(
             ..
         } => {
             let answer = fill(&mut provider, *seed, *start, *count, buffer);
-            (Held::Attached(provider), done_or(answer))
+            (Held::Attached(provider, queue), done_or(answer))
         }
         Command::Sum { start, count, .. } => {
             let answer = sum(&mut provider, *start, *count, buffer);
-            (Held::Attached(provider), digest_or(answer))
+            (Held::Attached(provider, queue), digest_or(answer))
+        }
+        Command::Submit { job, .. } => {
+            let answer = submit(&mut provider, &mut queue, line, job, buffer);
+            (Held::Attached(provider, queue), tag_or(answer))
+        }
+        Command::Step { tag, .. } => {
+            let answer = step(&mut provider, &mut queue, *tag);
+            (Held::Attached(provider, queue), left_or(answer))
+        }
+        Command::Reap { tag, .. } => {
+            let answer = reap(&mut provider, &mut queue, *tag, buffer);
+            (Held::Attached(provider, queue), reaped_or(answer))
+        }
+        Command::Suspend { .. } => {
+            let (held, answer) = suspend(provider, queue);
+            (held, done_or(answer))
+        }
+        Command::Verify {
+            file,
+            count,
+            restart,
+            ..
+        } => {
+            let answer = verify(
+                alloc,
+                &mut provider,
+                line,
+                *file,
+                *count,
+                *restart,
+                buffer,
+                files,
+            );
+            (Held::Attached(provider, queue), verified_or(answer))
         }
         Command::Init { .. }
         | Command::Attach { .. }
         | Command::Restore { .. }
         | Command::Resize { .. }
         | Command::List
-        | Command::Eject { .. } => unreachable!(),
+        | Command::Eject { .. }
+        | Command::Resume { .. } => unreachable!(),
     }
 }
 
@@ -450,6 +510,7 @@ fn serve_attached<D: Disk, C: Cabinet, E: Entropy>(
 fn serve_suspended<D: Disk, C: Cabinet, E: Entropy>(
     alloc: Global,
     suspended: Suspended<D>,
+    queue: Queue,
     line: &[u8],
     command: &Command,
     files: &mut C,
@@ -469,7 +530,7 @@ fn serve_suspended<D: Disk, C: Cabinet, E: Entropy>(
         Command::Dump { .. } => {
             suspension_tells_all::<D>();
             let reply = dump_or(read_last(&mut suspended));
-            (Held::Suspended(suspended), reply)
+            (Held::Suspended(suspended, queue), reply)
         }
         Command::Kill { .. } => {
             let mut disk = suspended.withdraw();
@@ -479,11 +540,15 @@ fn serve_suspended<D: Disk, C: Cabinet, E: Entropy>(
         Command::Backup { file, .. } => {
             suspension_tells_all::<D>();
             let answer = backup(alloc, &mut suspended, line, *file, files);
-            (Held::Suspended(suspended), done_or(answer))
+            (Held::Suspended(suspended, queue), done_or(answer))
         }
         Command::Detach { .. } => {
             let (disk, flushed) = suspended.detach();
             (Held::Idle(disk), done_or(flush_answer(flushed)))
+        }
+        Command::Resume { old, .. } => {
+            let (held, answer) = resume(alloc, suspended, queue, line, old, files);
+            (held, done_or(answer))
         }
         Command::Init { .. }
         | Command::Attach { .. }
@@ -497,7 +562,12 @@ fn serve_suspended<D: Disk, C: Cabinet, E: Entropy>(
         | Command::Fill { .. }
         | Command::Sum { .. }
         | Command::List
-        | Command::Eject { .. } => unreachable!(),
+        | Command::Eject { .. }
+        | Command::Submit { .. }
+        | Command::Step { .. }
+        | Command::Reap { .. }
+        | Command::Suspend { .. }
+        | Command::Verify { .. } => unreachable!(),
     }
 }
 
@@ -538,6 +608,53 @@ fn digest_or(answer: Result<[u8; 32], Refusal>) -> Reply
 {
     match answer {
         Ok(digest) => Reply::Digest(digest),
+        Err(refusal) => Reply::Refused(refusal),
+    }
+}
+
+fn tag_or(answer: Result<u8, Refusal>) -> Reply
+    ensures reply { (bytes : List ℕ) → answer_of bytes result ≡ tag_or answer }
+    ensures payload { FitsPayload 0 result }
+{
+    match answer {
+        Ok(tag) => Reply::Tag { tag },
+        Err(refusal) => Reply::Refused(refusal),
+    }
+}
+
+fn left_or(answer: Result<u64, Refusal>) -> Reply
+    ensures reply { (bytes : List ℕ) → answer_of bytes result ≡ left_or answer }
+    ensures payload { FitsPayload 0 result }
+{
+    match answer {
+        Ok(left) => Reply::Left { left },
+        Err(refusal) => Reply::Refused(refusal),
+    }
+}
+
+fn reaped_or(answer: Result<Option<u32>, Refusal>) -> Reply
+    requires { IfOk answer (λ given. IfSome given (λ bytes. bytes ≤ request_limit)) }
+    ensures reply { (bytes : List ℕ) → answer_of bytes result ≡ reaped_or (bytes_given bytes answer) }
+    ensures payload { FitsPayload request_limit result }
+    ensures gives { gives_bytes result ≡ gives_out answer }
+{
+    match answer {
+        Ok(Some(length)) => Reply::Payload { length },
+        Ok(None) => Reply::Done,
+        Err(refusal) => Reply::Refused(refusal),
+    }
+}
+
+fn verified_or(answer: Result<Swept, Refusal>) -> Reply
+    requires { IfOk answer (λ swept. 8 * swept.bad ≤ request_limit) }
+    ensures reply { (bytes : List ℕ) → answer_of bytes result ≡ verified_or (swept_part bytes answer) }
+    ensures payload { FitsPayload request_limit result }
+{
+    match answer {
+        Ok(swept) => Reply::Verified {
+            bad: swept.bad,
+            next: swept.next,
+        },
         Err(refusal) => Reply::Refused(refusal),
     }
 }

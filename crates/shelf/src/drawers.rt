@@ -95,7 +95,8 @@ impl<D: Disk> Drawers<D> {
     /// Serves a command, whose places are those of the line: `UnknownProvider` exactly where no drawer has the name of
     /// its provider, and else what the drawer answers. The other drawers stay as they are. `list` answers an entry for each
     /// drawer, or that there was no memory. `eject` takes the drawer out with its disk, of which no call is made. The buffer
-    /// of requests changes in `read`, `write`, `fill` and `sum` on an attached drawer alone.
+    /// of requests changes in `read`, `write`, `fill`, `sum`, `verify`, `submit` of a write and `reap` on an attached drawer alone; in
+    /// `reap` only where bytes of a read are given out, or refused.
     pub fn serve<C: Cabinet, E: Entropy>(
         &mut self,
         line: &[u8],
@@ -109,7 +110,7 @@ impl<D: Disk> Drawers<D> {
             (world_of D.state self.old (C.state files.old) (E.state entropy.old)) (answer_of self.new.buffer result)
             (world_of D.state self.new (C.state files.new) (E.state entropy.new)) }
         ensures payload { FitsPayload (length self.new.buffer) result }
-        ensures buffer { uses_buffer command.now ≡ false → self.new.buffer ≡ self.old.buffer }
+        ensures buffer { uses_buffer command.now result ≡ false → self.new.buffer ≡ self.old.buffer }
         ensures idle { IfSome (provider_of command.now) (λ prov. is_attached_on (bytes_at line.now prov) (drawers_of D.state self.old.drawers) ≡ false →
             self.new.buffer ≡ self.old.buffer) }
     {

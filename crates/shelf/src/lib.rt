@@ -7,13 +7,17 @@ mod drawer;
 mod drawers;
 mod killing;
 mod new_provider;
+mod queueing;
 mod reading;
 mod requests;
 mod resizing;
 mod restoring;
+mod resuming;
 mod saving;
 mod set_key;
+mod suspending;
 mod trying;
+mod verifying;
 mod workloads;
 
 pub use drawer::{Drawer, Held};

@@ -1,6 +1,7 @@
 //! Logical sectors of an attached provider are read and written.
 
-ghost use Rattle.std.specs.Prelude.{◌≡◌, ◌≤◌, ◌*◌, IfOk, IsOk, Ok, length, take};
+ghost use Rattle.std.specs.Prelude.{◌≡◌, ◌≤◌, ◌*◌, IfOk, IsOk, List, Ok, length, take};
+ghost use Rattle.bio_queue.specs.Requests.{Request};
 ghost use Rattle.block_traits.specs.Cabinet.{CabinetState};
 ghost use Rattle.block_traits.specs.Streams.{EntropyState};
 ghost use Rattle.hex.specs.Hex.{decode_of};
@@ -69,10 +70,10 @@ pub fn read<D: Disk>(
     buffer: &mut [u8],
 ) -> Result<u32, Refusal>
     requires { length buffer.old ≡ request_limit }
-    ensures row { (cabinet : CabinetState) (entropy : EntropyState) →
-        ReadRow sector count (attachment_of provider.old)
-        (reach_of (D.state provider.old.disk) (IsAttached (attachment_of provider.old)) cabinet entropy) (bytes_read buffer.new result)
-        (reach_of (D.state provider.new.disk) (IsAttached (attachment_of provider.new)) cabinet entropy) }
+    ensures row { (queue : List Request) (cabinet : CabinetState) (entropy : EntropyState) →
+        ReadRow sector count (attachment_of queue provider.old)
+        (reach_of (D.state provider.old.disk) (IsAttached (attachment_of queue provider.old)) cabinet entropy) (bytes_read buffer.new result)
+        (reach_of (D.state provider.new.disk) (IsAttached (attachment_of queue provider.new)) cabinet entropy) }
     ensures bound { IfOk result (λ bytes. bytes ≤ request_limit) }
 {
     let sectorsize = provider.sector_size();
@@ -93,10 +94,10 @@ pub fn write<D: Disk>(
 ) -> Result<(), Refusal>
     requires spelled { SpellsBytes digits.now }
     requires room { length buffer.old ≡ request_limit }
-    ensures { (cabinet : CabinetState) (entropy : EntropyState) →
-        WriteRow sector (bytes_spelled digits.now) (attachment_of provider.old)
-        (reach_of (D.state provider.old.disk) (IsAttached (attachment_of provider.old)) cabinet entropy) result
-        (reach_of (D.state provider.new.disk) (IsAttached (attachment_of provider.new)) cabinet entropy) }
+    ensures { (queue : List Request) (cabinet : CabinetState) (entropy : EntropyState) →
+        WriteRow sector (bytes_spelled digits.now) (attachment_of queue provider.old)
+        (reach_of (D.state provider.old.disk) (IsAttached (attachment_of queue provider.old)) cabinet entropy) result
+        (reach_of (D.state provider.new.disk) (IsAttached (attachment_of queue provider.new)) cabinet entropy) }
 {
     let given = decode(digits, buffer);
     let sectorsize = provider.sector_size();
@@ -107,8 +108,8 @@ pub fn write<D: Disk>(
     write_answer(provider.write(sector, &buffer[..given]))
 }
 
-// Puts the bytes that digits spell to the front of the buffer, and answers how many.
-fn decode(digits: &[u8], buffer: &mut [u8]) -> usize
+/// Puts the bytes that digits spell to the front of the buffer, and answers how many.
+pub fn decode(digits: &[u8], buffer: &mut [u8]) -> usize
     requires spelled { SpellsBytes digits.now }
     requires room { length buffer.old ≡ request_limit }
     ensures bytes { take result buffer.new ≡ bytes_spelled digits.now }

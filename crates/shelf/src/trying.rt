@@ -6,7 +6,7 @@ ghost use Rattle.command_words.specs.Places.{KeyIsWithin};
 ghost use Rattle.eli_metadata.specs.Checks.{settings_of, size_matches, slot_matches, supported};
 ghost use Rattle.command_rows.specs.Steps.{admitted, or_refusal, without_value};
 ghost use Rattle.shelf.specs.Trying.{IsTrial, tried_by, tried_in};
-ghost use Rattle.command_rows.specs.Turn.{TryRow};
+ghost use Rattle.command_rows.specs.Trying.{TryRow};
 ghost use Rattle.command_rows.specs.World.{Holding, reach_of};
 ghost use Rattle.user_key.specs.Derivation.{user_key};
 ghost use Rattle.user_key.specs.Refusals.{key_refusal_of};

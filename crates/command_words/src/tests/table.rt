@@ -37,6 +37,88 @@ B|script a.img|usage 0 UnknownVerb
 B|detach a.img|Detach { prov: 1@7..12 }
 B|list|List
 B|eject a.img|Eject { prov: 1@6..11 }
+B|suspend a.img|Suspend { prov: 1@8..13 }
+B|suspend -v a.img|Suspend { prov: 2@11..16 }
+B|suspend -k k a.img|usage 1 UnknownOption
+B|suspend|usage 1 OperandCount
+B|resume -k k -j p a.img|Resume { prov: 5@17..22, old: KeyWords { files: [2@10..11], pass: [4@15..16], without: false } }
+B|resume -pvkk a.img|Resume { prov: 2@13..18, old: KeyWords { files: [1@11..12], pass: [], without: true } }
+B|resume -p -j p a.img|usage 5 Exclusive
+B|resume -n 0 -k k a.img|usage 1 UnknownOption
+B|verify a.img v 1|Verify { prov: 1@7..12, file: 2@13..14, count: 1, restart: false }
+B|verify -r a.img v 300|Verify { prov: 2@10..15, file: 3@16..17, count: 300, restart: true }
+B|verify -vr a.img v 9223372036854775807|Verify { prov: 2@11..16, file: 3@17..18, count: 9223372036854775807, restart: true }
+B|verify a.img - 5|usage 2 DashFile
+B|verify a.img v 0|usage 3 BadNumber
+B|verify a.img v 9223372036854775808|usage 3 BadNumber
+B|verify a.img v|usage 3 OperandCount
+B|verify -f a.img v 1|usage 1 UnknownOption
+B|submit a.img|usage 2 OperandCount
+B|submit a.img flush 0|usage 4 OperandCount
+B|submit a.img flush|Submit { prov: 1@7..12, job: Flush }
+B|submit a.img read 7 256|Submit { prov: 1@7..12, job: Read { sector: 7, count: 256 } }
+B|submit a.img write 9223372036854775807 00fF|Submit { prov: 1@7..12, job: Write { sector: 9223372036854775807, hex: 4@39..43 } }
+B|submit a.img flush 0 1|usage 2 BadName
+B|submit a.img read|usage 2 BadName
+B|submit a.img x|usage 2 BadName
+B|submit a.img write 0 1|usage 4 BadHex
+B|submit a.img read 0 257|usage 4 BadNumber
+B|submit a.img read x 257|usage 3 BadNumber
+B|submit -v a.img flush|usage 1 UnknownOption
+B|step a.img 32|usage 2 BadNumber
+B|step a.img|usage 2 OperandCount
+B|reap a.img x|usage 2 BadNumber
+B|submit a.img write|usage 2 BadName
+B|submit a.img Flush|usage 2 BadName
+B|submit a.img READ 0 1|usage 2 BadName
+B|submit a.img flush x|usage 4 OperandCount
+B|submit a.img flush 0 1 2|usage 6 OperandCount
+B|submit|usage 1 OperandCount
+B|submit a.img read 0 0|usage 4 BadNumber
+B|submit a.img read 9223372036854775808 1|usage 3 BadNumber
+B|submit a.img write x zz|usage 3 BadNumber
+B|submit a.img write 0 zz|usage 4 BadHex
+B|submit -- a.img flush|Submit { prov: 2@10..15, job: Flush }
+B|submit - flush|Submit { prov: 1@7..8, job: Flush }
+B|step a.img 31|Step { prov: 1@5..10, tag: 31 }
+B|step a.img 00000000000000000031|Step { prov: 1@5..10, tag: 31 }
+B|step a.img -1|usage 2 BadNumber
+B|reap a.img 32|usage 2 BadNumber
+B|reap -v a.img 0|usage 1 UnknownOption
+B|reap a.img 0 0|usage 4 OperandCount
+B|suspend -p a.img|usage 1 UnknownOption
+B|resume -p -j x a.img|usage 5 Exclusive
+B|resume -n 0 a.img|usage 1 UnknownOption
+B|suspend -f a.img|usage 1 UnknownOption
+B|resume|usage 1 OperandCount
+B|resume -p -j x|usage 4 OperandCount
+B|resume -j x -p a.img|usage 5 Exclusive
+B|resume -r a.img|usage 1 UnknownOption
+B|resume -k - a.img|usage 2 DashFile
+B|resume -k k -k k -k k -k k -k k -k k -k k -k k -k k -k k -k k -k k -k k -k k -k k -k k -k k a.img|usage 34 TooManyFiles
+B|resume -k|usage 2 MissingValue
+B|verify a.img - x|usage 2 DashFile
+B|verify a.img v 9223372036854775807|Verify { prov: 1@7..12, file: 2@13..14, count: 9223372036854775807, restart: false }
+B|verify -r - v 1|Verify { prov: 2@10..11, file: 3@12..13, count: 1, restart: true }
+B|verify -rf a.img v 1|usage 1 UnknownOption
+B|verify -r -v -- a.img -v 1|Verify { prov: 4@16..21, file: 5@22..24, count: 1, restart: true }
+B|submit -- -x flush|Submit { prov: 2@10..12, job: Flush }
+B|submit a.img flush x y z|usage 6 OperandCount
+B|submit a.img write 0 {aaaa|Submit { prov: 1@7..12, job: Write { sector: 0, hex: 4@21..262165 } }
+B|submit a.img write 0 {aaaaaa|usage 4 BadHex
+B|submit a.img rea 0 1|usage 2 BadName
+B|submit a.img read 0 1 2|usage 6 OperandCount
+B|step -- a.img 0|Step { prov: 2@8..13, tag: 0 }
+B|step a.img 0 0|usage 4 OperandCount
+B|reap a.img 0|Reap { prov: 1@5..10, tag: 0 }
+B|reap a.img 256|usage 2 BadNumber
+B|resume a.img|Resume { prov: 1@7..12, old: KeyWords { files: [], pass: [], without: false } }
+B|resume -k k|usage 3 OperandCount
+B|verify a.img v -1|usage 3 BadNumber
+Z|submit~a.img~flush|Submit { prov: 1@7..12, job: Flush }
+Z|submit~a.img~|usage 2 BadName
+Z|submit~~read~0~1|Submit { prov: 1@7..7, job: Read { sector: 0, count: 1 } }
+Z|step~a.img~|usage 2 BadNumber
 B|-v dump a.img|usage 0 UnknownVerb
 B|dump #|Dump { prov: 1@5..6 }
 B|dump -v a.img|Dump { prov: 2@8..13 }
@@ -409,10 +491,6 @@ B|sum -r a.img 0 1|usage 1 UnknownOption
 B|eject -v a.img|usage 1 UnknownOption
 B|eject|usage 1 OperandCount
 B|eject a.img b.img|usage 3 OperandCount
-B|submit a.img flush|usage 0 UnknownVerb
-B|step a.img 0|usage 0 UnknownVerb
-B|suspend a.img|usage 0 UnknownVerb
-B|verify a.img v 1|usage 0 UnknownVerb
 B|x|usage 0 UnknownVerb
 B|--|usage 0 UnknownVerb
 B|script|usage 0 UnknownVerb

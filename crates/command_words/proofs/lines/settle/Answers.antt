@@ -15,11 +15,11 @@ handed_on (Err own) usage other h e = ap Err h ∙ sym e
 pub returns-in_err-operands : goal.returns-in_err-operands
 returns-in_err-operands c =
     let none : complaint c.args.verb c.args.settings ≡ None = cc in
-    let settled = rw c.in_err-operands.ensures at (settled_taken c.args.verb (c.args.words.number + length (left c.args.words)) c.count-count.result c.in-Some.form.now (left c.args.words) c.args.settings c.count-count.ensures.count c.in-Some.ensures none) in
+    let settled = rw c.in_err-operands.ensures at (settled_taken c.args.verb (c.args.words.number + length (left c.args.words)) c.in-Some.form.now (left c.args.words) c.args.settings c.in-Some.ensures none) in
     handed_on _ c.in_err-operands.field-0.0 _ c.from_residual.ensures.1 settled
 
 pub returns : goal.returns
 returns c =
     let none : complaint c.args.verb c.args.settings ≡ None = cc in
-    let settled = rw c.in_ok-operands.ensures at (settled_taken c.args.verb (c.args.words.number + length (left c.args.words)) c.count-count.result c.in-Some.form.now (left c.args.words) c.args.settings c.count-count.ensures.count c.in-Some.ensures none) in
+    let settled = rw c.in_ok-operands.ensures at (settled_taken c.args.verb (c.args.words.number + length (left c.args.words)) c.in-Some.form.now (left c.args.words) c.args.settings c.in-Some.ensures none) in
     rw c.command.ensures (sym settled)

@@ -1,6 +1,6 @@
 use Rattle.std.proofs.Common.{rules, ◌≡◌, ◌∙◌, ◌+◌, arith, drop, get_or, map, refl, string_bytes}
 use Rattle.geli_core.specs.Images.{idle_drawers}
-use Rattle.geli_core.proofs.Shelving.{all_named, differ_more, idle_next, not_shelved}
+use Rattle.geli_core.proofs.Shelving.{differ_more, idle_next, not_shelved}
 use Rattle.command_rows.specs.World.{DrawerState, Idle}
 use Rattle.shelf.specs.Shelved.{drawers_of}
 use Rattle.geli_core.proofs.images.shelved.Goals as goal

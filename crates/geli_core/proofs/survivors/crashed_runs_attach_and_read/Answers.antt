@@ -7,4 +7,4 @@ returns-clause-steps g c = reads_after_crashes g.D.Disk.state
 pub returns-clause-runs : goal.returns-clause-runs
 returns-clause-runs g c = λ old new survives sep lines answers failed ran drawer among.
     let left = survives.each sep lines answers failed ran drawer among in
-    some_read g.D.Disk.state left.steps left.before.disk.content left.endures
+    some_read g.D.Disk.state left.play.steps left.before.disk.content left.endures

@@ -2,10 +2,11 @@ use Rattle.std.proofs.Common.{◌∙◌, refl, ap, List, ℕ, Some, subst}
 use Rattle.std.specs.Prelude.{unwrap_or}
 use Rattle.std.specs.Option.{option_or}
 use Rattle.command_rows.specs.Digits.{bytes_spelled}
-use Rattle.command_rows.specs.Requests.{bytes_read}
+use Rattle.command_rows.specs.Requests.{bytes_given, bytes_read}
 use Rattle.command_rows.specs.Turn.{WriteRow}
 use Rattle.command_rows.specs.World.{IsAttached}
 use Rattle.shelf.specs.Shelved.{attachment_of}
+use Rattle.shelf.specs.Verifying.{swept_part}
 use Rattle.shelf.proofs.KeyRows.{delkey_attached_row, setkey_attached_row}
 use Rattle.shelf.proofs.PlaceRows.{backup_held_row, kill_held_row}
 use Rattle.shelf.proofs.Sectors.{at, flushed, kept_holding}
@@ -24,7 +25,7 @@ returns-in-Dump-clause-serves g c =
     let told = c.rest_tells_all.ensures now.keying then.keying now.slot then.slot now.readonly then.readonly c.read_last.ensures.rest in
     rw c.in-Dump.is (record {
       answer = c.read_last.result;
-      row = record { reads = c.read_last.ensures.reads; holding = kept_holding then now (record { keying = told.0; slot = told.1; readonly = told.2 }); cabinet = refl; entropy = refl };
+      row = record { reads = c.read_last.ensures.reads; holding = kept_holding c.args.queue then now (record { keying = told.0; slot = told.1; readonly = told.2 }); cabinet = refl; entropy = refl };
       replied = c.dump_or-reply.ensures.reply c.args.buffer.now;
     })
 
@@ -43,7 +44,7 @@ returns-in-Detach-clause-serves g c = rw c.in-Detach.is (record {
 pub returns-in-Read-clause-serves : goal.returns-in-Read-clause-serves
 returns-in-Read-clause-serves g c = rw c.in-Read.is (record {
   answer = bytes_read c.read-answer.new.buffer c.read-answer.result;
-  row = c.read-answer.ensures.row _ _;
+  row = c.read-answer.ensures.row c.args.queue _ _;
   replied = c.payload_or.ensures.reply c.read-answer.new.buffer;
 })
 
@@ -53,8 +54,8 @@ returns-in-Write-clause-serves g c =
     let entropy = g.E.Entropy.state c.args.entropy.now in
     rw c.in-Write.is (record {
       answer = c.write-answer.result;
-      row = subst (λ (digits : List ℕ). WriteRow c.in-Write.sector (bytes_spelled digits) (attachment_of c.args.provider) (at g.D.Disk.state cabinet entropy c.args.provider) c.write-answer.result (at g.D.Disk.state cabinet entropy c.write-answer.new.provider))
-          c.bytes_in.ensures (c.write-answer.ensures cabinet entropy);
+      row = subst (λ (digits : List ℕ). WriteRow c.in-Write.sector (bytes_spelled digits) (attachment_of c.args.queue c.args.provider) (at g.D.Disk.state c.args.queue cabinet entropy c.args.provider) c.write-answer.result (at g.D.Disk.state c.args.queue cabinet entropy c.write-answer.new.provider))
+          c.bytes_in.ensures (c.write-answer.ensures c.args.queue cabinet entropy);
       replied = c.done_or-in-Write.ensures.reply _;
     })
 
@@ -64,7 +65,7 @@ returns-in-Flush-clause-serves g c = rw c.in-Flush.is (record {
   row = record {
     does = rw c.flush_answer-answer.ensures (flushed _ _ c.flush.result c.flush.ensures.ok c.flush.ensures.err);
     unasked = c.flush.ensures.unasked;
-    holding = kept_holding _ _ c.flush.ensures.kept;
+    holding = kept_holding c.args.queue _ _ c.flush.ensures.kept;
     outside = record { cabinet = refl; entropy = refl };
   };
   replied = c.done_or-in-Flush.ensures.reply _;
@@ -79,7 +80,7 @@ returns-in-Setkey-clause-serves g c =
       answer = c.setkey_attached-answer.result;
       row = setkey_attached_row _ c.in-Setkey.iterations c.in-Setkey.slot _ _ _ _ _ _ _ _ _ _ _
           (c.unwrap_or-target.ensures ∙ ap (λ (n : ℕ). unwrap_or c.in-Setkey.slot n) c.slot.ensures) c.master-master.ensures
-          (kept_holding then now (record { keying = told.0; slot = told.1; readonly = told.2 })) (c.setkey_attached-answer.ensures.row _ _);
+          (kept_holding c.args.queue then now (record { keying = told.0; slot = told.1; readonly = told.2 })) (c.setkey_attached-answer.ensures.row _ _);
       replied = c.done_or.ensures.reply _;
     })
 
@@ -92,14 +93,14 @@ returns-in-Delkey-clause-serves g c =
       answer = c.delkey-answer.result;
       row = delkey_attached_row _ _ c.in-Delkey.slot _ _ _ _ _ _ _ _ _
           (c.or-slot.ensures ∙ ap (λ (n : ℕ). option_or c.in-Delkey.slot (Some n)) c.slot-in-Delkey.ensures)
-          (kept_holding then now (record { keying = told.0; slot = told.1; readonly = told.2 })) (c.delkey-answer.ensures.row _ _);
+          (kept_holding c.args.queue then now (record { keying = told.0; slot = told.1; readonly = told.2 })) (c.delkey-answer.ensures.row _ _);
       replied = c.done_or-in-Delkey.ensures.reply _;
     })
 
 pub returns-in-Kill-clause-serves : goal.returns-in-Kill-clause-serves
 returns-in-Kill-clause-serves g c = rw c.in-Kill.is (record {
   answer = c.kill-answer.result;
-  row = kill_held_row g.D.Disk.state _ _ _ _ _ _ _ _ c.withdraw-disk.ensures (c.kill-answer.ensures (IsAttached (attachment_of c.args.provider)) _);
+  row = kill_held_row g.D.Disk.state _ _ _ _ _ _ _ _ c.withdraw-disk.ensures (c.kill-answer.ensures (IsAttached (attachment_of c.args.queue c.args.provider)) _);
   replied = c.done_or-in-Kill.ensures.reply _;
 })
 
@@ -110,12 +111,35 @@ returns-in-Backup-clause-serves g c =
     let told = c.rest_tells_all-in-Backup.ensures now.keying then.keying now.slot then.slot now.readonly then.readonly c.backup-answer.ensures.rest in
     rw c.in-Backup.is (record {
       answer = c.backup-answer.result;
-      row = backup_held_row _ _ _ _ _ _ _ _ _ _ (kept_holding then now (record { keying = told.0; slot = told.1; readonly = told.2 })) (c.backup-answer.ensures.row _ _);
+      row = backup_held_row _ _ _ _ _ _ _ _ _ _ (kept_holding c.args.queue then now (record { keying = told.0; slot = told.1; readonly = told.2 })) (c.backup-answer.ensures.row _ _);
       replied = c.done_or-in-Backup.ensures.reply _;
     })
 
 pub returns-in-Fill-clause-serves : goal.returns-in-Fill-clause-serves
-returns-in-Fill-clause-serves g c = rw c.in-Fill.is (record { answer = c.fill-answer.result; row = c.fill-answer.ensures _ _; replied = c.done_or-in-Fill.ensures.reply _ })
+returns-in-Fill-clause-serves g c = rw c.in-Fill.is (record { answer = c.fill-answer.result; row = c.fill-answer.ensures c.args.queue _ _; replied = c.done_or-in-Fill.ensures.reply _ })
 
 pub returns-in-Sum-clause-serves : goal.returns-in-Sum-clause-serves
-returns-in-Sum-clause-serves g c = rw c.in-Sum.is (record { answer = c.sum-answer.result; row = c.sum-answer.ensures _ _; replied = c.digest_or.ensures.reply _ })
+returns-in-Sum-clause-serves g c = rw c.in-Sum.is (record { answer = c.sum-answer.result; row = c.sum-answer.ensures c.args.queue _ _; replied = c.digest_or.ensures.reply _ })
+
+pub returns-in-Submit-clause-serves : goal.returns-in-Submit-clause-serves
+returns-in-Submit-clause-serves g c = rw c.in-Submit.is (record { answer = c.submit-answer.result; row = c.submit-answer.ensures.row _ _; replied = c.tag_or.ensures.reply _ })
+
+pub returns-in-Step-clause-serves : goal.returns-in-Step-clause-serves
+returns-in-Step-clause-serves g c = rw c.in-Step.is (record { answer = c.step-answer.result; row = c.step-answer.ensures _ _; replied = c.left_or.ensures.reply _ })
+
+pub returns-in-Reap-clause-serves : goal.returns-in-Reap-clause-serves
+returns-in-Reap-clause-serves g c = rw c.in-Reap.is (record {
+  answer = bytes_given c.reap-answer.new.buffer c.reap-answer.result;
+  row = c.reap-answer.ensures.row _ _;
+  replied = c.reaped_or.ensures.reply c.reap-answer.new.buffer;
+})
+
+pub returns-in-Suspend-clause-serves : goal.returns-in-Suspend-clause-serves
+returns-in-Suspend-clause-serves g c = rw c.in-Suspend.is (record { answer = c.suspend-held.result.1; row = c.suspend-held.ensures _ _; replied = c.done_or-in-Suspend.ensures.reply _ })
+
+pub returns-in-Verify-clause-serves : goal.returns-in-Verify-clause-serves
+returns-in-Verify-clause-serves g c = rw c.in-Verify.is (record {
+  answer = swept_part c.verify-answer.new.buffer c.verify-answer.result;
+  row = c.verify-answer.ensures.row c.args.queue _;
+  replied = c.verified_or.ensures.reply c.verify-answer.new.buffer;
+})

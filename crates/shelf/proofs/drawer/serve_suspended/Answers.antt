@@ -46,3 +46,6 @@ returns-in-Detach-clause-serves g c = rw c.in-Detach.is (λ bytes. record {
   };
   replied = c.done_or-in-Detach.ensures.reply bytes;
 })
+
+pub returns-in-Resume-clause-serves : goal.returns-in-Resume-clause-serves
+returns-in-Resume-clause-serves g c = rw c.in-Resume.is (λ bytes. record { answer = c.resume-held.result.1; row = c.resume-held.ensures _; replied = c.done_or-in-Resume.ensures.reply bytes })

@@ -17,7 +17,7 @@ returns-then-given-eq0-clause-row g c =
       | then-given-eq0-via-then-given-eq0 w ↦ whole_sectors-none S (c.args.count * S) (sym given ∙ w.if-given-eq0.true)
       | then-given-eq0-via-else-given-eq0+then-given w ↦ whole_sectors-many S (c.args.count * S) (subst (λ (n : ℕ). 131072 < n) given w.if-given.true)
     ] in
-    λ cabinet entropy. rw (given, size) (read_bad_length g.D.Disk.state cabinet entropy c.args.provider.now c.args.sector c.args.count _ bad)
+    λ queue cabinet entropy. rw (given, size) (read_bad_length g.D.Disk.state queue cabinet entropy c.args.provider.now c.args.sector c.args.count _ bad)
 
 pub returns-clause-row : goal.returns-clause-row
 returns-clause-row g c =
@@ -28,6 +28,6 @@ returns-clause-row g c =
     let before = take (c.from.result * c.from-2.result) c.args.buffer.now in
     let len : length before ≡ c.from.result * c.from-2.result = omega (arith, length-take (c.from.result * c.from-2.result) c.args.buffer.now) in
     let same : length c.read-answer.new.into ≡ length before = c.read-answer.auto.into in
-    λ cabinet entropy. rw (c.read_answer.ensures, read_bytes c.read-answer.new.into (drop (c.from.result * c.from-2.result) c.args.buffer.now) (c.from.result * c.from-2.result) c.read-answer.result (same ∙ len))
-    (read_answered g.D.Disk.state cabinet entropy c.args.provider.now c.read-answer.new.self c.args.sector c.args.count before c.read-answer.new.into c.read-answer.result
+    λ queue cabinet entropy. rw (c.read_answer.ensures, read_bytes c.read-answer.new.into (drop (c.from.result * c.from-2.result) c.args.buffer.now) (c.from.result * c.from-2.result) c.read-answer.result (same ∙ len))
+    (read_answered g.D.Disk.state queue cabinet entropy c.args.provider.now c.read-answer.new.self c.args.sector c.args.count before c.read-answer.new.into c.read-answer.result
     (omega (arith, size, c.sector_size-sectorsize.ensures.at_least)) (omega (arith, len, c.if-given-eq0.false)) (omega (arith, len, c.if-given.false)) (len ∙ given) same c.read-answer.ensures.kept c.read-answer.ensures.answer)

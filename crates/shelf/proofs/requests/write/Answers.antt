@@ -22,8 +22,8 @@ returns-then-given-eq0 g c =
     ] in
     let said : whole_sectors S (length bytes) ≡ Err (refusals.BadLength count c.sector_size-sectorsize.result) =
     bad ∙ ap (λ (n : ℕ). Err (refusals.BadLength n S)) len ∙ ap (λ (s : ℕ). Err (refusals.BadLength count s)) (sym size) in
-    λ cabinet entropy. subst (λ (b : List ℕ). WriteRow c.args.sector b (attachment_of c.args.provider.now) (at g.D.Disk.state cabinet entropy c.args.provider.now) (Err (refusals.BadLength count c.sector_size-sectorsize.result)) (at g.D.Disk.state cabinet entropy c.args.provider.now))
-    c.decode-given.ensures.bytes (write_bad_length g.D.Disk.state cabinet entropy c.args.provider.now c.args.sector bytes _ said)
+    λ queue cabinet entropy. subst (λ (b : List ℕ). WriteRow c.args.sector b (attachment_of queue c.args.provider.now) (at g.D.Disk.state queue cabinet entropy c.args.provider.now) (Err (refusals.BadLength count c.sector_size-sectorsize.result)) (at g.D.Disk.state queue cabinet entropy c.args.provider.now))
+    c.decode-given.ensures.bytes (write_bad_length g.D.Disk.state queue cabinet entropy c.args.provider.now c.args.sector bytes _ said)
 
 pub returns : goal.returns
 returns g c =
@@ -33,7 +33,7 @@ returns g c =
     let bytes = take count c.decode-given.new.buffer in
     let len : length bytes ≡ count = omega (arith, length-take count c.decode-given.new.buffer, c.decode-given.auto.buffer, c.requires.room, c.decode-given.ensures.bound) in
     let even : length bytes % S ≡ 0 = subst (λ (n : ℕ). n % S ≡ 0) (sym len) (subst (λ (s : ℕ). count % s ≡ 0) size c.if-given-sectorsize-ne0.false) in
-    λ cabinet entropy. rw c.write_answer.ensures
-    (subst (λ (b : List ℕ). WriteRow c.args.sector b (attachment_of c.args.provider.now) (at g.D.Disk.state cabinet entropy c.args.provider.now) (or_refusal write_refusal c.write.result) (at g.D.Disk.state cabinet entropy c.write.new.self)) c.decode-given.ensures.bytes
-    (write_answered g.D.Disk.state cabinet entropy c.args.provider.now c.write.new.self c.args.sector bytes c.write.result
+    λ queue cabinet entropy. rw c.write_answer.ensures
+    (subst (λ (b : List ℕ). WriteRow c.args.sector b (attachment_of queue c.args.provider.now) (at g.D.Disk.state queue cabinet entropy c.args.provider.now) (or_refusal write_refusal c.write.result) (at g.D.Disk.state queue cabinet entropy c.write.new.self)) c.decode-given.ensures.bytes
+    (write_answered g.D.Disk.state queue cabinet entropy c.args.provider.now c.write.new.self c.args.sector bytes c.write.result
     (omega (arith, len, c.if-given-eq0.false)) (omega (arith, len, c.decode-given.ensures.bound)) even c.write.ensures.kept c.write.ensures.answer c.write.ensures.unasked))

@@ -1,0 +1,2 @@
+pub mod RunDisk
+pub mod TracedDisk

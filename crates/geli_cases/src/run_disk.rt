@@ -1,0 +1,69 @@
+// The disk of a drawer of a run, by what stands between the drawer and the disks of the case.
+ghost use Rattle.geli_cases.specs.RunDisk.{state_of};
+
+use crate::traced_disk::TracedDisk;
+use block_traits::{Disk, DiskFailed, Event, Sector};
+use disk_layers::{Concat, ProviderDisk, WriteBehind};
+
+/// The disk of a drawer of a run.
+#[derive(Drop)]
+pub enum RunDisk {
+    /// A disk of the case.
+    Plain(TracedDisk),
+    /// Writes wait for it.
+    Behind(WriteBehind<TracedDisk>),
+    /// Two of them as one.
+    Join(Concat<TracedDisk, TracedDisk>),
+    /// The provider on it.
+    Provider(ProviderDisk<TracedDisk>),
+}
+
+/// It is the disk of its variant.
+impl Disk for RunDisk {
+    ghost state = { state_of };
+
+    fn sectors(&self) -> u64 {
+        match self {
+            RunDisk::Plain(disk) => disk.sectors(),
+            RunDisk::Behind(disk) => disk.sectors(),
+            RunDisk::Join(disk) => disk.sectors(),
+            RunDisk::Provider(disk) => disk.sectors(),
+        }
+    }
+
+    fn read(&mut self, n: u64, into: &mut Sector) -> Result<(), DiskFailed> {
+        match self {
+            RunDisk::Plain(disk) => disk.read(n, into),
+            RunDisk::Behind(disk) => disk.read(n, into),
+            RunDisk::Join(disk) => disk.read(n, into),
+            RunDisk::Provider(disk) => disk.read(n, into),
+        }
+    }
+
+    fn write(&mut self, n: u64, from: &Sector) -> Result<(), DiskFailed> {
+        match self {
+            RunDisk::Plain(disk) => disk.write(n, from),
+            RunDisk::Behind(disk) => disk.write(n, from),
+            RunDisk::Join(disk) => disk.write(n, from),
+            RunDisk::Provider(disk) => disk.write(n, from),
+        }
+    }
+
+    fn flush(&mut self) -> Result<(), DiskFailed> {
+        match self {
+            RunDisk::Plain(disk) => disk.flush(),
+            RunDisk::Behind(disk) => disk.flush(),
+            RunDisk::Join(disk) => disk.flush(),
+            RunDisk::Provider(disk) => disk.flush(),
+        }
+    }
+
+    fn events(&self) -> Option<&[Event]> {
+        match self {
+            RunDisk::Plain(disk) => disk.events(),
+            RunDisk::Behind(disk) => disk.events(),
+            RunDisk::Join(disk) => disk.events(),
+            RunDisk::Provider(disk) => disk.events(),
+        }
+    }
+}

@@ -1,0 +1,122 @@
+-- The steps of a play only grow, and a flush covers those before it.
+use Rattle.std.proofs.Common.{◌≡◌, ◌∙◌, inl, inr, ℕ, List, [], ◌∷◌, ◌++◌, Contains, Option, None, Some, Result, Ok, slice_get, ap, subst, sym, append_assoc, append-nil, refl}
+use Rattle.std.specs.Prelude.{IfSome, MatchOption, option_and_then}
+use Rattle.std.proofs.lemmas.List.Elements.{All-weaker}
+use Rattle.command_words.specs.Places.{bytes_at}
+use Rattle.command_words.specs.Reading.{reading}
+use Rattle.command_words.specs.declared.commands.Usage.{Usage}
+use Rattle.command_words.specs.declared.spans.Span.{Span}
+use Rattle.queue_readings.specs.Tasks.{Flushes, Reads, Task, Work, Writes, task_with}
+use Rattle.readings.specs.Writes.{data_steps}
+use Rattle.command_rows.specs.Answer as answers
+use Rattle.command_rows.specs.Queueing.{ReapRow}
+use Rattle.command_rows.specs.Turn.{Replies, reach, reaped_or}
+use Rattle.command_rows.proofs.Gate.{attached}
+use Rattle.geli_core.specs.ReadsBack.{IsAmongSteps, IsDoneAsAsked}
+use Rattle.geli_core.specs.Requests.{CoversReaped, CoversWork}
+use Rattle.geli_core.specs.Run.{Run, ServesLine, ServesReading}
+use Rattle.geli_core.specs.Survivors.{HasNoRequests}
+use Rattle.geli_core.proofs.Drawn.{same_some}
+use Rattle.geli_core.proofs.Placing.{came, goes, run_keeps, survived, survives_so, told_holds}
+use Rattle.geli_core.proofs.Playing.{Follows}
+use Rattle.geli_core.proofs.ReadsBack.{from_row, turned}
+use Rattle.geli_core.proofs.Reaping.{reaped_done}
+use Rattle.block_traits.specs.Content.{Content}
+use Rattle.block_traits.specs.declared.disk.Event.{Event}
+use Rattle.command_words.specs.declared.commands.Command.{Command}
+use Rattle.command_words.specs.declared.commands.Command.TheVariants as commands
+use Rattle.command_words.specs.declared.spans.Sep.{Sep}
+use Rattle.eli_base.specs.Keying.{Keying}
+use Rattle.queue_readings.specs.Play.{IsCovered, Play}
+use Rattle.queue_readings.proofs.Calls.{covered}
+use Rattle.readings.specs.Steps.{Flush, Step}
+use Rattle.command_rows.specs.Answer.{Answer}
+use Rattle.command_rows.specs.World.{AttachedWith, Attachment, DrawerState, HoldKeyings, IsAmong, World, attachment_in, place_of}
+use Rattle.geli_core.specs.Placing.{DrawerPlaces, LinePlays, command_played, played_by}
+
+-- steps that were done stay the first
+record GrowsTo (m last : Play) : Type 0 where
+  more : List Step
+  are : last.steps ≡ m.steps ++ more
+
+grows_then : (m next last : Play) → GrowsTo m next → GrowsTo next last → GrowsTo m last
+grows_then m next last a b = record { more = a.more ++ b.more; are = b.are ∙ ap (λ (l : List Step). l ++ b.more) a.are ∙ append_assoc m.steps a.more b.more }
+
+command_grows : (line : List ℕ) (command : Command) (k : Keying) (told : Option Content) (said : Answer) (events : List Event) (m : Play) → GrowsTo m (command_played line command k told said events m)
+command_grows line (commands.Write prov sector hex) k told said events m = record { more = _; are = refl }
+command_grows line (commands.Fill prov seed start count) k told said events m = record { more = _; are = refl }
+command_grows line (commands.Submit prov job) k told said events m = record { more = _; are = refl }
+command_grows line (commands.Step prov tag) k told said events m = record { more = _; are = refl }
+command_grows line (commands.Reap prov tag) k told said events m = record { more = _; are = refl }
+command_grows line command k told said events m = record { more = _; are = refl }
+
+played_grows : (found : Option Attachment) (line : List ℕ) (command : Command) (told : Option Content) (said : Answer) (events : List Event) (m : Play) → GrowsTo m (played_by found line command told said events m)
+played_grows None line command told said events m = record { more = _; are = refl }
+played_grows (Some a) line command told said events m = command_grows line command a.keying told said events m
+
+line_grows : (told : Option Content) (sep : Sep) (line : List ℕ) (answer : Option Answer) (old : DrawerState) (m next : Play) (new : DrawerState) → LinePlays told sep line answer old m next new → GrowsTo m next
+line_grows told sep line answer old m next new (inl stays) = record { more = []; are = ap (λ (p : Play). p.steps) stays.1 }
+line_grows told sep line answer old m next new (inr h) = subst (GrowsTo m) (sym h.play) (played_grows (attachment_in new.holding) line h.serves.command told h.serves.said h.events m)
+
+grows : (told : Option Content) (sep : Sep) (lines : List (List ℕ)) (answers : List (Option Answer)) (start end : World) (old : DrawerState) (m last : Play) (new : DrawerState) → DrawerPlaces told sep start lines answers end old m last new → GrowsTo m last
+grows told sep [] [] start end old m last new h = record { more = []; are = ap (λ (p : Play). p.steps) h.2 ∙ sym (append-nil m.steps) }
+grows told sep (line ∷ lines) (answer ∷ answers) start end old m last new h = grows_then m h.2 last (line_grows told sep line answer old m h.2 h.1 h.5) (grows told sep lines answers h.0 end h.1 h.2 last new h.6)
+grows told sep [] (answer ∷ answers) start end old m last new h = absurd h
+grows told sep (line ∷ lines) [] start end old m last new h = absurd h
+
+covered_later : (told : Option Content) (sep : Sep) (start end : World) (lines : List (List ℕ)) (answers : List (Option Answer)) (old new : DrawerState) (m last : Play) (s : Step) → Contains m.steps s → DrawerPlaces told sep start lines answers end old m last new
+    → IsCovered (last.steps ++ Flush ∷ []) s
+covered_later told sep start end lines answers old new m last s there h =
+    let g = grows told sep lines answers start end old m last new h in
+    subst (λ (l : List Step). IsCovered (l ++ Flush ∷ []) s) (sym g.are) (covered m.steps g.more s there)
+
+-- ---- a write that was reaped
+
+-- when it was reaped, each of its units was done
+reap_done : (Fresh : Type 0) (c : Content) (m : Play) (line : List ℕ) (prov : Span) (tag : ℕ) (start next : World) (before : DrawerState) (place : Option ℕ) → place_of (bytes_at line prov) start.drawers ≡ place → option_and_then (slice_get start.drawers) place ≡ Some before
+    → ServesReading (Ok (Some (commands.Reap prov tag))) line start (Some answers.Done) next → Follows Fresh c m before.holding before.disk → AttachedWith before.holding (λ a. IsDoneAsAsked tag a.keying c m)
+reap_done Fresh c m line prov tag start next before None at there h f = absurd (let none : ⊥ = cc there in none)
+reap_done Fresh c m line prov tag start next before (Some place) at there h f =
+    let t = turned line (commands.Reap prov tag) (bytes_at line prov) start answers.Done next (place_of (bytes_at line prov) start.drawers) refl h (λ u. (let none : ⊥ = cc (u.refused) in none)) in
+    let here : place ≡ t.0 = same_some place t.0 (sym at ∙ t.1) in
+    let same : before ≡ t.2.before = same_some before t.2.before (sym there ∙ ap (slice_get start.drawers) here ∙ t.2.found) in
+    let old = reach t.2.before start in
+    let g : Follows Fresh c m t.2.before.holding t.2.before.disk = subst (λ (d : DrawerState). Follows Fresh c m d.holding d.disk) same f in
+    subst (λ (d : DrawerState). AttachedWith d.holding (λ a. IsDoneAsAsked tag a.keying c m)) (sym same)
+    (from_row line (commands.Reap prov tag) old answers.Done (reach t.2.after next) (λ a. Replies reaped_or (ReapRow tag a) old answers.Done (reach t.2.after next)) (AttachedWith t.2.before.holding (λ a. IsDoneAsAsked tag a.keying c m)) tt (λ through. through)
+    (λ a is step. attached t.2.before.holding ⊥ (λ b. IsDoneAsAsked tag b.keying c m) a is (reaped_done Fresh c m a tag old step.answer (reach t.2.after next) is g step.row step.replied)) t.2.step)
+
+covers_work : (steps more : List Step) (k : Keying) (work : Work) → ((s : Step) → Contains steps s → IsCovered more s) → IsAmongSteps steps k work → CoversWork more k work
+covers_work steps more k (Reads sector count ws) each h = h
+covers_work steps more k (Writes number sector count bytes) each h = All-weaker (Contains steps) (IsCovered more) each (data_steps number k sector count bytes) h
+covers_work steps more k Flushes each h = tt
+
+covers_task : (steps more : List Step) (k : Keying) (found : Option Task) → ((s : Step) → Contains steps s → IsCovered more s) → IfSome found (λ t. IsAmongSteps steps k t.work) → IfSome found (λ t. CoversWork more k t.work)
+covers_task steps more k None each h = tt
+covers_task steps more k (Some t) each h = covers_work steps more k t.work each h
+
+covers_attached : (found : Option Attachment) (tag : ℕ) (c : Content) (m : Play) (more : List Step) → ((s : Step) → Contains m.steps s → IsCovered more s) → MatchOption found ⊥ (λ a. IsDoneAsAsked tag a.keying c m)
+    → MatchOption found ⊥ (λ a. IfSome (task_with tag m.tasks) (λ t. CoversWork more a.keying t.work))
+covers_attached None tag c m more each h = h
+covers_attached (Some a) tag c m more each h = covers_task m.steps more a.keying (task_with tag m.tasks) each h
+
+pub covers_reaped : (sep : Sep) (served : List (List ℕ)) (said : List (Option Answer)) (entry start next : World) (line : List ℕ) (prov : Span) (tag : ℕ) (rest : List (List ℕ)) (replies : List (Option Answer)) (end : World) (drawer : DrawerState)
+    → Run sep entry served said start → HoldKeyings entry.drawers → reading sep line ≡ Ok (Some (commands.Reap prov tag)) → ServesLine sep line start (Some answers.Done) next → Run sep next rest replies end → IsAmong end.drawers drawer
+    → CoversReaped sep entry served said start line prov tag rest replies end drawer
+covers_reaped sep served said entry start next line prov tag rest replies end drawer run keyed asked serves behind there =
+    let all : Run sep start (line ∷ rest) (Some answers.Done ∷ replies) end = (next, serves, behind) in
+    let from = came sep (line ∷ rest) (Some answers.Done ∷ replies) start end drawer all there in
+    let b = from.before in
+    let s = survived sep served said entry start run keyed b from.was in
+    let g = goes (HasNoRequests s.before.holding) s.before.disk.content sep (line ∷ rest) (Some answers.Done ∷ replies) start end b s.play drawer from.way (run_keeps sep served said entry start run keyed) s.tells in
+    let turn : ServesReading (Ok (Some (commands.Reap prov tag))) line start (Some answers.Done) next = subst (λ (r : Result (Option Command) Usage). ServesReading r line start (Some answers.Done) next) asked serves in
+    record {
+      before = b;
+      was = from.was;
+      survives = survives_so sep served said entry start b s;
+      last = g.last;
+      places = g.places;
+      covers = λ named. told_holds (HasNoRequests s.before.holding) s.before.disk.content s.play b _ s.tells
+          (λ c f. covers_attached (attachment_in b.holding) tag c s.play (g.last.steps ++ Flush ∷ []) (λ step did. covered_later s.before.disk.content sep start end (line ∷ rest) (Some answers.Done ∷ replies) b drawer s.play g.last step did g.places)
+          (reap_done (HasNoRequests s.before.holding) c s.play line prov tag start next b (place_of (bytes_at line prov) start.drawers) refl named turn f));
+    }

@@ -1,0 +1,116 @@
+-- Sweeps one after another: the lines of a run that sweep one drawer under one keying, by the place in one file.
+use Rattle.std.specs.Prelude.{◌≡◌, ℕ, ◌-◌, ◌*◌, ◌≤◌, Bool, true, false, ◌&&◌, List, [], ◌∷◌, ◌++◌, map, sum, Option, Some, None, IsSome, Result, Ok, if◌then◌else◌, slice_get}
+use Rattle.std.specs.List.{range_with_len}
+use Rattle.std.specs.Option.{option_map}
+use Rattle.std.specs.Str.{bytes_eq}
+use Rattle.command_words.specs.Places.{bytes_at}
+use Rattle.command_words.specs.Reading.{reading}
+use Rattle.command_words.specs.declared.commands.Command.{Command}
+use Rattle.command_words.specs.declared.commands.Command.TheVariants as commands
+use Rattle.command_words.specs.declared.commands.Usage.{Usage}
+use Rattle.command_words.specs.declared.spans.Sep.{Sep}
+use Rattle.eli_base.specs.Keying.{Keying}
+use Rattle.provider.specs.Attached.{media}
+use Rattle.sealing.specs.Sectors.{units}
+use Rattle.verify_sweep.specs.Parts.{cut_count, place_after, sectors_after}
+use Rattle.command_rows.specs.Answer.{Answer}
+use Rattle.command_rows.specs.Answer as answers
+use Rattle.command_rows.specs.Verifying.{ListsUnits}
+use Rattle.command_rows.specs.World.{Attachment, DrawerState, IsAttached, World, place_of}
+use Rattle.geli_core.specs.Run.{Run, RunsAndCloses}
+
+-- ---- a course of sweeps
+
+-- the name of the drawer that is swept, the file of the place, the keying, and how many logical sectors there are
+pub record Course : Type 0 where
+  pub name : List ℕ
+  pub file : List ℕ
+  pub keying : Keying
+  pub sectors : ℕ
+
+-- the drawer is there, attached under the keying, and has so many sectors
+pub record HasDrawer (course : Course) (world : World) : Type 0 where
+  pub place : ℕ
+  pub named : place_of course.name world.drawers ≡ Some place
+  pub drawer : DrawerState
+  pub there : slice_get world.drawers place ≡ Some drawer
+  pub attachment : Attachment
+  pub attached : drawer.holding ≡ IsAttached attachment
+  pub keying : attachment.keying ≡ course.keying
+  pub sectors : media course.keying drawer.disk ≡ course.sectors
+
+-- what the file of the place has, where the cabinet tells that
+abbrev pub place_file : Course → World → Option (Option (List ℕ))
+place_file course world = option_map (λ files. files course.file) world.cabinet.files
+
+-- ---- its lines
+
+-- what a `verify` asks for: over how many sectors it goes, and whether it begins anew
+pub record Asked : Type 0 where
+  pub count : ℕ
+  pub restart : Bool
+
+-- a line of the course is a `verify` that names the drawer and the file
+abbrev pub asked_by : Course → List ℕ → Result (Option Command) Usage → Option Asked
+asked_by course line (Ok (Some (commands.Verify prov file count restart))) =
+    if bytes_eq (bytes_at line prov) course.name && bytes_eq (bytes_at line file) course.file then Some (record { count = count; restart = restart }) else None
+asked_by course line read = None
+
+-- the counts of the lines that were answered that a part was swept
+abbrev pub counts_with : List ℕ → Option Asked → Option Answer → List ℕ
+counts_with counts (Some asked) (Some (answers.Verified offsets next)) = counts ++ asked.count ∷ []
+counts_with counts asked answer = counts
+
+-- Behind parts with these counts, the first of which began at the first sector, a part goes from where they ended to `next`: the units that fail there are
+-- listed. All together go over the sectors before `next`, each once; and where their counts, each cut to the sectors of a part, reach the end, so do they.
+pub record IsNextPart (course : Course) (counts : List ℕ) (count : ℕ) (offsets : List ℕ) (next : ℕ) (old new : World) : Type 0 where
+  pub before : HasDrawer course old
+  pub after : DrawerState
+  pub there : slice_get new.drawers before.place ≡ Some after
+  pub lists : let start : ℕ = place_after course.keying course.sectors 0 counts in
+      ListsUnits course.keying (start * units course.keying) ((next - start) * units course.keying) offsets before.drawer.disk after.disk
+  pub next_is : next ≡ place_after course.keying course.sectors 0 (counts ++ count ∷ [])
+  pub each_once : sectors_after course.keying course.sectors 0 (counts ++ count ∷ []) ≡ range_with_len 0 next
+  pub reaches : course.sectors ≤ sum (map (cut_count course.keying) (counts ++ count ∷ [])) → next ≡ course.sectors
+
+abbrev pub SweepsPart : Course → List ℕ → Option Asked → World → Option Answer → World → Type 0
+SweepsPart course counts (Some asked) old (Some (answers.Verified offsets next)) new = IsNextPart course counts asked.count offsets next old new
+SweepsPart course counts asked old answer new = Unit {0}
+
+-- ---- a run
+
+-- a line of the course finds the drawer and doesn't begin anew, and any other leaves the file as it is
+abbrev pub KeepsCourse : Course → Option Asked → World → World → Type 0
+KeepsCourse course (Some asked) old new = (asked.restart ≡ false) × HasDrawer course old
+KeepsCourse course None old new = place_file course new ≡ place_file course old
+
+-- as long as the lines keep to the course, each goes on where those before it ended
+abbrev pub EachGoesOn : (course : Course) (counts : List ℕ) (sep : Sep) (start : World) (lines : List (List ℕ)) (answers : List (Option Answer)) (end : World) → Run sep start lines answers end → Type 0
+EachGoesOn course counts sep start (line ∷ lines) (answer ∷ answers) end run =
+    KeepsCourse course (asked_by course line (reading sep line)) start run.0 →
+    SweepsPart course counts (asked_by course line (reading sep line)) start answer run.0
+    × EachGoesOn course (counts_with counts (asked_by course line (reading sep line)) answer) sep run.0 lines answers end run.2
+EachGoesOn course counts sep start [] [] end run = Unit {0}
+EachGoesOn course counts sep start [] (answer ∷ answers) end run = Unit {0}
+EachGoesOn course counts sep start (line ∷ lines) [] end run = Unit {0}
+
+-- a course begins with a line that begins anew and is answered that a part was swept, where the cabinet tells its files
+abbrev pub BeginsCourse : Course → Option Asked → World → Option Answer → Type 0
+BeginsCourse course (Some asked) old (Some (answers.Verified offsets next)) = (asked.restart ≡ true) × IsSome old.cabinet.files × HasDrawer course old
+BeginsCourse course asked old answer = ⊥
+
+-- so does each that begins in the run
+abbrev pub EachBegins : (course : Course) (sep : Sep) (start : World) (lines : List (List ℕ)) (answers : List (Option Answer)) (end : World) → Run sep start lines answers end → Type 0
+EachBegins course sep start (line ∷ lines) (answer ∷ answers) end run =
+    (BeginsCourse course (asked_by course line (reading sep line)) start answer →
+    SweepsPart course [] (asked_by course line (reading sep line)) start answer run.0
+    × EachGoesOn course (counts_with [] (asked_by course line (reading sep line)) answer) sep run.0 lines answers end run.2)
+    × EachBegins course sep run.0 lines answers end run.2
+EachBegins course sep start [] [] end run = Unit {0}
+EachBegins course sep start [] (answer ∷ answers) end run = Unit {0}
+EachBegins course sep start (line ∷ lines) [] end run = Unit {0}
+
+-- by whatever lines a run came about
+abbrev pub SweepsFollow : World → World → Type 0
+SweepsFollow old new = (sep : Sep) (lines : List (List ℕ)) (answers : List (Option Answer)) (failed : ℕ) →
+    (ran : RunsAndCloses sep old lines answers failed new) → (course : Course) → EachBegins course sep old lines answers ran.middle ran.run

@@ -1,0 +1,9 @@
+use Rattle.std.proofs.Common.{◌≡◌, false, bytes_eq, rules}
+use Rattle.shelf.proofs.Listing.{place_behind}
+use Rattle.shelf.proofs.drawers.find.Goals as goal
+
+pub loop-place-preserved : goal.loop-place-preserved
+loop-place-preserved g c =
+    let drawer = c.index-drawers-place.result in
+    let other : bytes_eq drawer.name c.args.name.now ≡ false = search rules in
+    place_behind g.D.Disk.state c.args.name.now c.args.drawers.now c.loop-place.place drawer (search rules) c.index-drawers-place.is other c.loop-place.invariant

@@ -1,0 +1,13 @@
+use Rattle.shelf.proofs.Spelling.{spelled}
+use Rattle.shelf.proofs.queueing.submit.Goals as goal
+
+pub submit_write-requires-clause-spelled : goal.submit_write-requires-clause-spelled
+submit_write-requires-clause-spelled g c =
+    let bounds = rw c.in-Write.is at c.requires.bounds in
+    spelled _ bounds.1
+
+pub returns-in-Read-clause-row : goal.returns-in-Read-clause-row
+returns-in-Read-clause-row g c = rw c.in-Read.is (c.submit_read.ensures c.args.line.now)
+
+pub returns-in-Flush-clause-row : goal.returns-in-Flush-clause-row
+returns-in-Flush-clause-row g c = rw c.in-Flush.is (c.submit_flush.ensures c.args.line.now)

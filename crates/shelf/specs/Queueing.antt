@@ -1,0 +1,14 @@
+-- How many bytes stand at the front of the buffer of what was reaped.
+use Rattle.std.specs.Prelude.{ℕ, Option, Some, None, Result, Ok, Err}
+use Rattle.bio_queue.specs.declared.faults.ReapFault.{ReapFault}
+use Rattle.bio_queue.specs.declared.job.Reaped.{Reaped}
+use Rattle.bio_queue.specs.declared.job.Reaped.TheVariants.{Bytes, Written, Flushed}
+use Rattle.eli_base.specs.declared.refusals.Refusal.{Refusal}
+use Rattle.command_rows.specs.Queueing.{reap_refusal}
+
+-- those of a read; other requests have none
+abbrev pub count_given : ℕ → Result Reaped ReapFault → Result (Option ℕ) Refusal
+count_given tag (Ok (Bytes count)) = Ok (Some count)
+count_given tag (Ok Written) = Ok None
+count_given tag (Ok Flushed) = Ok None
+count_given tag (Err fault) = Err (reap_refusal tag fault)

@@ -1,0 +1,127 @@
+//! `geli verify`: the units that fail are listed in parts, and the place where the next part begins stands in a file.
+
+ghost use Rattle.std.specs.Prelude.{◌≡◌, ◌*◌, ◌≤◌, List, Some, IfOk, true, length};
+ghost use Rattle.bio_queue.specs.Requests.{Request};
+ghost use Rattle.block_traits.specs.Cabinet.{CabinetState};
+ghost use Rattle.block_traits.specs.Disk.{DiskState};
+ghost use Rattle.block_traits.specs.Streams.{EntropyState};
+ghost use Rattle.command_words.specs.Places.{IsWithin};
+ghost use Rattle.provider.specs.Attached.{has_tags};
+ghost use Rattle.command_rows.specs.Steps.{request_limit};
+ghost use Rattle.command_rows.specs.Verifying.{FindsPlace, SweepsFrom, VerifyRow, place_in, place_size};
+ghost use Rattle.command_rows.specs.World.{Holding, IsAttached, reach_of};
+ghost use Rattle.shelf.specs.Shelved.{attachment_of};
+ghost use Rattle.shelf.specs.Verifying.{swept_part, without_file};
+
+use crate::saving::store_at;
+use block_traits::{Cabinet, Disk};
+use command_words::Span;
+use eli_base::Refusal;
+use key_components::load_file;
+use provider::Provider;
+use std::alloc::Global;
+use verify_sweep::{Swept, sweep};
+
+// The bytes of a place, which are the most that its file may have.
+const PLACE_SIZE: usize = 8;
+
+// The number that the bytes of the file are, which the word names.
+fn place_in(word: u32, bytes: &[u8]) -> Result<u64, Refusal>
+    requires { length bytes.now ≤ place_size }
+    ensures { result ≡ place_in word (Some bytes.now) }
+{
+    if bytes.len() < PLACE_SIZE {
+        let length = bytes.len() as u64;
+        return Err(Refusal::BadPlaceFile { word, length });
+    }
+    let mut place = [0; PLACE_SIZE];
+    place.copy_from_slice(bytes);
+    Ok(u64::from_le_bytes(place))
+}
+
+// The first sector where there is no file, or why it wasn't loaded.
+fn without_file(refusal: Refusal) -> Result<u64, Refusal>
+    ensures { result ≡ without_file refusal }
+{
+    match refusal {
+        Refusal::FileAbsent { .. } => Ok(0),
+        refusal => Err(refusal),
+    }
+}
+
+// Where a sweep begins: at the first sector, or where the file at a place of the line says, if there is one.
+fn find_place<C: Cabinet>(
+    alloc: Global,
+    line: &[u8],
+    file: Span,
+    restart: bool,
+    files: &mut C,
+) -> Result<u64, Refusal>
+    requires { IsWithin (length line.now) file }
+    ensures { (disk : DiskState) (holding : Holding) (entropy : EntropyState) →
+        FindsPlace restart line.now file
+        (reach_of disk holding (C.state files.old) entropy) result
+        (reach_of disk holding (C.state files.new) entropy) }
+{
+    if restart {
+        return Ok(0);
+    }
+    match load_file(alloc, line, file, PLACE_SIZE, files) {
+        Ok(bytes) => place_in(file.word, bytes.as_slice()),
+        Err(refusal) => without_file(refusal),
+    }
+}
+
+// Lists the units that fail from a place on, if that isn't behind the last sector.
+fn sweep_from<D: Disk>(
+    provider: &mut Provider<D>,
+    place: u64,
+    count: u64,
+    buffer: &mut [u8],
+) -> Result<Swept, Refusal>
+    requires tagged { has_tags provider.old.keying.auth ≡ true }
+    requires some { 1 ≤ count }
+    requires room { length buffer.old ≡ request_limit }
+    ensures row { (queue : List Request) (cabinet : CabinetState) (entropy : EntropyState) → SweepsFrom (attachment_of queue provider.old) place count
+        (reach_of (D.state provider.old.disk) (IsAttached (attachment_of queue provider.old)) cabinet entropy) (swept_part buffer.new result)
+        (reach_of (D.state provider.new.disk) (IsAttached (attachment_of queue provider.new)) cabinet entropy) }
+    ensures bound { IfOk result (λ swept. 8 * swept.bad ≤ request_limit) }
+{
+    let media = provider.sectors();
+    if place > media {
+        return Err(Refusal::BadPlace { place, media });
+    }
+    match sweep(provider, place, count, buffer) {
+        Ok(swept) => Ok(swept),
+        Err(_) => Err(Refusal::DeviceFault),
+    }
+}
+
+/// Lists the units that fail at the front of the buffer, over so many logical sectors or fewer, and stores where the next part begins in
+/// the file at a place of the line. It begins where that file says, and loads none where it begins anew.
+pub fn verify<D: Disk, C: Cabinet>(
+    alloc: Global,
+    provider: &mut Provider<D>,
+    line: &[u8],
+    file: Span,
+    count: u64,
+    restart: bool,
+    buffer: &mut [u8],
+    files: &mut C,
+) -> Result<Swept, Refusal>
+    requires within { IsWithin (length line.now) file }
+    requires some { 1 ≤ count }
+    requires room { length buffer.old ≡ request_limit }
+    ensures row { (queue : List Request) (entropy : EntropyState) → VerifyRow line.now file count restart (attachment_of queue provider.old)
+        (reach_of (D.state provider.old.disk) (IsAttached (attachment_of queue provider.old)) (C.state files.old) entropy) (swept_part buffer.new result)
+        (reach_of (D.state provider.new.disk) (IsAttached (attachment_of queue provider.new)) (C.state files.new) entropy) }
+    ensures bound { IfOk result (λ swept. 8 * swept.bad ≤ request_limit) }
+{
+    if !provider.authenticated() {
+        return Err(Refusal::NotAuthenticated);
+    }
+    let place = find_place(alloc, line, file, restart, files)?;
+    let swept = sweep_from(provider, place, count, buffer)?;
+    store_at(alloc, line, file, &swept.next.to_le_bytes(), files)?;
+    Ok(swept)
+}

@@ -8,6 +8,7 @@ ghost use Rattle.aes_core.specs.Blocks.{block};
 pub type Block = [u8; 16];
 
 /// The sum of two blocks, bit by bit.
+#[inline(always)]
 pub fn xor(a: Block, b: Block) -> Block
     ensures { result ≡ xor a b }
 {
@@ -19,6 +20,7 @@ pub fn xor(a: Block, b: Block) -> Block
 }
 
 /// Block `j` of these bytes.
+#[inline(always)]
 pub fn block_at(bytes: &[u8], j: usize) -> Block
     requires { 16 * j + 16 ≤ length bytes.now }
     ensures { result ≡ block bytes.now j }

@@ -68,6 +68,7 @@ impl Schedule {
     }
 
     /// Enciphers a block in place (FIPS 197, 5.1). The inverse cipher takes it back.
+    #[inline(always)]
     pub fn encrypt_block(&self, block: &mut [u8; 16])
         ensures enciphered { block.new ≡ encrypt self.now block.old }
         ensures taken_back { decrypt self.now block.new ≡ block.old }

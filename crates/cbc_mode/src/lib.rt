@@ -17,6 +17,7 @@ use groups::{open_group, open_rest};
 pub use laws::{cbc_keeps_lengths, cbc_opens_block_by_block};
 
 // The cipher text of one block, from the block of cipher text before it.
+#[inline(always)]
 fn sealed(k: &Schedule, plain: Block, before: Block) -> Block
     ensures { result ≡ encrypt k.now (xor plain before) }
 {

@@ -1,0 +1,99 @@
+#!/usr/bin/env python3
+"""The time of `fill` and `sum` of the whole program over a file, beside the same work in C over OpenSSL's libcrypto.
+
+    python3 bench/whole.py PROGRAM FOLDER [MIB [ROUNDS [ROWS]]]
+
+PROGRAM is a built `geli` (crates/geli_cli/out/geli_cli), FOLDER one on a quiet file system (/dev/shm). ROWS picks the
+rows that have these letters.
+The sides go by turns in one run, ROUNDS times, and of each the least counts. MB/s by the processor time of the process,
+user and system; of geli less that of a run that only attaches.
+C's side is bench/whole.c, with calls of the system of 512 bytes and of 131,072, without and with AES instructions.
+"""
+import os
+import pathlib
+import resource
+import subprocess
+import sys
+
+HERE = pathlib.Path(__file__).parent
+# The bits of AES-NI, PCLMULQDQ and the like in OpenSSL's mask of capabilities.
+WITHOUT_AES = "~0x200000200000000"
+PROVIDERS = [
+    ("AES-XTS", 128, 512, ""),
+    ("AES-XTS", 128, 4096, ""),
+    ("AES-XTS", 256, 512, ""),
+    ("AES-XTS", 256, 4096, ""),
+    ("AES-CBC", 128, 512, ""),
+    ("AES-CBC", 128, 4096, ""),
+    ("AES-XTS", 128, 512, "SHA256"),
+    ("AES-XTS", 128, 4096, "SHA256"),
+    ("AES-XTS", 128, 4096, "SHA384"),
+    ("AES-XTS", 128, 4096, "SHA512"),
+]
+C_SIDES = [(mask, chunk) for mask in ("without", "with") for chunk in (512, 131072)]
+
+
+def processor_time(folder, words, lines=b"", mask="with"):
+    """Runs a program and returns the processor seconds that it took."""
+    env = {**os.environ, **({"OPENSSL_ia32cap": WITHOUT_AES} if mask == "without" else {})}
+    before = resource.getrusage(resource.RUSAGE_CHILDREN)
+    done = subprocess.run(words, input=lines, capture_output=True, cwd=folder, env=env)
+    after = resource.getrusage(resource.RUSAGE_CHILDREN)
+    if done.returncode or b"error" in done.stdout:
+        sys.exit(f"{words}: status {done.returncode}, {done.stdout[-300:]} {done.stderr[-300:]}")
+    return after.ru_utime - before.ru_utime + after.ru_stime - before.ru_stime
+
+
+def units(size, auth):
+    """Returns how many device sectors a logical sector of so many bytes takes."""
+    data = {"": 512, "SHA256": 480, "SHA384": 464, "SHA512": 448}[auth]
+    return -(-size // data)
+
+
+def measure(program, folder, mib, rounds, provider):
+    """Yields, for `fill` and `sum`, the least processor seconds of each side."""
+    cipher, bits, size, auth = provider
+    count = (mib << 20) // size
+    image = folder / "a.img"
+    for file in (image, folder / "c.img"):
+        file.unlink(missing_ok=True)
+        with open(file, "wb") as it:
+            it.truncate(count * units(size, auth) * 512 + 4096)
+    kind = ["-e", cipher, "-l", str(bits), "-s", str(size), *(["-a", "HMAC/" + auth] if auth else [])]
+    subprocess.run([program, "init", "-P", "-K", "key", *kind, "a.img"], check=True, cwd=folder, stdout=subprocess.DEVNULL)
+    name = f"aes-{bits}-{cipher[-3:].lower()}" + (f"+{auth.lower()}" if auth else "")
+    attach = b"attach -p -k key a.img\n"
+    for verb, line in (("fill", f"fill a.img 7 0 {count}\n"), ("sum", f"sum a.img 0 {count}\n")):
+        sides = {}
+        for _ in range(rounds):
+            whole = processor_time(folder, [program, "script", "a.img"], attach + line.encode())
+            idle = processor_time(folder, [program, "script", "a.img"], attach)
+            sides.setdefault("geli", []).append(whole - idle)
+            for mask, chunk in C_SIDES:
+                words = ["./whole", verb, name, str(size), "c.img", str(mib << 20), str(chunk)]
+                sides.setdefault((mask, chunk), []).append(processor_time(folder, words, mask=mask))
+        yield verb, {side: min(times) for side, times in sides.items()}
+
+
+def main():
+    program, folder = str(pathlib.Path(sys.argv[1]).resolve()), pathlib.Path(sys.argv[2])
+    mib, rounds = (int(it) for it in (*sys.argv[3:5], *("64", "5")[len(sys.argv[3:5]):]))
+    rows = sys.argv[5] if len(sys.argv) > 5 else ""
+    build = ["gcc", "-O2", "-Wno-deprecated-declarations", "-o", folder / "whole", HERE / "whole.c", "-lcrypto"]
+    subprocess.run(build, check=True)
+    (folder / "key").write_bytes(b"k" * 64)
+    print(f"MB/s of {mib} MiB by processor time, least of {rounds}; in brackets geli's ratio to that side")
+    print("| provider | call | geli | C, 512 a call | C, 131,072 | C, 512, AES instructions | C, 131,072, AES instructions |")
+    print("|---|---|---|---|---|---|---|")
+    for provider in PROVIDERS:
+        cipher, bits, size, auth = provider
+        name = f"{cipher[-3:].lower()} {bits}, {size}" + (f", HMAC/{auth}" if auth else "")
+        if rows not in name:
+            continue
+        for verb, least in measure(program, folder, mib, rounds, provider):
+            rate = {side: (mib << 20) / 1e6 / max(time, 1e-6) for side, time in least.items()}
+            cells = [f"{rate[side]:.0f} ({rate['geli'] / rate[side]:.2f})" for side in C_SIDES]
+            print(f"| {name} | {verb} | {rate['geli']:.0f} | {' | '.join(cells)} |", flush=True)
+
+
+main()

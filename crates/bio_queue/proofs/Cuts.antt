@@ -4,10 +4,10 @@ use Rattle.std.proofs.Math.Nat.{mul-le-mul_right}
 use Rattle.std.proofs.lemmas.List.{drop-drop, take-take, drop_at, take-append-le, length-take-le}
 use Rattle.std.proofs.lemmas.Slice.{take-put_mid, take-put_mid_below, drop-put_mid}
 use borrow.Rule.Slice.PartMut.{put_mid, post_of}
+use Rattle.block_traits.specs.Parts.{parts}
+use Rattle.block_traits.proofs.PartLists.{length-parts}
 use Rattle.eli_base.specs.Keying.{Keying}
-use Rattle.sealing.specs.Parts.{parts}
 use Rattle.sealing.specs.Sectors.{joined, reading, seal, units}
-use Rattle.sealing.proofs.PartLists.{length-parts}
 use Rattle.provider.proofs.Cuts.{parts-front}
 use Rattle.provider.proofs.Readings.{joined-push}
 use Rattle.provider.proofs.UnitLists.{joined-fault}

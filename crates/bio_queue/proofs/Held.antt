@@ -5,13 +5,13 @@ use Rattle.std.proofs.lemmas.List.{length-take-le, take-append-drop}
 use Rattle.block_traits.specs.Disk.{DiskState, Gives, Logs}
 use Rattle.block_traits.specs.declared.disk.Event.{Event}
 use Rattle.block_traits.specs.declared.disk.Event.TheVariants as event
+use Rattle.block_traits.specs.Parts.{parts}
+use Rattle.block_traits.proofs.PartLists.{get_or-parts}
 use Rattle.eli_base.specs.Keying.{Keying}
 use Rattle.eli_base.specs.Units.{media_sectors}
 use Rattle.provider.specs.Attached.{Attached}
 use Rattle.provider.proofs.InMemory.{sector_inside}
-use Rattle.sealing.specs.Parts.{parts}
 use Rattle.sealing.specs.Sectors.{units}
-use Rattle.sealing.proofs.PartLists.{get_or-parts}
 use Rattle.bio_queue.specs.declared.job.Job.{Job}
 use Rattle.bio_queue.specs.declared.job.Job.TheVariants.{Read, Write, Flush}
 use Rattle.bio_queue.specs.declared.job.Reaped.TheVariants.{Bytes}

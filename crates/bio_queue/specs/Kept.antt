@@ -1,7 +1,7 @@
 -- What the fields of an open request keep, and where requests stand in a queue.
 use Rattle.std.specs.Prelude.{◌≡◌, ℕ, ◌+◌, ◌*◌, ◌≤◌, ◌==◌, List, [], ◌∷◌, Option, Some, None, if◌then◌else◌}
 use Rattle.std.specs.Option.{option_map}
-use Rattle.sealing.specs.Parts.{parts}
+use Rattle.block_traits.specs.Parts.{parts}
 use Rattle.bio_queue.specs.declared.job.Job.{Job}
 use Rattle.bio_queue.specs.declared.job.Job.TheVariants.{Read, Write, Flush}
 use Rattle.bio_queue.specs.Requests.{Request, first_of}

@@ -1,7 +1,7 @@
 // Logical sectors one after the other, sealed and opened in memory.
 ghost use Rattle.std.specs.Prelude.{◌≡◌, ℕ, ◌+◌, ◌*◌, ◌≤◌, Ok, Err, MatchResult, OnOk, length, take, drop};
+ghost use Rattle.block_traits.specs.Parts.{parts};
 ghost use Rattle.provider.specs.Attached.{media};
-ghost use Rattle.sealing.specs.Parts.{parts};
 ghost use Rattle.sealing.specs.Sectors.{units};
 ghost use Rattle.bio_queue.specs.Sectors.{opened_data, sealed_sectors};
 

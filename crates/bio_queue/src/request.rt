@@ -2,8 +2,8 @@
 ghost use Rattle.std.specs.Prelude.{◌≡◌, ◌↔◌, ◌+◌, ◌*◌, ◌<◌, ◌≤◌, ◌++◌, ◌∷◌, [], ℕ, List, OnOk, OnErr, IfOk, IsTrue, MatchResult, length, drop, take};
 ghost use Rattle.block_traits.specs.Causes.{Counted};
 ghost use Rattle.block_traits.specs.Disk.{FailsIn, Gives, Logs};
+ghost use Rattle.block_traits.specs.Parts.{parts};
 ghost use Rattle.provider.specs.Attached.{IsKept, media};
-ghost use Rattle.sealing.specs.Parts.{parts};
 ghost use Rattle.sealing.specs.Sectors.{units};
 ghost use Rattle.bio_queue.specs.Owners.{IsMadeFor};
 

@@ -4,4 +4,6 @@ pub mod Images
 pub mod Keeping
 pub mod Logs
 pub mod Overwritten
+pub mod PartLists
 pub mod Props
+pub mod SectorWrites

@@ -1,7 +1,8 @@
 -- What a disk tells of itself, and what a call of it does.
-use Rattle.std.specs.Prelude.{◌≡◌, ℕ, ◌<◌, ◌≤◌, ◌-◌, ◌^◌, List, [], ◌∷◌, length, take, Option, Some, None, Bool, true, false, IsTrue, IsSome}
+use Rattle.std.specs.Prelude.{◌≡◌, ℕ, ◌+◌, ◌<◌, ◌≤◌, ◌-◌, ◌/◌, ◌^◌, List, [], ◌∷◌, length, take, Option, Some, None, Bool, true, false, IsTrue, IsSome}
 use Rattle.block_traits.specs.Causes.{Rose}
 use Rattle.block_traits.specs.Content.{Content, IsContentOf, logged, present}
+use Rattle.block_traits.specs.Parts.{parts}
 use Rattle.block_traits.specs.declared.disk.Event.{Event}
 use Rattle.block_traits.specs.declared.disk.Event.TheVariants.{Write, Flush}
 
@@ -70,6 +71,15 @@ GivesFrom (Some c) n bytes = bytes ≡ present c n
 
 abbrev pub Gives : DiskState → ℕ → List ℕ → Type 0
 Gives d n bytes = GivesFrom d.content n bytes
+
+-- writes of these sectors in order, the first to number n
+abbrev pub writes_from : ℕ → List (List ℕ) → List Event
+writes_from n [] = []
+writes_from n (sector ∷ sectors) = Write n sector ∷ writes_from (n + 1) sectors
+
+-- what a write of whole sectors does: it writes each 512 bytes to a sector, in ascending order, the first to number n
+abbrev pub write_events : ℕ → List ℕ → List Event
+write_events n bytes = writes_from n (parts 512 (length bytes / 512) bytes)
 
 -- the number of the last sector
 abbrev pub last_sector : DiskState → ℕ

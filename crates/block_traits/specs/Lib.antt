@@ -5,4 +5,5 @@ pub mod Crash
 pub mod Disk
 pub mod Moments
 pub mod Overwriting
+pub mod Parts
 pub mod Streams

@@ -1,7 +1,8 @@
 // A disk of 512-byte sectors, by what it had at first and what was done to it since.
-ghost use Rattle.std.specs.Prelude.{◌≡◌, ◌<◌, ◌∷◌, [], OnOk, OnErr, is_some, option_copied};
+ghost use Rattle.std.specs.Prelude.{◌≡◌, ◌+◌, ◌*◌, ◌/◌, ◌%◌, ◌<◌, ◌≤◌, ◌∷◌, [], OnOk, OnErr, is_some, length, option_copied};
 ghost use Rattle.block_traits.specs.Causes.{Counted};
-ghost use Rattle.block_traits.specs.Disk.{DiskState, FailsIn, Gives, IsHistory, Logs};
+ghost use Rattle.block_traits.specs.Disk.{DiskState, FailsIn, Gives, IsHistory, Logs, write_events};
+ghost use Rattle.block_traits.specs.Parts.{part};
 
 /// The content of one sector.
 pub type Sector = [u8; 512];
@@ -18,6 +19,16 @@ pub enum Event {
 /// The device failed.
 #[derive(Clone, Copy, Debug, PartialEq, Eq)]
 pub struct DiskFailed;
+
+/// The sector of this number among bytes.
+pub fn sector_of(bytes: &[u8], j: usize) -> Sector
+    requires { 512 * j + 512 ≤ length bytes.now }
+    ensures { result ≡ part 512 j bytes.now }
+{
+    let mut sector = [0; 512];
+    sector.copy_from_slice(&bytes[512 * j..512 * j + 512]);
+    sector
+}
 
 /// A disk of fewer than 2^44 sectors.
 pub trait Disk: Drop {
@@ -46,6 +57,21 @@ pub trait Disk: Drop {
         ensures err { OnErr result (FailsIn (Event.Write n from.now ∷ []) (state self.old) (state self.new)) }
         ensures unasked { (state self.new).reads ≡ (state self.old).reads };
 
+    /// Writes whole sectors in ascending order, the first to number `first`. Where that failed, some of the first were written
+    /// and no other.
+    fn write_sectors(&mut self, first: u64, from: &[u8]) -> Result<(), DiskFailed>
+        requires whole { length from.now % 512 ≡ 0 }
+        requires inside { first + length from.now / 512 ≤ (state self.old).size }
+        ensures ok { OnOk result (Logs (write_events first from.now) (state self.old) (state self.new)) }
+        ensures err { OnErr result (FailsIn (write_events first from.now) (state self.old) (state self.new)) }
+        ensures unasked { (state self.new).reads ≡ (state self.old).reads }
+    {
+        for j in 0..from.len() / 512 {
+            self.write(first + j as u64, &sector_of(from, j))?;
+        }
+        Ok(())
+    }
+
     /// Makes what was written before last. A failed flush was done or wasn't.
     fn flush(&mut self) -> Result<(), DiskFailed>
         ensures ok { OnOk result (Logs (Event.Flush ∷ []) (state self.old) (state self.new)) }
@@ -72,6 +98,10 @@ impl Disk for Box<dyn Disk> {
 
     fn write(&mut self, n: u64, from: &Sector) -> Result<(), DiskFailed> {
         (**self).write(n, from)
+    }
+
+    fn write_sectors(&mut self, first: u64, from: &[u8]) -> Result<(), DiskFailed> {
+        (**self).write_sectors(first, from)
     }
 
     fn flush(&mut self) -> Result<(), DiskFailed> {

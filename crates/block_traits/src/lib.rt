@@ -16,7 +16,7 @@ mod streams;
 
 pub use byte_list::ByteList;
 pub use cabinet::{Cabinet, LoadFault, StoreFault};
-pub use disk::{Disk, DiskFailed, Event, Sector};
+pub use disk::{Disk, DiskFailed, Event, Sector, sector_of};
 pub use faults::NoMemory;
 pub use laws::{
     crash_image_is_torn, flush_keeps_the_present, kept_values_are_sectors,

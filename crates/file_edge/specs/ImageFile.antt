@@ -1,5 +1,5 @@
 -- What a read of a file answers, how it is held, and what is written to it.
-use Rattle.std.specs.Prelude.{◌≡◌, ◌≤◌, ◌+◌, List, [], ◌∷◌, ℕ, Bool, true, false, Option, None, Some, Result, Ok, Err}
+use Rattle.std.specs.Prelude.{◌≡◌, ◌≤◌, ◌+◌, List, [], ◌∷◌, length, ℕ, Bool, true, false, Option, None, Some, Result, Ok, Err}
 use Rattle.file_edge.specs.Asked.{more}
 
 -- the bytes that were read, if they were
@@ -26,13 +26,13 @@ LeavesFile written None None = Unit {0}
 LeavesFile written (Some old) (Some new) = written new ≡ written old
 LeavesFile written old new = ⊥
 
--- the sector at a byte offset stands before the end that was found
-abbrev pub IsWithin : Option ℕ → ℕ → Type 0
-IsWithin None at = ⊥
-IsWithin (Some end) at = at + 512 ≤ end
+-- so many bytes at a byte offset stand before the end that was found
+abbrev pub IsWithin : Option ℕ → ℕ → ℕ → Type 0
+IsWithin None at count = ⊥
+IsWithin (Some end) at count = at + count ≤ end
 
 module _ {F : Type 0} (ends : F → Option ℕ → Type 0) (writes : F → ℕ → List ℕ → Bool → Type 0) (written : F → Option (List Written)) (at : ℕ) (bytes : List ℕ) (done : Bool) where
-  -- the sector was to be written there, and nothing else
+  -- the bytes were to be written there, all in one, and nothing else
   pub record Puts (old new : F) : Type 0 where
     pub answered : writes old at bytes done
     pub log : written new ≡ more (writing at bytes) (written old)
@@ -42,12 +42,12 @@ module _ {F : Type 0} (ends : F → Option ℕ → Type 0) (writes : F → ℕ �
     pub failed : done ≡ false
     pub log : written new ≡ written old
 
-  -- the sector was to be written where the file still reaches so far
+  -- the bytes were to be written where the file still reaches so far
   pub record WritesWithin (old new : F) : Type 0 where
     pub end : Option ℕ
     pub found : ends old end
-    pub within : IsWithin end at → Puts old new
-    pub behind : (IsWithin end at → ⊥) → PutsNone old new
+    pub within : IsWithin end at (length bytes) → Puts old new
+    pub behind : (IsWithin end at (length bytes) → ⊥) → PutsNone old new
 
   -- the same of a file that is open, which stays open
   abbrev pub WritesFile : Option F → Option F → Type 0

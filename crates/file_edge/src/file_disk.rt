@@ -1,7 +1,7 @@
 // A file, or a device, as a disk.
-ghost use Rattle.std.specs.Prelude.{◌≡◌, ◌<◌, ◌≤◌, ◌^◌, ◌*◌, ◌∷◌, [], IsErr, IsNone, MatchOption, OnErr, OnOk, false, is_err, is_ok, true};
+ghost use Rattle.std.specs.Prelude.{◌≡◌, ◌<◌, ◌≤◌, ◌^◌, ◌+◌, ◌*◌, ◌/◌, ◌%◌, ◌∷◌, [], IsErr, IsNone, MatchOption, OnErr, OnOk, false, is_err, is_ok, length, true};
 ghost use Rattle.block_traits.specs.Causes.{Counted, Rose};
-ghost use Rattle.block_traits.specs.Disk.{FailsIn, Gives, Logs};
+ghost use Rattle.block_traits.specs.Disk.{FailsIn, Gives, Logs, write_events};
 ghost use Rattle.file_edge.specs.ImageFile.{IsHeld, LeavesFile, WritesFile, WritesWithin, read_bytes};
 ghost use Rattle.file_edge.specs.Opening.{AsksImage};
 
@@ -193,13 +193,13 @@ fn is_held<F: ImageFile>(file: &F, changes: bool) -> bool
     true
 }
 
-// Writes a sector, where the file still reaches so far: it may have become shorter, and isn't made longer.
-fn write_within<F: ImageFile>(file: &mut F, at: u64, from: &Sector) -> bool
-    requires { at < 2 ^ 53 }
+// Writes bytes all in one, where the file still reaches so far: it may have become shorter, and isn't made longer.
+fn write_within<F: ImageFile>(file: &mut F, at: u64, from: &[u8]) -> bool
+    requires { at + length from.now ≤ 2 ^ 53 }
     ensures { WritesWithin F.ends F.writes F.written at from.now result file.old file.new }
 {
     match file.end() {
-        Ok(end) => at + 512 <= end && file.write_sector(at, from).is_ok(),
+        Ok(end) => at + from.len() as u64 <= end && file.write_bytes(at, from).is_ok(),
         Err(_) => false,
     }
 }
@@ -244,6 +244,25 @@ impl<F: ImageFile + Drop> Disk for FileDisk<F> {
     {
         if let Some(file) = &mut self.file
             && write_within(file, 512 * n, from)
+        {
+            return Ok(());
+        }
+        Err(self.fail())
+    }
+
+    /// Besides what a disk does: the sectors are one write of the file. Where it became shorter, so that one of them stands
+    /// behind its end, none is written.
+    fn write_sectors(&mut self, first: u64, from: &[u8]) -> Result<(), DiskFailed>
+        requires whole { length from.now % 512 ≡ 0 }
+        requires inside { first + length from.now / 512 ≤ (state_of self.old).size }
+        ensures ok { OnOk result (Logs (write_events first from.now) (state_of self.old) (state_of self.new)) }
+        ensures err { OnErr result (FailsIn (write_events first from.now) (state_of self.old) (state_of self.new)) }
+        ensures unasked { self.new.reads ≡ self.old.reads }
+        ensures placed { WritesFile F.ends F.writes F.written (512 * first) from.now (is_ok result) self.old.file self.new.file }
+        ensures unsynced { self.new.unsynced ≡ self.old.unsynced }
+    {
+        if let Some(file) = &mut self.file
+            && write_within(file, 512 * first, from)
         {
             return Ok(());
         }

@@ -54,8 +54,8 @@ pub trait ImageFile {
         ensures reads { reads self.old at (read_bytes result into.new) }
         ensures written { written self.new ≡ written self.old };
 
-    /// Writes the sector at a byte offset.
-    fn write_sector(&mut self, at: u64, from: &Sector) -> io::Result<()>
+    /// Writes bytes at a byte offset.
+    fn write_bytes(&mut self, at: u64, from: &[u8]) -> io::Result<()>
         ensures writes { writes self.old at from.now (is_ok result) }
         ensures written { written self.new ≡ more (writing at from.now) (written self.old) };
 
@@ -102,7 +102,7 @@ impl ImageFile for File {
         self.read_exact_at(into, at)
     }
 
-    fn write_sector(&mut self, at: u64, from: &Sector) -> io::Result<()> {
+    fn write_bytes(&mut self, at: u64, from: &[u8]) -> io::Result<()> {
         self.write_all_at(from, at)
     }
 

@@ -3,7 +3,7 @@ use Rattle.std.proofs.Common.{◌≡◌, ℕ, zero, suc, ◌+◌, ◌*◌, ◌�
 use Rattle.std.proofs.lemmas.List.{take-take, drop-take, drop-drop, take_at, drop_at, length-take-le}
 use Rattle.std.proofs.lemmas.Slice.{take-put_mid_below}
 use borrow.Rule.Slice.PartMut.{put_mid, post_of}
-use Rattle.sealing.specs.Parts.{parts}
+use Rattle.block_traits.specs.Parts.{parts}
 
 -- one part more
 pub parts-suc : (n : ℕ) (bytes : List ℕ) → parts 512 (suc n) bytes ≡ parts 512 n bytes ++ take 512 (drop (512 * n) bytes) ∷ []

@@ -1,38 +1,9 @@
 -- What is logged sector by sector.
-use Rattle.std.proofs.Common.{◌≡◌, ℕ, suc, ◌+◌, ◌-◌, ◌*◌, ◌<◌, ◌≤◌, List, [], ◌∷◌, ◌++◌, take, drop, sym, ap, ◌∙◌, arith}
+use Rattle.std.proofs.Common.{◌≡◌, ℕ, suc, ◌+◌, ◌-◌, ◌*◌, ◌<◌, ◌≤◌, List, [], ◌++◌, take, drop, sym, ap, ◌∙◌, arith}
 use Rattle.std.proofs.lemmas.List.{drop-drop}
 use Rattle.block_traits.specs.declared.disk.Event.{Event}
-use Rattle.block_traits.specs.declared.disk.Event.TheVariants.{Write}
 use Rattle.eli_base.specs.Keying.{Keying}
-use Rattle.sealing.specs.Parts.{parts}
-use Rattle.provider.specs.Writing.{writes_from, sector_writes, data_writes}
-
--- the writes of the device sectors from the j-th of n on
-pub unit_writes : ℕ → ℕ → List ℕ → ℕ → List Event
-unit_writes first n bytes j = writes_from (first + j) (parts 512 (n - j) (drop (512 * j) bytes))
-
-pub unit_writes-start : (first n : ℕ) (bytes : List ℕ) → unit_writes first n bytes 0 ≡ writes_from first (parts 512 n bytes)
-unfolding unit_writes
-unit_writes-start first n bytes =
-    let at : first + 0 ≡ first = omega arith in
-    let left : n - 0 ≡ n = omega arith in
-    λ i. writes_from (at i) (parts 512 (left i) bytes)
-
-pub unit_writes-next : (first n : ℕ) (bytes : List ℕ) (j : ℕ) → j < n → unit_writes first n bytes j ≡ Write (first + j) (take 512 (drop (512 * j) bytes)) ∷ unit_writes first n bytes (j + 1)
-unfolding unit_writes
-unit_writes-next first n bytes j more =
-    let left : n - j ≡ suc (n - (j + 1)) = omega arith in
-    let at : first + j + 1 ≡ first + (j + 1) = omega arith in
-    let place : 512 * j + 512 ≡ 512 * (j + 1) = omega arith in
-    let behind : drop 512 (drop (512 * j) bytes) ≡ drop (512 * (j + 1)) bytes = drop-drop 512 (512 * j) bytes ∙ ap (λ (m : ℕ). drop m bytes) place in
-    ap (λ (m : ℕ). writes_from (first + j) (parts 512 m (drop (512 * j) bytes))) left
-    ∙ (λ i. Write (first + j) (take 512 (drop (512 * j) bytes)) ∷ writes_from (at i) (parts 512 (n - (j + 1)) (behind i)))
-
-pub unit_writes-end : (first n : ℕ) (bytes : List ℕ) (j : ℕ) → n ≤ j → unit_writes first n bytes j ≡ []
-unfolding unit_writes
-unit_writes-end first n bytes j none =
-    let left : n - j ≡ 0 = omega arith in
-    ap (λ (m : ℕ). writes_from (first + j) (parts 512 m (drop (512 * j) bytes))) left
+use Rattle.provider.specs.Writing.{sector_writes, data_writes}
 
 -- the writes of the logical sectors from the i-th of so many on
 pub run_writes : Keying → ℕ → ℕ → ℕ → List ℕ → ℕ → List Event

@@ -4,15 +4,15 @@ use Rattle.std.proofs.Math.Nat.{mul-le-mul_right, div-mul-le_self}
 use Rattle.std.proofs.Math.Seq.{take-suc}
 use Rattle.std.proofs.lemmas.List.{take_all, take_min, length-drop}
 use borrow.Rule.Slice.PartMut.{put_mid}
+use Rattle.block_traits.specs.Parts.{part, parts}
+use Rattle.block_traits.proofs.PartLists.{get_or-parts, length-parts}
 use Rattle.eli_base.specs.declared.algorithms.Auth.{Auth}
 use Rattle.eli_base.specs.declared.algorithms.Auth.TheVariants.{Off}
 use Rattle.eli_base.specs.Keying.{Keying}
 use Rattle.eli_base.specs.Units.{media_sectors, unit_bytes_of}
 use Rattle.eli_base.proofs.Units.{units_reach}
-use Rattle.sealing.specs.Parts.{part, parts}
 use Rattle.sealing.specs.Pieces.{opened_piece, sealed_piece}
 use Rattle.sealing.specs.Sectors.{device_sectors, joined, reading, seal, unit_readings, units}
-use Rattle.sealing.proofs.PartLists.{get_or-parts, length-parts}
 use Rattle.sealing.proofs.Pieces.{length-unit_readings-tagged, sealed_unit-tagged, unit_reading-tagged}
 use Rattle.sealing.proofs.Sectors.{length-seal}
 use Rattle.provider.proofs.Cuts.{parts-put}

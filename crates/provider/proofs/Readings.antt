@@ -4,8 +4,8 @@ use Rattle.std.proofs.lemmas.Slice.{take-put_mid}
 use borrow.Rule.Slice.PartMut.{put_mid}
 use Rattle.block_traits.specs.Content.{Content, present}
 use Rattle.block_traits.specs.Disk.{GivesFrom}
+use Rattle.block_traits.specs.Parts.{parts}
 use Rattle.eli_base.specs.Keying.{Keying}
-use Rattle.sealing.specs.Parts.{parts}
 use Rattle.sealing.specs.Sectors.{before, joined}
 use Rattle.provider.specs.Reading.{standing, StandFrom, sector_reading, sector_readings, ReadsFrom}
 use Rattle.provider.proofs.Cuts.{parts-put}

@@ -1,14 +1,9 @@
 -- What a write of logical sectors does to the disk.
-use Rattle.std.specs.Prelude.{ℕ, zero, suc, ◌+◌, ◌*◌, List, [], ◌∷◌, ◌++◌, take, drop}
+use Rattle.std.specs.Prelude.{ℕ, zero, suc, ◌+◌, ◌*◌, List, [], ◌++◌, take, drop}
 use Rattle.block_traits.specs.declared.disk.Event.{Event}
-use Rattle.block_traits.specs.declared.disk.Event.TheVariants.{Write}
+use Rattle.block_traits.specs.Disk.{writes_from}
 use Rattle.eli_base.specs.Keying.{Keying}
 use Rattle.sealing.specs.Sectors.{seal, units}
-
--- writes of these device sectors in order, the first to number n
-abbrev pub writes_from : ℕ → List (List ℕ) → List Event
-writes_from n [] = []
-writes_from n (sector ∷ sectors) = Write n sector ∷ writes_from (n + 1) sectors
 
 -- the writes of one logical sector with these plain bytes: the device sectors that it is sealed to, in ascending order
 abbrev pub sector_writes : Keying → ℕ → List ℕ → List Event

@@ -10,7 +10,7 @@ ghost use Rattle.provider.specs.Writing.{data_writes, sector_writes};
 
 use crate::ReadFault;
 use crate::pieces::{read_pieces, write_pieces};
-use crate::units::{read_units, write_units};
+use crate::units::read_units;
 use block_traits::{Disk, DiskFailed};
 use eli_base::Auth;
 use plain_sectors::{open_plain, seal_plain};
@@ -106,7 +106,7 @@ fn write_whole<D: Disk>(
     let size = from.len() as u64;
     buffer.copy_from_slice(from);
     seal_plain(ring, sector * size, buffer);
-    write_units(disk, sector * (size / 512), buffer)
+    disk.write_sectors(sector * (size / 512), buffer)
 }
 
 // Writes one logical sector. Without authentication it is sealed in `buffer`, which has its size.

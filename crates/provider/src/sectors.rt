@@ -5,9 +5,8 @@ ghost use Rattle.sealing.specs.Sectors.{device_sectors, reading, seal, units};
 
 use crate::BadUnit;
 use crate::pieces::unit_end;
-use crate::units::unit_of;
 use auth_sectors::{open_piece, seal_piece};
-use block_traits::Sector;
+use block_traits::{Sector, sector_of};
 use eli_base::Auth;
 use plain_sectors::{open_plain, seal_plain};
 use range_keys::KeyRing;
@@ -87,7 +86,7 @@ fn open_pieces(
     for j in 0..count {
         let end = unit_end(out.len(), start, width);
         let offset = 512 * (first + j as u64);
-        match open_piece(ring, offset, &unit_of(device, j), &mut out[start..end]) {
+        match open_piece(ring, offset, &sector_of(device, j), &mut out[start..end]) {
             Ok(()) => start = end,
             Err(_) => return Err(BadUnit { offset }),
         }

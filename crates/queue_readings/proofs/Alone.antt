@@ -5,14 +5,14 @@ use Rattle.std.proofs.Math.Seq.{drop-cons}
 use Rattle.std.proofs.lemmas.Bool.{eqb-true, eq-eqb}
 use Rattle.std.proofs.lemmas.List.{take_at, drop_at, drop_all}
 use Rattle.block_traits.specs.Content.{Content, present}
-use Rattle.block_traits.specs.Disk.{DiskState, GivesFrom, Logs}
+use Rattle.block_traits.specs.Disk.{DiskState, GivesFrom, Logs, writes_from}
 use Rattle.block_traits.specs.declared.disk.Event.{Event}
 use Rattle.block_traits.specs.declared.disk.Event.TheVariants as event
 use Rattle.block_traits.proofs.Logs.{Logs-nothing, Logs-then, content-Logs}
 use Rattle.eli_base.specs.Keying.{Keying}
 use Rattle.provider.specs.Attached.{media}
 use Rattle.provider.specs.Reading.{ReadsFrom, StandFrom, sector_readings, standing}
-use Rattle.provider.specs.Writing.{data_writes, sector_writes, writes_from}
+use Rattle.provider.specs.Writing.{data_writes, sector_writes}
 use Rattle.range_keys.specs.Ring.{IsKeying}
 use Rattle.sealing.specs.Sectors.{joined, reading, seal, units}
 use Rattle.sealing.proofs.Sectors.{length-seal}

@@ -6,11 +6,11 @@ use Rattle.aes_core.specs.Aes.{xor, decrypt}
 use Rattle.aes_core.specs.Blocks.{block, blocks}
 use Rattle.aes_core.specs.Schedule.{IsKeyLength}
 use Rattle.aes_core.proofs.BlockLists.{AreBlocks, blocks-same}
+use Rattle.block_traits.proofs.PartLists.{part}
 use Rattle.xts_mode.specs.Xts.{tweak_at, first_tweak, masked, xts_open}
 use Rattle.sealing.proofs.Runs.{length-decrypt, length-masked}
 use Rattle.cbc_mode.specs.Cbc.{opened, cbc_open}
 use Rattle.cbc_mode.proofs.Chain.{block_before-start, block_before-more}
-use Rattle.sealing.proofs.PartLists.{part}
 use Rattle.readings.proofs.PartLists.{same_block, part-blocks, part-blocks_rest}
 
 -- where two lists have the same blocks in a part, f of their blocks gives the same part

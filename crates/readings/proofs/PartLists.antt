@@ -6,7 +6,7 @@ use Rattle.std.specs.List.{concat}
 use Rattle.aes_core.specs.Blocks.{block, blocks}
 use Rattle.aes_core.proofs.BlockLists.{AreBlocks, length-blocks, block-blocks, blocks-same, blocks-block}
 use Rattle.block_traits.specs.Content.{IsSector}
-use Rattle.sealing.proofs.PartLists.{part, length-part}
+use Rattle.block_traits.proofs.PartLists.{part, length-part}
 
 -- sectors one after the other, of which each is a part again
 pub length-concat_sectors : (sectors : List (List ℕ)) → All IsSector sectors → length (concat sectors) ≡ 512 * length sectors

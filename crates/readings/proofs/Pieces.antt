@@ -10,10 +10,10 @@ use Rattle.eli_base.specs.declared.algorithms.Cipher.TheVariants.{AesCbc, AesXts
 use Rattle.eli_base.specs.Keying.{Keying}
 use Rattle.eli_base.specs.Units.{unit_bytes_of}
 use Rattle.aes_core.proofs.KeyBytes.{AreBytes-chunk}
+use Rattle.block_traits.proofs.PartLists.{part}
 use Rattle.range_keys.specs.Ring.{IsKeying}
 use Rattle.sealing.specs.Pieces.{opened_piece}
 use Rattle.sealing.specs.Sectors.{units}
-use Rattle.sealing.proofs.PartLists.{part}
 use Rattle.sealing.proofs.Pieces.{opened_piece-sealed, unit_reading-tagged}
 use Rattle.sealing.proofs.Sectors.{length-unit, blocks_of_unit}
 use Rattle.readings.specs.Writings.{PutUnit, Writing, Raw, IsPut, IsWriting, AreWritings, device_bytes, all_device_bytes, plain_bytes}

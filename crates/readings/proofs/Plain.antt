@@ -4,6 +4,8 @@ use Rattle.std.proofs.lemmas.Bool.{and_from, cases_Bool, eqb-true, lt-ltb}
 use Rattle.std.proofs.lemmas.List.{get_or-map, length-map}
 use Rattle.std.proofs.lemmas.List.Elements.{All-get_or, Contains-get_or}
 use Rattle.std.specs.List.{concat}
+use Rattle.block_traits.specs.Parts.{parts}
+use Rattle.block_traits.proofs.PartLists.{part, length-parts, get_or-parts}
 use Rattle.eli_base.specs.declared.algorithms.Auth.{Auth}
 use Rattle.eli_base.specs.declared.algorithms.Auth.TheVariants.{Off}
 use Rattle.eli_base.specs.declared.algorithms.Cipher.{Cipher}
@@ -11,7 +13,6 @@ use Rattle.eli_base.specs.declared.algorithms.Cipher.TheVariants.{AesCbc, AesXts
 use Rattle.eli_base.specs.Keying.{Keying}
 use Rattle.range_keys.specs.Keys.{first_key, second_key, iv, tweak}
 use Rattle.range_keys.specs.Ring.{IsKeying}
-use Rattle.sealing.specs.Parts.{parts}
 use Rattle.sealing.specs.Runs.{opened_by, sealed_run, opened_run}
 use Rattle.sealing.specs.Sectors.{units, opened_with}
 use Rattle.sealing.proofs.Plain.{units_fill}
@@ -19,7 +20,6 @@ use Rattle.readings.specs.Writings.{PutUnit, Writing, Put, Raw, IsPut, IsWriting
 use Rattle.readings.specs.Read.{Matches, matching, writing_in, opened_unit, are_chained, is_of_write, loses_front, unit_from, read_unit}
 use Rattle.sealing.proofs.Keys.{IsKey-first_key, IsState-iv}
 use Rattle.sealing.proofs.Runs.{length-sealed_run, opened-sealed_run}
-use Rattle.sealing.proofs.PartLists.{part, length-parts, get_or-parts}
 use Rattle.readings.proofs.PartLists.{length-concat_sectors, part-concat}
 use Rattle.readings.proofs.Local.{xts_open-part, cbc_open-part, cbc_open-rest}
 use Rattle.readings.proofs.Matching.{matching-cases}

@@ -7,13 +7,13 @@ use Rattle.eli_base.specs.declared.algorithms.Auth.TheVariants.{Off}
 use Rattle.eli_base.specs.Keying.{Keying}
 use Rattle.eli_base.proofs.Units.{off_or_not}
 use Rattle.range_keys.specs.Ring.{IsKeying}
-use Rattle.sealing.specs.Parts.{parts}
 use Rattle.sealing.specs.Runs.{opened_run}
 use Rattle.sealing.specs.Sectors.{units, opened_with, unit_readings}
 use Rattle.std.specs.List.{concat}
+use Rattle.block_traits.specs.Parts.{parts}
+use Rattle.block_traits.proofs.PartLists.{length-parts}
 use Rattle.readings.specs.Writings.{Writing, AreWritings, device_bytes, all_device_bytes}
 use Rattle.readings.specs.Read.{read_unit, read}
-use Rattle.sealing.proofs.PartLists.{length-parts}
 use Rattle.readings.proofs.Plain.{opened_unit-plain}
 use Rattle.sealing.proofs.Pieces.{length-unit_readings-tagged}
 use Rattle.readings.proofs.Pieces.{opened_unit-tagged}

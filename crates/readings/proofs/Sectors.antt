@@ -6,10 +6,10 @@ use Rattle.eli_base.specs.declared.algorithms.Auth.TheVariants.{Off}
 use Rattle.eli_base.specs.Keying.{Keying}
 use Rattle.eli_base.specs.Units.{unit_bytes_of}
 use Rattle.block_traits.specs.Content.{IsSector}
+use Rattle.block_traits.proofs.PartLists.{part, get_or-parts}
 use Rattle.sealing.specs.Runs.{sealed_run}
 use Rattle.sealing.specs.Pieces.{sealed_piece}
 use Rattle.sealing.specs.Sectors.{units, units_in, seal}
-use Rattle.sealing.proofs.PartLists.{part, get_or-parts}
 use Rattle.sealing.proofs.Pieces.{sealed_unit-tagged}
 use Rattle.sealing.proofs.Sectors.{length-sealed_unit, sealed_unit-off}
 use Rattle.readings.specs.Writings.{PutUnit, Writing, Put, Raw, IsWriting, device_bytes, all_device_bytes, plain_bytes}

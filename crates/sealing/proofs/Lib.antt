@@ -1,4 +1,4 @@
-pub mod PartLists
+pub mod Joined
 pub mod Plain
 pub mod Keys
 pub mod Runs

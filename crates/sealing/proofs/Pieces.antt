@@ -7,6 +7,7 @@ use Rattle.std.specs.List.{range_with_len}
 use Rattle.std.proofs.lemmas.Nat.{mod-mul-add}
 use Rattle.std.proofs.lemmas.Slice.Eq.{bytes_eq-Decides}
 use Rattle.aes_core.specs.Schedule.{AreBytes}
+use Rattle.block_traits.specs.Parts.{part}
 use Rattle.eli_base.specs.declared.algorithms.Auth.{Auth}
 use Rattle.eli_base.specs.declared.algorithms.Auth.TheVariants.{Off, Sha256, Sha384, Sha512}
 use Rattle.eli_base.specs.Keying.{Keying}
@@ -19,7 +20,6 @@ use Rattle.sealing.specs.Pieces.{tag_of, tagged, sealed_piece, kept_tag, cipher_
 use Rattle.sealing.specs.Sectors.{units, unit_place, unit_size, sealed_unit, seal, sealed_with, unit_reading, opened_with, unit_readings, piece_reading}
 use Rattle.sealing.proofs.Keys.{length-hmac_of}
 use Rattle.sealing.proofs.Runs.{length-sealed_run, opened-sealed_run}
-use Rattle.sealing.specs.Parts.{part}
 
 -- ---- one piece
 

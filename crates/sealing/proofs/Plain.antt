@@ -2,13 +2,14 @@
 use Rattle.std.proofs.Common.{◌≡◌, ℕ, ◌+◌, ◌-◌, ◌*◌, ◌/◌, ◌%◌, ◌≤◌, List, length, Ok, ap, ◌∙◌, arith, mul_comm}
 use Rattle.std.proofs.Math.Nat.{div-add-mod}
 use Rattle.std.specs.List.{concat}
+use Rattle.block_traits.proofs.PartLists.{concat-parts}
 use Rattle.eli_base.specs.declared.algorithms.Auth.{Auth}
 use Rattle.eli_base.specs.declared.algorithms.Auth.TheVariants.{Off}
 use Rattle.eli_base.specs.Keying.{Keying}
 use Rattle.eli_base.specs.Units.{units_per_sector}
 use Rattle.sealing.specs.Runs.{sealed_run, opened_run}
 use Rattle.sealing.specs.Sectors.{units, device_sectors, sealed_with, seal, opened_with, joined, reading}
-use Rattle.sealing.proofs.PartLists.{concat-parts, joined-ok}
+use Rattle.sealing.proofs.Joined.{joined-ok}
 
 -- a place that is a multiple of the sector size is that of the sector with its quotient
 pub at_sector : (offset size : ℕ) → offset % size ≡ 0 → offset / size * size ≡ offset

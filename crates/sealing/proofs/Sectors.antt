@@ -5,17 +5,18 @@ use Rattle.std.proofs.lemmas.List.Elements.{All-from_get_or}
 use Rattle.std.specs.List.{concat}
 use Rattle.aes_core.specs.Schedule.{AreBytes}
 use Rattle.aes_core.proofs.KeyBytes.{AreBytes-chunk}
+use Rattle.block_traits.specs.Parts.{parts}
+use Rattle.block_traits.proofs.PartLists.{part, length-part, length-parts, get_or-parts, concat-parts}
 use Rattle.eli_base.specs.declared.algorithms.Auth.{Auth}
 use Rattle.eli_base.specs.declared.algorithms.Auth.TheVariants.{Off}
 use Rattle.eli_base.specs.Keying.{Keying}
 use Rattle.eli_base.specs.Units.{unit_bytes_of}
 use Rattle.eli_base.proofs.Units.{off_or_not, unit_whole, units_reach}
 use Rattle.range_keys.specs.Ring.{IsKeying}
-use Rattle.sealing.specs.Parts.{parts}
 use Rattle.sealing.specs.Runs.{sealed_run, opened_run}
 use Rattle.sealing.specs.Sectors.{units, units_in, seal, sealed_with, opened_with, unit_readings, joined, reading}
 use Rattle.sealing.specs.Pieces.{opened_piece}
-use Rattle.sealing.proofs.PartLists.{part, length-part, length-parts, get_or-parts, concat-parts, joined-ok}
+use Rattle.sealing.proofs.Joined.{joined-ok}
 use Rattle.sealing.proofs.Pieces.{length-tagged, length-seal-tagged, sealed_unit-tagged, opened_piece-sealed, length-unit_readings-tagged, unit_reading-tagged}
 use Rattle.sealing.proofs.Plain.{units_fill}
 use Rattle.sealing.proofs.Runs.{length-sealed_run, opened-sealed_run}

@@ -1,11 +1,11 @@
 -- Logical sectors of 512 bytes under AES-XTS, each of which is one device sector.
 use Rattle.std.proofs.Common.{◌≡◌, ℕ, ◌*◌, List, [], ◌∷◌, length, Ok, ap, ◌∙◌, arith}
 use Rattle.std.proofs.lemmas.List.{take_all, append-nil}
+use Rattle.block_traits.specs.Parts.{parts}
 use Rattle.eli_base.specs.declared.algorithms.Cipher.{Cipher}
 use Rattle.eli_base.specs.Keying.{Keying}
 use Rattle.range_keys.specs.Keys.{first_key, second_key, tweak}
 use Rattle.range_keys.specs.Ring.{IsKeying}
-use Rattle.sealing.specs.Parts.{parts}
 use Rattle.sealing.specs.Runs.{sealed_by, opened_by}
 use Rattle.sealing.specs.Sectors.{units, seal, reading, IsSingle}
 use Rattle.sealing.proofs.Keys.{IsKey-first_key}

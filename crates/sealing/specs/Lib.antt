@@ -1,4 +1,3 @@
-pub mod Parts
 pub mod Runs
 pub mod Pieces
 pub mod Sectors

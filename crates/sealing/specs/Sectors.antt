@@ -2,12 +2,12 @@
 -- Its units are the parts that stand in one device sector each.
 use Rattle.std.specs.Prelude.{◌≡◌, ℕ, ◌+◌, ◌-◌, ◌*◌, ◌%◌, List, [], ◌∷◌, ◌++◌, length, map, get_or, min, Result, Ok, Err}
 use Rattle.std.specs.List.{concat, range_with_len}
+use Rattle.block_traits.specs.Parts.{part, parts}
 use Rattle.eli_base.specs.declared.algorithms.Auth.{Auth}
 use Rattle.eli_base.specs.declared.algorithms.Auth.TheVariants.{Off}
 use Rattle.eli_base.specs.declared.algorithms.Cipher.TheVariants.{AesXts}
 use Rattle.eli_base.specs.Keying.{Keying}
 use Rattle.eli_base.specs.Units.{units_per_sector, unit_bytes_of}
-use Rattle.sealing.specs.Parts.{part, parts}
 use Rattle.sealing.specs.Runs.{sealed_run, opened_run}
 use Rattle.sealing.specs.Pieces.{sealed_piece, opened_piece}
 

@@ -1,5 +1,5 @@
 use Rattle.std.proofs.Common.{◌≡◌, ◌*◌, drop, take, Ok}
-use Rattle.sealing.specs.Parts.{parts}
+use Rattle.block_traits.specs.Parts.{parts}
 use Rattle.sealing.specs.Sectors.{units}
 use Rattle.bio_queue.specs.Sectors.{opened_data}
 use Rattle.bio_queue.proofs.opening.open_all.Given as goal

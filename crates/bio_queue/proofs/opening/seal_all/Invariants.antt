@@ -1,5 +1,5 @@
 use Rattle.std.proofs.Common.{◌≡◌, ◌*◌}
-use Rattle.sealing.specs.Parts.{parts}
+use Rattle.block_traits.specs.Parts.{parts}
 use Rattle.sealing.specs.Sectors.{units}
 use Rattle.bio_queue.specs.Sectors.{sealed_sectors}
 use Rattle.bio_queue.proofs.opening.seal_all.Given as goal

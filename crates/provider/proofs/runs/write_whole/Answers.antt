@@ -15,8 +15,8 @@ returns-clause-ok g c =
     let long : length c.seal_plain.new.block ≡ length c.args.from.now = omega arith in
     let is = sector_writes-is c.args.ring.now.keying c.args.sector (length c.args.from.now) c.args.from.now c.copy_from_slice.new.self c.seal_plain.new.block
     c.requires.off same some c.is_of_a_keying.ensures.whole c.copy_from_slice.ensures.after c.seal_plain.ensures.sealed long in
-    let P : List Event → Type 0 = λ events. Logs events (state c.args.disk.now) (state c.write_units.new.disk) in
-    on_ok_weaker c.write_units.result (subst P is) c.write_units.ensures.ok
+    let P : List Event → Type 0 = λ events. Logs events (state c.args.disk.now) (state c.write_sectors.new.self) in
+    on_ok_weaker c.write_sectors.result (subst P is) c.write_sectors.ensures.ok
 
 pub returns-clause-err : goal.returns-clause-err
 returns-clause-err g c =
@@ -26,8 +26,8 @@ returns-clause-err g c =
     let long : length c.seal_plain.new.block ≡ length c.args.from.now = omega arith in
     let is = sector_writes-is c.args.ring.now.keying c.args.sector (length c.args.from.now) c.args.from.now c.copy_from_slice.new.self c.seal_plain.new.block
     c.requires.off same some c.is_of_a_keying.ensures.whole c.copy_from_slice.ensures.after c.seal_plain.ensures.sealed long in
-    let P : List Event → Type 0 = λ events. FailsIn events (state c.args.disk.now) (state c.write_units.new.disk) in
-    on_err_weaker c.write_units.result (subst P is) c.write_units.ensures.err
+    let P : List Event → Type 0 = λ events. FailsIn events (state c.args.disk.now) (state c.write_sectors.new.self) in
+    on_err_weaker c.write_sectors.result (subst P is) c.write_sectors.ensures.err
 
 pub overflow_mul-sector-2 : goal.overflow_mul-sector-2
 overflow_mul-sector-2 g c =

@@ -23,8 +23,8 @@ loop-j-preserved c =
     record {
       keying = c.in-Ok.ensures.keying ∙ before.keying;
       start = here.unit.next ∙ ap (min (unit_bytes_of k.auth * (j + 1))) (sym c.requires.out);
-      opened = opened_next k c.loop-j.ring.keying c.args.sector j n _ start end c.args.device.now c.loop-j.out c.open_piece.new.out c.unit_of.result c.requires.on before.keying here.below at bytes here.unit
-          (omega (arith, c.requires.out)) (omega (arith, bytes, c.open_piece.auto.out)) c.unit_of.ensures before.opened c.in-Ok.ensures.opened;
+      opened = opened_next k c.loop-j.ring.keying c.args.sector j n _ start end c.args.device.now c.loop-j.out c.open_piece.new.out c.sector_of.result c.requires.on before.keying here.below at bytes here.unit
+          (omega (arith, c.requires.out)) (omega (arith, bytes, c.open_piece.auto.out)) c.sector_of.ensures before.opened c.in-Ok.ensures.opened;
     }
 
 pub returns-in-Err-clause-opened : goal.returns-in-Err-clause-opened
@@ -42,7 +42,7 @@ returns-in-Err-clause-opened c =
     let order = here.unit.order in
     let within = here.unit.within in
     let bytes : length (take (end - start) (drop start c.loop-j.out)) ≡ end - start = length-between start end c.loop-j.out order (omega (arith, c.requires.out)) in
-    opened_fault k c.loop-j.ring.keying c.args.sector j n _ start end c.args.device.now c.loop-j.out c.unit_of.result c.requires.on before.keying here.below at bytes here.unit c.unit_of.ensures before.opened c.in-Err.ensures.opened
+    opened_fault k c.loop-j.ring.keying c.args.sector j n _ start end c.args.device.now c.loop-j.out c.sector_of.result c.requires.on before.keying here.below at bytes here.unit c.sector_of.ensures before.opened c.in-Err.ensures.opened
 
 pub returns-clause-opened : goal.returns-clause-opened
 returns-clause-opened c =

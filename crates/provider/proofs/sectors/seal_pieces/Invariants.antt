@@ -1,6 +1,6 @@
 use Rattle.std.proofs.Common.{◌≡◌, ◌*◌, length, min, take}
+use Rattle.block_traits.specs.Parts.{parts}
 use Rattle.eli_base.specs.Units.{unit_bytes_of}
-use Rattle.sealing.specs.Parts.{parts}
 use Rattle.sealing.specs.Sectors.{seal}
 use Rattle.provider.proofs.sectors.seal_pieces.Given as goal
 

@@ -1,7 +1,7 @@
 use Rattle.std.proofs.Common.{[]}
 use Rattle.block_traits.specs.Causes.{Counted}
 use Rattle.block_traits.specs.Disk.{Logs}
-use Rattle.sealing.specs.Parts.{parts}
+use Rattle.block_traits.specs.Parts.{parts}
 use Rattle.provider.specs.Reading.{StandFrom}
 use Rattle.provider.proofs.units.read_units.Given as goal
 

@@ -1,8 +1,8 @@
 use Rattle.std.proofs.Common.{◌∙◌, sym, ap, ◌*◌}
+use Rattle.block_traits.proofs.PartLists.{get_or-parts}
 use Rattle.eli_base.specs.Units.{unit_bytes_of}
 use Rattle.sealing.specs.Pieces.{sealed_piece}
 use Rattle.sealing.specs.Sectors.{unit_place, units}
-use Rattle.sealing.proofs.PartLists.{get_or-parts}
 use Rattle.sealing.proofs.Pieces.{sealed_unit-place, unit_reading-piece}
 use Rattle.sealing.proofs.laws.tagged_units_stand_alone.Goals as goal
 

@@ -1,10 +1,10 @@
 use Rattle.std.proofs.Common.{◌*◌, List, ℕ, ap, ◌∙◌, sym, subst, arith}
+use Rattle.block_traits.specs.Parts.{parts}
 use Rattle.bio_queue.specs.Answers.{Gave, IsOfProvider}
 use Rattle.bio_queue.specs.Requests.{Request}
 use Rattle.bio_queue.specs.declared.job.Job.{Job}
 use Rattle.bio_queue.specs.declared.job.Reaped.TheVariants.{Bytes}
 use Rattle.provider.specs.Attached.{Attached, media}
-use Rattle.sealing.specs.Parts.{parts}
 use Rattle.sealing.specs.Sectors.{units}
 use Rattle.bio_queue.specs.Sectors.{opened_data}
 use Rattle.bio_queue.proofs.Held.{gave-read}

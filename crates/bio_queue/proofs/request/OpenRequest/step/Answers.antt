@@ -2,7 +2,7 @@ use Rattle.std.proofs.Common.{◌≡◌, ◌+◌, ◌*◌, ◌++◌, ◌∷◌, 
 use Rattle.block_traits.specs.Disk.{FailsIn}
 use Rattle.block_traits.specs.declared.disk.Event.{Event}
 use Rattle.std.proofs.lemmas.List.{take_at}
-use Rattle.sealing.specs.Parts.{parts}
+use Rattle.block_traits.specs.Parts.{parts}
 use Rattle.provider.proofs.UnitLists.{on_err_so}
 use Rattle.bio_queue.specs.Requests.{Request, step_events}
 use Rattle.bio_queue.specs.declared.request.OpenRequest.TheInside.{Inside}

@@ -1,6 +1,6 @@
 use Rattle.std.proofs.Common.{◌≡◌, ◌*◌, length, sym, ap, ◌∙◌, arith}
 use Rattle.std.specs.List.{concat}
-use Rattle.sealing.proofs.PartLists.{concat-parts}
+use Rattle.block_traits.proofs.PartLists.{concat-parts}
 use Rattle.sealing.specs.Sectors.{seal, units}
 use Rattle.provider.proofs.InMemory.{sector_inside}
 use Rattle.provider.proofs.provider.Provider.seal_into.Goals as goal

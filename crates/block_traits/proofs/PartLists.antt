@@ -1,10 +1,9 @@
--- A list in parts is the list again, and so are parts that are read one after the other.
-use Rattle.std.proofs.Common.{◌≡◌, ℕ, zero, suc, ◌+◌, ◌*◌, ◌<◌, ◌≤◌, List, [], ◌∷◌, ◌++◌, length, get_or, take, take-add, drop, map, Ok, refl, sym, ap, ◌∙◌, arith}
+-- Parts of a list, which one after the other are the list again.
+use Rattle.std.proofs.Common.{◌≡◌, ℕ, zero, suc, ◌+◌, ◌*◌, ◌<◌, ◌≤◌, List, [], ◌++◌, length, get_or, take, take-add, drop, refl, sym, ap, ◌∙◌, arith}
 use Rattle.std.proofs.lemmas.List.{take_all, drop-drop, length-take-le, length-drop}
 use Rattle.std.specs.List.{concat}
-use Rattle.sealing.specs.Parts.{parts}
-pub use Rattle.sealing.specs.Parts.{part}
-use Rattle.sealing.specs.Sectors.{before, joined}
+use Rattle.block_traits.specs.Parts.{parts}
+pub use Rattle.block_traits.specs.Parts.{part}
 
 pub length-parts : (size n : ℕ) (bytes : List ℕ) → length (parts size n bytes) ≡ n
 length-parts size zero bytes = refl
@@ -30,8 +29,3 @@ concat-front size (suc n) bytes =
 
 pub concat-parts : (size n : ℕ) (bytes : List ℕ) → length bytes ≤ size * n → concat (parts size n bytes) ≡ bytes
 concat-parts size n bytes reach = concat-front size n bytes ∙ take_all (size * n) bytes reach
-
--- units without a fault read as their bytes
-pub joined-ok : (units : List (List ℕ)) → joined (map Ok units) ≡ Ok (concat units)
-joined-ok [] = refl
-joined-ok (unit ∷ units) = ap (before unit) (joined-ok units)

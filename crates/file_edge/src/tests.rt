@@ -41,8 +41,18 @@ fn a_file_is_a_disk(rt: HostRuntime) -> Result<(), Fail> {
         assert_eq!(rt; bytes, [7; 512]);
         assert!(rt; disk.read(2, &mut bytes).is_ok());
         assert_eq!(rt; bytes, [3; 512]);
+        let mut run = [4; 1024];
+        assert!(rt; disk.write_sectors(1, &run).is_ok());
+        assert!(rt; disk.read(1, &mut bytes).is_ok());
+        assert_eq!(rt; bytes, [4; 512]);
+        assert!(rt; disk.read(2, &mut bytes).is_ok());
+        assert_eq!(rt; bytes, [4; 512]);
+        run.fill(6);
         let how = OpenOptions::new().write(true).open(&rt, name)?;
         how.set_len(1100)?;
+        assert!(rt; disk.write_sectors(1, &run).is_err());
+        assert!(rt; disk.read(1, &mut bytes).is_ok());
+        assert_eq!(rt; bytes, [4; 512]);
         assert!(rt; disk.write(1, &[5; 512]).is_ok());
         assert!(rt; disk.write(2, &[5; 512]).is_err());
     }

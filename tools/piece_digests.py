@@ -1,9 +1,8 @@
 #!/usr/bin/env python3
-"""The tables of the tests of auth_sectors.
+"""The table of the test of auth_sectors.
 
 For each authentication, cipher and key length: the SHA-256 of the device sectors of pieces of some lengths at some
-byte offsets, one after the other, under the master key with the bytes 0 to 127 and metadata of version 7. And for some
-logical sectors by their number, whose byte i is (7 * i + i / 256) mod 256, the SHA-256 of their device sectors.
+byte offsets, one after the other, under the master key with the bytes 0 to 127 and metadata of version 7.
 """
 import hashlib
 import hmac
@@ -40,25 +39,11 @@ def sealed(base, cipher, bits, number, offset, plain):
     return seal.update(plain) + seal.finalize()
 
 
-def piece(auth, cipher, bits, offset, plain, base=BASE_KEY):
-    """The device sector at a byte offset with these plain bytes; metadata below version 7 have another base."""
-    text = sealed(base, cipher, bits, (offset >> 20) // 512, offset, plain)
+def piece(auth, cipher, bits, offset, plain):
+    """The device sector at a byte offset with these plain bytes."""
+    text = sealed(BASE_KEY, cipher, bits, (offset >> 20) // 512, offset, plain)
     key = hashlib.sha256(AUTH_KEY + struct.pack("<Q", offset)).digest()
     return (hmac.new(key, text, auth.lower()).digest() + text).ljust(512, b"\0")
-
-
-SECTORS = [
-    (7, "Sha256", "AesXts", 128, 512, 0),
-    (7, "Sha256", "AesXts", 256, 4096, 226),
-    (7, "Sha256", "AesCbc", 192, 512, 1),
-    (7, "Sha256", "AesCbc", 256, 65536, 3),
-    (7, "Sha256", "AesXts", 128, 512, 1),
-    (7, "Sha256", "AesCbc", 256, 4096, 2),
-    (7, "Sha256", "AesXts", 256, 4096, 116508),
-    (6, "Sha256", "AesXts", 128, 512, 1),
-    (7, "Sha384", "AesXts", 128, 4096, 2),
-    (7, "Sha512", "AesCbc", 128, 4096, 2),
-]
 
 
 def pieces_digest(auth, cipher, bits):
@@ -70,30 +55,13 @@ def pieces_digest(auth, cipher, bits):
     return digest.hexdigest()
 
 
-def sector_digest(version, auth, cipher, bits, size, number):
-    plain = bytes((7 * i + i // 256) % 256 for i in range(size))
-    data = 512 - TAGS[auth]
-    units = (size - 1) // data + 1
-    digest = hashlib.sha256()
-    for j in range(units):
-        unit = plain[data * j: data * (j + 1)]
-        digest.update(piece(auth, cipher, bits, 512 * (number * units + j), unit, BASE_KEY if version == 7 else IV_KEY))
-    return digest.hexdigest()
-
-
 def main():
     digests = [
         f'(Auth::{auth}, Cipher::{cipher}, {bits}, "{pieces_digest(auth, cipher, bits)}")'
         for auth in TAGS
         for cipher, bits in CIPHERS
     ]
-    sectors = [
-        f'({row[0]}, Auth::{row[1]}, Cipher::{row[2]}, {row[3]}, {row[4]}, {row[5]}, "{sector_digest(*row)}")' for row in SECTORS
-    ]
-    print_or_check(__doc__, MADE_WITH, {
-        ("auth_sectors/src/tests.rt", "DIGESTS"): table(digests),
-        ("auth_sectors/src/tests.rt", "SECTORS"): table(sectors),
-    })
+    print_or_check(__doc__, MADE_WITH, {("auth_sectors/src/tests.rt", "DIGESTS"): table(digests)})
 
 
 if __name__ == "__main__":

@@ -105,6 +105,3 @@ impl SlicedSchedule {
         self.schedule.is_of_a_key();
     }
 }
-
-#[cfg(test)]
-mod tests;

@@ -1,4 +1,4 @@
-//! Sealed pieces by authentication, cipher and place, and pieces with one bit turned.
+//! Sealed pieces by authentication, cipher and place.
 
 use crate::{open_piece, seal_piece};
 use eli_base::{Auth, Cipher, MasterKey, Params, sector_size_ok};
@@ -105,106 +105,9 @@ const DIGESTS: [(Auth, Cipher, u16, &str); 15] = [
 
 const OFFSETS: [u64; 5] = [0, 512, 4_608, 536_870_400, 536_870_912];
 
-/// Each line has a version of the metadata, an authentication, a cipher, the bits of its key, the bytes of a logical sector, its
-/// number, and the digest of its device sectors, by the same script.
-const SECTORS: [(u32, Auth, Cipher, u16, usize, u64, &str); 10] = [
-    (
-        7,
-        Auth::Sha256,
-        Cipher::AesXts,
-        128,
-        512,
-        0,
-        "ad6c1f37f5fd94d765dca84c791772fcab067fa9962bc81e46d761ead82ba162",
-    ),
-    (
-        7,
-        Auth::Sha256,
-        Cipher::AesXts,
-        256,
-        4096,
-        226,
-        "5ed63429d111e15a9445d9de223b7e0c80c98090f988279e4fb257acacf6f27b",
-    ),
-    (
-        7,
-        Auth::Sha256,
-        Cipher::AesCbc,
-        192,
-        512,
-        1,
-        "55446674cfd3681928f61761d3332aaa0a0986297917b4535aec74b022189c7f",
-    ),
-    (
-        7,
-        Auth::Sha256,
-        Cipher::AesCbc,
-        256,
-        65536,
-        3,
-        "ec2eeba98598e8f5e14ececab82fc21abbe90cf19ec27611e3f338c640d7ffd7",
-    ),
-    (
-        7,
-        Auth::Sha256,
-        Cipher::AesXts,
-        128,
-        512,
-        1,
-        "dbdf1fc550d33cb4c63d31e85d2c112e8784e01f1c89953db7b31e145d11df37",
-    ),
-    (
-        7,
-        Auth::Sha256,
-        Cipher::AesCbc,
-        256,
-        4096,
-        2,
-        "1e0f4da576eac4d1960e9a78289bf2d5186cfd7dce3c9e5d04f4a82937e671ee",
-    ),
-    // Its units lie on both sides of the offset where the second range key begins.
-    (
-        7,
-        Auth::Sha256,
-        Cipher::AesXts,
-        256,
-        4096,
-        116_508,
-        "7e58ca813c1df9b7f9184500d433d51c2f7f2be3d2b2553a8a77cbfef6fe53eb",
-    ),
-    (
-        6,
-        Auth::Sha256,
-        Cipher::AesXts,
-        128,
-        512,
-        1,
-        "674cedadef877a7802c70bdd876b02a73b719dd662288f28e6ada7af9c1c2c10",
-    ),
-    (
-        7,
-        Auth::Sha384,
-        Cipher::AesXts,
-        128,
-        4096,
-        2,
-        "475538871fed5d5fbbda2dbb33babb94815ed2fbc62842af03a638dbbe839702",
-    ),
-    (
-        7,
-        Auth::Sha512,
-        Cipher::AesCbc,
-        128,
-        4096,
-        2,
-        "52332922960cf468c9ebeece68bde9a190c31a52aa1066abf0e3ba48af0504e8",
-    ),
-];
-
 fn ring_of(
     rt: &impl Abort,
     alloc: Global,
-    version: u32,
     auth: Auth,
     cipher: Cipher,
     keylen: u16,
@@ -215,9 +118,9 @@ fn ring_of(
     }
     assert!(rt;
         cipher.allows(keylen) && sector_size_ok(4_096),
-        "version {version} {auth:?} {cipher:?} {keylen}"
+        "{auth:?} {cipher:?} {keylen}"
     );
-    let params = Params::new(version, auth, cipher, keylen, 4_096, 0, false);
+    let params = Params::new(7, auth, cipher, keylen, 4_096, 0, false);
     Ok(KeyRing::new(alloc, &MasterKey { bytes }, &params)?)
 }
 
@@ -261,7 +164,7 @@ fn sealed(
 #[test]
 fn sealed_pieces(rt: HostRuntime) -> Result<(), Fail> {
     for (auth, cipher, keylen, expected) in DIGESTS {
-        let mut ring = ring_of(&rt, rt.alloc(), 7, auth, cipher, keylen)?;
+        let mut ring = ring_of(&rt, rt.alloc(), auth, cipher, keylen)?;
         let mut digest = Sha256::new();
         for offset in OFFSETS {
             let plain = plain_bytes(offset);
@@ -272,27 +175,6 @@ fn sealed_pieces(rt: HostRuntime) -> Result<(), Fail> {
         }
         let digest = hex::encode(rt.alloc(), digest.finalize())?;
         assert_eq!(rt; digest.as_str(), expected, "{auth:?} {cipher:?} {keylen}");
-    }
-    for (version, auth, cipher, keylen, size, number, expected) in SECTORS {
-        let mut ring = ring_of(&rt, rt.alloc(), version, auth, cipher, keylen)?;
-        let mut plain = vec![in rt.alloc(); 0u8; size]?;
-        for (i, byte) in plain.iter_mut().enumerate() {
-            *byte = ((7 * (i % 256) + i / 256 % 256) % 256) as u8;
-        }
-        let units = size.div_ceil(auth.data_bytes()) as u64;
-        let mut digest = Sha256::new();
-        for (j, unit) in plain.chunks(auth.data_bytes()).enumerate() {
-            let first = number.checked_mul(units).expect(&rt, "the number is small");
-            assert!(rt; first < 1 << 40 && j < 1 << 10, "{auth:?} {size} {number}");
-            let offset = 512 * (first + j as u64);
-            digest.update(&sealed(&rt, &mut ring, offset, unit)?);
-        }
-        let digest = hex::encode(rt.alloc(), digest.finalize())?;
-        assert_eq!(rt;
-            digest.as_str(),
-            expected,
-            "{version} {auth:?} {cipher:?} {keylen} {size} {number}"
-        );
     }
     Ok(())
 }

@@ -5,8 +5,6 @@
 
 mod restoring;
 mod saving;
-#[cfg(test)]
-mod tests;
 
 pub use restoring::restore;
 pub use saving::backup;

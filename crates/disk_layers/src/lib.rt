@@ -5,8 +5,6 @@ mod concat;
 mod laws;
 mod layer;
 mod provider_disk;
-#[cfg(test)]
-mod tests;
 mod write_behind;
 
 pub use concat::Concat;

@@ -15,6 +15,3 @@ pub use geometry::{GeoFault, Geometry, UnitSpan};
 pub use laws::units_without_authentication;
 pub use parameters::{MasterKey, Params, sector_size_ok};
 pub use refusals::{Reason, Refusal};
-
-#[cfg(test)]
-mod tests;

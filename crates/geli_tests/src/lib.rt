@@ -14,3 +14,5 @@ mod failures;
 mod hashes;
 #[cfg(test)]
 mod metadata;
+#[cfg(test)]
+mod replies;

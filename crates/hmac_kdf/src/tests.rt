@@ -168,16 +168,3 @@ fn published_keys(rt: HostRuntime) -> Result<(), Fail> {
     }
     Ok(())
 }
-
-// An empty key is the block of zeros, and one iteration is the code of the salt and the number 1.
-#[test]
-fn equal_codes(rt: HostRuntime) {
-    let empty = Hmac512::new(b"");
-    let zeros = Hmac512::new(&[0; 64]);
-    assert_eq!(rt; empty.finish(), zeros.finish());
-    let mut out = [0u8; 64];
-    pbkdf2_sha512(b"pass", b"pepper", 1, &mut out);
-    let mut once = Hmac512::new(b"pass");
-    once.update(b"pepper\0\0\0\x01");
-    assert_eq!(rt; once.finish(), out);
-}

@@ -5,8 +5,6 @@
 #![tactic(auto)]
 
 mod delete_keys;
-#[cfg(test)]
-mod key_tests;
 mod laws;
 mod new_provider;
 mod options;
@@ -14,8 +12,6 @@ mod overwriting;
 mod random;
 mod set_key;
 mod storing;
-#[cfg(test)]
-mod tests;
 
 pub use delete_keys::delkey;
 pub use laws::{

@@ -7,8 +7,6 @@
 mod files;
 mod key;
 mod parts;
-#[cfg(test)]
-mod tests;
 
 pub use files::{FILE_LIMIT, load_file};
 pub use key::load_components;

@@ -11,8 +11,6 @@ mod pieces;
 mod provider;
 mod runs;
 mod sectors;
-#[cfg(test)]
-mod tests;
 mod units;
 
 pub use attaching::opened;

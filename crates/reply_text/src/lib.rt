@@ -14,6 +14,3 @@ mod verified;
 pub use print::{WriteEnd, write_text};
 pub use reply::{Reply, write_reply};
 pub use rows::{Row, RowList};
-
-#[cfg(test)]
-mod tests;

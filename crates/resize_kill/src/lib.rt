@@ -6,8 +6,6 @@
 
 mod killing;
 mod resizing;
-#[cfg(test)]
-mod tests;
 mod trash;
 
 pub use killing::kill;

@@ -7,8 +7,6 @@
 mod faults;
 mod laws;
 mod suspended;
-#[cfg(test)]
-mod tests;
 
 pub use faults::ResumeFault;
 pub use laws::{rest_tells_all, resumed_master_is_the_same_or_collides};

@@ -6,8 +6,6 @@
 
 mod laws;
 mod sweeping;
-#[cfg(test)]
-mod tests;
 
 pub use laws::{
     cut_counts_reach_the_end, parts_follow_each_other, parts_list_what_the_whole_lists,

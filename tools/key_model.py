@@ -1,7 +1,8 @@
-"""User keys and wrapped master keys by geli(8) and g_eli.h, for the models of this folder."""
+"""User keys, wrapped master keys and metadata sectors by geli(8) and g_eli.h, for the models of this folder."""
 import hashlib
 import hmac
 import platform
+import struct
 
 import cryptography
 from cryptography.hazmat.primitives.ciphers import Cipher, algorithms, modes
@@ -32,3 +33,11 @@ def wrapped(key, keylen):
     plain = MASTER + hmac512(hmac512(key, b"\0"), MASTER)
     step = Cipher(algorithms.AES(hmac512(key, b"\1")[:keylen // 8]), modes.CBC(bytes(16))).encryptor()
     return step.update(plain) + step.finalize()
+
+
+def sector(flags, ealgo, keylen, aalgo, provsize, sectorsize, keys, iterations, slots):
+    """The sector of metadata of version 7."""
+    head = struct.pack("<16sIIHHHQIBi", b"GEOM::ELI", 7, flags, ealgo, keylen, aalgo, provsize, sectorsize, keys, iterations)
+    meta = head + SALT + slots
+    assert len(meta) == 495
+    return meta + hashlib.md5(meta).digest() + b"\0"

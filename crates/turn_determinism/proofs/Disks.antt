@@ -1,0 +1,232 @@
+-- Steps that read the disk and write it, and those that flush it and change what the drawer does with it.
+use Rattle.std.proofs.Common.{◌≡◌, ◌∙◌, ◌⊎◌, inl, inr, ℕ, ◌+◌, ◌-◌, ◌*◌, ◌≤◌, List, [], ◌∷◌, refl, ap, sym, subst, arith, Option, Some, Result, Ok, Err}
+use Rattle.block_traits.specs.Causes.{Counted, Rose}
+use Rattle.block_traits.specs.Content.{Content, present}
+use Rattle.block_traits.specs.Disk.{DiskState, Logs, last_sector}
+use Rattle.block_traits.specs.declared.disk.Event.{Event}
+use Rattle.block_traits.specs.declared.disk.Event.TheVariants.{Flush}
+use Rattle.eli_base.specs.Keying.{Keying}
+use Rattle.eli_base.specs.declared.refusals.Refusal.{Refusal}
+use Rattle.eli_base.specs.declared.refusals.Refusal.TheVariants as refusals
+use Rattle.eli_metadata.specs.Format.{metadata_in}
+use Rattle.eli_metadata.specs.Place.{ReadsMetadata}
+use Rattle.eli_metadata.specs.Refusals.{read_refusal_of}
+use Rattle.eli_metadata.specs.declared.metadata.Metadata.{Metadata}
+use Rattle.eli_metadata.specs.declared.metadata.MetaFault.{MetaFault}
+use Rattle.eli_metadata.specs.declared.place.ReadMetaFault.{ReadMetaFault}
+use Rattle.eli_metadata.specs.declared.place.ReadMetaFault.TheVariants.{TooSmall, DeviceFault, Meta}
+use Rattle.provider.specs.Reading.{ReadsAs, ReadsFrom, data_reading}
+use Rattle.provider.specs.Writing.{data_writes}
+use Rattle.sealing.specs.Sectors.{units}
+use Rattle.command_rows.specs.Steps.{Detaches, Does, DoesEvents, ReadsLastSector, ReadsSectors, SectorsAnswer, WritesSectors, or_refusal}
+use Rattle.command_rows.specs.Suspending.{Suspends, kept_by}
+use Rattle.command_rows.specs.World.{Attachment, IsSuspended, Reach}
+use Rattle.turn_determinism.specs.Same.{IsSameCount}
+use Rattle.turn_determinism.proofs.Alike.{Alike, AlikeDisk, counted_same, given_by, logs_alike, still_cabinet, still_disk, still_entropy, uncounted_same}
+use Rattle.turn_determinism.proofs.Steps.{Both, Later, Settled, Sure, same_cabinet_later, same_disk_later, same_entropy_later, settled}
+
+-- ---- steps that keep the cabinet and the entropy
+
+pub beside_later : (old new : Reach) → old.disk.faults ≤ new.disk.faults → new.cabinet ≡ old.cabinet → new.entropy ≡ old.entropy → Later old new
+beside_later old new disk cabinet entropy =
+    record { disk = disk; cabinet = same_cabinet_later old.cabinet new.cabinet cabinet; entropy = same_entropy_later old.entropy new.entropy entropy }
+
+pub same_loads : (old old' new new' : Reach) → IsSameCount old.cabinet.loads old'.cabinet.loads → new.cabinet ≡ old.cabinet → new'.cabinet ≡ old'.cabinet → IsSameCount new.cabinet.loads new'.cabinet.loads
+same_loads old old' new new' loads is is' = rw (is, is') loads
+
+-- all but the disk, and what the drawer does with it, stays
+pub beside_settled : {A : Type 0} (old old' : Reach) (answer answer' : Result A Refusal) (new new' : Reach) → (both : Both old old' new new') → answer' ≡ answer → AlikeDisk new.disk new'.disk → new'.holding ≡ new.holding
+    → new.cabinet ≡ old.cabinet → new'.cabinet ≡ old'.cabinet → new.entropy ≡ old.entropy → new'.entropy ≡ old'.entropy → Settled both.counts answer answer' new new'
+beside_settled old old' answer answer' new new' both agrees disk holding cabinet cabinet' entropy entropy' =
+    settled both.counts answer answer' new new' agrees
+    (record {
+      disk = disk;
+      holding = holding;
+      cabinet = still_cabinet old.cabinet old'.cabinet new.cabinet new'.cabinet both.same.cabinet cabinet cabinet';
+      entropy = still_entropy old.entropy old'.entropy new.entropy new'.entropy both.same.entropy entropy entropy';
+    })
+    (λ on. same_loads old old' new new' (both.loads on) cabinet cabinet')
+
+pub same_holding : (old old' new new' : Reach) → Alike old old' → new.holding ≡ old.holding → new'.holding ≡ old'.holding → new'.holding ≡ new.holding
+same_holding old old' new new' same is is' = is' ∙ same.holding ∙ sym is
+
+-- ---- events
+
+pub events_later : (events : List Event) (old : DiskState) (answer : Result (Unit {0}) Refusal) (new : DiskState) → DoesEvents events old answer new → old.faults ≤ new.faults
+events_later events old (Ok done) new h = h.faults
+events_later events old (Err refusals.DeviceFault) new h = h.logs.faults
+events_later events old (Err refusal) new h = absurd h
+
+-- all are logged, where the disk doesn't fail
+pub events_done : (events : List Event) (old : DiskState) (answer : Result (Unit {0}) Refusal) (new : DiskState) → ¬ Rose old.faults new.faults → DoesEvents events old answer new → (answer ≡ Ok tt) × Logs events old new
+events_done events old (Ok done) new quiet h = (refl, h)
+events_done events old (Err refusals.DeviceFault) new quiet h = absurd (quiet h.rose)
+events_done events old (Err refusal) new quiet h = absurd h
+
+-- the same events are done, and nothing is read
+pub events_alike : (events : List Event) (d d' : DiskState) (answer answer' : Result (Unit {0}) Refusal) (e e' : DiskState) → AlikeDisk d d' → ¬ Rose d.faults e.faults → ¬ Rose d'.faults e'.faults
+    → DoesEvents events d answer e → DoesEvents events d' answer' e' → e.reads ≡ d.reads → e'.reads ≡ d'.reads → (answer' ≡ answer) × AlikeDisk e e'
+events_alike events d d' answer answer' e e' same quiet quiet' h h' unasked unasked' =
+    let is = events_done events d answer e quiet h in
+    let is' = events_done events d' answer' e' quiet' h' in
+    (is'.0 ∙ sym is.0, logs_alike events d d' e e' same is.1 is'.1 (uncounted_same same.reads unasked unasked'))
+
+pub does_sure : (events : List Event) → Sure (Does events)
+does_sure events = record {
+  goes = λ old answer new h. beside_later old new (events_later events old.disk answer new.disk h.does) h.outside.cabinet h.outside.entropy;
+  settles = λ old old' answer answer' new new' both memory memory' h h'.
+      let is = events_alike events old.disk old'.disk answer answer' new.disk new'.disk both.same.disk both.quiet.disk both.quiet'.disk h.does h'.does h.unasked h'.unasked in
+      beside_settled old old' answer answer' new new' both is.0 is.1 (same_holding old old' new new' both.same h.holding h'.holding) h.outside.cabinet h'.outside.cabinet h.outside.entropy h'.outside.entropy;
+}
+
+pub writes_sure : (a : Attachment) (sector count : ℕ) (bytes : List ℕ) → Sure (WritesSectors a sector count bytes)
+writes_sure a sector count bytes = does_sure (data_writes a.keying sector count bytes)
+
+-- ---- a flush, behind which the drawer does something else
+
+pub detaches_sure : Sure Detaches
+detaches_sure = record {
+  goes = λ old answer new h. beside_later old new (events_later (Flush ∷ []) old.disk answer new.disk h.flushes) h.outside.cabinet h.outside.entropy;
+  settles = λ old old' answer answer' new new' both memory memory' h h'.
+      let is = events_alike (Flush ∷ []) old.disk old'.disk answer answer' new.disk new'.disk both.same.disk both.quiet.disk both.quiet'.disk h.flushes h'.flushes h.unasked h'.unasked in
+      beside_settled old old' answer answer' new new' both is.0 is.1 (h'.holding ∙ sym h.holding) h.outside.cabinet h'.outside.cabinet h.outside.entropy h'.outside.entropy;
+}
+
+kept_same : (a : Attachment) (d d' : DiskState) → d'.size ≡ d.size → kept_by a d' ≡ kept_by a d
+kept_same a d d' size = rw size refl
+
+pub suspends_sure : (a : Attachment) → Sure (Suspends a)
+suspends_sure a = record {
+  goes = λ old answer new h. beside_later old new (events_later (Flush ∷ []) old.disk answer new.disk h.flushes) h.outside.cabinet h.outside.entropy;
+  settles = λ old old' answer answer' new new' both memory memory' h h'.
+      let is = events_alike (Flush ∷ []) old.disk old'.disk answer answer' new.disk new'.disk both.same.disk both.quiet.disk both.quiet'.disk h.flushes h'.flushes h.unasked h'.unasked in
+      beside_settled old old' answer answer' new new' both is.0 is.1 (h'.holding ∙ ap IsSuspended (kept_same a old.disk old'.disk both.same.disk.size) ∙ sym h.holding) h.outside.cabinet h'.outside.cabinet h.outside.entropy h'.outside.entropy;
+}
+
+-- ---- the metadata are read
+
+as_read : Result Metadata MetaFault → Result Metadata ReadMetaFault
+as_read (Ok m) = Ok m
+as_read (Err fault) = Err (Meta fault)
+
+-- the image is too small, and nothing is read
+record FindsSmall (d : DiskState) (read : Result Metadata ReadMetaFault) (e : DiskState) : Type 0 where
+  small : d.size + 1 ≤ 2
+  is : read ≡ Err (TooSmall (512 * d.size))
+  unchanged : e ≡ d
+
+-- the last sector is read, as it stands
+record FindsLast (d : DiskState) (c : Content) (read : Result Metadata ReadMetaFault) (e : DiskState) : Type 0 where
+  enough : 2 ≤ d.size
+  is : read ≡ as_read (metadata_in (present c (last_sector d)))
+  logs : Logs [] d e
+  asked : Counted 1 d.reads e.reads
+
+pub metadata_later : (d : DiskState) (read : Result Metadata ReadMetaFault) (e : DiskState) → ReadsMetadata d read e → d.faults ≤ e.faults
+metadata_later d (Ok m) e h = h.logs.faults
+metadata_later d (Err (TooSmall size)) e h = same_disk_later d e h.2
+metadata_later d (Err DeviceFault) e h = h.fails.logs.faults
+metadata_later d (Err (Meta fault)) e h = h.logs.faults
+
+metadata_is : (d : DiskState) (c : Content) (read : Result Metadata ReadMetaFault) (e : DiskState) → d.content ≡ Some c → ¬ Rose d.faults e.faults → ReadsMetadata d read e → FindsSmall d read e ⊎ FindsLast d c read e
+unfolding as_read
+metadata_is d c (Ok m) e told quiet h = inr (record {
+  enough = h.enough;
+  is = ap as_read (h.answered ∙ ap metadata_in (given_by d c (last_sector d) h.bytes told h.told));
+  logs = h.logs;
+  asked = h.asked;
+})
+metadata_is d c (Err (TooSmall size)) e told quiet h = inl (record { small = omega (arith, h.0); is = ap (λ (n : ℕ). Err (TooSmall n)) h.1; unchanged = h.2 })
+metadata_is d c (Err DeviceFault) e told quiet h = absurd (quiet h.fails.rose)
+metadata_is d c (Err (Meta fault)) e told quiet h = inr (record {
+  enough = h.enough;
+  is = ap as_read (h.answered ∙ ap metadata_in (given_by d c (last_sector d) h.bytes told h.told));
+  logs = h.logs;
+  asked = h.asked;
+})
+
+metadata_by : (d d' : DiskState) (read read' : Result Metadata ReadMetaFault) (e e' : DiskState) (same : AlikeDisk d d') → FindsSmall d read e ⊎ FindsLast d same.content read e → FindsSmall d' read' e' ⊎ FindsLast d' same.content read' e'
+    → (read' ≡ read) × AlikeDisk e e'
+metadata_by d d' read read' e e' same (inl h) (inl h') =
+    (h'.is ∙ ap (λ (n : ℕ). Err (TooSmall (512 * n))) same.size ∙ sym h.is, still_disk d d' e e' same h.unchanged h'.unchanged)
+metadata_by d d' read read' e e' same (inl h) (inr h') = absurd (omega (arith, h.small, h'.enough, same.size))
+metadata_by d d' read read' e e' same (inr h) (inl h') = absurd (omega (arith, h.enough, h'.small, same.size))
+metadata_by d d' read read' e e' same (inr h) (inr h') =
+    (h'.is ∙ ap (λ (n : ℕ). as_read (metadata_in (present same.content (n - 1)))) same.size ∙ sym h.is, logs_alike [] d d' e e' same h.logs h'.logs (counted_same 1 same.reads h.asked h'.asked))
+
+pub metadata_alike : (d d' : DiskState) (read read' : Result Metadata ReadMetaFault) (e e' : DiskState) → AlikeDisk d d' → ¬ Rose d.faults e.faults → ¬ Rose d'.faults e'.faults → ReadsMetadata d read e → ReadsMetadata d' read' e'
+    → (read' ≡ read) × AlikeDisk e e'
+metadata_alike d d' read read' e e' same quiet quiet' h h' =
+    metadata_by d d' read read' e e' same (metadata_is d same.content read e same.told quiet h) (metadata_is d' same.content read' e' same.told' quiet' h')
+
+pub reads_last_sure : Sure ReadsLastSector
+reads_last_sure = record {
+  goes = λ old answer new h. beside_later old new (metadata_later old.disk h.reads.read new.disk h.reads.reads) h.cabinet h.entropy;
+  settles = λ old old' answer answer' new new' both memory memory' h h'.
+      let is = metadata_alike old.disk old'.disk h.reads.read h'.reads.read new.disk new'.disk both.same.disk both.quiet.disk both.quiet'.disk h.reads.reads h'.reads.reads in
+      beside_settled old old' answer answer' new new' both (h'.reads.answered ∙ ap (or_refusal read_refusal_of) is.0 ∙ sym h.reads.answered) is.1
+      (same_holding old old' new new' both.same h.holding h'.holding) h.cabinet h'.cabinet h.entropy h'.entropy;
+}
+
+-- ---- sectors are read
+
+pub run_later : (k : Keying) (sector count : ℕ) (d : DiskState) (answer : Result (List ℕ) Refusal) (e : DiskState) → SectorsAnswer k sector count d answer e → d.faults ≤ e.faults
+run_later k sector count d (Ok bytes) e h = h.1.faults
+run_later k sector count d (Err (refusals.Integrity offset)) e h = h.logs.faults
+run_later k sector count d (Err refusals.DeviceFault) e h = h.fails.logs.faults
+run_later k sector count d (Err refusal) e h = absurd h
+
+-- the bytes, or the first unit whose tag differs, as a refusal
+as_run : Result (List ℕ) ℕ → Result (List ℕ) Refusal
+as_run (Ok bytes) = Ok bytes
+as_run (Err offset) = Err (refusals.Integrity offset)
+
+-- the number of reads, by what is read: up to the unit whose tag differs
+units_asked : Keying → ℕ → ℕ → Result (List ℕ) ℕ → ℕ → Type 0
+units_asked k sector count (Ok bytes) many = many ≡ count * units k
+units_asked k sector count (Err offset) many = offset + 512 ≡ 512 * (sector * units k + many)
+
+record ReadsRun (k : Keying) (sector count : ℕ) (c : Content) (d : DiskState) (answer : Result (List ℕ) Refusal) (e : DiskState) : Type 0 where
+  is : answer ≡ as_run (data_reading k c sector count)
+  many : ℕ
+  asks : units_asked k sector count (data_reading k c sector count) many
+  logs : Logs [] d e
+  asked : Counted many d.reads e.reads
+
+read_by : (d : DiskState) (k : Keying) (c : Content) (sector count : ℕ) (answer : Result (List ℕ) ℕ) → d.content ≡ Some c → ReadsAs d k sector count answer → data_reading k c sector count ≡ answer
+read_by d k c sector count answer told h = let P : Option Content → Type 0 = λ o. ReadsFrom o k sector count answer in subst P told h
+
+run_is : (k : Keying) (sector count : ℕ) (c : Content) (d : DiskState) (answer : Result (List ℕ) Refusal) (e : DiskState) → d.content ≡ Some c → ¬ Rose d.faults e.faults → SectorsAnswer k sector count d answer e
+    → ReadsRun k sector count c d answer e
+unfolding as_run units_asked
+run_is k sector count c d (Ok bytes) e told quiet h =
+    let read = read_by d k c sector count (Ok bytes) told h.2 in
+    record { is = ap as_run (sym read); many = count * units k; asks = rw read refl; logs = h.1; asked = h.3 }
+run_is k sector count c d (Err (refusals.Integrity offset)) e told quiet h =
+    let read = read_by d k c sector count (Err offset) told h.reads in
+    let place : offset + 512 ≡ 512 * (sector * units k + (h.passed * units k + h.unit + 1)) = omega (arith, h.place) in
+    record { is = ap as_run (sym read); many = h.passed * units k + h.unit + 1; asks = rw read place; logs = h.logs; asked = h.asked }
+run_is k sector count c d (Err refusals.DeviceFault) e told quiet h = absurd (quiet h.fails.rose)
+run_is k sector count c d (Err refusal) e told quiet h = absurd h
+
+asks_same : (k : Keying) (sector count : ℕ) (reading : Result (List ℕ) ℕ) (many many' : ℕ) → units_asked k sector count reading many → units_asked k sector count reading many' → many' ≡ many
+unfolding units_asked
+asks_same k sector count (Ok bytes) many many' h h' = h' ∙ sym h
+asks_same k sector count (Err offset) many many' h h' = omega (arith, h, h')
+
+pub run_alike : (k : Keying) (sector count : ℕ) (d d' : DiskState) (answer answer' : Result (List ℕ) Refusal) (e e' : DiskState) → AlikeDisk d d' → ¬ Rose d.faults e.faults → ¬ Rose d'.faults e'.faults
+    → SectorsAnswer k sector count d answer e → SectorsAnswer k sector count d' answer' e' → (answer' ≡ answer) × AlikeDisk e e'
+run_alike k sector count d d' answer answer' e e' same quiet quiet' h h' =
+    let r = run_is k sector count same.content d answer e same.told quiet h in
+    let r' = run_is k sector count same.content d' answer' e' same.told' quiet' h' in
+    let many = asks_same k sector count (data_reading k same.content sector count) r.many r'.many r.asks r'.asks in
+    let P : ℕ → Type 0 = λ n. Counted n d'.reads e'.reads in
+    (r'.is ∙ sym r.is, logs_alike [] d d' e e' same r.logs r'.logs (counted_same r.many same.reads r.asked (subst P many r'.asked)))
+
+pub reads_sectors_sure : (a : Attachment) (sector count : ℕ) → Sure (ReadsSectors a sector count)
+reads_sectors_sure a sector count = record {
+  goes = λ old answer new h. beside_later old new (run_later a.keying sector count old.disk answer new.disk h.reads) h.outside.cabinet h.outside.entropy;
+  settles = λ old old' answer answer' new new' both memory memory' h h'.
+      let is = run_alike a.keying sector count old.disk old'.disk answer answer' new.disk new'.disk both.same.disk both.quiet.disk both.quiet'.disk h.reads h'.reads in
+      beside_settled old old' answer answer' new new' both is.0 is.1 (same_holding old old' new new' both.same h.holding h'.holding) h.outside.cabinet h'.outside.cabinet h.outside.entropy h'.outside.entropy;
+}

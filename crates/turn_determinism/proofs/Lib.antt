@@ -1,0 +1,11 @@
+pub mod Alike
+pub mod Steps
+pub mod Deciding
+pub mod Disks
+pub mod Files
+pub mod Keys
+pub mod Places
+pub mod Queues
+pub mod Rows
+pub mod Lines
+pub mod Turns

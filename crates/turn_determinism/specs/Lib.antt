@@ -1,0 +1,4 @@
+pub mod Places
+pub mod Quiet
+pub mod Same
+pub mod Told

@@ -1,14 +1,13 @@
 -- What `restore` answers, and what it does to the disk (geli(8), restore).
-use Rattle.std.specs.Prelude.{◌≡◌, ℕ, ◌*◌, nat_lt, if◌then◌else◌, List, [], ◌∷◌, ◌++◌, length, take, Bool, true, false, Result, Ok, Err}
+use Rattle.std.specs.Prelude.{◌≡◌, ℕ, ◌*◌, ◌<◌, nat_lt, if◌then◌else◌, List, [], ◌∷◌, ◌++◌, length, take, slice_index, Bool, true, false, Result, Ok, Err}
 use Rattle.std.specs.Bool.{IsFalse}
-use Rattle.block_traits.specs.Disk.{DiskState, FailsIn, Logs, last_sector}
-use Rattle.block_traits.specs.Moments.{KeepsOldOr}
+use Rattle.block_traits.specs.Disk.{DiskState, FailsIn, Logs}
 use Rattle.eli_base.specs.declared.refusals.Refusal.{Refusal}
 use Rattle.eli_base.specs.declared.refusals.Refusal.TheVariants.{DeviceFault}
 use Rattle.eli_base.specs.declared.refusals.Refusal.TheVariants as refusals
 use Rattle.eli_metadata.specs.Checks.{size_matches}
-use Rattle.eli_metadata.specs.Format.{encoded, metadata_in}
-use Rattle.eli_metadata.specs.Place.{IsSectorOf, replace_events}
+use Rattle.eli_metadata.specs.Format.{IsInRange, encoded, metadata_in}
+use Rattle.eli_metadata.specs.Place.{replace_events}
 use Rattle.eli_metadata.specs.Refusals.{refusal_of}
 use Rattle.eli_metadata.specs.declared.metadata.MetaFault.{MetaFault}
 use Rattle.eli_metadata.specs.declared.metadata.Metadata.{Metadata}
@@ -35,9 +34,24 @@ restored bytes force sectors =
     else (if nat_lt (length bytes) 511 then Err (refusals.BackupTooShort (length bytes))
     else fitted (metadata_in (backed_up_sector bytes)) force sectors))
 
--- these are the metadata: they are read again, and where they are not forced their sector is that of the backup
+-- each number is a byte
+abbrev pub AreBytes : List ℕ → Type 0
+AreBytes numbers = (k : ℕ) → slice_index numbers k < 256
+
+-- each field of the metadata fits its type
+pub record FitsTypes (m : Metadata) : Type 0 where
+  pub range : IsInRange m
+  pub salt : length m.salt ≡ 64
+  pub mkeys : length m.mkeys ≡ 384
+
+-- these are the metadata of the bytes of a backup
 pub record GivesMetadata (bytes : List ℕ) (force : Bool) (sectors : ℕ) (m : Metadata) : Type 0 where
+  pub given : AreBytes bytes
   pub served : restored bytes force sectors ≡ Ok m
+  pub fits : FitsTypes m
+
+-- of what use metadata from a backup are: they are read again, and where they are not forced their sector is that of the backup
+pub record IsBackedUp (bytes : List ℕ) (force : Bool) (m : Metadata) : Type 0 where
   pub again : metadata_in (encoded m) ≡ Ok m
   pub plain : IsFalse force → encoded m ≡ backed_up_sector bytes
 
@@ -46,7 +60,6 @@ pub record WritesBack (bytes : List ℕ) (force : Bool) (disk : DiskState) (m : 
   pub gives : GivesMetadata bytes force disk.size m
   pub logs : Logs (replace_events disk m) disk disk'
   pub unasked : disk'.reads ≡ disk.reads
-  pub kept : KeepsOldOr (IsSectorOf m) (last_sector disk) disk.content disk'.content
 
 -- the disk failed after a part of the events, and nothing was read
 pub record WritesPart (bytes : List ℕ) (force : Bool) (disk disk' : DiskState) : Type 0 where
@@ -54,7 +67,6 @@ pub record WritesPart (bytes : List ℕ) (force : Bool) (disk disk' : DiskState)
   pub gives : GivesMetadata bytes force disk.size m
   pub fails : FailsIn (replace_events disk m) disk disk'
   pub unasked : disk'.reads ≡ disk.reads
-  pub kept : KeepsOldOr (IsSectorOf m) (last_sector disk) disk.content disk'.content
 
 -- it is refused, and nothing was done
 pub record RefusesBackup (bytes : List ℕ) (force : Bool) (disk : DiskState) (refusal : Refusal) (disk' : DiskState) : Type 0 where

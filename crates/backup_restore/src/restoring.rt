@@ -1,9 +1,7 @@
 //! Metadata that are put back from a backup.
 
-ghost use Rattle.std.specs.Prelude.{◌≡◌, ◌<◌, ◌≤◌, ◌^◌, IsTrue, IfOk, OnOk, length};
-ghost use Rattle.std.specs.Bool.{IsFalse};
-ghost use Rattle.eli_metadata.specs.Format.{encoded, is_served};
-ghost use Rattle.backup_restore.specs.Restoring.{Restores, backed_up_sector, restored};
+ghost use Rattle.std.specs.Prelude.{◌≡◌, ◌<◌, ◌≤◌, ◌^◌, OnOk, length};
+ghost use Rattle.backup_restore.specs.Restoring.{AreBytes, FitsTypes, Restores, backed_up_sector, restored};
 
 use block_traits::{Disk, Sector};
 use eli_base::Refusal;
@@ -19,13 +17,19 @@ fn sector_of(bytes: &[u8]) -> Sector
     sector
 }
 
+// All fields of metadata fit their types, so that what is written is read again.
+fn fits_types(meta: Metadata)
+    ensures { FitsTypes meta }
+{
+    let _ = meta;
+}
+
 // The metadata that a backup gives an image of so many device sectors, or its refusal.
 fn check(bytes: &[u8], force: bool, sectors: u64) -> Result<Metadata, Refusal>
     requires { sectors < 2 ^ 44 }
     ensures answer { result ≡ restored bytes.now force sectors }
-    ensures version { IfOk result (λ m. IsTrue (is_served m.version m.flags)) }
     ensures room { OnOk result (2 ≤ sectors) }
-    ensures plain { IfOk result (λ m. IsFalse force → encoded m ≡ backed_up_sector bytes.now) }
+    ensures given { AreBytes bytes.now }
 {
     if sectors < 2 {
         return Err(Refusal::TooSmall {
@@ -50,9 +54,11 @@ fn check(bytes: &[u8], force: bool, sectors: u64) -> Result<Metadata, Refusal>
 
 /// Puts the metadata of a backup into the last sector of a disk: the first 511 bytes of the backup and a
 /// zero byte. Forced, the size in them becomes the image's, with a new MD5 (geli(8), restore). Answers the
-/// metadata, which are read again. They keep their version. Nothing is read of the disk.
+/// metadata, which are read again (`what_restore_writes_is_of_use`). They keep their version. Nothing is read of
+/// the disk.
 ///
-/// Whenever power fails, the last sector holds what it might hold before or the new metadata.
+/// Whenever power fails, the last sector holds what it might hold before or the new metadata
+/// (`restore_leaves_old_or_new`).
 ///
 /// In this order it is refused as `TooSmall` (in bytes), exactly where there are fewer than two device
 /// sectors; as `BackupTooShort` (in bytes), exactly where the backup has fewer than 511 bytes; as `decode`
@@ -64,6 +70,7 @@ pub fn restore<D: Disk>(disk: &mut D, bytes: &[u8], force: bool) -> Result<Metad
 {
     let sectors = disk.sectors();
     let meta = check(bytes, force, sectors)?;
+    fits_types(meta);
     match replace_metadata(disk, &meta) {
         Ok(()) => Ok(meta),
         Err(_) => Err(Refusal::DeviceFault),

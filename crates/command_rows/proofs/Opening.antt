@@ -29,6 +29,7 @@ use Rattle.key_commands.specs.NewProvider.{init_events}
 use Rattle.key_commands.specs.Random.{master_key_in}
 use Rattle.key_commands.specs.Usable.{IsAccepted, IsUsable, OpensFirst, settings_for}
 use Rattle.key_commands.specs.declared.options.InitOptions.{InitOptions}
+use Rattle.key_commands.proofs.Making.{IsUsable-makes}
 use Rattle.key_components.specs.Answers.{IsAnswer, IsRefusal, MayRefusePassphrase}
 use Rattle.key_components.proofs.Causes.{StopsAtFile-cause}
 use Rattle.key_slots.specs.Slots.{numbered}
@@ -55,7 +56,7 @@ Made-provider : (options : InitOptions) (parts : Components) (m : Metadata) (old
 Made-provider options parts m old new makes = record {
   key = makes.inits.makes.key;
   master = master_key_in makes.inits.makes.random;
-  usable = makes.inits.makes.usable;
+  usable = IsUsable-makes options parts old.disk.size old.entropy m new.entropy makes.inits.makes old.disk.well_formed.bound;
   logs = makes.inits.logs;
 }
 

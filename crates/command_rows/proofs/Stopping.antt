@@ -1,25 +1,25 @@
 -- What the disk may hold at each moment of a row.
-use Rattle.std.proofs.Common.{◌≡◌, ◌∙◌, ◌⊎◌, ℕ, ◌-◌, List, [], ◌∷◌, arith, refl, ap, sym, subst, inl, inr, Bool, true, false, Option, None, Some, Result, Ok, Err}
+use Rattle.std.proofs.Common.{◌≡◌, ◌∙◌, ◌⊎◌, ℕ, ◌-◌, List, [], refl, ap, sym, subst, inl, inr, Bool, true, false, Option, None, Some, Result, Ok, Err}
 use Rattle.std.specs.Prelude.{ℤ, unwrap_or}
 use Rattle.std.specs.Option.{option_or}
 use Rattle.backup_restore.specs.Restoring.{GivesMetadata, Restores}
+use Rattle.backup_restore.proofs.Restored.{IsBackedUp-gives}
 use Rattle.block_traits.specs.Cabinet.{CabinetState, Files}
-use Rattle.block_traits.specs.Content.{Content, logged}
-use Rattle.block_traits.specs.Disk.{DiskState, GivesFrom, Logs, last_sector, store_events}
+use Rattle.block_traits.specs.Content.{Content}
+use Rattle.block_traits.specs.Disk.{DiskState, GivesFrom, Logs, last_sector}
 use Rattle.block_traits.specs.Moments.{AtEachMoment, HoldsOldOr, HoldsOnceFlushed, KeepsAlone, WaitsForFlush}
 use Rattle.block_traits.specs.Streams.{EntropyState}
-use Rattle.block_traits.specs.declared.disk.Event.TheVariants.{Flush}
-use Rattle.block_traits.proofs.Logs.{logged-append, logged-none}
-use Rattle.block_traits.proofs.Overwritten.{KeepsAlone-overwrite}
+use Rattle.block_traits.proofs.Logs.{logged-none}
 use Rattle.command_words.specs.declared.spans.KeyWords.{KeyWords}
 use Rattle.command_words.specs.declared.spans.Span.{Span}
 use Rattle.eli_base.specs.declared.parameters.MasterKey.{MasterKey}
 use Rattle.eli_base.specs.declared.refusals.Refusal.{Refusal}
 use Rattle.eli_base.specs.declared.refusals.Refusal.TheVariants as refusals
 use Rattle.eli_metadata.specs.Format.{encoded}
-use Rattle.eli_metadata.specs.Place.{IsSectorOf, replace_events}
+use Rattle.eli_metadata.specs.Place.{IsSectorOf}
 use Rattle.eli_metadata.specs.declared.metadata.Metadata.{Metadata}
-use Rattle.key_commands.specs.DeleteKeys.{DeletesKeys, Deletion}
+use Rattle.eli_metadata.proofs.Replaced.{KeepsAlone-store, KeepsOldOr-replace, KeepsOldOr-replace_part, KeepsOldOr-store, KeepsOldOr-store_part}
+use Rattle.key_commands.specs.DeleteKeys.{DeletesKeys, Deletion, Overwrites}
 use Rattle.key_commands.specs.NewKey.{KeyChange}
 use Rattle.key_commands.specs.NewProvider.{Inits}
 use Rattle.key_commands.specs.Overwriting.{HasNoKey}
@@ -27,9 +27,14 @@ use Rattle.key_commands.specs.Random.{master_key_in}
 use Rattle.key_commands.specs.SetKey.{SetsKey}
 use Rattle.key_commands.specs.Usable.{IsUsable}
 use Rattle.key_commands.specs.declared.options.InitOptions.{InitOptions}
+use Rattle.key_commands.proofs.Changing.{HasNewKey-makes}
+use Rattle.key_commands.proofs.Making.{IsUsable-makes, KeepsAlone-replace}
+use Rattle.key_commands.proofs.Passes.{HasOtherKeys-Deletes, KeepsAlone-Deletes, Overwrites-Deletes, Overwrites-DeletesPart}
 use Rattle.key_components.specs.Files.{file_limit}
 use Rattle.resize_kill.specs.Killing.{HoldsNoMetadata, Kills}
 use Rattle.resize_kill.specs.Resizing.{HoldsOneOf, KeepsOneOf, RefusesOld, RefusesSizes, Resizes, grown, old_place}
+use Rattle.resize_kill.proofs.Destroyed.{gone-FailsIn, gone-Logs}
+use Rattle.resize_kill.proofs.Moved.{KeepsAlone-Moves, KeepsOneOf-Moves, KeepsOneOf-MovesPart}
 use Rattle.command_rows.specs.DeleteKeys.{DeletesRow, DelkeyRow, NamesSlots, TakesKeysOut, named_slots, slot_of}
 use Rattle.command_rows.specs.Grounds.{AreComponents, HasMetadata, IsFile}
 use Rattle.command_rows.specs.Killing.{KillRow, Withdraws}
@@ -119,13 +124,6 @@ moments_from Holds start disk after same h =
 alone_from : (bytes : List ℕ) (start disk : DiskState) (after : Option Content) → Same start disk → KeepsAlone bytes (last_sector disk) after → KeepsAlone bytes (last_sector start) after
 alone_from bytes start disk after same h = subst (λ (n : ℕ). KeepsAlone bytes (n - 1) after) same.size h
 
--- the sector that was replaced
-alone_replaced : (start disk disk' : DiskState) (m : Metadata) → Same start disk → Logs (replace_events disk m) disk disk' → KeepsAlone (encoded m) (last_sector start) disk'.content
-alone_replaced start disk disk' m same logs =
-    alone_from (encoded m) start disk disk'.content same
-    (KeepsAlone-overwrite (last_sector disk) (encoded m ∷ []) (logged (Flush ∷ []) disk.content) disk'.content (omega arith)
-    (logs.content ∙ sym (logged-append (Flush ∷ []) (store_events disk (encoded m)) disk.content)))
-
 not_done : {P : Type 0} → false ≡ true → P
 not_done h = absurd (let no : ⊥ = cc h in no)
 
@@ -150,8 +148,9 @@ stored_left holding told line iterations slot words fresh asked start disk (Ok m
       given = begins.given;
       m = m;
       makes = h.makes;
-      kept = moments_from (λ n. HoldsOldOr (IsSectorOf m) n) start disk disk'.content same h.kept;
-      alone = λ done. alone_from (encoded m) start disk disk'.content same h.alone;
+      usable = HasNewKey-makes asked m h.makes;
+      kept = moments_from (λ n. HoldsOldOr (IsSectorOf m) n) start disk disk'.content same (KeepsOldOr-store disk disk' m h.logs);
+      alone = λ done. alone_from (encoded m) start disk disk'.content same (KeepsAlone-store disk disk' m h.logs);
     })
 stored_left holding told line iterations slot words fresh asked start disk (Err refusals.DeviceFault) disk' answer same begins h is =
     rw is (inr (record {
@@ -162,7 +161,8 @@ stored_left holding told line iterations slot words fresh asked start disk (Err 
       given = begins.given;
       m = h.m;
       makes = h.makes;
-      kept = moments_from (λ n. HoldsOldOr (IsSectorOf h.m) n) start disk disk'.content same h.kept;
+      usable = HasNewKey-makes asked h.m h.makes;
+      kept = moments_from (λ n. HoldsOldOr (IsSectorOf h.m) n) start disk disk'.content same (KeepsOldOr-store_part disk disk' h.m h.fails);
       alone = λ done. not_done done;
     }))
 stored_left holding told line iterations slot words fresh asked start disk (Err refusal) disk' answer same begins h is =
@@ -229,23 +229,30 @@ deleted_left : (holding : Holding) (all force : Bool) (slot : Option ℕ) (asked
     (answer : Result (Unit {0}) Refusal) → Same start disk → HasMetadata start asked.meta → named_slots all (option_or slot (slot_of holding)) ≡ Ok asked.which → asked.force ≡ force
     → DeletesKeys asked disk entropy made disk' entropy' → answer ≡ without_value made → Left (ClearsKeys holding all force slot) start answer disk'
 deleted_left holding all force slot asked start disk entropy (Ok m) disk' entropy' answer same found named forced h is =
+    let overwrites : Overwrites asked disk disk' = Overwrites-Deletes asked disk entropy m disk' entropy' h in
     rw is (record {
       asked = asked;
       found = found;
       named = named;
       forced = forced;
-      kept = moments_from (λ n. HoldsOldOr (HasNoKey asked.meta asked.which) n) start disk disk'.content same h.overwrites.kept;
-      flushed = moments_from (λ n. HoldsOnceFlushed (HasNoKey asked.meta asked.which) n) start disk disk'.content same h.overwrites.flushed;
-      cleared = λ done. record { m = m; without = h.without; alone = alone_from (encoded m) start disk disk'.content same h.alone };
+      kept = moments_from (λ n. HoldsOldOr (HasNoKey asked.meta asked.which) n) start disk disk'.content same overwrites.kept;
+      flushed = moments_from (λ n. HoldsOnceFlushed (HasNoKey asked.meta asked.which) n) start disk disk'.content same overwrites.flushed;
+      cleared = λ done. record {
+        m = m;
+        without = h.without;
+        usable = HasOtherKeys-Deletes asked disk entropy m disk' entropy' h;
+        alone = alone_from (encoded m) start disk disk'.content same (KeepsAlone-Deletes asked disk entropy m disk' entropy' h);
+      };
     })
 deleted_left holding all force slot asked start disk entropy (Err refusals.DeviceFault) disk' entropy' answer same found named forced h is =
+    let overwrites : Overwrites asked disk disk' = Overwrites-DeletesPart asked disk entropy disk' entropy' h in
     rw is (inr (record {
       asked = asked;
       found = found;
       named = named;
       forced = forced;
-      kept = moments_from (λ n. HoldsOldOr (HasNoKey asked.meta asked.which) n) start disk disk'.content same h.overwrites.kept;
-      flushed = moments_from (λ n. HoldsOnceFlushed (HasNoKey asked.meta asked.which) n) start disk disk'.content same h.overwrites.flushed;
+      kept = moments_from (λ n. HoldsOldOr (HasNoKey asked.meta asked.which) n) start disk disk'.content same overwrites.kept;
+      flushed = moments_from (λ n. HoldsOnceFlushed (HasNoKey asked.meta asked.which) n) start disk disk'.content same overwrites.flushed;
       cleared = λ done. not_done done;
     }))
 deleted_left holding all force slot asked start disk entropy (Err refusals.EntropyFault) disk' entropy' answer same found named forced h is =
@@ -286,6 +293,8 @@ made_left : (told : Option Files) (line : List ℕ) (options : InitOptions) (fre
     (answer : Result (Unit {0}) Refusal) (new : Reach) → Same start old.disk → AreComponents told line fresh parts → Inits options parts old.disk old.entropy made middle.disk middle.entropy
     → GoesOn (λ m. BacksUp line backup m) made middle answer new → Left (PutsNew told line options fresh) start answer new.disk
 made_left told line options fresh parts backup start old (Ok m) middle answer new same named h next =
+    let usable : IsUsable options parts old.disk.size m h.makes.key (master_key_in h.makes.random) =
+    IsUsable-makes options parts old.disk.size old.entropy m middle.entropy h.makes old.disk.well_formed.bound in
     left_backed (PutsNew told line options fresh) line backup m start middle answer new
     (λ done. record {
       parts = parts;
@@ -293,20 +302,22 @@ made_left told line options fresh parts backup start old (Ok m) middle answer ne
       m = m;
       key = h.makes.key;
       master = master_key_in h.makes.random;
-      usable = subst (λ (n : ℕ). IsUsable options parts n m h.makes.key (master_key_in h.makes.random)) same.size h.makes.usable;
-      kept = moments_from (λ n. HoldsOldOr (IsSectorOf m) n) start old.disk middle.disk.content same h.kept;
-      alone = λ yes. alone_replaced start old.disk middle.disk m same h.logs;
+      usable = subst (λ (n : ℕ). IsUsable options parts n m h.makes.key (master_key_in h.makes.random)) same.size usable;
+      kept = moments_from (λ n. HoldsOldOr (IsSectorOf m) n) start old.disk middle.disk.content same (KeepsOldOr-replace old.disk middle.disk m h.logs);
+      alone = λ yes. alone_from (encoded m) start old.disk middle.disk.content same (KeepsAlone-replace old.disk middle.disk m h.logs);
     })
     next
 made_left told line options fresh parts backup start old (Err refusals.DeviceFault) middle answer new same named h next =
+    let usable : IsUsable options parts old.disk.size h.m h.makes.key (master_key_in h.makes.random) =
+    IsUsable-makes options parts old.disk.size old.entropy h.m middle.entropy h.makes old.disk.well_formed.bound in
     rw (next.0, ap (λ (r : Reach). r.disk) next.1) (inr (record {
       parts = parts;
       named = named;
       m = h.m;
       key = h.makes.key;
       master = master_key_in h.makes.random;
-      usable = subst (λ (n : ℕ). IsUsable options parts n h.m h.makes.key (master_key_in h.makes.random)) same.size h.makes.usable;
-      kept = moments_from (λ n. HoldsOldOr (IsSectorOf h.m) n) start old.disk middle.disk.content same h.kept;
+      usable = subst (λ (n : ℕ). IsUsable options parts n h.m h.makes.key (master_key_in h.makes.random)) same.size usable;
+      kept = moments_from (λ n. HoldsOldOr (IsSectorOf h.m) n) start old.disk middle.disk.content same (KeepsOldOr-replace_part old.disk middle.disk h.m h.fails);
       alone = λ yes. not_done yes;
     }))
 made_left told line options fresh parts backup start old (Err refusals.EntropyFault) middle answer new same named h next =
@@ -332,8 +343,9 @@ written_left told line file bytes force start old (Ok m) middle answer new same 
       named = named;
       m = m;
       gives = subst (λ (n : ℕ). GivesMetadata bytes force n m) same.size h.gives;
-      kept = moments_from (λ n. HoldsOldOr (IsSectorOf m) n) start old.disk middle.disk.content same h.kept;
-      alone = λ yes. alone_replaced start old.disk middle.disk m same h.logs;
+      usable = IsBackedUp-gives bytes force old.disk.size m h.gives;
+      kept = moments_from (λ n. HoldsOldOr (IsSectorOf m) n) start old.disk middle.disk.content same (KeepsOldOr-replace old.disk middle.disk m h.logs);
+      alone = λ yes. alone_from (encoded m) start old.disk middle.disk.content same (KeepsAlone-replace old.disk middle.disk m h.logs);
     })
 written_left told line file bytes force start old (Err refusals.DeviceFault) middle answer new same named h next =
     rw (next.0, ap (λ (r : Reach). r.disk) next.1) (inr (record {
@@ -341,7 +353,8 @@ written_left told line file bytes force start old (Err refusals.DeviceFault) mid
       named = named;
       m = h.m;
       gives = subst (λ (n : ℕ). GivesMetadata bytes force n h.m) same.size h.gives;
-      kept = moments_from (λ n. HoldsOldOr (IsSectorOf h.m) n) start old.disk middle.disk.content same h.kept;
+      usable = IsBackedUp-gives bytes force old.disk.size h.m h.gives;
+      kept = moments_from (λ n. HoldsOldOr (IsSectorOf h.m) n) start old.disk middle.disk.content same (KeepsOldOr-replace_part old.disk middle.disk h.m h.fails);
       alone = λ yes. not_done yes;
     }))
 written_left told line file bytes force start old (Err refusal) middle answer new same named h next =
@@ -382,7 +395,9 @@ moved_left oldsize start disk entropy (Ok done) disk' entropy' same h =
       m = h.old;
       found = record { bytes = h.prepares.bytes; whole = h.prepares.whole; told = gives_from (old_place oldsize) h.prepares.bytes start disk same h.prepares.told; read = h.prepares.found };
       size = h.prepares.size;
-      keeps = one_from (grown h.old disk.size) (grown h.old start.size) h.old (old_place oldsize) start disk disk' same (ap (λ (n : ℕ). grown h.old n) same.size) h.keeps;
+      keeps = one_from (grown h.old disk.size) (grown h.old start.size) h.old (old_place oldsize) start disk disk' same (ap (λ (n : ℕ). grown h.old n) same.size)
+          (KeepsOneOf-Moves oldsize disk disk' entropy entropy' h);
+      alone = λ yes. subst (λ (n : ℕ). KeepsAlone (encoded (grown h.old n)) (n - 1) disk'.content) same.size (KeepsAlone-Moves oldsize disk disk' entropy entropy' h);
     }
 moved_left oldsize start disk entropy (Err refusals.DeviceFault) disk' entropy' same (inl h) = inl (same_content disk disk' (quiet_failure disk disk' h.fails) ∙ same.content)
 moved_left oldsize start disk entropy (Err refusals.DeviceFault) disk' entropy' same (inr h) =
@@ -390,7 +405,9 @@ moved_left oldsize start disk entropy (Err refusals.DeviceFault) disk' entropy' 
       m = h.old;
       found = record { bytes = h.prepares.bytes; whole = h.prepares.whole; told = gives_from (old_place oldsize) h.prepares.bytes start disk same h.prepares.told; read = h.prepares.found };
       size = h.prepares.size;
-      keeps = one_from (grown h.old disk.size) (grown h.old start.size) h.old (old_place oldsize) start disk disk' same (ap (λ (n : ℕ). grown h.old n) same.size) h.keeps;
+      keeps = one_from (grown h.old disk.size) (grown h.old start.size) h.old (old_place oldsize) start disk disk' same (ap (λ (n : ℕ). grown h.old n) same.size)
+          (KeepsOneOf-MovesPart oldsize disk disk' entropy entropy' h);
+      alone = λ yes. not_done yes;
     })
 moved_left oldsize start disk entropy (Err refusals.EntropyFault) disk' entropy' same h = inl (same_content disk disk' h.finds.finds.logs ∙ same.content)
 moved_left oldsize start disk entropy (Err refusal) disk' entropy' same h = inl (refused_left oldsize disk entropy refusal disk' entropy' h ∙ same.content)
@@ -401,8 +418,8 @@ resize_left oldsize old answer new h = moved_left oldsize old.disk old.disk old.
 -- ---- `kill`
 
 killed_left : (start disk : DiskState) (entropy : EntropyState) (answer : Result (Unit {0}) Refusal) (disk' : DiskState) (entropy' : EntropyState) → Same start disk → Kills disk entropy answer disk' entropy' → Left Destroys start answer disk'
-killed_left start disk entropy (Ok done) disk' entropy' same h = moments_from (λ n. HoldsNoMetadata n) start disk disk'.content same h.gone
-killed_left start disk entropy (Err refusals.DeviceFault) disk' entropy' same h = inr (moments_from (λ n. HoldsNoMetadata n) start disk disk'.content same h.gone)
+killed_left start disk entropy (Ok done) disk' entropy' same h = moments_from (λ n. HoldsNoMetadata n) start disk disk'.content same (gone-Logs h.random disk disk' h.logs)
+killed_left start disk entropy (Err refusals.DeviceFault) disk' entropy' same h = inr (moments_from (λ n. HoldsNoMetadata n) start disk disk'.content same (gone-FailsIn h.random disk disk' h.fails))
 killed_left start disk entropy (Err refusals.EntropyFault) disk' entropy' same h = inl (ap (λ (d : DiskState). d.content) h.unchanged ∙ same.content)
 killed_left start disk entropy (Err (refusals.TooSmall bytes)) disk' entropy' same h = inl (ap (λ (d : DiskState). d.content) h.disk_unchanged ∙ same.content)
 killed_left start disk entropy (Err refusal) disk' entropy' same h = absurd h

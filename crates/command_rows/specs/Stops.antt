@@ -1,7 +1,7 @@
 -- What a disk may hold at each moment of a line that changes its metadata, whenever power fails: the old or the new.
 use Rattle.std.specs.Prelude.{◌≡◌, ◌⊎◌, ℕ, ℤ, Bool, true, false, IsTrue, List, Option, Some, None, unwrap_or, MatchOption, Ok, slice_get}
 use Rattle.std.specs.Option.{option_or}
-use Rattle.backup_restore.specs.Restoring.{GivesMetadata}
+use Rattle.backup_restore.specs.Restoring.{GivesMetadata, IsBackedUp}
 use Rattle.block_traits.specs.Cabinet.{Files}
 use Rattle.block_traits.specs.Disk.{DiskState, last_sector}
 use Rattle.block_traits.specs.Moments.{AtEachMoment, HoldsOnceFlushed, KeepsAlone, KeepsOldOr}
@@ -14,8 +14,8 @@ use Rattle.eli_base.specs.declared.parameters.MasterKey.{MasterKey}
 use Rattle.eli_metadata.specs.Format.{encoded}
 use Rattle.eli_metadata.specs.Place.{IsSectorOf}
 use Rattle.eli_metadata.specs.declared.metadata.Metadata.{Metadata}
-use Rattle.key_commands.specs.DeleteKeys.{Deletion, IsWithout}
-use Rattle.key_commands.specs.NewKey.{KeyChange, MakesKey}
+use Rattle.key_commands.specs.DeleteKeys.{Deletion, HasOtherKeys, IsWithout}
+use Rattle.key_commands.specs.NewKey.{HasNewKey, KeyChange, MakesKey}
 use Rattle.key_commands.specs.Overwriting.{HasNoKey}
 use Rattle.key_commands.specs.Usable.{IsUsable}
 use Rattle.key_commands.specs.declared.options.InitOptions.{InitOptions}
@@ -64,6 +64,7 @@ pub record PutsKey (holding : Holding) (told : Option Files) (line : List ℕ) (
   pub given : asked.iterations ≡ iterations
   pub m : Metadata
   pub makes : MakesKey asked m
+  pub usable : HasNewKey asked m makes.key.bytes
   pub kept : KeepsOldOr (IsSectorOf m) (last_sector old) old.content new.content
   pub alone : IsTrue done → KeepsAlone (encoded m) (last_sector old) new.content
 
@@ -73,6 +74,7 @@ pub record PutsKey (holding : Holding) (told : Option Files) (line : List ℕ) (
 pub record IsCleared (asked : Deletion) (old new : DiskState) : Type 0 where
   pub m : Metadata
   pub without : IsWithout asked m
+  pub usable : HasOtherKeys asked m
   pub alone : KeepsAlone (encoded m) (last_sector old) new.content
 
 -- Keys in the last sector are deleted. At each moment each value that the last sector may hold is one from before, or the metadata with other bytes in the
@@ -107,18 +109,21 @@ pub record PutsBack (told : Option Files) (line : List ℕ) (file : Span) (force
   pub named : IsFile file_limit told line file bytes
   pub m : Metadata
   pub gives : GivesMetadata bytes force old.size m
+  pub usable : IsBackedUp bytes force m
   pub kept : KeepsOldOr (IsSectorOf m) (last_sector old) old.content new.content
   pub alone : IsTrue done → KeepsAlone (encoded m) (last_sector old) new.content
 
 -- ---- `resize` and `kill`
 
 -- The metadata move from the end of the image as it was to the end that it has, with its size. Until a flush landed, each value that any sector may hold is one from before;
--- from then on each image of a crash without an altered sector has the new metadata in the last sector, or the old ones in the old place.
+-- from then on each image of a crash without an altered sector has the new metadata in the last sector, or the old ones in the old place. Once it's done the last sector holds the
+-- new ones alone.
 pub record MovesToEnd (oldsize : ℕ) (old : DiskState) (done : Bool) (new : DiskState) : Type 0 where
   pub m : Metadata
   pub found : IsReadAs old (old_place oldsize) (Ok m)
   pub size : m.provsize ≡ oldsize
   pub keeps : KeepsOneOf (grown m old.size) (old_place oldsize) m old new
+  pub alone : IsTrue done → KeepsAlone (encoded (grown m old.size)) (last_sector old) new.content
 
 -- once a flush landed, no value that the last sector may hold is metadata
 abbrev pub Destroys : DiskState → Bool → DiskState → Type 0
@@ -136,7 +141,23 @@ ChangesMetadata line (commands.Delkey prov all force slot) told holding old done
 ChangesMetadata line (commands.Kill prov) told holding old done new = Destroys old done new
 ChangesMetadata line (commands.Restore file prov force) told holding old done new = PutsBack told line file force old done new
 ChangesMetadata line (commands.Resize prov oldsize) told holding old done new = MovesToEnd oldsize old done new
-ChangesMetadata line command told holding old done new = Unit {0}
+ChangesMetadata line commands.List told holding old done new = Unit {0}
+ChangesMetadata line (commands.Dump prov) told holding old done new = Unit {0}
+ChangesMetadata line (commands.Attach prov only_check readonly slot words) told holding old done new = Unit {0}
+ChangesMetadata line (commands.Detach prov) told holding old done new = Unit {0}
+ChangesMetadata line (commands.Read prov sector count) told holding old done new = Unit {0}
+ChangesMetadata line (commands.Write prov sector hex) told holding old done new = Unit {0}
+ChangesMetadata line (commands.Flush prov) told holding old done new = Unit {0}
+ChangesMetadata line (commands.Backup prov file) told holding old done new = Unit {0}
+ChangesMetadata line (commands.Fill prov seed start count) told holding old done new = Unit {0}
+ChangesMetadata line (commands.Sum prov start count) told holding old done new = Unit {0}
+ChangesMetadata line (commands.Eject prov) told holding old done new = Unit {0}
+ChangesMetadata line (commands.Submit prov job) told holding old done new = Unit {0}
+ChangesMetadata line (commands.Step prov tag) told holding old done new = Unit {0}
+ChangesMetadata line (commands.Reap prov tag) told holding old done new = Unit {0}
+ChangesMetadata line (commands.Suspend prov) told holding old done new = Unit {0}
+ChangesMetadata line (commands.Resume prov words) told holding old done new = Unit {0}
+ChangesMetadata line (commands.Verify prov file count restart) told holding old done new = Unit {0}
 
 -- one that is refused changes them so up to where it stopped, or leaves the disk's content as it is
 abbrev pub ChangesOrStays : (DiskState → Bool → DiskState → Type 0) → Answer → DiskState → DiskState → Type 0

@@ -112,7 +112,8 @@ pub fn a_sweep_lists_each_failing_unit_once()
 /// name, and so is the old key of an idle drawer; those of `restore` are the backup in the named file. This is said of the files from
 /// before the line, where the cabinet tells them. `setkey` leaves all but its slot, its bit and the iterations, which still make the other slot's key; so does `delkey` but for the slots that are
 /// named, which are clear in each value that may be held once a flush landed, and zeros once it's done. Until the first flush of `resize` landed, each value that a sector may
-/// hold is one from before; from then on, unless a sector is altered, the last sector has the new metadata or the old place the old ones.
+/// hold is one from before; from then on, unless a sector is altered, the last sector has the new metadata or the old place the old ones;
+/// once it's done the last sector holds the new metadata alone.
 /// Once a flush of `kill` landed, no value that the last sector may hold is metadata. A line that is refused may have stopped at any event of these,
 /// or it leaves the content as it is.
 pub fn a_line_leaves_old_or_new()

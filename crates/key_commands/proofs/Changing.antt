@@ -1,5 +1,5 @@
 -- What a new key changes in the metadata, and what it keeps.
-use Rattle.std.proofs.Common.{◌≡◌, ◌≢◌, ◌==◌, ◌&&◌, ◌||◌, ℕ, ℤ, pos, negsuc, zero, suc, ◌^◌, ◌<◌, refl, sym, ap, subst, ◌∙◌, arith, cond, true, false, not, Bool, IsTrue, is_some, nat_le, bit_and, inl, inr, ◌⊎◌, List, Option, Some, None, Result, Ok, Err}
+use Rattle.std.proofs.Common.{◌≡◌, ◌≢◌, ◌==◌, ◌&&◌, ◌||◌, ℕ, ℤ, pos, negsuc, zero, suc, ◌^◌, ◌<◌, refl, sym, ap, subst, ◌∙◌, arith, cond, true, false, not, Bool, IsTrue, is_some, nat_le, bit_and, inl, inr, ◌⊎◌, List, length, Option, Some, None, Result, Ok, Err}
 use Rattle.std.proofs.lemmas.Bool.{eqb-true}
 use Rattle.std.proofs.lemmas.Bool.Decides.{nat_tests}
 use Rattle.std.proofs.lemmas.Nat.{and_assoc, pow_apart}
@@ -10,13 +10,15 @@ use Rattle.eli_base.specs.declared.algorithms.Cipher.{Cipher}
 use Rattle.eli_base.specs.declared.algorithms.Cipher.TheVariants.{AesCbc, AesXts}
 use Rattle.eli_base.specs.declared.refusals.Refusal.{Refusal}
 use Rattle.eli_base.specs.declared.refusals.Refusal.TheVariants as refusals
+use Rattle.eli_metadata.proofs.Laws.{metadata_in-encoded}
 use Rattle.eli_metadata.proofs.Supported.{said}
 use Rattle.eli_metadata.specs.Checks.{Settings, are_clear, is_set, named_slot_opens, slot_matches, supported}
 use Rattle.eli_metadata.specs.declared.metadata.Metadata.{Metadata}
 use Rattle.eli_metadata.specs.declared.metadata.MetaFault.{MetaFault}
 use Rattle.eli_metadata.specs.declared.metadata.MetaFault.TheVariants.{NoValidKeys}
-use Rattle.key_slots.specs.Slots.{IsKeyBits, Opens, SameSlot, with_slot, wrapped}
-use Rattle.key_slots.proofs.Changes.{OpensAsBefore-same}
+use Rattle.key_slots.specs.Slots.{IsKeyBits, IsSlotOf, Opens, SameSlot, deciphered, with_slot, wrapped}
+use Rattle.key_slots.proofs.Changes.{OpensAsBefore-same, bytes_other, bytes_same, set_other, set_same}
+use Rattle.key_slots.proofs.Wrapped.{IsSlotOf-wrapped, length-wrapped}
 use Rattle.user_key.specs.Derivation.{user_key}
 use Rattle.user_key.specs.declared.components.Components.{Components}
 use Rattle.user_key.specs.declared.components.KeyFault.{KeyFault}
@@ -24,8 +26,9 @@ use Rattle.user_key.specs.declared.components.KeyFault.TheVariants.{PassphraseNo
 use Rattle.user_key.specs.declared.components.PassPart.{PassPart}
 use Rattle.user_key.specs.declared.components.PassPart.TheVariants.{Without, Missing, Given}
 use Rattle.user_key.specs.declared.components.UserKey.{UserKey}
-use Rattle.key_commands.specs.NewKey.{IsAcceptedAs, KeepsSlot, KeyChange, MakesKey, change_refusal, is_only_key, iterations_of, new_iterations, new_user_key, with_key}
+use Rattle.key_commands.specs.NewKey.{HasNewKey, IsAcceptedAs, IsAskedFor, KeepsSlot, KeyChange, MakesKey, change_refusal, is_only_key, iterations_of, new_iterations, new_user_key, with_key}
 use Rattle.key_commands.specs.Options.{key_refusal}
+use Rattle.key_commands.specs.Types.{IsWhole}
 
 -- ---- metadata that are checked have an allowed key length
 
@@ -33,7 +36,7 @@ one_holds : (a b : Bool) → (a || b) ≡ true → (a ≡ true) ⊎ (b ≡ true)
 one_holds true b e = inl refl
 one_holds false b e = inr e
 
-IsKeyBits-allowed : (cipher : Cipher) (keylen : ℕ) → allows_length cipher keylen ≡ true → IsKeyBits keylen
+pub IsKeyBits-allowed : (cipher : Cipher) (keylen : ℕ) → allows_length cipher keylen ≡ true → IsKeyBits keylen
 IsKeyBits-allowed AesCbc keylen e = elim (one_holds ((keylen == 128) || (keylen == 192)) (keylen == 256) e) [
   | inl first ↦ elim (one_holds (keylen == 128) (keylen == 192) first) [
     | inl h ↦ inl (eqb-true keylen 128 h)
@@ -186,28 +189,66 @@ change_refusal-none asked key either made =
     ∙ ap key_refusal made
 
 -- the new metadata, by their iterations
-pub MakesKey-with : (asked : KeyChange) (key : UserKey) (m : Metadata) (count : ℤ) → asked.slot < 2 → count ≡ iterations_of asked
+pub MakesKey-with : (asked : KeyChange) (key : UserKey) (m : Metadata) (count : ℤ) → IsAskedFor asked → count ≡ iterations_of asked
     → (is_some asked.iterations ≡ false) ⊎ (is_only_key asked.meta asked.slot ≡ true)
     → user_key asked.parts asked.meta.salt count ≡ Ok key
     → m ≡ with_slot (record asked.meta { iterations = count }) asked.slot (wrapped asked.master key.bytes asked.meta.keylen)
-    → Opens m key.bytes asked.slot asked.master
-    → ((s : ℕ) → s < 2 → s ≢ asked.slot → SameSlot asked.meta m s)
-    → MakesKey asked m
-MakesKey-with asked key m count lt rule either made is opens others =
+    → IsWhole m → MakesKey asked m
+MakesKey-with asked key m count given rule either made is whole =
     let P : ℤ → Type 0 = λ z. user_key asked.parts asked.meta.salt z ≡ Ok key in
     let derived : new_user_key asked ≡ Ok key = subst P rule made in
     let Q : ℤ → Type 0 = λ z. m ≡ with_slot (record asked.meta { iterations = z }) asked.slot (wrapped asked.master key.bytes asked.meta.keylen) in
     let metadata : m ≡ with_key asked key.bytes = subst Q rule is in
     let salt : m.salt ≡ asked.meta.salt = ap (λ (n : Metadata). n.salt) metadata in
-    let keylen : m.keylen ≡ asked.meta.keylen = ap (λ (n : Metadata). n.keylen) metadata in
     let iterations : m.iterations ≡ iterations_of asked = ap (λ (n : Metadata). n.iterations) metadata in
-    let served : change_refusal asked ≡ None = change_refusal-none asked key either derived in
     record {
-      served = served;
+      given = given;
+      served = change_refusal-none asked key either derived;
       key = key;
       derived = rw (salt, iterations) derived;
       metadata = metadata;
-      accepted = rw metadata (IsAcceptedAs-with_key asked key.bytes lt (rw metadata at opens.set));
-      opens = opens;
-      other = λ s ls ne. KeepsSlot-same asked.meta m s (others s ls ne) keylen (λ set parts other e. rw (salt, iterations) (same_key-change asked s ls ne served set parts other e));
+      whole = whole;
     }
+
+-- ---- of what use they are
+
+-- the slot that got the bytes of a master key opens to it
+Opens-with_slot : (old : Metadata) (count : ℤ) (slot : ℕ) (bytes u master : List ℕ) → length old.mkeys ≡ 384 → length bytes ≡ 192 → slot < 2 → IsSlotOf bytes u old.keylen master
+    → Opens (with_slot (record old { iterations = count }) slot bytes) u slot master
+Opens-with_slot old count zero bytes u master long long' lt held =
+    record { set = set_same old.keys 0 lt; slot = record { text = ap (λ (l : List ℕ). deciphered l u old.keylen) (bytes_same old.mkeys bytes 0 long long' lt) ∙ held.text } }
+Opens-with_slot old count (suc zero) bytes u master long long' lt held =
+    record { set = set_same old.keys 1 lt; slot = record { text = ap (λ (l : List ℕ). deciphered l u old.keylen) (bytes_same old.mkeys bytes 1 long long' lt) ∙ held.text } }
+Opens-with_slot old count (suc (suc slot)) bytes u master long long' lt held = absurd (omega arith)
+
+-- the other slot is the same
+SameSlot-with_slot : (old : Metadata) (count : ℤ) (slot s : ℕ) (bytes : List ℕ) → length old.mkeys ≡ 384 → length bytes ≡ 192 → slot < 2 → s < 2 → s ≢ slot
+    → SameSlot old (with_slot (record old { iterations = count }) slot bytes) s
+SameSlot-with_slot old count zero s bytes long long' lt ls ne = record { set = set_other old.keys 0 s lt ne; bytes = bytes_other old.mkeys bytes 0 s long long' lt ls ne }
+SameSlot-with_slot old count (suc zero) s bytes long long' lt ls ne = record { set = set_other old.keys 1 s lt ne; bytes = bytes_other old.mkeys bytes 1 s long long' lt ls ne }
+SameSlot-with_slot old count (suc (suc slot)) s bytes long long' lt ls ne = absurd (omega arith)
+
+KeepsSlot-with_key : (asked : KeyChange) (u : List ℕ) (s : ℕ) → IsAskedFor asked → change_refusal asked ≡ None → length (wrapped asked.master u asked.meta.keylen) ≡ 192 → s < 2 → s ≢ asked.slot
+    → KeepsSlot asked.meta (with_key asked u) s
+KeepsSlot-with_key asked u s given served long ls ne =
+    let same : SameSlot asked.meta (with_key asked u) s =
+    SameSlot-with_slot asked.meta (iterations_of asked) asked.slot s (wrapped asked.master u asked.meta.keylen) given.whole.mkeys long given.there ls ne in
+    KeepsSlot-same asked.meta (with_key asked u) s same refl (same_key-change asked s ls ne served)
+
+has_new_key : (asked : KeyChange) (m : Metadata) (u : List ℕ) → IsAskedFor asked → change_refusal asked ≡ None → m ≡ with_key asked u → IsWhole m → HasNewKey asked m u
+has_new_key asked m u given served is whole =
+    let bits = IsKeyBits-supported asked.meta given.checked in
+    let slot : List ℕ = wrapped asked.master u asked.meta.keylen in
+    let long : length slot ≡ 192 = length-wrapped asked.master u asked.meta.keylen bits given.master.size given.master.bytes in
+    let opens : Opens (with_key asked u) u asked.slot asked.master =
+    Opens-with_slot asked.meta (iterations_of asked) asked.slot slot u asked.master given.whole.mkeys long given.there
+    (IsSlotOf-wrapped asked.master u asked.meta.keylen bits given.master.size given.master.bytes) in
+    record {
+      read = metadata_in-encoded m whole.range whole.salt whole.mkeys;
+      accepted = rw is (IsAcceptedAs-with_key asked u given.there opens.set);
+      opens = rw is opens;
+      other = λ s ls ne. rw is (KeepsSlot-with_key asked u s given served long ls ne);
+    }
+
+pub HasNewKey-makes : (asked : KeyChange) (m : Metadata) (makes : MakesKey asked m) → HasNewKey asked m makes.key.bytes
+HasNewKey-makes asked m makes = has_new_key asked m makes.key.bytes makes.given makes.served makes.metadata makes.whole

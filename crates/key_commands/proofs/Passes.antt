@@ -1,22 +1,27 @@
 -- The passes that overwrite slots, and what they leave.
-use Rattle.std.proofs.Common.{◌≡◌, ◌≢◌, ◌==◌, ℕ, zero, suc, ◌+◌, ◌*◌, ◌<◌, refl, sym, ap, subst, ◌∙◌, arith, false, not, bit_and, IsTrue, Ok, All, List, length, take, replicate, length-append, length-drop}
+use Rattle.std.proofs.Common.{◌≡◌, ◌≢◌, ◌==◌, ℕ, zero, suc, ◌+◌, ◌*◌, ◌<◌, refl, sym, ap, subst, ◌∙◌, arith, true, false, not, nat_lt, cond, bit_and, Bool, IsTrue, Option, Some, None, Ok, All, List, length, take, replicate, length-append, length-drop}
 use Rattle.std.proofs.lemmas.List.{length-take-le, length-replicate}
 use Rattle.std.proofs.lemmas.List.Elements.{All-map, All-weaker}
+use Rattle.std.proofs.lemmas.Bool.Decides.{nat_tests}
 use Rattle.std.proofs.lemmas.Nat.{and_assoc, and_comm}
 use Rattle.block_traits.specs.Content.{last_of}
 use Rattle.block_traits.specs.Disk.{DiskState, Logs, FailsIn, last_sector}
 use Rattle.block_traits.specs.Moments.{KeepsAlone}
 use Rattle.block_traits.specs.Overwriting.{passes_of, zeros}
 use Rattle.block_traits.proofs.Overwritten.{KeepsAlone-overwrite, KeepsOldOr-overwrite, KeepsOldOr-overwrite_part, flushed-overwrite, flushed-overwrite_part, length-passes_of}
+use Rattle.block_traits.specs.Streams.{EntropyState}
+use Rattle.eli_base.specs.declared.refusals.Refusal.{Refusal}
+use Rattle.eli_base.specs.declared.refusals.Refusal.TheVariants.{KeyNumberOutOfRange}
 use Rattle.eli_metadata.specs.Checks.{is_set}
 use Rattle.eli_metadata.specs.Format.{IsInRange, encoded, is_served, metadata_in}
 use Rattle.eli_metadata.specs.declared.metadata.Metadata.{Metadata}
 use Rattle.eli_metadata.proofs.Laws.{metadata_in-encoded}
 use Rattle.key_slots.specs.Slots.{SameSlot, slot_bytes, with_slot_bytes, without_slot}
 use Rattle.key_slots.proofs.Changes.{bytes_same, bytes_other, clear_other}
-use Rattle.key_commands.specs.DeleteKeys.{Deletion, IsWithout, Overwrites}
+use Rattle.key_commands.specs.DeleteKeys.{Deletes, DeletesPart, Deletion, HasOtherKeys, Overwrites}
 use Rattle.key_commands.specs.NewKey.{KeepsSlot}
-use Rattle.key_commands.specs.Overwriting.{HasNoKey, IsThere, IsWhole, Names, filler_size, named_size, pass_events, pass_sectors, sector_without, without_keys}
+use Rattle.key_commands.specs.Overwriting.{HasNoKey, IsThere, Names, deletion_refusal, filler_size, named_size, pass_events, pass_sectors, sector_without, without_keys}
+use Rattle.key_commands.specs.Types.{IsWhole}
 use Rattle.key_commands.specs.declared.overwriting.Which.{Which}
 use Rattle.key_commands.specs.declared.overwriting.Which.TheVariants as slots
 use Rattle.key_commands.proofs.Changing.{KeepsSlot-same}
@@ -104,18 +109,35 @@ slot_bytes-zeros m slots.All (suc zero) there whole named = refl
 slot_bytes-zeros m slots.All (suc (suc s)) there whole named = absurd (omega arith)
 slot_bytes-zeros m (slots.One slot) s there whole named = rw named (bytes_same m.mkeys (replicate 192 0) slot whole.mkeys (length-replicate {A = ℕ} 192 0) there)
 
-pub IsWithout-zeros : (asked : Deletion) (m : Metadata) → IsThere asked.which → IsWhole asked.meta → m ≡ without_keys asked.meta asked.which (zeros (named_size asked.which)) → IsWithout asked m
+-- slots that may go are there
+none_first : (test : Bool) (refusal : Refusal) (rest : Option Refusal) → cond test (Some refusal) rest ≡ None → test ≡ false
+none_first true refusal rest e = absurd (cc)
+none_first false refusal rest e = refl
+
+is_there : (slot : ℕ) → nat_lt 1 slot ≡ false → slot < 2
+is_there slot e = grind (arith, nat_tests)
+
+there_by : (m : Metadata) (which : Which) (force : Bool) → deletion_refusal m which force ≡ None → IsThere which
+there_by m slots.All force served = tt
+there_by m (slots.One slot) force served = is_there slot (none_first (nat_lt 1 slot) (KeyNumberOutOfRange slot) _ served)
+
+pub IsThere-served : (asked : Deletion) → deletion_refusal asked.meta asked.which asked.force ≡ None → IsThere asked.which
+IsThere-served asked served = there_by asked.meta asked.which asked.force served
+
+has_other_keys : (asked : Deletion) (m : Metadata) → IsThere asked.which → IsWhole asked.meta → m ≡ without_keys asked.meta asked.which (zeros (named_size asked.which)) → HasOtherKeys asked m
 unfolding zeros
-IsWithout-zeros asked m there whole is =
+has_other_keys asked m there whole is =
     let last : List ℕ = zeros (named_size asked.which) in
     let size : length last ≡ named_size asked.which = length-replicate {A = ℕ} (named_size asked.which) 0 in
     rw is (record {
-      metadata = refl;
       read = λ served. read-without asked.meta asked.which last there whole size (sym (is_served-without asked.meta asked.which last) ∙ served);
       clear = λ s named. is_set-without asked.meta asked.which last s there named;
       named = λ s named. slot_bytes-zeros asked.meta asked.which s there whole named;
       other = λ s ls other. KeepsSlot-without asked.meta asked.which last s there whole size ls other;
     })
+
+pub HasOtherKeys-Deletes : (asked : Deletion) (disk : DiskState) (entropy : EntropyState) (m : Metadata) (disk' : DiskState) (entropy' : EntropyState) → Deletes asked disk entropy m disk' entropy' → HasOtherKeys asked m
+HasOtherKeys-Deletes asked disk entropy m disk' entropy' h = has_other_keys asked m (IsThere-served asked h.draws.served) h.draws.whole h.without.metadata
 
 -- ---- the sectors of the passes
 
@@ -138,9 +160,9 @@ some-passes m which random = omega arith
 
 -- ---- what the passes leave
 
-pub Overwrites-logs : (asked : Deletion) (random : List ℕ) (disk new : DiskState) → IsThere asked.which → IsWhole asked.meta → length random ≡ filler_size asked.which
+overwrites_logs : (asked : Deletion) (random : List ℕ) (disk new : DiskState) → IsThere asked.which → IsWhole asked.meta → length random ≡ filler_size asked.which
     → Logs (pass_events disk asked.meta asked.which random) disk new → Overwrites asked disk new
-Overwrites-logs asked random disk new there whole size logs =
+overwrites_logs asked random disk new there whole size logs =
     let P : List ℕ → Type 0 = HasNoKey asked.meta asked.which in
     let sectors : List (List ℕ) = pass_sectors asked.meta asked.which random in
     let such : All P sectors = HasNoKey-passes asked.meta asked.which random there whole size in
@@ -149,9 +171,9 @@ Overwrites-logs asked random disk new there whole size logs =
       flushed = flushed-overwrite P (last_sector disk) sectors disk new such logs;
     }
 
-pub Overwrites-fails : (asked : Deletion) (random : List ℕ) (disk new : DiskState) → IsThere asked.which → IsWhole asked.meta → length random ≡ filler_size asked.which
+overwrites_fails : (asked : Deletion) (random : List ℕ) (disk new : DiskState) → IsThere asked.which → IsWhole asked.meta → length random ≡ filler_size asked.which
     → FailsIn (pass_events disk asked.meta asked.which random) disk new → Overwrites asked disk new
-Overwrites-fails asked random disk new there whole size fails =
+overwrites_fails asked random disk new there whole size fails =
     let P : List ℕ → Type 0 = HasNoKey asked.meta asked.which in
     let sectors : List (List ℕ) = pass_sectors asked.meta asked.which random in
     let such : All P sectors = HasNoKey-passes asked.meta asked.which random there whole size in
@@ -160,10 +182,20 @@ Overwrites-fails asked random disk new there whole size fails =
       flushed = flushed-overwrite_part P (last_sector disk) sectors disk new such fails;
     }
 
-pub KeepsAlone-passes : (disk new : DiskState) (m : Metadata) (which : Which) (random : List ℕ) (last : Metadata) → last ≡ without_keys m which (zeros (named_size which))
+keeps_alone : (disk new : DiskState) (m : Metadata) (which : Which) (random : List ℕ) (last : Metadata) → last ≡ without_keys m which (zeros (named_size which))
     → Logs (pass_events disk m which random) disk new → KeepsAlone (encoded last) (last_sector disk) new.content
-KeepsAlone-passes disk new m which random last is logs =
+keeps_alone disk new m which random last is logs =
     let P : List ℕ → Type 0 = λ bytes. KeepsAlone bytes (last_sector disk) new.content in
     let sectors : List (List ℕ) = pass_sectors m which random in
     let alone : P (last_of sectors) = KeepsAlone-overwrite (last_sector disk) sectors disk.content new.content (some-passes m which random) logs.content in
     subst P (last-passes m which random ∙ sym (ap encoded is)) alone
+
+pub Overwrites-Deletes : (asked : Deletion) (disk : DiskState) (entropy : EntropyState) (m : Metadata) (disk' : DiskState) (entropy' : EntropyState) → Deletes asked disk entropy m disk' entropy' → Overwrites asked disk disk'
+Overwrites-Deletes asked disk entropy m disk' entropy' h = overwrites_logs asked h.random disk disk' (IsThere-served asked h.draws.served) h.draws.whole h.draws.size h.logs
+
+pub Overwrites-DeletesPart : (asked : Deletion) (disk : DiskState) (entropy : EntropyState) (disk' : DiskState) (entropy' : EntropyState) → DeletesPart asked disk entropy disk' entropy' → Overwrites asked disk disk'
+Overwrites-DeletesPart asked disk entropy disk' entropy' h = overwrites_fails asked h.random disk disk' (IsThere-served asked h.draws.served) h.draws.whole h.draws.size h.fails
+
+pub KeepsAlone-Deletes : (asked : Deletion) (disk : DiskState) (entropy : EntropyState) (m : Metadata) (disk' : DiskState) (entropy' : EntropyState) → Deletes asked disk entropy m disk' entropy'
+    → KeepsAlone (encoded m) (last_sector disk) disk'.content
+KeepsAlone-Deletes asked disk entropy m disk' entropy' h = keeps_alone disk disk' asked.meta asked.which h.random m h.without.metadata h.logs

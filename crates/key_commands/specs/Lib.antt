@@ -6,4 +6,5 @@ pub mod Options
 pub mod Overwriting
 pub mod Random
 pub mod SetKey
+pub mod Types
 pub mod Usable

@@ -1,9 +1,10 @@
 -- A new key in a slot of the metadata, which wraps the master key that is there (geli(8), setkey).
-use Rattle.std.specs.Prelude.{◌≡◌, ◌≢◌, ℕ, ◌^◌, ◌<◌, ℤ, pos, ◌==◌, ◌&&◌, not, bit_and, Bool, IsTrue, is_some, List, [], ◌∷◌, Option, Some, None, Result, Ok, if◌then◌else◌}
+use Rattle.std.specs.Prelude.{◌≡◌, ◌≢◌, ℕ, ◌^◌, ◌<◌, ℤ, pos, ◌==◌, ◌&&◌, not, bit_and, Bool, IsTrue, IsOk, is_some, List, [], ◌∷◌, Option, Some, None, Result, Ok, if◌then◌else◌}
 use Rattle.std.specs.Int.{is_negative}
 use Rattle.eli_base.specs.declared.refusals.Refusal.{Refusal}
 use Rattle.eli_base.specs.declared.refusals.Refusal.TheVariants.{IterationsNeedOneKey}
 use Rattle.eli_metadata.specs.Checks.{is_set, size_matches, slot_matches, supported}
+use Rattle.eli_metadata.specs.Format.{encoded, is_served, metadata_in}
 use Rattle.eli_metadata.specs.declared.metadata.Metadata.{Metadata}
 use Rattle.key_slots.specs.Slots.{Opens, OpensAsBefore, SameSlot, with_slot, wrapped}
 use Rattle.user_key.specs.Derivation.{user_key}
@@ -13,6 +14,7 @@ use Rattle.user_key.specs.declared.components.PassPart.{PassPart}
 use Rattle.user_key.specs.declared.components.PassPart.TheVariants.{Without, Missing, Given}
 use Rattle.user_key.specs.declared.components.UserKey.{UserKey}
 use Rattle.key_commands.specs.Options.{first_or_key}
+use Rattle.key_commands.specs.Types.{IsMasterKey, IsWhole}
 
 -- what is asked for: the metadata as they were read, the master key, the slot that is to have it, the iterations where they
 -- are given, and the components of the new user key
@@ -70,13 +72,26 @@ pub record IsAcceptedAs (old new : Metadata) (s : ℕ) : Type 0 where
   pub any_slot : slot_matches new None ≡ Ok tt
   pub slot : slot_matches new (Some s) ≡ Ok tt
 
--- nothing is refused, and these are the new metadata: they are accepted, the slot opens to the master key with the user key that the components
--- make under their salt and iterations, and the other slot is kept
+-- what is asked for is as the call takes it: of its types, in a slot that is there, and of metadata that are supported
+pub record IsAskedFor (asked : KeyChange) : Type 0 where
+  pub whole : IsWhole asked.meta
+  pub checked : IsOk (supported asked.meta)
+  pub there : asked.slot < 2
+  pub master : IsMasterKey asked.master
+
+-- nothing is refused, and these are the new metadata, of the user key that the components make under their salt and iterations
 pub record MakesKey (asked : KeyChange) (m : Metadata) : Type 0 where
+  pub given : IsAskedFor asked
   pub served : change_refusal asked ≡ None
   pub key : UserKey
   pub derived : user_key asked.parts m.salt m.iterations ≡ Ok key
   pub metadata : m ≡ with_key asked key.bytes
+  pub whole : IsWhole m
+
+-- of what use new metadata are: they are read again where their version is one that is read, they are accepted, the slot opens to the
+-- master key with the user key u, and the other slot is kept
+pub record HasNewKey (asked : KeyChange) (m : Metadata) (u : List ℕ) : Type 0 where
+  pub read : IsTrue (is_served m.version m.flags) → metadata_in (encoded m) ≡ Ok m
   pub accepted : IsAcceptedAs asked.meta m asked.slot
-  pub opens : Opens m key.bytes asked.slot asked.master
+  pub opens : Opens m u asked.slot asked.master
   pub other : (s : ℕ) → s < 2 → s ≢ asked.slot → KeepsSlot asked.meta m s

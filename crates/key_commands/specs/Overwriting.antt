@@ -8,7 +8,7 @@ use Rattle.eli_base.specs.Refusals.{first_that_holds}
 use Rattle.eli_base.specs.declared.refusals.Refusal.{Refusal}
 use Rattle.eli_base.specs.declared.refusals.Refusal.TheVariants.{KeyNumberOutOfRange, KeyNotSet, LastKey}
 use Rattle.eli_metadata.specs.Checks.{is_set}
-use Rattle.eli_metadata.specs.Format.{IsInRange, encoded, is_served, metadata_in}
+use Rattle.eli_metadata.specs.Format.{encoded, is_served, metadata_in}
 use Rattle.eli_metadata.specs.declared.metadata.Metadata.{Metadata}
 use Rattle.key_slots.specs.Slots.{without_slot}
 use Rattle.key_commands.specs.NewKey.{is_only_key}
@@ -33,12 +33,6 @@ IsThere (slots.One slot) = slot < 2
 pub IsThere-prop : (which : Which) → IsProp (IsThere which)
 IsThere-prop slots.All = Unit-prop
 IsThere-prop (slots.One slot) = le_prop
-
--- each field fits its type
-pub record IsWhole (m : Metadata) : Type 0 where
-  pub range : IsInRange m
-  pub salt : length m.salt ≡ 64
-  pub mkeys : length m.mkeys ≡ 384
 
 -- slot s is named
 abbrev pub Names : Which → ℕ → Type 0

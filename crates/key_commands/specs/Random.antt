@@ -1,5 +1,6 @@
 -- The random bytes of a new provider.
 use Rattle.std.specs.Prelude.{◌≡◌, ℕ, List, length, take, drop}
+use Rattle.aes_core.specs.Schedule.{AreBytes}
 use Rattle.block_traits.specs.Streams.{EntropyState, Takes}
 use Rattle.key_commands.specs.declared.random.RandomParts.{RandomParts}
 
@@ -20,6 +21,7 @@ filler_in random = take 192 (drop 192 random)
 pub record Draws (parts : RandomParts) (old new : EntropyState) : Type 0 where
   pub random : List ℕ
   pub size : length random ≡ random_size
+  pub bytes : AreBytes random
   pub taken : Takes random old new
   pub salt : parts.salt ≡ salt_in random
   pub master : parts.master.bytes ≡ master_key_in random

@@ -11,7 +11,8 @@ use eli_metadata::Metadata;
 /// random bytes and then with zeros (geli(8), `delkey`). Answers the metadata that are then in force.
 ///
 /// `meta` are the metadata as they stand. Each pass stores them. From the first flush on the last sector holds
-/// none in which a named slot is set. The other slot stays.
+/// none in which a named slot is set (`delkey_leaves_old_or_cleared`). The other slot stays
+/// (`delkey_keeps_the_other_key`).
 ///
 /// In this order it is refused as `KeyNumberOutOfRange`, `KeyNotSet` or, unless `force`, as `LastKey` (one slot
 /// is named, and the other holds no key), and then nothing was done; as `EntropyFault`, only where the entropy

@@ -1,18 +1,27 @@
 // What holds of the metadata of a new provider, whatever the random bytes and the user key, and of metadata with a new
-// key or without some.
+// key or without some; and what follows of what `init`, `setkey` and `delkey` did: of what use the metadata are, and what the
+// last sector may hold whenever power fails.
 ghost use Rattle.std.specs.Prelude.{◌≡◌, ◌≢◌, ◌<◌, ◌^◌, ◌⊎◌, ℕ, List, IsTrue, None, Ok, length};
 ghost use Rattle.std.specs.Int.{is_negative};
 ghost use Rattle.aes_core.specs.Schedule.{AreBytes};
 ghost use Rattle.eli_base.specs.Algorithms.{allows_length};
 ghost use Rattle.eli_base.specs.SectorSize.{is_sector_size};
+ghost use Rattle.block_traits.specs.Disk.{DiskState, last_sector};
+ghost use Rattle.block_traits.specs.Moments.{KeepsAlone, KeepsOldOr};
+ghost use Rattle.block_traits.specs.Streams.{EntropyState};
 ghost use Rattle.eli_metadata.specs.Checks.{is_set};
+ghost use Rattle.eli_metadata.specs.Format.{encoded};
+ghost use Rattle.eli_metadata.specs.Place.{IsSectorOf};
 ghost use Rattle.key_slots.specs.Slots.{IsKeyBits, Opens};
 ghost use Rattle.user_key.specs.Derivation.{user_key};
-ghost use Rattle.key_commands.specs.NewKey.{KeyChange, change_refusal, iterations_of};
+ghost use Rattle.key_commands.specs.DeleteKeys.{Deletes, DeletesPart, Deletion, HasOtherKeys, Overwrites};
+ghost use Rattle.key_commands.specs.NewKey.{HasNewKey, KeyChange, MakesKey, change_refusal, iterations_of};
 ghost use Rattle.key_commands.specs.NewMetadata.{new_metadata};
+ghost use Rattle.key_commands.specs.NewProvider.{MakesMetadata, Writes, WritesPart};
 ghost use Rattle.key_commands.specs.Overwriting.{IsThere, Names, without_keys};
 ghost use Rattle.key_commands.specs.Random.{master_key_in, random_size};
-ghost use Rattle.key_commands.specs.Usable.{IsAccepted, OpensFirst};
+ghost use Rattle.key_commands.specs.SetKey.{WritesKey, WritesKeyPart};
+ghost use Rattle.key_commands.specs.Usable.{IsAccepted, IsUsable, OpensFirst};
 
 use crate::{InitOptions, Which};
 use eli_metadata::Metadata;
@@ -49,4 +58,58 @@ pub fn other_key_is_made_again()
 pub fn cleared_slot_opens_no_more()
     ensures { (m : Metadata) (which : Which) (bytes : List ℕ) (s : ℕ) (u master : List ℕ) → IsThere which → Names which s →
         ¬ Opens (without_keys m which bytes) u s master }
+{}
+
+/// The metadata that `init` makes are of use: they are read again from their sector and accepted for the image, a
+/// logical sector is beside them, and the user key that they were made with opens them to the master key among the
+/// random bytes.
+pub fn what_init_makes_is_of_use()
+    ensures { (options : InitOptions) (parts : Components) (sectors : ℕ) (old : EntropyState) (m : Metadata) (new : EntropyState) →
+        (makes : MakesMetadata options parts sectors old m new) → sectors < 2 ^ 44 →
+        IsUsable options parts sectors m makes.key (master_key_in makes.random) }
+{}
+
+/// Whenever power fails in `init`, each value that the last sector may hold is one from before or the new metadata.
+/// Once it's done they are the only one.
+pub fn init_leaves_old_or_new()
+    ensures done { (options : InitOptions) (parts : Components) (disk disk' : DiskState) (entropy entropy' : EntropyState) (m : Metadata) →
+        Writes options parts disk entropy m disk' entropy' →
+        KeepsOldOr (IsSectorOf m) (last_sector disk) disk.content disk'.content × KeepsAlone (encoded m) (last_sector disk) disk'.content }
+    ensures part { (options : InitOptions) (parts : Components) (disk disk' : DiskState) (entropy entropy' : EntropyState) →
+        (part : WritesPart options parts disk entropy disk' entropy') →
+        KeepsOldOr (IsSectorOf part.m) (last_sector disk) disk.content disk'.content }
+{}
+
+/// The metadata that `setkey` makes are of use: they are read again from their sector where their version is one that
+/// is read, they are accepted as the old ones, the slot opens to the master key with the new user key, and the other
+/// slot is kept.
+pub fn what_setkey_makes_is_of_use()
+    ensures { (asked : KeyChange) (m : Metadata) (makes : MakesKey asked m) → HasNewKey asked m makes.key.bytes }
+{}
+
+/// Whenever power fails in `setkey`, each value that the last sector may hold is one from before or the new metadata.
+/// Once it's done they are the only one.
+pub fn setkey_leaves_old_or_new()
+    ensures done { (asked : KeyChange) (disk disk' : DiskState) (m : Metadata) → WritesKey asked disk m disk' →
+        KeepsOldOr (IsSectorOf m) (last_sector disk) disk.content disk'.content × KeepsAlone (encoded m) (last_sector disk) disk'.content }
+    ensures part { (asked : KeyChange) (disk disk' : DiskState) (part : WritesKeyPart asked disk disk') →
+        KeepsOldOr (IsSectorOf part.m) (last_sector disk) disk.content disk'.content }
+{}
+
+/// The metadata that `delkey` leaves are read again from their sector where their version is one that is read, the
+/// named slots are clear and zeros, and the other slot is kept.
+pub fn delkey_keeps_the_other_key()
+    ensures { (asked : Deletion) (disk disk' : DiskState) (entropy entropy' : EntropyState) (m : Metadata) →
+        Deletes asked disk entropy m disk' entropy' → HasOtherKeys asked m }
+{}
+
+/// Whenever power fails in `delkey`, each value that the last sector may hold is one from before or has the named
+/// slots clear, and once a flush landed it is one of the latter. Once it's done the metadata that are left are the
+/// only one.
+pub fn delkey_leaves_old_or_cleared()
+    ensures done { (asked : Deletion) (disk disk' : DiskState) (entropy entropy' : EntropyState) (m : Metadata) →
+        Deletes asked disk entropy m disk' entropy' →
+        Overwrites asked disk disk' × KeepsAlone (encoded m) (last_sector disk) disk'.content }
+    ensures part { (asked : Deletion) (disk disk' : DiskState) (entropy entropy' : EntropyState) →
+        DeletesPart asked disk entropy disk' entropy' → Overwrites asked disk disk' }
 {}

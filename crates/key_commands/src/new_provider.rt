@@ -2,10 +2,12 @@
 ghost use Rattle.std.specs.Prelude.{◌≡◌, ◌<◌, ◌^◌, ◌+◌, ◌++◌};
 ghost use Rattle.key_commands.specs.NewProvider.{Inits};
 ghost use Rattle.key_commands.specs.NewMetadata.{auth_flag, autoresize_flag, metadata_of};
-ghost use Rattle.key_slots.specs.Slots.{IsKeyBits, Opens, wrapped};
+ghost use Rattle.key_commands.specs.Types.{IsWhole};
+ghost use Rattle.key_slots.specs.Slots.{IsKeyBits, wrapped};
 
 use crate::options::{InitOptions, check};
 use crate::random::{RandomParts, draw};
+use crate::types::fits_types;
 use block_traits::{Disk, Entropy};
 use eli_base::{Auth, Refusal};
 use eli_metadata::{FLAG_AUTH, FLAG_AUTORESIZE, Metadata, VERSION, put, replace_metadata};
@@ -41,9 +43,9 @@ fn metadata_of(options: &InitOptions, sectors: u64, random: &RandomParts, key: &
     requires keylen { IsKeyBits options.now.keylen }
     requires small { sectors < 2 ^ 44 }
     ensures fields { result ≡ metadata_of options.now sectors random.now.salt (wrapped random.now.master.bytes key.now.bytes options.now.keylen) random.now.filler }
-    ensures opens { Opens result key.now.bytes 0 random.now.master.bytes }
+    ensures whole { IsWhole result }
 {
-    Metadata {
+    let meta = Metadata {
         version: VERSION,
         flags: flags(options),
         ealgo: options.cipher.number(),
@@ -55,15 +57,19 @@ fn metadata_of(options: &InitOptions, sectors: u64, random: &RandomParts, key: &
         iterations: options.iterations,
         salt: random.salt,
         mkeys: both_slots(&wrap(&random.master, key, options.keylen), &random.filler),
-    }
+    };
+    fits_types(meta);
+    meta
 }
 
 /// Makes a new provider of a disk: its last sector gets new metadata, with a new master key that the user
 /// key of these components opens in slot 0. Answers the metadata.
 ///
-/// The metadata are of use: read from their sector they are the same, they pass `check`, `size_gate` and
-/// `slot_gate` for this disk, a whole logical sector is beside them, and the key that `derive` gives by their
-/// own salt and iterations opens them to the master key among the random bytes.
+/// The metadata are of use (`what_init_makes_is_of_use`): read from their sector they are the same, they pass
+/// `check`, `size_gate` and `slot_gate` for this disk, a whole logical sector is beside them, and the key that
+/// `derive` gives by their own salt and iterations opens them to the master key among the random bytes.
+///
+/// At each moment the last sector holds what it might hold before or the new metadata (`init_leaves_old_or_new`).
 ///
 /// In this order it is refused as `BadKeyLength`, `BadSectorSize` or `TooSmall` (in bytes: fewer than two
 /// device sectors, or no whole logical sector), or as the components of the key are, and then nothing was

@@ -2,9 +2,11 @@
 ghost use Rattle.std.specs.Prelude.{◌≡◌, ◌<◌, ◌≤◌, IfNone, length};
 ghost use Rattle.block_traits.specs.Overwriting.{zeros};
 ghost use Rattle.eli_metadata.specs.Checks.{is_set};
-ghost use Rattle.key_commands.specs.Overwriting.{IsThere, IsThere-prop, IsWhole, deletion_refusal, filler_size, named_size, pass_sectors, without_keys};
+ghost use Rattle.key_commands.specs.Overwriting.{IsThere, IsThere-prop, deletion_refusal, filler_size, named_size, pass_sectors, without_keys};
+ghost use Rattle.key_commands.specs.Types.{IsWhole};
 
 use crate::set_key::is_only_key;
+use crate::types::fits_types;
 use block_traits::{Pass, Sector, passes};
 use eli_base::Refusal;
 use eli_metadata::{Metadata, encode};
@@ -61,13 +63,6 @@ pub fn filler_size(which: Which) -> usize
     ensures bound { result ≤ 1920 }
 {
     RANDOM_PASSES * named_size(which)
-}
-
-// All fields fit their types, so that what each pass writes is read again.
-fn fits_types(meta: Metadata)
-    ensures { IsWhole meta }
-{
-    let _ = meta;
 }
 
 // The metadata with these bytes in the slots, which are then clear.

@@ -3,6 +3,7 @@ ghost use Rattle.std.specs.Prelude.{◌≡◌, IfOk, OnErr};
 ghost use Rattle.block_traits.specs.Streams.{TakesNone};
 ghost use Rattle.key_commands.specs.Random.{Draws, filler_in, master_key_in, salt_in};
 
+use crate::types::are_bytes;
 use block_traits::{Entropy, EntropyFailed};
 use eli_base::MasterKey;
 
@@ -48,6 +49,7 @@ pub fn draw<E: Entropy>(entropy: &mut E) -> Result<RandomParts, EntropyFailed>
 {
     let mut random = [0; 384];
     entropy.fill(&mut random)?;
+    are_bytes(random);
     Ok(RandomParts {
         salt: salt_in(&random),
         master: master_key_in(&random),

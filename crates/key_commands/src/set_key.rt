@@ -1,11 +1,13 @@
 // A new key in a slot.
-ghost use Rattle.std.specs.Prelude.{◌≡◌, ◌≢◌, ◌==◌, ◌<◌, ◌^◌, ℕ, bit_and, IfErr, IfOk, IsOk, Some};
+ghost use Rattle.std.specs.Prelude.{◌≡◌, ◌==◌, ◌<◌, ◌^◌, bit_and, IfErr, IfOk, IsOk, Some};
 ghost use Rattle.eli_metadata.specs.Checks.{supported};
 ghost use Rattle.key_commands.specs.NewKey.{KeyChange, MakesKey, change_refusal, new_iterations};
 ghost use Rattle.key_commands.specs.SetKey.{SetsKey};
-ghost use Rattle.key_slots.specs.Slots.{IsKeyBits, Opens, SameSlot, with_slot, wrapped};
+ghost use Rattle.key_commands.specs.Types.{IsMasterKey, IsWhole};
+ghost use Rattle.key_slots.specs.Slots.{IsKeyBits, with_slot, wrapped};
 
 use crate::storing::store;
+use crate::types::{fits_types, is_master_key};
 use block_traits::MetaPlace;
 use eli_base::{MasterKey, Refusal};
 use eli_metadata::Metadata;
@@ -45,14 +47,18 @@ fn with_key(
     requires keylen { IsKeyBits meta.now.keylen }
     ensures fields { let m = meta.now in
         result ≡ with_slot (record m { iterations = iterations }) slot (wrapped master.now.bytes key.now.bytes m.keylen) }
-    ensures opens { Opens result key.now.bytes slot master.now.bytes }
-    ensures other { (s : ℕ) → s < 2 → s ≢ slot → SameSlot meta.now result s }
+    ensures whole { IsWhole result }
+    ensures before { IsWhole meta.now }
+    ensures master { IsMasterKey master.now.bytes }
 {
     let mut new = Metadata {
         iterations,
         ..*meta
     };
     put_slot(&mut new, slot, &wrap(master, key, meta.keylen));
+    fits_types(new);
+    fits_types(*meta);
+    is_master_key(*master);
     new
 }
 
@@ -87,7 +93,8 @@ fn changed(
 /// `meta` are the metadata as they stand, which `check` accepts, and `master` is the master key that one of
 /// their slots opens to. The slot's bit is set. The iterations become those that are given, or 100,000 where a
 /// passphrase is given and none was set up. All else stays: the salt, the other slot, and so each key that opens
-/// it. At each moment the last sector holds what it might hold before or the new metadata.
+/// it (`what_setkey_makes_is_of_use`). At each moment the last sector holds what it might hold before or the new
+/// metadata, and once it's done these alone (`setkey_leaves_old_or_new`).
 ///
 /// In this order it is refused as `IterationsNeedOneKey`, exactly where iterations are given and the slots that
 /// hold a key aren't the target alone, or as `derive` refuses the components under the new iterations, and then

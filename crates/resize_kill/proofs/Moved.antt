@@ -1,11 +1,14 @@
 -- That metadata which move are never lost.
-use Rattle.std.proofs.Common.{◌≡◌, ◌≢◌, ℕ, zero, suc, ◌+◌, ◌*◌, ◌-◌, ◌<◌, ◌≤◌, ◌==◌, List, [], ◌∷◌, ◌++◌, length, take, refl, ap, sym, subst, ◌∙◌, arith, cond, true, Bool, All, Ok, Option, None, Some, inl, inr, Contains, ne_eqb}
+use Rattle.std.proofs.Common.{◌≡◌, ◌≢◌, ℕ, zero, suc, ◌+◌, ◌*◌, ◌-◌, ◌<◌, ◌≤◌, ◌^◌, ◌==◌, List, [], ◌∷◌, ◌++◌, length, take, refl, ap, sym, subst, ◌∙◌, arith, cond, true, false, Bool, All, Ok, Err, Option, None, Some, inl, inr, Contains, ne_eqb}
 use Rattle.std.proofs.lemmas.Bool.{eq-eqb}
+use Rattle.std.proofs.lemmas.Bool.Decides.{nat_tests}
 use Rattle.std.proofs.Math.Seq.{take-length}
-use Rattle.std.proofs.lemmas.List.Elements.{All-nil, All-cons, All-take, All-contains}
-use Rattle.block_traits.specs.Content.{Content, IsContentOf, last_of, logged, present, kept_values, with_events}
+use Rattle.std.proofs.lemmas.List.Elements.{All-nil, All-cons, All-head, All-tail, All-take, All-contains}
+use Rattle.std.specs.Prelude.{nat_le, nat_lt}
+use Rattle.std.specs.Str.{bytes_eq}
+use Rattle.block_traits.specs.Content.{Content, IsContentOf, kept_after, last_of, logged, present, kept_values, with_events}
 use Rattle.block_traits.specs.Disk.{DiskState, FailsIn, FitsSize, Gives, GivesFrom, Logs, last_sector}
-use Rattle.block_traits.specs.Moments.{AtEachMoment, HoldsOldOr, WaitsForFlush}
+use Rattle.block_traits.specs.Moments.{AtEachMoment, HoldsOldOr, KeepsAlone, WaitsForFlush}
 use Rattle.block_traits.specs.Overwriting.{overwrite_events}
 use Rattle.block_traits.specs.Causes.{Counted}
 use Rattle.block_traits.specs.Streams.{EntropyState}
@@ -16,10 +19,14 @@ use Rattle.block_traits.proofs.Images.{held_at_end, held_when_settled}
 use Rattle.block_traits.proofs.Keeping.{AllHold-one, AllHold-kept_after, AtEachMoment-part, HoldsOldOr-more, WaitsForFlush-more, WritesHere, flushed-more, kept_values-more}
 use Rattle.block_traits.proofs.Logs.{FailsIn-then, Logs-then}
 use Rattle.block_traits.proofs.Overwritten.{WritesHere-overwrite}
-use Rattle.eli_metadata.specs.Format.{encoded, metadata_in}
+use Rattle.eli_base.specs.declared.refusals.Refusal.{Refusal}
+use Rattle.eli_base.specs.declared.refusals.Refusal.TheVariants as refusals
+use Rattle.eli_metadata.specs.Format.{IsInRange, encoded, fields, is_served, magic, metadata_in, number_at}
 use Rattle.eli_metadata.specs.Place.{IsSectorOf}
+use Rattle.eli_metadata.specs.declared.metadata.MetaFault.{MetaFault}
 use Rattle.eli_metadata.specs.declared.metadata.Metadata.{Metadata}
-use Rattle.resize_kill.specs.Resizing.{FindsMetadata, HoldsOneOf, KeepsOneOf, Moves, MovesPart, Prepares, grown, move_events, old_place, size_refusal}
+use Rattle.eli_metadata.proofs.Laws.{flags-fields, metadata_in-encoded, version-fields}
+use Rattle.resize_kill.specs.Resizing.{FindsMetadata, FitsTypes, HoldsOneOf, KeepsOneOf, Moves, MovesPart, Prepares, grown, move_events, old_place, size_refusal}
 use Rattle.resize_kill.specs.Trash.{TakesTrash, trash_sectors}
 
 -- the events of a move
@@ -72,9 +79,26 @@ HoldsOneOf-more last new place old values c (suc (suc (suc k))) end below was fl
     let other : last ≢ place = omega arith in
     inl (held_at_end (λ (value : List ℕ). value ≡ encoded new) now image last end (renewed c last place (encoded new) values k other) unaltered)
 
+at_least : (n : ℕ) → nat_lt n 2 ≡ false → 2 ≤ n
+at_least n e = grind (arith, nat_tests)
+
+is_below : (bound n : ℕ) → nat_le bound n ≡ false → n < bound
+is_below bound n e = grind (arith, nat_tests)
+
+-- sizes that aren't refused: two device sectors or more, and more bytes than the old size
+sizes_by : (a b : Bool) (x y : Refusal) → cond a (Some x) (cond b (Some y) None) ≡ None → (a ≡ false) × (b ≡ false)
+sizes_by false false x y e = (refl, refl)
+sizes_by false true x y e = absurd (cc)
+sizes_by true b x y e = absurd (cc)
+
 -- of an image that grew by a device sector or more the old place is a data sector
-old_place_below : (sectors oldsize : ℕ) → oldsize < 512 * sectors → 1024 ≤ oldsize → old_place oldsize + 1 < sectors
-old_place_below sectors oldsize small least = omega arith
+below_end : (sectors oldsize : ℕ) → 2 ≤ sectors → oldsize < 512 * sectors → old_place oldsize + 1 < sectors
+below_end sectors oldsize enough small = omega arith
+
+old_place_below : (sectors oldsize : ℕ) → size_refusal sectors oldsize ≡ None → old_place oldsize + 1 < sectors
+old_place_below sectors oldsize served =
+    let passed = sizes_by (nat_lt sectors 2) (nat_le (512 * sectors) oldsize) (refusals.TooSmall (512 * sectors)) (refusals.NotGrown (512 * sectors) oldsize) served in
+    below_end sectors oldsize (at_least sectors passed.0) (is_below (512 * sectors) oldsize passed.1)
 
 -- the new place has the new sector alone written
 only_new : (last place : ℕ) (new : List ℕ) (values : List (List ℕ)) → place < last → All (WritesHere (λ value. value ≡ new) last) (moving last new place values)
@@ -99,14 +123,14 @@ told disk place bytes c gives some is =
 keeps-waits : (disk disk' : DiskState) (events : List Event) (k : ℕ) → disk'.content ≡ logged (take k (Flush ∷ events)) disk.content → AtEachMoment WaitsForFlush disk.content disk'.content
 keeps-waits disk disk' events k e = AtEachMoment-part WaitsForFlush (Flush ∷ events) k disk.content disk'.content (λ c j is. WaitsForFlush-more events c j) e
 
-KeepsOneOf-part : (disk disk' : DiskState) (old : Metadata) (oldsize : ℕ) (bytes random : List ℕ) (k : ℕ) → oldsize < 512 * disk.size → 1024 ≤ oldsize → Gives disk (old_place oldsize) bytes → metadata_in bytes ≡ Ok old
+KeepsOneOf-part : (disk disk' : DiskState) (old : Metadata) (oldsize : ℕ) (bytes random : List ℕ) (k : ℕ) → size_refusal disk.size oldsize ≡ None → Gives disk (old_place oldsize) bytes → metadata_in bytes ≡ Ok old
     → disk'.content ≡ logged (take k (move_events disk (old_place oldsize) (grown old disk.size) random)) disk.content → KeepsOneOf (grown old disk.size) (old_place oldsize) old disk disk'
-KeepsOneOf-part disk disk' old oldsize bytes random k small least gives found e =
+KeepsOneOf-part disk disk' old oldsize bytes random k served gives found e =
     let new = grown old disk.size in
     let place = old_place oldsize in
     let last = last_sector disk in
     let values = trash_sectors random in
-    let inside : place + 1 < disk.size = old_place_below disk.size oldsize small least in
+    let inside : place + 1 < disk.size = old_place_below disk.size oldsize served in
     let below : place < last = omega arith in
     record {
       waits = keeps-waits disk disk' (Write last (encoded new) ∷ Flush ∷ overwrite_events place values) k e;
@@ -122,8 +146,8 @@ events_before place new random disk middle same =
     ap (λ (n : ℕ). Flush ∷ Write (n - 1) (encoded new) ∷ Flush ∷ overwrite_events place (trash_sectors random)) same
 
 prepared : (oldsize : ℕ) (disk middle : DiskState) (entropy entropy' : EntropyState) (old : Metadata) (random : List ℕ) → size_refusal disk.size oldsize ≡ None → FindsMetadata (old_place oldsize) oldsize disk old middle
-    → TakesTrash random entropy entropy' → metadata_in (encoded (grown old disk.size)) ≡ Ok (grown old disk.size) → Prepares oldsize disk entropy old random entropy'
-prepared oldsize disk middle entropy entropy' old random sizes found takes again = record {
+    → TakesTrash random entropy entropy' → FitsTypes old → Prepares oldsize disk entropy old random entropy'
+prepared oldsize disk middle entropy entropy' old random sizes found takes fits = record {
   sizes = sizes;
   bytes = found.finds.bytes;
   whole = found.finds.whole;
@@ -131,41 +155,112 @@ prepared oldsize disk middle entropy entropy' old random sizes found takes again
   found = sym found.finds.answered;
   size = found.size;
   takes = takes;
-  again = again;
+  fits = fits;
 }
 
 -- what the parts of a move did is what it did
-pub moves : (oldsize : ℕ) (disk middle disk' : DiskState) (entropy entropy' : EntropyState) (old : Metadata) (random : List ℕ) → size_refusal disk.size oldsize ≡ None → oldsize < 512 * disk.size → 1024 ≤ oldsize
-    → FindsMetadata (old_place oldsize) oldsize disk old middle → TakesTrash random entropy entropy' → metadata_in (encoded (grown old disk.size)) ≡ Ok (grown old disk.size)
+pub moves : (oldsize : ℕ) (disk middle disk' : DiskState) (entropy entropy' : EntropyState) (old : Metadata) (random : List ℕ) → size_refusal disk.size oldsize ≡ None
+    → FindsMetadata (old_place oldsize) oldsize disk old middle → TakesTrash random entropy entropy' → FitsTypes old
     → Logs (move_events middle (old_place oldsize) (grown old disk.size) random) middle disk' → disk'.reads ≡ middle.reads → Moves oldsize disk entropy disk' entropy'
-moves oldsize disk middle disk' entropy entropy' old random sizes small least found takes again logs unasked =
-    let events = move_events disk (old_place oldsize) (grown old disk.size) random in
+moves oldsize disk middle disk' entropy entropy' old random sizes found takes fits logs unasked =
     let P : List Event → Type 0 = λ es. Logs es middle disk' in
-    let whole : Logs events disk disk' =
-    Logs-then [] events found.finds.logs (subst P (events_before (old_place oldsize) (grown old disk.size) random disk middle found.finds.logs.size) logs) in
     record {
       old = old;
       random = random;
-      prepares = prepared oldsize disk middle entropy entropy' old random sizes found takes again;
-      logs = whole;
+      prepares = prepared oldsize disk middle entropy entropy' old random sizes found takes fits;
+      logs = Logs-then [] (move_events disk (old_place oldsize) (grown old disk.size) random) found.finds.logs
+          (subst P (events_before (old_place oldsize) (grown old disk.size) random disk middle found.finds.logs.size) logs);
       asked = subst (λ (n : ℕ). Counted 1 disk.reads n) (sym unasked) found.finds.asked;
-      keeps = KeepsOneOf-part disk disk' old oldsize found.finds.bytes random (length events) small least found.finds.told (sym found.finds.answered)
-          (whole.content ∙ ap (λ (es : List Event). logged es disk.content) (sym (take-length events)));
     }
 
-pub moves_part : (oldsize : ℕ) (disk middle disk' : DiskState) (entropy entropy' : EntropyState) (old : Metadata) (random : List ℕ) → size_refusal disk.size oldsize ≡ None → oldsize < 512 * disk.size → 1024 ≤ oldsize
-    → FindsMetadata (old_place oldsize) oldsize disk old middle → TakesTrash random entropy entropy' → metadata_in (encoded (grown old disk.size)) ≡ Ok (grown old disk.size)
+pub moves_part : (oldsize : ℕ) (disk middle disk' : DiskState) (entropy entropy' : EntropyState) (old : Metadata) (random : List ℕ) → size_refusal disk.size oldsize ≡ None
+    → FindsMetadata (old_place oldsize) oldsize disk old middle → TakesTrash random entropy entropy' → FitsTypes old
     → FailsIn (move_events middle (old_place oldsize) (grown old disk.size) random) middle disk' → disk'.reads ≡ middle.reads → MovesPart oldsize disk entropy disk' entropy'
-moves_part oldsize disk middle disk' entropy entropy' old random sizes small least found takes again fails unasked =
-    let events = move_events disk (old_place oldsize) (grown old disk.size) random in
+moves_part oldsize disk middle disk' entropy entropy' old random sizes found takes fits fails unasked =
     let P : List Event → Type 0 = λ es. FailsIn es middle disk' in
-    let part : FailsIn events disk disk' =
-    FailsIn-then [] events found.finds.logs (subst P (events_before (old_place oldsize) (grown old disk.size) random disk middle found.finds.logs.size) fails) in
     record {
       old = old;
       random = random;
-      prepares = prepared oldsize disk middle entropy entropy' old random sizes found takes again;
-      fails = part;
+      prepares = prepared oldsize disk middle entropy entropy' old random sizes found takes fits;
+      fails = FailsIn-then [] (move_events disk (old_place oldsize) (grown old disk.size) random) found.finds.logs
+          (subst P (events_before (old_place oldsize) (grown old disk.size) random disk middle found.finds.logs.size) fails);
       asked = subst (λ (n : ℕ). Counted 1 disk.reads n) (sym unasked) found.finds.asked;
-      keeps = KeepsOneOf-part disk disk' old oldsize found.finds.bytes random part.count small least found.finds.told (sym found.finds.answered) part.logs.content;
     }
+
+-- ---- what a move leaves
+
+pub KeepsOneOf-Moves : (oldsize : ℕ) (disk disk' : DiskState) (entropy entropy' : EntropyState) (moves : Moves oldsize disk entropy disk' entropy')
+    → KeepsOneOf (grown moves.old disk.size) (old_place oldsize) moves.old disk disk'
+KeepsOneOf-Moves oldsize disk disk' entropy entropy' moves =
+    let events = move_events disk (old_place oldsize) (grown moves.old disk.size) moves.random in
+    KeepsOneOf-part disk disk' moves.old oldsize moves.prepares.bytes moves.random (length events) moves.prepares.sizes moves.prepares.told moves.prepares.found
+    (moves.logs.content ∙ ap (λ (es : List Event). logged es disk.content) (sym (take-length events)))
+
+pub KeepsOneOf-MovesPart : (oldsize : ℕ) (disk disk' : DiskState) (entropy entropy' : EntropyState) (moves : MovesPart oldsize disk entropy disk' entropy')
+    → KeepsOneOf (grown moves.old disk.size) (old_place oldsize) moves.old disk disk'
+KeepsOneOf-MovesPart oldsize disk disk' entropy entropy' moves =
+    KeepsOneOf-part disk disk' moves.old oldsize moves.prepares.bytes moves.random moves.fails.count moves.prepares.sizes moves.prepares.told moves.prepares.found moves.fails.logs.content
+
+-- the last sector is settled by the flush behind it, and the passes behind that write elsewhere
+alone_after : (events : List Event) (value : List ℕ) (last : ℕ) → All (WritesHere (λ other. ⊥) last) events → kept_after events last (value ∷ []) ≡ value ∷ []
+alone_after [] value last all = refl
+alone_after (Write m new ∷ events) value last all =
+    let P = WritesHere (λ other. ⊥) last in
+    let other : m ≢ last = All-head P (Write m new) events all in
+    ap (kept_after events last) (written_elsewhere m last (value ∷ []) new other) ∙ alone_after events value last (All-tail P (Write m new) events all)
+alone_after (Flush ∷ events) value last all = alone_after events value last (All-tail (WritesHere (λ other. ⊥) last) Flush events all)
+
+alone_moved : (c : Content) (last place : ℕ) (new : List ℕ) (values : List (List ℕ)) → last ≢ place → kept_values (with_events (moving last new place values) c) last ≡ new ∷ []
+alone_moved c last place new values other =
+    let first : List (List ℕ) = last_of (kept_values c last) ∷ [] in
+    let here : (last == last) ≡ true = eq-eqb last last refl in
+    let is : last_of (cond (last == last) (first ++ new ∷ []) first) ≡ new =
+    ap (λ (b : Bool). last_of (cond b (first ++ new ∷ []) first)) here ∙ last_of-push first new in
+    let behind : All (WritesHere (λ other. ⊥) last) (overwrite_events place values) = WritesHere-overwrite (λ other. ⊥) last place values (λ same. absurd (other (sym same))) in
+    kept_values-more c (moving last new place values) last
+    ∙ ap (λ (value : List ℕ). kept_after (overwrite_events place values) last (value ∷ [])) is
+    ∙ alone_after (overwrite_events place values) new last behind
+
+alone_told : (told after : Option Content) (last place : ℕ) (new : List ℕ) (values : List (List ℕ)) → last ≢ place → after ≡ logged (moving last new place values) told → KeepsAlone new last after
+alone_told None after last place new values other e = rw e tt
+alone_told (Some c) after last place new values other e = rw e (alone_moved c last place new values other)
+
+pub KeepsAlone-Moves : (oldsize : ℕ) (disk disk' : DiskState) (entropy entropy' : EntropyState) (moves : Moves oldsize disk entropy disk' entropy')
+    → KeepsAlone (encoded (grown moves.old disk.size)) (last_sector disk) disk'.content
+KeepsAlone-Moves oldsize disk disk' entropy entropy' moves =
+    let inside : old_place oldsize + 1 < disk.size = old_place_below disk.size oldsize moves.prepares.sizes in
+    let other : last_sector disk ≢ old_place oldsize = omega arith in
+    alone_told disk.content disk'.content (last_sector disk) (old_place oldsize) (encoded (grown moves.old disk.size)) (trash_sectors moves.random) other moves.logs.content
+
+-- ---- the metadata that are written are read again
+
+-- of three tests the second holds
+second_holds : (a b c : Bool) (value other : Metadata) (x y z : MetaFault) → cond a (cond b (cond c (Ok value) (Err z)) (Err y)) (Err x) ≡ Ok other → (b ≡ true) × (value ≡ other)
+second_holds true true true value other x y z e = (refl, cc e)
+second_holds true true false value other x y z e = absurd (cc e)
+second_holds true false c value other x y z e = absurd (cc e)
+second_holds false b c value other x y z e = absurd (cc e)
+
+is_served-read : (bytes : List ℕ) (m : Metadata) → metadata_in bytes ≡ Ok m → is_served m.version m.flags ≡ true
+unfolding metadata_in
+is_served-read bytes m e =
+    let both = second_holds (bytes_eq (take 16 bytes) magic) (is_served (number_at bytes 16 4) (number_at bytes 20 4)) _ (fields bytes) m _ _ _ e in
+    let version : is_served (fields bytes).version (fields bytes).flags ≡ true = rw (← version-fields bytes, ← flags-fields bytes) both.0 in
+    subst (λ (x : Metadata). is_served x.version x.flags ≡ true) both.1 version
+
+grown_fits : (old : Metadata) (sectors : ℕ) → IsInRange old → sectors < 2 ^ 44 → IsInRange (grown old sectors)
+grown_fits old sectors range small = record {
+  version = range.version;
+  flags = range.flags;
+  ealgo = range.ealgo;
+  keylen = range.keylen;
+  aalgo = range.aalgo;
+  provsize = omega arith;
+  sectorsize = range.sectorsize;
+  iterations = range.iterations;
+}
+
+pub read_again : (oldsize : ℕ) (disk : DiskState) (entropy entropy' : EntropyState) (old : Metadata) (random : List ℕ) → Prepares oldsize disk entropy old random entropy'
+    → metadata_in (encoded (grown old disk.size)) ≡ Ok (grown old disk.size)
+read_again oldsize disk entropy entropy' old random prepares =
+    metadata_in-encoded (grown old disk.size) (grown_fits old disk.size prepares.fits.range disk.well_formed.bound) prepares.fits.salt prepares.fits.mkeys (is_served-read prepares.bytes old prepares.found)

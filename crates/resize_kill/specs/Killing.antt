@@ -2,7 +2,7 @@
 use Rattle.std.specs.Prelude.{◌≡◌, ℕ, ◌*◌, ◌<◌, ◌≤◌, List, Result, Ok, Err}
 use Rattle.block_traits.specs.Content.{Content}
 use Rattle.block_traits.specs.Disk.{DiskState, FailsIn, Logs, last_sector}
-use Rattle.block_traits.specs.Moments.{AtEachMoment, HoldsOnceFlushed}
+use Rattle.block_traits.specs.Moments.{HoldsOnceFlushed}
 use Rattle.block_traits.specs.Overwriting.{overwrite_events}
 use Rattle.block_traits.specs.Streams.{EntropyState, TakesNone}
 use Rattle.block_traits.specs.declared.disk.Event.{Event}
@@ -31,7 +31,6 @@ pub record Destroys (disk : DiskState) (entropy : EntropyState) (disk' : DiskSta
   pub takes : TakesTrash random entropy entropy'
   pub logs : Logs (kill_events disk random) disk disk'
   pub unasked : disk'.reads ≡ disk.reads
-  pub gone : AtEachMoment (HoldsNoMetadata (last_sector disk)) disk.content disk'.content
 
 -- the disk failed after a part of the events, and nothing was read
 pub record DestroysPart (disk : DiskState) (entropy : EntropyState) (disk' : DiskState) (entropy' : EntropyState) : Type 0 where
@@ -40,7 +39,6 @@ pub record DestroysPart (disk : DiskState) (entropy : EntropyState) (disk' : Dis
   pub takes : TakesTrash random entropy entropy'
   pub fails : FailsIn (kill_events disk random) disk disk'
   pub unasked : disk'.reads ≡ disk.reads
-  pub gone : AtEachMoment (HoldsNoMetadata (last_sector disk)) disk.content disk'.content
 
 -- there were no random bytes, and the disk is as it was
 pub record HasNoTrash (disk : DiskState) (entropy : EntropyState) (disk' : DiskState) (entropy' : EntropyState) : Type 0 where

@@ -11,7 +11,7 @@ use Rattle.eli_base.specs.Refusals.{first_that_holds}
 use Rattle.eli_base.specs.declared.refusals.Refusal.{Refusal}
 use Rattle.eli_base.specs.declared.refusals.Refusal.TheVariants.{EntropyFault, DeviceFault}
 use Rattle.eli_base.specs.declared.refusals.Refusal.TheVariants as refusals
-use Rattle.eli_metadata.specs.Format.{encoded, metadata_in}
+use Rattle.eli_metadata.specs.Format.{IsInRange, encoded, metadata_in}
 use Rattle.eli_metadata.specs.Place.{IsSectorOf, replace_events}
 use Rattle.eli_metadata.specs.Refusals.{refusal_of}
 use Rattle.eli_metadata.specs.declared.metadata.MetaFault.{MetaFault}
@@ -86,8 +86,13 @@ pub record KeepsOneOf (new : Metadata) (place : ℕ) (old : Metadata) (disk disk
   pub last : KeepsOldOr (IsSectorOf new) (last_sector disk) disk.content disk'.content
   pub one : AtEachMoment (HoldsOneOf (last_sector disk) new place old) disk.content disk'.content
 
--- nothing is refused: the old place was read as these metadata, the random bytes were taken, and the metadata with the
--- image's size are read again
+-- each field of the metadata fits its type
+pub record FitsTypes (m : Metadata) : Type 0 where
+  pub range : IsInRange m
+  pub salt : length m.salt ≡ 64
+  pub mkeys : length m.mkeys ≡ 384
+
+-- nothing is refused: the old place was read as these metadata, and the random bytes were taken
 pub record Prepares (oldsize : ℕ) (disk : DiskState) (entropy : EntropyState) (old : Metadata) (random : List ℕ) (entropy' : EntropyState) : Type 0 where
   pub sizes : size_refusal disk.size oldsize ≡ None
   pub bytes : List ℕ
@@ -96,7 +101,7 @@ pub record Prepares (oldsize : ℕ) (disk : DiskState) (entropy : EntropyState) 
   pub found : metadata_in bytes ≡ Ok old
   pub size : old.provsize ≡ oldsize
   pub takes : TakesTrash random entropy entropy'
-  pub again : metadata_in (encoded (grown old disk.size)) ≡ Ok (grown old disk.size)
+  pub fits : FitsTypes old
 
 -- the metadata were moved with all of the events, and one sector was read
 pub record Moves (oldsize : ℕ) (disk : DiskState) (entropy : EntropyState) (disk' : DiskState) (entropy' : EntropyState) : Type 0 where
@@ -105,7 +110,6 @@ pub record Moves (oldsize : ℕ) (disk : DiskState) (entropy : EntropyState) (di
   pub prepares : Prepares oldsize disk entropy old random entropy'
   pub logs : Logs (move_events disk (old_place oldsize) (grown old disk.size) random) disk disk'
   pub asked : Counted 1 disk.reads disk'.reads
-  pub keeps : KeepsOneOf (grown old disk.size) (old_place oldsize) old disk disk'
 
 -- the disk failed after a part of the events, and one sector was read
 pub record MovesPart (oldsize : ℕ) (disk : DiskState) (entropy : EntropyState) (disk' : DiskState) (entropy' : EntropyState) : Type 0 where
@@ -114,7 +118,6 @@ pub record MovesPart (oldsize : ℕ) (disk : DiskState) (entropy : EntropyState)
   pub prepares : Prepares oldsize disk entropy old random entropy'
   pub fails : FailsIn (move_events disk (old_place oldsize) (grown old disk.size) random) disk disk'
   pub asked : Counted 1 disk.reads disk'.reads
-  pub keeps : KeepsOneOf (grown old disk.size) (old_place oldsize) old disk disk'
 
 -- the one read of the old place failed, and the disk has no event
 pub record CannotRead (oldsize : ℕ) (disk : DiskState) (entropy : EntropyState) (disk' : DiskState) (entropy' : EntropyState) : Type 0 where

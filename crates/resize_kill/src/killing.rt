@@ -10,7 +10,8 @@ use eli_base::Refusal;
 /// flushed, five times with random bytes and once with zeros, and the first sixteen bytes, where the magic
 /// stands, are zeros each time (geli(8), kill). Nothing is read.
 ///
-/// Once the first flush landed the last sector is no metadata any more, whenever power fails, so no key opens it.
+/// Once the first flush landed the last sector is no metadata any more, whenever power fails, so no key opens it
+/// (`kill_leaves_no_metadata`).
 ///
 /// In this order it is refused as `TooSmall` (in bytes), exactly where there are fewer than two device
 /// sectors, and then nothing was done; as `EntropyFault`, only where the entropy failed, and then the disk

@@ -5,8 +5,12 @@
 #![tactic(auto)]
 
 mod killing;
+mod laws;
 mod resizing;
 mod trash;
 
 pub use killing::kill;
+pub use laws::{
+    kill_leaves_no_metadata, resize_leaves_one_of_both, what_resize_writes_is_read_again,
+};
 pub use resizing::resize;

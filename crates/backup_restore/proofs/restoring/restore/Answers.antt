@@ -1,7 +1,6 @@
 use Rattle.std.proofs.Common.{ℕ, sym, subst}
 use Rattle.block_traits.specs.Disk.{FailsIn, Logs}
 use Rattle.eli_metadata.specs.Place.{replace_events}
-use Rattle.eli_metadata.proofs.Replaced.{KeepsOldOr-replace, KeepsOldOr-replace_part}
 use Rattle.backup_restore.specs.Restoring.{GivesMetadata, restored}
 use Rattle.backup_restore.proofs.restoring.restore.Goals as goal
 
@@ -11,16 +10,15 @@ returns-in-Ok g c =
     let after = g.D.Disk.state c.replace_metadata.new.disk in
     let m = c.in_ok-meta.meta in
     let gives : GivesMetadata c.args.bytes.now c.args.force c.sectors-sectors.result m = record {
+      given = c.in_ok-meta.ensures.given;
       served = sym {b = restored c.args.bytes.now c.args.force c.sectors-sectors.result} c.in_ok-meta.ensures.answer;
-      again = c.replace_metadata.ensures.read c.in_ok-meta.ensures.version;
-      plain = c.in_ok-meta.ensures.plain;
+      fits = c.fits_types.ensures;
     } in
     let logs : Logs (replace_events disk m) disk after = c.in-Ok.ensures.ok in
     record {
       gives = subst (λ (n : ℕ). GivesMetadata c.args.bytes.now c.args.force n m) c.sectors-sectors.ensures gives;
       logs = logs;
       unasked = c.replace_metadata.ensures.unasked;
-      kept = KeepsOldOr-replace disk after m logs;
     }
 
 pub returns-in-Err : goal.returns-in-Err
@@ -29,9 +27,9 @@ returns-in-Err g c =
     let after = g.D.Disk.state c.replace_metadata.new.disk in
     let m = c.in_ok-meta.meta in
     let gives : GivesMetadata c.args.bytes.now c.args.force c.sectors-sectors.result m = record {
+      given = c.in_ok-meta.ensures.given;
       served = sym {b = restored c.args.bytes.now c.args.force c.sectors-sectors.result} c.in_ok-meta.ensures.answer;
-      again = c.replace_metadata.ensures.read c.in_ok-meta.ensures.version;
-      plain = c.in_ok-meta.ensures.plain;
+      fits = c.fits_types.ensures;
     } in
     let fails : FailsIn (replace_events disk m) disk after = c.in-Err.ensures.err in
     record {
@@ -39,5 +37,4 @@ returns-in-Err g c =
       gives = subst (λ (n : ℕ). GivesMetadata c.args.bytes.now c.args.force n m) c.sectors-sectors.ensures gives;
       fails = fails;
       unasked = c.replace_metadata.ensures.unasked;
-      kept = KeepsOldOr-replace_part disk after m fails;
     }

@@ -1,9 +1,8 @@
-use Rattle.std.proofs.Common.{◌≡◌, ℕ, Some, ◌<◌, ◌^◌, refl, subst, sym, rules, to_z, of_z}
+use Rattle.std.proofs.Common.{◌≡◌, ℕ, Some, refl, subst, sym, rules, to_z, of_z}
 use Rattle.std.specs.Prelude.{FitsSigned}
 use Rattle.std.specs.Int.{w32}
 use Rattle.std.proofs.lemmas.Int.{to_z-of_z}
 use Rattle.std.proofs.lemmas.Result.{err_from_is_err_and}
-use Rattle.eli_metadata.proofs.Replaced.{KeepsOldOr-replace, KeepsOldOr-replace_part}
 use Rattle.key_commands.specs.NewProvider.{MakesMetadata}
 use Rattle.key_commands.specs.Options.{early_refusal}
 use Rattle.key_commands.proofs.Making.{Inits-refused, makes}
@@ -26,13 +25,11 @@ returns-in-Ok-replace_metadata g c =
     let range : FitsSigned w32 z = search rules in
     let same : to_z w32 (of_z w32 z) ≡ z = to_z-of_z w32 z range in
     let derived = rw same at (sym c.in-Ok-derive.ensures) in
-    let small : c.sectors-sectors.result < 2 ^ 44 = rw c.sectors-sectors.ensures (g.D.Disk.state c.args.disk.now).well_formed.bound in
     let P : ℕ → Type 0 =
     λ n. MakesMetadata c.args.options.now c.args.parts.now n (g.E.Entropy.state c.args.entropy.now) m (g.E.Entropy.state c.draw.new.entropy) in
     let made = makes c.args.options.now c.args.parts.now c.sectors-sectors.result c.in-Ok.random c.in-Ok-derive.key m _ _
-    c.in_ok-check.ensures.ok c.in-Ok.ensures.ok derived c.metadata_of-meta.ensures.fields small c.replace_metadata.ensures.read c.metadata_of-meta.ensures.opens in
-    let logs = c.in-Ok-replace_metadata.ensures.ok in
-    record { makes = subst P c.sectors-sectors.ensures made; logs = logs; unasked = c.replace_metadata.ensures.unasked; kept = KeepsOldOr-replace _ _ _ logs }
+    c.in_ok-check.ensures.ok c.in-Ok.ensures.ok derived c.metadata_of-meta.ensures.fields c.metadata_of-meta.ensures.whole in
+    record { makes = subst P c.sectors-sectors.ensures made; logs = c.in-Ok-replace_metadata.ensures.ok; unasked = c.replace_metadata.ensures.unasked }
 
 pub returns-in-Err : goal.returns-in-Err
 returns-in-Err g c =
@@ -41,10 +38,8 @@ returns-in-Err g c =
     let range : FitsSigned w32 z = search rules in
     let same : to_z w32 (of_z w32 z) ≡ z = to_z-of_z w32 z range in
     let derived = rw same at (sym c.in-Ok-derive.ensures) in
-    let small : c.sectors-sectors.result < 2 ^ 44 = rw c.sectors-sectors.ensures (g.D.Disk.state c.args.disk.now).well_formed.bound in
     let P : ℕ → Type 0 =
     λ n. MakesMetadata c.args.options.now c.args.parts.now n (g.E.Entropy.state c.args.entropy.now) m (g.E.Entropy.state c.draw.new.entropy) in
     let made = makes c.args.options.now c.args.parts.now c.sectors-sectors.result c.in-Ok.random c.in-Ok-derive.key m _ _
-    c.in_ok-check.ensures.ok c.in-Ok.ensures.ok derived c.metadata_of-meta.ensures.fields small c.replace_metadata.ensures.read c.metadata_of-meta.ensures.opens in
-    let fails = c.in-Err.ensures.err in
-    record { m = m; makes = subst P c.sectors-sectors.ensures made; fails = fails; unasked = c.replace_metadata.ensures.unasked; kept = KeepsOldOr-replace_part _ _ _ fails }
+    c.in_ok-check.ensures.ok c.in-Ok.ensures.ok derived c.metadata_of-meta.ensures.fields c.metadata_of-meta.ensures.whole in
+    record { m = m; makes = subst P c.sectors-sectors.ensures made; fails = c.in-Err.ensures.err; unasked = c.replace_metadata.ensures.unasked }

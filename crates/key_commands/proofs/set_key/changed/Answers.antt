@@ -24,5 +24,6 @@ returns-clause-ok c =
       | else-is_some-via-then-is_some+else-not-is_only_key w ↦ inr (search rules)
       | else-is_some-via-else-is_some w ↦ inl (search rules)
     ] in
-    MakesKey-with asked c.in_ok-key.key c.with_key.result count c.requires.slot (rw same_kept at c.new_iterations-count.ensures) either (rw same at (sym c.in_ok-key.ensures))
-    (rw same at c.with_key.ensures.fields) c.with_key.ensures.opens c.with_key.ensures.other
+    let made = c.with_key.ensures in
+    MakesKey-with asked c.in_ok-key.key c.with_key.result count (record { whole = made.before; checked = c.requires.checked; there = c.requires.slot; master = made.master })
+    (rw same_kept at c.new_iterations-count.ensures) either (rw same at (sym c.in_ok-key.ensures)) (rw same at made.fields) made.whole

@@ -1,9 +1,8 @@
-use Rattle.std.proofs.Common.{◌≡◌, ◌<◌, ◌*◌, ℕ, Ok, None, inr, subst, rules, to_z, of_z}
+use Rattle.std.proofs.Common.{◌≡◌, ℕ, None, inr, subst, rules, to_z, of_z}
 use Rattle.std.proofs.lemmas.Int.{to_z-of_z}
 use Rattle.std.specs.Int.{w32}
 use Rattle.std.specs.Prelude.{FitsSigned}
 use Rattle.block_traits.specs.Disk.{FailsIn, Logs}
-use Rattle.eli_metadata.specs.Format.{encoded, metadata_in}
 use Rattle.resize_kill.specs.Resizing.{grown, move_events, old_place, size_refusal}
 use Rattle.resize_kill.proofs.Moved.{moves, moves_part}
 use Rattle.resize_kill.proofs.resizing.resize.Goals as goal
@@ -21,10 +20,8 @@ returns-in-Ok-move_metadata g c =
     let range : FitsSigned w32 z = search rules in
     let signed : to_z w32 (of_z w32 z) ≡ z = to_z-of_z w32 z range in
     let sizes = subst (λ (n : ℕ). size_refusal n oldsize ≡ None) same c.in_ok-check_sizes.ensures.ok in
-    let small = subst (λ (n : ℕ). oldsize < 512 * n) same c.in_ok-check_sizes.ensures.grown in
-    let again = subst (λ (n : ℕ). metadata_in (encoded (grown old n)) ≡ Ok (grown old n)) same (rw signed at (c.move_metadata.ensures.read c.in_ok-old.ensures.version)) in
     let logs = subst (λ (n : ℕ). Logs (move_events middle (old_place oldsize) (grown old n) random) middle after) same (rw signed at c.in-Ok-move_metadata.ensures.ok) in
-    moves oldsize disk middle after _ _ old random sizes small c.requires.least c.in_ok-old.ensures.finds c.in-Ok.ensures.ok again logs c.move_metadata.ensures.unasked
+    moves oldsize disk middle after _ _ old random sizes c.in_ok-old.ensures.finds c.in-Ok.ensures.ok c.fits_types.ensures logs c.move_metadata.ensures.unasked
 
 pub returns-in-Err : goal.returns-in-Err
 returns-in-Err g c =
@@ -39,7 +36,5 @@ returns-in-Err g c =
     let range : FitsSigned w32 z = search rules in
     let signed : to_z w32 (of_z w32 z) ≡ z = to_z-of_z w32 z range in
     let sizes = subst (λ (n : ℕ). size_refusal n oldsize ≡ None) same c.in_ok-check_sizes.ensures.ok in
-    let small = subst (λ (n : ℕ). oldsize < 512 * n) same c.in_ok-check_sizes.ensures.grown in
-    let again = subst (λ (n : ℕ). metadata_in (encoded (grown old n)) ≡ Ok (grown old n)) same (rw signed at (c.move_metadata.ensures.read c.in_ok-old.ensures.version)) in
     let fails = subst (λ (n : ℕ). FailsIn (move_events middle (old_place oldsize) (grown old n) random) middle after) same (rw signed at c.in-Err.ensures.err) in
-    inr (moves_part oldsize disk middle after _ _ old random sizes small c.requires.least c.in_ok-old.ensures.finds c.in-Ok.ensures.ok again fails c.move_metadata.ensures.unasked)
+    inr (moves_part oldsize disk middle after _ _ old random sizes c.in_ok-old.ensures.finds c.in-Ok.ensures.ok c.fits_types.ensures fails c.move_metadata.ensures.unasked)

@@ -1,7 +1,7 @@
 use Rattle.std.proofs.Common.{rules, ◌≡◌, ◌<◌, ◌^◌, length}
 use Rattle.std.specs.Prelude.{FitsSigned}
 use Rattle.std.specs.Int.{w32}
-use Rattle.key_commands.proofs.overwriting.fits_types.Goals as goal
+use Rattle.backup_restore.proofs.restoring.fits_types.Goals as goal
 
 pub returns : goal.returns
 returns c =

@@ -23,7 +23,8 @@ use Rattle.command_words.specs.declared.spans.Span.{Span}
 use Rattle.eli_base.specs.declared.refusals.Refusal.{Refusal}
 use Rattle.eli_base.specs.declared.refusals.Refusal.TheVariants as refusals
 use Rattle.provider.specs.Attached.{media}
-use Rattle.command_rows.specs.Causes.{FindsInQueue, JobAsksSectors, job_writes}
+use Rattle.command_rows.specs.Causes.{FindsInQueue, JobAsksSectors}
+use Rattle.command_rows.specs.Gate.{job_writes}
 use Rattle.command_rows.specs.Digits.{bytes_spelled}
 use Rattle.command_rows.specs.Queueing.{HasRequest, NeedsRequest, ReapRow, ReapsRequest, StepRow, StepsRequest, SubmitRow, Submits, reap_answer, step_refusal, submit_refusal}
 use Rattle.command_rows.specs.Steps.{NeedsWhole, or_refusal, whole_sectors}

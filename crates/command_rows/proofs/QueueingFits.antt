@@ -12,7 +12,8 @@ use Rattle.command_words.specs.declared.spans.Span.{Span}
 use Rattle.eli_base.specs.declared.refusals.Refusal.{Refusal}
 use Rattle.eli_base.specs.declared.refusals.Refusal.TheVariants as refusals
 use Rattle.provider.specs.Attached.{media}
-use Rattle.command_rows.specs.Causes.{FindsInQueue, HasReadFault, JobAsksBytes, JobAsksSectors, job_writes}
+use Rattle.command_rows.specs.Causes.{FindsInQueue, HasReadFault, JobAsksBytes, JobAsksSectors}
+use Rattle.command_rows.specs.Gate.{job_writes}
 use Rattle.command_rows.specs.Fits.{FitsBytes, FitsJob, FitsReap, FitsStep}
 use Rattle.command_rows.specs.Queueing.{HasRequest}
 use Rattle.command_rows.specs.Steps.{whole_sectors}

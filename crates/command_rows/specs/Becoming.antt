@@ -10,6 +10,7 @@ use Rattle.command_words.specs.declared.spans.Span.{Span}
 use Rattle.sha2.specs.Sha256.{sha256}
 use Rattle.command_rows.specs.Answer.{Answer}
 use Rattle.command_rows.specs.Answer as answers
+use Rattle.command_rows.specs.Gate.{traits_of}
 use Rattle.command_rows.specs.Grounds.{OpensWith}
 use Rattle.command_rows.specs.Suspending.{kept_by}
 use Rattle.command_rows.specs.Turn.{reach, takes_out}
@@ -19,9 +20,7 @@ use Rattle.command_rows.specs.World.{Attachment, DrawerState, Holding, Idle, IsA
 
 -- whether a verb leaves its drawer idle
 abbrev pub lets_go : Command → Bool
-lets_go (commands.Detach prov) = true
-lets_go (commands.Kill prov) = true
-lets_go command = false
+lets_go command = (traits_of command).lets_go
 
 -- ---- attached
 

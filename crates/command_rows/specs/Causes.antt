@@ -15,7 +15,7 @@ use Rattle.eli_base.specs.declared.refusals.Refusal.TheVariants as refusals
 use Rattle.provider.specs.Attached.{has_tags, media}
 use Rattle.provider.specs.Reading.{ReadsAs}
 use Rattle.command_rows.specs.Digits.{bytes_spelled}
-use Rattle.command_rows.specs.Gate.{needs, refused_by}
+use Rattle.command_rows.specs.Gate.{needs, refused_by, traits_of}
 use Rattle.command_rows.specs.Grounds.{FindsBadFile, HasGround, IsGround}
 use Rattle.command_rows.specs.Queueing.{HasRequest}
 use Rattle.command_rows.specs.Steps.{whole_sectors}
@@ -24,40 +24,21 @@ use Rattle.command_rows.specs.World.{AttachedWith, Attachment, DrawerState, Reac
 
 -- whether a command may answer that there was no memory
 abbrev pub may_lack_memory : Command → Bool
-may_lack_memory (commands.Init prov cipher auth keylen sectorsize iterations autoresize fresh backup) = true
-may_lack_memory (commands.Attach prov only_check readonly slot words) = true
-may_lack_memory (commands.Setkey prov iterations slot old fresh) = true
-may_lack_memory (commands.Backup prov file) = true
-may_lack_memory (commands.Restore file prov force) = true
-may_lack_memory commands.List = true
-may_lack_memory (commands.Submit prov job) = true
-may_lack_memory (commands.Resume prov words) = true
-may_lack_memory (commands.Verify prov file count restart) = true
-may_lack_memory command = false
+may_lack_memory command = (traits_of command).lacks_memory
 
--- whether a request is refused by a provider that is only read
-abbrev pub job_writes : JobWords → Bool
-job_writes (jobs.Read sector count) = false
-job_writes (jobs.Write sector hex) = true
-job_writes jobs.Flush = false
-
--- whether a command is
+-- whether a command is refused by a provider that is only read
 abbrev pub writes_data : Command → Bool
-writes_data (commands.Write prov sector hex) = true
-writes_data (commands.Fill prov seed start count) = true
-writes_data (commands.Submit prov job) = job_writes job
-writes_data command = false
+writes_data command = (traits_of command).writes_data
+
+-- whether a command is refused by a provider without authentication
+abbrev pub needs_tags : Command → Bool
+needs_tags command = (traits_of command).needs_tags
 
 -- the bytes that a request asks for are so many
 abbrev pub JobAsksBytes : List ℕ → JobWords → ℕ → Attachment → Type 0
 JobAsksBytes line (jobs.Read sector count) bytes a = bytes ≡ count * a.keying.sectorsize
 JobAsksBytes line (jobs.Write sector hex) bytes a = bytes ≡ length (bytes_spelled (bytes_at line hex))
 JobAsksBytes line jobs.Flush bytes a = ⊥
-
--- whether a command is refused by a provider without authentication
-abbrev pub needs_tags : Command → Bool
-needs_tags (commands.Verify prov file count restart) = true
-needs_tags command = false
 
 -- the bytes that a line asks for at once are so many
 abbrev pub AsksBytes : List ℕ → Command → ℕ → Attachment → Type 0

@@ -241,7 +241,8 @@ FitsRow line (commands.Reap prov tag) old = AttachedWith old.holding (FitsReap t
 FitsRow line (commands.Suspend prov) old = AttachedWith old.holding (λ a. a.queue ≡ [])
 FitsRow line (commands.Resume prov words) old = SuspendedWith old.holding (FindsSameKey line words old)
 FitsRow line (commands.Verify prov file count restart) old = AttachedWith old.holding (FitsVerify line file restart old.disk old.cabinet)
-FitsRow line command old = ⊥
+FitsRow line commands.List old = ⊥
+FitsRow line (commands.Eject prov) old = ⊥
 
 -- the drawer is such a one as the verb needs, and in it the row finds such
 pub record Fits (line : List ℕ) (command : Command) (old : Reach) : Type 0 where

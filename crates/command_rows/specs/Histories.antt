@@ -1,6 +1,6 @@
 -- What a line does to the drawers, whatever its row: only the drawer that it names changes or is taken out, and the history of its
 -- disk grows by events of the line.
-use Rattle.std.specs.Prelude.{◌≡◌, ◌⊎◌, ℕ, ◌/◌, List, [], ◌∷◌, length, take, Bool, true, false, Option, Some, None, is_some, option_and_then, slice_get, slice_set}
+use Rattle.std.specs.Prelude.{◌≡◌, ◌⊎◌, ℕ, ◌/◌, List, [], ◌∷◌, length, take, Bool, true, false, Option, Some, None, option_and_then, slice_get, slice_set}
 use Rattle.std.specs.List.{remove}
 use Rattle.block_traits.specs.Disk.{DiskState, Logs, store_events}
 use Rattle.block_traits.specs.declared.disk.Event.{Event}
@@ -22,6 +22,7 @@ use Rattle.resize_kill.specs.Trash.{random_size}
 use Rattle.command_rows.specs.Answer.{Answer}
 use Rattle.command_rows.specs.Answer as answers
 use Rattle.command_rows.specs.Digits.{bytes_spelled}
+use Rattle.command_rows.specs.Gate.{traits_of}
 use Rattle.command_rows.specs.Queueing.{next_events}
 use Rattle.command_rows.specs.Turn.{takes_out}
 use Rattle.command_rows.specs.Workloads.{words_of, workload}
@@ -86,7 +87,17 @@ AreRowEvents line (commands.Flush prov) disk holding events = events ≡ Flush �
 AreRowEvents line (commands.Detach prov) disk holding events = events ≡ Flush ∷ []
 AreRowEvents line (commands.Step prov tag) disk holding events = DoesNext holding tag events
 AreRowEvents line (commands.Suspend prov) disk holding events = events ≡ Flush ∷ []
-AreRowEvents line command disk holding events = events ≡ []
+AreRowEvents line commands.List disk holding events = events ≡ []
+AreRowEvents line (commands.Dump prov) disk holding events = events ≡ []
+AreRowEvents line (commands.Attach prov only_check readonly slot words) disk holding events = events ≡ []
+AreRowEvents line (commands.Read prov sector count) disk holding events = events ≡ []
+AreRowEvents line (commands.Backup prov file) disk holding events = events ≡ []
+AreRowEvents line (commands.Sum prov start count) disk holding events = events ≡ []
+AreRowEvents line (commands.Eject prov) disk holding events = events ≡ []
+AreRowEvents line (commands.Submit prov job) disk holding events = events ≡ []
+AreRowEvents line (commands.Reap prov tag) disk holding events = events ≡ []
+AreRowEvents line (commands.Resume prov words) disk holding events = events ≡ []
+AreRowEvents line (commands.Verify prov file count restart) disk holding events = events ≡ []
 
 -- the first of some row's events, or all
 pub record AreFirst (Row : List Event → Type 0) (events : List Event) : Type 0 where
@@ -97,8 +108,7 @@ pub record AreFirst (Row : List Event → Type 0) (events : List Event) : Type 0
 
 -- whether a line stores a file once its events are done
 abbrev pub stores_last : Command → Bool
-stores_last (commands.Init prov cipher auth keylen sectorsize iterations autoresize fresh backup) = is_some backup
-stores_last command = false
+stores_last command = (traits_of command).stores_last
 
 -- the events of a line that is refused: none; where the disk failed, the first ones; and where the file that is stored last
 -- was refused, all or none

@@ -18,7 +18,7 @@ use Rattle.command_rows.specs.Answer.{Answer}
 use Rattle.command_rows.specs.Answer as answers
 use Rattle.command_rows.specs.DeleteKeys.{DelkeyRow}
 use Rattle.command_rows.specs.Digits.{bytes_spelled}
-use Rattle.command_rows.specs.Gate.{needs, refused_by}
+use Rattle.command_rows.specs.Gate.{needs, refused_by, traits_of}
 use Rattle.command_rows.specs.Killing.{KillRow}
 use Rattle.command_rows.specs.NewProvider.{InitRow, iterations_of}
 use Rattle.command_rows.specs.Queueing.{ReapRow, StepRow, SubmitRow}
@@ -140,7 +140,8 @@ GoesThrough line (commands.Reap prov tag) old reply new = AttachedWith old.holdi
 GoesThrough line (commands.Suspend prov) old reply new = AttachedWith old.holding (λ a. Replies done_or (SuspendRow a) old reply new)
 GoesThrough line (commands.Resume prov words) old reply new = SuspendedWith old.holding (λ kept. Replies done_or (ResumeRow line words kept) old reply new)
 GoesThrough line (commands.Verify prov file count restart) old reply new = AttachedWith old.holding (λ a. Replies verified_or (VerifyRow line file count restart a) old reply new)
-GoesThrough line _ old reply new = ⊥
+GoesThrough line commands.List old reply new = ⊥
+GoesThrough line (commands.Eject prov) old reply new = ⊥
 
 -- the drawer isn't such a one, and nothing changes
 pub record IsRefused (old : Reach) (reply : Answer) (new : Reach) (refusal : Refusal) : Type 0 where
@@ -197,8 +198,7 @@ pub record IsUnknown (old : World) (reply : Answer) (new : World) : Type 0 where
 
 -- whether a command takes the drawer that it names out of the list; it has no row then
 abbrev pub takes_out : Command → Bool
-takes_out (commands.Eject prov) = true
-takes_out command = false
+takes_out command = (traits_of command).takes_out
 
 -- the drawer at a place is taken out with its disk, attached or not, and no call of the disk is made; those behind it move up
 pub record TakesOut (old : World) (reply : Answer) (new : World) (place : ℕ) : Type 0 where

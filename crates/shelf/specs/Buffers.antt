@@ -7,7 +7,7 @@ use Rattle.eli_base.specs.declared.refusals.Refusal.{Refusal}
 use Rattle.eli_base.specs.declared.refusals.Refusal.TheVariants as refusals
 use Rattle.reply_text.specs.declared.reply.Reply.{Reply}
 use Rattle.reply_text.specs.declared.reply.Reply.TheVariants as replies
-use Rattle.command_rows.specs.Causes.{job_writes}
+use Rattle.command_rows.specs.Gate.{job_writes}
 use Rattle.command_rows.specs.World.{DrawerState, Holding, Idle, IsAttached, IsSuspended}
 
 -- whether bytes of a request that was reaped are given out, or refused

@@ -5,7 +5,7 @@ ghost use Rattle.block_traits.specs.Cabinet.{CabinetState};
 ghost use Rattle.block_traits.specs.Streams.{EntropyState};
 ghost use Rattle.command_words.specs.Bounds.{IsBoundedJob};
 ghost use Rattle.command_words.specs.Places.{IsWithin, JobIsWithin, bytes_at};
-ghost use Rattle.command_rows.specs.Causes.{job_writes};
+ghost use Rattle.command_rows.specs.Gate.{job_writes};
 ghost use Rattle.command_rows.specs.Digits.{SpellsBytes};
 ghost use Rattle.command_rows.specs.Queueing.{HasRequest, ReapRow, StepRow, SubmitRow, step_refusal, submit_refusal};
 ghost use Rattle.command_rows.specs.Requests.{bytes_given};

@@ -36,3 +36,4 @@ pub mod Sound
 pub mod Stopping
 pub mod Stopped
 pub mod Becoming
+pub mod Naming

@@ -70,6 +70,11 @@ abbrev pub place_of : List ℕ → List DrawerState → Option ℕ
 place_of name [] = None
 place_of name (drawer ∷ drawers) = if bytes_eq drawer.name name then Some 0 else option_map (λ n. n + 1) (place_of name drawers)
 
+-- no two drawers have one name
+abbrev pub NamesDiffer : List DrawerState → Type 0
+NamesDiffer [] = Unit {0}
+NamesDiffer (drawer ∷ drawers) = (place_of drawer.name drawers ≡ None) × NamesDiffer drawers
+
 -- it is one of the drawers
 abbrev pub IsAmong : List DrawerState → DrawerState → Type 0
 IsAmong drawers drawer = (place : ℕ) × (slice_get drawers place ≡ Some drawer)

@@ -19,10 +19,10 @@ use Rattle.command_rows.specs.Answer as answers
 use Rattle.command_rows.specs.Causes.{CausedAt, CausedBy}
 use Rattle.command_rows.specs.Histories.{ChangesBy, OnlyAt, place_named}
 use Rattle.command_rows.specs.Turn.{IsUnknown, Lists, ServesAt, Turn, TurnOf, takes_out}
-use Rattle.command_rows.specs.World.{DrawerState, World, place_of}
+use Rattle.command_rows.specs.World.{DrawerState, NamesDiffer, World, place_of}
 use Rattle.command_rows.proofs.LineCauses.{refusal_caused}
 use Rattle.command_rows.proofs.Untouched.{get-set, get-set_other, turn_only_steps}
-use Rattle.geli_core.specs.Bounds.{KeepsAll, NamesDiffer, RisesBy, RisesNamed, RisesUntilOut, device_faults, is_device_fault}
+use Rattle.geli_core.specs.Bounds.{KeepsAll, RisesBy, RisesNamed, RisesUntilOut, device_faults, is_device_fault}
 use Rattle.geli_core.specs.Histories.{names, names_by, says_eject, says_name}
 use Rattle.geli_core.specs.Run.{Run, ServesReading}
 use Rattle.geli_core.proofs.Drawn.{here_or, same_some}

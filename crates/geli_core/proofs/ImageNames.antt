@@ -10,8 +10,7 @@ use Rattle.command_words.specs.Images.{all_differ, are_images, image_names, line
 use Rattle.command_words.specs.Places.{provider_of}
 use Rattle.command_words.specs.Reading.{command_in}
 use Rattle.command_words.specs.declared.spans.Span.{Span}
-use Rattle.command_rows.specs.World.{place_of}
-use Rattle.geli_core.specs.Bounds.{NamesDiffer}
+use Rattle.command_rows.specs.World.{NamesDiffer, place_of}
 use Rattle.geli_core.specs.Images.{IsNotShelved, idle_drawers}
 use Rattle.geli_core.proofs.Shelving.{other_name}
 use Rattle.shelf.specs.declared.drawers.AddFault.{AddFault}

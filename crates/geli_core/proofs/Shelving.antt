@@ -7,8 +7,7 @@ use Rattle.std.specs.Option.{option_map}
 use Rattle.std.specs.Str.{bytes_eq}
 use Rattle.std.proofs.lemmas.Slice.Eq.{bytes_eq-Decides}
 use Rattle.block_traits.specs.Disk.{DiskState}
-use Rattle.command_rows.specs.World.{DrawerState, Idle, place_of}
-use Rattle.geli_core.specs.Bounds.{NamesDiffer}
+use Rattle.command_rows.specs.World.{DrawerState, Idle, NamesDiffer, place_of}
 use Rattle.geli_core.specs.Images.{IsNotShelved, Outside, RunsOver, idle_drawers, whole_with}
 use Rattle.geli_core.specs.Lawful.{RunsLawfully}
 use Rattle.geli_core.specs.declared.status.Status.{Status}

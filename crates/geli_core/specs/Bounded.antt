@@ -2,8 +2,8 @@
 use Rattle.std.specs.Prelude.{◌≡◌, ◌⊎◌, ℕ, List, Option, Some, slice_get}
 use Rattle.command_words.specs.declared.spans.Sep.{Sep}
 use Rattle.command_rows.specs.Answer.{Answer}
-use Rattle.command_rows.specs.World.{DrawerState, World, place_of}
-use Rattle.geli_core.specs.Bounds.{ClosesWithFailures, CountsOutside, NamesDiffer, RisesNamed, RisesUntilOut, device_faults}
+use Rattle.command_rows.specs.World.{DrawerState, NamesDiffer, World, place_of}
+use Rattle.geli_core.specs.Bounds.{ClosesWithFailures, CountsOutside, RisesNamed, RisesUntilOut, device_faults}
 use Rattle.geli_core.specs.Run.{RunsAndCloses}
 
 -- Lines and the closing of the drawers behind them: the answers that the cabinet or the entropy failed, or a file was absent, are counted; each refusal of the

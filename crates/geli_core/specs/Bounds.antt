@@ -1,5 +1,5 @@
 -- How many refusals for a failure a run may print: at most as many as the count of such failures rose by.
-use Rattle.std.specs.Prelude.{◌≡◌, ◌⊎◌, ℕ, ◌+◌, ◌-◌, ◌^◌, ◌<◌, ◌≤◌, ◌==◌, ◌&&◌, not, if◌then◌else◌, Bool, true, false, List, [], ◌∷◌, ◌++◌, Option, None, Some, Result, Ok, slice_get}
+use Rattle.std.specs.Prelude.{◌≡◌, ◌⊎◌, ℕ, ◌+◌, ◌-◌, ◌^◌, ◌<◌, ◌≤◌, ◌==◌, ◌&&◌, not, if◌then◌else◌, Bool, true, false, List, [], ◌∷◌, ◌++◌, Option, Some, Result, Ok, slice_get}
 use Rattle.block_traits.specs.Causes.{Rose}
 use Rattle.command_words.specs.declared.commands.Command.{Command}
 use Rattle.command_words.specs.declared.commands.Usage.{Usage}
@@ -63,11 +63,6 @@ pub record RisesBy (many : ℕ) (before : DrawerState) (place : ℕ) (new : Worl
   pub bound : after.disk.faults < 2 ^ 64 - 1 → before.disk.faults + many ≤ after.disk.faults
 
 -- ---- drawers that lines may take out
-
--- no two drawers have one name
-abbrev pub NamesDiffer : List DrawerState → Type 0
-NamesDiffer [] = Unit {0}
-NamesDiffer (drawer ∷ drawers) = (place_of drawer.name drawers ≡ None) × NamesDiffer drawers
 
 -- the drawer has its name still, wherever it stands, and its disk's count of faults rose so
 pub record RisesNamed (many : ℕ) (before : DrawerState) (name : List ℕ) (new : World) : Type 0 where

@@ -3,8 +3,7 @@ use Rattle.std.specs.Prelude.{ℕ, ◌<◌, List, [], ◌∷◌, length}
 use Rattle.block_traits.specs.Cabinet.{CabinetState}
 use Rattle.block_traits.specs.Disk.{DiskState}
 use Rattle.block_traits.specs.Streams.{EntropyState, SinkState, SourceState}
-use Rattle.command_rows.specs.World.{DrawerState, Idle}
-use Rattle.geli_core.specs.Bounds.{NamesDiffer}
+use Rattle.command_rows.specs.World.{DrawerState, Idle, NamesDiffer}
 use Rattle.geli_core.specs.Lawful.{RunsLawfully}
 use Rattle.geli_core.specs.Script.{Whole}
 use Rattle.geli_core.specs.declared.status.Status.{Status}

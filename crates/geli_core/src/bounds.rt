@@ -3,10 +3,10 @@ ghost use Rattle.std.specs.Prelude.{◌≡◌, ◌⊎◌, ℕ, List, Option, Som
 ghost use Rattle.std.specs.List.{AllByRecursion};
 ghost use Rattle.command_words.specs.Reading.{reading};
 ghost use Rattle.command_words.specs.declared.spans.Sep.{Sep};
-ghost use Rattle.geli_core.specs.Bounds.{ClosesWithFailures, CountsOutside, KeepsAll, NamesDiffer, RisesBy, RisesNamed, RisesUntilOut, device_faults};
+ghost use Rattle.geli_core.specs.Bounds.{ClosesWithFailures, CountsOutside, KeepsAll, RisesBy, RisesNamed, RisesUntilOut, device_faults};
 ghost use Rattle.geli_core.specs.Run.{Run, RunsAndCloses};
 ghost use Rattle.command_rows.specs.Answer.{Answer};
-ghost use Rattle.command_rows.specs.World.{DrawerState, World, place_of};
+ghost use Rattle.command_rows.specs.World.{DrawerState, NamesDiffer, World, place_of};
 
 /// Each refusal that the end of a run prints belongs to a drawer of its own, which was attached after the lines, and whose disk's count
 /// of faults rose while it was closed.

@@ -1,7 +1,7 @@
 // The run over disks, which are put on a shelf under their names.
 ghost use Rattle.std.specs.Prelude.{◌≡◌, None, IfErr, IfOk, OnErr, OnOk, length, map, string_bytes};
 ghost use Rattle.command_words.specs.Images.{script_images};
-ghost use Rattle.geli_core.specs.Bounds.{NamesDiffer};
+ghost use Rattle.command_rows.specs.World.{NamesDiffer};
 ghost use Rattle.geli_core.specs.Images.{IsNotShelved, RunsOver, idle_drawers, outside_of};
 ghost use Rattle.shelf.specs.Shelved.{drawers_of};
 

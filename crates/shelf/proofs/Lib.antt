@@ -2,6 +2,7 @@ pub mod Closings
 pub mod Openings
 pub mod Batches
 pub mod Listing
+pub mod Naming
 pub mod Places
 pub mod Sectors
 pub mod Rows

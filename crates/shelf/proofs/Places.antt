@@ -39,7 +39,7 @@ ChangesAt-set state R old new reply drawers place before after small here name i
   others = rw (is_new, is_old) (map-set (drawer_of state) drawers place after);
 }
 
-map-remove : {X Y : Type 0} (f : X → Y) (xs : List X) (place : ℕ) → map f (remove xs place) ≡ remove (map f xs) place
+pub map-remove : {X Y : Type 0} (f : X → Y) (xs : List X) (place : ℕ) → map f (remove xs place) ≡ remove (map f xs) place
 map-remove f [] zero = refl
 map-remove f [] (suc place) = refl
 map-remove f (x ∷ xs) zero = refl

@@ -4,7 +4,7 @@ use Rattle.bio_queue.specs.Requests.{Request}
 use Rattle.block_traits.specs.Cabinet.{CabinetState}
 use Rattle.block_traits.specs.Disk.{DiskState}
 use Rattle.block_traits.specs.Streams.{EntropyState}
-use Rattle.command_rows.specs.World.{Attachment, DrawerState, Holding, Idle, IsAttached, IsSuspended, Kept, World}
+use Rattle.command_rows.specs.World.{Attachment, DrawerState, Holding, Idle, IsAttached, IsSuspended, Kept, NamesDiffer, World}
 use Rattle.provider.specs.Attached.{Attached}
 use Rattle.shelf.specs.declared.drawer.Drawer.{Drawer}
 use Rattle.shelf.specs.declared.drawer.Held.{Held}
@@ -40,6 +40,10 @@ drawer_of state drawer = record { name = drawer.name; disk = disk_in state drawe
 -- the drawers in order of adding
 abbrev pub drawers_of : {D : Type 0} → (D → DiskState) → List (Drawer D) → List DrawerState
 drawers_of state drawers = map (drawer_of state) drawers
+
+-- no two of them have one name, whatever their disks tell
+abbrev pub DifferInName : {D : Type 0} → List (Drawer D) → Type 0
+DifferInName {D} drawers = (state : D → DiskState) → NamesDiffer (drawers_of state drawers)
 
 abbrev pub world_of : {D : Type 0} → (D → DiskState) → Shelved D → CabinetState → EntropyState → World
 world_of state shelf cabinet entropy = record { drawers = drawers_of state shelf.drawers; cabinet = cabinet; entropy = entropy }

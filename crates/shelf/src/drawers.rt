@@ -9,7 +9,7 @@ ghost use Rattle.command_rows.specs.Answer.{answer_of};
 ghost use Rattle.shelf.specs.Buffers.{is_attached_on, uses_buffer};
 ghost use Rattle.shelf.specs.Closing.{Closing, failures};
 ghost use Rattle.command_rows.specs.Turn.{ListsAs, Shows, Turn, entry_of, takes_out};
-ghost use Rattle.command_rows.specs.World.{HoldKeyings, place_of};
+ghost use Rattle.command_rows.specs.World.{HoldKeyings, NamesDiffer, place_of};
 ghost use Rattle.shelf.specs.Shelved.{drawers_of, world_of};
 
 use crate::requests::REQUEST_LIMIT;
@@ -48,13 +48,13 @@ pub enum AddFault {
 
 impl<D: Drop> Model for Drawers<D> {
     ghost use Rattle.std.specs.Prelude.{◌≡◌, false, ◌≤◌, vec_capacity, vec_len};
-    ghost use Rattle.shelf.specs.Shelved.{Shelved};
+    ghost use Rattle.shelf.specs.Shelved.{DifferInName, Shelved};
 
     ghost Value = { Shelved D };
 
     ghost view = { λ shelf. record { drawers = shelf.drawers.items; buffer = shelf.buffer.items } };
 
-    ghost invariant = { λ shelf. (vec_len shelf.drawers ≤ 16) × (16 ≤ vec_capacity shelf.drawers) × (vec_len shelf.buffer ≡ 131072) };
+    ghost invariant = { λ shelf. (vec_len shelf.drawers ≤ 16) × (16 ≤ vec_capacity shelf.drawers) × (vec_len shelf.buffer ≡ 131072) × DifferInName shelf.drawers.items };
 }
 
 impl<D: Disk> Drawers<D> {
@@ -163,6 +163,13 @@ impl<D: Disk> Drawers<D> {
         ensures { HoldKeyings (drawers_of D.state self.now.drawers) }
     {
         hold_keyings(&self.drawers);
+    }
+
+    /// A law: no drawer has the name of another.
+    pub fn names_differ(&self)
+        ensures { NamesDiffer (drawers_of D.state self.now.drawers) }
+    {
+        let _ = &self.drawers;
     }
 
     /// What the disk of the named drawer answers to `events`. None comes exactly where no idle drawer has the name or

@@ -1,5 +1,5 @@
 use Rattle.std.proofs.Common.{◌≡◌, ◌+◌, ◌++◌, drop, length, map, string_bytes}
-use Rattle.geli_core.specs.Bounds.{NamesDiffer}
+use Rattle.command_rows.specs.World.{NamesDiffer}
 use Rattle.geli_core.specs.Images.{idle_drawers}
 use Rattle.shelf.specs.Shelved.{drawers_of}
 use Rattle.geli_core.proofs.images.shelved.Given as goal

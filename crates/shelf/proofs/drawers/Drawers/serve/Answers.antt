@@ -1,7 +1,36 @@
-use Rattle.std.proofs.Common.{◌∙◌, ℕ, refl, subst, sym}
+use Rattle.std.proofs.Common.{◌≡◌, ◌∙◌, ℕ, List, ap, refl, rules, subst, sym}
+use Rattle.std.proofs.Math.ListN.{set}
+use Rattle.std.specs.List.{insert}
 use Rattle.reply_text.specs.Text.{FitsPayload}
+use Rattle.shelf.specs.Shelved.{DifferInName}
+use Rattle.shelf.specs.declared.drawer.Drawer.{Drawer}
+use Rattle.shelf.proofs.Naming.{removed_differ, set_differ}
 use Rattle.shelf.proofs.Places.{ChangesAt-set, ServesAt-out, ServesAt-row, attached_there, insert-remove, whole_buffer}
 use Rattle.shelf.proofs.drawers.Drawers.serve.Goals as goal
+
+pub invariant_of-self : goal.invariant_of-self
+invariant_of-self g c =
+    let xs = c.self.inside.drawers.items in
+    let bound = rw c.deref.ensures.value at c.in-Some-find.ensures.bound in (
+      search rules,
+      search rules,
+      search rules,
+      subst (λ (ys : List (Drawer g.row.D.Denot)). DifferInName ys) (sym c.remove-drawer.ensures.items) (removed_differ xs c.in-Some-find.place c.remove-drawer.result bound c.remove-drawer.ensures.value c.self.invariant.3),
+    )
+
+pub invariant_of-self-2 : goal.invariant_of-self-2
+invariant_of-self-2 g c =
+    let xs = c.self.inside.drawers.items in
+    let place = c.in-Some-find.place in
+    let after = c.serve-drawer.result.0 in
+    let bound = rw c.deref.ensures.value at c.in-Some-find.ensures.bound in
+    let put : c.put_back.new.items.items ≡ set xs place after =
+    c.put_back.ensures.items ∙ ap (λ (ys : List (Drawer g.row.D.Denot)). insert ys place after) c.remove-drawer.ensures.items ∙ insert-remove xs place after bound in (
+      search rules,
+      search rules,
+      search rules,
+      subst (λ (ys : List (Drawer g.row.D.Denot)). DifferInName ys) (sym put) (set_differ xs place c.remove-drawer.result after bound c.remove-drawer.ensures.value c.serve-drawer.ensures.name c.self.invariant.3),
+    )
 
 pub returns-clause-turn : goal.returns-clause-turn
 returns-clause-turn g c =

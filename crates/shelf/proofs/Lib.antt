@@ -5,6 +5,7 @@ pub mod Listing
 pub mod Naming
 pub mod Places
 pub mod Sectors
+pub mod Requesting
 pub mod Rows
 pub mod Spelling
 pub mod Storing

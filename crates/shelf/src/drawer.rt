@@ -3,7 +3,9 @@ ghost use Rattle.command_words.specs.Bounds.{IsBounded};
 ghost use Rattle.command_words.specs.Places.{CommandIsWithin, provider_of};
 ghost use Rattle.reply_text.specs.Text.{FitsPayload};
 ghost use Rattle.command_rows.specs.Answer.{answer_of};
-ghost use Rattle.shelf.specs.Buffers.{gives_bytes, gives_out, is_attached, uses_buffer};
+ghost use Rattle.block_traits.specs.Cabinet.{CabinetState};
+ghost use Rattle.block_traits.specs.Streams.{EntropyState};
+ghost use Rattle.shelf.specs.Buffers.{gives_bytes, gives_out, is_attached, is_request, uses_buffer};
 ghost use Rattle.shelf.specs.Closing.{Closes};
 ghost use Rattle.command_rows.specs.Gate.{needs, refused_by};
 ghost use Rattle.command_rows.specs.Requests.{bytes_given, bytes_read};
@@ -12,7 +14,7 @@ ghost use Rattle.command_rows.specs.Turn.{GoesThrough, Serves, ShowsBy, digest_o
 ghost use Rattle.command_rows.specs.World.{HoldsKeying, Idle, IsAttached, IsSuspended, reach_of};
 ghost use Rattle.shelf.specs.Shelved.{attachment_of, disk_in, drawer_of, holding_of, kept_of};
 ghost use Rattle.shelf.specs.Verifying.{swept_part};
-ghost use Rattle.std.specs.Prelude.{◌≡◌, ◌*◌, ◌≤◌, ℕ, List, IfOk, IfSome, IsSome, None, false, length, option_copied};
+ghost use Rattle.std.specs.Prelude.{◌≡◌, ◌*◌, ◌≤◌, ℕ, List, IfOk, IfSome, IsSome, None, false, length, option_copied, true};
 
 use crate::attaching::attach;
 use crate::delete_keys::delkey;
@@ -100,6 +102,38 @@ impl<D: Disk> Drawer<D> {
             ),
         };
         (Drawer { name, held }, reply)
+    }
+
+    /// Whether its provider is attached.
+    pub fn is_attached(&self) -> bool
+        ensures { result ≡ is_attached (holding_of self.now.held) }
+    {
+        match &self.held {
+            Held::Attached(..) => true,
+            Held::Idle(_) | Held::Suspended(..) => false,
+        }
+    }
+
+    /// Serves a request of this drawer, which is attached, as `serve` does, and leaves the provider where it stands.
+    pub fn serve_request(&mut self, line: &[u8], command: &Command, buffer: &mut [u8]) -> Reply
+        requires within { CommandIsWithin (length line.now) command.now }
+        requires bounds { IsBounded line.now command.now }
+        requires request { is_request command.now ≡ true }
+        requires attached { is_attached (holding_of self.old.held) ≡ true }
+        requires room { length buffer.old ≡ request_limit }
+        ensures name { self.new.name ≡ self.old.name }
+        ensures serves { (cabinet : CabinetState) (entropy : EntropyState) → Serves line.now command.now
+            (reach_of (disk_in D.state self.old.held) (holding_of self.old.held) cabinet entropy) (answer_of buffer.new result)
+            (reach_of (disk_in D.state self.new.held) (holding_of self.new.held) cabinet entropy) }
+        ensures payload { FitsPayload request_limit result }
+        ensures buffer { uses_buffer command.now result ≡ false → buffer.new ≡ buffer.old }
+    {
+        match &mut self.held {
+            Held::Attached(provider, queue) => {
+                serve_sectors(provider, queue, line, command, buffer)
+            }
+            Held::Idle(_) | Held::Suspended(..) => unreachable!(),
+        }
     }
 
     /// Flushes the disk where its provider is attached or suspended, and says whether that failed. The drawer is idle then.
@@ -437,42 +471,16 @@ fn serve_attached<D: Disk, C: Cabinet, E: Entropy>(
             let (disk, flushed) = provider.detach();
             (Held::Idle(disk), done_or(flush_answer(flushed)))
         }
-        Command::Read { sector, count, .. } => {
-            let answer = read(&mut provider, *sector, *count, buffer);
-            (Held::Attached(provider, queue), payload_or(answer))
-        }
-        Command::Write { sector, hex, .. } => {
-            let answer = write(&mut provider, *sector, hex.bytes_in(line), buffer);
-            (Held::Attached(provider, queue), done_or(answer))
-        }
-        Command::Flush { .. } => {
-            let answer = flush_answer(provider.flush());
-            (Held::Attached(provider, queue), done_or(answer))
-        }
-        Command::Fill {
-            seed,
-            start,
-            count,
-            ..
-        } => {
-            let answer = fill(&mut provider, *seed, *start, *count, buffer);
-            (Held::Attached(provider, queue), done_or(answer))
-        }
-        Command::Sum { start, count, .. } => {
-            let answer = sum(&mut provider, *start, *count, buffer);
-            (Held::Attached(provider, queue), digest_or(answer))
-        }
-        Command::Submit { job, .. } => {
-            let answer = submit(&mut provider, &mut queue, line, job, buffer);
-            (Held::Attached(provider, queue), tag_or(answer))
-        }
-        Command::Step { tag, .. } => {
-            let answer = step(&mut provider, &mut queue, *tag);
-            (Held::Attached(provider, queue), left_or(answer))
-        }
-        Command::Reap { tag, .. } => {
-            let answer = reap(&mut provider, &mut queue, *tag, buffer);
-            (Held::Attached(provider, queue), reaped_or(answer))
+        Command::Read { .. }
+        | Command::Write { .. }
+        | Command::Flush { .. }
+        | Command::Fill { .. }
+        | Command::Sum { .. }
+        | Command::Submit { .. }
+        | Command::Step { .. }
+        | Command::Reap { .. } => {
+            let reply = serve_sectors(&mut provider, &mut queue, line, command, buffer);
+            (Held::Attached(provider, queue), reply)
         }
         Command::Suspend { .. } => {
             let (held, answer) = suspend(provider, queue);
@@ -503,6 +511,80 @@ fn serve_attached<D: Disk, C: Cabinet, E: Entropy>(
         | Command::List
         | Command::Eject { .. }
         | Command::Resume { .. } => unreachable!(),
+    }
+}
+
+// The same, of a request, which leaves the drawer attached.
+fn serve_sectors<D: Disk>(
+    provider: &mut Provider<D>,
+    queue: &mut Queue,
+    line: &[u8],
+    command: &Command,
+    buffer: &mut [u8],
+) -> Reply
+    requires within { CommandIsWithin (length line.now) command.now }
+    requires bounds { IsBounded line.now command.now }
+    requires request { is_request command.now ≡ true }
+    requires room { length buffer.old ≡ request_limit }
+    ensures serves { (cabinet : CabinetState) (entropy : EntropyState) → GoesThrough line.now command.now
+        (reach_of (D.state provider.old.disk) (IsAttached (attachment_of queue.old provider.old)) cabinet entropy) (answer_of buffer.new result)
+        (reach_of (D.state provider.new.disk) (IsAttached (attachment_of queue.new provider.new)) cabinet entropy) }
+    ensures payload { FitsPayload request_limit result }
+    ensures buffer { uses_buffer command.now result ≡ false → buffer.new ≡ buffer.old }
+{
+    match command {
+        Command::Read { sector, count, .. } => {
+            let answer = read(provider, *sector, *count, buffer);
+            payload_or(answer)
+        }
+        Command::Write { sector, hex, .. } => {
+            let answer = write(provider, *sector, hex.bytes_in(line), buffer);
+            done_or(answer)
+        }
+        Command::Flush { .. } => {
+            let answer = flush_answer(provider.flush());
+            done_or(answer)
+        }
+        Command::Fill {
+            seed,
+            start,
+            count,
+            ..
+        } => {
+            let answer = fill(provider, *seed, *start, *count, buffer);
+            done_or(answer)
+        }
+        Command::Sum { start, count, .. } => {
+            let answer = sum(provider, *start, *count, buffer);
+            digest_or(answer)
+        }
+        Command::Submit { job, .. } => {
+            let answer = submit(provider, queue, line, job, buffer);
+            tag_or(answer)
+        }
+        Command::Step { tag, .. } => {
+            let answer = step(provider, queue, *tag);
+            left_or(answer)
+        }
+        Command::Reap { tag, .. } => {
+            let answer = reap(provider, queue, *tag, buffer);
+            reaped_or(answer)
+        }
+        Command::List
+        | Command::Dump { .. }
+        | Command::Init { .. }
+        | Command::Attach { .. }
+        | Command::Detach { .. }
+        | Command::Setkey { .. }
+        | Command::Delkey { .. }
+        | Command::Kill { .. }
+        | Command::Backup { .. }
+        | Command::Restore { .. }
+        | Command::Resize { .. }
+        | Command::Eject { .. }
+        | Command::Suspend { .. }
+        | Command::Resume { .. }
+        | Command::Verify { .. } => unreachable!(),
     }
 }
 

@@ -6,7 +6,7 @@ ghost use Rattle.command_words.specs.Places.{CommandIsWithin, bytes_at, provider
 ghost use Rattle.shelf.specs.Adding.{Adds, RefusesToAdd};
 ghost use Rattle.reply_text.specs.Text.{FitsPayload};
 ghost use Rattle.command_rows.specs.Answer.{answer_of};
-ghost use Rattle.shelf.specs.Buffers.{is_attached_on, uses_buffer};
+ghost use Rattle.shelf.specs.Buffers.{is_attached_on, is_request, uses_buffer};
 ghost use Rattle.shelf.specs.Closing.{Closing, failures};
 ghost use Rattle.command_rows.specs.Turn.{ListsAs, Shows, Turn, entry_of, takes_out};
 ghost use Rattle.command_rows.specs.World.{HoldKeyings, NamesDiffer, place_of};
@@ -121,6 +121,11 @@ impl<D: Disk> Drawers<D> {
         let Some(place) = find(&self.drawers, name) else {
             return Reply::Refused(Refusal::UnknownProvider);
         };
+        if is_request(command) && self.drawers[place].is_attached() {
+            let buffer = self.buffer.as_mut_slice();
+            let drawer = &mut self.drawers[place];
+            return drawer.serve_request(line, command, buffer);
+        }
         let alloc = *self.drawers.allocator();
         let drawer = self.drawers.remove(place);
         if takes_out(command) {
@@ -187,6 +192,37 @@ fn takes_out(command: &Command) -> bool
     ensures { result ≡ takes_out command.now }
 {
     matches!(command, Command::Eject { .. })
+}
+
+// Whether the command is a request for sectors, or a step of one, after which an attached drawer is attached.
+fn is_request(command: &Command) -> bool
+    ensures { result ≡ is_request command.now }
+{
+    match command {
+        Command::Read { .. }
+        | Command::Write { .. }
+        | Command::Flush { .. }
+        | Command::Fill { .. }
+        | Command::Sum { .. }
+        | Command::Submit { .. }
+        | Command::Step { .. }
+        | Command::Reap { .. } => true,
+        Command::List
+        | Command::Dump { .. }
+        | Command::Init { .. }
+        | Command::Attach { .. }
+        | Command::Detach { .. }
+        | Command::Setkey { .. }
+        | Command::Delkey { .. }
+        | Command::Kill { .. }
+        | Command::Backup { .. }
+        | Command::Restore { .. }
+        | Command::Resize { .. }
+        | Command::Eject { .. }
+        | Command::Suspend { .. }
+        | Command::Resume { .. }
+        | Command::Verify { .. } => false,
+    }
 }
 
 // One where a flush failed.

@@ -13,11 +13,6 @@ use Rattle.shelf.proofs.Sectors.{at, flushed, kept_holding}
 use Rattle.shelf.proofs.Spelling.{spelled}
 use Rattle.shelf.proofs.drawer.serve_attached.Goals as goal
 
-pub write-answer-requires-clause-spelled : goal.write-answer-requires-clause-spelled
-write-answer-requires-clause-spelled g c =
-    let bounds = rw c.in-Write.is at c.requires.bounds in
-    rw c.bytes_in.ensures (spelled _ bounds.1)
-
 pub returns-in-Dump-clause-serves : goal.returns-in-Dump-clause-serves
 returns-in-Dump-clause-serves g c =
     let now = c.read_last.new.place in
@@ -39,36 +34,6 @@ returns-in-Detach-clause-serves g c = rw c.in-Detach.is (record {
     outside = record { cabinet = refl; entropy = refl };
   };
   replied = c.done_or-in-Detach.ensures.reply _;
-})
-
-pub returns-in-Read-clause-serves : goal.returns-in-Read-clause-serves
-returns-in-Read-clause-serves g c = rw c.in-Read.is (record {
-  answer = bytes_read c.read-answer.new.buffer c.read-answer.result;
-  row = c.read-answer.ensures.row c.args.queue _ _;
-  replied = c.payload_or.ensures.reply c.read-answer.new.buffer;
-})
-
-pub returns-in-Write-clause-serves : goal.returns-in-Write-clause-serves
-returns-in-Write-clause-serves g c =
-    let cabinet = g.C.Cabinet.state c.args.files.now in
-    let entropy = g.E.Entropy.state c.args.entropy.now in
-    rw c.in-Write.is (record {
-      answer = c.write-answer.result;
-      row = subst (λ (digits : List ℕ). WriteRow c.in-Write.sector (bytes_spelled digits) (attachment_of c.args.queue c.args.provider) (at g.D.Disk.state c.args.queue cabinet entropy c.args.provider) c.write-answer.result (at g.D.Disk.state c.args.queue cabinet entropy c.write-answer.new.provider))
-          c.bytes_in.ensures (c.write-answer.ensures c.args.queue cabinet entropy);
-      replied = c.done_or-in-Write.ensures.reply _;
-    })
-
-pub returns-in-Flush-clause-serves : goal.returns-in-Flush-clause-serves
-returns-in-Flush-clause-serves g c = rw c.in-Flush.is (record {
-  answer = c.flush_answer-answer.result;
-  row = record {
-    does = rw c.flush_answer-answer.ensures (flushed _ _ c.flush.result c.flush.ensures.ok c.flush.ensures.err);
-    unasked = c.flush.ensures.unasked;
-    holding = kept_holding c.args.queue _ _ c.flush.ensures.kept;
-    outside = record { cabinet = refl; entropy = refl };
-  };
-  replied = c.done_or-in-Flush.ensures.reply _;
 })
 
 pub returns-in-Setkey-clause-serves : goal.returns-in-Setkey-clause-serves
@@ -114,25 +79,6 @@ returns-in-Backup-clause-serves g c =
       row = backup_held_row _ _ _ _ _ _ _ _ _ _ (kept_holding c.args.queue then now (record { keying = told.0; slot = told.1; readonly = told.2 })) (c.backup-answer.ensures.row _ _);
       replied = c.done_or-in-Backup.ensures.reply _;
     })
-
-pub returns-in-Fill-clause-serves : goal.returns-in-Fill-clause-serves
-returns-in-Fill-clause-serves g c = rw c.in-Fill.is (record { answer = c.fill-answer.result; row = c.fill-answer.ensures c.args.queue _ _; replied = c.done_or-in-Fill.ensures.reply _ })
-
-pub returns-in-Sum-clause-serves : goal.returns-in-Sum-clause-serves
-returns-in-Sum-clause-serves g c = rw c.in-Sum.is (record { answer = c.sum-answer.result; row = c.sum-answer.ensures c.args.queue _ _; replied = c.digest_or.ensures.reply _ })
-
-pub returns-in-Submit-clause-serves : goal.returns-in-Submit-clause-serves
-returns-in-Submit-clause-serves g c = rw c.in-Submit.is (record { answer = c.submit-answer.result; row = c.submit-answer.ensures.row _ _; replied = c.tag_or.ensures.reply _ })
-
-pub returns-in-Step-clause-serves : goal.returns-in-Step-clause-serves
-returns-in-Step-clause-serves g c = rw c.in-Step.is (record { answer = c.step-answer.result; row = c.step-answer.ensures _ _; replied = c.left_or.ensures.reply _ })
-
-pub returns-in-Reap-clause-serves : goal.returns-in-Reap-clause-serves
-returns-in-Reap-clause-serves g c = rw c.in-Reap.is (record {
-  answer = bytes_given c.reap-answer.new.buffer c.reap-answer.result;
-  row = c.reap-answer.ensures.row _ _;
-  replied = c.reaped_or.ensures.reply c.reap-answer.new.buffer;
-})
 
 pub returns-in-Suspend-clause-serves : goal.returns-in-Suspend-clause-serves
 returns-in-Suspend-clause-serves g c = rw c.in-Suspend.is (record { answer = c.suspend-held.result.1; row = c.suspend-held.ensures _ _; replied = c.done_or-in-Suspend.ensures.reply _ })

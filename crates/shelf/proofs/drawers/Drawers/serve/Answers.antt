@@ -5,11 +5,51 @@ use Rattle.reply_text.specs.Text.{FitsPayload}
 use Rattle.shelf.specs.Shelved.{DifferInName}
 use Rattle.shelf.specs.declared.drawer.Drawer.{Drawer}
 use Rattle.shelf.proofs.Naming.{removed_differ, set_differ}
+use Rattle.shelf.proofs.Requesting.{request_stays}
 use Rattle.shelf.proofs.Places.{ChangesAt-set, ServesAt-out, ServesAt-row, attached_there, insert-remove, whole_buffer}
 use Rattle.shelf.proofs.drawers.Drawers.serve.Goals as goal
 
 pub invariant_of-self : goal.invariant_of-self
 invariant_of-self g c =
+    let bound = rw c.deref.ensures.value at c.in-Some-find.ensures.bound in (
+      search rules,
+      search rules,
+      search rules,
+      set_differ c.self.inside.drawers.items c.in-Some-find.place c.index_mut-drawer.result.now c.serve_request.new.self bound c.index_mut-drawer.ensures.value c.serve_request.ensures.name c.self.invariant.3,
+    )
+
+pub returns-then-is_attached-clause-turn : goal.returns-then-is_attached-clause-turn
+returns-then-is_attached-clause-turn g c =
+    let found = rw (c.deref.ensures.value, c.bytes_in-name.ensures) at c.in-Some-find.ensures.found in
+    let bound = rw c.deref.ensures.value at c.in-Some-find.ensures.bound in
+    let len = c.serve_request.auto.buffer ∙ c.as_mut_slice-buffer.ensures.len in
+    let whole = whole_buffer c.serve_request.new.buffer c.self.inside.buffer.items c.self.inside.buffer.len len in
+    rw (← c.self.view_is, ← c.in-Some.ensures, ← found, whole)
+    (ServesAt-row _ _ _ _ _ _ (request_stays _ (sym c.is_request.ensures ∙ c.if-is_request.true))
+    (ChangesAt-set g.D.Disk.state _ _ _ _ c.self.inside.drawers.items c.in-Some-find.place c.index_mut-drawer.result.now c.serve_request.new.self bound c.index_mut-drawer.ensures.value c.serve_request.ensures.name refl refl
+    (c.serve_request.ensures.serves _ _)))
+
+pub returns-then-is_attached-clause-payload : goal.returns-then-is_attached-clause-payload
+returns-then-is_attached-clause-payload g c =
+    let len = c.serve_request.auto.buffer ∙ c.as_mut_slice-buffer.ensures.len in
+    let whole = whole_buffer c.serve_request.new.buffer c.self.inside.buffer.items c.self.inside.buffer.len len in
+    rw whole (subst (λ (n : ℕ). FitsPayload n c.serve_request.result) (sym (len ∙ c.self.invariant.2)) c.serve_request.ensures.payload)
+
+pub returns-then-is_attached-clause-buffer : goal.returns-then-is_attached-clause-buffer
+returns-then-is_attached-clause-buffer g c =
+    let len = c.serve_request.auto.buffer ∙ c.as_mut_slice-buffer.ensures.len in
+    let whole = whole_buffer c.serve_request.new.buffer c.self.inside.buffer.items c.self.inside.buffer.len len in
+    rw (← c.self.view_is, whole) (λ is. c.serve_request.ensures.buffer is ∙ c.as_mut_slice-buffer.ensures.value)
+
+pub returns-then-is_attached-clause-idle : goal.returns-then-is_attached-clause-idle
+returns-then-is_attached-clause-idle g c =
+    let found = rw (c.deref.ensures.value, c.bytes_in-name.ensures) at c.in-Some-find.ensures.found in
+    let on = attached_there g.D.Disk.state _ c.self.inside.drawers.items c.in-Some-find.place c.index.result.now (sym found) c.index.ensures in
+    let yes = sym c.is_attached.ensures ∙ c.if-is_attached.true in
+    rw (← c.self.view_is, ← c.in-Some.ensures) (λ is. absurd (let no : ⊥ = cc (on, is, yes) in no))
+
+pub invariant_of-self-then-takes_out : goal.invariant_of-self-then-takes_out
+invariant_of-self-then-takes_out g c =
     let xs = c.self.inside.drawers.items in
     let bound = rw c.deref.ensures.value at c.in-Some-find.ensures.bound in (
       search rules,
@@ -36,7 +76,7 @@ pub returns-clause-turn : goal.returns-clause-turn
 returns-clause-turn g c =
     let found = rw (c.deref.ensures.value, c.bytes_in-name.ensures) at c.in-Some-find.ensures.found in
     let bound = rw c.deref.ensures.value at c.in-Some-find.ensures.bound in
-    let len = c.serve-drawer.auto.buffer ∙ c.as_mut_slice-buffer.ensures.len in
+    let len = c.serve-drawer.auto.buffer ∙ c.as_mut_slice-buffer-2.ensures.len in
     let whole = whole_buffer c.serve-drawer.new.buffer c.self.inside.buffer.items c.self.inside.buffer.len len in
     rw (← c.self.view_is, ← c.in-Some.ensures, ← found, c.put_back.ensures.items, c.remove-drawer.ensures.items, insert-remove c.self.inside.drawers.items c.in-Some-find.place c.serve-drawer.result.0 bound, whole)
     (ServesAt-row _ _ _ _ _ _ (sym c.takes_out.ensures ∙ c.if-takes_out.false)
@@ -52,21 +92,21 @@ returns-then-takes_out-clause-turn g c =
 
 pub returns-clause-payload : goal.returns-clause-payload
 returns-clause-payload g c =
-    let len = c.serve-drawer.auto.buffer ∙ c.as_mut_slice-buffer.ensures.len in
+    let len = c.serve-drawer.auto.buffer ∙ c.as_mut_slice-buffer-2.ensures.len in
     let whole = whole_buffer c.serve-drawer.new.buffer c.self.inside.buffer.items c.self.inside.buffer.len len in
     rw whole (subst (λ (n : ℕ). FitsPayload n c.serve-drawer.result.1) (sym (len ∙ c.self.invariant.2)) c.serve-drawer.ensures.payload)
 
 pub returns-clause-buffer : goal.returns-clause-buffer
 returns-clause-buffer g c =
-    let len = c.serve-drawer.auto.buffer ∙ c.as_mut_slice-buffer.ensures.len in
+    let len = c.serve-drawer.auto.buffer ∙ c.as_mut_slice-buffer-2.ensures.len in
     let whole = whole_buffer c.serve-drawer.new.buffer c.self.inside.buffer.items c.self.inside.buffer.len len in
-    rw (← c.self.view_is, whole) (λ is. c.serve-drawer.ensures.buffer is ∙ c.as_mut_slice-buffer.ensures.value)
+    rw (← c.self.view_is, whole) (λ is. c.serve-drawer.ensures.buffer is ∙ c.as_mut_slice-buffer-2.ensures.value)
 
 pub returns-clause-idle : goal.returns-clause-idle
 returns-clause-idle g c =
     let found = rw (c.deref.ensures.value, c.bytes_in-name.ensures) at c.in-Some-find.ensures.found in
-    let len = c.serve-drawer.auto.buffer ∙ c.as_mut_slice-buffer.ensures.len in
+    let len = c.serve-drawer.auto.buffer ∙ c.as_mut_slice-buffer-2.ensures.len in
     let whole = whole_buffer c.serve-drawer.new.buffer c.self.inside.buffer.items c.self.inside.buffer.len len in
     rw (← c.self.view_is, ← c.in-Some.ensures, whole) (λ is. c.serve-drawer.ensures.idle
     (sym (attached_there g.D.Disk.state _ c.self.inside.drawers.items c.in-Some-find.place c.remove-drawer.result (sym found) c.remove-drawer.ensures.value) ∙ is)
-    ∙ c.as_mut_slice-buffer.ensures.value)
+    ∙ c.as_mut_slice-buffer-2.ensures.value)

@@ -69,6 +69,8 @@ fn few_calls_of_a_sink(rt: HostRuntime) -> Result<(), Fail> {
     let bytes = vec![in alloc; 0x5a; 131_072]?;
     let largest = Reply::Payload { length: 131_072 };
     assert!(&rt; bytes.len() == 131_072);
+    let sector = Reply::Payload { length: 512 };
+    assert!(&rt; takes_calls(alloc, &sector, bytes.as_slice(), 1)?);
     assert!(&rt; takes_calls(alloc, &largest, bytes.as_slice(), 17)?);
     Ok(())
 }

@@ -9,12 +9,12 @@ use crate::page::{Page, put};
 use block_traits::Sink;
 
 // How many bytes are printed in one piece of digits.
-const PIECE: usize = 4096;
+const PIECE: usize = 512;
 
 /// Puts `ok `, bytes in lower-case hexadecimal, and a newline.
-pub(crate) fn write_ok_bytes<K: Sink>(
+pub(crate) fn write_ok_bytes<K: Sink, const N: usize>(
     bytes: &[u8],
-    page: &mut Page,
+    page: &mut Page<N>,
     output: &mut K,
 ) -> Result<(), WriteEnd>
     ensures { Puts (bytes_text bytes.now) page.old.items (K.state output.old) result page.new.items (K.state output.new) }
@@ -24,8 +24,12 @@ pub(crate) fn write_ok_bytes<K: Sink>(
     put(b"\n", page, output)
 }
 
-// Puts bytes in lower-case hexadecimal, 8,192 digits at a time.
-fn write_bytes<K: Sink>(bytes: &[u8], page: &mut Page, output: &mut K) -> Result<(), WriteEnd>
+// Puts bytes in lower-case hexadecimal, 1,024 digits at a time.
+fn write_bytes<K: Sink, const N: usize>(
+    bytes: &[u8],
+    page: &mut Page<N>,
+    output: &mut K,
+) -> Result<(), WriteEnd>
     ensures { Puts (encode_lower bytes.now) page.old.items (K.state output.old) result page.new.items (K.state output.new) }
 {
     let mut given = 0;
@@ -37,11 +41,15 @@ fn write_bytes<K: Sink>(bytes: &[u8], page: &mut Page, output: &mut K) -> Result
     Ok(())
 }
 
-fn write_piece<K: Sink>(bytes: &[u8], page: &mut Page, output: &mut K) -> Result<(), WriteEnd>
-    requires { length bytes.now ≤ 4096 }
+fn write_piece<K: Sink, const N: usize>(
+    bytes: &[u8],
+    page: &mut Page<N>,
+    output: &mut K,
+) -> Result<(), WriteEnd>
+    requires { length bytes.now ≤ 512 }
     ensures { Puts (encode_lower bytes.now) page.old.items (K.state output.old) result page.new.items (K.state output.new) }
 {
-    let mut buffer = [0; 8192];
+    let mut buffer = [0; 1024];
     let digits = &mut buffer[..2 * bytes.len()];
     let _ = hex::encode_to_slice(bytes, &mut *digits);
     put(digits, page, output)

@@ -12,9 +12,9 @@ use crate::print::{write_line, write_number_line};
 use block_traits::Sink;
 use eli_metadata::Metadata;
 
-pub(crate) fn write_dump<K: Sink>(
+pub(crate) fn write_dump<K: Sink, const N: usize>(
     meta: &Metadata,
-    page: &mut Page,
+    page: &mut Page<N>,
     output: &mut K,
 ) -> Result<(), WriteEnd>
     ensures { Puts (dump_text meta.now) page.old.items (K.state output.old) result page.new.items (K.state output.new) }
@@ -26,7 +26,11 @@ pub(crate) fn write_dump<K: Sink>(
 }
 
 // The version, the flags, and the algorithms.
-fn write_format<K: Sink>(meta: &Metadata, page: &mut Page, output: &mut K) -> Result<(), WriteEnd>
+fn write_format<K: Sink, const N: usize>(
+    meta: &Metadata,
+    page: &mut Page<N>,
+    output: &mut K,
+) -> Result<(), WriteEnd>
     ensures { Puts (format_lines meta.now) page.old.items (K.state output.old) result page.new.items (K.state output.new) }
 {
     write_number_line(b"version: ", meta.version, page, output)?;
@@ -37,7 +41,11 @@ fn write_format<K: Sink>(meta: &Metadata, page: &mut Page, output: &mut K) -> Re
 }
 
 // The sizes, and which slots are set.
-fn write_sizes<K: Sink>(meta: &Metadata, page: &mut Page, output: &mut K) -> Result<(), WriteEnd>
+fn write_sizes<K: Sink, const N: usize>(
+    meta: &Metadata,
+    page: &mut Page<N>,
+    output: &mut K,
+) -> Result<(), WriteEnd>
     ensures { Puts (size_lines meta.now) page.old.items (K.state output.old) result page.new.items (K.state output.new) }
 {
     write_number_line(b"provsize: ", meta.provsize, page, output)?;
@@ -46,7 +54,11 @@ fn write_sizes<K: Sink>(meta: &Metadata, page: &mut Page, output: &mut K) -> Res
 }
 
 // The iterations, the salt and the slots.
-fn write_keys<K: Sink>(meta: &Metadata, page: &mut Page, output: &mut K) -> Result<(), WriteEnd>
+fn write_keys<K: Sink, const N: usize>(
+    meta: &Metadata,
+    page: &mut Page<N>,
+    output: &mut K,
+) -> Result<(), WriteEnd>
     ensures { Puts (key_lines meta.now) page.old.items (K.state output.old) result page.new.items (K.state output.new) }
 {
     write_iterations(meta, page, output)?;
@@ -54,9 +66,9 @@ fn write_keys<K: Sink>(meta: &Metadata, page: &mut Page, output: &mut K) -> Resu
     write_bytes_line(b"mkeys: ", &meta.mkeys, &mut [0; 768], page, output)
 }
 
-fn write_iterations<K: Sink>(
+fn write_iterations<K: Sink, const N: usize>(
     meta: &Metadata,
-    page: &mut Page,
+    page: &mut Page<N>,
     output: &mut K,
 ) -> Result<(), WriteEnd>
     ensures { Puts (line (codes "iterations: ") (signed_decimal meta.now.iterations)) page.old.items (K.state output.old) result page.new.items (K.state output.new) }
@@ -65,11 +77,11 @@ fn write_iterations<K: Sink>(
 }
 
 // Puts a line with bytes in hexadecimal, whose digits are put into the buffer first.
-fn write_bytes_line<K: Sink>(
+fn write_bytes_line<K: Sink, const N: usize>(
     label: &[u8],
     bytes: &[u8],
     buffer: &mut [u8],
-    page: &mut Page,
+    page: &mut Page<N>,
     output: &mut K,
 ) -> Result<(), WriteEnd>
     requires { length buffer.old ≡ 2 * length bytes.now }
@@ -79,10 +91,10 @@ fn write_bytes_line<K: Sink>(
     write_line(label, buffer, page, output)
 }
 
-fn write_hexadecimal_line<K: Sink>(
+fn write_hexadecimal_line<K: Sink, const N: usize>(
     label: &[u8],
     number: u32,
-    page: &mut Page,
+    page: &mut Page<N>,
     output: &mut K,
 ) -> Result<(), WriteEnd>
     ensures { Puts (line label.now (digits 16 false number)) page.old.items (K.state output.old) result page.new.items (K.state output.new) }

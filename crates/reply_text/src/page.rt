@@ -7,11 +7,15 @@ use arrayvec::ArrayVec;
 use block_traits::Sink;
 
 /// Texts that are still to be given to the sink, at most so many bytes of them.
-pub(crate) type Page = ArrayVec<u8, 16384>;
+pub(crate) type Page<const N: usize> = ArrayVec<u8, N>;
 
 /// Puts a text behind those on the page. Where the page has no room for it, the sink is given the page
 /// first.
-pub(crate) fn put<K: Sink>(text: &[u8], page: &mut Page, output: &mut K) -> Result<(), WriteEnd>
+pub(crate) fn put<K: Sink, const N: usize>(
+    text: &[u8],
+    page: &mut Page<N>,
+    output: &mut K,
+) -> Result<(), WriteEnd>
     ensures { Puts text.now page.old.items (K.state output.old) result page.new.items (K.state output.new) }
 {
     if page.try_extend_from_slice(text).is_ok() {
@@ -25,7 +29,10 @@ pub(crate) fn put<K: Sink>(text: &[u8], page: &mut Page, output: &mut K) -> Resu
 }
 
 /// Gives the page to the sink, and clears it.
-pub(crate) fn give_page<K: Sink>(page: &mut Page, output: &mut K) -> Result<(), WriteEnd>
+pub(crate) fn give_page<K: Sink, const N: usize>(
+    page: &mut Page<N>,
+    output: &mut K,
+) -> Result<(), WriteEnd>
     ensures printed { Prints page.old.items (K.state output.old) result (K.state output.new) }
     ensures cleared { OnOk result (page.new.items ≡ []) }
 {

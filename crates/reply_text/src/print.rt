@@ -29,9 +29,9 @@ pub fn write_text<K: Sink>(text: &[u8], output: &mut K) -> Result<(), WriteEnd>
 }
 
 // Puts texts one behind another.
-pub(crate) fn write_pieces<K: Sink>(
+pub(crate) fn write_pieces<K: Sink, const N: usize>(
     pieces: &[&[u8]],
-    page: &mut Page,
+    page: &mut Page<N>,
     output: &mut K,
 ) -> Result<(), WriteEnd>
     ensures { Puts (concat (map (λ piece. piece.now) pieces.now)) page.old.items (K.state output.old) result page.new.items (K.state output.new) }
@@ -44,10 +44,10 @@ pub(crate) fn write_pieces<K: Sink>(
 
 // Puts a line: a label, a value, and a newline.
 #[tactic(auto, unfolding(crate::specs::Text::line))]
-pub(crate) fn write_line<K: Sink>(
+pub(crate) fn write_line<K: Sink, const N: usize>(
     label: &[u8],
     value: &[u8],
-    page: &mut Page,
+    page: &mut Page<N>,
     output: &mut K,
 ) -> Result<(), WriteEnd>
     ensures { Puts (line label.now value.now) page.old.items (K.state output.old) result page.new.items (K.state output.new) }
@@ -56,10 +56,10 @@ pub(crate) fn write_line<K: Sink>(
 }
 
 // Puts a line with a number in decimal.
-pub(crate) fn write_number_line<K: Sink, I: Integer>(
+pub(crate) fn write_number_line<K: Sink, I: Integer, const N: usize>(
     label: &[u8],
     number: I,
-    page: &mut Page,
+    page: &mut Page<N>,
     output: &mut K,
 ) -> Result<(), WriteEnd>
     ensures { Puts (line label.now (I.text number)) page.old.items (K.state output.old) result page.new.items (K.state output.new) }

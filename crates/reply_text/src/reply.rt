@@ -17,6 +17,14 @@ use eli_base::{Reason, Refusal};
 use eli_metadata::Metadata;
 use itoa::Buffer;
 
+// The bytes of the page of a reply, which is cleared for each: a short reply has a short one.
+const LONG_PAGE: usize = 16384;
+
+const SHORT_PAGE: usize = 1280;
+
+// The bytes of a payload whose reply has room on the short page.
+const SHORT_PAYLOAD: u32 = 512;
+
 /// The answer to one command.
 #[derive(Debug, Drop)]
 pub enum Reply {
@@ -60,16 +68,42 @@ pub fn write_reply<K: Sink>(reply: &Reply, payload: &[u8], output: &mut K) -> Re
     requires { FitsPayload (length payload.now) reply.now }
     ensures { Prints (reply_text reply.now payload.now) (K.state output.old) result (K.state output.new) }
 {
-    let mut page = Page::new();
-    write_whole(reply, payload, &mut page, output)?;
-    give_page(&mut page, output)
+    match reply {
+        Reply::Payload { length } if *length > SHORT_PAYLOAD => {
+            write_by(reply, payload, &mut Page::<LONG_PAGE>::new(), output)
+        }
+        Reply::Rows(_) | Reply::Dump(_) | Reply::Verified { .. } => {
+            write_by(reply, payload, &mut Page::<LONG_PAGE>::new(), output)
+        }
+        Reply::Done
+        | Reply::Payload { .. }
+        | Reply::Digest(_)
+        | Reply::Tag { .. }
+        | Reply::Left { .. }
+        | Reply::Refused(_) => write_by(reply, payload, &mut Page::<SHORT_PAGE>::new(), output),
+    }
+}
+
+// Prints a reply by a page on which nothing stands.
+fn write_by<K: Sink, const N: usize>(
+    reply: &Reply,
+    payload: &[u8],
+    page: &mut Page<N>,
+    output: &mut K,
+) -> Result<(), WriteEnd>
+    requires fits { FitsPayload (length payload.now) reply.now }
+    requires blank { page.old.items ≡ [] }
+    ensures { Prints (reply_text reply.now payload.now) (K.state output.old) result (K.state output.new) }
+{
+    write_whole(reply, payload, page, output)?;
+    give_page(page, output)
 }
 
 // The text of a reply.
-fn write_whole<K: Sink>(
+fn write_whole<K: Sink, const N: usize>(
     reply: &Reply,
     payload: &[u8],
-    page: &mut Page,
+    page: &mut Page<N>,
     output: &mut K,
 ) -> Result<(), WriteEnd>
     requires { FitsPayload (length payload.now) reply.now }
@@ -89,16 +123,20 @@ fn write_whole<K: Sink>(
 }
 
 // The drawers and `ok`.
-fn write_list<K: Sink>(rows: &[Row], page: &mut Page, output: &mut K) -> Result<(), WriteEnd>
+fn write_list<K: Sink, const N: usize>(
+    rows: &[Row],
+    page: &mut Page<N>,
+    output: &mut K,
+) -> Result<(), WriteEnd>
     ensures { Puts (list_text rows.now) page.old.items (K.state output.old) result page.new.items (K.state output.new) }
 {
     write_rows(rows, page, output)?;
     put(b"ok\n", page, output)
 }
 
-fn write_refusal<K: Sink>(
+fn write_refusal<K: Sink, const N: usize>(
     refusal: &Refusal,
-    page: &mut Page,
+    page: &mut Page<N>,
     output: &mut K,
 ) -> Result<(), WriteEnd>
     ensures { Puts (refusal_text refusal.now) page.old.items (K.state output.old) result page.new.items (K.state output.new) }
@@ -109,7 +147,11 @@ fn write_refusal<K: Sink>(
 }
 
 // The number and the name.
-fn write_head<K: Sink>(refusal: &Refusal, page: &mut Page, output: &mut K) -> Result<(), WriteEnd>
+fn write_head<K: Sink, const N: usize>(
+    refusal: &Refusal,
+    page: &mut Page<N>,
+    output: &mut K,
+) -> Result<(), WriteEnd>
     ensures { Puts (refusal_head refusal.now) page.old.items (K.state output.old) result page.new.items (K.state output.new) }
 {
     put(b"error ", page, output)?;
@@ -118,29 +160,41 @@ fn write_head<K: Sink>(refusal: &Refusal, page: &mut Page, output: &mut K) -> Re
 }
 
 // A space and a text.
-fn write_field<K: Sink>(text: &[u8], page: &mut Page, output: &mut K) -> Result<(), WriteEnd>
+fn write_field<K: Sink, const N: usize>(
+    text: &[u8],
+    page: &mut Page<N>,
+    output: &mut K,
+) -> Result<(), WriteEnd>
     ensures { Puts (field text.now) page.old.items (K.state output.old) result page.new.items (K.state output.new) }
 {
     write_pieces(&[b" ", text], page, output)
 }
 
-fn write_number<K: Sink>(number: u8, page: &mut Page, output: &mut K) -> Result<(), WriteEnd>
+fn write_number<K: Sink, const N: usize>(
+    number: u8,
+    page: &mut Page<N>,
+    output: &mut K,
+) -> Result<(), WriteEnd>
     ensures { Puts (decimal number) page.old.items (K.state output.old) result page.new.items (K.state output.new) }
 {
     let mut digits = Buffer::new();
     put(digits.format(number).as_bytes(), page, output)
 }
 
-fn write_number_field<K: Sink>(number: u64, page: &mut Page, output: &mut K) -> Result<(), WriteEnd>
+fn write_number_field<K: Sink, const N: usize>(
+    number: u64,
+    page: &mut Page<N>,
+    output: &mut K,
+) -> Result<(), WriteEnd>
     ensures { Puts (field (decimal number)) page.old.items (K.state output.old) result page.new.items (K.state output.new) }
 {
     let mut digits = Buffer::new();
     write_field(digits.format(number).as_bytes(), page, output)
 }
 
-pub(crate) fn write_numbers<K: Sink>(
+pub(crate) fn write_numbers<K: Sink, const N: usize>(
     numbers: &[u64],
-    page: &mut Page,
+    page: &mut Page<N>,
     output: &mut K,
 ) -> Result<(), WriteEnd>
     ensures { Puts (number_fields numbers.now) page.old.items (K.state output.old) result page.new.items (K.state output.new) }
@@ -152,10 +206,10 @@ pub(crate) fn write_numbers<K: Sink>(
 }
 
 /// A word, numbers and a newline.
-pub(crate) fn write_numbers_line<K: Sink>(
+pub(crate) fn write_numbers_line<K: Sink, const N: usize>(
     word: &[u8],
     numbers: &[u64],
-    page: &mut Page,
+    page: &mut Page<N>,
     output: &mut K,
 ) -> Result<(), WriteEnd>
     ensures { Puts (numbers_line word.now numbers.now) page.old.items (K.state output.old) result page.new.items (K.state output.new) }
@@ -166,10 +220,10 @@ pub(crate) fn write_numbers_line<K: Sink>(
 }
 
 // The number of a word and the reason.
-fn write_usage<K: Sink>(
+fn write_usage<K: Sink, const N: usize>(
     word: u32,
     reason: Reason,
-    page: &mut Page,
+    page: &mut Page<N>,
     output: &mut K,
 ) -> Result<(), WriteEnd>
     ensures { Puts (number_fields (word ∷ []) ++ field (reason_name reason)) page.old.items (K.state output.old) result page.new.items (K.state output.new) }
@@ -180,7 +234,11 @@ fn write_usage<K: Sink>(
 
 // The fields of a refusal: a refusal without one stands here too, so that none is forgotten.
 #[tactic(auto, using(crate::proofs::Printing::puts_nothing))]
-fn write_fields<K: Sink>(refusal: &Refusal, page: &mut Page, output: &mut K) -> Result<(), WriteEnd>
+fn write_fields<K: Sink, const N: usize>(
+    refusal: &Refusal,
+    page: &mut Page<N>,
+    output: &mut K,
+) -> Result<(), WriteEnd>
     ensures { Puts (refusal_fields refusal.now) page.old.items (K.state output.old) result page.new.items (K.state output.new) }
 {
     match *refusal {

@@ -56,9 +56,9 @@ impl RowList {
     }
 }
 
-pub(crate) fn write_rows<K: Sink>(
+pub(crate) fn write_rows<K: Sink, const N: usize>(
     rows: &[Row],
-    page: &mut Page,
+    page: &mut Page<N>,
     output: &mut K,
 ) -> Result<(), WriteEnd>
     ensures { Puts (row_lines rows.now) page.old.items (K.state output.old) result page.new.items (K.state output.new) }
@@ -70,7 +70,11 @@ pub(crate) fn write_rows<K: Sink>(
 }
 
 // A line with the name and the state.
-fn write_row<K: Sink>(row: &Row, page: &mut Page, output: &mut K) -> Result<(), WriteEnd>
+fn write_row<K: Sink, const N: usize>(
+    row: &Row,
+    page: &mut Page<N>,
+    output: &mut K,
+) -> Result<(), WriteEnd>
     ensures { Puts (row_text row.now) page.old.items (K.state output.old) result page.new.items (K.state output.new) }
 {
     put(row.name.as_slice(), page, output)?;
@@ -79,10 +83,10 @@ fn write_row<K: Sink>(row: &Row, page: &mut Page, output: &mut K) -> Result<(), 
 }
 
 // A state, and the bytes of a logical sector and how many there are.
-fn write_sizes<K: Sink>(
+fn write_sizes<K: Sink, const N: usize>(
     state: &[u8],
     row: &Row,
-    page: &mut Page,
+    page: &mut Page<N>,
     output: &mut K,
 ) -> Result<(), WriteEnd>
     ensures { Puts (state.now ++ sizes_of row.now) page.old.items (K.state output.old) result page.new.items (K.state output.new) }
@@ -91,7 +95,11 @@ fn write_sizes<K: Sink>(
     write_numbers(&[row.sectorsize.into(), row.sectors], page, output)
 }
 
-fn write_state<K: Sink>(row: &Row, page: &mut Page, output: &mut K) -> Result<(), WriteEnd>
+fn write_state<K: Sink, const N: usize>(
+    row: &Row,
+    page: &mut Page<N>,
+    output: &mut K,
+) -> Result<(), WriteEnd>
     ensures { Puts (row_state row.now) page.old.items (K.state output.old) result page.new.items (K.state output.new) }
 {
     if row.suspended {

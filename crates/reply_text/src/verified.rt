@@ -20,10 +20,10 @@ fn number_at(payload: &[u8], place: usize) -> u64
 }
 
 // A line for each of so many offsets.
-fn write_offsets<K: Sink>(
+fn write_offsets<K: Sink, const N: usize>(
     payload: &[u8],
     bad: u32,
-    page: &mut Page,
+    page: &mut Page<N>,
     output: &mut K,
 ) -> Result<(), WriteEnd>
     requires { 8 * bad ≤ length payload.now }
@@ -36,11 +36,11 @@ fn write_offsets<K: Sink>(
 }
 
 /// What a sweep lists, and `ok` with the place where the next one begins and how many units fail.
-pub(crate) fn write_verified<K: Sink>(
+pub(crate) fn write_verified<K: Sink, const N: usize>(
     payload: &[u8],
     bad: u32,
     next: u64,
-    page: &mut Page,
+    page: &mut Page<N>,
     output: &mut K,
 ) -> Result<(), WriteEnd>
     requires { 8 * bad ≤ length payload.now }

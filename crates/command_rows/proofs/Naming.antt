@@ -1,6 +1,5 @@
 -- Names that differ: a drawer is changed under its name, taken out, or added under a new one.
 use Rattle.std.proofs.Common.{◌≡◌, ◌∙◌, ◌+◌, ◌++◌, ℕ, zero, suc, List, [], ◌∷◌, refl, ap, sym, subst, Bool, true, false, cond, Option, None, Some, slice_get}
-use Rattle.std.specs.Prelude.{IsNone}
 use Rattle.std.specs.List.{remove}
 use Rattle.std.specs.Option.{option_map}
 use Rattle.std.specs.Str.{bytes_eq}

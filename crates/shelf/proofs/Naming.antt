@@ -1,5 +1,5 @@
 -- No two drawers have one name, whatever their disks tell.
-use Rattle.std.proofs.Common.{◌≡◌, ◌∙◌, ◌++◌, ◌+◌, ◌<◌, ℕ, List, [], ◌∷◌, length, get_or, refl, ap, sym, subst, Bool, true, false, Option, None}
+use Rattle.std.proofs.Common.{◌≡◌, ◌∙◌, ◌++◌, ◌<◌, ℕ, List, [], ◌∷◌, length, get_or, refl, ap, sym, subst, Bool, true, false, None}
 use Rattle.std.specs.List.{remove}
 use Rattle.std.specs.Str.{bytes_eq}
 use Rattle.std.proofs.Math.ListN.{set}
@@ -8,7 +8,7 @@ use Rattle.block_traits.specs.Disk.{DiskState}
 use Rattle.command_rows.specs.World.{DrawerState, NamesDiffer, is_idle, place_of}
 use Rattle.command_rows.proofs.Naming.{differ-added, differ-removed, differ-set, place_by}
 use Rattle.shelf.specs.declared.drawer.Drawer.{Drawer}
-use Rattle.shelf.specs.Closing.{Closes, ClosesAs, Closing}
+use Rattle.shelf.specs.Closing.{ClosesAs, Closing}
 use Rattle.shelf.specs.Shelved.{DifferInName, drawer_of, drawers_of}
 use Rattle.shelf.proofs.Listing.{idle as idle_drawer}
 use Rattle.shelf.proofs.Places.{map-remove, slice_get-drawers}

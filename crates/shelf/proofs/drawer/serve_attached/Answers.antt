@@ -1,16 +1,12 @@
-use Rattle.std.proofs.Common.{◌∙◌, refl, ap, List, ℕ, Some, subst}
+use Rattle.std.proofs.Common.{◌∙◌, refl, ap, ℕ, Some}
 use Rattle.std.specs.Prelude.{unwrap_or}
 use Rattle.std.specs.Option.{option_or}
-use Rattle.command_rows.specs.Digits.{bytes_spelled}
-use Rattle.command_rows.specs.Requests.{bytes_given, bytes_read}
-use Rattle.command_rows.specs.Turn.{WriteRow}
 use Rattle.command_rows.specs.World.{IsAttached}
 use Rattle.shelf.specs.Shelved.{attachment_of}
 use Rattle.shelf.specs.Verifying.{swept_part}
 use Rattle.shelf.proofs.KeyRows.{delkey_attached_row, setkey_attached_row}
 use Rattle.shelf.proofs.PlaceRows.{backup_held_row, kill_held_row}
-use Rattle.shelf.proofs.Sectors.{at, flushed, kept_holding}
-use Rattle.shelf.proofs.Spelling.{spelled}
+use Rattle.shelf.proofs.Sectors.{flushed, kept_holding}
 use Rattle.shelf.proofs.drawer.serve_attached.Goals as goal
 
 pub returns-in-Dump-clause-serves : goal.returns-in-Dump-clause-serves

@@ -41,18 +41,8 @@ fn a_file_is_a_disk(rt: HostRuntime) -> Result<(), Fail> {
         assert_eq!(rt; bytes, [7; 512]);
         assert!(rt; disk.read(2, &mut bytes).is_ok());
         assert_eq!(rt; bytes, [3; 512]);
-        let mut run = [4; 1024];
-        assert!(rt; disk.write_sectors(1, &run).is_ok());
-        assert!(rt; disk.read(1, &mut bytes).is_ok());
-        assert_eq!(rt; bytes, [4; 512]);
-        assert!(rt; disk.read(2, &mut bytes).is_ok());
-        assert_eq!(rt; bytes, [4; 512]);
-        run.fill(6);
         let how = OpenOptions::new().write(true).open(&rt, name)?;
         how.set_len(1100)?;
-        assert!(rt; disk.write_sectors(1, &run).is_err());
-        assert!(rt; disk.read(1, &mut bytes).is_ok());
-        assert_eq!(rt; bytes, [4; 512]);
         assert!(rt; disk.write(1, &[5; 512]).is_ok());
         assert!(rt; disk.write(2, &[5; 512]).is_err());
     }
@@ -62,6 +52,28 @@ fn a_file_is_a_disk(rt: HostRuntime) -> Result<(), Fail> {
     assert!(rt; file.starts_with(&[7; 512]));
     let mut null = FileDisk::of_file(File::open(&rt, "/dev/null")?, some_file(), 0);
     assert!(rt; null.flush().is_err());
+    Ok(())
+}
+
+// One write of the file takes two sectors, and none where the file became so short that one of them stands behind its end.
+#[test]
+fn a_file_takes_sectors_together(rt: HostRuntime) -> Result<(), Fail> {
+    let name = "file_sectors_test.img";
+    fs::write(&rt, name, [7u8; 1636].as_slice())?;
+    let mut disk = disk_of(&mut SystemFiles::new(rt.clone()?), name);
+    let mut sectors = [4; 1024];
+    if 2 < disk.sectors() {
+        assert!(rt; disk.write_sectors(1, &sectors).is_ok());
+        sectors.fill(5);
+        let how = OpenOptions::new().write(true).open(&rt, name)?;
+        how.set_len(1100)?;
+        assert!(rt; disk.write_sectors(1, &sectors).is_err());
+    }
+    let file = fs::read(&rt, name)?;
+    fs::remove_file(&rt, name)?;
+    assert_eq!(rt; file.len(), 1100);
+    assert!(rt; file.starts_with(&[7; 512]));
+    assert!(rt; file.ends_with(&[4; 588]));
     Ok(())
 }
 

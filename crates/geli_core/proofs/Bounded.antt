@@ -1,18 +1,19 @@
 -- What a run answers of failures is counted by what failed, the closing of the drawers with it.
-use Rattle.std.proofs.Common.{◌≡◌, ◌∙◌, ◌⊎◌, inl, inr, ℕ, ◌+◌, ◌-◌, ◌≤◌, zero, suc, List, [], ◌∷◌, refl, ap, sym, subst, arith, Bool, true, false, cond, Option, Some, slice_get}
+use Rattle.std.proofs.Common.{◌≡◌, ◌∙◌, ◌⊎◌, inl, inr, ℕ, ◌+◌, ◌-◌, ◌≤◌, zero, suc, List, [], ◌∷◌, refl, ap, sym, subst, arith, Bool, true, false, cond, Option, None, Some, slice_get}
 use Rattle.std.specs.Prelude.{◌<◌, ◌^◌}
 use Rattle.std.specs.Option.{option_map}
 use Rattle.std.specs.Str.{bytes_eq}
 use Rattle.block_traits.specs.Cabinet.{CabinetState}
+use Rattle.block_traits.specs.Causes.{Rose}
 use Rattle.block_traits.specs.Disk.{DiskState}
 use Rattle.block_traits.specs.Streams.{EntropyState}
-use Rattle.command_words.specs.declared.spans.Sep.{Sep}
 use Rattle.command_rows.specs.Answer.{Answer}
-use Rattle.shelf.specs.Closing.{ClosesAs, ClosesWorld, Closing, Flushes}
-use Rattle.command_rows.specs.World.{DrawerState, World, is_idle, place_of}
-use Rattle.geli_core.specs.Bounded.{BoundsReplies}
+use Rattle.shelf.specs.Closing.{Closes, ClosesAs, ClosesWorld, Closing, Flushes, failures}
+use Rattle.command_rows.specs.World.{DrawerState, NamesDiffer, World, is_idle, place_of}
+use Rattle.geli_core.specs.Bounded.{CountsAll, RisesToExit}
+use Rattle.geli_core.specs.Trace.{ClosesBy, IsTrace, Trace, answers_of, world_behind}
 use Rattle.geli_core.specs.Bounds.{CountsOutside, RisesNamed, RisesUntilOut, RoseBy, device_faults, how_many, is_cabinet_fault, is_entropy_fault, is_miss}
-use Rattle.geli_core.proofs.Bounding.{closing_failed}
+use Rattle.geli_core.proofs.Bounding.{closes_with_failures}
 use Rattle.geli_core.proofs.Counting.{run_rises_or}
 use Rattle.geli_core.proofs.Drawn.{same_some}
 use Rattle.geli_core.proofs.Outside.{run_counts}
@@ -28,21 +29,25 @@ closed_one true old failed new h = (ap (λ (d : DrawerState). d.name) h.1, rw h.
 closed_one false old failed new h = (ap (λ (d : DrawerState). d.name) h.1, flushed_later failed old.disk new.disk h.0)
 
 record ClosedAt (before : DrawerState) (drawers : List DrawerState) (place : ℕ) : Type 0 where
+  failed : Bool
   after : DrawerState
   there : slice_get drawers place ≡ Some after
+  closes : Closes before failed after
   later : before.disk.faults ≤ after.disk.faults
 
 closing_at : (olds : List DrawerState) (count : ℕ) (news : List DrawerState) (place : ℕ) (before : DrawerState) → Closing olds count news → slice_get olds place ≡ Some before → ClosedAt before news place
 closing_at [] count news place before h found = absurd (let none : ⊥ = cc found in none)
 closing_at (d ∷ ds) count news zero before h found =
     subst (λ (l : List DrawerState). ClosedAt before l zero) (sym h.7) (record {
+      failed = h.0;
       after = h.1;
       there = refl;
+      closes = subst (λ (x : DrawerState). Closes x h.0 h.1) (same_some d before found) h.4;
       later = subst (λ (x : DrawerState). x.disk.faults ≤ h.1.disk.faults) (same_some d before found) (closed_one (is_idle d.holding) d h.0 h.1 h.4).1;
     })
 closing_at (d ∷ ds) count news (suc place) before h found =
     let c = closing_at ds h.2 h.3 place before h.5 found in
-    subst (λ (l : List DrawerState). ClosedAt before l (suc place)) (sym h.7) (record { after = c.after; there = c.there; later = c.later })
+    subst (λ (l : List DrawerState). ClosedAt before l (suc place)) (sym h.7) (record { failed = c.failed; after = c.after; there = c.there; closes = c.closes; later = c.later })
 
 same_place : (name one other : List ℕ) (x y : Option ℕ) → one ≡ other → x ≡ y → cond (bytes_eq one name) (Some 0) (option_map (λ n. n + 1) x) ≡ cond (bytes_eq other name) (Some 0) (option_map (λ n. n + 1) y)
 same_place name one other x y names places =
@@ -55,41 +60,78 @@ closing_place name (d ∷ ds) count news h =
 
 -- ---- the counts at last
 
-outside_closed : (answers : List (Option Answer)) (old middle : World) (failed : ℕ) (new : World) → ClosesWorld middle failed new → CountsOutside answers old middle → CountsOutside answers old new
-outside_closed answers old middle failed new h c = record {
-  cabinet = subst (λ (x : CabinetState). RoseBy (how_many is_cabinet_fault answers) old.cabinet.faults x.faults) (sym h.cabinet) c.cabinet;
-  misses = subst (λ (x : CabinetState). RoseBy (how_many is_miss answers) old.cabinet.misses x.misses) (sym h.cabinet) c.misses;
-  entropy = subst (λ (x : EntropyState). RoseBy (how_many is_entropy_fault answers) old.entropy.faults x.faults) (sym h.entropy) c.entropy;
+outside_closed : (answers : List (Option Answer)) (closing : Option ℕ) (entry behind exit : World) → ClosesBy closing behind exit → CountsOutside answers entry behind → CountsOutside answers entry exit
+outside_closed answers None entry behind exit h c = subst (λ (w : World). CountsOutside answers entry w) (sym h) c
+outside_closed answers (Some failed) entry behind exit h c = record {
+  cabinet = subst (λ (x : CabinetState). RoseBy (how_many is_cabinet_fault answers) entry.cabinet.faults x.faults) (sym h.cabinet) c.cabinet;
+  misses = subst (λ (x : CabinetState). RoseBy (how_many is_miss answers) entry.cabinet.misses x.misses) (sym h.cabinet) c.misses;
+  entropy = subst (λ (x : EntropyState). RoseBy (how_many is_entropy_fault answers) entry.entropy.faults x.faults) (sym h.entropy) c.entropy;
 }
 
-last_bound : (many before middle now : ℕ) → middle ≤ now → (middle < 2 ^ 64 - 1 → before + many ≤ middle) → now < 2 ^ 64 - 1 → before + many ≤ now
-last_bound many before middle now later bound small = let s = bound (omega (arith, later, small)) in omega (arith, s, later)
+flush_rose : (failed : Bool) (old new : DiskState) → Flushes failed old new → failed ≡ true → Rose old.faults new.faults
+flush_rose false old new h is = absurd (let none : ⊥ = cc is in none)
+flush_rose true old new h is = h.rose
 
-rises_closed : (many : ℕ) (before : DrawerState) (name : List ℕ) (middle : World) (failed : ℕ) (new : World) → ClosesWorld middle failed new → RisesNamed many before name middle → RisesNamed many before name new
-rises_closed many before name middle failed new h r =
-    let c = closing_at middle.drawers failed new.drawers r.place r.rises.after h.drawers r.rises.there in
+-- where the closing of a drawer failed, its disk's count rose
+closing_rose : (idle : Bool) (old : DrawerState) (failed : Bool) (new : DrawerState) → ClosesAs idle old failed new → failed ≡ true → Rose old.disk.faults new.disk.faults
+closing_rose true old failed new h is = absurd (let none : ⊥ = cc (h.0, is) in none)
+closing_rose false old failed new h is = flush_rose failed old.disk new.disk h.0 is
+
+with_closing : (failed : Bool) (many before middle now : ℕ) → middle ≤ now → (failed ≡ true → Rose middle now) → (middle < 2 ^ 64 - 1 → before + many ≤ middle) → now < 2 ^ 64 - 1 → before + (many + failures failed) ≤ now
+with_closing false many before middle now later rose bound small = let s = bound (omega (arith, later, small)) in omega (arith, s, later)
+with_closing true many before middle now later rose bound small = let s = bound (omega (arith, later, small)) in let r = rose refl in omega (arith, s, r, small)
+
+nothing_closed : (many : ℕ) (before : DrawerState) (name : List ℕ) (behind exit : World) → exit ≡ behind → RisesNamed many before name behind → RisesToExit None many before name behind exit
+nothing_closed many before name behind exit same r = record {
+  place = r.place;
+  named = ap (λ (w : World). place_of name w.drawers) same ∙ r.named;
+  last = r.rises.after;
+  was = r.rises.there;
+  failed = false;
+  rises = record {
+    after = r.rises.after;
+    there = ap (λ (w : World). slice_get w.drawers r.place) same ∙ r.rises.there;
+    later = r.rises.later;
+    bound = λ small. (let s = r.rises.bound small in omega (arith, s));
+  };
+  closes = (refl, refl);
+}
+
+rises_closed : (many : ℕ) (before : DrawerState) (name : List ℕ) (behind : World) (count : ℕ) (exit : World) → ClosesWorld behind count exit → RisesNamed many before name behind → RisesToExit (Some count) many before name behind exit
+rises_closed many before name behind count exit h r =
+    let c = closing_at behind.drawers count exit.drawers r.place r.rises.after h.drawers r.rises.there in
     let l1 = r.rises.later in
     let l2 = c.later in
     record {
       place = r.place;
-      named = closing_place name middle.drawers failed new.drawers h.drawers ∙ r.named;
+      named = closing_place name behind.drawers count exit.drawers h.drawers ∙ r.named;
+      last = r.rises.after;
+      was = r.rises.there;
+      failed = c.failed;
       rises = record {
         after = c.after;
         there = c.there;
         later = omega (arith, l1, l2);
-        bound = λ small. last_bound many before.disk.faults r.rises.after.disk.faults c.after.disk.faults c.later r.rises.bound small;
+        bound = λ small. with_closing c.failed many before.disk.faults r.rises.after.disk.faults c.after.disk.faults c.later (closing_rose (is_idle r.rises.after.holding) r.rises.after c.failed c.after c.closes) r.rises.bound small;
       };
+      closes = c.closes;
     }
 
-disk_closed : (sep : Sep) (lines : List (List ℕ)) (answers : List (Option Answer)) (many : ℕ) (before : DrawerState) (name : List ℕ) (old middle : World) (failed : ℕ) (new : World) → ClosesWorld middle failed new
-    → RisesNamed many before name middle ⊎ RisesUntilOut sep lines answers many before name old middle → RisesNamed many before name new ⊎ RisesUntilOut sep lines answers many before name old middle
-disk_closed sep lines answers many before name old middle failed new h (inl r) = inl (rises_closed many before name middle failed new h r)
-disk_closed sep lines answers many before name old middle failed new h (inr r) = inr r
+rises_to : (closing : Option ℕ) (many : ℕ) (before : DrawerState) (name : List ℕ) (behind exit : World) → ClosesBy closing behind exit → RisesNamed many before name behind → RisesToExit closing many before name behind exit
+rises_to None many before name behind exit h r = nothing_closed many before name behind exit h r
+rises_to (Some count) many before name behind exit h r = rises_closed many before name behind count exit h r
 
-pub bounds_replies : (old new : World) → BoundsReplies old new
-bounds_replies old new sep lines answers failed h = record {
-  outside = outside_closed answers old h.middle failed new h.closes (run_counts sep lines answers old h.middle h.run);
-  closing = record { middle = h.middle; run = h.run; many = closing_failed h.middle.drawers failed new.drawers h.closes.drawers };
-  disks = λ differ name place before stands found.
-      disk_closed sep lines answers (device_faults sep name lines answers) before name old h.middle failed new h.closes (run_rises_or sep lines answers old h.middle name place before h.run differ stands found);
-}
+disk_closed : (closing : Option ℕ) (many : ℕ) (before : DrawerState) (name : List ℕ) (behind exit : World) (Out : Type 0) → ClosesBy closing behind exit → RisesNamed many before name behind ⊎ Out → RisesToExit closing many before name behind exit ⊎ Out
+disk_closed closing many before name behind exit Out h (inl r) = inl (rises_to closing many before name behind exit h r)
+disk_closed closing many before name behind exit Out h (inr r) = inr r
+
+pub counts_all : (entry exit : World) (trace : Trace) → IsTrace entry trace exit → NamesDiffer entry.drawers → CountsAll entry trace exit
+counts_all entry exit trace h differ =
+    let behind : World = world_behind entry trace.lines in
+    record {
+      outside = outside_closed (answers_of trace.lines) trace.closing entry behind exit h.closes (run_counts trace.sep trace.lines entry behind (h.served, refl));
+      closing = closes_with_failures entry exit trace h;
+      disks = λ name place before stands found.
+          disk_closed trace.closing (device_faults trace.sep name trace.lines) before name behind exit (RisesUntilOut trace.sep entry trace.lines (device_faults trace.sep name trace.lines) before name) h.closes
+          (run_rises_or trace.sep trace.lines entry behind name place before (h.served, refl) differ stands found);
+    }

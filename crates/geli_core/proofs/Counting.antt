@@ -21,20 +21,15 @@ use Rattle.command_rows.specs.Histories.{ChangesBy, OnlyAt, place_named}
 use Rattle.command_rows.specs.Turn.{IsUnknown, Lists, ServesAt, Turn, TurnOf, takes_out}
 use Rattle.command_rows.specs.World.{DrawerState, NamesDiffer, World, place_of}
 use Rattle.command_rows.proofs.LineCauses.{refusal_caused}
+use Rattle.command_rows.proofs.Naming.{differ-removed, differ-set, place-set}
 use Rattle.command_rows.proofs.Untouched.{get-set, get-set_other, turn_only_steps}
 use Rattle.geli_core.specs.Bounds.{KeepsAll, RisesBy, RisesNamed, RisesUntilOut, device_faults, is_device_fault}
-use Rattle.geli_core.specs.Histories.{names, names_by, says_eject, says_name}
-use Rattle.geli_core.specs.Run.{Run, ServesReading}
+use Rattle.geli_core.specs.Histories.{ejects, is_done, names, names_by, says_eject, says_name}
+use Rattle.geli_core.specs.Run.{ServesReading}
+use Rattle.geli_core.specs.Trace.{EachServed, Run, ServedLine, world_behind}
 use Rattle.geli_core.proofs.Drawn.{here_or, same_some}
 
 -- ---- places
-
-place-set : (name : List ℕ) (ds : List DrawerState) (p : ℕ) (b a : DrawerState) → slice_get ds p ≡ Some b → a.name ≡ b.name → place_of name (set ds p a) ≡ place_of name ds
-place-set name [] p b a h same = refl
-place-set name (d ∷ ds) zero b a h same =
-    let is : d ≡ b = same_some d b h in
-    ap (λ (x : List ℕ). cond (bytes_eq x name) (Some 0) (option_map (λ n. n + 1) (place_of name ds))) (same ∙ sym (ap (λ (x : DrawerState). x.name) is))
-place-set name (d ∷ ds) (suc p) b a h same = ap (λ (o : Option ℕ). cond (bytes_eq d.name name) (Some 0) (option_map (λ n. n + 1) o)) (place-set name ds p b a h same)
 
 named_place : (named : Option Span) (line name : List ℕ) (ds : List DrawerState) → names_by named line name ≡ true → option_and_then (λ prov. place_of (bytes_at line prov) ds) named ≡ place_of name ds
 named_place None line name ds h = absurd (let none : ⊥ = cc h in none)
@@ -144,23 +139,21 @@ one_more true true b m a rest le rose later bound small = let r = rose refl refl
 one_more true false b m a rest le rose later bound small = let s = bound small in omega (arith, le, s)
 one_more false fault b m a rest le rose later bound small = let s = bound small in omega (arith, le, s)
 
-pub run_rises : (sep : Sep) (lines : List (List ℕ)) (answers : List (Option Answer)) (old new : World) (name : List ℕ) (place : ℕ) (before : DrawerState) → Run sep old lines answers new
-    → AllByRecursion (λ line. KeepsAll (reading sep line)) lines → place_of name old.drawers ≡ Some place → slice_get old.drawers place ≡ Some before → RisesBy (device_faults sep name lines answers) before place new
-run_rises sep [] [] old new name place before h keeps stands found =
-    record { after = before; there = ap (λ (w : World). slice_get w.drawers place) h ∙ found; later = omega arith; bound = λ small. omega arith }
-run_rises sep [] (answer ∷ answers) old new name place before h keeps stands found = absurd h
-run_rises sep (line ∷ lines) [] old new name place before h keeps stands found = absurd h
-run_rises sep (line ∷ lines) (answer ∷ answers) old new name place before h keeps stands found =
-    let c = counts_read (reading sep line) line name answer old h.0 place before keeps.0 stands found h.1 in
-    let r = run_rises sep lines answers h.0 new name place c.after h.2 keeps.1 c.stands c.there in
+pub run_rises : (sep : Sep) (lines : List ServedLine) (old new : World) (name : List ℕ) (place : ℕ) (before : DrawerState) → Run sep old lines new → AllByRecursion (λ (l : ServedLine). KeepsAll (reading sep l.line)) lines
+    → place_of name old.drawers ≡ Some place → slice_get old.drawers place ≡ Some before → RisesBy (device_faults sep name lines) before place new
+run_rises sep [] old new name place before h keeps stands found =
+    record { after = before; there = ap (λ (w : World). slice_get w.drawers place) h.1 ∙ found; later = omega arith; bound = λ small. omega arith }
+run_rises sep (l ∷ lines) old new name place before h keeps stands found =
+    let c = counts_read (reading sep l.line) l.line name l.answer old l.next place before keeps.0 stands found h.0.0 in
+    let r = run_rises sep lines l.next new name place c.after (h.0.1, h.1) keeps.1 c.stands c.there in
     let l1 = c.later in
     let l2 = r.later in
     record {
       after = r.after;
       there = r.there;
       later = omega (arith, l1, l2);
-      bound = λ small. one_more (names sep line name) (is_device_fault answer) before.disk.faults c.after.disk.faults r.after.disk.faults (device_faults sep name lines answers) c.later
-          (λ named fault. c.rose named (fault_is answer fault)) r.later r.bound small;
+      bound = λ small. one_more (names sep l.line name) (is_device_fault l.answer) before.disk.faults c.after.disk.faults r.after.disk.faults (device_faults sep name lines) c.later
+          (λ named fault. c.rose named (fault_is l.answer fault)) r.later r.bound small;
     }
 
 -- ---- names when a drawer is taken out
@@ -196,18 +189,6 @@ none_removed name (d ∷ ds) zero b found h = (none_more (bytes_eq d.name name) 
 none_removed name (d ∷ ds) (suc p) b found h =
     let m = none_more (bytes_eq d.name name) (place_of name ds) h in
     none_still (bytes_eq d.name name) (place_of name (remove ds p)) m.0 (none_removed name ds p b found m.1)
-
-differ_set : (ds : List DrawerState) (p : ℕ) (b a : DrawerState) → slice_get ds p ≡ Some b → a.name ≡ b.name → NamesDiffer ds → NamesDiffer (set ds p a)
-differ_set [] p b a found same h = tt
-differ_set (d ∷ ds) zero b a found same h =
-    let is : a.name ≡ d.name = same ∙ sym (ap (λ (x : DrawerState). x.name) (same_some d b found)) in
-    (subst (λ (x : List ℕ). place_of x ds ≡ None) (sym is) h.0, h.1)
-differ_set (d ∷ ds) (suc p) b a found same h = (place-set d.name ds p b a found same ∙ h.0, differ_set ds p b a found same h.1)
-
-differ_removed : (ds : List DrawerState) (p : ℕ) (b : DrawerState) → slice_get ds p ≡ Some b → NamesDiffer ds → NamesDiffer (remove ds p)
-differ_removed [] p b found h = absurd (let none : ⊥ = cc found in none)
-differ_removed (d ∷ ds) zero b found h = h.1
-differ_removed (d ∷ ds) (suc p) b found h = (none_removed d.name ds p b found h.0, differ_removed ds p b found h.1)
 
 gone_more : (name : List ℕ) (d : DrawerState) (ds : List DrawerState) (p : ℕ) → place_of d.name ds ≡ None → ((k : ℕ) → place_of name ds ≡ Some k → place_of name (remove ds k) ≡ None)
     → ((bytes_eq d.name name ≡ true) × (p ≡ 0)) ⊎ ((k : ℕ) × (bytes_eq d.name name ≡ false) × (place_of name ds ≡ Some k) × (p ≡ suc k)) → place_of name (remove (d ∷ ds) p) ≡ None
@@ -262,7 +243,8 @@ record Kept (named : Bool) (name : List ℕ) (answer : Option Answer) (before : 
   differ : NamesDiffer new.drawers
 
 record Left (read : Result (Option Command) Usage) (line name : List ℕ) (answer : Option Answer) (new : World) : Type 0 where
-  ejected : says_eject read line name ≡ true
+  says : says_eject read line name ≡ true
+  done : is_done answer ≡ true
   quiet : is_device_fault answer ≡ false
   absent : place_of name new.drawers ≡ None
 
@@ -276,7 +258,8 @@ out_by : (line name : List ℕ) (command : Command) (said : Answer) (old new : W
 out_by line name command said old new n before place true is out differ stands found at h =
     let same : Some place ≡ Some n = sym at ∙ named_place (provider_of command) line name old.drawers is ∙ stands in
     inr (record {
-      ejected = both_are (takes_out command) (names_by (provider_of command) line name) out is;
+      says = both_are (takes_out command) (names_by (provider_of command) line name) out is;
+      done = subst (λ (a : Answer). is_done (Some a) ≡ true) (sym h.done) refl;
       quiet = subst (λ (a : Answer). is_device_fault (Some a) ≡ false) (sym h.done) refl;
       absent = ap (place_of name) h.others ∙ gone name old.drawers place differ (stands ∙ sym same);
     })
@@ -291,7 +274,7 @@ out_by line name command said old new n before place false is out differ stands 
         later = omega arith;
         rose = λ named answered. not_named (sym is ∙ named);
       };
-      differ = subst (λ (l : List DrawerState). NamesDiffer l) (sym h.others) (differ_removed old.drawers place h.before h.found differ);
+      differ = subst (λ (l : List DrawerState). NamesDiffer l) (sym h.others) (differ-removed old.drawers place h.before h.found differ);
     })
 
 line_at : (line name : List ℕ) (command : Command) (said : Answer) (old new : World) (n : ℕ) (before : DrawerState) (place : ℕ) (out : Bool) → takes_out command ≡ out → NamesDiffer old.drawers → place_of name old.drawers ≡ Some n
@@ -303,7 +286,7 @@ line_at line name command said old new n before place false is differ stands fou
     inl (record {
       place = n;
       counts = counts_at line name command said old new n before place false is refl stands found at turn h (here_or place n);
-      differ = subst (λ (l : List DrawerState). NamesDiffer l) (sym h.others) (differ_set old.drawers place h.before h.after h.found h.steps.name differ);
+      differ = subst (λ (l : List DrawerState). NamesDiffer l) (sym h.others) (differ-set old.drawers place h.before h.after h.found h.steps.name differ);
     })
 
 line_placed : (line name : List ℕ) (command : Command) (said : Answer) (old new : World) (n : ℕ) (before : DrawerState) (place : Option ℕ) → NamesDiffer old.drawers → place_of name old.drawers ≡ Some n
@@ -375,14 +358,12 @@ quiet_read (Ok (Some command)) line name (Some said) old new absent h = (
   absent_at line name command said old.drawers new.drawers (place_named line command old.drawers) absent (turn_only_steps line command old said new h),
 )
 
-quiet_run : (sep : Sep) (lines : List (List ℕ)) (answers : List (Option Answer)) (old new : World) (name : List ℕ) → place_of name old.drawers ≡ None → Run sep old lines answers new → device_faults sep name lines answers ≡ 0
-quiet_run sep [] [] old new name absent h = refl
-quiet_run sep [] (answer ∷ answers) old new name absent h = absurd h
-quiet_run sep (line ∷ lines) [] old new name absent h = absurd h
-quiet_run sep (line ∷ lines) (answer ∷ answers) old new name absent h =
-    let q = quiet_read (reading sep line) line name answer old h.0 absent h.1 in
-    let one : ◌≡◌ {A = ℕ} (cond (names sep line name && is_device_fault answer) 1 0) 0 = q.0 in
-    let rest : device_faults sep name lines answers ≡ 0 = quiet_run sep lines answers h.0 new name q.1 h.2 in
+quiet_run : (sep : Sep) (lines : List ServedLine) (start : World) (name : List ℕ) → place_of name start.drawers ≡ None → EachServed sep start lines → device_faults sep name lines ≡ 0
+quiet_run sep [] start name absent h = refl
+quiet_run sep (l ∷ lines) start name absent h =
+    let q = quiet_read (reading sep l.line) l.line name l.answer start l.next absent h.0 in
+    let one : ◌≡◌ {A = ℕ} (cond (names sep l.line name && is_device_fault l.answer) 1 0) 0 = q.0 in
+    let rest : device_faults sep name lines ≡ 0 = quiet_run sep lines l.next name q.1 h.1 in
     omega (arith, one, rest)
 
 -- ---- a run that may take drawers out
@@ -408,63 +389,46 @@ rises_more named name answer before place middle rest new c r =
       };
     }
 
-abbrev RisesOr : Sep → List (List ℕ) → List (Option Answer) → DrawerState → List ℕ → World → World → Type 0
-RisesOr sep lines answers before name old new = RisesNamed (device_faults sep name lines answers) before name new ⊎ RisesUntilOut sep lines answers (device_faults sep name lines answers) before name old new
+abbrev RisesOr : Sep → List ServedLine → DrawerState → List ℕ → World → World → Type 0
+RisesOr sep lines before name old new = RisesNamed (device_faults sep name lines) before name new ⊎ RisesUntilOut sep old lines (device_faults sep name lines) before name
 
-kept_on : (sep : Sep) (line : List ℕ) (lines : List (List ℕ)) (answer : Option Answer) (answers : List (Option Answer)) (old middle new : World) (name : List ℕ) (before : DrawerState) (k : Kept (names sep line name) name answer before middle)
-    → ServesReading (reading sep line) line old answer middle → RisesOr sep lines answers k.counts.after name middle new → RisesOr sep (line ∷ lines) (answer ∷ answers) before name old new
-kept_on sep line lines answer answers old middle new name before k serves (inl r) =
-    inl (rises_more (names sep line name) name answer before k.place middle (device_faults sep name lines answers) new k.counts r)
-kept_on sep line lines answer answers old middle new name before k serves (inr r) =
+kept_on : (sep : Sep) (l : ServedLine) (lines : List ServedLine) (old new : World) (name : List ℕ) (before : DrawerState) (k : Kept (names sep l.line name) name l.answer before l.next) → RisesOr sep lines k.counts.after name l.next new
+    → RisesOr sep (l ∷ lines) before name old new
+kept_on sep l lines old new name before k (inl r) = inl (rises_more (names sep l.line name) name l.answer before k.place l.next (device_faults sep name lines) new k.counts r)
+kept_on sep l lines old new name before k (inr r) =
     inr (record {
-      served = line ∷ r.served;
+      served = l ∷ r.served;
       out = r.out;
       behind = r.behind;
-      are = ap (λ (l : List (List ℕ)). line ∷ l) r.are;
-      ejected = r.ejected;
-      said = answer ∷ r.said;
-      last = r.last;
-      answered = ap (λ (l : List (Option Answer)). answer ∷ l) r.answered;
-      middle = r.middle;
-      run = (middle, serves, r.run);
-      goes_on = r.goes_on;
-      rises = rises_more (names sep line name) name answer before k.place middle (device_faults sep name lines answers) r.middle k.counts r.rises;
+      are = ap (λ (ls : List ServedLine). l ∷ ls) r.are;
+      took_out = r.took_out;
+      rises = rises_more (names sep l.line name) name l.answer before k.place l.next (device_faults sep name lines) (world_behind l.next r.served) k.counts r.rises;
     })
 
-line_on : (sep : Sep) (line : List ℕ) (lines : List (List ℕ)) (answer : Option Answer) (answers : List (Option Answer)) (old new : World) (name : List ℕ) (place : ℕ) (before : DrawerState) (h : Run sep old (line ∷ lines) (answer ∷ answers) new)
-    → place_of name old.drawers ≡ Some place → slice_get old.drawers place ≡ Some before
-    → ((k : Kept (names sep line name) name answer before h.0) → RisesOr sep lines answers k.counts.after name h.0 new)
-    → Kept (names sep line name) name answer before h.0 ⊎ Left (reading sep line) line name answer h.0 → RisesOr sep (line ∷ lines) (answer ∷ answers) before name old new
-line_on sep line lines answer answers old new name place before h stands found goes_on (inl k) = kept_on sep line lines answer answers old h.0 new name before k h.1 (goes_on k)
-line_on sep line lines answer answers old new name place before h stands found goes_on (inr left) =
-    let one : ◌≡◌ {A = ℕ} (cond (names sep line name && is_device_fault answer) 1 0) 0 = none_both (names sep line name) (is_device_fault answer) left.quiet in
-    let rest : device_faults sep name lines answers ≡ 0 = quiet_run sep lines answers h.0 new name left.absent h.2 in
+line_on : (sep : Sep) (l : ServedLine) (lines : List ServedLine) (old new : World) (name : List ℕ) (place : ℕ) (before : DrawerState) → EachServed sep l.next lines → place_of name old.drawers ≡ Some place → slice_get old.drawers place ≡ Some before
+    → ((k : Kept (names sep l.line name) name l.answer before l.next) → RisesOr sep lines k.counts.after name l.next new)
+    → Kept (names sep l.line name) name l.answer before l.next ⊎ Left (reading sep l.line) l.line name l.answer l.next → RisesOr sep (l ∷ lines) before name old new
+line_on sep l lines old new name place before h stands found goes_on (inl k) = kept_on sep l lines old new name before k (goes_on k)
+line_on sep l lines old new name place before h stands found goes_on (inr left) =
+    let one : ◌≡◌ {A = ℕ} (cond (names sep l.line name && is_device_fault l.answer) 1 0) 0 = none_both (names sep l.line name) (is_device_fault l.answer) left.quiet in
+    let rest : device_faults sep name lines ≡ 0 = quiet_run sep lines l.next name left.absent h in
     inr (record {
       served = [];
-      out = line;
+      out = l;
       behind = lines;
       are = refl;
-      ejected = left.ejected;
-      said = [];
-      last = answer ∷ answers;
-      answered = refl;
-      middle = old;
-      run = refl;
-      goes_on = h;
+      took_out = both_are (ejects sep l.line name) (is_done l.answer) left.says left.done;
       rises = record { place = place; named = stands; rises = record { after = before; there = found; later = omega arith; bound = λ small. omega (arith, one, rest) } };
     })
 
-pub run_rises_or : (sep : Sep) (lines : List (List ℕ)) (answers : List (Option Answer)) (old new : World) (name : List ℕ) (place : ℕ) (before : DrawerState) → Run sep old lines answers new → NamesDiffer old.drawers
-    → place_of name old.drawers ≡ Some place → slice_get old.drawers place ≡ Some before → RisesOr sep lines answers before name old new
-run_rises_or sep [] [] old new name place before h differ stands found =
+pub run_rises_or : (sep : Sep) (lines : List ServedLine) (old new : World) (name : List ℕ) (place : ℕ) (before : DrawerState) → Run sep old lines new → NamesDiffer old.drawers → place_of name old.drawers ≡ Some place → slice_get old.drawers place ≡ Some before
+    → RisesOr sep lines before name old new
+run_rises_or sep [] old new name place before h differ stands found =
     inl (record {
       place = place;
-      named = ap (λ (w : World). place_of name w.drawers) h ∙ stands;
-      rises = record { after = before; there = ap (λ (w : World). slice_get w.drawers place) h ∙ found; later = omega arith; bound = λ small. omega arith };
+      named = ap (λ (w : World). place_of name w.drawers) h.1 ∙ stands;
+      rises = record { after = before; there = ap (λ (w : World). slice_get w.drawers place) h.1 ∙ found; later = omega arith; bound = λ small. omega arith };
     })
-run_rises_or sep [] (answer ∷ answers) old new name place before h differ stands found = absurd h
-run_rises_or sep (line ∷ lines) [] old new name place before h differ stands found = absurd h
-run_rises_or sep (line ∷ lines) (answer ∷ answers) old new name place before h differ stands found =
-    line_on sep line lines answer answers old new name place before h stands found
-    (λ k. run_rises_or sep lines answers h.0 new name k.place k.counts.after h.2 k.differ k.counts.stands k.counts.there)
-    (line_read (reading sep line) line name answer old h.0 place before differ stands found h.1)
+run_rises_or sep (l ∷ lines) old new name place before h differ stands found =
+    line_on sep l lines old new name place before h.0.1 stands found (λ k. run_rises_or sep lines l.next new name k.place k.counts.after (h.0.1, h.1) k.differ k.counts.stands k.counts.there)
+    (line_read (reading sep l.line) l.line name l.answer old l.next place before differ stands found h.0.0)

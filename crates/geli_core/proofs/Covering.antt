@@ -14,7 +14,8 @@ use Rattle.command_rows.specs.Turn.{Replies, reach, reaped_or}
 use Rattle.command_rows.proofs.Gate.{attached}
 use Rattle.geli_core.specs.ReadsBack.{IsAmongSteps, IsDoneAsAsked}
 use Rattle.geli_core.specs.Requests.{CoversReaped, CoversWork}
-use Rattle.geli_core.specs.Run.{Run, ServesLine, ServesReading}
+use Rattle.geli_core.specs.Run.{ServesReading}
+use Rattle.geli_core.specs.Trace.{Run, ServedLine}
 use Rattle.geli_core.specs.Survivors.{HasNoRequests}
 use Rattle.geli_core.proofs.Drawn.{same_some}
 use Rattle.geli_core.proofs.Placing.{came, goes, run_keeps, survived, survives_so, told_holds}
@@ -58,16 +59,13 @@ line_grows : (told : Option Content) (sep : Sep) (line : List ℕ) (answer : Opt
 line_grows told sep line answer old m next new (inl stays) = record { more = []; are = ap (λ (p : Play). p.steps) stays.1 }
 line_grows told sep line answer old m next new (inr h) = subst (GrowsTo m) (sym h.play) (played_grows (attachment_in new.holding) line h.serves.command told h.serves.said h.events m)
 
-grows : (told : Option Content) (sep : Sep) (lines : List (List ℕ)) (answers : List (Option Answer)) (start end : World) (old : DrawerState) (m last : Play) (new : DrawerState) → DrawerPlaces told sep start lines answers end old m last new → GrowsTo m last
-grows told sep [] [] start end old m last new h = record { more = []; are = ap (λ (p : Play). p.steps) h.2 ∙ sym (append-nil m.steps) }
-grows told sep (line ∷ lines) (answer ∷ answers) start end old m last new h = grows_then m h.2 last (line_grows told sep line answer old m h.2 h.1 h.5) (grows told sep lines answers h.0 end h.1 h.2 last new h.6)
-grows told sep [] (answer ∷ answers) start end old m last new h = absurd h
-grows told sep (line ∷ lines) [] start end old m last new h = absurd h
+grows : (told : Option Content) (sep : Sep) (lines : List ServedLine) (old : DrawerState) (m last : Play) (new : DrawerState) → DrawerPlaces told sep lines old m last new → GrowsTo m last
+grows told sep [] old m last new h = record { more = []; are = ap (λ (p : Play). p.steps) h.1 ∙ sym (append-nil m.steps) }
+grows told sep (l ∷ lines) old m last new h = grows_then m h.1 last (line_grows told sep l.line l.answer old m h.1 h.0 h.3) (grows told sep lines h.0 h.1 last new h.4)
 
-covered_later : (told : Option Content) (sep : Sep) (start end : World) (lines : List (List ℕ)) (answers : List (Option Answer)) (old new : DrawerState) (m last : Play) (s : Step) → Contains m.steps s → DrawerPlaces told sep start lines answers end old m last new
-    → IsCovered (last.steps ++ Flush ∷ []) s
-covered_later told sep start end lines answers old new m last s there h =
-    let g = grows told sep lines answers start end old m last new h in
+covered_later : (told : Option Content) (sep : Sep) (lines : List ServedLine) (old new : DrawerState) (m last : Play) (s : Step) → Contains m.steps s → DrawerPlaces told sep lines old m last new → IsCovered (last.steps ++ Flush ∷ []) s
+covered_later told sep lines old new m last s there h =
+    let g = grows told sep lines old m last new h in
     subst (λ (l : List Step). IsCovered (l ++ Flush ∷ []) s) (sym g.are) (covered m.steps g.more s there)
 
 -- ---- a write that was reaped
@@ -100,23 +98,24 @@ covers_attached : (found : Option Attachment) (tag : ℕ) (c : Content) (m : Pla
 covers_attached None tag c m more each h = h
 covers_attached (Some a) tag c m more each h = covers_task m.steps more a.keying (task_with tag m.tasks) each h
 
-pub covers_reaped : (sep : Sep) (served : List (List ℕ)) (said : List (Option Answer)) (entry start next : World) (line : List ℕ) (prov : Span) (tag : ℕ) (rest : List (List ℕ)) (replies : List (Option Answer)) (end : World) (drawer : DrawerState)
-    → Run sep entry served said start → HoldKeyings entry.drawers → reading sep line ≡ Ok (Some (commands.Reap prov tag)) → ServesLine sep line start (Some answers.Done) next → Run sep next rest replies end → IsAmong end.drawers drawer
-    → CoversReaped sep entry served said start line prov tag rest replies end drawer
-covers_reaped sep served said entry start next line prov tag rest replies end drawer run keyed asked serves behind there =
-    let all : Run sep start (line ∷ rest) (Some answers.Done ∷ replies) end = (next, serves, behind) in
-    let from = came sep (line ∷ rest) (Some answers.Done ∷ replies) start end drawer all there in
+pub covers_reaped : (sep : Sep) (served : List ServedLine) (entry start : World) (reap : ServedLine) (prov : Span) (tag : ℕ) (rest : List ServedLine) (end : World) (drawer : DrawerState)
+    → Run sep entry served start → HoldKeyings entry.drawers → reading sep reap.line ≡ Ok (Some (commands.Reap prov tag)) → reap.answer ≡ Some answers.Done → Run sep start (reap ∷ rest) end → IsAmong end.drawers drawer
+    → CoversReaped sep entry served start reap prov tag rest drawer
+covers_reaped sep served entry start reap prov tag rest end drawer run keyed asked done behind there =
+    let from = came sep (reap ∷ rest) start end drawer behind there in
     let b = from.before in
-    let s = survived sep served said entry start run keyed b from.was in
-    let g = goes (HasNoRequests s.before.holding) s.before.disk.content sep (line ∷ rest) (Some answers.Done ∷ replies) start end b s.play drawer from.way (run_keeps sep served said entry start run keyed) s.tells in
-    let turn : ServesReading (Ok (Some (commands.Reap prov tag))) line start (Some answers.Done) next = subst (λ (r : Result (Option Command) Usage). ServesReading r line start (Some answers.Done) next) asked serves in
+    let s = survived sep served entry start run keyed b from.was in
+    let g = goes (HasNoRequests s.before.holding) s.before.disk.content sep (reap ∷ rest) start b s.play drawer from.way (run_keeps sep served entry start run keyed) s.tells in
+    let turn : ServesReading (Ok (Some (commands.Reap prov tag))) reap.line start (Some answers.Done) reap.next =
+    subst (λ (a : Option Answer). ServesReading (Ok (Some (commands.Reap prov tag))) reap.line start a reap.next) done
+    (subst (λ (r : Result (Option Command) Usage). ServesReading r reap.line start reap.answer reap.next) asked behind.0.0) in
     record {
       before = b;
       was = from.was;
-      survives = survives_so sep served said entry start b s;
+      survives = survives_so sep served entry b s;
       last = g.last;
       places = g.places;
       covers = λ named. told_holds (HasNoRequests s.before.holding) s.before.disk.content s.play b _ s.tells
-          (λ c f. covers_attached (attachment_in b.holding) tag c s.play (g.last.steps ++ Flush ∷ []) (λ step did. covered_later s.before.disk.content sep start end (line ∷ rest) (Some answers.Done ∷ replies) b drawer s.play g.last step did g.places)
-          (reap_done (HasNoRequests s.before.holding) c s.play line prov tag start next b (place_of (bytes_at line prov) start.drawers) refl named turn f));
+          (λ c f. covers_attached (attachment_in b.holding) tag c s.play (g.last.steps ++ Flush ∷ []) (λ step did. covered_later s.before.disk.content sep (reap ∷ rest) b drawer s.play g.last step did g.places)
+          (reap_done (HasNoRequests s.before.holding) c s.play reap.line prov tag start reap.next b (place_of (bytes_at reap.line prov) start.drawers) refl named turn f));
     }

@@ -22,8 +22,9 @@ use Rattle.command_rows.specs.Histories.{ChangesBy, OnlyAt, StepsAt, place_named
 use Rattle.command_rows.specs.Turn.{takes_out}
 use Rattle.command_rows.specs.World.{DrawerState, World, is_idle, place_of}
 use Rattle.command_rows.proofs.Untouched.{get-set, get-set_other, turn_only_steps}
-use Rattle.geli_core.specs.Histories.{AnyEjects, DrawerSteps, EachGrew, Grew, RunsAt, TakesDrawer, ejects, names, names_by, says_eject, says_name}
-use Rattle.geli_core.specs.Run.{Run, RunsAndCloses, ServesLine, ServesReading}
+use Rattle.geli_core.specs.Histories.{DrawerSteps, EachGrew, Grew, KeepsDrawers, RunsAt, TakesDrawer, ejected, ejects, is_done, names, names_by, says_eject, says_name}
+use Rattle.geli_core.specs.Run.{ServesLine, ServesReading}
+use Rattle.geli_core.specs.Trace.{ClosesBy, IsTrace, Run, ServedLine, Trace, world_behind}
 
 -- ---- the drawer at a place
 
@@ -171,27 +172,26 @@ step_unnamed sep line answer old events new (inr h) unnamed = absurd (let bad : 
 -- ---- a run
 
 -- the line, and then the others
-run_more : (sep : Sep) (line : List ℕ) (lines : List (List ℕ)) (answer : Option Answer) (answers : List (Option Answer)) (before : DrawerState) (middle drawers : List DrawerState) → (l : LineAt sep line answer before middle)
-    → RunsAt sep lines answers l.after drawers → RunsAt sep (line ∷ lines) (answer ∷ answers) before drawers
-run_more sep line lines answer answers before middle drawers l r = record {
+run_more : (sep : Sep) (l : ServedLine) (lines : List ServedLine) (before : DrawerState) (middle drawers : List DrawerState) → (at : LineAt sep l.line l.answer before middle)
+    → RunsAt sep lines at.after drawers → RunsAt sep (l ∷ lines) before drawers
+run_more sep l lines before middle drawers at r = record {
   there = r.there;
   last = r.last;
-  events = l.events ++ r.events;
-  runs = inl (l.after, l.events, r.events, l.steps, r.runs, refl);
+  events = at.events ++ r.events;
+  runs = inl (at.after, at.events, r.events, at.steps, r.runs, refl);
   ends = r.ends;
-  name = r.name ∙ step_name sep line answer before l.events l.after l.steps;
-  logs = Logs-then l.events r.events (step_logs sep line answer before l.events l.after l.steps) r.logs;
+  name = r.name ∙ step_name sep l.line l.answer before at.events at.after at.steps;
+  logs = Logs-then at.events r.events (step_logs sep l.line l.answer before at.events at.after at.steps) r.logs;
   unnamed = λ h.
-      let one : l.after ≡ before = step_unnamed sep line answer before l.events l.after l.steps h.0 in
-      let behind = subst (λ (d : DrawerState). AllByRecursion (λ line. names sep line d.name ≡ false) lines) (sym one) h.1 in
+      let one : at.after ≡ before = step_unnamed sep l.line l.answer before at.events at.after at.steps h.0 in
+      let behind = subst (λ (d : DrawerState). AllByRecursion (λ (x : ServedLine). names sep x.line d.name ≡ false) lines) (sym one) h.1 in
       let rest = r.unnamed behind in
       (rest.0, rest.1 ∙ one);
 }
 
 -- the line takes the drawer out, and the others do nothing to it
-run_taken : (sep : Sep) (line : List ℕ) (lines : List (List ℕ)) (answer : Option Answer) (answers : List (Option Answer)) (before : DrawerState) (drawers : List DrawerState) → TakesDrawer sep line answer before
-    → RunsAt sep (line ∷ lines) (answer ∷ answers) before drawers
-run_taken sep line lines answer answers before drawers t = record {
+run_taken : (sep : Sep) (l : ServedLine) (lines : List ServedLine) (before : DrawerState) (drawers : List DrawerState) → TakesDrawer sep l.line l.answer before → RunsAt sep (l ∷ lines) before drawers
+run_taken sep l lines before drawers t = record {
   there = false;
   last = before;
   events = [];
@@ -203,26 +203,24 @@ run_taken sep line lines answer answers before drawers t = record {
 }
 
 -- the line, and then the others, whatever becomes of the drawer
-run_behind : (sep : Sep) (line : List ℕ) (lines : List (List ℕ)) (answer : Option Answer) (answers : List (Option Answer)) (before : DrawerState) (middle drawers : List DrawerState) → LineOn sep line answer before middle
-    → ((l : LineAt sep line answer before middle) → RunsAt sep lines answers l.after drawers) → RunsAt sep (line ∷ lines) (answer ∷ answers) before drawers
-run_behind sep line lines answer answers before middle drawers (inl l) rest = run_more sep line lines answer answers before middle drawers l (rest l)
-run_behind sep line lines answer answers before middle drawers (inr t) rest = run_taken sep line lines answer answers before drawers t
+run_behind : (sep : Sep) (l : ServedLine) (lines : List ServedLine) (before : DrawerState) (middle drawers : List DrawerState) → LineOn sep l.line l.answer before middle
+    → ((at : LineAt sep l.line l.answer before middle) → RunsAt sep lines at.after drawers) → RunsAt sep (l ∷ lines) before drawers
+run_behind sep l lines before middle drawers (inl at) rest = run_more sep l lines before middle drawers at (rest at)
+run_behind sep l lines before middle drawers (inr t) rest = run_taken sep l lines before drawers t
 
-pub run_at : (sep : Sep) (lines : List (List ℕ)) (answers : List (Option Answer)) (old new : World) (before : DrawerState) (n : ℕ) → Run sep old lines answers new → slice_get old.drawers n ≡ Some before → RunsAt sep lines answers before new.drawers
-run_at sep [] [] old new before n run found = record {
+pub run_at : (sep : Sep) (lines : List ServedLine) (old new : World) (before : DrawerState) (n : ℕ) → Run sep old lines new → slice_get old.drawers n ≡ Some before → RunsAt sep lines before new.drawers
+run_at sep [] old new before n run found = record {
   there = true;
   last = before;
   events = [];
   runs = (refl, refl, refl);
-  ends = (n, ap (λ (w : World). slice_get w.drawers n) run ∙ found);
+  ends = (n, ap (λ (w : World). slice_get w.drawers n) run.1 ∙ found);
   name = refl;
   logs = Logs-nothing before.disk;
   unnamed = λ h. (refl, refl);
 }
-run_at sep (line ∷ lines) (answer ∷ answers) old new before n run found =
-    run_behind sep line lines answer answers before run.0.drawers new.drawers (line_on sep line answer before old run.0 n found run.1) (λ l. run_at sep lines answers run.0 new l.after l.place run.2 l.there)
-run_at sep [] (answer ∷ answers) old new before n run found = absurd run
-run_at sep (line ∷ lines) [] old new before n run found = absurd run
+run_at sep (l ∷ lines) old new before n run found =
+    run_behind sep l lines before l.next.drawers new.drawers (line_on sep l.line l.answer before old l.next n found run.0.0) (λ at. run_at sep lines l.next new at.after at.place (run.0.1, run.1) at.there)
 
 -- ---- the histories of all drawers
 
@@ -232,11 +230,11 @@ grew_then old middle new a b = record { name = b.name ∙ a.name; events = a.eve
 grew_same : (d : DrawerState) → Grew d d
 grew_same d = record { name = refl; events = []; logs = Logs-nothing d.disk }
 
-pub each_same : (Gone : List ℕ → Type 0) (drawers : List DrawerState) → EachGrew Gone drawers drawers
+each_same : (Gone : List ℕ → Type 0) (drawers : List DrawerState) → EachGrew Gone drawers drawers
 each_same Gone [] = tt
 each_same Gone (d ∷ ds) = inl (grew_same d, each_same Gone ds)
 
-pub each_as : (Gone : List ℕ → Type 0) (old new : World) → new ≡ old → EachGrew Gone old.drawers new.drawers
+each_as : (Gone : List ℕ → Type 0) (old new : World) → new ≡ old → EachGrew Gone old.drawers new.drawers
 each_as Gone old new is = rw is (each_same Gone old.drawers)
 
 -- one more that is gone
@@ -258,7 +256,7 @@ each_then Gone (o ∷ os) (m ∷ ms) news (inl a) b = each_kept Gone o m os ms n
 each_then Gone (o ∷ os) (m ∷ ms) news (inr a) b = each_left Gone o os news a.0 (each_then Gone os (m ∷ ms) news a.1 b)
 
 -- more may be gone
-pub each_weaker : (Gone More : List ℕ → Type 0) (olds news : List DrawerState) → ((name : List ℕ) → Gone name → More name) → EachGrew Gone olds news → EachGrew More olds news
+each_weaker : (Gone More : List ℕ → Type 0) (olds news : List DrawerState) → ((name : List ℕ) → Gone name → More name) → EachGrew Gone olds news → EachGrew More olds news
 each_weaker Gone More [] [] more h = tt
 each_weaker Gone More [] (n ∷ ns) more h = absurd h
 each_weaker Gone More (o ∷ os) [] more h = (more o.name h.0, each_weaker Gone More os [] more h.1)
@@ -277,28 +275,32 @@ each_removed Gone [] place before found gone = absurd (let none : ⊥ = cc found
 each_removed Gone (d ∷ ds) zero before found gone = each_left Gone d ds ds (subst (λ (x : DrawerState). Gone x.name) (sym (same_some d before found)) gone) (each_same Gone ds)
 each_removed Gone (d ∷ ds) (suc place) before found gone = inl (grew_same d, each_removed Gone ds place before found gone)
 
+-- the line takes the drawer with this name out
+abbrev Out : Sep → List ℕ → Option Answer → List ℕ → Type 0
+Out sep line answer name = (ejects sep line name && is_done answer) ≡ true
+
 changed_grew : (sep : Sep) (line : List ℕ) (command : Command) (said : Answer) (old new : List DrawerState) (place : ℕ) (out : Bool) → takes_out command ≡ out → reading sep line ≡ Ok (Some command) → place_named line command old ≡ Some place
-    → ChangesBy out line command said old new place → EachGrew (λ name. ejects sep line name ≡ true) old new
+    → ChangesBy out line command said old new place → EachGrew (Out sep line (Some said)) old new
 changed_grew sep line command said old new place true is asked at h =
     let t = taken_at sep line command said h.before old place asked is h.found at h.done in
-    rw h.others (each_removed (λ name. ejects sep line name ≡ true) old place h.before h.found t.ejected)
+    rw h.others (each_removed (Out sep line (Some said)) old place h.before h.found (both_true (ejects sep line h.before.name) (is_done (Some said)) t.ejected (ap is_done t.done)))
 changed_grew sep line command said old new place false is asked at h =
-    rw h.others (each_set (λ name. ejects sep line name ≡ true) old place h.before h.after h.found (record { name = h.steps.name; events = h.steps.events; logs = h.steps.logs }))
+    rw h.others (each_set (Out sep line (Some said)) old place h.before h.after h.found (record { name = h.steps.name; events = h.steps.events; logs = h.steps.logs }))
 
 turned_grew : (sep : Sep) (line : List ℕ) (command : Command) (said : Answer) (old new : List DrawerState) (place : Option ℕ) → reading sep line ≡ Ok (Some command) → place_named line command old ≡ place → OnlyAt line command said old new place
-    → EachGrew (λ name. ejects sep line name ≡ true) old new
-turned_grew sep line command said old new None asked at h = rw h (each_same (λ name. ejects sep line name ≡ true) old)
+    → EachGrew (Out sep line (Some said)) old new
+turned_grew sep line command said old new None asked at h = rw h (each_same (Out sep line (Some said)) old)
 turned_grew sep line command said old new (Some place) asked at h = changed_grew sep line command said old new place (takes_out command) refl asked at h
 
 read_grew : (sep : Sep) (line : List ℕ) (read : Result (Option Command) Usage) (answer : Option Answer) (old new : World) → reading sep line ≡ read → ServesReading read line old answer new
-    → EachGrew (λ name. ejects sep line name ≡ true) old.drawers new.drawers
-read_grew sep line (Ok None) answer old new asked h = each_as (λ name. ejects sep line name ≡ true) old new h.1
-read_grew sep line (Err usage) answer old new asked h = each_as (λ name. ejects sep line name ≡ true) old new h.1
+    → EachGrew (Out sep line answer) old.drawers new.drawers
+read_grew sep line (Ok None) answer old new asked h = each_as (Out sep line answer) old new h.1
+read_grew sep line (Err usage) answer old new asked h = each_as (Out sep line answer) old new h.1
 read_grew sep line (Ok (Some command)) None old new asked h = absurd h
 read_grew sep line (Ok (Some command)) (Some said) old new asked h =
     turned_grew sep line command said old.drawers new.drawers (place_named line command old.drawers) asked refl (turn_only_steps line command old said new h)
 
-pub any_here : (a b : Bool) → a ≡ true → (a || b) ≡ true
+any_here : (a b : Bool) → a ≡ true → (a || b) ≡ true
 any_here true b h = refl
 any_here false b h = absurd (let none : ⊥ = cc h in none)
 
@@ -306,16 +308,18 @@ any_behind : (a b : Bool) → b ≡ true → (a || b) ≡ true
 any_behind true b h = refl
 any_behind false b h = h
 
-run_grew : (sep : Sep) (old : World) (lines : List (List ℕ)) (answers : List (Option Answer)) (new : World) → Run sep old lines answers new → EachGrew (AnyEjects sep lines) old.drawers new.drawers
-run_grew sep old [] [] new run = each_as (AnyEjects sep []) old new run
-run_grew sep old (line ∷ lines) (answer ∷ answers) new run =
-    each_then (AnyEjects sep (line ∷ lines)) old.drawers run.0.drawers new.drawers
-    (each_weaker (λ name. ejects sep line name ≡ true) (AnyEjects sep (line ∷ lines)) old.drawers run.0.drawers (λ name h. any_here (ejects sep line name) (list_any (λ l. ejects sep l name) lines) h)
-    (read_grew sep line (reading sep line) answer old run.0 refl run.1))
-    (each_weaker (AnyEjects sep lines) (AnyEjects sep (line ∷ lines)) run.0.drawers new.drawers (λ name h. any_behind (ejects sep line name) (list_any (λ l. ejects sep l name) lines) h)
-    (run_grew sep run.0 lines answers new run.2))
-run_grew sep old [] (answer ∷ answers) new run = absurd run
-run_grew sep old (line ∷ lines) [] new run = absurd run
+-- one of the lines does
+abbrev AnyOut : Sep → List ServedLine → List ℕ → Type 0
+AnyOut sep lines name = list_any (λ (l : ServedLine). ejected sep l name) lines ≡ true
+
+run_grew : (sep : Sep) (old : World) (lines : List ServedLine) (new : World) → Run sep old lines new → EachGrew (AnyOut sep lines) old.drawers new.drawers
+run_grew sep old [] new run = each_as (AnyOut sep []) old new run.1
+run_grew sep old (l ∷ lines) new run =
+    each_then (AnyOut sep (l ∷ lines)) old.drawers l.next.drawers new.drawers
+    (each_weaker (Out sep l.line l.answer) (AnyOut sep (l ∷ lines)) old.drawers l.next.drawers (λ name h. any_here (ejected sep l name) (list_any (λ (x : ServedLine). ejected sep x name) lines) h)
+    (read_grew sep l.line (reading sep l.line) l.answer old l.next refl run.0.0))
+    (each_weaker (AnyOut sep lines) (AnyOut sep (l ∷ lines)) l.next.drawers new.drawers (λ name h. any_behind (ejected sep l name) (list_any (λ (x : ServedLine). ejected sep x name) lines) h)
+    (run_grew sep l.next lines new (run.0.1, run.1)))
 
 flushed_logs : (failed : Bool) (old new : DiskState) → Flushes failed old new → (events : List Event) × Logs events old new
 flushed_logs false old new h = (Flush ∷ [], h)
@@ -332,6 +336,11 @@ closing_grew Gone [] count news h = rw h.1 tt
 closing_grew Gone (d ∷ ds) count news h =
     subst (EachGrew Gone (d ∷ ds)) (sym h.7) (inl (closed_grew (is_idle d.holding) d h.0 h.1 h.4, closing_grew Gone ds h.2 h.3 h.5))
 
-pub closed_run_grew : (sep : Sep) (old : World) (lines : List (List ℕ)) (answers : List (Option Answer)) (failed : ℕ) (new : World) → RunsAndCloses sep old lines answers failed new → EachGrew (AnyEjects sep lines) old.drawers new.drawers
-closed_run_grew sep old lines answers failed new h =
-    each_then (AnyEjects sep lines) old.drawers h.middle.drawers new.drawers (run_grew sep old lines answers h.middle h.run) (closing_grew (AnyEjects sep lines) h.middle.drawers failed new.drawers h.closes.drawers)
+closed_grew_by : (Gone : List ℕ → Type 0) (closing : Option ℕ) (behind exit : World) → ClosesBy closing behind exit → EachGrew Gone behind.drawers exit.drawers
+closed_grew_by Gone None behind exit h = each_as Gone behind exit h
+closed_grew_by Gone (Some failed) behind exit h = closing_grew Gone behind.drawers failed exit.drawers h.drawers
+
+pub trace_grew : (entry exit : World) (trace : Trace) → IsTrace entry trace exit → KeepsDrawers entry trace exit
+trace_grew entry exit trace h =
+    let behind : World = world_behind entry trace.lines in
+    each_then (AnyOut trace.sep trace.lines) entry.drawers behind.drawers exit.drawers (run_grew trace.sep entry trace.lines behind (h.served, refl)) (closed_grew_by (AnyOut trace.sep trace.lines) trace.closing behind exit h.closes)

@@ -22,12 +22,15 @@ use Rattle.shelf.specs.Closing.{ClosesWorld}
 use Rattle.geli_core.specs.Lines.{CutsInto, last_line}
 use Rattle.geli_core.specs.Run.{FailsInLast, ServesAndPrints, ServesLine, answers_text, any_refused, closing_answers, is_refusal, refuses, text_of}
 use Rattle.geli_core.specs.Script.{RunsScript, script_limit}
-use Rattle.geli_core.specs.Served.{ClosesAndPrints, IsAllServed, IsAllUnprinted, IsServed, IsTaken, PrintsClosing, ServesAll, ServesLines, Site, StopsWithin, status_by, whole_of}
+use Rattle.command_rows.specs.World.{World}
+use Rattle.geli_core.specs.Served.{ClosesAndPrints, IsAllServed, IsAllUnprinted, IsServed, IsTaken, PrintsClosing, ServesAll, ServesLines, Site, StopsWithin, Traced, status_by, whole_of}
+use Rattle.geli_core.specs.Trace.{Run, ServedLine, Trace, answers_of, lines_of}
+use Rattle.std.specs.List.{AllByRecursion}
 use Rattle.geli_core.specs.declared.feeding.Stop.TheVariants.{TooLong, Unprinted}
 use Rattle.geli_core.specs.declared.serving.LineEnd.{LineEnd}
 use Rattle.geli_core.specs.declared.status.Status.{Status}
 use Rattle.geli_core.specs.declared.status.Status.TheVariants.{Done, SomeRefused, BadWords, ReadFault, WriteFault, NoMemory, LineTooLong, ScriptTooLong}
-use Rattle.geli_core.proofs.Running.{Run-more, all_more, failed_more, refused_more, took_more}
+use Rattle.geli_core.proofs.Running.{Run-more, all_more, answers_of-more, failed_more, lines_of-more, refused_more, served_line, took_more}
 
 last_line-some : (line : List ℕ) → 1 ≤ length line → last_line line ≡ line ∷ []
 last_line-some [] some = absurd (omega arith)
@@ -38,12 +41,13 @@ last_line-some (b ∷ bs) some = refl
 pub all_served-none : (bytes : List ℕ) (old new : Site) (rest : List ℕ) (refused : Bool) → rest ≡ [] → IsServed bytes old rest refused new → IsAllServed bytes old refused new
 all_served-none bytes old new rest refused none h = record {
   serves = record {
-    lines = h.serves.lines;
+    lines = lines_of h.serves.served;
     rest = [];
-    answers = h.serves.answers;
-    cut = subst (λ (r : List ℕ). CutsInto bytes h.serves.lines r) none h.serves.cut;
-    short = rw (append-nil h.serves.lines) h.serves.short;
-    run = rw (append-nil h.serves.lines) h.serves.run;
+    cut = subst (λ (r : List ℕ). CutsInto bytes (lines_of h.serves.served) r) none h.serves.cut;
+    served = h.serves.served;
+    all = sym (append-nil (lines_of h.serves.served));
+    short = h.serves.short;
+    run = h.serves.run;
   };
   printed = h.printed;
   any = h.any;
@@ -51,22 +55,27 @@ all_served-none bytes old new rest refused none h = record {
 
 serves_last : (bytes : List ℕ) (old middle new : Site) (line : List ℕ) (h : ServesLines bytes old line middle) (answer : Option Answer) → 1 ≤ length line → length line ≤ line_limit
     → ServesLine Blanks line middle.world answer new.world → ServesAll bytes old new
-serves_last bytes old middle new line h answer some short serves = record {
-  lines = h.lines;
-  rest = line;
-  answers = h.answers ++ answer ∷ [];
-  cut = h.cut;
-  short = rw (last_line-some line some) (all_more _ h.lines line h.short short);
-  run = rw (last_line-some line some) (Run-more Blanks old.world middle.world new.world h.lines line h.answers answer h.run serves);
-}
+serves_last bytes old middle new line h answer some short serves =
+    let l : ServedLine = served_line line answer new.world in
+    let are : lines_of (h.served ++ l ∷ []) ≡ lines_of h.served ++ line ∷ [] = lines_of-more h.served l in
+    record {
+      lines = lines_of h.served;
+      rest = line;
+      cut = h.cut;
+      served = h.served ++ l ∷ [];
+      all = are ∙ ap (λ (ls : List (List ℕ)). lines_of h.served ++ ls) (sym (last_line-some line some));
+      short = subst (λ (ls : List (List ℕ)). AllByRecursion (λ x. length x ≤ line_limit) ls) (sym are) (all_more _ (lines_of h.served) line h.short short);
+      run = Run-more Blanks old.world middle.world h.served l h.run serves;
+    }
 
 pub all_served-line : (bytes : List ℕ) (old middle new : Site) (line : List ℕ) (refused : Bool) (end : LineEnd) → 1 ≤ length line → length line ≤ line_limit → IsServed bytes old line refused middle
     → ServesAndPrints Blanks line middle.world middle.sink (Ok end) new.world new.sink → IsAllServed bytes old (refused || is_refusal end) new
 unfolding serves_last
 all_served-line bytes old middle new line refused end some short h s = record {
   serves = serves_last bytes old middle new line h.serves s.answer some short s.serves;
-  printed = took_more h.serves.answers s.answer end old.sink middle.sink new.sink h.printed s.prints;
-  any = refused_more h.serves.answers s.answer refused end middle.sink new.sink h.any s.prints;
+  printed = subst (λ (a : List (Option Answer)). TookAll (answers_text a) old.sink new.sink) (sym (answers_of-more h.serves.served (served_line line s.answer new.world)))
+      (took_more (answers_of h.serves.served) s.answer end old.sink middle.sink new.sink h.printed s.prints);
+  any = ap any_refused (answers_of-more h.serves.served (served_line line s.answer new.world)) ∙ refused_more (answers_of h.serves.served) s.answer refused end middle.sink new.sink h.any s.prints;
 }
 
 pub all_unprinted-line : (bytes : List ℕ) (old middle new : Site) (line : List ℕ) (refused : Bool) (failed : WriteEnd) → 1 ≤ length line → length line ≤ line_limit → IsServed bytes old line refused middle
@@ -74,7 +83,8 @@ pub all_unprinted-line : (bytes : List ℕ) (old middle new : Site) (line : List
 unfolding serves_last
 all_unprinted-line bytes old middle new line refused failed some short h s = record {
   serves = serves_last bytes old middle new line h.serves s.answer some short s.serves;
-  printed = failed_more h.serves.answers s.answer failed old.sink middle.sink new.sink h.printed s.prints;
+  printed = subst (λ (a : List (Option Answer)). FailsInLast a old.sink new.sink) (sym (answers_of-more h.serves.served (served_line line s.answer new.world)))
+      (failed_more (answers_of h.serves.served) s.answer failed old.sink middle.sink new.sink h.printed s.prints);
 }
 
 -- ---- the script
@@ -88,68 +98,76 @@ limit_all bytes limit = rw (append-nil bytes) limit
 any_all : (said : List (Option Answer)) (failed : ℕ) (refused : Bool) → any_refused said ≡ refused → any_refused (said ++ closing_answers failed) ≡ (refused || any_refused (closing_answers failed))
 any_all said failed refused was = list_any-append refuses said (closing_answers failed) ∙ ap (λ (b : Bool). b || any_refused (closing_answers failed)) was
 
+-- these lines were served, and then the drawers were closed
+abbrev script_trace : List ServedLine → ℕ → Trace
+script_trace served failed = record { sep = Blanks; lines = served; closing = Some failed }
+
+traced : (old middle new : Site) (source after : SourceState) (status : Status) (served : List ServedLine) (failed : ℕ) → Run Blanks old.world served middle.world → ClosesWorld middle.world failed new.world
+    → RunsScript (whole_of old source) (script_trace served failed) status (whole_of new after) → Traced RunsScript (whole_of old source) status (whole_of new after)
+traced old middle new source after status served failed run closes runs = record {
+  trace = script_trace served failed;
+  is_trace = record { served = run.0; closes = subst (λ (w : World). ClosesWorld w failed new.world) run.1 closes };
+  runs = runs;
+}
+
 -- all was printed
 ended_by : (bytes : List ℕ) (old middle new : Site) (source after : SourceState) (h : ServesAll bytes old middle) (failed : ℕ) (all : Bool) → length bytes < script_limit → IsAtEnd after.left
-    → source.left ≡ prepend_known bytes after.left → ClosesWorld middle.world failed new.world → any_refused (h.answers ++ closing_answers failed) ≡ all
-    → TookAll (answers_text (h.answers ++ closing_answers failed)) old.sink new.sink → RunsScript (whole_of old source) (status_by all) (whole_of new after)
-ended_by bytes old middle new source after h failed false small end gave closes refused took = record {
+    → source.left ≡ prepend_known bytes after.left → ClosesWorld middle.world failed new.world → any_refused (answers_of h.served ++ closing_answers failed) ≡ all
+    → TookAll (answers_text (answers_of h.served ++ closing_answers failed)) old.sink new.sink → Traced RunsScript (whole_of old source) (status_by all) (whole_of new after)
+ended_by bytes old middle new source after h failed false small end gave closes refused took = traced old middle new source after Done h.served failed h.run closes (record {
+  sep = refl;
   taken = record { read = bytes; lines = h.lines; rest = h.rest; unread = [] };
   gave = gave_all bytes source after gave;
   limit = limit_all bytes (omega (arith, small));
   cut = h.cut;
-  served = h.lines ++ last_line h.rest;
   short = h.short;
-  up_to = record { small = small; all = refl; unread = refl; end = end };
-  answers = h.answers;
+  up_to = record { small = small; all = h.all; unread = refl; end = end };
   failed = failed;
-  runs = record { middle = middle.world; run = h.run; closes = closes };
+  closed = refl;
   prints = (refused, took);
-}
-ended_by bytes old middle new source after h failed true small end gave closes refused took = record {
+})
+ended_by bytes old middle new source after h failed true small end gave closes refused took = traced old middle new source after SomeRefused h.served failed h.run closes (record {
+  sep = refl;
   taken = record { read = bytes; lines = h.lines; rest = h.rest; unread = [] };
   gave = gave_all bytes source after gave;
   limit = limit_all bytes (omega (arith, small));
   cut = h.cut;
-  served = h.lines ++ last_line h.rest;
   short = h.short;
-  up_to = record { small = small; all = refl; unread = refl; end = end };
-  answers = h.answers;
+  up_to = record { small = small; all = h.all; unread = refl; end = end };
   failed = failed;
-  runs = record { middle = middle.world; run = h.run; closes = closes };
+  closed = refl;
   prints = (refused, took);
-}
+})
 
 ended_whole : (bytes : List ℕ) (old middle new : Site) (source after : SourceState) (refused : Bool) (failed : ℕ) (status : Status) → IsAllServed bytes old refused middle → length bytes < script_limit → IsAtEnd after.left
     → source.left ≡ prepend_known bytes after.left → ClosesWorld middle.world failed new.world
     → (status ≡ status_by (refused || any_refused (closing_answers failed))) × TookAll (answers_text (closing_answers failed)) middle.sink new.sink
-    → RunsScript (whole_of old source) status (whole_of new after)
+    → Traced RunsScript (whole_of old source) status (whole_of new after)
 ended_whole bytes old middle new source after refused failed status h small end gave closes p =
     let all : Bool = refused || any_refused (closing_answers failed) in
-    let text = flat_map-append text_of h.serves.answers (closing_answers failed) in
-    let took : TookAll (answers_text (h.serves.answers ++ closing_answers failed)) old.sink new.sink = rw text (TookAll-then _ _ h.printed p.1) in
-    subst (λ (s : Status). RunsScript (whole_of old source) s (whole_of new after)) (sym p.0)
-    (ended_by bytes old middle new source after h.serves failed all small end gave closes (any_all h.serves.answers failed refused h.any) took)
+    let text = flat_map-append text_of (answers_of h.serves.served) (closing_answers failed) in
+    let took : TookAll (answers_text ((answers_of h.serves.served) ++ closing_answers failed)) old.sink new.sink = rw text (TookAll-then _ _ h.printed p.1) in
+    subst (λ (s : Status). Traced RunsScript (whole_of old source) s (whole_of new after)) (sym p.0)
+    (ended_by bytes old middle new source after h.serves failed all small end gave closes (any_all (answers_of h.serves.served) failed refused h.any) took)
 
 ended_part : (bytes : List ℕ) (old middle new : Site) (source after : SourceState) (refused : Bool) (failed : ℕ) → IsAllServed bytes old refused middle → length bytes < script_limit → IsAtEnd after.left
     → source.left ≡ prepend_known bytes after.left → ClosesWorld middle.world failed new.world → (1 ≤ failed) × TookPart (answers_text (closing_answers failed)) middle.sink new.sink
-    → RunsScript (whole_of old source) WriteFault (whole_of new after)
-ended_part bytes old middle new source after refused failed h small end gave closes p =
-    record {
-      taken = record { read = bytes; lines = h.serves.lines; rest = h.serves.rest; unread = [] };
-      gave = gave_all bytes source after gave;
-      limit = limit_all bytes (omega (arith, small));
-      cut = h.serves.cut;
-      served = h.serves.lines ++ last_line h.serves.rest;
-      short = h.serves.short;
-      up_to = inr (record { small = small; all = refl; unread = refl; end = end });
-      answers = h.serves.answers;
-      failed = failed;
-      runs = record { middle = middle.world; run = h.serves.run; closes = closes };
-      prints = inr (record { some = p.0; middle = middle.sink; before = h.printed; part = p.1 });
-    }
+    → Traced RunsScript (whole_of old source) WriteFault (whole_of new after)
+ended_part bytes old middle new source after refused failed h small end gave closes p = traced old middle new source after WriteFault h.serves.served failed h.serves.run closes (record {
+  sep = refl;
+  taken = record { read = bytes; lines = h.serves.lines; rest = h.serves.rest; unread = [] };
+  gave = gave_all bytes source after gave;
+  limit = limit_all bytes (omega (arith, small));
+  cut = h.serves.cut;
+  short = h.serves.short;
+  up_to = inr (record { small = small; all = h.serves.all; unread = refl; end = end });
+  failed = failed;
+  closed = refl;
+  prints = inr (record { some = p.0; middle = middle.sink; before = h.printed; part = p.1 });
+})
 
 pub ended_script : (bytes : List ℕ) (old middle new : Site) (source after : SourceState) (refused : Bool) (status : Status) → IsAllServed bytes old refused middle → length bytes < script_limit → IsAtEnd after.left
-    → source.left ≡ prepend_known bytes after.left → (c : ClosesAndPrints refused middle status new) → RunsScript (whole_of old source) status (whole_of new after)
+    → source.left ≡ prepend_known bytes after.left → (c : ClosesAndPrints refused middle status new) → Traced RunsScript (whole_of old source) status (whole_of new after)
 ended_script bytes old middle new source after refused WriteFault h small end gave c = ended_part bytes old middle new source after refused c.failed h small end gave c.closes c.prints
 ended_script bytes old middle new source after refused Done h small end gave c = ended_whole bytes old middle new source after refused c.failed Done h small end gave c.closes c.prints
 ended_script bytes old middle new source after refused SomeRefused h small end gave c = ended_whole bytes old middle new source after refused c.failed SomeRefused h small end gave c.closes c.prints
@@ -161,90 +179,85 @@ ended_script bytes old middle new source after refused ScriptTooLong h small end
 
 -- the last line was not printed
 pub ended_unprinted : (bytes : List ℕ) (old middle new : Site) (source after : SourceState) (failed : ℕ) → IsAllUnprinted bytes old middle → length bytes < script_limit → IsAtEnd after.left
-    → source.left ≡ prepend_known bytes after.left → ClosesWorld middle.world failed new.world → new.sink ≡ middle.sink → RunsScript (whole_of old source) WriteFault (whole_of new after)
-ended_unprinted bytes old middle new source after failed h small end gave closes same = record {
+    → source.left ≡ prepend_known bytes after.left → ClosesWorld middle.world failed new.world → new.sink ≡ middle.sink → Traced RunsScript (whole_of old source) WriteFault (whole_of new after)
+ended_unprinted bytes old middle new source after failed h small end gave closes same = traced old middle new source after WriteFault h.serves.served failed h.serves.run closes (record {
+  sep = refl;
   taken = record { read = bytes; lines = h.serves.lines; rest = h.serves.rest; unread = [] };
   gave = gave_all bytes source after gave;
   limit = limit_all bytes (omega (arith, small));
   cut = h.serves.cut;
-  served = h.serves.lines ++ last_line h.serves.rest;
   short = h.serves.short;
-  up_to = inr (record { small = small; all = refl; unread = refl; end = end });
-  answers = h.serves.answers;
+  up_to = inr (record { small = small; all = h.serves.all; unread = refl; end = end });
   failed = failed;
-  runs = record { middle = middle.world; run = h.serves.run; closes = closes };
-  prints = inl (subst (λ (s : SinkState). FailsInLast h.serves.answers old.sink s) (sym same) h.printed);
-}
+  closed = refl;
+  prints = inl (subst (λ (s : SinkState). FailsInLast (answers_of h.serves.served) old.sink s) (sym same) h.printed);
+})
 
 -- the source failed
 pub ended_failed : (bytes : List ℕ) (old middle new : Site) (source after : SourceState) (rest : List ℕ) (refused : Bool) (failed : ℕ) → IsTaken bytes old source rest refused middle after → length bytes < script_limit → Rose source.faults after.faults
-    → ClosesWorld middle.world failed new.world → new.sink ≡ middle.sink → RunsScript (whole_of old source) ReadFault (whole_of new after)
-ended_failed bytes old middle new source after rest refused failed h small rose closes same = record {
-  taken = record { read = bytes; lines = h.served.serves.lines; rest = rest; unread = [] };
+    → ClosesWorld middle.world failed new.world → new.sink ≡ middle.sink → Traced RunsScript (whole_of old source) ReadFault (whole_of new after)
+ended_failed bytes old middle new source after rest refused failed h small rose closes same = traced old middle new source after ReadFault h.served.serves.served failed h.served.serves.run closes (record {
+  sep = refl;
+  taken = record { read = bytes; lines = lines_of h.served.serves.served; rest = rest; unread = [] };
   gave = gave_all bytes source after h.gave;
   limit = limit_all bytes (omega (arith, small));
   cut = h.served.serves.cut;
-  served = h.served.serves.lines;
   short = h.served.serves.short;
   up_to = (record { whole = refl; unread = refl; short = h.short }, small, rose);
-  answers = h.served.serves.answers;
   failed = failed;
-  runs = record { middle = middle.world; run = h.served.serves.run; closes = closes };
-  prints = subst (λ (s : SinkState). TookAll (answers_text h.served.serves.answers) old.sink s) (sym same) h.served.printed;
-}
+  closed = refl;
+  prints = subst (λ (s : SinkState). TookAll (answers_text (answers_of h.served.serves.served)) old.sink s) (sym same) h.served.printed;
+})
 
 -- the limit was reached
 pub ended_full : (bytes : List ℕ) (old middle new : Site) (source after : SourceState) (rest : List ℕ) (refused : Bool) (failed : ℕ) → IsTaken bytes old source rest refused middle after → length bytes ≡ script_limit
-    → ClosesWorld middle.world failed new.world → new.sink ≡ middle.sink → RunsScript (whole_of old source) ScriptTooLong (whole_of new after)
-ended_full bytes old middle new source after rest refused failed h full closes same = record {
-  taken = record { read = bytes; lines = h.served.serves.lines; rest = rest; unread = [] };
+    → ClosesWorld middle.world failed new.world → new.sink ≡ middle.sink → Traced RunsScript (whole_of old source) ScriptTooLong (whole_of new after)
+ended_full bytes old middle new source after rest refused failed h full closes same = traced old middle new source after ScriptTooLong h.served.serves.served failed h.served.serves.run closes (record {
+  sep = refl;
+  taken = record { read = bytes; lines = lines_of h.served.serves.served; rest = rest; unread = [] };
   gave = gave_all bytes source after h.gave;
   limit = limit_all bytes (omega (arith, full));
   cut = h.served.serves.cut;
-  served = h.served.serves.lines;
   short = h.served.serves.short;
   up_to = (record { whole = refl; unread = refl; short = h.short }, full);
-  answers = h.served.serves.answers;
   failed = failed;
-  runs = record { middle = middle.world; run = h.served.serves.run; closes = closes };
-  prints = subst (λ (s : SinkState). TookAll (answers_text h.served.serves.answers) old.sink s) (sym same) h.served.printed;
-}
+  closed = refl;
+  prints = subst (λ (s : SinkState). TookAll (answers_text (answers_of h.served.serves.served)) old.sink s) (sym same) h.served.printed;
+})
 
 -- a line was too long
 pub ended_long : (bytes : List ℕ) (old middle new : Site) (source after : SourceState) (failed : ℕ) → StopsWithin bytes old TooLong middle → length bytes ≤ script_limit → source.left ≡ prepend_known bytes after.left
-    → ClosesWorld middle.world failed new.world → new.sink ≡ middle.sink → RunsScript (whole_of old source) LineTooLong (whole_of new after)
-ended_long bytes old middle new source after failed h limit gave closes same = record {
-  taken = record { read = h.read; lines = h.stops.served.serves.lines; rest = h.stops.rest; unread = h.unread };
+    → ClosesWorld middle.world failed new.world → new.sink ≡ middle.sink → Traced RunsScript (whole_of old source) LineTooLong (whole_of new after)
+ended_long bytes old middle new source after failed h limit gave closes same = traced old middle new source after LineTooLong h.stops.served.serves.served failed h.stops.served.serves.run closes (record {
+  sep = refl;
+  taken = record { read = h.read; lines = lines_of h.stops.served.serves.served; rest = h.stops.rest; unread = h.unread };
   gave = subst (λ (l : List ℕ). source.left ≡ prepend_known l after.left) h.whole gave;
   limit = subst (λ (l : List ℕ). length l ≤ script_limit) h.whole limit;
   cut = h.stops.served.serves.cut;
-  served = h.stops.served.serves.lines;
   short = h.stops.served.serves.short;
   up_to = (refl, h.stops.long);
-  answers = h.stops.served.serves.answers;
   failed = failed;
-  runs = record { middle = middle.world; run = h.stops.served.serves.run; closes = closes };
-  prints = subst (λ (s : SinkState). TookAll (answers_text h.stops.served.serves.answers) old.sink s) (sym same) h.stops.served.printed;
-}
+  closed = refl;
+  prints = subst (λ (s : SinkState). TookAll (answers_text (answers_of h.stops.served.serves.served)) old.sink s) (sym same) h.stops.served.printed;
+})
 
 -- an answer was not printed
 pub ended_broken : (bytes : List ℕ) (old middle new : Site) (source after : SourceState) (failed : ℕ) → StopsWithin bytes old Unprinted middle → length bytes ≤ script_limit → source.left ≡ prepend_known bytes after.left
-    → ClosesWorld middle.world failed new.world → new.sink ≡ middle.sink → RunsScript (whole_of old source) WriteFault (whole_of new after)
+    → ClosesWorld middle.world failed new.world → new.sink ≡ middle.sink → Traced RunsScript (whole_of old source) WriteFault (whole_of new after)
 ended_broken bytes old middle new source after failed h limit gave closes same =
-    let failed_last = subst (λ (s : SinkState). FailsInLast h.stops.serves.answers old.sink s) (sym same) h.stops.printed in
-    record {
-      taken = record { read = h.read; lines = h.stops.serves.lines; rest = []; unread = h.unread };
+    let failed_last = subst (λ (s : SinkState). FailsInLast (answers_of h.stops.serves.served) old.sink s) (sym same) h.stops.printed in
+    traced old middle new source after WriteFault h.stops.serves.served failed h.stops.serves.run closes (record {
+      sep = refl;
+      taken = record { read = h.read; lines = lines_of h.stops.serves.served; rest = []; unread = h.unread };
       gave = subst (λ (l : List ℕ). source.left ≡ prepend_known l after.left) h.whole gave;
       limit = subst (λ (l : List ℕ). length l ≤ script_limit) h.whole limit;
       cut = h.stops.serves.cut;
-      served = h.stops.serves.lines;
       short = h.stops.serves.short;
       up_to = inl (refl, refl, failed_last);
-      answers = h.stops.serves.answers;
       failed = failed;
-      runs = record { middle = middle.world; run = h.stops.serves.run; closes = closes };
+      closed = refl;
       prints = inl failed_last;
-    }
+    })
 
 -- ---- the refusals of the closing
 

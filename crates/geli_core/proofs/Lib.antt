@@ -18,7 +18,6 @@ pub mod ReadsBack
 pub mod Running
 pub mod Shelving
 pub mod SlotKeys
-pub mod Surviving
 pub mod Suspensions
 pub mod Sweeps
 pub mod Texts

@@ -1,5 +1,5 @@
 -- The laws of lines that are served.
-use Rattle.std.proofs.Common.{◌≡◌, ℕ, List, [], ◌∷◌, Option, None, Some, Result, Ok, Err, refl, subst}
+use Rattle.std.proofs.Common.{◌≡◌, ℕ, List, Option, None, Some, Result, Ok, Err, refl, subst}
 use Rattle.std.specs.Prelude.{IsTrue, MatchOption}
 use Rattle.command_words.specs.Reading.{reading}
 use Rattle.command_words.specs.Places.{bytes_at, provider_of}
@@ -24,8 +24,8 @@ use Rattle.command_rows.proofs.Stopped.{turn_leaves}
 use Rattle.command_rows.proofs.Untouched.{turn_only_steps}
 use Rattle.block_traits.specs.Streams.{SinkState}
 use Rattle.reply_text.specs.declared.print.WriteEnd.{WriteEnd}
-use Rattle.geli_core.specs.Laws.{IfRefused, KeepsLaws, LineKeepsLaws, LinesKeepLaws, RunKeepsLaws, ServesLawfully}
-use Rattle.geli_core.specs.Run.{Run, ServesAndPrints, ServesLine, ServesReading}
+use Rattle.geli_core.specs.Laws.{IfRefused, KeepsLaws, LineKeepsLaws, ServesLawfully}
+use Rattle.geli_core.specs.Run.{ServesAndPrints, ServesLine, ServesReading}
 use Rattle.geli_core.specs.declared.serving.LineEnd.{LineEnd}
 
 -- ---- want of memory
@@ -91,14 +91,3 @@ line_laws sep line old answer new h = reading_laws (reading sep line) line old a
 pub served_lawfully : (sep : Sep) (line : List ℕ) (old : World) (sink : SinkState) (result : Result LineEnd WriteEnd) (new : World) (after : SinkState) → ServesAndPrints sep line old sink result new after
     → ServesLawfully sep line old sink result new after
 served_lawfully sep line old sink result new after h = record { answer = h.answer; serves = h.serves; prints = h.prints; laws = line_laws sep line old h.answer new h.serves }
-
--- ---- lines
-
-run_laws : (sep : Sep) (lines : List (List ℕ)) (answers : List (Option Answer)) (old new : World) → Run sep old lines answers new → RunKeepsLaws sep old lines answers new
-run_laws sep [] [] old new h = h
-run_laws sep (line ∷ lines) (answer ∷ answers) old new h = (h.0, h.1, line_laws sep line old answer h.0 h.1, run_laws sep lines answers h.0 new h.2)
-run_laws sep [] (answer ∷ answers) old new h = absurd h
-run_laws sep (line ∷ lines) [] old new h = absurd h
-
-pub lines_laws : (old new : World) → LinesKeepLaws old new
-lines_laws old new sep lines answers failed ran = run_laws sep lines answers old ran.middle ran.run

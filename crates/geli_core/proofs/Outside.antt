@@ -16,7 +16,8 @@ use Rattle.command_rows.specs.Counts.{CountsAnswer, CountsFailures}
 use Rattle.command_rows.specs.World.{World}
 use Rattle.command_rows.proofs.Sound.{turn_counts}
 use Rattle.geli_core.specs.Bounds.{CountsOutside, RoseBy, how_many, is_cabinet_fault, is_entropy_fault, is_miss}
-use Rattle.geli_core.specs.Run.{Run, ServesReading}
+use Rattle.geli_core.specs.Run.{ServesReading}
+use Rattle.geli_core.specs.Trace.{Run, ServedLine, answers_of}
 
 false_is : {P : Type 0} → false ≡ true → P
 false_is h = absurd (let none : ⊥ = cc h in none)
@@ -100,19 +101,17 @@ one_more false before middle now rest one many =
 nothing_more : (before now : ℕ) → now ≡ before → RoseBy 0 before now
 nothing_more before now same = record { later = omega (arith, same); bound = λ small. omega (arith, same) }
 
-pub run_counts : (sep : Sep) (lines : List (List ℕ)) (answers : List (Option Answer)) (old new : World) → Run sep old lines answers new → CountsOutside answers old new
-run_counts sep [] [] old new h = record {
-  cabinet = nothing_more old.cabinet.faults new.cabinet.faults (ap (λ (w : World). w.cabinet.faults) h);
-  misses = nothing_more old.cabinet.misses new.cabinet.misses (ap (λ (w : World). w.cabinet.misses) h);
-  entropy = nothing_more old.entropy.faults new.entropy.faults (ap (λ (w : World). w.entropy.faults) h);
+pub run_counts : (sep : Sep) (lines : List ServedLine) (old new : World) → Run sep old lines new → CountsOutside (answers_of lines) old new
+run_counts sep [] old new h = record {
+  cabinet = nothing_more old.cabinet.faults new.cabinet.faults (ap (λ (w : World). w.cabinet.faults) h.1);
+  misses = nothing_more old.cabinet.misses new.cabinet.misses (ap (λ (w : World). w.cabinet.misses) h.1);
+  entropy = nothing_more old.entropy.faults new.entropy.faults (ap (λ (w : World). w.entropy.faults) h.1);
 }
-run_counts sep [] (answer ∷ answers) old new h = absurd h
-run_counts sep (line ∷ lines) [] old new h = absurd h
-run_counts sep (line ∷ lines) (answer ∷ answers) old new h =
-    let one = line_rises (reading sep line) line answer old h.0 h.1 in
-    let many = run_counts sep lines answers h.0 new h.2 in
+run_counts sep (l ∷ lines) old new h =
+    let one = line_rises (reading sep l.line) l.line l.answer old l.next h.0.0 in
+    let many = run_counts sep lines l.next new (h.0.1, h.1) in
     record {
-      cabinet = one_more (is_cabinet_fault answer) old.cabinet.faults h.0.cabinet.faults new.cabinet.faults (how_many is_cabinet_fault answers) one.cabinet many.cabinet;
-      misses = one_more (is_miss answer) old.cabinet.misses h.0.cabinet.misses new.cabinet.misses (how_many is_miss answers) one.misses many.misses;
-      entropy = one_more (is_entropy_fault answer) old.entropy.faults h.0.entropy.faults new.entropy.faults (how_many is_entropy_fault answers) one.entropy many.entropy;
+      cabinet = one_more (is_cabinet_fault l.answer) old.cabinet.faults l.next.cabinet.faults new.cabinet.faults (how_many is_cabinet_fault (answers_of lines)) one.cabinet many.cabinet;
+      misses = one_more (is_miss l.answer) old.cabinet.misses l.next.cabinet.misses new.cabinet.misses (how_many is_miss (answers_of lines)) one.misses many.misses;
+      entropy = one_more (is_entropy_fault l.answer) old.entropy.faults l.next.entropy.faults new.entropy.faults (how_many is_entropy_fault (answers_of lines)) one.entropy many.entropy;
     }

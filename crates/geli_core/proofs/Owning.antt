@@ -34,7 +34,8 @@ use Rattle.command_rows.proofs.Gate.{by_gate, with_attached}
 use Rattle.command_rows.proofs.Lines.{line_did}
 use Rattle.command_rows.proofs.Turns.{by_each_turn}
 use Rattle.geli_core.specs.Requests.{HaveNoRequests, HoldOwn, HoldsOwn, LacksTag}
-use Rattle.geli_core.specs.Run.{Run, ServesReading}
+use Rattle.geli_core.specs.Run.{ServesReading}
+use Rattle.geli_core.specs.Trace.{Run, ServedLine}
 use Rattle.geli_core.specs.Survivors.{HasNoRequests}
 use Rattle.geli_core.proofs.Drawn.{here_or}
 use Rattle.geli_core.proofs.Holdings.{KeepsRequests, serves_keeps}
@@ -129,12 +130,10 @@ read_own (Ok None) line old answer new h keyed all = all_own old new h.1 all
 read_own (Ok (Some command)) line old None new h keyed all = absurd h
 read_own (Ok (Some command)) line old (Some said) new h keyed all = turn_own line command old said new h keyed all
 
-run_own : (sep : Sep) (lines : List (List ℕ)) (answers : List (Option Answer)) (old new : World) → Run sep old lines answers new → HoldKeyings old.drawers → HoldOwn old.drawers → HoldOwn new.drawers
-run_own sep [] [] old new run keyed all = all_own old new run all
-run_own sep (line ∷ lines) (answer ∷ answers) old new run keyed all =
-    run_own sep lines answers run.0 new run.2 (line_keeps sep line old answer run.0 run.1 keyed) (read_own (reading sep line) line old answer run.0 run.1 keyed all)
-run_own sep [] (answer ∷ answers) old new run keyed all = absurd run
-run_own sep (line ∷ lines) [] old new run keyed all = absurd run
+run_own : (sep : Sep) (lines : List ServedLine) (old new : World) → Run sep old lines new → HoldKeyings old.drawers → HoldOwn old.drawers → HoldOwn new.drawers
+run_own sep [] old new run keyed all = all_own old new run.1 all
+run_own sep (l ∷ lines) old new run keyed all =
+    run_own sep lines l.next new (run.0.1, run.1) (line_keeps sep l.line old l.answer l.next run.0.0 keyed) (read_own (reading sep l.line) l.line old l.answer l.next run.0.0 keyed all)
 
 none_own : (holding : Holding) (d : DiskState) → HasNoRequests holding → HoldsOwn holding d
 none_own holding d none = by (attachment_in holding) none
@@ -143,8 +142,8 @@ none_own holding d none = by (attachment_in holding) none
     by None h = tt
     by (Some a) h = subst (AreOf a.keying (media a.keying d)) (sym h) tt
 
-pub runs_own : (sep : Sep) (lines : List (List ℕ)) (answers : List (Option Answer)) (old new : World) → Run sep old lines answers new → HoldKeyings old.drawers → HaveNoRequests old.drawers → HoldOwn new.drawers
-runs_own sep lines answers old new run keyed none = run_own sep lines answers old new run keyed (λ drawer there. none_own drawer.holding drawer.disk (none drawer there))
+pub runs_own : (sep : Sep) (lines : List ServedLine) (old new : World) → Run sep old lines new → HoldKeyings old.drawers → HaveNoRequests old.drawers → HoldOwn new.drawers
+runs_own sep lines old new run keyed none = run_own sep lines old new run keyed (λ drawer there. none_own drawer.holding drawer.disk (none drawer there))
 
 -- ---- a tag that no request has
 

@@ -24,7 +24,7 @@ use Rattle.readings.specs.Writes.{raw_steps}
 use Rattle.readings.proofs.Crashes.{endures}
 use Rattle.readings.proofs.Writes.{AreStepsBelow-none}
 use Rattle.command_rows.specs.Answer.{Answer}
-use Rattle.shelf.specs.Closing.{Closes, ClosesAs, Closing, Flushes}
+use Rattle.shelf.specs.Closing.{Closes, ClosesAs, ClosesWorld, Closing, Flushes}
 use Rattle.command_rows.specs.Histories.{place_named}
 use Rattle.command_rows.specs.Turn.{ChangesAt, Serves, TakesOut, Turn, reach}
 use Rattle.command_rows.specs.World.{Attachment, DrawerState, HoldKeyings, Holding, HoldsKeying, Idle, IsAmong, IsAttached, IsSuspended, World, attachment_in, is_idle, place_of}
@@ -33,9 +33,10 @@ use Rattle.command_rows.proofs.Turns.{by_turn}
 use Rattle.command_rows.proofs.Untouched.{get-set, get-set_other}
 use Rattle.command_words.specs.Reading.{reading}
 use Rattle.geli_core.specs.Histories.{ServesDrawer, names_by, says_name}
-use Rattle.geli_core.specs.Placing.{ClosesWith, DrawerPlaces, DrawerPlays, DrawerPlaysAndCloses, LinePlays, goes_on, no_play, played_by}
-use Rattle.geli_core.specs.Run.{Run, RunsAndCloses, ServesLine, ServesReading}
-use Rattle.geli_core.specs.Survivors.{EachSurvives, EachSurvivesClosing, EnduresCrashes, HasNoRequests, HasTasks, SurvivesBy}
+use Rattle.geli_core.specs.Placing.{ClosesWith, DrawerPlaces, DrawerPlays, DrawerPlaysAndCloses, LinePlays, PlaysToExit, goes_on, no_play, played_by}
+use Rattle.geli_core.specs.Run.{ServesLine, ServesReading}
+use Rattle.geli_core.specs.Survivors.{EachSurvives, EachSurvivesRun, EnduresCrashes, HasNoRequests, HasTasks, SurvivesBy}
+use Rattle.geli_core.specs.Trace.{ClosesBy, EachServed, IsTrace, Run, ServedLine, Trace, world_behind}
 use Rattle.geli_core.proofs.Drawn.{here_or, named_more, same_some}
 use Rattle.geli_core.proofs.Following.{tracks_raw}
 use Rattle.geli_core.proofs.Keyings.{among_removed, line_keeps}
@@ -149,26 +150,22 @@ came_by sep line answer old new drawer h there = read_by sep line (reading sep l
 
 -- ---- a drawer's way through lines
 
-abbrev pub Way : Sep → World → List (List ℕ) → List (Option Answer) → World → DrawerState → DrawerState → Type 0
-Way sep start [] [] end old new = (end ≡ start) × (new ≡ old)
-Way sep start (line ∷ lines) (answer ∷ answers) end old new =
-    (between : World) × (middle : DrawerState) × ServesLine sep line start answer between × IsAmong start.drawers old × IsAmong between.drawers middle × Did sep line answer old middle × Way sep between lines answers end middle new
-Way sep start [] (answer ∷ answers) end old new = ⊥
-Way sep start (line ∷ lines) [] end old new = ⊥
+abbrev pub Way : Sep → World → List ServedLine → DrawerState → DrawerState → Type 0
+Way sep start [] old new = new ≡ old
+Way sep start (l ∷ lines) old new =
+    (middle : DrawerState) × ServesLine sep l.line start l.answer l.next × IsAmong start.drawers old × IsAmong l.next.drawers middle × Did sep l.line l.answer old middle × Way sep l.next lines middle new
 
-pub record Came (sep : Sep) (start : World) (lines : List (List ℕ)) (answers : List (Option Answer)) (end : World) (new : DrawerState) : Type 0 where
+pub record Came (sep : Sep) (start : World) (lines : List ServedLine) (new : DrawerState) : Type 0 where
   pub before : DrawerState
   pub was : IsAmong start.drawers before
-  pub way : Way sep start lines answers end before new
+  pub way : Way sep start lines before new
 
-pub came : (sep : Sep) (lines : List (List ℕ)) (answers : List (Option Answer)) (start end : World) (drawer : DrawerState) → Run sep start lines answers end → IsAmong end.drawers drawer → Came sep start lines answers end drawer
-came sep [] [] start end drawer run there = record { before = drawer; was = (there.0, ap (λ (w : World). slice_get w.drawers there.0) (sym run) ∙ there.1); way = (run, refl) }
-came sep (line ∷ lines) (answer ∷ answers) start end drawer run there =
-    let behind = came sep lines answers run.0 end drawer run.2 there in
-    let by = came_by sep line answer start run.0 behind.before run.1 behind.was in
-    record { before = by.before; was = by.was; way = (run.0, behind.before, run.1, by.was, behind.was, by.did, behind.way) }
-came sep [] (answer ∷ answers) start end drawer run there = absurd run
-came sep (line ∷ lines) [] start end drawer run there = absurd run
+pub came : (sep : Sep) (lines : List ServedLine) (start end : World) (drawer : DrawerState) → Run sep start lines end → IsAmong end.drawers drawer → Came sep start lines drawer
+came sep [] start end drawer run there = record { before = drawer; was = (there.0, ap (λ (w : World). slice_get w.drawers there.0) (sym run.1) ∙ there.1); way = refl }
+came sep (l ∷ lines) start end drawer run there =
+    let behind = came sep lines l.next end drawer (run.0.1, run.1) there in
+    let by = came_by sep l.line l.answer start l.next behind.before run.0.0 behind.was in
+    record { before = by.before; was = by.was; way = (behind.before, run.0.0, by.was, behind.was, by.did, behind.way) }
 
 -- ---- its play
 
@@ -218,22 +215,20 @@ line_goes Fresh told sep line answer old m new (inr s) had keyed t = record {
 }
 
 -- and after lines
-pub record GoesFar (Fresh : Type 0) (told : Option Content) (sep : Sep) (start : World) (lines : List (List ℕ)) (answers : List (Option Answer)) (end : World) (old : DrawerState) (m : Play) (new : DrawerState) : Type 0 where
+pub record GoesFar (Fresh : Type 0) (told : Option Content) (sep : Sep) (lines : List ServedLine) (old : DrawerState) (m : Play) (new : DrawerState) : Type 0 where
   pub last : Play
-  pub places : DrawerPlaces told sep start lines answers end old m last new
+  pub places : DrawerPlaces told sep lines old m last new
   pub tells : Tells Fresh told last new
   pub name : new.name ≡ old.name
 
-pub goes : (Fresh : Type 0) (told : Option Content) (sep : Sep) (lines : List (List ℕ)) (answers : List (Option Answer)) (start end : World) (old : DrawerState) (m : Play) (new : DrawerState) → Way sep start lines answers end old new → HoldKeyings start.drawers → Tells Fresh told m old
-    → GoesFar Fresh told sep start lines answers end old m new
-goes Fresh told sep [] [] start end old m new way keyed t = record { last = m; places = (way.0, way.1, refl); tells = subst (Tells Fresh told m) (sym way.1) t; name = ap (λ (d : DrawerState). d.name) way.1 }
-goes Fresh told sep (line ∷ lines) (answer ∷ answers) start end old m new (between, middle, serves, was, there, did, way) keyed t =
-    let after_keyed = line_keeps sep line start answer between serves keyed in
-    let one = line_goes Fresh told sep line answer old m middle did (keyed old was) (after_keyed middle there) t in
-    let rest = goes Fresh told sep lines answers between end middle one.next new way after_keyed one.tells in
-    record { last = rest.last; places = (between, middle, one.next, serves, there, one.plays, rest.places); tells = rest.tells; name = rest.name ∙ one.name }
-goes Fresh told sep [] (answer ∷ answers) start end old m new way keyed t = absurd way
-goes Fresh told sep (line ∷ lines) [] start end old m new way keyed t = absurd way
+pub goes : (Fresh : Type 0) (told : Option Content) (sep : Sep) (lines : List ServedLine) (start : World) (old : DrawerState) (m : Play) (new : DrawerState) → Way sep start lines old new → HoldKeyings start.drawers → Tells Fresh told m old
+    → GoesFar Fresh told sep lines old m new
+goes Fresh told sep [] start old m new way keyed t = record { last = m; places = (way, refl); tells = subst (Tells Fresh told m) (sym way) t; name = ap (λ (d : DrawerState). d.name) way }
+goes Fresh told sep (l ∷ lines) start old m new (middle, serves, was, there, did, way) keyed t =
+    let after_keyed = line_keeps sep l.line start l.answer l.next serves keyed in
+    let one = line_goes Fresh told sep l.line l.answer old m middle did (keyed old was) (after_keyed middle there) t in
+    let rest = goes Fresh told sep lines l.next middle one.next new way after_keyed one.tells in
+    record { last = rest.last; places = (middle, one.next, there, one.plays, rest.places); tells = rest.tells; name = rest.name ∙ one.name }
 
 -- ---- from the entry of a run
 
@@ -308,32 +303,30 @@ survives_by Plays olds before m new was name plays t = record {
 }
 
 -- a drawer that is there after lines, as which it was there before, and what its disk tells
-pub record Survived (sep : Sep) (lines : List (List ℕ)) (answers : List (Option Answer)) (old new : World) (drawer : DrawerState) : Type 0 where
+pub record Survived (sep : Sep) (entry : World) (lines : List ServedLine) (drawer : DrawerState) : Type 0 where
   pub before : DrawerState
-  pub was : IsAmong old.drawers before
+  pub was : IsAmong entry.drawers before
   pub name : drawer.name ≡ before.name
   pub play : Play
-  pub plays : DrawerPlays sep old lines answers new before play drawer
+  pub plays : DrawerPlays sep lines before play drawer
   pub tells : Tells (HasNoRequests before.holding) before.disk.content play drawer
 
-pub survived : (sep : Sep) (lines : List (List ℕ)) (answers : List (Option Answer)) (old new : World) → Run sep old lines answers new → HoldKeyings old.drawers → (drawer : DrawerState) → IsAmong new.drawers drawer → Survived sep lines answers old new drawer
-survived sep lines answers old new run keyed drawer there =
-    let from = came sep lines answers old new drawer run there in
+pub survived : (sep : Sep) (lines : List ServedLine) (entry now : World) → Run sep entry lines now → HoldKeyings entry.drawers → (drawer : DrawerState) → IsAmong now.drawers drawer → Survived sep entry lines drawer
+survived sep lines entry now run keyed drawer there =
+    let from = came sep lines entry now drawer run there in
     let b = from.before in
-    let g = goes (HasNoRequests b.holding) b.disk.content sep lines answers old new b no_play drawer from.way keyed (entry_tells b.disk.content b (keyed b from.was) refl) in
+    let g = goes (HasNoRequests b.holding) b.disk.content sep lines entry b no_play drawer from.way keyed (entry_tells b.disk.content b (keyed b from.was) refl) in
     record { before = b; was = from.was; name = g.name; play = g.last; plays = g.places; tells = g.tells }
 
-abbrev pub survives_so : (sep : Sep) (lines : List (List ℕ)) (answers : List (Option Answer)) (old new : World) (drawer : DrawerState) → Survived sep lines answers old new drawer → SurvivesBy (DrawerPlays sep old lines answers new) old.drawers drawer
-survives_so sep lines answers old new drawer s = survives_by (DrawerPlays sep old lines answers new) old.drawers s.before s.play drawer s.was s.name s.plays s.tells
+abbrev pub survives_so : (sep : Sep) (lines : List ServedLine) (entry : World) (drawer : DrawerState) → Survived sep entry lines drawer → SurvivesBy (DrawerPlays sep lines) entry.drawers drawer
+survives_so sep lines entry drawer s = survives_by (DrawerPlays sep lines) entry.drawers s.before s.play drawer s.was s.name s.plays s.tells
 
-pub each_survives : (sep : Sep) (lines : List (List ℕ)) (answers : List (Option Answer)) (old new : World) → Run sep old lines answers new → HoldKeyings old.drawers → EachSurvives sep lines answers old new
-each_survives sep lines answers old new run keyed drawer there = survives_so sep lines answers old new drawer (survived sep lines answers old new run keyed drawer there)
+pub each_survives : (sep : Sep) (lines : List ServedLine) (entry now : World) → Run sep entry lines now → HoldKeyings entry.drawers → EachSurvives sep entry lines now
+each_survives sep lines entry now run keyed drawer there = survives_so sep lines entry drawer (survived sep lines entry now run keyed drawer there)
 
-pub run_keeps : (sep : Sep) (lines : List (List ℕ)) (answers : List (Option Answer)) (old new : World) → Run sep old lines answers new → HoldKeyings old.drawers → HoldKeyings new.drawers
-run_keeps sep [] [] old new run all = subst (λ (w : World). HoldKeyings w.drawers) (sym run) all
-run_keeps sep (line ∷ lines) (answer ∷ answers) old new run all = run_keeps sep lines answers run.0 new run.2 (line_keeps sep line old answer run.0 run.1 all)
-run_keeps sep [] (answer ∷ answers) old new run all = absurd run
-run_keeps sep (line ∷ lines) [] old new run all = absurd run
+pub run_keeps : (sep : Sep) (lines : List ServedLine) (old new : World) → Run sep old lines new → HoldKeyings old.drawers → HoldKeyings new.drawers
+run_keeps sep [] old new run all = subst (λ (w : World). HoldKeyings w.drawers) (sym run.1) all
+run_keeps sep (l ∷ lines) old new run all = run_keeps sep lines l.next new (run.0.1, run.1) (line_keeps sep l.line old l.answer l.next run.0.0 all)
 
 -- ---- the closing
 
@@ -389,12 +382,21 @@ closing_tells Fresh (Some c) m old events new h t =
     subst (λ (o : Option Attachment). FollowsBy Fresh c (goes_on (raw_steps events) [] m) o new.disk) (sym (closed_as (is_idle old.holding) old h.failed new refl h.closes))
     (raw_gone Fresh c m (attachment_in old.holding) old.disk new.disk events h.logs t)
 
-pub each_survives_closing : (sep : Sep) (lines : List (List ℕ)) (answers : List (Option Answer)) (failed : ℕ) (old new : World) → RunsAndCloses sep old lines answers failed new → HoldKeyings old.drawers
-    → EachSurvivesClosing sep lines answers old new
-each_survives_closing sep lines answers failed old new h keyed drawer there =
-    let e = came_closing h.middle.drawers failed new.drawers there.0 drawer h.closes.drawers there.1 in
-    let s = survived sep lines answers old h.middle h.run keyed e.before e.was in
+closed_survives : (sep : Sep) (lines : List ServedLine) (failed : ℕ) (entry exit : World) → EachServed sep entry lines → ClosesWorld (world_behind entry lines) failed exit → HoldKeyings entry.drawers → (drawer : DrawerState) → IsAmong exit.drawers drawer
+    → SurvivesBy (DrawerPlaysAndCloses sep entry lines) entry.drawers drawer
+closed_survives sep lines failed entry exit served closes keyed drawer there =
+    let behind : World = world_behind entry lines in
+    let e = came_closing behind.drawers failed exit.drawers there.0 drawer closes.drawers there.1 in
+    let s = survived sep lines entry behind (served, refl) keyed e.before e.was in
     let play : Play = goes_on (raw_steps e.last) [] s.play in
-    survives_by (DrawerPlaysAndCloses sep old lines answers) old.drawers s.before play drawer s.was (e.name ∙ s.name)
-    (record { end = h.middle; middle = e.before; among = e.was; served = s.play; places = s.plays; last = e.last; closes = e.closes; are = refl })
+    survives_by (DrawerPlaysAndCloses sep entry lines) entry.drawers s.before play drawer s.was (e.name ∙ s.name)
+    (record { middle = e.before; among = e.was; served = s.play; places = s.plays; last = e.last; closes = e.closes; are = refl })
     (closing_tells (HasNoRequests s.before.holding) s.before.disk.content s.play e.before e.last drawer e.closes s.tells)
+
+survives_to : (sep : Sep) (lines : List ServedLine) (closing : Option ℕ) (entry exit : World) → EachServed sep entry lines → ClosesBy closing (world_behind entry lines) exit → HoldKeyings entry.drawers → (drawer : DrawerState) → IsAmong exit.drawers drawer
+    → SurvivesBy (PlaysToExit entry sep lines closing) entry.drawers drawer
+survives_to sep lines None entry exit served closes keyed drawer there = each_survives sep lines entry exit (served, closes) keyed drawer there
+survives_to sep lines (Some failed) entry exit served closes keyed drawer there = closed_survives sep lines failed entry exit served closes keyed drawer there
+
+pub run_survives : (entry exit : World) (trace : Trace) → IsTrace entry trace exit → HoldKeyings entry.drawers → EachSurvivesRun entry trace exit
+run_survives entry exit trace h keyed = survives_to trace.sep trace.lines trace.closing entry exit h.served h.closes keyed

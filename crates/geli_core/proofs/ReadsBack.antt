@@ -1,5 +1,5 @@
 -- What you write is what you read.
-use Rattle.std.proofs.Common.{◌≡◌, ◌∙◌, ap, arith, cond, false, refl, subst, sym, true, Bool, ℕ, ◌+◌, ◌*◌, ◌/◌, ◌<◌, ◌≤◌, List, [], ◌∷◌, ◌++◌, length, Option, None, Some, Result, Ok, Err}
+use Rattle.std.proofs.Common.{◌≡◌, ◌∙◌, ap, arith, cond, false, refl, subst, sym, true, Bool, ℕ, ◌+◌, ◌*◌, ◌/◌, ◌<◌, ◌≤◌, List, length, Option, None, Some, Result, Ok, Err}
 use Rattle.std.specs.Prelude.{IfSome, MatchOption, nat_le, slice_get}
 use Rattle.std.specs.Option.{option_map}
 use Rattle.std.proofs.lemmas.Bool.Decides.{nat_tests}
@@ -7,7 +7,6 @@ use Rattle.std.proofs.Math.Nat.{mul-div_cancel}
 use Rattle.block_traits.specs.Content.{Content, IsContentOf}
 use Rattle.block_traits.specs.Disk.{DiskState, FitsSize}
 use Rattle.command_words.specs.Places.{bytes_at}
-use Rattle.command_words.specs.Reading.{reading}
 use Rattle.command_words.specs.declared.commands.Command.{Command}
 use Rattle.command_words.specs.declared.commands.Command.TheVariants as commands
 use Rattle.command_words.specs.declared.commands.Usage.{Usage}
@@ -34,16 +33,16 @@ use Rattle.command_rows.specs.Gate.{Needs, needs, refused_by}
 use Rattle.command_rows.specs.Turn.{ChangesAt, GoesThrough, IsUnknown, ReadRow, Replies, Serves, digest_or, payload_or, reach, reaped_or}
 use Rattle.command_rows.specs.Workloads.{SumRow}
 use Rattle.command_rows.specs.World.{AttachedWith, Attachment, DrawerState, HoldKeyings, Holding, HoldsKeying, IsAttached, Reach, World, place_of}
-use Rattle.geli_core.specs.ReadsBack.{EachReadsBack, IsDigestOf, IsDoneAsAsked, LineReads, ReadsAsAsked, ReadsBack, StandsSo}
+use Rattle.geli_core.specs.ReadsBack.{IsDigestOf, IsDoneAsAsked, LineReads, ReadsAsAsked, StandsSo}
 use Rattle.queue_readings.specs.Play.{Play}
-use Rattle.geli_core.specs.Run.{Run, ServesReading}
+use Rattle.geli_core.specs.Run.{ServesReading}
+use Rattle.geli_core.specs.Kinds.{kind_read}
+use Rattle.geli_core.specs.Trace.{Run, ServedLine}
 use Rattle.geli_core.specs.Survivors.{EnduresCrashes, HasNoRequests}
-use Rattle.geli_core.proofs.Keyings.{line_keeps}
 use Rattle.geli_core.proofs.Placing.{Survived, survived, survives_so, told_holds}
 use Rattle.geli_core.proofs.Playing.{keyed_by}
 use Rattle.geli_core.proofs.Requested.{passed}
 use Rattle.geli_core.proofs.Reaping.{reaped_bytes, reaped_done, reaped_fault}
-use Rattle.geli_core.proofs.Running.{Run-more}
 
 -- ---- the steps of a row that decide
 
@@ -112,11 +111,11 @@ by_writings k sector count before disk (Some c) steps answer was is e keyed fits
     sym (data-read c steps k sector count content e.fit keyed there) ∙ subst (λ (o : Option Content). ReadsFrom o k sector count answer) is reads
 
 -- of the drawer that a line names, by what its play says
-stands_by : (sep : Sep) (entry : World) (served : List (List ℕ)) (said : List (Option Answer)) (start : World) (line : List ℕ) (prov : Span) (Holds : Keying → Content → Play → Type 0) (place : ℕ) (before : DrawerState) (a : Attachment)
-    → Run sep entry served said start → HoldKeyings entry.drawers → place_of (bytes_at line prov) start.drawers ≡ Some place → slice_get start.drawers place ≡ Some before → before.holding ≡ IsAttached a
-    → ((s : Survived sep served said entry start before) → IfSome s.before.disk.content (λ c. Holds a.keying c s.play)) → StandsSo sep entry served said start line prov Holds
-stands_by sep entry served said start line prov Holds place before a run all named there attached holds =
-    let s = survived sep served said entry start run all before (place, there) in
+stands_by : (sep : Sep) (entry : World) (served : List ServedLine) (start : World) (line : List ℕ) (prov : Span) (Holds : Keying → Content → Play → Type 0) (place : ℕ) (before : DrawerState) (a : Attachment)
+    → Run sep entry served start → HoldKeyings entry.drawers → place_of (bytes_at line prov) start.drawers ≡ Some place → slice_get start.drawers place ≡ Some before → before.holding ≡ IsAttached a
+    → ((s : Survived sep entry served before) → IfSome s.before.disk.content (λ c. Holds a.keying c s.play)) → StandsSo sep entry served start line prov Holds
+stands_by sep entry served start line prov Holds place before a run all named there attached holds =
+    let s = survived sep served entry start run all before (place, there) in
     record {
       place = place;
       named = named;
@@ -124,17 +123,17 @@ stands_by sep entry served said start line prov Holds place before a run all nam
       there = there;
       attachment = a;
       attached = attached;
-      survives = survives_so sep served said entry start before s;
+      survives = survives_so sep served entry before s;
       holds = holds s;
     }
 
-stands : (sep : Sep) (entry : World) (served : List (List ℕ)) (said : List (Option Answer)) (start : World) (line : List ℕ) (prov : Span) (sector count : ℕ) (answer : Result (List ℕ) ℕ) (place : ℕ) (before : DrawerState) (a : Attachment)
-    → Run sep entry served said start → HoldKeyings entry.drawers → place_of (bytes_at line prov) start.drawers ≡ Some place → slice_get start.drawers place ≡ Some before → before.holding ≡ IsAttached a → IsKeying a.keying
-    → sector + count ≤ media a.keying before.disk → ReadsAs before.disk a.keying sector count answer → StandsSo sep entry served said start line prov (λ k c m. data_read k sector count (cell c m.steps) ≡ answer)
-stands sep entry served said start line prov sector count answer place before a run all named there attached keyed fits reads =
-    stands_by sep entry served said start line prov (λ k c m. data_read k sector count (cell c m.steps) ≡ answer) place before a run all named there attached
+stands : (sep : Sep) (entry : World) (served : List ServedLine) (start : World) (line : List ℕ) (prov : Span) (sector count : ℕ) (answer : Result (List ℕ) ℕ) (place : ℕ) (before : DrawerState) (a : Attachment)
+    → Run sep entry served start → HoldKeyings entry.drawers → place_of (bytes_at line prov) start.drawers ≡ Some place → slice_get start.drawers place ≡ Some before → before.holding ≡ IsAttached a → IsKeying a.keying
+    → sector + count ≤ media a.keying before.disk → ReadsAs before.disk a.keying sector count answer → StandsSo sep entry served start line prov (λ k c m. data_read k sector count (cell c m.steps) ≡ answer)
+stands sep entry served start line prov sector count answer place before a run all named there attached keyed fits reads =
+    stands_by sep entry served start line prov (λ k c m. data_read k sector count (cell c m.steps) ≡ answer) place before a run all named there attached
     (λ s.
-    let survives = survives_so sep served said entry start before s in
+    let survives = survives_so sep served entry before s in
     by_writings a.keying sector count s.before.disk before.disk s.before.disk.content s.play.steps answer refl survives.content survives.endures keyed fits reads)
 
 digest_there : (told : Option Content) (k : Keying) (sector count : ℕ) (steps : List Step) (bytes digest : List ℕ) → digest ≡ sha256 bytes → IfSome told (λ c. data_read k sector count (cell c steps) ≡ Ok bytes)
@@ -142,9 +141,9 @@ digest_there : (told : Option Content) (k : Keying) (sector count : ℕ) (steps 
 digest_there None k sector count steps bytes digest is h = tt
 digest_there (Some c) k sector count steps bytes digest is h = record { bytes = bytes; is = h; digest_is = is }
 
-stands_digest : (sep : Sep) (entry : World) (served : List (List ℕ)) (said : List (Option Answer)) (start : World) (line : List ℕ) (prov : Span) (sector count : ℕ) (bytes digest : List ℕ) → digest ≡ sha256 bytes
-    → StandsSo sep entry served said start line prov (λ k c m. data_read k sector count (cell c m.steps) ≡ Ok bytes) → StandsSo sep entry served said start line prov (λ k c m. IsDigestOf (data_read k sector count (cell c m.steps)) digest)
-stands_digest sep entry served said start line prov sector count bytes digest is s = record {
+stands_digest : (sep : Sep) (entry : World) (served : List ServedLine) (start : World) (line : List ℕ) (prov : Span) (sector count : ℕ) (bytes digest : List ℕ) → digest ≡ sha256 bytes
+    → StandsSo sep entry served start line prov (λ k c m. data_read k sector count (cell c m.steps) ≡ Ok bytes) → StandsSo sep entry served start line prov (λ k c m. IsDigestOf (data_read k sector count (cell c m.steps)) digest)
+stands_digest sep entry served start line prov sector count bytes digest is s = record {
   place = s.place;
   named = s.named;
   drawer = s.drawer;
@@ -230,110 +229,95 @@ unsummed_is : (answer : Result (List ℕ) Refusal) (refusal : Refusal) → answe
 unsummed_is (Ok b) refusal h = absurd (let no : ⊥ = cc h in no)
 unsummed_is (Err r) refusal h = (let same : refusal ≡ r = cc h in ap (λ (x : Refusal). Err x) (sym same))
 
-summed : (sep : Sep) (entry : World) (served : List (List ℕ)) (said : List (Option Answer)) (start : World) (line : List ℕ) (prov : Span) (sector count : ℕ) (digest : List ℕ) (place : ℕ) (before : DrawerState) (read : Result (List ℕ) Refusal) (middle : DiskState)
-    → Run sep entry served said start → HoldKeyings entry.drawers → place_of (bytes_at line prov) start.drawers ≡ Some place → slice_get start.drawers place ≡ Some before → Found sector count before.disk before.holding read middle
-    → Ok digest ≡ digested read → StandsSo sep entry served said start line prov (λ k c m. IsDigestOf (data_read k sector count (cell c m.steps)) digest)
-summed sep entry served said start line prov sector count digest place before (Ok bytes) middle run all named there f is =
+summed : (sep : Sep) (entry : World) (served : List ServedLine) (start : World) (line : List ℕ) (prov : Span) (sector count : ℕ) (digest : List ℕ) (place : ℕ) (before : DrawerState) (read : Result (List ℕ) Refusal) (middle : DiskState)
+    → Run sep entry served start → HoldKeyings entry.drawers → place_of (bytes_at line prov) start.drawers ≡ Some place → slice_get start.drawers place ≡ Some before → Found sector count before.disk before.holding read middle
+    → Ok digest ≡ digested read → StandsSo sep entry served start line prov (λ k c m. IsDigestOf (data_read k sector count (cell c m.steps)) digest)
+summed sep entry served start line prov sector count digest place before (Ok bytes) middle run all named there f is =
     let same : digest ≡ sha256 bytes = cc is in
-    stands_digest sep entry served said start line prov sector count bytes digest same
-    (stands sep entry served said start line prov sector count (Ok bytes) place before f.attachment run all named there f.attached f.keyed f.fits f.reads.2)
-summed sep entry served said start line prov sector count digest place before (Err r) middle run all named there f is = absurd (let no : ⊥ = cc is in no)
+    stands_digest sep entry served start line prov sector count bytes digest same
+    (stands sep entry served start line prov sector count (Ok bytes) place before f.attachment run all named there f.attached f.keyed f.fits f.reads.2)
+summed sep entry served start line prov sector count digest place before (Err r) middle run all named there f is = absurd (let no : ⊥ = cc is in no)
 
-faulted : (sep : Sep) (entry : World) (served : List (List ℕ)) (said : List (Option Answer)) (start : World) (line : List ℕ) (prov : Span) (sector count offset place : ℕ) (before : DrawerState) (read : Result (List ℕ) Refusal) (middle : DiskState)
-    → Run sep entry served said start → HoldKeyings entry.drawers → place_of (bytes_at line prov) start.drawers ≡ Some place → slice_get start.drawers place ≡ Some before → Found sector count before.disk before.holding read middle
-    → Err (refusals.Integrity offset) ≡ digested read → StandsSo sep entry served said start line prov (λ k c m. data_read k sector count (cell c m.steps) ≡ Err offset)
-faulted sep entry served said start line prov sector count offset place before (Ok bytes) middle run all named there f is = absurd (let no : ⊥ = cc is in no)
-faulted sep entry served said start line prov sector count offset place before (Err r) middle run all named there f is =
+faulted : (sep : Sep) (entry : World) (served : List ServedLine) (start : World) (line : List ℕ) (prov : Span) (sector count offset place : ℕ) (before : DrawerState) (read : Result (List ℕ) Refusal) (middle : DiskState)
+    → Run sep entry served start → HoldKeyings entry.drawers → place_of (bytes_at line prov) start.drawers ≡ Some place → slice_get start.drawers place ≡ Some before → Found sector count before.disk before.holding read middle
+    → Err (refusals.Integrity offset) ≡ digested read → StandsSo sep entry served start line prov (λ k c m. data_read k sector count (cell c m.steps) ≡ Err offset)
+faulted sep entry served start line prov sector count offset place before (Ok bytes) middle run all named there f is = absurd (let no : ⊥ = cc is in no)
+faulted sep entry served start line prov sector count offset place before (Err r) middle run all named there f is =
     let same : r ≡ refusals.Integrity offset = cc is in
     let g : Found sector count before.disk before.holding (Err (refusals.Integrity offset)) middle = subst (λ (x : Refusal). Found sector count before.disk before.holding (Err x) middle) same f in
-    stands sep entry served said start line prov sector count (Err offset) place before g.attachment run all named there g.attached g.keyed g.fits g.reads.reads
+    stands sep entry served start line prov sector count (Err offset) place before g.attachment run all named there g.attached g.keyed g.fits g.reads.reads
 
-reads_line : (sep : Sep) (entry : World) (served : List (List ℕ)) (said : List (Option Answer)) (start next : World) (read : Result (Option Command) Usage) (line : List ℕ) (answer : Option Answer) → Run sep entry served said start → HoldKeyings entry.drawers
-    → HoldKeyings start.drawers → ServesReading read line start answer next → LineReads sep entry served said start read line answer
-reads_line sep entry served said start next (Ok (Some (commands.Read prov sector count))) line (Some (answers.Payload bytes)) run all here h =
+pub reads_line : (sep : Sep) (entry : World) (served : List ServedLine) (start next : World) (read : Result (Option Command) Usage) (line : List ℕ) (answer : Option Answer) → Run sep entry served start → HoldKeyings entry.drawers
+    → HoldKeyings start.drawers → ServesReading read line start answer next → LineReads sep entry served start (kind_read read) line answer
+reads_line sep entry served start next (Ok (Some (commands.Read prov sector count))) line (Some (answers.Payload bytes)) run all here h =
     let t = turned line (commands.Read prov sector count) (bytes_at line prov) start (answers.Payload bytes) next (place_of (bytes_at line prov) start.drawers) refl h (λ u. (let no : ⊥ = cc (u.refused) in no)) in
     from_row line (commands.Read prov sector count) (reach t.2.before start) (answers.Payload bytes) (reach t.2.after next)
     (λ a. Replies payload_or (ReadRow sector count a) (reach t.2.before start) (answers.Payload bytes) (reach t.2.after next))
-    (StandsSo sep entry served said start line prov (λ k c m. data_read k sector count (cell c m.steps) ≡ Ok bytes)) tt (λ through. through)
+    (StandsSo sep entry served start line prov (λ k c m. data_read k sector count (cell c m.steps) ≡ Ok bytes)) tt (λ through. through)
     (λ a is step.
     let row = subst (λ (r : Result (List ℕ) Refusal). ReadRow sector count a (reach t.2.before start) r (reach t.2.after next)) (payload_is step.answer bytes step.replied) step.row in
     let f = read_found sector count a (reach t.2.before start) (Ok bytes) (reach t.2.after next) is (here t.2.before (t.0, t.2.found)) tt row in
-    stands sep entry served said start line prov sector count (Ok bytes) t.0 t.2.before f.attachment run all t.1 t.2.found f.attached f.keyed f.fits f.reads.2)
+    stands sep entry served start line prov sector count (Ok bytes) t.0 t.2.before f.attachment run all t.1 t.2.found f.attached f.keyed f.fits f.reads.2)
     t.2.step
-reads_line sep entry served said start next (Ok (Some (commands.Read prov sector count))) line (Some (answers.Refused (refusals.Integrity offset))) run all here h =
+reads_line sep entry served start next (Ok (Some (commands.Read prov sector count))) line (Some (answers.Refused (refusals.Integrity offset))) run all here h =
     let t = turned line (commands.Read prov sector count) (bytes_at line prov) start (answers.Refused (refusals.Integrity offset)) next (place_of (bytes_at line prov) start.drawers) refl h (λ u. (let no : ⊥ = cc (u.refused) in no)) in
     from_row line (commands.Read prov sector count) (reach t.2.before start) (answers.Refused (refusals.Integrity offset)) (reach t.2.after next)
     (λ a. Replies payload_or (ReadRow sector count a) (reach t.2.before start) (answers.Refused (refusals.Integrity offset)) (reach t.2.after next))
-    (StandsSo sep entry served said start line prov (λ k c m. data_read k sector count (cell c m.steps) ≡ Err offset)) tt (λ through. through)
+    (StandsSo sep entry served start line prov (λ k c m. data_read k sector count (cell c m.steps) ≡ Err offset)) tt (λ through. through)
     (λ a is step.
     let row = subst (λ (r : Result (List ℕ) Refusal). ReadRow sector count a (reach t.2.before start) r (reach t.2.after next)) (refused_is step.answer (refusals.Integrity offset) step.replied) step.row in
     let f = read_found sector count a (reach t.2.before start) (Err (refusals.Integrity offset)) (reach t.2.after next) is (here t.2.before (t.0, t.2.found)) tt row in
-    stands sep entry served said start line prov sector count (Err offset) t.0 t.2.before f.attachment run all t.1 t.2.found f.attached f.keyed f.fits f.reads.reads)
+    stands sep entry served start line prov sector count (Err offset) t.0 t.2.before f.attachment run all t.1 t.2.found f.attached f.keyed f.fits f.reads.reads)
     t.2.step
-reads_line sep entry served said start next (Ok (Some (commands.Sum prov sector count))) line (Some (answers.Digest digest)) run all here h =
+reads_line sep entry served start next (Ok (Some (commands.Sum prov sector count))) line (Some (answers.Digest digest)) run all here h =
     let t = turned line (commands.Sum prov sector count) (bytes_at line prov) start (answers.Digest digest) next (place_of (bytes_at line prov) start.drawers) refl h (λ u. (let no : ⊥ = cc (u.refused) in no)) in
     from_row line (commands.Sum prov sector count) (reach t.2.before start) (answers.Digest digest) (reach t.2.after next)
     (λ a. Replies digest_or (SumRow sector count a) (reach t.2.before start) (answers.Digest digest) (reach t.2.after next))
-    (StandsSo sep entry served said start line prov (λ k c m. IsDigestOf (data_read k sector count (cell c m.steps)) digest)) tt (λ through. through)
+    (StandsSo sep entry served start line prov (λ k c m. IsDigestOf (data_read k sector count (cell c m.steps)) digest)) tt (λ through. through)
     (λ a is step.
     let row = subst (λ (r : Result (List ℕ) Refusal). SumRow sector count a (reach t.2.before start) r (reach t.2.after next)) (digest_is step.answer digest step.replied) step.row in
     let f = sum_found sector count a (reach t.2.before start) (Ok digest) (reach t.2.after next) is (here t.2.before (t.0, t.2.found)) tt row in
-    summed sep entry served said start line prov sector count digest t.0 t.2.before f.read f.middle run all t.1 t.2.found f.found f.is)
+    summed sep entry served start line prov sector count digest t.0 t.2.before f.read f.middle run all t.1 t.2.found f.found f.is)
     t.2.step
-reads_line sep entry served said start next (Ok (Some (commands.Sum prov sector count))) line (Some (answers.Refused (refusals.Integrity offset))) run all here h =
+reads_line sep entry served start next (Ok (Some (commands.Sum prov sector count))) line (Some (answers.Refused (refusals.Integrity offset))) run all here h =
     let t = turned line (commands.Sum prov sector count) (bytes_at line prov) start (answers.Refused (refusals.Integrity offset)) next (place_of (bytes_at line prov) start.drawers) refl h (λ u. (let no : ⊥ = cc (u.refused) in no)) in
     from_row line (commands.Sum prov sector count) (reach t.2.before start) (answers.Refused (refusals.Integrity offset)) (reach t.2.after next)
     (λ a. Replies digest_or (SumRow sector count a) (reach t.2.before start) (answers.Refused (refusals.Integrity offset)) (reach t.2.after next))
-    (StandsSo sep entry served said start line prov (λ k c m. data_read k sector count (cell c m.steps) ≡ Err offset)) tt (λ through. through)
+    (StandsSo sep entry served start line prov (λ k c m. data_read k sector count (cell c m.steps) ≡ Err offset)) tt (λ through. through)
     (λ a is step.
     let row = subst (λ (r : Result (List ℕ) Refusal). SumRow sector count a (reach t.2.before start) r (reach t.2.after next)) (unsummed_is step.answer (refusals.Integrity offset) step.replied) step.row in
     let f = sum_found sector count a (reach t.2.before start) (Err (refusals.Integrity offset)) (reach t.2.after next) is (here t.2.before (t.0, t.2.found)) tt row in
-    faulted sep entry served said start line prov sector count offset t.0 t.2.before f.read f.middle run all t.1 t.2.found f.found f.is)
+    faulted sep entry served start line prov sector count offset t.0 t.2.before f.read f.middle run all t.1 t.2.found f.found f.is)
     t.2.step
-reads_line sep entry served said start next (Ok (Some (commands.Reap prov tag))) line (Some (answers.Payload bytes)) run all here h =
+reads_line sep entry served start next (Ok (Some (commands.Reap prov tag))) line (Some (answers.Payload bytes)) run all here h =
     let t = turned line (commands.Reap prov tag) (bytes_at line prov) start (answers.Payload bytes) next (place_of (bytes_at line prov) start.drawers) refl h (λ u. (let no : ⊥ = cc (u.refused) in no)) in
     let old = reach t.2.before start in
     from_row line (commands.Reap prov tag) old (answers.Payload bytes) (reach t.2.after next) (λ a. Replies reaped_or (ReapRow tag a) old (answers.Payload bytes) (reach t.2.after next))
-    (StandsSo sep entry served said start line prov (ReadsAsAsked tag (Ok bytes))) tt (λ through. through)
+    (StandsSo sep entry served start line prov (ReadsAsAsked tag (Ok bytes))) tt (λ through. through)
     (λ a is step.
-    stands_by sep entry served said start line prov (ReadsAsAsked tag (Ok bytes)) t.0 t.2.before a run all t.1 t.2.found is
+    stands_by sep entry served start line prov (ReadsAsAsked tag (Ok bytes)) t.0 t.2.before a run all t.1 t.2.found is
     (λ s. told_holds (HasNoRequests s.before.holding) s.before.disk.content s.play t.2.before (λ c. ReadsAsAsked tag (Ok bytes) a.keying c s.play) s.tells
     (λ c f. reaped_bytes (HasNoRequests s.before.holding) c s.play a tag old step.answer (reach t.2.after next) bytes is f step.row step.replied)))
     t.2.step
-reads_line sep entry served said start next (Ok (Some (commands.Reap prov tag))) line (Some (answers.Refused (refusals.Integrity offset))) run all here h =
+reads_line sep entry served start next (Ok (Some (commands.Reap prov tag))) line (Some (answers.Refused (refusals.Integrity offset))) run all here h =
     let said_so : Answer = answers.Refused (refusals.Integrity offset) in
     let t = turned line (commands.Reap prov tag) (bytes_at line prov) start said_so next (place_of (bytes_at line prov) start.drawers) refl h (λ u. (let no : ⊥ = cc (u.refused) in no)) in
     let old = reach t.2.before start in
     from_row line (commands.Reap prov tag) old said_so (reach t.2.after next) (λ a. Replies reaped_or (ReapRow tag a) old said_so (reach t.2.after next))
-    (StandsSo sep entry served said start line prov (ReadsAsAsked tag (Err offset))) tt (λ through. through)
+    (StandsSo sep entry served start line prov (ReadsAsAsked tag (Err offset))) tt (λ through. through)
     (λ a is step.
-    stands_by sep entry served said start line prov (ReadsAsAsked tag (Err offset)) t.0 t.2.before a run all t.1 t.2.found is
+    stands_by sep entry served start line prov (ReadsAsAsked tag (Err offset)) t.0 t.2.before a run all t.1 t.2.found is
     (λ s. told_holds (HasNoRequests s.before.holding) s.before.disk.content s.play t.2.before (λ c. ReadsAsAsked tag (Err offset) a.keying c s.play) s.tells
     (λ c f. reaped_fault (HasNoRequests s.before.holding) c s.play a tag old step.answer (reach t.2.after next) offset is f step.row step.replied)))
     t.2.step
-reads_line sep entry served said start next (Ok (Some (commands.Reap prov tag))) line (Some answers.Done) run all here h =
+reads_line sep entry served start next (Ok (Some (commands.Reap prov tag))) line (Some answers.Done) run all here h =
     let t = turned line (commands.Reap prov tag) (bytes_at line prov) start answers.Done next (place_of (bytes_at line prov) start.drawers) refl h (λ u. (let no : ⊥ = cc (u.refused) in no)) in
     let old = reach t.2.before start in
     from_row line (commands.Reap prov tag) old answers.Done (reach t.2.after next) (λ a. Replies reaped_or (ReapRow tag a) old answers.Done (reach t.2.after next))
-    (StandsSo sep entry served said start line prov (IsDoneAsAsked tag)) tt (λ through. through)
+    (StandsSo sep entry served start line prov (IsDoneAsAsked tag)) tt (λ through. through)
     (λ a is step.
-    stands_by sep entry served said start line prov (IsDoneAsAsked tag) t.0 t.2.before a run all t.1 t.2.found is
+    stands_by sep entry served start line prov (IsDoneAsAsked tag) t.0 t.2.before a run all t.1 t.2.found is
     (λ s. told_holds (HasNoRequests s.before.holding) s.before.disk.content s.play t.2.before (λ c. IsDoneAsAsked tag a.keying c s.play) s.tells
     (λ c f. reaped_done (HasNoRequests s.before.holding) c s.play a tag old step.answer (reach t.2.after next) is f step.row step.replied)))
     t.2.step
-reads_line sep entry served said start next read line answer run all here h = tt
-
--- ---- lines
-
-each_reads_back : (sep : Sep) (entry : World) (served : List (List ℕ)) (said : List (Option Answer)) (start : World) (lines : List (List ℕ)) (answers : List (Option Answer)) (end : World) (run : Run sep start lines answers end) → Run sep entry served said start
-    → HoldKeyings entry.drawers → HoldKeyings start.drawers → EachReadsBack sep entry served said start lines answers end run
-each_reads_back sep entry served said start [] [] end run before all here = tt
-each_reads_back sep entry served said start (line ∷ lines) (answer ∷ answers) end run before all here = (
-  reads_line sep entry served said start run.0 (reading sep line) line answer before all here run.1,
-  each_reads_back sep entry (served ++ line ∷ []) (said ++ answer ∷ []) run.0 lines answers end run.2 (Run-more sep entry start run.0 served line said answer before run.1) all (line_keeps sep line start answer run.0 run.1 here),
-)
-each_reads_back sep entry served said start [] (answer ∷ answers) end run before all here = tt
-each_reads_back sep entry served said start (line ∷ lines) [] end run before all here = tt
-
-pub reads_back : (old new : World) → HoldKeyings old.drawers → ReadsBack old new
-reads_back old new all = λ sep lines answers failed ran. each_reads_back sep old [] [] old lines answers ran.middle ran.run refl all all
+reads_line sep entry served start next read line answer run all here h = tt

@@ -1,7 +1,7 @@
 -- One more line is served, and one more byte is looked at.
 use Rattle.std.proofs.Common.{◌≡◌, ◌≢◌, ◌∙◌, ℕ, ◌≤◌, List, [], ◌∷◌, ◌++◌, length, refl, ap, sym, subst, arith, append_assoc, length-append, Option, None, Some, Bool, true, false, Result, Ok, Err}
 use Rattle.std.specs.Prelude.{◌||◌}
-use Rattle.std.proofs.lemmas.List.{append-nil}
+use Rattle.std.proofs.lemmas.List.{append-nil, map-append}
 use Rattle.std.proofs.lemmas.Grind.{flat_map-append}
 use Rattle.std.proofs.lemmas.List.Folds.{list_any-append}
 use Rattle.std.specs.List.{AllByRecursion, flat_map, list_any}
@@ -18,20 +18,25 @@ use Rattle.command_rows.specs.Answer as answers
 use Rattle.reply_text.specs.declared.print.WriteEnd.{WriteEnd}
 use Rattle.reply_text.proofs.Printing.{TookAll-nothing, TookAll-then}
 use Rattle.command_rows.specs.World.{World}
-use Rattle.geli_core.specs.Lines.{ended, newline}
-use Rattle.geli_core.specs.Run.{FailsInLast, PrintsAnswer, Run, ServesAndPrints, ServesLine, ServesReading, answers_text, any_refused, end_of, is_refusal, refuses, text_of}
+use Rattle.geli_core.specs.Lines.{CutsInto, ended, newline}
+use Rattle.geli_core.specs.Trace.{Run, ServedLine, answers_of, lines_of}
+use Rattle.geli_core.specs.Run.{FailsInLast, PrintsAnswer, ServesAndPrints, ServesLine, ServesReading, answers_text, any_refused, end_of, is_refusal, refuses, text_of}
 use Rattle.geli_core.specs.declared.serving.LineEnd.{LineEnd}
 use Rattle.geli_core.specs.declared.serving.LineEnd.TheVariants.{Silent}
 use Rattle.geli_core.specs.Served.{IsServed, IsTooLong, IsUnprinted, ServesLines, Site}
 
 -- a run goes on by a line
-pub Run-more : (sep : Sep) (old middle new : World) (lines : List (List ℕ)) (line : List ℕ) (answers : List (Option Answer)) (answer : Option Answer)
-    → Run sep old lines answers middle → ServesLine sep line middle answer new → Run sep old (lines ++ line ∷ []) (answers ++ answer ∷ []) new
-Run-more sep old middle new [] line [] answer run serves = (new, subst (λ (w : World). ServesLine sep line w answer new) run serves, refl)
-Run-more sep old middle new (l ∷ lines) line (a ∷ answers) answer run serves =
-    (run.0, run.1, Run-more sep run.0 middle new lines line answers answer run.2 serves)
-Run-more sep old middle new [] line (a ∷ answers) answer run serves = absurd run
-Run-more sep old middle new (l ∷ lines) line [] answer run serves = absurd run
+pub Run-more : (sep : Sep) (old middle : World) (lines : List ServedLine) (l : ServedLine) → Run sep old lines middle → ServesLine sep l.line middle l.answer l.next → Run sep old (lines ++ l ∷ []) l.next
+Run-more sep old middle [] l run serves = ((subst (λ (w : World). ServesLine sep l.line w l.answer l.next) run.1 serves, tt), refl)
+Run-more sep old middle (first ∷ lines) l run serves =
+    let rest = Run-more sep first.next middle lines l (run.0.1, run.1) serves in
+    ((run.0.0, rest.0), rest.1)
+
+pub lines_of-more : (lines : List ServedLine) (l : ServedLine) → lines_of (lines ++ l ∷ []) ≡ lines_of lines ++ l.line ∷ []
+lines_of-more lines l = map-append (λ (x : ServedLine). x.line) lines (l ∷ [])
+
+pub answers_of-more : (lines : List ServedLine) (l : ServedLine) → answers_of (lines ++ l ∷ []) ≡ answers_of lines ++ l.answer ∷ []
+answers_of-more lines l = map-append (λ (x : ServedLine). x.answer) lines (l ∷ [])
 
 -- all, and one more
 pub all_more : {X : Type 0} (P : X → Type 0) (xs : List X) (x : X) → AllByRecursion P xs → P x → AllByRecursion P (xs ++ x ∷ [])
@@ -64,7 +69,7 @@ refuses-end (Some (answers.Verified offsets next)) = refl
 -- nothing was looked at
 pub IsServed-nothing : (site : Site) → IsServed [] site [] false site
 IsServed-nothing site = record {
-  serves = record { lines = []; answers = []; cut = record { whole = refl; each = tt; behind = tt }; short = tt; run = refl };
+  serves = record { served = []; cut = record { whole = refl; each = tt; behind = tt }; short = tt; run = (tt, refl) };
   printed = TookAll-nothing site.sink;
   any = refl;
 }
@@ -74,10 +79,9 @@ pub IsServed-byte : (bytes : List ℕ) (old new : Site) (rest : List ℕ) (refus
     → IsServed (bytes ++ b ∷ []) old (rest ++ b ∷ []) refused new
 IsServed-byte bytes old new rest refused b other h = record {
   serves = record {
-    lines = h.serves.lines;
-    answers = h.serves.answers;
+    served = h.serves.served;
     cut = record {
-      whole = ap (λ (l : List ℕ). l ++ b ∷ []) h.serves.cut.whole ∙ append_assoc (flat_map ended h.serves.lines) rest (b ∷ []);
+      whole = ap (λ (l : List ℕ). l ++ b ∷ []) h.serves.cut.whole ∙ append_assoc (flat_map ended (lines_of h.serves.served)) rest (b ∷ []);
       each = h.serves.cut.each;
       behind = all_more _ rest b h.serves.cut.behind other;
     };
@@ -88,22 +92,31 @@ IsServed-byte bytes old new rest refused b other h = record {
   any = h.any;
 }
 
--- a line that has its newline now was served
+-- a line that has its newline now
+cut_more : (bytes : List ℕ) (lines : List (List ℕ)) (line : List ℕ) → CutsInto bytes lines line → CutsInto (bytes ++ newline ∷ []) (lines ++ line ∷ []) []
+cut_more bytes lines line cut = record {
+  whole =
+      ap (λ (l : List ℕ). l ++ newline ∷ []) cut.whole ∙ append_assoc (flat_map ended lines) line (newline ∷ [])
+      ∙ sym (flat_map-more ended lines line) ∙ sym (append-nil (flat_map ended (lines ++ line ∷ [])));
+  each = all_more _ lines line cut.each cut.behind;
+  behind = tt;
+}
+
+abbrev pub served_line : List ℕ → Option Answer → World → ServedLine
+served_line line answer next = record { line = line; answer = answer; next = next }
+
+-- was served
 ServesLines-line : (bytes : List ℕ) (old middle new : Site) (line : List ℕ) (h : ServesLines bytes old line middle) (answer : Option Answer) → length line ≤ line_limit
     → ServesLine Blanks line middle.world answer new.world → ServesLines (bytes ++ newline ∷ []) old [] new
-ServesLines-line bytes old middle new line h answer short serves = record {
-  lines = h.lines ++ line ∷ [];
-  answers = h.answers ++ answer ∷ [];
-  cut = record {
-    whole =
-        ap (λ (l : List ℕ). l ++ newline ∷ []) h.cut.whole ∙ append_assoc (flat_map ended h.lines) line (newline ∷ [])
-        ∙ sym (flat_map-more ended h.lines line) ∙ sym (append-nil (flat_map ended (h.lines ++ line ∷ [])));
-    each = all_more _ h.lines line h.cut.each h.cut.behind;
-    behind = tt;
-  };
-  short = all_more _ h.lines line h.short short;
-  run = Run-more Blanks old.world middle.world new.world h.lines line h.answers answer h.run serves;
-}
+ServesLines-line bytes old middle new line h answer short serves =
+    let l : ServedLine = served_line line answer new.world in
+    let are : lines_of (h.served ++ l ∷ []) ≡ lines_of h.served ++ line ∷ [] = lines_of-more h.served l in
+    record {
+      served = h.served ++ l ∷ [];
+      cut = subst (λ (ls : List (List ℕ)). CutsInto (bytes ++ newline ∷ []) ls []) (sym are) (cut_more bytes (lines_of h.served) line h.cut);
+      short = subst (λ (ls : List (List ℕ)). AllByRecursion (λ x. length x ≤ line_limit) ls) (sym are) (all_more _ (lines_of h.served) line h.short short);
+      run = Run-more Blanks old.world middle.world h.served l h.run serves;
+    }
 
 -- what was printed of a line that ended so
 took_by : (answer : Option Answer) (end : LineEnd) (old new : SinkState) → PrintsAnswer answer old (Ok end) new → TookAll (text_of answer) old new
@@ -135,8 +148,9 @@ pub IsServed-line : (bytes : List ℕ) (old middle new : Site) (line : List ℕ)
 unfolding ServesLines-line
 IsServed-line bytes old middle new line refused end short h s = record {
   serves = ServesLines-line bytes old middle new line h.serves s.answer short s.serves;
-  printed = took_more h.serves.answers s.answer end old.sink middle.sink new.sink h.printed s.prints;
-  any = refused_more h.serves.answers s.answer refused end middle.sink new.sink h.any s.prints;
+  printed = subst (λ (a : List (Option Answer)). TookAll (answers_text a) old.sink new.sink) (sym (answers_of-more h.serves.served (served_line line s.answer new.world)))
+      (took_more (answers_of h.serves.served) s.answer end old.sink middle.sink new.sink h.printed s.prints);
+  any = ap any_refused (answers_of-more h.serves.served (served_line line s.answer new.world)) ∙ refused_more (answers_of h.serves.served) s.answer refused end middle.sink new.sink h.any s.prints;
 }
 
 pub IsUnprinted-line : (bytes : List ℕ) (old middle new : Site) (line : List ℕ) (refused : Bool) (failed : WriteEnd) → length line ≤ line_limit → IsServed bytes old line refused middle
@@ -144,7 +158,8 @@ pub IsUnprinted-line : (bytes : List ℕ) (old middle new : Site) (line : List �
 unfolding ServesLines-line
 IsUnprinted-line bytes old middle new line refused failed short h s = record {
   serves = ServesLines-line bytes old middle new line h.serves s.answer short s.serves;
-  printed = failed_more h.serves.answers s.answer failed old.sink middle.sink new.sink h.printed s.prints;
+  printed = subst (λ (a : List (Option Answer)). FailsInLast a old.sink new.sink) (sym (answers_of-more h.serves.served (served_line line s.answer new.world)))
+      (failed_more (answers_of h.serves.served) s.answer failed old.sink middle.sink new.sink h.printed s.prints);
 }
 
 pub IsTooLong-byte : (bytes : List ℕ) (old new : Site) (rest : List ℕ) (refused : Bool) (b : ℕ) → b ≢ newline → length rest ≡ line_limit → IsServed bytes old rest refused new

@@ -25,12 +25,13 @@ use Rattle.command_rows.proofs.Becoming.{Resumes, resume_done, serves_becomes}
 use Rattle.command_rows.proofs.Gate.{by_passed_gate, with_suspended}
 use Rattle.command_rows.proofs.Turns.{by_each_turn}
 use Rattle.command_rows.proofs.Untouched.{get-set, get-set_other}
-use Rattle.geli_core.specs.Run.{Run, ServesLine, ServesReading}
-use Rattle.geli_core.specs.Suspensions.{AreSuspended, EachSuspends, HadMaster, KeepsSuspended, LineResumes, OpensSlot, StaysSuspended, SuspendedBefore, SuspendedSince}
+use Rattle.geli_core.specs.Run.{ServesLine, ServesReading}
+use Rattle.geli_core.specs.Suspensions.{AreSuspended, HadMaster, LineResumes, OpensSlot, StaysSuspended, SuspendedBefore, SuspendedSince}
+use Rattle.geli_core.specs.Kinds.{kind_read}
+use Rattle.geli_core.specs.Trace.{ServedLine, world_behind}
 use Rattle.geli_core.proofs.Drawn.{here_or, same_some}
 use Rattle.geli_core.proofs.Keyings.{among_removed}
 use Rattle.geli_core.proofs.ReadsBack.{turned}
-use Rattle.geli_core.proofs.Running.{Run-more}
 use Rattle.geli_core.proofs.SlotKeys.{tried_opens}
 
 -- ---- a drawer behind a line
@@ -97,111 +98,89 @@ behind sep line start answer next drawer h there = read_behind sep line (reading
 
 -- ---- it stays suspended, one line more
 
-stays_more : (kept : Kept) (sep : Sep) (start middle next : World) (lines : List (List ℕ)) (line : List ℕ) (answers : List (Option Answer)) (answer : Option Answer) (old before drawer : DrawerState)
-    → StaysSuspended kept sep start lines answers middle old before → ServesLine sep line middle answer next → IsAmong next.drawers drawer → drawer.name ≡ before.name → Logs [] before.disk drawer.disk → drawer.holding ≡ IsSuspended kept
-    → StaysSuspended kept sep start (lines ++ line ∷ []) (answers ++ answer ∷ []) next old drawer
-stays_more kept sep start middle next [] line [] answer old before drawer h serves there name logs is =
-    (next, drawer, subst (λ (w : World). ServesLine sep line w answer next) h.0 serves, there, name ∙ ap (λ (d : DrawerState). d.name) h.1, h.2, subst (λ (d : DrawerState). Logs [] d.disk drawer.disk) h.1 logs, (refl, refl, is))
-stays_more kept sep start middle next (l ∷ lines) line (a ∷ answers) answer old before drawer h serves there name logs is =
-    (h.0, h.1, h.2, h.3, h.4, h.5, h.6, stays_more kept sep h.0 middle next lines line answers answer h.1 before drawer h.7 serves there name logs is)
-stays_more kept sep start middle next [] line (a ∷ answers) answer old before drawer h serves there name logs is = absurd h
-stays_more kept sep start middle next (l ∷ lines) line [] answer old before drawer h serves there name logs is = absurd h
+stays_more : (kept : Kept) (lines : List ServedLine) (l : ServedLine) (old before drawer : DrawerState) → StaysSuspended kept lines old before → IsAmong l.next.drawers drawer → drawer.name ≡ before.name → Logs [] before.disk drawer.disk
+    → drawer.holding ≡ IsSuspended kept → StaysSuspended kept (lines ++ l ∷ []) old drawer
+stays_more kept [] l old before drawer h there name logs is =
+    (drawer, there, name ∙ ap (λ (d : DrawerState). d.name) h.0, h.1, subst (λ (d : DrawerState). Logs [] d.disk drawer.disk) h.0 logs, (refl, is))
+stays_more kept (first ∷ lines) l old before drawer h there name logs is = (h.0, h.1, h.2, h.3, h.4, stays_more kept lines l h.0 before drawer h.5 there name logs is)
 
 -- since entry, or since a line
-abbrev Came : Sep → World → List (List ℕ) → List (Option Answer) → World → DrawerState → Kept → Type 0
-Came sep entry served said now drawer kept = SuspendedBefore sep entry served said now drawer kept ⊎ ((a : Attachment) × SuspendedSince sep entry served said now drawer kept a)
+abbrev Came : Sep → World → List ServedLine → DrawerState → Kept → Type 0
+Came sep entry served drawer kept = SuspendedBefore entry served drawer kept ⊎ ((a : Attachment) × SuspendedSince sep entry served drawer kept a)
 
-came_more : (sep : Sep) (entry : World) (served : List (List ℕ)) (said : List (Option Answer)) (start : World) (line : List ℕ) (answer : Option Answer) (next : World) (before drawer : DrawerState) (kept : Kept)
-    → Came sep entry served said start before kept → ServesLine sep line start answer next → IsAmong next.drawers drawer → drawer.name ≡ before.name → Logs [] before.disk drawer.disk → drawer.holding ≡ IsSuspended kept
-    → Came sep entry (served ++ line ∷ []) (said ++ answer ∷ []) next drawer kept
-came_more sep entry served said start line answer next before drawer kept (inl b) serves there name logs is =
-    inl (record { before = b.before; there = b.there; stays = stays_more kept sep entry start next served line said answer b.before before drawer b.stays serves there name logs is })
-came_more sep entry served said start line answer next before drawer kept (inr (a, s)) serves there name logs is = inr (
+came_more : (sep : Sep) (entry : World) (served : List ServedLine) (l : ServedLine) (before drawer : DrawerState) (kept : Kept) → Came sep entry served before kept → IsAmong l.next.drawers drawer → drawer.name ≡ before.name → Logs [] before.disk drawer.disk
+    → drawer.holding ≡ IsSuspended kept → Came sep entry (served ++ l ∷ []) drawer kept
+came_more sep entry served l before drawer kept (inl b) there name logs is =
+    inl (record { before = b.before; there = b.there; stays = stays_more kept served l b.before before drawer b.stays there name logs is })
+came_more sep entry served l before drawer kept (inr (a, s)) there name logs is = inr (
   a,
   record {
     earlier = s.earlier;
-    earlier_said = s.earlier_said;
-    line = s.line;
-    answer = s.answer;
-    later = s.later ++ line ∷ [];
-    later_said = s.later_said ++ answer ∷ [];
-    lines = ap (λ (l : List (List ℕ)). l ++ line ∷ []) s.lines ∙ append_assoc s.earlier (s.line ∷ s.later) (line ∷ []);
-    answers = ap (λ (l : List (Option Answer)). l ++ answer ∷ []) s.answers ∙ append_assoc s.earlier_said (s.answer ∷ s.later_said) (answer ∷ []);
-    start = s.start;
-    ran = s.ran;
+    suspend = s.suspend;
+    later = s.later ++ l ∷ [];
+    are = ap (λ (ls : List ServedLine). ls ++ l ∷ []) s.are ∙ append_assoc s.earlier (s.suspend ∷ s.later) (l ∷ []);
+    prov = s.prov;
+    asked = s.asked;
     before = s.before;
     there = s.there;
     attached = s.attached;
-    prov = s.prov;
-    asked = s.asked;
-    next = s.next;
-    serves = s.serves;
     after = s.after;
     among = s.among;
     name = s.name;
     flushes = s.flushes;
     keeps = s.keeps;
-    stays = stays_more kept sep s.next start next s.later line s.later_said answer s.after before drawer s.stays serves there name logs is;
+    stays = stays_more kept s.later l s.after before drawer s.stays there name logs is;
   },
 )
 
 -- a `suspend` that came just now
-came_now : (sep : Sep) (entry : World) (served : List (List ℕ)) (said : List (Option Answer)) (start : World) (line : List ℕ) (answer : Option Answer) (next : World) (before drawer : DrawerState) (kept : Kept) (command : Command)
-    → Run sep entry served said start → IsAmong start.drawers before → reading sep line ≡ Ok (Some command) → ServesLine sep line start answer next → IsAmong next.drawers drawer → drawer.name ≡ before.name → drawer.holding ≡ IsSuspended kept
-    → becoming.IsSuspendedBy command kept (reach before start) (reach drawer next) → Came sep entry (served ++ line ∷ []) (said ++ answer ∷ []) next drawer kept
-came_now sep entry served said start line answer next before drawer kept command run was asked serves there name is h = inr (
+came_now : (sep : Sep) (entry : World) (served : List ServedLine) (start : World) (l : ServedLine) (before drawer : DrawerState) (kept : Kept) (command : Command) → start ≡ world_behind entry served → IsAmong start.drawers before
+    → reading sep l.line ≡ Ok (Some command) → IsAmong l.next.drawers drawer → drawer.name ≡ before.name → drawer.holding ≡ IsSuspended kept → becoming.IsSuspendedBy command kept (reach before start) (reach drawer l.next)
+    → Came sep entry (served ++ l ∷ []) drawer kept
+came_now sep entry served start l before drawer kept command behind was asked there name is h = inr (
   h.a,
   record {
     earlier = served;
-    earlier_said = said;
-    line = line;
-    answer = answer;
+    suspend = l;
     later = [];
-    later_said = [];
-    lines = refl;
-    answers = refl;
-    start = start;
-    ran = run;
-    before = before;
-    there = was;
-    attached = h.was;
+    are = refl;
     prov = h.prov;
     asked = asked ∙ ap (λ (c : Command). Ok (Some c)) h.said;
-    next = next;
-    serves = serves;
+    before = before;
+    there = subst (λ (w : World). IsAmong w.drawers before) behind was;
+    attached = h.was;
     after = drawer;
     among = there;
     name = name;
     flushes = h.flushes;
     keeps = h.keeps;
-    stays = (refl, refl, is);
+    stays = (refl, is);
   },
 )
 
-named_came : (sep : Sep) (entry : World) (served : List (List ℕ)) (said : List (Option Answer)) (start : World) (line : List ℕ) (answer : Option Answer) (next : World) (before drawer : DrawerState) (kept : Kept) (command : Command)
-    → Run sep entry served said start → IsAmong start.drawers before → reading sep line ≡ Ok (Some command) → ServesLine sep line start answer next → IsAmong next.drawers drawer → drawer.name ≡ before.name → drawer.holding ≡ IsSuspended kept
-    → AreSuspended sep entry served said start → becoming.StaysSuspended kept (reach before start) (reach drawer next) ⊎ becoming.IsSuspendedBy command kept (reach before start) (reach drawer next)
-    → Came sep entry (served ++ line ∷ []) (said ++ answer ∷ []) next drawer kept
-named_came sep entry served said start line answer next before drawer kept command run was asked serves there name is all (inl h) =
-    came_more sep entry served said start line answer next before drawer kept (all before kept was h.was) serves there name h.logs is
-named_came sep entry served said start line answer next before drawer kept command run was asked serves there name is all (inr h) =
-    came_now sep entry served said start line answer next before drawer kept command run was asked serves there name is h
+named_came : (sep : Sep) (entry : World) (served : List ServedLine) (start : World) (l : ServedLine) (before drawer : DrawerState) (kept : Kept) (command : Command) → start ≡ world_behind entry served → IsAmong start.drawers before
+    → reading sep l.line ≡ Ok (Some command) → IsAmong l.next.drawers drawer → drawer.name ≡ before.name → drawer.holding ≡ IsSuspended kept → AreSuspended sep entry served start
+    → becoming.StaysSuspended kept (reach before start) (reach drawer l.next) ⊎ becoming.IsSuspendedBy command kept (reach before start) (reach drawer l.next) → Came sep entry (served ++ l ∷ []) drawer kept
+named_came sep entry served start l before drawer kept command behind was asked there name is all (inl h) = came_more sep entry served l before drawer kept (all before kept was h.was) there name h.logs is
+named_came sep entry served start l before drawer kept command behind was asked there name is all (inr h) = came_now sep entry served start l before drawer kept command behind was asked there name is h
 
-line_came : (sep : Sep) (entry : World) (served : List (List ℕ)) (said : List (Option Answer)) (start : World) (line : List ℕ) (answer : Option Answer) (next : World) (before drawer : DrawerState) (kept : Kept)
-    → Run sep entry served said start → IsAmong start.drawers before → ServesLine sep line start answer next → IsAmong next.drawers drawer → drawer.name ≡ before.name → drawer.holding ≡ IsSuspended kept → AreSuspended sep entry served said start
-    → (drawer ≡ before) ⊎ IsNamed sep line start next before drawer → Came sep entry (served ++ line ∷ []) (said ++ answer ∷ []) next drawer kept
-line_came sep entry served said start line answer next before drawer kept run was serves there name is all (inl same) =
-    came_more sep entry served said start line answer next before drawer kept (all before kept was (ap (λ (d : DrawerState). d.holding) (sym same) ∙ is)) serves there name
+line_came : (sep : Sep) (entry : World) (served : List ServedLine) (start : World) (l : ServedLine) (before drawer : DrawerState) (kept : Kept) → start ≡ world_behind entry served → IsAmong start.drawers before → IsAmong l.next.drawers drawer
+    → drawer.name ≡ before.name → drawer.holding ≡ IsSuspended kept → AreSuspended sep entry served start → (drawer ≡ before) ⊎ IsNamed sep l.line start l.next before drawer → Came sep entry (served ++ l ∷ []) drawer kept
+line_came sep entry served start l before drawer kept reached was there name is all (inl same) =
+    came_more sep entry served l before drawer kept (all before kept was (ap (λ (d : DrawerState). d.holding) (sym same) ∙ is)) there name
     (subst (λ (d : DrawerState). Logs [] before.disk d.disk) (sym same) (Logs-nothing before.disk)) is
-line_came sep entry served said start line answer next before drawer kept run was serves there name is all (inr h) =
-    named_came sep entry served said start line answer next before drawer kept h.command run was h.asked serves there name is all
-    (subst (λ (x : Holding). BecomesBy x line h.command (reach before start) h.said (reach drawer next)) is h.becomes)
+line_came sep entry served start l before drawer kept reached was there name is all (inr h) =
+    named_came sep entry served start l before drawer kept h.command reached was h.asked there name is all
+    (subst (λ (x : Holding). BecomesBy x l.line h.command (reach before start) h.said (reach drawer l.next)) is h.becomes)
 
-line_suspends : (sep : Sep) (entry : World) (served : List (List ℕ)) (said : List (Option Answer)) (start : World) (line : List ℕ) (answer : Option Answer) (next : World) → Run sep entry served said start → ServesLine sep line start answer next
-    → AreSuspended sep entry served said start → AreSuspended sep entry (served ++ line ∷ []) (said ++ answer ∷ []) next
-line_suspends sep entry served said start line answer next run serves all drawer kept there is =
-    let b = behind sep line start answer next drawer serves there in
-    line_came sep entry served said start line answer next b.before drawer kept run b.was serves there b.name is all b.how
+pub line_suspends : (sep : Sep) (entry : World) (served : List ServedLine) (start : World) (l : ServedLine) → start ≡ world_behind entry served → ServesLine sep l.line start l.answer l.next → AreSuspended sep entry served start
+    → AreSuspended sep entry (served ++ l ∷ []) l.next
+line_suspends sep entry served start l reached serves all drawer kept there is =
+    let b = behind sep l.line start l.answer l.next drawer serves there in
+    line_came sep entry served start l b.before drawer kept reached b.was there b.name is all b.how
+
+pub entry_suspends : (sep : Sep) (entry : World) → AreSuspended sep entry [] entry
+entry_suspends sep entry drawer kept there is = inl (record { before = drawer; there = there; stays = (refl, is) })
 
 -- ---- `resume`
 
@@ -210,10 +189,10 @@ opens_slot line words kept old a found =
     let by = tried_opens found.m found.settings kept.readonly _ a found.opens in
     record { found = found; key = by.key; derived = by.is; opens = by.opens }
 
-had_master : (sep : Sep) (entry : World) (served : List (List ℕ)) (said : List (Option Answer)) (now : World) (drawer : DrawerState) (kept : Kept) (master : List ℕ) → sha256 master ≡ kept.mark → Came sep entry served said now drawer kept
-    → SuspendedBefore sep entry served said now drawer kept ⊎ HadMaster sep entry served said now drawer kept master
-had_master sep entry served said now drawer kept master digest (inl b) = inl b
-had_master sep entry served said now drawer kept master digest (inr (a, s)) =
+had_master : (sep : Sep) (entry : World) (served : List ServedLine) (drawer : DrawerState) (kept : Kept) (master : List ℕ) → sha256 master ≡ kept.mark → Came sep entry served drawer kept
+    → SuspendedBefore entry served drawer kept ⊎ HadMaster sep entry served drawer kept master
+had_master sep entry served drawer kept master digest (inl b) = inl b
+had_master sep entry served drawer kept master digest (inr (a, s)) =
     inr (record { a = a; since = s; same = same_or_collision a.keying.master master kept.mark (ap (λ (k : Kept). k.mark) s.keeps) digest })
 
 done_is : (answer : Result (Unit {0}) Refusal) → answers.Done ≡ done_or answer → answer ≡ Ok tt
@@ -227,9 +206,9 @@ resumed line prov words old new h =
     (λ kept is replies. (kept, is, resume_done line words kept old new (subst (λ (r : Result (Unit {0}) Refusal). ResumeRow line words kept old r new) (done_is replies.answer replies.replied) replies.row))) row)
     (λ refusal is refused. absurd (let none : ⊥ = cc (refused.refused) in none)) h
 
-resumes_line : (sep : Sep) (entry : World) (served : List (List ℕ)) (said : List (Option Answer)) (start : World) (read : Result (Option Command) Usage) (line : List ℕ) (answer : Option Answer) (next : World)
-    → ServesReading read line start answer next → AreSuspended sep entry served said start → LineResumes sep entry served said start read line answer next
-resumes_line sep entry served said start (Ok (Some (commands.Resume prov words))) line (Some answers.Done) next h all =
+pub resumes_line : (sep : Sep) (entry : World) (served : List ServedLine) (start : World) (read : Result (Option Command) Usage) (line : List ℕ) (answer : Option Answer) (next : World)
+    → ServesReading read line start answer next → AreSuspended sep entry served start → LineResumes sep entry served start (kind_read read) line answer next
+resumes_line sep entry served start (Ok (Some (commands.Resume prov words))) line (Some answers.Done) next h all =
     let t = turned line (commands.Resume prov words) (bytes_at line prov) start answers.Done next (place_of (bytes_at line prov) start.drawers) refl h (λ u. (let no : ⊥ = cc (u.refused) in no)) in
     let r = resumed line prov words (reach t.2.before start) (reach t.2.after next) t.2.step in
     record {
@@ -245,26 +224,6 @@ resumes_line sep entry served said start (Ok (Some (commands.Resume prov words))
       attached = r.2.attached;
       opens = opens_slot line words r.0 (reach t.2.before start) r.2.a r.2.opens;
       digest = r.2.digest;
-      same = had_master sep entry served said start t.2.before r.0 r.2.a.keying.master r.2.digest (all t.2.before r.0 (t.0, t.2.found) r.1);
+      same = had_master sep entry served t.2.before r.0 r.2.a.keying.master r.2.digest (all t.2.before r.0 (t.0, t.2.found) r.1);
     }
-resumes_line sep entry served said start read line answer next h all = tt
-
--- ---- lines
-
-each_suspends : (sep : Sep) (entry : World) (served : List (List ℕ)) (said : List (Option Answer)) (start : World) (lines : List (List ℕ)) (answers : List (Option Answer)) (end : World) (run : Run sep start lines answers end) → Run sep entry served said start
-    → AreSuspended sep entry served said start → EachSuspends sep entry served said start lines answers end run
-each_suspends sep entry served said start [] [] end run before all = all
-each_suspends sep entry served said start (line ∷ lines) (answer ∷ answers) end run before all = (
-  all,
-  resumes_line sep entry served said start (reading sep line) line answer run.0 run.1 all,
-  each_suspends sep entry (served ++ line ∷ []) (said ++ answer ∷ []) run.0 lines answers end run.2 (Run-more sep entry start run.0 served line said answer before run.1)
-      (line_suspends sep entry served said start line answer run.0 before run.1 all),
-)
-each_suspends sep entry served said start [] (answer ∷ answers) end run before all = tt
-each_suspends sep entry served said start (line ∷ lines) [] end run before all = tt
-
-entry_suspends : (sep : Sep) (entry : World) → AreSuspended sep entry [] [] entry
-entry_suspends sep entry drawer kept there is = inl (record { before = drawer; there = there; stays = (refl, refl, is) })
-
-pub keeps_suspended : (old new : World) → KeepsSuspended old new
-keeps_suspended old new = λ sep lines answers failed ran. each_suspends sep old [] [] old lines answers ran.middle ran.run refl (entry_suspends sep old)
+resumes_line sep entry served start read line answer next h all = tt

@@ -32,8 +32,10 @@ use Rattle.command_rows.specs.World.{AttachedWith, Attachment, DrawerState, Hold
 use Rattle.command_rows.proofs.SweepPlaces.{starts_anew}
 use Rattle.command_rows.proofs.SweepRows.{HoldsPlace, SweptFrom, refused_leaves, swept, told_place}
 use Rattle.command_rows.proofs.Untouched.{get-set}
-use Rattle.geli_core.specs.Run.{Run, ServesReading}
-use Rattle.geli_core.specs.Sweeps.{Asked, BeginsCourse, Course, EachBegins, EachGoesOn, HasDrawer, IsNextPart, KeepsCourse, SweepsFollow, SweepsPart, asked_by, counts_with, place_file}
+use Rattle.geli_core.specs.Run.{ServesReading}
+use Rattle.geli_core.specs.Kinds.{kind_read}
+use Rattle.geli_core.specs.Trace.{EachServed, ServedLine}
+use Rattle.geli_core.specs.Sweeps.{Asked, BeginsCourse, Course, EachBegins, EachGoesOn, HasDrawer, IsNextPart, KeepsCourse, SweepsPart, asked_by, counts_with, place_file}
 
 -- where the parts with these counts end
 abbrev end_of : Course → List ℕ → ℕ
@@ -194,19 +196,17 @@ verify_goes course counts line prov file count restart true true old None new pr
 verify_goes course counts line prov file count restart true false old answer new prov_is file_is stands keeps h = apart course counts old answer new stands keeps
 verify_goes course counts line prov file count restart false filed old answer new prov_is file_is stands keeps h = apart course counts old answer new stands keeps
 
-line_goes : (course : Course) (counts : List ℕ) (read : Result (Option Command) Usage) (line : List ℕ) (old : World) (answer : Option Answer) (new : World) → StandsAt course counts old → KeepsCourse course (asked_by course line read) old new → ServesReading read line old answer new
-    → Advances course counts (asked_by course line read) old answer new
+line_goes : (course : Course) (counts : List ℕ) (read : Result (Option Command) Usage) (line : List ℕ) (old : World) (answer : Option Answer) (new : World) → StandsAt course counts old → KeepsCourse course (asked_by course line (kind_read read)) old new → ServesReading read line old answer new
+    → Advances course counts (asked_by course line (kind_read read)) old answer new
 line_goes course counts (Ok (Some (commands.Verify prov file count restart))) line old answer new stands keeps h =
     verify_goes course counts line prov file count restart (bytes_eq (bytes_at line prov) course.name) (bytes_eq (bytes_at line file) course.file) old answer new refl refl stands keeps h
 line_goes course counts read line old answer new stands keeps h = apart course counts old answer new stands keeps
 
-each_goes_on : (course : Course) (counts : List ℕ) (sep : Sep) (start : World) (lines : List (List ℕ)) (answers : List (Option Answer)) (end : World) (run : Run sep start lines answers end) → StandsAt course counts start → EachGoesOn course counts sep start lines answers end run
-each_goes_on course counts sep start [] [] end run stands = tt
-each_goes_on course counts sep start (line ∷ lines) (answer ∷ answers) end run stands = λ keeps.
-    let next = line_goes course counts (reading sep line) line start answer run.0 stands keeps run.1 in
-    (next.part, each_goes_on course (counts_with counts (asked_by course line (reading sep line)) answer) sep run.0 lines answers end run.2 next.stands)
-each_goes_on course counts sep start [] (answer ∷ answers) end run stands = tt
-each_goes_on course counts sep start (line ∷ lines) [] end run stands = tt
+each_goes_on : (course : Course) (counts : List ℕ) (sep : Sep) (start : World) (lines : List ServedLine) → EachServed sep start lines → StandsAt course counts start → EachGoesOn course counts sep start lines
+each_goes_on course counts sep start [] served stands = tt
+each_goes_on course counts sep start (l ∷ lines) served stands = λ keeps.
+    let next = line_goes course counts (reading sep l.line) l.line start l.answer l.next stands keeps served.0 in
+    (next.part, each_goes_on course (counts_with counts (asked_by course l.line (kind_read (reading sep l.line))) l.answer) sep l.next lines served.1 next.stands)
 
 -- ---- a line that begins
 
@@ -230,22 +230,17 @@ verify_begins course line prov file count restart true true old answer new prov_
 verify_begins course line prov file count restart true false old answer new prov_is file_is begins h = absurd begins
 verify_begins course line prov file count restart false filed old answer new prov_is file_is begins h = absurd begins
 
-line_begins : (course : Course) (read : Result (Option Command) Usage) (line : List ℕ) (old : World) (answer : Option Answer) (new : World) → BeginsCourse course (asked_by course line read) old answer → ServesReading read line old answer new
-    → Advances course [] (asked_by course line read) old answer new
+line_begins : (course : Course) (read : Result (Option Command) Usage) (line : List ℕ) (old : World) (answer : Option Answer) (new : World) → BeginsCourse course (asked_by course line (kind_read read)) old answer → ServesReading read line old answer new
+    → Advances course [] (asked_by course line (kind_read read)) old answer new
 line_begins course (Ok (Some (commands.Verify prov file count restart))) line old answer new begins h =
     verify_begins course line prov file count restart (bytes_eq (bytes_at line prov) course.name) (bytes_eq (bytes_at line file) course.file) old answer new refl refl begins h
 line_begins course read line old answer new begins h = absurd begins
 
-each_begins : (course : Course) (sep : Sep) (start : World) (lines : List (List ℕ)) (answers : List (Option Answer)) (end : World) (run : Run sep start lines answers end) → EachBegins course sep start lines answers end run
-each_begins course sep start [] [] end run = tt
-each_begins course sep start (line ∷ lines) (answer ∷ answers) end run = (
+pub each_begins : (course : Course) (sep : Sep) (start : World) (lines : List ServedLine) → EachServed sep start lines → EachBegins course sep start lines
+each_begins course sep start [] served = tt
+each_begins course sep start (l ∷ lines) served = (
   λ begins.
-      let next = line_begins course (reading sep line) line start answer run.0 begins run.1 in
-      (next.part, each_goes_on course (counts_with [] (asked_by course line (reading sep line)) answer) sep run.0 lines answers end run.2 next.stands),
-  each_begins course sep run.0 lines answers end run.2,
+      let next = line_begins course (reading sep l.line) l.line start l.answer l.next begins served.0 in
+      (next.part, each_goes_on course (counts_with [] (asked_by course l.line (kind_read (reading sep l.line))) l.answer) sep l.next lines served.1 next.stands),
+  each_begins course sep l.next lines served.1,
 )
-each_begins course sep start [] (answer ∷ answers) end run = tt
-each_begins course sep start (line ∷ lines) [] end run = tt
-
-pub sweeps_follow : (old new : World) → SweepsFollow old new
-sweeps_follow old new = λ sep lines answers failed ran course. each_begins course sep old lines answers ran.middle ran.run

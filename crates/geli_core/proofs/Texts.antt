@@ -5,6 +5,7 @@ use Rattle.std.proofs.Math.Seq.{take-add}
 use Rattle.std.specs.List.{AllByRecursion, flat_map}
 use Rattle.memchr.specs.Find.{IsFirstByte, is_byte}
 use Rattle.geli_core.specs.Lines.{IsOneLine, ended, newline}
+use Rattle.geli_core.specs.Trace.{lines_of}
 use Rattle.geli_core.specs.Served.{IsServed, Site}
 
 all_append : {X : Type 0} (P : X → Type 0) (xs ys : List X) → AllByRecursion P xs → AllByRecursion P ys → AllByRecursion P (xs ++ ys)
@@ -27,10 +28,9 @@ IsServed-text : (bytes : List ℕ) (old new : Site) (rest text : List ℕ) (refu
     → IsServed (bytes ++ text) old (rest ++ text) refused new
 IsServed-text bytes old new rest text refused one h = record {
   serves = record {
-    lines = h.serves.lines;
-    answers = h.serves.answers;
+    served = h.serves.served;
     cut = record {
-      whole = ap (λ (l : List ℕ). l ++ text) h.serves.cut.whole ∙ append_assoc (flat_map ended h.serves.lines) rest text;
+      whole = ap (λ (l : List ℕ). l ++ text) h.serves.cut.whole ∙ append_assoc (flat_map ended (lines_of h.serves.served)) rest text;
       each = h.serves.cut.each;
       behind = all_append _ rest text h.serves.cut.behind one;
     };

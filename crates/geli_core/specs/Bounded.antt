@@ -1,20 +1,30 @@
 -- What a run answers of failures, by the counts of what failed.
-use Rattle.std.specs.Prelude.{◌≡◌, ◌⊎◌, ℕ, List, Option, Some, slice_get}
-use Rattle.command_words.specs.declared.spans.Sep.{Sep}
-use Rattle.command_rows.specs.Answer.{Answer}
-use Rattle.command_rows.specs.World.{DrawerState, NamesDiffer, World, place_of}
-use Rattle.geli_core.specs.Bounds.{ClosesWithFailures, CountsOutside, RisesNamed, RisesUntilOut, device_faults}
-use Rattle.geli_core.specs.Run.{RunsAndCloses}
+use Rattle.std.specs.Prelude.{◌≡◌, ◌⊎◌, ℕ, ◌+◌, Bool, false, List, Option, None, Some, slice_get}
+use Rattle.shelf.specs.Closing.{Closes, failures}
+use Rattle.command_rows.specs.World.{DrawerState, World, place_of}
+use Rattle.geli_core.specs.Bounds.{ClosesWithFailures, CountsOutside, RisesBy, RisesUntilOut, device_faults}
+use Rattle.geli_core.specs.Trace.{Trace, answers_of, world_behind}
 
--- Lines and the closing of the drawers behind them: the answers that the cabinet or the entropy failed, or a file was absent, are counted; each refusal of the
--- closing has its drawer; and where names differ, the answers to the lines that name a drawer that its disk failed are counted by that disk.
-pub record CountsAll (sep : Sep) (lines : List (List ℕ)) (answers : List (Option Answer)) (failed : ℕ) (old new : World) : Type 0 where
-  pub outside : CountsOutside answers old new
-  pub closing : ClosesWithFailures sep old lines answers failed new
-  pub disks : NamesDiffer old.drawers → (name : List ℕ) (place : ℕ) (before : DrawerState) → place_of name old.drawers ≡ Some place → slice_get old.drawers place ≡ Some before →
-      RisesNamed (device_faults sep name lines answers) before name new ⊎ RisesUntilOut sep lines answers (device_faults sep name lines answers) before name old closing.middle
+-- a drawer at exit: it was closed, or failed in that; or nothing was done
+abbrev pub ClosesDrawer : Option ℕ → DrawerState → Bool → DrawerState → Type 0
+ClosesDrawer None last failed new = (failed ≡ false) × (new ≡ last)
+ClosesDrawer (Some many) last failed new = Closes last failed new
 
--- by whatever lines a run came about, the answers to them are counted
-abbrev pub BoundsReplies : World → World → Type 0
-BoundsReplies old new = (sep : Sep) (lines : List (List ℕ)) (answers : List (Option Answer)) (failed : ℕ) →
-    RunsAndCloses sep old lines answers failed new → CountsAll sep lines answers failed old new
+-- the drawer has its name still at exit, and its disk's count of faults rose by one more where its closing failed
+pub record RisesToExit (closing : Option ℕ) (many : ℕ) (before : DrawerState) (name : List ℕ) (behind exit : World) : Type 0 where
+  pub place : ℕ
+  pub named : place_of name exit.drawers ≡ Some place
+  pub last : DrawerState
+  pub was : slice_get behind.drawers place ≡ Some last
+  pub failed : Bool
+  pub rises : RisesBy (many + failures failed) before place exit
+  pub closes : ClosesDrawer closing last failed rises.after
+
+-- The answers to the lines that the cabinet or the entropy failed, or a file was absent, are counted; each refusal of the closing has its drawer; and the
+-- answers to the lines that name a drawer that its disk failed are counted by that disk, and so is the failure of its closing.
+pub record CountsAll (entry : World) (trace : Trace) (exit : World) : Type 0 where
+  pub outside : CountsOutside (answers_of trace.lines) entry exit
+  pub closing : ClosesWithFailures entry trace exit
+  pub disks : (name : List ℕ) (place : ℕ) (before : DrawerState) → place_of name entry.drawers ≡ Some place → slice_get entry.drawers place ≡ Some before →
+      RisesToExit trace.closing (device_faults trace.sep name trace.lines) before name (world_behind entry trace.lines) exit
+      ⊎ RisesUntilOut trace.sep entry trace.lines (device_faults trace.sep name trace.lines) before name

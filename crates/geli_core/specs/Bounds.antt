@@ -1,5 +1,5 @@
 -- How many refusals for a failure a run may print: at most as many as the count of such failures rose by.
-use Rattle.std.specs.Prelude.{◌≡◌, ◌⊎◌, ℕ, ◌+◌, ◌-◌, ◌^◌, ◌<◌, ◌≤◌, ◌==◌, ◌&&◌, not, if◌then◌else◌, Bool, true, false, List, [], ◌∷◌, ◌++◌, Option, Some, Result, Ok, slice_get}
+use Rattle.std.specs.Prelude.{◌≡◌, ◌⊎◌, ℕ, ◌+◌, ◌-◌, ◌^◌, ◌<◌, ◌≤◌, ◌==◌, ◌&&◌, not, if◌then◌else◌, Bool, true, false, List, [], ◌∷◌, ◌++◌, Option, Some, IfSome, Result, Ok, slice_get}
 use Rattle.block_traits.specs.Causes.{Rose}
 use Rattle.command_words.specs.declared.commands.Command.{Command}
 use Rattle.command_words.specs.declared.commands.Usage.{Usage}
@@ -10,8 +10,8 @@ use Rattle.command_rows.specs.Answer.{Answer}
 use Rattle.command_rows.specs.Answer as answers
 use Rattle.command_rows.specs.Turn.{takes_out}
 use Rattle.command_rows.specs.World.{DrawerState, World, is_idle, place_of}
-use Rattle.geli_core.specs.Histories.{ejects, names}
-use Rattle.geli_core.specs.Run.{Run}
+use Rattle.geli_core.specs.Histories.{ejected, names}
+use Rattle.geli_core.specs.Trace.{ServedLine, Trace, world_behind}
 
 -- the drawer was attached or suspended, and its disk's count of faults rose, or stands at its last value
 pub record FailedHeld (old new : DrawerState) : Type 0 where
@@ -32,11 +32,9 @@ ManyFailed many (old ∷ olds) (new ∷ news) = ManyFailed many olds news ⊎ Fa
 ManyFailed many [] (new ∷ news) = ⊥
 ManyFailed many (old ∷ olds) [] = ⊥
 
--- the lines were served, and then so many of the drawers failed while they were closed
-pub record ClosesWithFailures (sep : Sep) (old : World) (lines : List (List ℕ)) (answers : List (Option Answer)) (failed : ℕ) (new : World) : Type 0 where
-  pub middle : World
-  pub run : Run sep old lines answers middle
-  pub many : ManyFailed failed middle.drawers new.drawers
+-- as many of the drawers that were there behind the lines failed as the trace says
+abbrev pub ClosesWithFailures : World → Trace → World → Type 0
+ClosesWithFailures entry trace exit = IfSome trace.closing (λ failed. ManyFailed failed (world_behind entry trace.lines).drawers exit.drawers)
 
 -- ---- the replies to lines
 
@@ -46,9 +44,9 @@ is_device_fault (Some (answers.Refused refusals.DeviceFault)) = true
 is_device_fault answer = false
 
 -- so many lines that name a drawer were answered so
-abbrev pub device_faults : Sep → List ℕ → List (List ℕ) → List (Option Answer) → ℕ
-device_faults sep name (line ∷ lines) (answer ∷ answers) = (if names sep line name && is_device_fault answer then 1 else 0) + device_faults sep name lines answers
-device_faults sep name lines answers = 0
+abbrev pub device_faults : Sep → List ℕ → List ServedLine → ℕ
+device_faults sep name [] = 0
+device_faults sep name (l ∷ lines) = (if names sep l.line name && is_device_fault l.answer then 1 else 0) + device_faults sep name lines
 
 -- a line takes no drawer out
 abbrev pub KeepsAll : Result (Option Command) Usage → Type 0
@@ -70,20 +68,14 @@ pub record RisesNamed (many : ℕ) (before : DrawerState) (name : List ℕ) (new
   pub named : place_of name new.drawers ≡ Some place
   pub rises : RisesBy many before place new
 
--- one of the lines takes the drawer out, and it rose so before that line
-pub record RisesUntilOut (sep : Sep) (lines : List (List ℕ)) (answers : List (Option Answer)) (many : ℕ) (before : DrawerState) (name : List ℕ) (old new : World) : Type 0 where
-  pub served : List (List ℕ)
-  pub out : List ℕ
-  pub behind : List (List ℕ)
+-- one of the lines took the drawer out, and it rose so before that line
+pub record RisesUntilOut (sep : Sep) (entry : World) (lines : List ServedLine) (many : ℕ) (before : DrawerState) (name : List ℕ) : Type 0 where
+  pub served : List ServedLine
+  pub out : ServedLine
+  pub behind : List ServedLine
   pub are : lines ≡ served ++ out ∷ behind
-  pub ejected : ejects sep out name ≡ true
-  pub said : List (Option Answer)
-  pub last : List (Option Answer)
-  pub answered : answers ≡ said ++ last
-  pub middle : World
-  pub run : Run sep old served said middle
-  pub goes_on : Run sep middle (out ∷ behind) last new
-  pub rises : RisesNamed many before name middle
+  pub took_out : ejected sep out name ≡ true
+  pub rises : RisesNamed many before name (world_behind entry served)
 
 -- ---- the cabinet and the entropy
 

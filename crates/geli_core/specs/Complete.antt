@@ -8,11 +8,11 @@ use Rattle.command_words.specs.Reading.{command_in, line_limit}
 use Rattle.command_words.specs.declared.commands.Command.{Command}
 use Rattle.command_words.specs.declared.spans.Sep.{Sep}
 use Rattle.command_words.specs.declared.spans.Sep.TheVariants.{Blanks, Zeros}
-use Rattle.command_rows.specs.Answer.{Answer}
 use Rattle.geli_core.specs.Lines.{CutsInto, IsOneLine, last_line}
-use Rattle.geli_core.specs.Run.{RunsAndCloses, answers_text, any_refused, closing_answers}
+use Rattle.geli_core.specs.Run.{answers_text, any_refused, closing_answers}
 use Rattle.geli_core.specs.Script.{Whole, script_limit}
-use Rattle.geli_core.specs.Served.{RunsUnless, status_by}
+use Rattle.geli_core.specs.Served.{ByTrace, RunsUnless, status_by}
+use Rattle.geli_core.specs.Trace.{Trace, answers_of, lines_of}
 use Rattle.geli_core.specs.declared.status.Status.{Status}
 
 -- the bytes are fewer than are too many for a script, and wherever no newline stands among them, they are at most those of a line
@@ -25,37 +25,38 @@ pub record GaveWithinLimits (old new : SourceState) : Type 0 where
   pub quiet : Rose old.faults new.faults → ⊥
   pub within : (bytes : List ℕ) → old.left ≡ prepend_known bytes new.left → IsWithinLimits bytes
 
--- all lines were served, the drawers were closed, and all answers and the refusals of the closing were printed: the status is Done
--- where no refusal is among them, and else SomeRefused
-pub record RunsToEnd (sep : Sep) (lines : List (List ℕ)) (old : Whole) (status : Status) (new : Whole) : Type 0 where
-  pub answers : List (Option Answer)
+-- the lines of the trace are all of these, the drawers were closed, and all answers and the refusals of the closing were printed: the status
+-- is Done where no refusal is among them, and else SomeRefused
+pub record RunsToEnd (sep : Sep) (lines : List (List ℕ)) (old : Whole) (trace : Trace) (status : Status) (new : Whole) : Type 0 where
+  pub cut_by : trace.sep ≡ sep
+  pub all : lines_of trace.lines ≡ lines
   pub failed : ℕ
-  pub runs : RunsAndCloses sep old.world lines answers failed new.world
-  pub printed : TookAll (answers_text (answers ++ closing_answers failed)) old.sink new.sink
-  pub by_answers : status ≡ status_by (any_refused (answers ++ closing_answers failed))
+  pub closed : trace.closing ≡ Some failed
+  pub printed : TookAll (answers_text (answers_of trace.lines ++ closing_answers failed)) old.sink new.sink
+  pub by_answers : status ≡ status_by (any_refused (answers_of trace.lines ++ closing_answers failed))
 
 -- the same of all lines that the source gave, which is at its end
-pub record ScriptToEnd (old : Whole) (status : Status) (new : Whole) : Type 0 where
+pub record ScriptToEnd (old : Whole) (trace : Trace) (status : Status) (new : Whole) : Type 0 where
   pub read : List ℕ
   pub gave : old.source.left ≡ prepend_known read new.source.left
   pub at_end : IsAtEnd new.source.left
   pub lines : List (List ℕ)
   pub rest : List ℕ
   pub cut : CutsInto read lines rest
-  pub to_end : RunsToEnd Blanks (lines ++ last_line rest) old status new
+  pub to_end : RunsToEnd Blanks (lines ++ last_line rest) old trace status new
 
 -- the same of one command, and the source was not read
-pub record CommandToEnd (line : List ℕ) (old : Whole) (status : Status) (new : Whole) : Type 0 where
+pub record CommandToEnd (line : List ℕ) (old : Whole) (trace : Trace) (status : Status) (new : Whole) : Type 0 where
   pub source : new.source ≡ old.source
-  pub to_end : RunsToEnd Zeros (line ∷ []) old status new
+  pub to_end : RunsToEnd Zeros (line ∷ []) old trace status new
 
 -- a script, and one command that is served, go to their end; or there was no memory, and nothing was done. A script needs a source
 -- that doesn't fail and gives no more than is allowed.
-abbrev pub CompletesBy : Option (List (List ℕ)) → Option Command → List ℕ → Whole → Status → Whole → Type 0
-CompletesBy (Some names) command line old status new = GaveWithinLimits old.source new.source → RunsUnless ScriptToEnd old status new
-CompletesBy None (Some command) line old status new = RunsUnless (CommandToEnd line) old status new
-CompletesBy None None line old status new = Unit {0}
+abbrev pub CompletesBy : Option (List (List ℕ)) → Option Command → List ℕ → Whole → Trace → Status → Whole → Type 0
+CompletesBy (Some names) command line old trace status new = GaveWithinLimits old.source new.source → RunsUnless (ByTrace ScriptToEnd trace) old status new
+CompletesBy None (Some command) line old trace status new = RunsUnless (ByTrace (CommandToEnd line) trace) old status new
+CompletesBy None None line old trace status new = Unit {0}
 
 -- the same of the words, where the sink didn't fail
-abbrev pub Completes : List (List ℕ) → Whole → Status → Whole → Type 0
-Completes words old status new = (Rose old.sink.faults new.sink.faults → ⊥) → CompletesBy (script_images words) (command_in (line_of words)) (line_of words) old status new
+abbrev pub Completes : List (List ℕ) → Whole → Trace → Status → Whole → Type 0
+Completes words old trace status new = (Rose old.sink.faults new.sink.faults → ⊥) → CompletesBy (script_images words) (command_in (line_of words)) (line_of words) old trace status new

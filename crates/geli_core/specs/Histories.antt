@@ -1,26 +1,21 @@
 -- What runs do to each drawer, whatever their lines.
-use Rattle.std.specs.Prelude.{◌≡◌, ◌⊎◌, ◌&&◌, ℕ, List, [], ◌∷◌, ◌++◌, Bool, true, false, Option, Some, None, MatchOption, Result, Ok, Err, slice_get}
+use Rattle.std.specs.Prelude.{◌≡◌, ◌⊎◌, ◌&&◌, ℕ, List, [], ◌∷◌, ◌++◌, Bool, true, false, Option, Some, None, Result, Ok, Err, slice_get}
 use Rattle.std.specs.List.{AllByRecursion, list_any}
-use Rattle.std.specs.Io.KnownBytes.{prepend_known}
 use Rattle.std.specs.Str.{bytes_eq}
 use Rattle.block_traits.specs.Disk.{Logs}
 use Rattle.block_traits.specs.declared.disk.Event.{Event}
 use Rattle.command_words.specs.Reading.{reading}
-use Rattle.command_words.specs.Images.{line_of, script_images}
 use Rattle.command_words.specs.Places.{bytes_at, provider_of}
 use Rattle.command_words.specs.declared.commands.Command.{Command}
 use Rattle.command_words.specs.declared.commands.Usage.{Usage}
 use Rattle.command_words.specs.declared.spans.Sep.{Sep}
-use Rattle.command_words.specs.declared.spans.Sep.TheVariants.{Blanks, Zeros}
 use Rattle.command_words.specs.declared.spans.Span.{Span}
 use Rattle.command_rows.specs.Answer.{Answer}
 use Rattle.command_rows.specs.Answer as answers
 use Rattle.command_rows.specs.Histories.{AreRowEvents, EventsBy, stores_last}
 use Rattle.command_rows.specs.Turn.{takes_out}
-use Rattle.command_rows.specs.World.{DrawerState}
-use Rattle.geli_core.specs.Lines.{CutsInto, last_line}
-use Rattle.geli_core.specs.Script.{Taken, Whole}
-use Rattle.block_traits.specs.Streams.{SourceState}
+use Rattle.command_rows.specs.World.{DrawerState, World}
+use Rattle.geli_core.specs.Trace.{ServedLine, Trace}
 
 -- whether a command names a drawer
 abbrev pub names_by : Option Span → List ℕ → List ℕ → Bool
@@ -41,6 +36,11 @@ abbrev pub says_eject : Result (Option Command) Usage → List ℕ → List ℕ 
 says_eject (Err usage) line name = false
 says_eject (Ok None) line name = false
 says_eject (Ok (Some command)) line name = takes_out command && names_by (provider_of command) line name
+
+-- whether it was answered that it was done
+abbrev pub is_done : Option Answer → Bool
+is_done (Some answers.Done) = true
+is_done answer = false
 
 -- whether a line takes the drawer out
 abbrev pub ejects : Sep → List ℕ → List ℕ → Bool
@@ -69,14 +69,12 @@ pub record TakesDrawer (sep : Sep) (line : List ℕ) (answer : Option Answer) (o
 
 -- a drawer while lines are served, and whether it is there at last: the events are those of its lines, one after the other, and `last`
 -- is how it is at last, or was when a line took it out
-abbrev pub DrawerRuns : Sep → List (List ℕ) → List (Option Answer) → DrawerState → List Event → Bool → DrawerState → Type 0
-DrawerRuns sep [] [] old events there last = (there ≡ true) × (last ≡ old) × (events ≡ [])
-DrawerRuns sep (line ∷ lines) (answer ∷ answers) old events there last =
+abbrev pub DrawerRuns : Sep → List ServedLine → DrawerState → List Event → Bool → DrawerState → Type 0
+DrawerRuns sep [] old events there last = (there ≡ true) × (last ≡ old) × (events ≡ [])
+DrawerRuns sep (l ∷ lines) old events there last =
     ((middle : DrawerState) × (first : List Event) × (rest : List Event)
-    × DrawerSteps sep line answer old first middle × DrawerRuns sep lines answers middle rest there last × (events ≡ first ++ rest))
-    ⊎ (TakesDrawer sep line answer old × (there ≡ false) × (last ≡ old) × (events ≡ []))
-DrawerRuns sep [] (answer ∷ answers) old events there last = ⊥
-DrawerRuns sep (line ∷ lines) [] old events there last = ⊥
+    × DrawerSteps sep l.line l.answer old first middle × DrawerRuns sep lines middle rest there last × (events ≡ first ++ rest))
+    ⊎ (TakesDrawer sep l.line l.answer old × (there ≡ false) × (last ≡ old) × (events ≡ []))
 
 -- where the drawer is there at last, it stands so in the list
 abbrev pub IsLast : Bool → DrawerState → List DrawerState → Type 0
@@ -84,15 +82,15 @@ IsLast true last drawers = (place : ℕ) × (slice_get drawers place ≡ Some la
 IsLast false last drawers = Unit {0}
 
 -- a drawer while lines are served
-pub record RunsAt (sep : Sep) (lines : List (List ℕ)) (answers : List (Option Answer)) (before : DrawerState) (drawers : List DrawerState) : Type 0 where
+pub record RunsAt (sep : Sep) (lines : List ServedLine) (before : DrawerState) (drawers : List DrawerState) : Type 0 where
   pub there : Bool
   pub last : DrawerState
   pub events : List Event
-  pub runs : DrawerRuns sep lines answers before events there last
+  pub runs : DrawerRuns sep lines before events there last
   pub ends : IsLast there last drawers
   pub name : last.name ≡ before.name
   pub logs : Logs events before.disk last.disk
-  pub unnamed : AllByRecursion (λ line. names sep line before.name ≡ false) lines → (there ≡ true) × (last ≡ before)
+  pub unnamed : AllByRecursion (λ (l : ServedLine). names sep l.line before.name ≡ false) lines → (there ≡ true) × (last ≡ before)
 
 -- ---- all drawers
 
@@ -109,21 +107,10 @@ EachGrew Gone [] (new ∷ news) = ⊥
 EachGrew Gone (old ∷ olds) [] = Gone old.name × EachGrew Gone olds []
 EachGrew Gone (old ∷ olds) (new ∷ news) = (Grew old new × EachGrew Gone olds news) ⊎ (Gone old.name × EachGrew Gone olds (new ∷ news))
 
--- one of the lines takes the drawer with this name out
-abbrev pub AnyEjects : Sep → List (List ℕ) → List ℕ → Type 0
-AnyEjects sep lines name = list_any (λ line. ejects sep line name) lines ≡ true
+-- whether a line took the drawer with this name out: it says so, and that was done
+abbrev pub ejected : Sep → ServedLine → List ℕ → Bool
+ejected sep l name = ejects sep l.line name && is_done l.answer
 
--- the source gave bytes, and one of their lines takes the drawer with this name out
-pub record GaveEject (old new : SourceState) (name : List ℕ) : Type 0 where
-  pub taken : Taken
-  pub gave : old.left ≡ prepend_known (taken.read ++ taken.unread) new.left
-  pub cut : CutsInto taken.read taken.lines taken.rest
-  pub ejected : AnyEjects Blanks (taken.lines ++ last_line taken.rest) name
-
--- the drawer with this name is taken out by a line of the script, or by the one command
-abbrev pub IsEjected : List (List ℕ) → Whole → Whole → List ℕ → Type 0
-IsEjected words old new name = MatchOption (script_images words) (ejects Zeros (line_of words) name ≡ true) (λ names. GaveEject old.source new.source name)
-
--- each drawer is there as before, and the history of its disk grew, or it was taken out
-abbrev pub KeepsDrawers : List (List ℕ) → Whole → Whole → Type 0
-KeepsDrawers words old new = EachGrew (IsEjected words old new) old.world.drawers new.world.drawers
+-- each drawer is there as before, and the history of its disk grew, or one of the lines that were served took it out
+abbrev pub KeepsDrawers : World → Trace → World → Type 0
+KeepsDrawers entry trace exit = EachGrew (λ name. list_any (λ (l : ServedLine). ejected trace.sep l name) trace.lines ≡ true) entry.drawers exit.drawers

@@ -1,5 +1,5 @@
 -- What holds of each line, whatever the row of its command.
-use Rattle.std.specs.Prelude.{◌≡◌, ℕ, IsTrue, List, [], ◌∷◌, Option, Some, Result, Ok}
+use Rattle.std.specs.Prelude.{◌≡◌, ℕ, IsTrue, List, Option, Some, Result, Ok}
 use Rattle.command_words.specs.Places.{bytes_at, provider_of}
 use Rattle.command_words.specs.Reading.{reading}
 use Rattle.command_words.specs.declared.commands.Command.{Command}
@@ -19,7 +19,7 @@ use Rattle.command_rows.specs.World.{World}
 use Rattle.block_traits.specs.Streams.{SinkState}
 use Rattle.command_words.specs.declared.spans.Sep.{Sep}
 use Rattle.reply_text.specs.declared.print.WriteEnd.{WriteEnd}
-use Rattle.geli_core.specs.Run.{PrintsAnswer, RunsAndCloses, ServesLine}
+use Rattle.geli_core.specs.Run.{PrintsAnswer, ServesLine}
 use Rattle.geli_core.specs.declared.serving.LineEnd.{LineEnd}
 
 -- this holds of what was refused, if anything was
@@ -52,18 +52,3 @@ pub record ServesLawfully (sep : Sep) (line : List ℕ) (old : World) (sink : Si
   pub serves : ServesLine sep line old answer new
   pub prints : PrintsAnswer answer sink result after
   pub laws : LineKeepsLaws (reading sep line) line old answer new
-
--- ---- lines
-
--- lines are served one after another, with these answers, and each keeps the laws
-abbrev pub RunKeepsLaws : Sep → World → List (List ℕ) → List (Option Answer) → World → Type 0
-RunKeepsLaws sep old [] [] new = new ≡ old
-RunKeepsLaws sep old (line ∷ lines) (answer ∷ answers) new =
-    (middle : World) × ServesLine sep line old answer middle × LineKeepsLaws (reading sep line) line old answer middle × RunKeepsLaws sep middle lines answers new
-RunKeepsLaws sep old [] (answer ∷ answers) new = ⊥
-RunKeepsLaws sep old (line ∷ lines) [] new = ⊥
-
--- by whatever lines a run came about, each of them kept the laws
-abbrev pub LinesKeepLaws : World → World → Type 0
-LinesKeepLaws old new = (sep : Sep) (lines : List (List ℕ)) (answers : List (Option Answer)) (failed : ℕ) →
-    (ran : RunsAndCloses sep old lines answers failed new) → RunKeepsLaws sep old lines answers ran.middle

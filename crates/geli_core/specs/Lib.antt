@@ -5,6 +5,7 @@ pub mod Headline
 pub mod Histories
 pub mod Images
 pub mod Lawful
+pub mod Kinds
 pub mod Laws
 pub mod Lines
 pub mod Placing
@@ -17,3 +18,4 @@ pub mod Status
 pub mod Suspensions
 pub mod Survivors
 pub mod Sweeps
+pub mod Trace

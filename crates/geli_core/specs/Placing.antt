@@ -24,7 +24,7 @@ use Rattle.command_rows.specs.Digits.{bytes_spelled}
 use Rattle.command_rows.specs.Workloads.{words_of, workload}
 use Rattle.command_rows.specs.World.{Attachment, DrawerState, IsAmong, World, attachment_in}
 use Rattle.geli_core.specs.Histories.{ServesDrawer}
-use Rattle.geli_core.specs.Run.{ServesLine}
+use Rattle.geli_core.specs.Trace.{ServedLine, world_behind}
 
 -- ---- the play of a drawer: the steps that were done on its disk so far, its open requests, and the number of the next line
 
@@ -123,20 +123,16 @@ LinePlays told sep line answer old m next new = ((new ≡ old) × (next ≡ goes
 
 -- ---- lines
 
--- a drawer and its play while lines are served between two worlds, where its disk told this content before the run: between two lines it is one of the drawers of the
--- world there
-abbrev pub DrawerPlaces : Option Content → Sep → World → List (List ℕ) → List (Option Answer) → World → DrawerState → Play → Play → DrawerState → Type 0
-DrawerPlaces told sep start [] [] end old m last new = (end ≡ start) × (new ≡ old) × (last ≡ m)
-DrawerPlaces told sep start (line ∷ lines) (answer ∷ answers) end old m last new =
-    (between : World) × (middle : DrawerState) × (next : Play)
-    × ServesLine sep line start answer between × IsAmong between.drawers middle × LinePlays told sep line answer old m next middle
-    × DrawerPlaces told sep between lines answers end middle next last new
-DrawerPlaces told sep start [] (answer ∷ answers) end old m last new = ⊥
-DrawerPlaces told sep start (line ∷ lines) [] end old m last new = ⊥
+-- a drawer and its play while lines are served, where its disk told this content before the run: behind each line it is one of the drawers of the world there
+abbrev pub DrawerPlaces : Option Content → Sep → List ServedLine → DrawerState → Play → Play → DrawerState → Type 0
+DrawerPlaces told sep [] old m last new = (new ≡ old) × (last ≡ m)
+DrawerPlaces told sep (l ∷ lines) old m last new =
+    (middle : DrawerState) × (next : Play)
+    × IsAmong l.next.drawers middle × LinePlays told sep l.line l.answer old m next middle × DrawerPlaces told sep lines middle next last new
 
 -- the same from the entry of a run on, before which nothing was done
-abbrev pub DrawerPlays : Sep → World → List (List ℕ) → List (Option Answer) → World → DrawerState → Play → DrawerState → Type 0
-DrawerPlays sep start lines answers end old last new = DrawerPlaces old.disk.content sep start lines answers end old no_play last new
+abbrev pub DrawerPlays : Sep → List ServedLine → DrawerState → Play → DrawerState → Type 0
+DrawerPlays sep lines old last new = DrawerPlaces old.disk.content sep lines old no_play last new
 
 -- a drawer that is closed, with the events of that
 pub record ClosesWith (old : DrawerState) (events : List Event) (new : DrawerState) : Type 0 where
@@ -145,12 +141,16 @@ pub record ClosesWith (old : DrawerState) (events : List Event) (new : DrawerSta
   pub logs : Logs events old.disk new.disk
 
 -- a drawer while lines are served from the entry of a run on, and the drawers are closed then
-pub record DrawerPlaysAndCloses (sep : Sep) (start : World) (lines : List (List ℕ)) (answers : List (Option Answer)) (old : DrawerState) (play : Play) (new : DrawerState) : Type 0 where
-  pub end : World
+pub record DrawerPlaysAndCloses (sep : Sep) (entry : World) (lines : List ServedLine) (old : DrawerState) (play : Play) (new : DrawerState) : Type 0 where
   pub middle : DrawerState
-  pub among : IsAmong end.drawers middle
+  pub among : IsAmong (world_behind entry lines).drawers middle
   pub served : Play
-  pub places : DrawerPlays sep start lines answers end old served middle
+  pub places : DrawerPlays sep lines old served middle
   pub last : List Event
   pub closes : ClosesWith middle last new
   pub are : play ≡ goes_on (raw_steps last) [] served
+
+-- the same up to the exit of a run, at which the drawers were closed, or nothing was done
+abbrev pub PlaysToExit : World → Sep → List ServedLine → Option ℕ → DrawerState → Play → DrawerState → Type 0
+PlaysToExit entry sep lines None old play new = DrawerPlays sep lines old play new
+PlaysToExit entry sep lines (Some failed) old play new = DrawerPlaysAndCloses sep entry lines old play new

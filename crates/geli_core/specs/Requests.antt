@@ -20,13 +20,12 @@ use Rattle.queue_readings.specs.Play.{IsCovered, Play}
 use Rattle.queue_readings.specs.Tasks.{Flushes, Reads, Work, Writes, job_of, task_with}
 use Rattle.readings.specs.Steps.{Flush, Step}
 use Rattle.readings.specs.Writes.{data_steps}
-use Rattle.command_rows.specs.Answer.{Answer}
-use Rattle.command_rows.specs.Answer as answers
 use Rattle.command_rows.specs.Digits.{bytes_spelled}
 use Rattle.command_rows.specs.Queueing.{ReapRow, StepRow, SubmitRow}
 use Rattle.command_rows.specs.World.{AttachedWith, Attachment, DrawerState, Holding, IsAmong, Reach, World, attachment_in, place_of}
 use Rattle.geli_core.specs.Placing.{DrawerPlaces, DrawerPlays, work_in}
 use Rattle.geli_core.specs.Survivors.{HasNoRequests, SurvivesBy}
+use Rattle.geli_core.specs.Trace.{ServedLine}
 
 -- ---- whose they are
 
@@ -56,13 +55,13 @@ CoversWork steps k Flushes = Unit {0}
 
 -- A drawer after some lines, when a line came that names this provider and reaps the request with this tag, and as it is after further lines: its play
 -- goes on from the one to the other, and a flush behind them covers the write that was reaped.
-pub record CoversReaped (sep : Sep) (entry : World) (served : List (List ℕ)) (said : List (Option Answer)) (start : World) (line : List ℕ) (prov : Span) (tag : ℕ) (rest : List (List ℕ)) (replies : List (Option Answer)) (end : World) (drawer : DrawerState) : Type 0 where
+pub record CoversReaped (sep : Sep) (entry : World) (served : List ServedLine) (start : World) (reap : ServedLine) (prov : Span) (tag : ℕ) (rest : List ServedLine) (drawer : DrawerState) : Type 0 where
   pub before : DrawerState
   pub was : IsAmong start.drawers before
-  pub survives : SurvivesBy (DrawerPlays sep entry served said start) entry.drawers before
+  pub survives : SurvivesBy (DrawerPlays sep served) entry.drawers before
   pub last : Play
-  pub places : DrawerPlaces survives.before.disk.content sep start (line ∷ rest) (Some answers.Done ∷ replies) end before survives.play last drawer
-  pub covers : option_and_then (slice_get start.drawers) (place_of (bytes_at line prov) start.drawers) ≡ Some before → IfSome survives.before.disk.content
+  pub places : DrawerPlaces survives.before.disk.content sep (reap ∷ rest) before survives.play last drawer
+  pub covers : option_and_then (slice_get start.drawers) (place_of (bytes_at reap.line prov) start.drawers) ≡ Some before → IfSome survives.before.disk.content
       (λ c. AttachedWith before.holding (λ a. IfSome (task_with tag survives.play.tasks) (λ t. CoversWork (last.steps ++ Flush ∷ []) a.keying t.work)))
 
 -- ---- a request alone

@@ -11,7 +11,6 @@ use Rattle.command_rows.specs.Answer.{Answer}
 use Rattle.command_rows.specs.Answer as answers
 use Rattle.command_rows.specs.Answer.{answer_text}
 use Rattle.reply_text.specs.declared.print.WriteEnd.{WriteEnd}
-use Rattle.shelf.specs.Closing.{ClosesWorld}
 use Rattle.command_rows.specs.Turn.{Turn}
 use Rattle.command_rows.specs.World.{World}
 use Rattle.geli_core.specs.declared.serving.LineEnd.{LineEnd}
@@ -60,13 +59,6 @@ pub record ServesAndPrints (sep : Sep) (line : List ℕ) (old : World) (sink : S
 
 -- ---- lines
 
--- the lines are served one after another, with these answers
-abbrev pub Run : Sep → World → List (List ℕ) → List (Option Answer) → World → Type 0
-Run sep old [] [] new = new ≡ old
-Run sep old (line ∷ lines) (answer ∷ answers) new = (middle : World) × ServesLine sep line old answer middle × Run sep middle lines answers new
-Run sep old [] (answer ∷ answers) new = ⊥
-Run sep old (line ∷ lines) [] new = ⊥
-
 -- the text of some answers
 abbrev pub answers_text : List (Option Answer) → List ℕ
 answers_text answers = flat_map text_of answers
@@ -101,9 +93,3 @@ pub record FailsInClosing (answers : List (Option Answer)) (failed : ℕ) (old n
   pub middle : SinkState
   pub before : TookAll (answers_text answers) old middle
   pub part : TookPart (answers_text (closing_answers failed)) middle new
-
--- the lines were served, and then the drawers were closed
-pub record RunsAndCloses (sep : Sep) (old : World) (lines : List (List ℕ)) (answers : List (Option Answer)) (failed : ℕ) (new : World) : Type 0 where
-  pub middle : World
-  pub run : Run sep old lines answers middle
-  pub closes : ClosesWorld middle failed new

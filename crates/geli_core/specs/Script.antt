@@ -11,7 +11,8 @@ use Rattle.command_words.specs.declared.spans.Sep.TheVariants.{Blanks, Zeros}
 use Rattle.command_rows.specs.Answer.{Answer}
 use Rattle.command_rows.specs.World.{World}
 use Rattle.geli_core.specs.Lines.{CutsInto, last_line}
-use Rattle.geli_core.specs.Run.{FailsInClosing, FailsInLast, RunsAndCloses, answers_text, any_refused, closing_answers}
+use Rattle.geli_core.specs.Run.{FailsInClosing, FailsInLast, answers_text, any_refused, closing_answers}
+use Rattle.geli_core.specs.Trace.{IsNothing, Trace, answers_of, lines_of}
 use Rattle.geli_core.specs.declared.status.Status.{Status}
 use Rattle.geli_core.specs.declared.status.Status.TheVariants.{Done, SomeRefused, BadWords, ReadFault, WriteFault, NoMemory, LineTooLong, ScriptTooLong}
 
@@ -75,20 +76,19 @@ ServesUpTo taken served answers old ScriptTooLong new = IsReadSoFar taken served
 ServesUpTo taken served answers old BadWords new = ⊥
 ServesUpTo taken served answers old NoMemory new = ⊥
 
--- a script was run: the source gave bytes, lines among them were served and answered, the drawers were closed, and the answers
+-- a script was run: the source gave bytes, the lines of the trace among them were served, the drawers were closed, and the answers
 -- were printed; no more bytes are taken from the source than make a script too long
-pub record RunsScript (old : Whole) (status : Status) (new : Whole) : Type 0 where
+pub record RunsScript (old : Whole) (trace : Trace) (status : Status) (new : Whole) : Type 0 where
+  pub sep : trace.sep ≡ Blanks
   pub taken : Taken
   pub gave : old.source.left ≡ prepend_known (taken.read ++ taken.unread) new.source.left
   pub limit : length (taken.read ++ taken.unread) ≤ script_limit
   pub cut : CutsInto taken.read taken.lines taken.rest
-  pub served : List (List ℕ)
-  pub short : AllByRecursion (λ line. length line ≤ line_limit) served
-  pub answers : List (Option Answer)
-  pub up_to : ServesUpTo taken served answers old status new
+  pub short : AllByRecursion (λ line. length line ≤ line_limit) (lines_of trace.lines)
+  pub up_to : ServesUpTo taken (lines_of trace.lines) (answers_of trace.lines) old status new
   pub failed : ℕ
-  pub runs : RunsAndCloses Blanks old.world served answers failed new.world
-  pub prints : Prints answers failed old.sink status new.sink
+  pub closed : trace.closing ≡ Some failed
+  pub prints : Prints (answers_of trace.lines) failed old.sink status new.sink
 
 -- ---- one command
 
@@ -100,10 +100,11 @@ EndsCommand WriteFault = Unit {0}
 EndsCommand status = ⊥
 
 -- the one command was served as a script of one line, and the input was not read
-pub record RunsCommand (line : List ℕ) (old : Whole) (status : Status) (new : Whole) : Type 0 where
+pub record RunsCommand (line : List ℕ) (old : Whole) (trace : Trace) (status : Status) (new : Whole) : Type 0 where
   pub answer : Answer
+  pub next : World
   pub failed : ℕ
-  pub runs : RunsAndCloses Zeros old.world (line ∷ []) (Some answer ∷ []) failed new.world
+  pub is : trace ≡ record { sep = Zeros; lines = record { line = line; answer = Some answer; next = next } ∷ []; closing = Some failed }
   pub prints : Prints (Some answer ∷ []) failed old.sink status new.sink
   pub source : new.source ≡ old.source
   pub ended : EndsCommand status
@@ -114,25 +115,26 @@ PrintsUsage old BadWords new = TookAll usage_text old new
 PrintsUsage old WriteFault new = TookPart usage_text old new
 PrintsUsage old status new = ⊥
 
-pub record Declines (old : Whole) (status : Status) (new : Whole) : Type 0 where
-  pub world : new.world ≡ old.world
+-- and nothing was done
+pub record Declines (old : Whole) (trace : Trace) (status : Status) (new : Whole) : Type 0 where
+  pub nothing : IsNothing trace
   pub source : new.source ≡ old.source
   pub prints : PrintsUsage old.sink status new.sink
 
 -- ---- the words
 
-abbrev pub RunsLine : List ℕ → Option Command → Whole → Status → Whole → Type 0
-RunsLine line None old status new = Declines old status new
-RunsLine line (Some command) old status new = RunsCommand line old status new
+abbrev pub RunsLine : List ℕ → Option Command → Whole → Trace → Status → Whole → Type 0
+RunsLine line None old trace status new = Declines old trace status new
+RunsLine line (Some command) old trace status new = RunsCommand line old trace status new
 
-abbrev pub RunsAs : Option (List (List ℕ)) → List (List ℕ) → Whole → Status → Whole → Type 0
-RunsAs (Some names) words old status new = RunsScript old status new
-RunsAs None words old status new = RunsLine (line_of words) (command_in (line_of words)) old status new
+abbrev pub RunsAs : Option (List (List ℕ)) → List (List ℕ) → Whole → Trace → Status → Whole → Type 0
+RunsAs (Some names) words old trace status new = RunsScript old trace status new
+RunsAs None words old trace status new = RunsLine (line_of words) (command_in (line_of words)) old trace status new
 
 -- the run of the words of the command line: a script where they are `script` and names, and else one command or nothing; without memory for it nothing is read, printed or changed
-abbrev pub Runs : List (List ℕ) → Whole → Status → Whole → Type 0
-Runs words old NoMemory new = new ≡ old
-Runs words old status new = RunsAs (script_images words) words old status new
+abbrev pub Runs : List (List ℕ) → Whole → Trace → Status → Whole → Type 0
+Runs words old trace NoMemory new = IsNothing trace × (new ≡ old)
+Runs words old trace status new = RunsAs (script_images words) words old trace status new
 
 -- how a run may end, by what the words ask for: a script by any status but BadWords, one command by those of its reply, and else by
 -- BadWords; or the sink failed, or there was no memory

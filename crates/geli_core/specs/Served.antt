@@ -1,10 +1,9 @@
 -- A script while it is served: what the loops over its bytes keep. What a run comes to stands in `Script`.
-use Rattle.std.specs.Prelude.{◌≡◌, ℕ, ◌+◌, ◌<◌, ◌≤◌, List, [], ◌++◌, length, Option, Bool, true, false, ◌||◌, Result, Ok, Err}
+use Rattle.std.specs.Prelude.{◌≡◌, ℕ, ◌+◌, ◌<◌, ◌≤◌, List, [], ◌++◌, length, Bool, true, false, ◌||◌, Result, Ok, Err}
 use Rattle.std.specs.List.{AllByRecursion}
 use Rattle.block_traits.specs.Streams.{SinkState, TookAll, TookPart, SourceState}
 use Rattle.command_words.specs.Reading.{line_limit}
 use Rattle.command_words.specs.declared.spans.Sep.TheVariants.{Blanks}
-use Rattle.command_rows.specs.Answer.{Answer}
 use Rattle.shelf.specs.Closing.{ClosesWorld}
 use Rattle.command_rows.specs.World.{World}
 use Rattle.reply_text.specs.declared.print.WriteEnd.{WriteEnd}
@@ -16,7 +15,8 @@ use Rattle.geli_core.specs.Lines.{CutsInto, last_line}
 use Rattle.geli_core.specs.Script.{Whole, script_limit}
 use Rattle.geli_core.specs.declared.feeding.Ending.{Ending}
 use Rattle.geli_core.specs.declared.feeding.Ending.TheVariants.{AtEnd, SourceFailed, Full, Stopped}
-use Rattle.geli_core.specs.Run.{FailsInLast, Run, answers_text, any_refused, closing_answers}
+use Rattle.geli_core.specs.Run.{FailsInLast, answers_text, any_refused, closing_answers}
+use Rattle.geli_core.specs.Trace.{IsTrace, Run, ServedLine, Trace, answers_of, lines_of}
 use Rattle.geli_core.specs.declared.feeding.Stop.{Stop}
 use Rattle.geli_core.specs.declared.feeding.Stop.TheVariants.{TooLong, Unprinted}
 
@@ -28,24 +28,23 @@ pub record Site : Type 0 where
 abbrev pub site_of : World → SinkState → Site
 site_of world sink = record { world = world; sink = sink }
 
--- the whole lines of these bytes were served, and nothing else, with these answers
+-- the whole lines of these bytes were served, and nothing else
 pub record ServesLines (bytes : List ℕ) (old : Site) (rest : List ℕ) (new : Site) : Type 0 where
-  pub lines : List (List ℕ)
-  pub answers : List (Option Answer)
-  pub cut : CutsInto bytes lines rest
-  pub short : AllByRecursion (λ line. length line ≤ line_limit) lines
-  pub run : Run Blanks old.world lines answers new.world
+  pub served : List ServedLine
+  pub cut : CutsInto bytes (lines_of served) rest
+  pub short : AllByRecursion (λ line. length line ≤ line_limit) (lines_of served)
+  pub run : Run Blanks old.world served new.world
 
 -- they were printed, and something was refused among them or not
 pub record IsServed (bytes : List ℕ) (old : Site) (rest : List ℕ) (refused : Bool) (new : Site) : Type 0 where
   pub serves : ServesLines bytes old rest new
-  pub printed : TookAll (answers_text serves.answers) old.sink new.sink
-  pub any : any_refused serves.answers ≡ refused
+  pub printed : TookAll (answers_text (answers_of serves.served)) old.sink new.sink
+  pub any : any_refused (answers_of serves.served) ≡ refused
 
 -- they were served, and the sink failed while they were printed
 pub record IsUnprinted (bytes : List ℕ) (old : Site) (new : Site) : Type 0 where
   pub serves : ServesLines bytes old [] new
-  pub printed : FailsInLast serves.answers old.sink new.sink
+  pub printed : FailsInLast (answers_of serves.served) old.sink new.sink
 
 -- the last of these bytes makes a line too long
 pub record IsTooLong (bytes : List ℕ) (old : Site) (new : Site) : Type 0 where
@@ -102,19 +101,20 @@ pub record FeedsSource (old : Site) (source : SourceState) (ending : Ending) (re
 pub record ServesAll (bytes : List ℕ) (old new : Site) : Type 0 where
   pub lines : List (List ℕ)
   pub rest : List ℕ
-  pub answers : List (Option Answer)
   pub cut : CutsInto bytes lines rest
-  pub short : AllByRecursion (λ line. length line ≤ line_limit) (lines ++ last_line rest)
-  pub run : Run Blanks old.world (lines ++ last_line rest) answers new.world
+  pub served : List ServedLine
+  pub all : lines_of served ≡ lines ++ last_line rest
+  pub short : AllByRecursion (λ line. length line ≤ line_limit) (lines_of served)
+  pub run : Run Blanks old.world served new.world
 
 pub record IsAllServed (bytes : List ℕ) (old : Site) (refused : Bool) (new : Site) : Type 0 where
   pub serves : ServesAll bytes old new
-  pub printed : TookAll (answers_text serves.answers) old.sink new.sink
-  pub any : any_refused serves.answers ≡ refused
+  pub printed : TookAll (answers_text (answers_of serves.served)) old.sink new.sink
+  pub any : any_refused (answers_of serves.served) ≡ refused
 
 pub record IsAllUnprinted (bytes : List ℕ) (old new : Site) : Type 0 where
   pub serves : ServesAll bytes old new
-  pub printed : FailsInLast serves.answers old.sink new.sink
+  pub printed : FailsInLast (answers_of serves.served) old.sink new.sink
 
 -- a last line without a newline was served, if there is one
 abbrev pub EndsLines : List ℕ → Site → Result Bool WriteEnd → Site → Type 0
@@ -138,6 +138,16 @@ pub record ClosesAndPrints (refused : Bool) (old : Site) (status : Status) (new 
 
 abbrev pub whole_of : Site → SourceState → Whole
 whole_of site source = record { world = site.world; source = source; sink = site.sink }
+
+-- there is a trace of the run, which went so by it
+pub record Traced (R : Whole → Trace → Status → Whole → Type 0) (old : Whole) (status : Status) (new : Whole) : Type 0 where
+  pub trace : Trace
+  pub is_trace : IsTrace old.world trace new.world
+  pub runs : R old trace status new
+
+-- the run went so by this trace
+abbrev pub ByTrace : (Whole → Trace → Status → Whole → Type 0) → Trace → Whole → Status → Whole → Type 0
+ByTrace R trace old status new = R old trace status new
 
 -- without memory nothing was done
 abbrev pub RunsUnless : (Whole → Status → Whole → Type 0) → Whole → Status → Whole → Type 0

@@ -1,5 +1,5 @@
 -- What the lines of a run leave of each drawer's disk if power fails at any moment of them.
-use Rattle.std.specs.Prelude.{◌≡◌, ◌⊎◌, ℕ, ◌<◌, List, [], map, Option, IfSome, MatchOption}
+use Rattle.std.specs.Prelude.{◌≡◌, ℕ, ◌<◌, List, [], map, IfSome, MatchOption}
 use Rattle.std.specs.Option.{option_map}
 use Rattle.block_traits.specs.Content.{Content}
 use Rattle.command_words.specs.declared.spans.Sep.{Sep}
@@ -10,10 +10,9 @@ use Rattle.queue_readings.specs.Tasks.{Task, request_of}
 use Rattle.readings.specs.Crashes.{Endures}
 use Rattle.readings.specs.Steps.{Step, after}
 use Rattle.readings.specs.Survivors.{AreSteps, media}
-use Rattle.command_rows.specs.Answer.{Answer}
 use Rattle.command_rows.specs.World.{DrawerState, Holding, IsAmong, World, attachment_in}
-use Rattle.geli_core.specs.Placing.{DrawerPlays, DrawerPlaysAndCloses}
-use Rattle.geli_core.specs.Run.{RunsAndCloses}
+use Rattle.geli_core.specs.Placing.{DrawerPlays, PlaysToExit}
+use Rattle.geli_core.specs.Trace.{ServedLine, Trace}
 
 -- What is promised of steps that were done on a disk that had this content before: each of their writes has a number of its own, and at
 -- each moment of them each logical sector endures a crash, under each keying.
@@ -41,25 +40,11 @@ pub record SurvivesBy (Plays : DrawerState → Play → DrawerState → Type 0) 
   pub endures : IfSome before.disk.content (EnduresCrashes play.steps)
   pub requests : HasNoRequests before.holding → IfSome before.disk.content (λ c. HasTasks new.holding play.tasks)
 
--- the same of each drawer that is there after lines were served
-abbrev pub EachSurvives : Sep → List (List ℕ) → List (Option Answer) → World → World → Type 0
-EachSurvives sep lines answers old new = (drawer : DrawerState) → IsAmong new.drawers drawer → SurvivesBy (DrawerPlays sep old lines answers new) old.drawers drawer
+-- the same of each drawer that is there behind these lines
+abbrev pub EachSurvives : Sep → World → List ServedLine → World → Type 0
+EachSurvives sep entry served now = (drawer : DrawerState) → IsAmong now.drawers drawer → SurvivesBy (DrawerPlays sep served) entry.drawers drawer
 
--- and after the drawers were closed
-abbrev pub EachSurvivesClosing : Sep → List (List ℕ) → List (Option Answer) → World → World → Type 0
-EachSurvivesClosing sep lines answers old new = (drawer : DrawerState) → IsAmong new.drawers drawer → SurvivesBy (DrawerPlaysAndCloses sep old lines answers) old.drawers drawer
-
--- lines were served, and then the drawers were closed
-pub record Ran (old new : World) : Type 0 where
-  pub sep : Sep
-  pub lines : List (List ℕ)
-  pub answers : List (Option Answer)
-  pub failed : ℕ
-  pub runs : RunsAndCloses sep old lines answers failed new
-
--- The headline of a run. Nothing was done, or lines were served and the drawers closed; and by whatever lines that came about, each drawer that is there
--- then endures crashes at each moment from entry to exit.
-pub record SurvivesCrashes (old new : World) : Type 0 where
-  pub ran : (new ≡ old) ⊎ Ran old new
-  pub each : (sep : Sep) (lines : List (List ℕ)) (answers : List (Option Answer)) (failed : ℕ) → RunsAndCloses sep old lines answers failed new →
-      EachSurvivesClosing sep lines answers old new
+-- and of each that is there at exit
+abbrev pub EachSurvivesRun : World → Trace → World → Type 0
+EachSurvivesRun entry trace exit = (drawer : DrawerState) → IsAmong exit.drawers drawer →
+    SurvivesBy (PlaysToExit entry trace.sep trace.lines trace.closing) entry.drawers drawer

@@ -1,12 +1,10 @@
 -- What the lines of a run do with suspended drawers: while a drawer is suspended its disk logs nothing, and it is attached again with the master key that it had.
-use Rattle.std.specs.Prelude.{◌≡◌, ◌⊎◌, ℕ, List, [], ◌∷◌, ◌++◌, Option, None, Some, Result, Ok, slice_get}
+use Rattle.std.specs.Prelude.{◌≡◌, ◌⊎◌, ℕ, List, [], ◌∷◌, ◌++◌, Option, None, Some, Ok, slice_get}
 use Rattle.block_traits.specs.Disk.{FailsIn, Logs}
 use Rattle.block_traits.specs.declared.disk.Event.TheVariants.{Flush}
 use Rattle.command_words.specs.Places.{bytes_at}
 use Rattle.command_words.specs.Reading.{reading}
-use Rattle.command_words.specs.declared.commands.Command.{Command}
 use Rattle.command_words.specs.declared.commands.Command.TheVariants as commands
-use Rattle.command_words.specs.declared.commands.Usage.{Usage}
 use Rattle.command_words.specs.declared.spans.KeyWords.{KeyWords}
 use Rattle.command_words.specs.declared.spans.Sep.{Sep}
 use Rattle.command_words.specs.declared.spans.Span.{Span}
@@ -21,58 +19,48 @@ use Rattle.command_rows.specs.Grounds.{OpensWith}
 use Rattle.command_rows.specs.Suspending.{kept_by}
 use Rattle.command_rows.specs.Turn.{reach}
 use Rattle.command_rows.specs.World.{Attachment, DrawerState, IsAmong, IsAttached, IsSuspended, Kept, Reach, World, place_of}
-use Rattle.geli_core.specs.Run.{Run, RunsAndCloses, ServesLine}
+use Rattle.geli_core.specs.Kinds.{Kind, Resumes}
+use Rattle.geli_core.specs.Trace.{ServedLine, world_behind}
 
 -- ---- while a drawer is suspended
 
--- The drawer is suspended all the time while lines are served, this is kept of it, and its disk logs nothing, whatever lines name it: between two lines it is one of
+-- The drawer is suspended all the time while lines are served, this is kept of it, and its disk logs nothing, whatever lines name it: behind each line it is one of
 -- the drawers of the world there, under its name.
-abbrev pub StaysSuspended : Kept → Sep → World → List (List ℕ) → List (Option Answer) → World → DrawerState → DrawerState → Type 0
-StaysSuspended kept sep start [] [] end old new = (end ≡ start) × (new ≡ old) × (old.holding ≡ IsSuspended kept)
-StaysSuspended kept sep start (line ∷ lines) (answer ∷ answers) end old new =
-    (between : World) × (middle : DrawerState)
-    × ServesLine sep line start answer between × IsAmong between.drawers middle × (middle.name ≡ old.name) × (old.holding ≡ IsSuspended kept) × Logs [] old.disk middle.disk
-    × StaysSuspended kept sep between lines answers end middle new
-StaysSuspended kept sep start [] (answer ∷ answers) end old new = ⊥
-StaysSuspended kept sep start (line ∷ lines) [] end old new = ⊥
+abbrev pub StaysSuspended : Kept → List ServedLine → DrawerState → DrawerState → Type 0
+StaysSuspended kept [] old new = (new ≡ old) × (old.holding ≡ IsSuspended kept)
+StaysSuspended kept (l ∷ lines) old new =
+    (middle : DrawerState) × IsAmong l.next.drawers middle × (middle.name ≡ old.name) × (old.holding ≡ IsSuspended kept) × Logs [] old.disk middle.disk
+    × StaysSuspended kept lines middle new
 
 -- It was suspended at entry, and has been so since.
-pub record SuspendedBefore (sep : Sep) (entry : World) (served : List (List ℕ)) (said : List (Option Answer)) (now : World) (drawer : DrawerState) (kept : Kept) : Type 0 where
+pub record SuspendedBefore (entry : World) (served : List ServedLine) (drawer : DrawerState) (kept : Kept) : Type 0 where
   pub before : DrawerState
   pub there : IsAmong entry.drawers before
-  pub stays : StaysSuspended kept sep entry served said now before drawer
+  pub stays : StaysSuspended kept served before drawer
 
 -- One of the lines was a `suspend`, before which this was attached on the drawer. What is kept is that of its provider, the disk was flushed or failed in that, and it
 -- has been suspended since.
-pub record SuspendedSince (sep : Sep) (entry : World) (served : List (List ℕ)) (said : List (Option Answer)) (now : World) (drawer : DrawerState) (kept : Kept) (a : Attachment) : Type 0 where
-  pub earlier : List (List ℕ)
-  pub earlier_said : List (Option Answer)
-  pub line : List ℕ
-  pub answer : Option Answer
-  pub later : List (List ℕ)
-  pub later_said : List (Option Answer)
-  pub lines : served ≡ earlier ++ line ∷ later
-  pub answers : said ≡ earlier_said ++ answer ∷ later_said
-  pub start : World
-  pub ran : Run sep entry earlier earlier_said start
-  pub before : DrawerState
-  pub there : IsAmong start.drawers before
-  pub attached : before.holding ≡ IsAttached a
+pub record SuspendedSince (sep : Sep) (entry : World) (served : List ServedLine) (drawer : DrawerState) (kept : Kept) (a : Attachment) : Type 0 where
+  pub earlier : List ServedLine
+  pub suspend : ServedLine
+  pub later : List ServedLine
+  pub are : served ≡ earlier ++ suspend ∷ later
   pub prov : Span
-  pub asked : reading sep line ≡ Ok (Some (commands.Suspend prov))
-  pub next : World
-  pub serves : ServesLine sep line start answer next
+  pub asked : reading sep suspend.line ≡ Ok (Some (commands.Suspend prov))
+  pub before : DrawerState
+  pub there : IsAmong (world_behind entry earlier).drawers before
+  pub attached : before.holding ≡ IsAttached a
   pub after : DrawerState
-  pub among : IsAmong next.drawers after
+  pub among : IsAmong suspend.next.drawers after
   pub name : after.name ≡ before.name
   pub flushes : Logs (Flush ∷ []) before.disk after.disk ⊎ FailsIn (Flush ∷ []) before.disk after.disk
   pub keeps : kept ≡ kept_by a before.disk
-  pub stays : StaysSuspended kept sep next later later_said now after drawer
+  pub stays : StaysSuspended kept later after drawer
 
--- one of these two holds of each drawer that is suspended after these lines
-abbrev pub AreSuspended : Sep → World → List (List ℕ) → List (Option Answer) → World → Type 0
-AreSuspended sep entry served said now = (drawer : DrawerState) (kept : Kept) → IsAmong now.drawers drawer → drawer.holding ≡ IsSuspended kept →
-    SuspendedBefore sep entry served said now drawer kept ⊎ ((a : Attachment) × SuspendedSince sep entry served said now drawer kept a)
+-- one of these two holds of each drawer that is suspended behind these lines
+abbrev pub AreSuspended : Sep → World → List ServedLine → World → Type 0
+AreSuspended sep entry served now = (drawer : DrawerState) (kept : Kept) → IsAmong now.drawers drawer → drawer.holding ≡ IsSuspended kept →
+    SuspendedBefore entry served drawer kept ⊎ ((a : Attachment) × SuspendedSince sep entry served drawer kept a)
 
 -- ---- `resume`
 
@@ -84,14 +72,14 @@ pub record OpensSlot (line : List ℕ) (words : KeyWords) (kept : Kept) (old : R
   pub opens : Opens found.m key.bytes a.slot a.keying.master
 
 -- a `suspend` among the lines let go of this master key, or of another with the same digest
-pub record HadMaster (sep : Sep) (entry : World) (served : List (List ℕ)) (said : List (Option Answer)) (now : World) (drawer : DrawerState) (kept : Kept) (master : List ℕ) : Type 0 where
+pub record HadMaster (sep : Sep) (entry : World) (served : List ServedLine) (drawer : DrawerState) (kept : Kept) (master : List ℕ) : Type 0 where
   pub a : Attachment
-  pub since : SuspendedSince sep entry served said now drawer kept a
+  pub since : SuspendedSince sep entry served drawer kept a
   pub same : (master ≡ a.keying.master) ⊎ AreCollision a.keying.master master
 
 -- A drawer that was suspended when the line came is attached behind it, with a master key that the given key opens. Its digest is the one that was kept; and where the
 -- drawer was suspended by one of the lines, it is the one that it had then, or the two collide under SHA-256.
-pub record ResumesSame (sep : Sep) (entry : World) (served : List (List ℕ)) (said : List (Option Answer)) (start : World) (line : List ℕ) (prov : Span) (words : KeyWords) (next : World) : Type 0 where
+pub record ResumesSame (sep : Sep) (entry : World) (served : List ServedLine) (start : World) (line : List ℕ) (prov : Span) (words : KeyWords) (next : World) : Type 0 where
   pub place : ℕ
   pub named : place_of (bytes_at line prov) start.drawers ≡ Some place
   pub before : DrawerState
@@ -104,25 +92,9 @@ pub record ResumesSame (sep : Sep) (entry : World) (served : List (List ℕ)) (s
   pub attached : after.holding ≡ IsAttached a
   pub opens : OpensSlot line words kept (reach before start) a
   pub digest : sha256 a.keying.master ≡ kept.mark
-  pub same : SuspendedBefore sep entry served said start before kept ⊎ HadMaster sep entry served said start before kept a.keying.master
+  pub same : SuspendedBefore entry served before kept ⊎ HadMaster sep entry served before kept a.keying.master
 
 -- a `resume` that is answered by Ok does
-abbrev pub LineResumes : Sep → World → List (List ℕ) → List (Option Answer) → World → Result (Option Command) Usage → List ℕ → Option Answer → World → Type 0
-LineResumes sep entry served said start (Ok (Some (commands.Resume prov words))) line (Some answers.Done) next = ResumesSame sep entry served said start line prov words next
-LineResumes sep entry served said start read line answer next = Unit {0}
-
--- ---- lines
-
--- what is said of the suspended drawers between two lines of a run, and of each line, behind those that were served before it
-abbrev pub EachSuspends : (sep : Sep) (entry : World) (served : List (List ℕ)) (said : List (Option Answer)) (start : World) (lines : List (List ℕ)) (answers : List (Option Answer)) (end : World) → Run sep start lines answers end → Type 0
-EachSuspends sep entry served said start [] [] end run = AreSuspended sep entry served said start
-EachSuspends sep entry served said start (line ∷ lines) (answer ∷ answers) end run =
-    AreSuspended sep entry served said start × LineResumes sep entry served said start (reading sep line) line answer run.0
-    × EachSuspends sep entry (served ++ line ∷ []) (said ++ answer ∷ []) run.0 lines answers end run.2
-EachSuspends sep entry served said start [] (answer ∷ answers) end run = Unit {0}
-EachSuspends sep entry served said start (line ∷ lines) [] end run = Unit {0}
-
--- by whatever lines a run came about
-abbrev pub KeepsSuspended : World → World → Type 0
-KeepsSuspended old new = (sep : Sep) (lines : List (List ℕ)) (answers : List (Option Answer)) (failed : ℕ) →
-    (ran : RunsAndCloses sep old lines answers failed new) → EachSuspends sep old [] [] old lines answers ran.middle ran.run
+abbrev pub LineResumes : Sep → World → List ServedLine → World → Kind → List ℕ → Option Answer → World → Type 0
+LineResumes sep entry served start (Resumes prov words) line (Some answers.Done) next = ResumesSame sep entry served start line prov words next
+LineResumes sep entry served start kind line answer next = Unit {0}

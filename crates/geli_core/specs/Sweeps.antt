@@ -1,13 +1,10 @@
 -- Sweeps one after another: the lines of a run that sweep one drawer under one keying, by the place in one file.
-use Rattle.std.specs.Prelude.{◌≡◌, ℕ, ◌-◌, ◌*◌, ◌≤◌, Bool, true, false, ◌&&◌, List, [], ◌∷◌, ◌++◌, map, sum, Option, Some, None, IsSome, Result, Ok, if◌then◌else◌, slice_get}
+use Rattle.std.specs.Prelude.{◌≡◌, ℕ, ◌-◌, ◌*◌, ◌≤◌, Bool, true, false, ◌&&◌, List, [], ◌∷◌, ◌++◌, map, sum, Option, Some, None, IsSome, if◌then◌else◌, slice_get}
 use Rattle.std.specs.List.{range_with_len}
 use Rattle.std.specs.Option.{option_map}
 use Rattle.std.specs.Str.{bytes_eq}
 use Rattle.command_words.specs.Places.{bytes_at}
 use Rattle.command_words.specs.Reading.{reading}
-use Rattle.command_words.specs.declared.commands.Command.{Command}
-use Rattle.command_words.specs.declared.commands.Command.TheVariants as commands
-use Rattle.command_words.specs.declared.commands.Usage.{Usage}
 use Rattle.command_words.specs.declared.spans.Sep.{Sep}
 use Rattle.eli_base.specs.Keying.{Keying}
 use Rattle.provider.specs.Attached.{media}
@@ -17,7 +14,8 @@ use Rattle.command_rows.specs.Answer.{Answer}
 use Rattle.command_rows.specs.Answer as answers
 use Rattle.command_rows.specs.Verifying.{ListsUnits}
 use Rattle.command_rows.specs.World.{Attachment, DrawerState, IsAttached, World, place_of}
-use Rattle.geli_core.specs.Run.{Run, RunsAndCloses}
+use Rattle.geli_core.specs.Kinds.{Kind, Sweeps, kind_read}
+use Rattle.geli_core.specs.Trace.{ServedLine}
 
 -- ---- a course of sweeps
 
@@ -51,10 +49,10 @@ pub record Asked : Type 0 where
   pub restart : Bool
 
 -- a line of the course is a `verify` that names the drawer and the file
-abbrev pub asked_by : Course → List ℕ → Result (Option Command) Usage → Option Asked
-asked_by course line (Ok (Some (commands.Verify prov file count restart))) =
+abbrev pub asked_by : Course → List ℕ → Kind → Option Asked
+asked_by course line (Sweeps prov file count restart) =
     if bytes_eq (bytes_at line prov) course.name && bytes_eq (bytes_at line file) course.file then Some (record { count = count; restart = restart }) else None
-asked_by course line read = None
+asked_by course line kind = None
 
 -- the counts of the lines that were answered that a part was swept
 abbrev pub counts_with : List ℕ → Option Asked → Option Answer → List ℕ
@@ -85,14 +83,12 @@ KeepsCourse course (Some asked) old new = (asked.restart ≡ false) × HasDrawer
 KeepsCourse course None old new = place_file course new ≡ place_file course old
 
 -- as long as the lines keep to the course, each goes on where those before it ended
-abbrev pub EachGoesOn : (course : Course) (counts : List ℕ) (sep : Sep) (start : World) (lines : List (List ℕ)) (answers : List (Option Answer)) (end : World) → Run sep start lines answers end → Type 0
-EachGoesOn course counts sep start (line ∷ lines) (answer ∷ answers) end run =
-    KeepsCourse course (asked_by course line (reading sep line)) start run.0 →
-    SweepsPart course counts (asked_by course line (reading sep line)) start answer run.0
-    × EachGoesOn course (counts_with counts (asked_by course line (reading sep line)) answer) sep run.0 lines answers end run.2
-EachGoesOn course counts sep start [] [] end run = Unit {0}
-EachGoesOn course counts sep start [] (answer ∷ answers) end run = Unit {0}
-EachGoesOn course counts sep start (line ∷ lines) [] end run = Unit {0}
+abbrev pub EachGoesOn : Course → List ℕ → Sep → World → List ServedLine → Type 0
+EachGoesOn course counts sep start [] = Unit {0}
+EachGoesOn course counts sep start (l ∷ lines) =
+    KeepsCourse course (asked_by course l.line (kind_read (reading sep l.line))) start l.next →
+    SweepsPart course counts (asked_by course l.line (kind_read (reading sep l.line))) start l.answer l.next
+    × EachGoesOn course (counts_with counts (asked_by course l.line (kind_read (reading sep l.line))) l.answer) sep l.next lines
 
 -- a course begins with a line that begins anew and is answered that a part was swept, where the cabinet tells its files
 abbrev pub BeginsCourse : Course → Option Asked → World → Option Answer → Type 0
@@ -100,17 +96,10 @@ BeginsCourse course (Some asked) old (Some (answers.Verified offsets next)) = (a
 BeginsCourse course asked old answer = ⊥
 
 -- so does each that begins in the run
-abbrev pub EachBegins : (course : Course) (sep : Sep) (start : World) (lines : List (List ℕ)) (answers : List (Option Answer)) (end : World) → Run sep start lines answers end → Type 0
-EachBegins course sep start (line ∷ lines) (answer ∷ answers) end run =
-    (BeginsCourse course (asked_by course line (reading sep line)) start answer →
-    SweepsPart course [] (asked_by course line (reading sep line)) start answer run.0
-    × EachGoesOn course (counts_with [] (asked_by course line (reading sep line)) answer) sep run.0 lines answers end run.2)
-    × EachBegins course sep run.0 lines answers end run.2
-EachBegins course sep start [] [] end run = Unit {0}
-EachBegins course sep start [] (answer ∷ answers) end run = Unit {0}
-EachBegins course sep start (line ∷ lines) [] end run = Unit {0}
-
--- by whatever lines a run came about
-abbrev pub SweepsFollow : World → World → Type 0
-SweepsFollow old new = (sep : Sep) (lines : List (List ℕ)) (answers : List (Option Answer)) (failed : ℕ) →
-    (ran : RunsAndCloses sep old lines answers failed new) → (course : Course) → EachBegins course sep old lines answers ran.middle ran.run
+abbrev pub EachBegins : Course → Sep → World → List ServedLine → Type 0
+EachBegins course sep start [] = Unit {0}
+EachBegins course sep start (l ∷ lines) =
+    (BeginsCourse course (asked_by course l.line (kind_read (reading sep l.line))) start l.answer →
+    SweepsPart course [] (asked_by course l.line (kind_read (reading sep l.line))) start l.answer l.next
+    × EachGoesOn course (counts_with [] (asked_by course l.line (kind_read (reading sep l.line))) l.answer) sep l.next lines)
+    × EachBegins course sep l.next lines

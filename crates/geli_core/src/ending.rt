@@ -8,11 +8,11 @@ ghost use Rattle.reply_text.specs.Output.{Prints};
 ghost use Rattle.shelf.specs.Shelved.{world_of};
 ghost use Rattle.geli_core.specs.Run.{answers_text, closing_answers};
 ghost use Rattle.geli_core.specs.Script.{RunsScript, script_limit};
-ghost use Rattle.geli_core.specs.Served.{ClosesAndPrints, EndsLines, FeedsUpTo, IsServed, Site, StopsWithin, site_of, status_by, whole_of};
+ghost use Rattle.geli_core.specs.Served.{ClosesAndPrints, EndsLines, FeedsUpTo, IsServed, Site, StopsWithin, Traced, site_of, status_by, whole_of};
 
 use crate::Status;
 use crate::feeding::{Ending, Stop};
-use crate::serving::{either, serve_line};
+use crate::serving::{either, serve_and_print};
 use block_traits::{Cabinet, Disk, Entropy, Sink};
 use command_words::Sep;
 use eli_base::Refusal;
@@ -77,7 +77,7 @@ fn serve_last<K: Sink, C: Cabinet, E: Entropy, D: Disk>(
     if line.is_empty() {
         return Ok(refused);
     }
-    let end = serve_line(shelf, line, Sep::Blanks, output, files, entropy)?;
+    let end = serve_and_print(shelf, line, Sep::Blanks, output, files, entropy)?;
     Ok(either(refused, end.is_refusal()))
 }
 
@@ -96,7 +96,7 @@ pub(crate) fn end_script<K: Sink, C: Cabinet, E: Entropy, D: Disk>(
     ensures { (bytes : List ℕ) (old : Site) (source after : SourceState) →
         FeedsUpTo bytes old source ending line.now refused
         (site_of (world_of D.state shelf.old (C.state files.old) (E.state entropy.old)) (K.state output.old)) after →
-        RunsScript (whole_of old source) result
+        Traced RunsScript (whole_of old source) result
         (whole_of (site_of (world_of D.state shelf.new (C.state files.new) (E.state entropy.new)) (K.state output.new)) after) }
 {
     match ending {
@@ -117,7 +117,7 @@ pub(crate) fn end_script<K: Sink, C: Cabinet, E: Entropy, D: Disk>(
 fn end_stopped<D: Disk>(shelf: &mut Drawers<D>, stop: Stop) -> Status
     ensures { (bytes : List ℕ) (old : Site) (source after : SourceState) (cabinet : CabinetState) (entropy : EntropyState) (sink : SinkState) →
         StopsWithin bytes old stop (site_of (world_of D.state shelf.old cabinet entropy) sink) → length bytes ≤ script_limit → source.left ≡ prepend_known bytes after.left →
-        RunsScript (whole_of old source) result (whole_of (site_of (world_of D.state shelf.new cabinet entropy) sink) after) }
+        Traced RunsScript (whole_of old source) result (whole_of (site_of (world_of D.state shelf.new cabinet entropy) sink) after) }
 {
     shelf.close();
     match stop {
@@ -139,7 +139,7 @@ fn end_lines<K: Sink, C: Cabinet, E: Entropy, D: Disk>(
     ensures { (bytes : List ℕ) (old : Site) (source after : SourceState) →
         FeedsUpTo bytes old source Ending.AtEnd line.now refused
         (site_of (world_of D.state shelf.old (C.state files.old) (E.state entropy.old)) (K.state output.old)) after →
-        RunsScript (whole_of old source) result
+        Traced RunsScript (whole_of old source) result
         (whole_of (site_of (world_of D.state shelf.new (C.state files.new) (E.state entropy.new)) (K.state output.new)) after) }
 {
     match serve_last(shelf, line, refused, output, files, entropy) {

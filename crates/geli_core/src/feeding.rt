@@ -5,7 +5,7 @@ ghost use Rattle.shelf.specs.Shelved.{world_of};
 ghost use Rattle.geli_core.specs.Lines.{IsOneLine};
 ghost use Rattle.geli_core.specs.Served.{FeedsByte, FeedsPiece, FeedsSource, IsServed, Site, site_of};
 
-use crate::serving::{either, serve_line};
+use crate::serving::{either, serve_and_print};
 use block_traits::{Cabinet, Disk, Entropy, Sink, Source};
 use command_words::Sep;
 use memchr::memchr;
@@ -63,7 +63,7 @@ pub(crate) fn feed_byte<K: Sink, C: Cabinet, E: Entropy, D: Disk>(
         (site_of (world_of D.state shelf.new (C.state files.new) (E.state entropy.new)) (K.state output.new)) }
 {
     if byte == b'\n' {
-        let served = serve_line(shelf, line.as_slice(), Sep::Blanks, output, files, entropy);
+        let served = serve_and_print(shelf, line.as_slice(), Sep::Blanks, output, files, entropy);
         let end = match served {
             Ok(end) => end,
             Err(_) => return Err(Stop::Unprinted),

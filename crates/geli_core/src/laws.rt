@@ -3,8 +3,13 @@ ghost use Rattle.std.specs.Prelude.{◌≡◌, ℕ, List, Option, Some, slice_ge
 ghost use Rattle.geli_core.specs.Laws.{LineKeepsLaws};
 ghost use Rattle.command_words.specs.Reading.{reading};
 ghost use Rattle.command_words.specs.declared.spans.Sep.{Sep};
-ghost use Rattle.geli_core.specs.Histories.{RunsAt};
-ghost use Rattle.geli_core.specs.Run.{Run, ServesLine};
+ghost use Rattle.geli_core.specs.Complete.{Completes};
+ghost use Rattle.geli_core.specs.Histories.{KeepsDrawers, RunsAt};
+ghost use Rattle.geli_core.specs.Lawful.{RunsLawfully};
+ghost use Rattle.geli_core.specs.Run.{ServesLine};
+ghost use Rattle.geli_core.specs.Script.{Ends, HasCause, Whole};
+ghost use Rattle.geli_core.specs.Trace.{Run, ServedLine};
+ghost use Rattle.geli_core.specs.declared.status.Status.{Status};
 ghost use Rattle.command_rows.specs.Answer.{Answer};
 ghost use Rattle.command_rows.specs.World.{DrawerState, World};
 
@@ -12,8 +17,8 @@ ghost use Rattle.command_rows.specs.World.{DrawerState, World};
 /// events of the lines that name it, one after the other, each line's being those of its row. A drawer that no line
 /// names is there as it was, with what is attached on it.
 pub fn a_run_logs_the_events_of_its_lines()
-    ensures { (sep : Sep) (lines : List (List ℕ)) (answers : List (Option Answer)) (old new : World) (before : DrawerState) (place : ℕ) →
-        Run sep old lines answers new → slice_get old.drawers place ≡ Some before → RunsAt sep lines answers before new.drawers }
+    ensures { (sep : Sep) (lines : List ServedLine) (old new : World) (before : DrawerState) (place : ℕ) →
+        Run sep old lines new → slice_get old.drawers place ≡ Some before → RunsAt sep lines before new.drawers }
 {}
 
 /// What holds of each line, whatever its row: a refusal of a command has its cause, as `a_refusal_has_its_cause` of the shelf says. Where
@@ -27,4 +32,30 @@ pub fn a_run_logs_the_events_of_its_lines()
 pub fn a_line_keeps_the_laws()
     ensures { (sep : Sep) (line : List ℕ) (old : World) (answer : Option Answer) (new : World) →
         ServesLine sep line old answer new → LineKeepsLaws (reading sep line) line old answer new }
+{}
+
+/// A run whose status says that it broke off has a cause of that: where no count of faults rose, and the input is within its limits, it is gone
+/// through to its end.
+pub fn a_run_breaks_off_for_a_cause()
+    ensures { (words : List (List ℕ)) (old new : Whole) (status : Status) → RunsLawfully words old status new → HasCause status old new }
+{}
+
+/// How a run may end, by what the words ask for.
+pub fn a_run_ends_by_its_words()
+    ensures { (words : List (List ℕ)) (old new : Whole) (status : Status) → RunsLawfully words old status new → Ends words status }
+{}
+
+/// A script or one command that is served goes to its end where the sink didn't fail, nor the source of a script, which gave fewer than 2^40 bytes
+/// and no line of more than 300,000: all is served and printed, and the status is Done or SomeRefused, by the replies. Or there was no memory, and
+/// nothing was done.
+pub fn a_run_without_failures_goes_to_its_end()
+    ensures { (words : List (List ℕ)) (old new : Whole) (status : Status) (run : RunsLawfully words old status new) →
+        Completes words old run.trace status new }
+{}
+
+/// Whatever the status, each drawer is there as before, in order, and the history of its disk only grew; one isn't there only where a line that
+/// was served took it out.
+pub fn a_run_keeps_its_drawers()
+    ensures { (words : List (List ℕ)) (old new : Whole) (status : Status) (run : RunsLawfully words old status new) →
+        KeepsDrawers old.world run.trace new.world }
 {}

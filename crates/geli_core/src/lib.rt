@@ -18,7 +18,11 @@ pub use bounds::{
     device_faults_are_counted_until_eject, outside_failures_are_counted,
 };
 pub use images::run_images;
-pub use laws::{a_line_keeps_the_laws, a_run_logs_the_events_of_its_lines};
+pub use laws::{
+    a_line_keeps_the_laws, a_run_breaks_off_for_a_cause, a_run_ends_by_its_words,
+    a_run_keeps_its_drawers, a_run_logs_the_events_of_its_lines,
+    a_run_without_failures_goes_to_its_end,
+};
 pub use line::serve_line;
 pub use requests::{
     flushes_cover_reaped_writes, missing_requests_are_refused, requests_alone_are_lines,

@@ -33,5 +33,5 @@ pub fn serve_line<K: Sink, C: Cabinet, E: Entropy, D: Disk>(
         (world_of D.state shelf.new (C.state files.new) (E.state entropy.new))
         (K.state output.new) }
 {
-    serving::serve_line(shelf, line, sep, output, files, entropy)
+    serving::serve_and_print(shelf, line, sep, output, files, entropy)
 }

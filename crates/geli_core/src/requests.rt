@@ -1,5 +1,5 @@
 // What holds of requests in flight over lines.
-ghost use Rattle.std.specs.Prelude.{◌≡◌, ◌↔◌, ℕ, List, Ok, Option, Result, Some};
+ghost use Rattle.std.specs.Prelude.{◌≡◌, ◌↔◌, ◌∷◌, ℕ, List, Ok, Option, Result, Some};
 ghost use Rattle.command_words.specs.Reading.{reading};
 ghost use Rattle.command_words.specs.declared.commands.Command.TheVariants.{Reap, Step};
 ghost use Rattle.command_words.specs.declared.commands.JobWords.{JobWords};
@@ -11,15 +11,15 @@ ghost use Rattle.command_rows.specs.World.{Attachment, DrawerState, HoldKeyings,
 ghost use Rattle.eli_base.specs.declared.refusals.Refusal.{Refusal};
 ghost use Rattle.eli_base.specs.declared.refusals.Refusal.TheVariants.{NoRequest};
 ghost use Rattle.geli_core.specs.Requests.{CoversReaped, DoesAsLine, HaveNoRequests, HoldOwn, HoldsOwn, IsDoneAlone, LacksTag};
-ghost use Rattle.geli_core.specs.Run.{Run, ServesLine};
+ghost use Rattle.geli_core.specs.Trace.{Run, ServedLine};
 ghost use Rattle.range_keys.specs.Ring.{IsKeying};
 
 /// The requests that are open on a drawer of a run are of its provider, as it is, where none was open on any drawer at first: so on each
 /// shelf to which its disks were added. What a line asks for is made of the provider that is attached, which stays as it is while they
 /// are open.
 pub fn requests_are_of_their_providers()
-    ensures { (sep : Sep) (lines : List (List ℕ)) (answers : List (Option Answer)) (old new : World) →
-        Run sep old lines answers new → HoldKeyings old.drawers → HaveNoRequests old.drawers → HoldOwn new.drawers }
+    ensures { (sep : Sep) (lines : List ServedLine) (old new : World) →
+        Run sep old lines new → HoldKeyings old.drawers → HaveNoRequests old.drawers → HoldOwn new.drawers }
 {}
 
 /// Of an attached drawer whose requests are of its provider, `step` and `reap` are refused with `NoRequest` exactly where no open request
@@ -36,11 +36,10 @@ pub fn missing_requests_are_refused()
 /// A flush covers each write that was reaped before it was submitted, whatever lines come between: after the lines from the `reap` on, a flush
 /// stands behind each unit of the write. The request was submitted in the run, on a drawer whose disk tells its content.
 pub fn flushes_cover_reaped_writes()
-    ensures { (sep : Sep) (served : List (List ℕ)) (said : List (Option Answer)) (entry start next : World) (line : List ℕ) (prov : Span) (tag : ℕ)
-        (rest : List (List ℕ)) (replies : List (Option Answer)) (end : World) (drawer : DrawerState) →
-        Run sep entry served said start → HoldKeyings entry.drawers → reading sep line ≡ Ok (Some (Reap prov tag)) →
-        ServesLine sep line start (Some Done) next → Run sep next rest replies end → IsAmong end.drawers drawer →
-        CoversReaped sep entry served said start line prov tag rest replies end drawer }
+    ensures { (sep : Sep) (served : List ServedLine) (entry start : World) (reap : ServedLine) (prov : Span) (tag : ℕ)
+        (rest : List ServedLine) (end : World) (drawer : DrawerState) →
+        Run sep entry served start → HoldKeyings entry.drawers → reading sep reap.line ≡ Ok (Some (Reap prov tag)) → reap.answer ≡ Some Done →
+        Run sep start (reap ∷ rest) end → IsAmong end.drawers drawer → CoversReaped sep entry served start reap prov tag rest drawer }
 {}
 
 /// A request that is submitted, done step by step and reaped, with no other line between and no step that the disk failed, does and answers

@@ -69,7 +69,7 @@ fn print<K: Sink>(reply: &Reply, payload: &[u8], output: &mut K) -> Result<LineE
 }
 
 /// Reads, serves and prints one line of at most 300,000 bytes.
-pub(crate) fn serve_line<K: Sink, C: Cabinet, E: Entropy, D: Disk>(
+pub(crate) fn serve_and_print<K: Sink, C: Cabinet, E: Entropy, D: Disk>(
     shelf: &mut Drawers<D>,
     line: &[u8],
     sep: Sep,

@@ -1,12 +1,14 @@
 // What a run leaves if power fails at any moment of it.
-ghost use Rattle.std.specs.Prelude.{ℕ, List, IfSome, Option};
+ghost use Rattle.std.specs.Prelude.{ℕ, List, IfSome};
 ghost use Rattle.block_traits.specs.Content.{Content};
 ghost use Rattle.command_words.specs.declared.spans.Sep.{Sep};
 ghost use Rattle.geli_core.specs.Headline.{ReadsAfterCrashes};
-ghost use Rattle.geli_core.specs.Run.{Run, RunsAndCloses};
-ghost use Rattle.geli_core.specs.Survivors.{EachSurvives, EachSurvivesClosing, EnduresCrashes, SurvivesCrashes};
+ghost use Rattle.geli_core.specs.Lawful.{RunsLawfully};
+ghost use Rattle.geli_core.specs.Script.{Whole};
+ghost use Rattle.geli_core.specs.Survivors.{EachSurvives, EachSurvivesRun, EnduresCrashes};
+ghost use Rattle.geli_core.specs.Trace.{IsTrace, Run, ServedLine, Trace};
+ghost use Rattle.geli_core.specs.declared.status.Status.{Status};
 ghost use Rattle.readings.specs.Steps.{Step};
-ghost use Rattle.command_rows.specs.Answer.{Answer};
 ghost use Rattle.command_rows.specs.World.{DrawerState, HoldKeyings, IsAmong, World};
 
 use block_traits::Disk;
@@ -14,8 +16,8 @@ use block_traits::Disk;
 /// What is attached after some lines has a keying that a provider may have, where that was so before. It is so of the drawers of every shelf, as
 /// the law `Drawers::hold_keyings` says; these laws are about any two worlds, and so must say it.
 pub fn lines_keep_keyings()
-    ensures { (sep : Sep) (lines : List (List ℕ)) (answers : List (Option Answer)) (old new : World) →
-        Run sep old lines answers new → HoldKeyings old.drawers → HoldKeyings new.drawers }
+    ensures { (sep : Sep) (lines : List ServedLine) (old new : World) →
+        Run sep old lines new → HoldKeyings old.drawers → HoldKeyings new.drawers }
 {}
 
 /// Each drawer that is there after some lines was there before, and did the steps of its lines: a `write` placed the units of its
@@ -24,14 +26,13 @@ pub fn lines_keep_keyings()
 /// fails at any moment of the lines, each image that is left reads as `Endures` promises. Of a drawer that a line takes away the
 /// same holds after the lines before that one.
 pub fn lines_survive_crashes()
-    ensures { (sep : Sep) (lines : List (List ℕ)) (answers : List (Option Answer)) (old new : World) →
-        Run sep old lines answers new → HoldKeyings old.drawers → EachSurvives sep lines answers old new }
+    ensures { (sep : Sep) (lines : List ServedLine) (old new : World) →
+        Run sep old lines new → HoldKeyings old.drawers → EachSurvives sep old lines new }
 {}
 
 /// The same of each drawer that is there after the drawers were closed, whose last step is the flush of that, or none.
 pub fn runs_survive_crashes()
-    ensures { (sep : Sep) (lines : List (List ℕ)) (answers : List (Option Answer)) (failed : ℕ) (old new : World) →
-        RunsAndCloses sep old lines answers failed new → HoldKeyings old.drawers → EachSurvivesClosing sep lines answers old new }
+    ensures { (entry exit : World) (trace : Trace) → IsTrace entry trace exit → HoldKeyings entry.drawers → EachSurvivesRun entry trace exit }
 {}
 
 /// The headline as one sentence. Power fails at any moment of a run, before or within any write of a device sector; the image that is left of a
@@ -39,11 +40,14 @@ pub fn runs_survive_crashes()
 /// and the master key of that slot, which is one that a provider may have, and each read that it answers is, logical sector by logical sector, what the
 /// writings say that the image chose from the cells of the run; or the range passes the end, or the disk failed.
 ///
-/// Clause `steps` says it of any steps that endure crashes, and `runs` of those of a run by what `geli_main`, `run` and `run_images` ensure of it.
+/// Clause `steps` says it of any steps that endure crashes; `lines` of those of a drawer that is there behind some lines, by what is said of it there; and
+/// `runs` of those at exit, by what `geli_main`, `run` and `run_images` ensure of a run.
 pub fn crashed_runs_attach_and_read<D: Disk>()
     ensures steps { (steps : List Step) (c : Content) → EnduresCrashes steps c → ReadsAfterCrashes D.state steps c }
-    ensures runs { (old new : World) (survives : SurvivesCrashes old new) (sep : Sep) (lines : List (List ℕ)) (answers : List (Option Answer)) (failed : ℕ) →
-        (ran : RunsAndCloses sep old lines answers failed new) (drawer : DrawerState) (among : IsAmong new.drawers drawer) →
-        let left = survives.each sep lines answers failed ran drawer among in
-        IfSome left.before.disk.content (ReadsAfterCrashes D.state left.play.steps) }
+    ensures lines { (sep : Sep) (entry now : World) (served : List ServedLine) (survive : EachSurvives sep entry served now) (drawer : DrawerState) →
+        (among : IsAmong now.drawers drawer) →
+        let left = survive drawer among in IfSome left.before.disk.content (ReadsAfterCrashes D.state left.play.steps) }
+    ensures runs { (words : List (List ℕ)) (old new : Whole) (status : Status) (run : RunsLawfully words old status new) (drawer : DrawerState) →
+        (among : IsAmong new.world.drawers drawer) →
+        let left = run.exit drawer among in IfSome left.before.disk.content (ReadsAfterCrashes D.state left.play.steps) }
 {}

@@ -5,13 +5,13 @@ ghost use Rattle.command_words.specs.Images.{line_of, script_images};
 ghost use Rattle.shelf.specs.Shelved.{world_of};
 ghost use Rattle.geli_core.specs.Lawful.{RunsLawfully};
 ghost use Rattle.geli_core.specs.Script.{PrintsUsage, RunsLine, RunsScript};
-ghost use Rattle.geli_core.specs.Served.{RunsUnless, site_of, whole_of};
+ghost use Rattle.geli_core.specs.Served.{RunsUnless, Traced, site_of, whole_of};
 ghost use Rattle.block_traits.specs.Streams.{SourceState};
 
 use crate::Status;
 use crate::ending::{close_and_print, end_script};
 use crate::feeding::{LINE_LIMIT, feed_source};
-use crate::serving::serve_line;
+use crate::serving::serve_and_print;
 use block_traits::{Cabinet, Disk, Entropy, Sink, Source};
 use command_words::{Sep, command_in, joined, script_images};
 use reply_text::write_text;
@@ -57,8 +57,9 @@ pub fn run<S: Source, K: Sink, C: Cabinet, E: Entropy, D: Disk>(
         (whole_of (site_of (world_of D.state shelf.new (C.state files.new) (E.state entropy.new)) (K.state output.new)) (S.state input.new)) }
     ensures unread { script_images (map string_bytes words.now) ≡ None → input.new ≡ input.old }
 {
-    // What is said of crashes rests on what is attached at entry.
+    // What is said of crashes rests on what is attached at entry, and what is said of counts on names that differ.
     shelf.hold_keyings();
+    shelf.names_differ();
     match script_images(words) {
         Some(_) => run_script(alloc, input, output, files, entropy, shelf),
         None => run_command(alloc, words, output, files, entropy, shelf),
@@ -74,7 +75,7 @@ fn run_script<S: Source, K: Sink, C: Cabinet, E: Entropy, D: Disk>(
     entropy: &mut E,
     shelf: &mut Drawers<D>,
 ) -> Status
-    ensures { RunsUnless RunsScript
+    ensures { RunsUnless (Traced RunsScript)
         (whole_of (site_of (world_of D.state shelf.old (C.state files.old) (E.state entropy.old)) (K.state output.old)) (S.state input.old)) result
         (whole_of (site_of (world_of D.state shelf.new (C.state files.new) (E.state entropy.new)) (K.state output.new)) (S.state input.new)) }
 {
@@ -111,7 +112,7 @@ fn run_command<K: Sink, C: Cabinet, E: Entropy, D: Disk>(
     entropy: &mut E,
     shelf: &mut Drawers<D>,
 ) -> Status
-    ensures { (source : SourceState) → RunsUnless (RunsLine (line_of (map string_bytes words.now)) (command_in (line_of (map string_bytes words.now))))
+    ensures { (source : SourceState) → RunsUnless (Traced (RunsLine (line_of (map string_bytes words.now)) (command_in (line_of (map string_bytes words.now)))))
         (whole_of (site_of (world_of D.state shelf.old (C.state files.old) (E.state entropy.old)) (K.state output.old)) source) result
         (whole_of (site_of (world_of D.state shelf.new (C.state files.new) (E.state entropy.new)) (K.state output.new)) source) }
 {
@@ -121,7 +122,7 @@ fn run_command<K: Sink, C: Cabinet, E: Entropy, D: Disk>(
     let Some(_command) = command_in(&line) else {
         return print_usage(output);
     };
-    match serve_line(shelf, &line, Sep::Zeros, output, files, entropy) {
+    match serve_and_print(shelf, &line, Sep::Zeros, output, files, entropy) {
         Ok(end) => close_and_print(shelf, end.is_refusal(), output),
         Err(_) => {
             shelf.close();

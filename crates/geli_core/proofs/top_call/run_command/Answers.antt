@@ -1,12 +1,17 @@
-use Rattle.std.proofs.Common.{refl, sym}
-use Rattle.geli_core.proofs.Commands.{broke_command, ran_command}
+use Rattle.std.proofs.Common.{map, refl, string_bytes, sym}
+use Rattle.geli_core.proofs.Commands.{broke_command, declined, ran_command}
 use Rattle.geli_core.proofs.top_call.run_command.Goals as goal
 
-pub returns-in-Ok-serve_line : goal.returns-in-Ok-serve_line
-returns-in-Ok-serve_line g c =
+pub returns-in_default-command_in : goal.returns-in_default-command_in
+returns-in_default-command_in g c =
+    let said = rw (c.deref.ensures.value, c.in-Ok.ensures) at c.in_default-command_in.ensures.said in
+    λ source. declined (map string_bytes c.args.words.now) _ _ source c.print_usage.result (sym said) refl c.print_usage.ensures
+
+pub returns-in-Ok-serve_and_print : goal.returns-in-Ok-serve_and_print
+returns-in-Ok-serve_and_print g c =
     let said = rw (c.deref.ensures.value, c.in-Ok.ensures) at c.in-Some.ensures.said in
-    let served = rw (c.deref-2.ensures.value, c.in-Ok.ensures) at c.in-Ok-serve_line.ensures in
-    λ source. ran_command _ c.in-Some._command _ _ _ source c.in-Ok-serve_line.end c.is_refusal.result c.close_and_print.result (sym said) served c.is_refusal.ensures (c.close_and_print.ensures _ _)
+    let served = rw (c.deref-2.ensures.value, c.in-Ok.ensures) at c.in-Ok-serve_and_print.ensures in
+    λ source. ran_command _ c.in-Some._command _ _ _ source c.in-Ok-serve_and_print.end c.is_refusal.result c.close_and_print.result (sym said) served c.is_refusal.ensures (c.close_and_print.ensures _ _)
 
 pub returns : goal.returns
 returns g c =

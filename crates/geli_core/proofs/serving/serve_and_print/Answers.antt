@@ -1,5 +1,5 @@
 use Rattle.geli_core.proofs.Running.{refuses_words, turns_command}
-use Rattle.geli_core.proofs.serving.serve_line.Goals as goal
+use Rattle.geli_core.proofs.serving.serve_and_print.Goals as goal
 
 pub returns-in-Ok-Some : goal.returns-in-Ok-Some
 returns-in-Ok-Some g c =

@@ -1,10 +1,11 @@
 -- Vectors with four lanes, lane by lane.
-use Rattle.std.proofs.Common.{◌≡◌, ℕ, zero, suc, ◌+◌, ◌-◌, ◌*◌, ◌/◌, ◌%◌, ◌^◌, ◌<◌, List, [], ◌∷◌, length, map, min, slice_index, bit_and, bit_or, bit_xor, arith, refl}
+use Rattle.std.proofs.Common.{◌≡◌, ℕ, zero, suc, ◌+◌, ◌-◌, ◌*◌, ◌/◌, ◌%◌, ◌^◌, ◌<◌, List, [], ◌∷◌, length, map, min, slice_index, slice_index_or, bit_and, bit_or, bit_xor, arith, refl}
 use Rattle.std.proofs.lemmas.Nat.Bits.{bit_at-lt, bit_at_and, bit_at_xor, same_from_bits}
 use Rattle.std.proofs.lemmas.Simd.{Each1-get_or}
 use Rattle.std.specs.Int.{w32, bit_not, rotate_right}
 use Rattle.std.specs.Simd.Lanes.{zip2, Each1}
 use Rattle.sha2.specs.Sha256.{ch, maj}
+use Rattle.sha_lanes.specs.Lanes.{lane}
 use mir.Val.{Fits}
 
 -- what holds of each of the four lanes
@@ -103,3 +104,25 @@ sum_shifted_lanes k =
     four_words (λ x. (y : List ℕ) → length y ≡ 4 → IsSumShifted k x y) (λ x0 x1 x2 x3.
     four_words (IsSumShifted k (x0 ∷ x1 ∷ x2 ∷ x3 ∷ [])) (λ y0 y1 y2 y3.
     below_four _ refl refl refl refl))
+
+-- word i of lane j
+pub lane_word : (x : List (List ℕ)) (j i : ℕ) → slice_index (lane j x) i ≡ slice_index (slice_index_or x i []) j
+lane_word [] j i = refl
+lane_word (v ∷ x) j zero = refl
+lane_word (v ∷ x) j (suc i) = lane_word x j i
+
+-- a lane of eight vectors
+pub lane_of_eight : (x : List (List ℕ)) (j : ℕ) → length x ≡ 8
+    → slice_index (slice_index_or x 0 []) j ∷ slice_index (slice_index_or x 1 []) j ∷ slice_index (slice_index_or x 2 []) j ∷ slice_index (slice_index_or x 3 []) j
+    ∷ slice_index (slice_index_or x 4 []) j ∷ slice_index (slice_index_or x 5 []) j ∷ slice_index (slice_index_or x 6 []) j ∷ slice_index (slice_index_or x 7 []) j ∷ []
+    ≡ lane j x
+lane_of_eight (a ∷ b ∷ c ∷ d ∷ e ∷ f ∷ g ∷ h ∷ []) j long = refl
+lane_of_eight [] j long = absurd (omega arith)
+lane_of_eight (a ∷ []) j long = absurd (omega arith)
+lane_of_eight (a ∷ b ∷ []) j long = absurd (omega arith)
+lane_of_eight (a ∷ b ∷ c ∷ []) j long = absurd (omega arith)
+lane_of_eight (a ∷ b ∷ c ∷ d ∷ []) j long = absurd (omega arith)
+lane_of_eight (a ∷ b ∷ c ∷ d ∷ e ∷ []) j long = absurd (omega arith)
+lane_of_eight (a ∷ b ∷ c ∷ d ∷ e ∷ f ∷ []) j long = absurd (omega arith)
+lane_of_eight (a ∷ b ∷ c ∷ d ∷ e ∷ f ∷ g ∷ []) j long = absurd (omega arith)
+lane_of_eight (a ∷ b ∷ c ∷ d ∷ e ∷ f ∷ g ∷ h ∷ k ∷ x) j long = absurd (omega arith)

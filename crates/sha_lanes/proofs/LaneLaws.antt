@@ -5,7 +5,8 @@ use Rattle.std.proofs.lemmas.Simd.{Each1-get_or}
 use Rattle.std.specs.Int.{w32, bit_not, rotate_right}
 use Rattle.std.specs.Simd.Lanes.{zip2, Each1}
 use Rattle.sha2.specs.Sha256.{ch, maj}
-use Rattle.sha_lanes.specs.Lanes.{lane}
+use Rattle.std.specs.Borrow.{Bor}
+use Rattle.sha_lanes.specs.Lanes.{bytes_of, lane}
 use mir.Val.{Fits}
 
 -- what holds of each of the four lanes
@@ -126,3 +127,13 @@ lane_of_eight (a ∷ b ∷ c ∷ d ∷ e ∷ []) j long = absurd (omega arith)
 lane_of_eight (a ∷ b ∷ c ∷ d ∷ e ∷ f ∷ []) j long = absurd (omega arith)
 lane_of_eight (a ∷ b ∷ c ∷ d ∷ e ∷ f ∷ g ∷ []) j long = absurd (omega arith)
 lane_of_eight (a ∷ b ∷ c ∷ d ∷ e ∷ f ∷ g ∷ h ∷ k ∷ x) j long = absurd (omega arith)
+
+-- what stands for a slice that isn't there
+abbrev pub nothing : Bor (List ℕ)
+nothing = record { ref_ptr = (0, 0); now = [] }
+
+-- the bytes of slice i, by the slice
+pub bytes_of_is : (slices : List (Bor (List ℕ))) (i : ℕ) → bytes_of i slices ≡ (slice_index_or slices i nothing).now
+bytes_of_is [] i = refl
+bytes_of_is (s ∷ slices) zero = refl
+bytes_of_is (s ∷ slices) (suc i) = bytes_of_is slices i

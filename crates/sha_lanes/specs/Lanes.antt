@@ -6,10 +6,10 @@ use Rattle.std.specs.Borrow.{Bor}
 abbrev pub lane : ℕ → List (List ℕ) → List ℕ
 lane j vectors = map (λ v. slice_index v j) vectors
 
--- the bytes of message j
-abbrev pub message : ℕ → List (Bor (List ℕ)) → List ℕ
-message j messages = slice_index_or (map (λ m. m.now) messages) j []
+-- the bytes of slice j
+abbrev pub bytes_of : ℕ → List (Bor (List ℕ)) → List ℕ
+bytes_of j slices = slice_index_or (map (λ s. s.now) slices) j []
 
--- each of the four messages has this length
-abbrev pub AreLong : ℕ → List (Bor (List ℕ)) → Type 0
-AreLong n messages = (j : ℕ) → j < 4 → length (message j messages) ≡ n
+-- the four slices have the same length
+abbrev pub AreEqual : List (Bor (List ℕ)) → Type 0
+AreEqual slices = (j : ℕ) → j < 4 → length (bytes_of j slices) ≡ length (bytes_of 0 slices)

@@ -6,7 +6,7 @@
 ghost use Rattle.std.specs.Prelude.{◌≡◌, ◌<◌, ◌++◌, ℕ, [], length, slice_index_or};
 ghost use Rattle.sha2.specs.Sha256.{sha256};
 ghost use Rattle.hmac_kdf.specs.Hmac.{hmac256, key_block, masked};
-ghost use Rattle.sha_lanes.specs.Lanes.{AreLong, message};
+ghost use Rattle.sha_lanes.specs.Lanes.{AreEqual, bytes_of};
 
 mod blocks;
 mod constants;
@@ -26,28 +26,28 @@ const OUTER_PAD: u8 = 0x5c;
 
 // The hashes of the four messages, each behind the block of its key with `pad` added.
 fn hashes_under(keys: &[[u8; 32]; 4], pad: u8, messages: [&[u8]; 4]) -> [[u8; 32]; 4]
-    requires { AreLong (length (message 0 messages)) messages }
+    requires { AreEqual messages }
     ensures { (j : ℕ) → j < 4 → slice_index_or result j []
-        ≡ sha256 (masked pad (key_block sha256 64 (slice_index_or keys.now j [])) ++ message j messages.entry) }
+        ≡ sha256 (masked pad (key_block sha256 64 (slice_index_or keys.now j [])) ++ bytes_of j messages.entry) }
 {
     let a = masked_key(&keys[0], pad);
     let b = masked_key(&keys[1], pad);
     let c = masked_key(&keys[2], pad);
     let d = masked_key(&keys[3], pad);
-    let keyed = compress(initial_states(), [&a, &b, &c, &d]);
+    let keyed = compress(initial_states(), [&a[..64], &b[..64], &c[..64], &d[..64]], 0);
     digests(&finished(keyed, messages))
 }
 
 /// The HMAC-SHA-256 codes (RFC 2104) of four messages of the same length, each under its own key of 32 bytes. The codes
 /// have 32 bytes each.
 pub fn codes_of_four(keys: &[[u8; 32]; 4], messages: [&[u8]; 4]) -> [[u8; 32]; 4]
-    requires { AreLong (length (message 0 messages)) messages }
-    ensures { (j : ℕ) → j < 4 → slice_index_or result j [] ≡ hmac256 (slice_index_or keys.now j []) (message j messages.entry) }
+    requires { AreEqual messages }
+    ensures { (j : ℕ) → j < 4 → slice_index_or result j [] ≡ hmac256 (slice_index_or keys.now j []) (bytes_of j messages.entry) }
 {
-    let inner = hashes_under(keys, INNER_PAD, messages);
+    let [a, b, c, d] = hashes_under(keys, INNER_PAD, messages);
     hashes_under(
         keys,
         OUTER_PAD,
-        [&inner[0], &inner[1], &inner[2], &inner[3]],
+        [&a[..32], &b[..32], &c[..32], &d[..32]],
     )
 }

@@ -15,6 +15,6 @@ returns c =
         c.add-recent.ensures j h,
         c.small_sigma1.ensures j h,
       )
-      (simp lane_word);
+          (simp lane_word);
       window = λ j h. map-set (λ (v : List ℕ). slice_index v j) c.args.w.now c.args.place c.add-word.result;
     }

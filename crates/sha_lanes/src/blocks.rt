@@ -57,7 +57,8 @@ fn tail_of(message: &[u8]) -> [u8; 128]
 
 /// The last blocks of four messages, each of which stands behind a block of 64 bytes.
 pub fn tails_of(messages: [&[u8]; 4]) -> [[u8; 128]; 4]
-    ensures { (j : ℕ) → j < 4 → take (tail_size (length (bytes_of j messages.entry))) (slice_index_or result j [])
+    ensures long { (j : ℕ) → j < 4 → length (slice_index_or result j []) ≡ 128 }
+    ensures tails { (j : ℕ) → j < 4 → take (tail_size (length (bytes_of j messages.entry))) (slice_index_or result j [])
         ≡ drop (length (bytes_of j messages.entry) / 64 * 64) (bytes_of j messages.entry)
         ++ padding (64 + length (bytes_of j messages.entry)) }
 {

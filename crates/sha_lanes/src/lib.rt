@@ -34,7 +34,7 @@ fn hashes_under(keys: &[[u8; 32]; 4], pad: u8, messages: [&[u8]; 4]) -> [[u8; 32
     let b = masked_key(&keys[1], pad);
     let c = masked_key(&keys[2], pad);
     let d = masked_key(&keys[3], pad);
-    let keyed = compress(initial_states(), [&a[..64], &b[..64], &c[..64], &d[..64]], 0);
+    let keyed = compress(initial_states(), [&a, &b, &c, &d], 0);
     digests(&finished(keyed, messages))
 }
 
@@ -45,9 +45,5 @@ pub fn codes_of_four(keys: &[[u8; 32]; 4], messages: [&[u8]; 4]) -> [[u8; 32]; 4
     ensures { (j : ℕ) → j < 4 → slice_index_or result j [] ≡ hmac256 (slice_index_or keys.now j []) (bytes_of j messages.entry) }
 {
     let [a, b, c, d] = hashes_under(keys, INNER_PAD, messages);
-    hashes_under(
-        keys,
-        OUTER_PAD,
-        [&a[..32], &b[..32], &c[..32], &d[..32]],
-    )
+    hashes_under(keys, OUTER_PAD, [&a, &b, &c, &d])
 }

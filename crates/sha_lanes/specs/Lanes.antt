@@ -11,5 +11,5 @@ abbrev pub bytes_of : ℕ → List (Bor (List ℕ)) → List ℕ
 bytes_of j slices = slice_index_or (map (λ s. s.now) slices) j []
 
 -- the four slices have the same length
-abbrev pub AreEqual : List (Bor (List ℕ)) → Type 0
-AreEqual slices = (j : ℕ) → j < 4 → length (bytes_of j slices) ≡ length (bytes_of 0 slices)
+abbrev pub HaveOneLength : List (Bor (List ℕ)) → Type 0
+HaveOneLength slices = (j : ℕ) → j < 4 → length (bytes_of j slices) ≡ length (bytes_of 0 slices)

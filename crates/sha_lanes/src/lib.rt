@@ -6,7 +6,7 @@
 ghost use Rattle.std.specs.Prelude.{◌≡◌, ◌<◌, ◌++◌, ℕ, [], length, slice_index_or};
 ghost use Rattle.sha2.specs.Sha256.{sha256};
 ghost use Rattle.hmac_kdf.specs.Hmac.{hmac256, key_block, masked};
-ghost use Rattle.sha_lanes.specs.Lanes.{AreEqual, bytes_of};
+ghost use Rattle.sha_lanes.specs.Lanes.{HaveOneLength, bytes_of};
 
 mod blocks;
 mod constants;
@@ -26,7 +26,7 @@ const OUTER_PAD: u8 = 0x5c;
 
 // The hashes of the four messages, each behind the block of its key with `pad` added.
 fn hashes_under(keys: &[[u8; 32]; 4], pad: u8, messages: [&[u8]; 4]) -> [[u8; 32]; 4]
-    requires { AreEqual messages }
+    requires { HaveOneLength messages }
     ensures { (j : ℕ) → j < 4 → slice_index_or result j []
         ≡ sha256 (masked pad (key_block sha256 64 (slice_index_or keys.now j [])) ++ bytes_of j messages.entry) }
 {
@@ -41,7 +41,7 @@ fn hashes_under(keys: &[[u8; 32]; 4], pad: u8, messages: [&[u8]; 4]) -> [[u8; 32
 /// The HMAC-SHA-256 codes (RFC 2104) of four messages of the same length, each under its own key of 32 bytes. The codes
 /// have 32 bytes each.
 pub fn codes_of_four(keys: &[[u8; 32]; 4], messages: [&[u8]; 4]) -> [[u8; 32]; 4]
-    requires { AreEqual messages }
+    requires { HaveOneLength messages }
     ensures { (j : ℕ) → j < 4 → slice_index_or result j [] ≡ hmac256 (slice_index_or keys.now j []) (bytes_of j messages.entry) }
 {
     let [a, b, c, d] = hashes_under(keys, INNER_PAD, messages);

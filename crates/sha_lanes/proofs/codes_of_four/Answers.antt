@@ -1,7 +1,6 @@
 use Rattle.std.proofs.Common.{◌≡◌, ℕ, List, [], ◌∷◌, ◌++◌, slice_index_or, ap, refl, ◌∙◌}
 use Rattle.sha2.specs.Sha256.{sha256}
 use Rattle.hmac_kdf.specs.Hmac.{hmac256, key_block, masked}
-use Rattle.sha_lanes.specs.Lanes.{bytes_of}
 use Rattle.sha_lanes.proofs.LaneLaws.{below_four}
 use Rattle.sha_lanes.proofs.codes_of_four.Goals as goal
 

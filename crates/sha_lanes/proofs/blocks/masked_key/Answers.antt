@@ -1,4 +1,4 @@
-use Rattle.std.proofs.Common.{rules, ◌≡◌, ℕ, ◌∷◌, [], ◌++◌, List, length, map, bit_xor, arith, refl, ap, ◌∙◌}
+use Rattle.std.proofs.Common.{rules, ◌≡◌, length, arith, refl, ◌∙◌}
 use Rattle.std.proofs.lemmas.List.{drop-set-lt, map-append, take_all, take_more, take_more_set}
 use Rattle.sha_lanes.proofs.BlockLaws.{masked_key_is}
 use Rattle.sha_lanes.proofs.blocks.masked_key.Goals as goal

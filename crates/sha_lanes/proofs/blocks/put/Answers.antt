@@ -1,4 +1,4 @@
-use Rattle.std.proofs.Common.{◌≡◌, ◌∙◌, ◌++◌, ap, List, ℕ, take, refl, length, arith}
+use Rattle.std.proofs.Common.{◌∙◌, ◌++◌, ap, List, ℕ, take, length, arith}
 use Rattle.std.proofs.lemmas.Slice.{take-put_mid}
 use Rattle.sha_lanes.proofs.blocks.put.Goals as goal
 

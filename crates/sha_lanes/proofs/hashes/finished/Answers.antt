@@ -1,4 +1,4 @@
-use Rattle.std.proofs.Common.{◌≡◌, ℕ, List, ◌+◌, ◌*◌, ◌/◌, ◌≤◌, length, slice_index_or, [], ap, arith, subst, ◌∙◌}
+use Rattle.std.proofs.Common.{◌≡◌, ℕ, List, ◌+◌, ◌/◌, length, slice_index_or, [], ap, arith, subst, ◌∙◌}
 use Rattle.sha_lanes.specs.Lanes.{bytes_of, lane}
 use Rattle.sha_lanes.specs.Tails.{tail_size}
 use Rattle.sha_lanes.proofs.HashLaws.{IsAfter, after_all, after_first, after_second, after_tail, after_whole}

@@ -1,4 +1,4 @@
-use Rattle.std.proofs.Common.{◌≡◌, ◌∷◌, [], arith}
+use Rattle.std.proofs.Common.{arith}
 use Rattle.sha_lanes.proofs.LaneLaws.{lane_of_eight}
 use Rattle.sha_lanes.proofs.hashes.lane.Goals as goal
 

@@ -1,4 +1,4 @@
-use Rattle.std.proofs.Common.{slice_index, refl}
+use Rattle.std.proofs.Common.{refl}
 use Rattle.sha2.proofs.Schedule256.{rounds_first}
 use Rattle.sha_lanes.specs.Lanes.{lane}
 use Rattle.sha_lanes.proofs.LaneLaws.{lane_word}

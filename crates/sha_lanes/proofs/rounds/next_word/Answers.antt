@@ -1,4 +1,4 @@
-use Rattle.std.proofs.Common.{◌≡◌, ◌%◌, arith, refl, ℕ, List, map, slice_index}
+use Rattle.std.proofs.Common.{◌≡◌, ◌%◌, arith, ℕ, List, slice_index}
 use Rattle.std.proofs.lemmas.List.{map-set}
 use Rattle.sha_lanes.proofs.LaneLaws.{lane_word}
 use Rattle.sha_lanes.proofs.rounds.next_word.Goals as goal

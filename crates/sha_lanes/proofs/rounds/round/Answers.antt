@@ -1,4 +1,3 @@
-use Rattle.std.proofs.Common.{refl}
 use Rattle.sha_lanes.proofs.LaneLaws.{lane_word}
 use Rattle.sha_lanes.proofs.rounds.round.Goals as goal
 

@@ -1,6 +1,5 @@
-use Rattle.std.proofs.Common.{◌≡◌, length, refl, ap, sym, ◌∙◌, ◌+◌, ◌≤◌, arith, subst, List, ℕ}
+use Rattle.std.proofs.Common.{ap, sym, ◌∙◌, ◌+◌, arith, List, ℕ}
 use Rattle.sha2.specs.Sha256.{word_at}
-use Rattle.sha_lanes.specs.Lanes.{bytes_of}
 use Rattle.sha_lanes.proofs.LaneLaws.{below_four, bytes_of_is}
 use Rattle.sha_lanes.proofs.rounds.words_at.Goals as goal
 

@@ -259,3 +259,13 @@ unfolding piece_writes
 piece_writes-end k sector bytes j none =
     let long = length-seal k sector bytes in
     ap (writes_from (sector * units k + j)) (drop_all j (seal k sector bytes) (omega arith))
+
+writes_from-drop : (n j : ℕ) (sectors : List (List ℕ)) → writes_from (n + j) (drop j sectors) ≡ drop j (writes_from n sectors)
+writes_from-drop n zero sectors = let at : n + 0 ≡ n = omega arith in ap (λ (m : ℕ). writes_from m sectors) at
+writes_from-drop n (suc j) [] = refl
+writes_from-drop n (suc j) (sector ∷ sectors) =
+    let at : n + suc j ≡ n + 1 + j = omega arith in ap (λ (m : ℕ). writes_from m (drop j sectors)) at ∙ writes_from-drop (n + 1) j sectors
+
+pub piece_writes-drop : (k : Keying) (sector : ℕ) (bytes : List ℕ) (j : ℕ) → piece_writes k sector bytes j ≡ drop j (writes_from (sector * units k) (seal k sector bytes))
+unfolding piece_writes
+piece_writes-drop k sector bytes j = writes_from-drop (sector * units k) j (seal k sector bytes)

@@ -1,33 +1,33 @@
 -- Whole units of a logical sector, four at a time.
-use Rattle.std.proofs.Common.{◌≡◌, ◌≢◌, ℕ, zero, suc, ◌+◌, ◌-◌, ◌*◌, ◌/◌, ◌<◌, ◌≤◌, min, List, [], ◌∷◌, ◌++◌, length, take, drop, refl, sym, ap, ◌∙◌, arith}
+use Rattle.std.proofs.Common.{◌≡◌, ◌≢◌, ℕ, zero, suc, ◌+◌, ◌-◌, ◌*◌, ◌/◌, ◌<◌, ◌≤◌, List, [], ◌∷◌, ◌++◌, length, get_or, take, take-add, drop, refl, sym, ap, ◌∙◌, arith, add-one}
 use Rattle.std.proofs.Math.Nat.{mul-le-mul_right}
-use Rattle.std.proofs.Math.Seq.{take-append-add}
+use Rattle.std.proofs.Math.Seq.{take-append-add, drop-cons}
 use Rattle.std.proofs.lemmas.List.{take-take, drop-take, drop-drop}
+use borrow.Rule.Slice.PartMut.{put_mid}
 use Rattle.auth_sectors.specs.Wholes.{sealed_pieces}
 use Rattle.block_traits.specs.Disk.{writes_from}
 use Rattle.block_traits.specs.declared.disk.Event.{Event}
-use Rattle.block_traits.specs.declared.disk.Event.TheVariants.{Write}
+use Rattle.block_traits.specs.Parts.{parts}
 use Rattle.eli_base.specs.declared.algorithms.Auth.{Auth}
 use Rattle.eli_base.specs.declared.algorithms.Auth.TheVariants.{Off, Sha256, Sha384, Sha512}
 use Rattle.eli_base.specs.Keying.{Keying}
 use Rattle.eli_base.specs.Units.{unit_bytes_of, units_per_sector}
 use Rattle.sealing.specs.Pieces.{sealed_piece}
 use Rattle.sealing.specs.Sectors.{seal, units}
+use Rattle.sealing.proofs.Pieces.{sealed_unit-tagged}
+use Rattle.sealing.proofs.Sectors.{length-seal}
+use Rattle.provider.proofs.Cuts.{parts-put-some}
 use Rattle.provider.proofs.InMemory.{counted}
-use Rattle.provider.proofs.UnitLists.{piece_writes, piece_writes-start, piece_writes-next}
+use Rattle.provider.proofs.UnitLists.{piece_writes, piece_writes-start, piece_writes-at}
 
 -- ---- whole units
 
--- unit j, behind which m more are whole, is whole and one of the sector's
-record IsWhole (auth : Auth) (size j : ℕ) : Type 0 where
-  bytes : unit_bytes_of auth ≡ min (unit_bytes_of auth) (size - unit_bytes_of auth * j)
-  within : j < units_per_sector auth size
-
-is_whole : (auth : Auth) (size j m : ℕ) → unit_bytes_of auth * (j + suc m) ≤ size → IsWhole auth size j
-is_whole Off size j m fits = record { bytes = omega arith; within = omega arith }
-is_whole Sha256 size j m fits = record { bytes = omega arith; within = omega arith }
-is_whole Sha384 size j m fits = record { bytes = omega arith; within = omega arith }
-is_whole Sha512 size j m fits = record { bytes = omega arith; within = omega arith }
+-- unit j, behind which m more are whole, is one of the sector's
+whole_within : (auth : Auth) (size j m : ℕ) → unit_bytes_of auth * (j + suc m) ≤ size → j < units_per_sector auth size
+whole_within Off size j m fits = omega arith
+whole_within Sha256 size j m fits = omega arith
+whole_within Sha384 size j m fits = omega arith
+whole_within Sha512 size j m fits = omega arith
 
 -- there are as many units as whole ones, or more
 wholes_within : (auth : Auth) (size m : ℕ) → unit_bytes_of auth * m ≤ size → m ≤ units_per_sector auth size
@@ -37,7 +37,7 @@ wholes_within Sha384 size m fits = omega arith
 wholes_within Sha512 size m fits = omega arith
 
 -- the bytes of four whole units have their place among those of the sector
-four_fit : (u fours i size : ℕ) → i < fours → fours * (4 * u) ≤ size → u * (4 * i + 4) ≤ size
+pub four_fit : (u fours i size : ℕ) → i < fours → fours * (4 * u) ≤ size → u * (4 * i + 4) ≤ size
 four_fit u fours i size more fits =
     let some : i + 1 ≤ fours = omega arith in
     omega (arith, mul-le-mul_right (4 * u) some, fits)
@@ -61,7 +61,7 @@ is_group k auth sector fours i long width size same wide all more fits inside =
       inside = omega (arith, place, within, inside);
     }
 
--- ---- what is written
+-- ---- what they are sealed to
 
 -- pieces depend on the bytes that they have alone
 sealed_pieces-take : (m : ℕ) (k : Keying) (offset : ℕ) (plain : List ℕ) → sealed_pieces k offset m (take (unit_bytes_of k.auth * m) plain) ≡ sealed_pieces k offset m plain
@@ -75,37 +75,71 @@ sealed_pieces-take (suc m) k offset plain =
     (λ i. sealed_piece k offset (first i) ∷ sealed_pieces k (offset + 512) m (others i))
     ∙ ap (λ (l : List (List ℕ)). sealed_piece k offset (take u plain) ∷ l) (sealed_pieces-take m k (offset + 512) (drop u plain))
 
--- the writes from unit j on are those of so many whole pieces, and those behind them
-some_writes : (m : ℕ) (k : Keying) (sector j n : ℕ) (bytes plain : List ℕ) → k.auth ≢ Off → length bytes ≡ k.sectorsize → unit_bytes_of k.auth * (j + m) ≤ k.sectorsize
-    → n ≡ sector * units k + j → plain ≡ drop (unit_bytes_of k.auth * j) bytes
-    → piece_writes k sector bytes j ≡ writes_from n (sealed_pieces k (512 * n) m plain) ++ piece_writes k sector bytes (j + m)
-some_writes zero k sector j n bytes plain on long fits at is = let same : j ≡ j + 0 = omega arith in ap (piece_writes k sector bytes) same
-some_writes (suc m) k sector j n bytes plain on long fits at is =
+-- the device sectors from unit j on are those of so many whole pieces, and those behind them
+some_sealed : (m : ℕ) (k : Keying) (sector j n : ℕ) (bytes plain : List ℕ) → k.auth ≢ Off → unit_bytes_of k.auth * (j + m) ≤ k.sectorsize → n ≡ sector * units k + j
+    → plain ≡ drop (unit_bytes_of k.auth * j) bytes → drop j (seal k sector bytes) ≡ sealed_pieces k (512 * n) m plain ++ drop (j + m) (seal k sector bytes)
+some_sealed zero k sector j n bytes plain on fits at is = let same : j ≡ j + 0 = omega arith in ap (λ (p : ℕ). drop p (seal k sector bytes)) same
+some_sealed (suc m) k sector j n bytes plain on fits at is =
     let u : ℕ = unit_bytes_of k.auth in
-    let unit = is_whole k.auth k.sectorsize j m fits in
+    let every : List (List ℕ) = seal k sector bytes in
+    let lt : j < units k = whole_within k.auth k.sectorsize j m fits in
+    let offset : 512 * (sector * units k) + 512 * j ≡ 512 * n = omega (arith, at) in
+    let here : get_or every j [] ≡ sealed_piece k (512 * n) (take u plain) = sealed_unit-tagged k sector j bytes on lt ∙ (λ i. sealed_piece k (offset i) (take u (sym is i))) in
     let next : u * (j + 1 + m) ≤ k.sectorsize = omega (arith, fits) in
     let place : u * j + u ≡ u * (j + 1) = omega arith in
     let behind : drop u plain ≡ drop (u * (j + 1)) bytes = ap (drop u) is ∙ drop-drop u (u * j) bytes ∙ ap (λ (p : ℕ). drop p bytes) place in
     let number : n + 1 ≡ sector * units k + (j + 1) = omega (arith, at) in
-    let offset : 512 * (n + 1) ≡ 512 * n + 512 = omega arith in
+    let after : 512 * (n + 1) ≡ 512 * n + 512 = omega arith in
     let count : j + 1 + m ≡ j + suc m = omega arith in
-    piece_writes-next k sector bytes j n (u * j) u on long unit.within at refl unit.bytes
-    ∙ (λ i. Write n (sealed_piece k (512 * n) (take u (sym is i))) ∷ some_writes m k sector (j + 1) (n + 1) bytes (drop u plain) on long next number behind i)
-    ∙ (λ i. Write n (sealed_piece k (512 * n) (take u plain)) ∷ (writes_from (n + 1) (sealed_pieces k (offset i) m (drop u plain)) ++ piece_writes k sector bytes (count i)))
+    drop-cons every j [] (rw (length-seal k sector bytes) lt)
+    ∙ (λ i. here i ∷ drop (sym (add-one j) i) every)
+    ∙ ap (λ (l : List (List ℕ)). sealed_piece k (512 * n) (take u plain) ∷ l) (some_sealed m k sector (j + 1) (n + 1) bytes (drop u plain) on next number behind
+    ∙ (λ i. sealed_pieces k (after i) m (drop u plain) ++ drop (count i) every))
 
--- the writes from unit 4 i on are those of a group, and those behind it
-group_writes : (k now : Keying) (sector i n group width : ℕ) (bytes : List ℕ) → k.auth ≢ Off → now ≡ k → length bytes ≡ k.sectorsize → group ≡ 4 * unit_bytes_of k.auth → width ≡ group
+-- those from unit 4 i on are those of a group, and those behind it
+pub group_sealed : (k now : Keying) (sector i n group width : ℕ) (bytes : List ℕ) → k.auth ≢ Off → now ≡ k → group ≡ 4 * unit_bytes_of k.auth → width ≡ group
     → unit_bytes_of k.auth * (4 * i + 4) ≤ k.sectorsize → n ≡ sector * units k + 4 * i
-    → piece_writes k sector bytes (4 * i) ≡ writes_from n (sealed_pieces now (512 * n) 4 (take width (drop (i * group) bytes))) ++ piece_writes k sector bytes (4 * (i + 1))
-group_writes k now sector i n group width bytes on same long four wide fits at =
+    → drop (4 * i) (seal k sector bytes) ≡ sealed_pieces now (512 * n) 4 (take width (drop (i * group) bytes)) ++ drop (4 * (i + 1)) (seal k sector bytes)
+group_sealed k now sector i n group width bytes on same four wide fits at =
     let u : ℕ = unit_bytes_of k.auth in
+    let plain : List ℕ = drop (i * group) bytes in
     let place : u * (4 * i) ≡ i * group = omega (arith, ap (λ (g : ℕ). i * g) four) in
     let count : u * 4 ≡ width = omega (arith, four, wide) in
     let more : 4 * i + 4 ≡ 4 * (i + 1) = omega arith in
-    some_writes 4 k sector (4 * i) n bytes (drop (i * group) bytes) on long fits at (ap (λ (p : ℕ). drop p bytes) (sym place))
-    ∙ ap (λ (l : List (List ℕ)). writes_from n l ++ piece_writes k sector bytes (4 * i + 4))
-    (sym (sealed_pieces-take 4 k (512 * n) (drop (i * group) bytes)) ∙ (λ j. sealed_pieces (sym same j) (512 * n) 4 (take (count j) (drop (i * group) bytes))))
-    ∙ ap (λ (m : ℕ). writes_from n (sealed_pieces now (512 * n) 4 (take width (drop (i * group) bytes))) ++ piece_writes k sector bytes m) more
+    some_sealed 4 k sector (4 * i) n bytes plain on fits at (ap (λ (p : ℕ). drop p bytes) (sym place))
+    ∙ (λ j. sym (sealed_pieces-take 4 k (512 * n) plain) j ++ drop (more j) (seal k sector bytes))
+    ∙ (λ j. sealed_pieces (sym same j) (512 * n) 4 (take (count j) plain) ++ drop (4 * (i + 1)) (seal k sector bytes))
+
+-- a group that is put behind those before it
+pub group_put : (k now : Keying) (sector i n group width room : ℕ) (bytes out sealed : List ℕ) → k.auth ≢ Off → now ≡ k → group ≡ 4 * unit_bytes_of k.auth → width ≡ group
+    → unit_bytes_of k.auth * (4 * i + 4) ≤ k.sectorsize → n ≡ sector * units k + 4 * i → parts 512 4 sealed ≡ sealed_pieces now (512 * n) 4 (take width (drop (i * group) bytes))
+    → length sealed ≡ 2048 → 2048 * i ≤ length out → parts 512 (4 * i) out ≡ take (4 * i) (seal k sector bytes)
+    → parts 512 (4 * (i + 1)) (put_mid (2048 * i) room out sealed) ≡ take (4 * (i + 1)) (seal k sector bytes)
+group_put k now sector i n group width room bytes out sealed on same four wide fits at is long fit so =
+    let every : List (List ℕ) = seal k sector bytes in
+    let more : 4 * (i + 1) ≡ 4 * i + 4 = omega arith in
+    let place : 2048 * i ≡ 512 * (4 * i) = omega arith in
+    let here : take 4 (drop (4 * i) every) ≡ sealed_pieces now (512 * n) 4 (take width (drop (i * group) bytes)) =
+    ap (take 4) (group_sealed k now sector i n group width bytes on same four wide fits at) in
+    (λ j. parts 512 (more j) (put_mid (place j) room out sealed))
+    ∙ parts-put-some (4 * i) 4 room out sealed long (omega (arith, fit))
+    ∙ (λ j. so j ++ (is ∙ sym here) j)
+    ∙ sym (take-add (4 * i) 4 every)
+    ∙ ap (λ (m : ℕ). take m every) (sym more)
+
+-- ---- what is written
+
+-- the writes from unit 4 i on are those of a group, and those behind it
+group_writes : (k now : Keying) (sector i n group width : ℕ) (bytes : List ℕ) → k.auth ≢ Off → now ≡ k → group ≡ 4 * unit_bytes_of k.auth → width ≡ group
+    → unit_bytes_of k.auth * (4 * i + 4) ≤ k.sectorsize → n ≡ sector * units k + 4 * i
+    → piece_writes k sector bytes (4 * i) ≡ writes_from n (sealed_pieces now (512 * n) 4 (take width (drop (i * group) bytes))) ++ piece_writes k sector bytes (4 * (i + 1))
+group_writes k now sector i n group width bytes on same four wide fits at =
+    let here : List Event = writes_from n (sealed_pieces now (512 * n) 4 (take width (drop (i * group) bytes))) in
+    let after : n + 1 + 1 + 1 + 1 ≡ sector * units k + 4 * (i + 1) = omega (arith, at) in
+    piece_writes-at k sector bytes (4 * i)
+    ∙ (λ j. writes_from (sym at j) (group_sealed k now sector i n group width bytes on same four wide fits at j))
+    ∙ ap (λ (m : ℕ). here ++ writes_from m (drop (4 * (i + 1)) (seal k sector bytes))) after
+    ∙ ap (λ (l : List Event). here ++ l) (sym (piece_writes-at k sector bytes (4 * (i + 1))))
 
 -- the writes of so many groups from the i-th on
 pub fours_left : Keying → ℕ → List ℕ → ℕ → ℕ → List Event
@@ -127,7 +161,7 @@ fours_left-next k now sector fours i n group width bytes on same long four wide 
     let left : 4 * (fours - i) ≡ 4 + 4 * (fours - (i + 1)) = omega arith in
     let inside = four_fit (unit_bytes_of k.auth) fours i (length bytes) more fits in
     ap (λ (m : ℕ). take m (piece_writes k sector bytes (4 * i))) left
-    ∙ ap (take (4 + 4 * (fours - (i + 1)))) (group_writes k now sector i n group width bytes on same long four wide (omega (arith, inside, long)) at)
+    ∙ ap (take (4 + 4 * (fours - (i + 1)))) (group_writes k now sector i n group width bytes on same four wide (omega (arith, inside, long)) at)
     ∙ take-append-add here (piece_writes k sector bytes (4 * (i + 1))) (4 * (fours - (i + 1)))
 
 pub fours_left-end : (k : Keying) (sector : ℕ) (bytes : List ℕ) (fours i : ℕ) → fours ≤ i → fours_left k sector bytes fours i ≡ []

@@ -260,6 +260,10 @@ piece_writes-end k sector bytes j none =
     let long = length-seal k sector bytes in
     ap (writes_from (sector * units k + j)) (drop_all j (seal k sector bytes) (omega arith))
 
+pub piece_writes-at : (k : Keying) (sector : ℕ) (bytes : List ℕ) (j : ℕ) → piece_writes k sector bytes j ≡ writes_from (sector * units k + j) (drop j (seal k sector bytes))
+unfolding piece_writes
+piece_writes-at k sector bytes j = refl
+
 writes_from-drop : (n j : ℕ) (sectors : List (List ℕ)) → writes_from (n + j) (drop j sectors) ≡ drop j (writes_from n sectors)
 writes_from-drop n zero sectors = let at : n + 0 ≡ n = omega arith in ap (λ (m : ℕ). writes_from m sectors) at
 writes_from-drop n (suc j) [] = refl

@@ -22,13 +22,6 @@ use Rattle.provider.proofs.UnitLists.{piece_writes, piece_writes-start, piece_wr
 
 -- ---- whole units
 
--- unit j, behind which m more are whole, is one of the sector's
-whole_within : (auth : Auth) (size j m : ℕ) → unit_bytes_of auth * (j + suc m) ≤ size → j < units_per_sector auth size
-whole_within Off size j m fits = omega arith
-whole_within Sha256 size j m fits = omega arith
-whole_within Sha384 size j m fits = omega arith
-whole_within Sha512 size j m fits = omega arith
-
 -- there are as many units as whole ones, or more
 wholes_within : (auth : Auth) (size m : ℕ) → unit_bytes_of auth * m ≤ size → m ≤ units_per_sector auth size
 wholes_within Off size m fits = omega arith
@@ -82,7 +75,8 @@ some_sealed zero k sector j n bytes plain on fits at is = let same : j ≡ j + 0
 some_sealed (suc m) k sector j n bytes plain on fits at is =
     let u : ℕ = unit_bytes_of k.auth in
     let every : List (List ℕ) = seal k sector bytes in
-    let lt : j < units k = whole_within k.auth k.sectorsize j m fits in
+    let within = wholes_within k.auth k.sectorsize (j + suc m) fits in
+    let lt : j < units k = omega (arith, within) in
     let offset : 512 * (sector * units k) + 512 * j ≡ 512 * n = omega (arith, at) in
     let here : get_or every j [] ≡ sealed_piece k (512 * n) (take u plain) = sealed_unit-tagged k sector j bytes on lt ∙ (λ i. sealed_piece k (offset i) (take u (sym is i))) in
     let next : u * (j + 1 + m) ≤ k.sectorsize = omega (arith, fits) in

@@ -71,9 +71,6 @@ is_unit_at auth size width j start end low whole lt wide s e =
 pub length-between : (start end : ℕ) (bytes : List ℕ) → start ≤ end → end ≤ length bytes → length (take (end - start) (drop start bytes)) ≡ end - start
 length-between start end bytes order within = length-take-le (end - start) (drop start bytes) (omega (arith, length-drop start bytes))
 
-pub none_yet : (width size : ℕ) → 0 ≡ min (width * 0) size
-none_yet width size = omega arith
-
 -- a piece that was opened is accepted, and another isn't
 pub accepts : (k : Keying) (n size start : ℕ) (buffer from bytes : List ℕ) → start ≤ length buffer → size ≡ start → start ≡ piece_size k n
     → opened_piece k (512 * n) (length (take size buffer)) from ≡ Ok bytes → true ≡ is_ok (piece_reading k n from)

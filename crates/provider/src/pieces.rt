@@ -1,4 +1,4 @@
-// Logical sectors with authentication, piece by piece.
+// Logical sectors with authentication, unit by unit and in groups of four.
 ghost use Rattle.std.specs.Prelude.{◌≡◌, ◌≢◌, ◌+◌, ◌*◌, ◌^◌, ◌<◌, ◌≤◌, ◌%◌, [], ◌∷◌, min, OnOk, OnErr, is_ok, length, take, drop};
 ghost use Rattle.auth_sectors.specs.Wholes.{sealed_pieces};
 ghost use Rattle.block_traits.specs.declared.disk.Event.TheVariants.{Write};

@@ -1,0 +1,4 @@
+pub mod BlockLaws
+pub mod HashLaws
+pub mod LaneLaws
+pub mod RotationLaws

@@ -4,20 +4,24 @@
 //! bytes, and zeros, all under the keys of the device sector's own byte offset. No call fails for want of memory.
 #![tactic(auto)]
 
-ghost use Rattle.std.specs.Prelude.{◌≡◌, ◌≢◌, ◌≤◌, ◌%◌, Ok, Err, MatchResult, length, replicate};
+ghost use Rattle.std.specs.Prelude.{◌≡◌, ◌≢◌, ◌+◌, ◌*◌, ◌%◌, ◌^◌, ◌<◌, ◌≤◌, Ok, Err, MatchResult, length, replicate};
+ghost use Rattle.block_traits.specs.Parts.{parts};
 ghost use Rattle.eli_base.specs.Units.{unit_bytes_of};
 ghost use Rattle.sealing.specs.Pieces.{opened_piece, sealed_piece};
 ghost use Rattle.auth_sectors.specs.Tags.{Tells};
+ghost use Rattle.auth_sectors.specs.Wholes.{sealed_pieces};
 
 mod tags;
 #[cfg(test)]
 mod tests;
+mod whole;
 
 use block_traits::Sector;
 use eli_base::Auth;
 use range_keys::KeyRing;
 use sealing::{open_run, seal_run};
-use tags::{is_same, padded, tag_of};
+use tags::{is_same, padded, tag_of, tags_of_four};
+use whole::{encipher_whole, put_tag};
 
 /// That the tag in a device sector isn't that of its cipher text. Of both the first `length` bytes are the tag, and the
 /// rest is zeros.
@@ -48,6 +52,38 @@ pub fn seal_piece(ring: &mut KeyRing, offset: u64, plain: &[u8], out: &mut Secto
     let code = tag_of(ring, offset, text);
     tag.copy_from_slice(&code[..size]);
     zeros.fill(0);
+}
+
+/// Seals the plain bytes of four whole pieces into their device sectors, each behind the one before it. The first stands
+/// at this byte offset of the device.
+pub fn seal_four(ring: &mut KeyRing, offset: u64, plain: &[u8], out: &mut [u8; 2048])
+    requires on { ring.old.keying.auth ≢ Auth.Off }
+    requires plain { length plain.now ≡ 4 * unit_bytes_of ring.old.keying.auth }
+    requires place { offset + 1536 < 2 ^ 64 }
+    ensures sealed { parts 512 4 out.new ≡ sealed_pieces ring.old.keying offset 4 plain.now }
+    ensures keying { ring.new.keying ≡ ring.old.keying }
+{
+    let size = ring.auth().tag_bytes();
+    let width = ring.auth().data_bytes();
+    let (first, rest) = out.split_at_mut(512);
+    let (second, rest) = rest.split_at_mut(512);
+    let (third, fourth) = rest.split_at_mut(512);
+    encipher_whole(ring, offset, &plain[..width], first);
+    encipher_whole(ring, offset + 512, &plain[width..2 * width], second);
+    encipher_whole(ring, offset + 1024, &plain[2 * width..3 * width], third);
+    encipher_whole(ring, offset + 1536, &plain[3 * width..], fourth);
+    let tags = tags_of_four(
+        ring,
+        offset,
+        &first[size..],
+        &second[size..],
+        &third[size..],
+        &fourth[size..],
+    );
+    put_tag(&tags[0][..size], first);
+    put_tag(&tags[1][..size], second);
+    put_tag(&tags[2][..size], third);
+    put_tag(&tags[3][..size], fourth);
 }
 
 /// Opens a piece of as many plain bytes as `out` has, from its device sector, which stands at this byte offset of the

@@ -1,6 +1,6 @@
 //! Tags, in the first bytes of 64.
 
-ghost use Rattle.std.specs.Prelude.{◌≡◌, ◌≢◌, ◌↔◌, ◌-◌, ◌≤◌, ◌++◌, IsTrue, length, replicate};
+ghost use Rattle.std.specs.Prelude.{◌≡◌, ◌≢◌, ◌↔◌, ◌+◌, ◌-◌, ◌^◌, ◌<◌, ◌≤◌, [], ◌∷◌, ◌++◌, IsTrue, get_or, length, replicate};
 ghost use Rattle.sealing.specs.Pieces.{hmac_of, tag_of};
 ghost use Rattle.auth_sectors.specs.Tags.{padded};
 
@@ -44,6 +44,69 @@ pub fn tag_of(ring: &KeyRing, offset: u64, cipher_text: &[u8]) -> [u8; 64]
     ensures { result ≡ padded (tag_of ring.now.keying offset cipher_text.now) }
 {
     code_of(ring.auth(), &ring.tag_key_at(offset), cipher_text)
+}
+
+// The codes of four messages of one length, each under its own key. Those of SHA-256 are computed side by side.
+fn codes_of_four(
+    auth: Auth,
+    keys: &[[u8; 32]; 4],
+    first: &[u8],
+    second: &[u8],
+    third: &[u8],
+    fourth: &[u8],
+) -> [[u8; 64]; 4]
+    requires second { length second.now ≡ length first.now }
+    requires third { length third.now ≡ length first.now }
+    requires fourth { length fourth.now ≡ length first.now }
+    ensures { result ≡ padded (hmac_of auth (get_or keys.now 0 []) first.now)
+        ∷ padded (hmac_of auth (get_or keys.now 1 []) second.now)
+        ∷ padded (hmac_of auth (get_or keys.now 2 []) third.now)
+        ∷ padded (hmac_of auth (get_or keys.now 3 []) fourth.now) ∷ [] }
+{
+    if auth == Auth::Sha256 {
+        let codes = sha_lanes::codes_of_four(keys, [first, second, third, fourth]);
+        return [
+            padded(&codes[0]),
+            padded(&codes[1]),
+            padded(&codes[2]),
+            padded(&codes[3]),
+        ];
+    }
+    [
+        code_of(auth, &keys[0], first),
+        code_of(auth, &keys[1], second),
+        code_of(auth, &keys[2], third),
+        code_of(auth, &keys[3], fourth),
+    ]
+}
+
+/// The tags of four cipher texts of one length, that of the first at this byte offset and each other in the device sector behind
+/// that of the one before it.
+pub fn tags_of_four(
+    ring: &KeyRing,
+    offset: u64,
+    first: &[u8],
+    second: &[u8],
+    third: &[u8],
+    fourth: &[u8],
+) -> [[u8; 64]; 4]
+    requires on { ring.now.keying.auth ≢ Auth.Off }
+    requires place { offset + 1536 < 2 ^ 64 }
+    requires second { length second.now ≡ length first.now }
+    requires third { length third.now ≡ length first.now }
+    requires fourth { length fourth.now ≡ length first.now }
+    ensures { result ≡ padded (tag_of ring.now.keying offset first.now)
+        ∷ padded (tag_of ring.now.keying (offset + 512) second.now)
+        ∷ padded (tag_of ring.now.keying (offset + 1024) third.now)
+        ∷ padded (tag_of ring.now.keying (offset + 1536) fourth.now) ∷ [] }
+{
+    let keys = [
+        ring.tag_key_at(offset),
+        ring.tag_key_at(offset + 512),
+        ring.tag_key_at(offset + 1024),
+        ring.tag_key_at(offset + 1536),
+    ];
+    codes_of_four(ring.auth(), &keys, first, second, third, fourth)
 }
 
 /// Whether two tags are the same. Each byte is looked at, whatever those before it are.

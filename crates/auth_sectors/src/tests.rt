@@ -1,6 +1,6 @@
 //! Sealed pieces by authentication, cipher and place.
 
-use crate::{open_piece, seal_piece};
+use crate::{open_piece, seal_four, seal_piece};
 use eli_base::{Auth, Cipher, MasterKey, Params, sector_size_ok};
 use range_keys::KeyRing;
 use sha2::{Digest, Sha256};
@@ -105,6 +105,31 @@ const DIGESTS: [(Auth, Cipher, u16, &str); 15] = [
 
 const OFFSETS: [u64; 5] = [0, 512, 4_608, 536_870_400, 536_870_912];
 
+/// The same of four whole pieces, each behind the one before it, as the tool prints it.
+const FOURS: [(Auth, Cipher, u16, &str); 3] = [
+    (
+        Auth::Sha256,
+        Cipher::AesXts,
+        128,
+        "5c806a60b6694067246271ac1ee2051c815cf6e548fc7c9711dc669205909da3",
+    ),
+    (
+        Auth::Sha384,
+        Cipher::AesCbc,
+        192,
+        "f66120e1f6ca99c954414555d29b9c507b47942c2e42e174fe426c3744b072ec",
+    ),
+    (
+        Auth::Sha512,
+        Cipher::AesXts,
+        256,
+        "c85c4639965cc8b05bb70ddf25a8d3e11978e7c968d3baa30afe1ef496d9ed95",
+    ),
+];
+
+// Two of four pieces that begin here stand before the second range key, and two behind.
+const FIRST_OF_FOUR: u64 = 536_869_888;
+
 fn ring_of(
     rt: &impl Abort,
     alloc: Global,
@@ -174,6 +199,29 @@ fn sealed_pieces(rt: HostRuntime) -> Result<(), Fail> {
             }
         }
         let digest = hex::encode(rt.alloc(), digest.finalize())?;
+        assert_eq!(rt; digest.as_str(), expected, "{auth:?} {cipher:?} {keylen}");
+    }
+    Ok(())
+}
+
+#[test]
+fn four_sealed_pieces(rt: HostRuntime) -> Result<(), Fail> {
+    for (auth, cipher, keylen, expected) in FOURS {
+        let mut ring = ring_of(&rt, rt.alloc(), auth, cipher, keylen)?;
+        let width = auth.data_bytes();
+        assert!(rt; width <= 480, "{auth:?}");
+        let mut plain = Vec::new(rt.alloc());
+        for j in 0..4 {
+            plain.extend_from_slice(&plain_bytes(FIRST_OF_FOUR + 512 * j)[..width])?;
+        }
+        assert!(rt;
+            ring.auth() != Auth::Off && plain.len() == 4 * ring.auth().data_bytes(),
+            "{} bytes",
+            plain.len()
+        );
+        let mut out = [0xff; 2048];
+        seal_four(&mut ring, FIRST_OF_FOUR, &plain, &mut out);
+        let digest = hex::encode(rt.alloc(), Sha256::digest(&out))?;
         assert_eq!(rt; digest.as_str(), expected, "{auth:?} {cipher:?} {keylen}");
     }
     Ok(())

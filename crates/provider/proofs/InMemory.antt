@@ -1,5 +1,5 @@
 -- One logical sector that is sealed or opened in memory.
-use Rattle.std.proofs.Common.{◌≡◌, ◌≢◌, ℕ, ◌+◌, ◌-◌, ◌*◌, ◌/◌, ◌%◌, ◌<◌, ◌≤◌, min, List, [], ◌∷◌, ◌++◌, length, get_or, take, drop, Result, Ok, Err, sym, ap, subst, ◌∙◌, arith, add-one}
+use Rattle.std.proofs.Common.{◌≡◌, ◌≢◌, ℕ, ◌+◌, ◌-◌, ◌*◌, ◌/◌, ◌%◌, ◌<◌, ◌≤◌, min, List, [], ◌∷◌, ◌++◌, length, get_or, take, drop, Result, Ok, Err, refl, sym, ap, subst, ◌∙◌, arith, add-one}
 use Rattle.std.proofs.Math.Nat.{mul-le-mul_right, div-mul-le_self}
 use Rattle.std.proofs.Math.Seq.{take-suc}
 use Rattle.std.proofs.lemmas.List.{take_all, take_min, length-drop}
@@ -17,7 +17,7 @@ use Rattle.sealing.proofs.Pieces.{length-unit_readings-tagged, sealed_unit-tagge
 use Rattle.sealing.proofs.Sectors.{length-seal}
 use Rattle.provider.proofs.Cuts.{parts-put}
 use Rattle.provider.proofs.Sealed.{number_at}
-use Rattle.provider.proofs.UnitLists.{IsUnit, is_unit, joined-fault, joined-next}
+use Rattle.provider.proofs.UnitLists.{IsUnit, is_unit, is_unit_at, joined-fault, joined-next}
 
 -- ---- where it stands
 
@@ -65,6 +65,18 @@ stands k auth size width room j start end low whole same wide long all lt s e =
       count = count;
       below = below;
       unit = is_unit k.auth k.sectorsize j start end low whole below (s ∙ ap (min (unit_bytes_of k.auth * j)) long) (e ∙ (λ i. min ((all ∙ long) i) (start + d i)));
+    }
+
+-- the same of a unit that is found by its number
+pub stands_at : (k : Keying) (auth : Auth) (size width j end : ℕ) → 512 ≤ k.sectorsize → k.sectorsize % 512 ≡ 0 → auth ≡ k.auth → width ≡ unit_bytes_of auth → size ≡ k.sectorsize
+    → j < (size - 1) / width + 1 → end ≡ min size (j * width + width) → Stands k ((size - 1) / width + 1) j (j * width) end
+stands_at k auth size width j end low whole same wide long lt e =
+    let count = counted k auth size width same wide long in
+    let below : j < units k = let P : ℕ → Type 0 = λ n. j < n in subst P count lt in
+    record {
+      count = count;
+      below = below;
+      unit = is_unit_at k.auth k.sectorsize width j (j * width) end low whole below (wide ∙ ap (λ (a : Auth). unit_bytes_of a) same) refl (e ∙ ap (λ (m : ℕ). min m (j * width + width)) long);
     }
 
 -- the unit that is sealed next

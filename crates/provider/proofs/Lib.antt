@@ -3,6 +3,7 @@ pub mod Ranges
 pub mod Readings
 pub mod UnitLists
 pub mod FirstFaults
+pub mod Fours
 pub mod Events
 pub mod Checked
 pub mod Sealed

@@ -71,9 +71,6 @@ is_unit_at auth size width j start end low whole lt wide s e =
 pub length-between : (start end : ℕ) (bytes : List ℕ) → start ≤ end → end ≤ length bytes → length (take (end - start) (drop start bytes)) ≡ end - start
 length-between start end bytes order within = length-take-le (end - start) (drop start bytes) (omega (arith, length-drop start bytes))
 
-pub none_yet : (width size : ℕ) → 0 ≡ min (width * 0) size
-none_yet width size = omega arith
-
 -- a piece that was opened is accepted, and another isn't
 pub accepts : (k : Keying) (n size start : ℕ) (buffer from bytes : List ℕ) → start ≤ length buffer → size ≡ start → start ≡ piece_size k n
     → opened_piece k (512 * n) (length (take size buffer)) from ≡ Ok bytes → true ≡ is_ok (piece_reading k n from)
@@ -259,3 +256,17 @@ unfolding piece_writes
 piece_writes-end k sector bytes j none =
     let long = length-seal k sector bytes in
     ap (writes_from (sector * units k + j)) (drop_all j (seal k sector bytes) (omega arith))
+
+pub piece_writes-at : (k : Keying) (sector : ℕ) (bytes : List ℕ) (j : ℕ) → piece_writes k sector bytes j ≡ writes_from (sector * units k + j) (drop j (seal k sector bytes))
+unfolding piece_writes
+piece_writes-at k sector bytes j = refl
+
+writes_from-drop : (n j : ℕ) (sectors : List (List ℕ)) → writes_from (n + j) (drop j sectors) ≡ drop j (writes_from n sectors)
+writes_from-drop n zero sectors = let at : n + 0 ≡ n = omega arith in ap (λ (m : ℕ). writes_from m sectors) at
+writes_from-drop n (suc j) [] = refl
+writes_from-drop n (suc j) (sector ∷ sectors) =
+    let at : n + suc j ≡ n + 1 + j = omega arith in ap (λ (m : ℕ). writes_from m (drop j sectors)) at ∙ writes_from-drop (n + 1) j sectors
+
+pub piece_writes-drop : (k : Keying) (sector : ℕ) (bytes : List ℕ) (j : ℕ) → piece_writes k sector bytes j ≡ drop j (writes_from (sector * units k) (seal k sector bytes))
+unfolding piece_writes
+piece_writes-drop k sector bytes j = writes_from-drop (sector * units k) j (seal k sector bytes)

@@ -34,7 +34,7 @@ has_tags Sha384 = true
 has_tags Sha512 = true
 
 -- the bytes of the buffer that a provider keeps: a logical sector without authentication, where a whole one is sealed in place,
--- and none with it, where one device sector is sealed after the other
+-- and none with it, where four device sectors at most are sealed at a time
 abbrev pub buffer_bytes : Auth → ℕ → ℕ
 buffer_bytes Off sectorsize = sectorsize
 buffer_bytes _ sectorsize = 0

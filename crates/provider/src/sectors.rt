@@ -1,17 +1,73 @@
 // Logical sectors that are sealed and opened in memory, with authentication and without.
-ghost use Rattle.std.specs.Prelude.{◌≡◌, ◌≢◌, ℕ, ◌+◌, ◌*◌, ◌^◌, ◌<◌, ◌≤◌, Ok, Err, MatchResult, length};
+ghost use Rattle.std.specs.Prelude.{◌≡◌, ◌≢◌, ℕ, ◌+◌, ◌*◌, ◌^◌, ◌<◌, ◌≤◌, Ok, Err, MatchResult, length, take};
+ghost use Rattle.block_traits.specs.Parts.{parts};
 ghost use Rattle.eli_base.specs.declared.algorithms.Auth.TheVariants.{Off};
+ghost use Rattle.eli_base.specs.Units.{unit_bytes_of};
 ghost use Rattle.sealing.specs.Sectors.{device_sectors, reading, seal, units};
 
 use crate::BadUnit;
 use crate::pieces::unit_end;
-use auth_sectors::{open_piece, seal_piece};
+use auth_sectors::{open_piece, seal_four, seal_piece};
 use block_traits::{Sector, sector_of};
 use eli_base::Auth;
 use plain_sectors::{open_plain, seal_plain};
 use range_keys::KeyRing;
 
-// Seals one logical sector with authentication.
+// Seals the first units of one logical sector, so many times four, which are whole.
+fn seal_fours(ring: &mut KeyRing, sector: u64, fours: usize, plain: &[u8], out: &mut [u8])
+    requires on { ring.old.keying.auth ≢ Off }
+    requires plain { length plain.now ≡ ring.old.keying.sectorsize }
+    requires fours { fours * (4 * unit_bytes_of ring.old.keying.auth) ≤ length plain.now }
+    requires out { length out.old ≡ 512 * units ring.old.keying }
+    requires place { sector * units ring.old.keying + units ring.old.keying < 2 ^ 44 }
+    ensures sealed { parts 512 (4 * fours) out.new ≡ take (4 * fours) (seal ring.old.keying sector plain.now) }
+    ensures keying { ring.new.keying ≡ ring.old.keying }
+{
+    ring.is_of_a_keying();
+    let width = ring.auth().data_bytes();
+    let count = (plain.len() - 1) / width + 1;
+    let first = sector * count as u64;
+    let group = 4 * width;
+    for i in 0..fours {
+        let n = first + 4 * i as u64;
+        let mut sealed = [0; 2048];
+        seal_four(
+            ring,
+            512 * n,
+            &plain[i * group..i * group + group],
+            &mut sealed,
+        );
+        let start = 2048 * i;
+        out[start..start + 2048].copy_from_slice(&sealed);
+    }
+}
+
+// Seals the units of one logical sector from number `passed` on. Those before stand in `out`.
+fn seal_rest(ring: &mut KeyRing, sector: u64, passed: usize, plain: &[u8], out: &mut [u8])
+    requires on { ring.old.keying.auth ≢ Off }
+    requires plain { length plain.now ≡ ring.old.keying.sectorsize }
+    requires out { length out.old ≡ 512 * units ring.old.keying }
+    requires place { sector * units ring.old.keying + units ring.old.keying < 2 ^ 44 }
+    requires within { passed ≤ units ring.old.keying }
+    requires passed { parts 512 passed out.old ≡ take passed (seal ring.old.keying sector plain.now) }
+    ensures sealed { device_sectors ring.old.keying out.new ≡ seal ring.old.keying sector plain.now }
+    ensures keying { ring.new.keying ≡ ring.old.keying }
+{
+    ring.is_of_a_keying();
+    let width = ring.auth().data_bytes();
+    let count = (plain.len() - 1) / width + 1;
+    let first = sector * count as u64;
+    for j in passed..count {
+        let start = j * width;
+        let end = unit_end(plain.len(), start, width);
+        let n = first + j as u64;
+        let mut piece: Sector = [0; 512];
+        seal_piece(ring, 512 * n, &plain[start..end], &mut piece);
+        out[512 * j..512 * j + 512].copy_from_slice(&piece);
+    }
+}
+
+// Seals one logical sector with authentication, whole units four at a time while there are four.
 fn seal_pieces(ring: &mut KeyRing, sector: u64, plain: &[u8], out: &mut [u8])
     requires on { ring.old.keying.auth ≢ Off }
     requires plain { length plain.now ≡ ring.old.keying.sectorsize }
@@ -20,19 +76,9 @@ fn seal_pieces(ring: &mut KeyRing, sector: u64, plain: &[u8], out: &mut [u8])
     ensures sealed { device_sectors ring.old.keying out.new ≡ seal ring.old.keying sector plain.now }
     ensures keying { ring.new.keying ≡ ring.old.keying }
 {
-    ring.is_of_a_keying();
-    let width = ring.auth().data_bytes();
-    let count = (plain.len() - 1) / width + 1;
-    let first = sector * count as u64;
-    let mut start = 0;
-    for j in 0..count {
-        let end = unit_end(plain.len(), start, width);
-        let n = first + j as u64;
-        let mut piece: Sector = [0; 512];
-        seal_piece(ring, 512 * n, &plain[start..end], &mut piece);
-        out[512 * j..512 * j + 512].copy_from_slice(&piece);
-        start = end;
-    }
+    let fours = plain.len() / (4 * ring.auth().data_bytes());
+    seal_fours(ring, sector, fours, plain, out);
+    seal_rest(ring, sector, 4 * fours, plain, out);
 }
 
 // Seals one logical sector without authentication.

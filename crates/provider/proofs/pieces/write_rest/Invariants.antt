@@ -1,9 +1,8 @@
-use Rattle.std.proofs.Common.{◌≡◌, ◌*◌, length, min}
+use Rattle.std.proofs.Common.{◌≡◌, drop}
 use Rattle.block_traits.specs.Disk.{Continues}
-use Rattle.eli_base.specs.Units.{unit_bytes_of}
 use Rattle.provider.specs.Writing.{sector_writes}
 use Rattle.provider.proofs.UnitLists.{piece_writes}
-use Rattle.provider.proofs.pieces.write_pieces.Given as goal
+use Rattle.provider.proofs.pieces.write_rest.Given as goal
 
 abbrev pub invariant-loop-j : goal.invariant-loop-j
 invariant-loop-j g l =
@@ -13,6 +12,5 @@ invariant-loop-j g l =
       keying : l.ring.keying ≡ k;
       size : (state l.disk).size ≡ (state l.initial.disk).size;
       unasked : (state l.disk).reads ≡ (state l.initial.disk).reads;
-      start : l.start ≡ min (unit_bytes_of k.auth * l.j) (length l.from);
-      events : Continues (piece_writes k l.sector l.from l.j) (sector_writes k l.sector l.from) (state l.disk) (state l.initial.disk);
+      events : Continues (piece_writes k l.sector l.from l.j) (drop l.passed (sector_writes k l.sector l.from)) (state l.disk) (state l.initial.disk);
     }

@@ -1,0 +1,59 @@
+-- Whole pieces, each behind the one before it.
+use Rattle.std.proofs.Common.{◌≡◌, ℕ, ◌+◌, ◌-◌, ◌*◌, List, [], ◌∷◌, ◌++◌, length, take, drop, refl, sym, ap, ◌∙◌, arith, append-nil}
+use Rattle.std.proofs.lemmas.List.{take_at, drop_at, take_all, drop-drop, length-drop}
+use Rattle.block_traits.specs.Parts.{parts}
+use Rattle.eli_base.specs.Keying.{Keying}
+use Rattle.eli_base.specs.Units.{tag_bytes, unit_bytes_of}
+use Rattle.eli_base.proofs.Units.{tag_and_unit}
+use Rattle.range_keys.specs.Keys.{tag_key}
+use Rattle.sealing.specs.Pieces.{sealed_piece, tag_of}
+use Rattle.sealing.specs.Runs.{sealed_run}
+use Rattle.sealing.proofs.Keys.{length-hmac_of}
+use Rattle.auth_sectors.specs.Tags.{padded}
+use Rattle.auth_sectors.proofs.Pieces.{front_of_code, sealed_parts}
+
+-- a tag in front of cipher text that fills the device sector is the piece
+pub whole_piece : (k now later : Keying) (offset size : ℕ) (plain text code sector : List ℕ) → now ≡ k → later ≡ k → size ≡ tag_bytes k.auth → length text ≡ 512
+    → drop (tag_bytes now.auth) text ≡ sealed_run now offset plain → code ≡ padded (tag_of later offset (take (length text - size) (drop size text)))
+    → sector ≡ take size code ++ drop (length (take size code)) text → sector ≡ sealed_piece k offset plain
+whole_piece k now later offset size plain text code sector same still wide len sealed coded put =
+    let cipher_text : List ℕ = drop size text in
+    let all : take (length text - size) cipher_text ≡ cipher_text = take_all (length text - size) cipher_text (omega (arith, length-drop size text)) in
+    let tag : take size code ≡ tag_of k offset cipher_text =
+    front_of_code k later offset size cipher_text code still wide (coded ∙ ap (λ (l : List ℕ). padded (tag_of later offset l)) all) in
+    let long : length (take size code) ≡ size = ap (λ (l : List ℕ). length l) tag ∙ length-hmac_of k.auth (tag_key k offset) cipher_text ∙ sym wide in
+    let is : cipher_text ≡ sealed_run k offset plain =
+    ap (λ (n : ℕ). drop n text) (wide ∙ sym (ap (λ (j : Keying). tag_bytes j.auth) same)) ∙ sealed ∙ ap (λ (j : Keying). sealed_run j offset plain) same in
+    let full : 0 ≡ unit_bytes_of k.auth - length cipher_text = omega (arith, length-drop size text, tag_and_unit k.auth) in
+    put
+    ∙ (λ i. take size code ++ drop (long i) text)
+    ∙ ap (λ (l : List ℕ). take size code ++ l) (sym (append-nil cipher_text))
+    ∙ sealed_parts k offset 0 plain (take size code) cipher_text [] tag is refl full
+
+-- four device sectors are those of their bytes
+pub parts_of_four : (a b c d : List ℕ) → length a ≡ 512 → length b ≡ 512 → length c ≡ 512 → length d ≡ 512 → parts 512 4 (a ++ (b ++ (c ++ d))) ≡ a ∷ b ∷ c ∷ d ∷ []
+parts_of_four a b c d la lb lc ld =
+    let second : drop 512 (a ++ (b ++ (c ++ d))) ≡ b ++ (c ++ d) = drop_at a (b ++ (c ++ d)) 512 la in
+    let third : drop 512 (drop 512 (a ++ (b ++ (c ++ d)))) ≡ c ++ d = ap (drop 512) second ∙ drop_at b (c ++ d) 512 lb in
+    let fourth : drop 512 (drop 512 (drop 512 (a ++ (b ++ (c ++ d))))) ≡ d = ap (drop 512) third ∙ drop_at c d 512 lc in
+    let first_is : take 512 (a ++ (b ++ (c ++ d))) ≡ a = take_at a (b ++ (c ++ d)) 512 la in
+    let second_is : take 512 (drop 512 (a ++ (b ++ (c ++ d)))) ≡ b = ap (take 512) second ∙ take_at b (c ++ d) 512 lb in
+    let third_is : take 512 (drop 512 (drop 512 (a ++ (b ++ (c ++ d))))) ≡ c = ap (take 512) third ∙ take_at c d 512 lc in
+    let fourth_is : take 512 (drop 512 (drop 512 (drop 512 (a ++ (b ++ (c ++ d)))))) ≡ d = ap (take 512) fourth ∙ take_all 512 d (omega arith) in
+    λ i. first_is i ∷ second_is i ∷ third_is i ∷ fourth_is i ∷ []
+
+-- the plain bytes of the second, third and fourth of four pieces
+pub second_part : (width u : ℕ) (plain : List ℕ) → width ≡ u → take (2 * width - width) (drop width plain) ≡ take u (drop u plain)
+second_part width u plain wide = let count : 2 * width - width ≡ u = omega arith in λ i. take (count i) (drop (wide i) plain)
+
+pub third_part : (width u : ℕ) (plain : List ℕ) → width ≡ u → take (3 * width - 2 * width) (drop (2 * width) plain) ≡ take u (drop u (drop u plain))
+third_part width u plain wide =
+    let count : 3 * width - 2 * width ≡ u = omega arith in
+    let place : 2 * width ≡ u + u = omega arith in
+    (λ i. take (count i) (drop (place i) plain)) ∙ ap (take u) (sym (drop-drop u u plain))
+
+pub fourth_part : (width u : ℕ) (plain : List ℕ) → width ≡ u → length plain ≡ 4 * u → take (length plain - 3 * width) (drop (3 * width) plain) ≡ take u (drop u (drop u (drop u plain)))
+fourth_part width u plain wide long =
+    let count : length plain - 3 * width ≡ u = omega arith in
+    let place : 3 * width ≡ u + u + u = omega arith in
+    (λ i. take (count i) (drop (place i) plain)) ∙ ap (take u) (sym (ap (drop u) (drop-drop u u plain) ∙ drop-drop u (u + u) plain))

@@ -1,0 +1,29 @@
+//! A whole piece, whose cipher text fills its device sector behind the tag.
+
+ghost use Rattle.std.specs.Prelude.{◌≡◌, ◌≢◌, ◌≤◌, ◌++◌, drop, length};
+ghost use Rattle.eli_base.specs.Units.{tag_bytes, unit_bytes_of};
+ghost use Rattle.sealing.specs.Runs.{sealed_run};
+
+use range_keys::KeyRing;
+use sealing::seal_run;
+
+/// Enciphers the plain bytes of a whole piece into their place in its device sector, which is behind that of the tag.
+pub fn encipher_whole(ring: &mut KeyRing, offset: u64, plain: &[u8], sector: &mut [u8])
+    requires plain { length plain.now ≡ unit_bytes_of ring.old.keying.auth }
+    requires sector { length sector.old ≡ 512 }
+    ensures sealed { drop (tag_bytes ring.old.keying.auth) sector.new ≡ sealed_run ring.old.keying offset plain.now }
+    ensures keying { ring.new.keying ≡ ring.old.keying }
+{
+    let size = ring.auth().tag_bytes();
+    let text = &mut sector[size..];
+    text.copy_from_slice(plain);
+    seal_run(ring, offset, text);
+}
+
+/// Puts a tag in front of the cipher text.
+pub fn put_tag(tag: &[u8], sector: &mut [u8])
+    requires { length tag.now ≤ length sector.old }
+    ensures { sector.new ≡ tag.now ++ drop (length tag.now) sector.old }
+{
+    sector[..tag.len()].copy_from_slice(tag);
+}

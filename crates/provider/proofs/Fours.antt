@@ -1,0 +1,164 @@
+-- Whole units of a logical sector, four at a time.
+use Rattle.std.proofs.Common.{◌≡◌, ◌≢◌, ℕ, zero, suc, ◌+◌, ◌-◌, ◌*◌, ◌/◌, ◌<◌, ◌≤◌, List, [], ◌∷◌, ◌++◌, length, get_or, take, take-add, drop, refl, sym, ap, ◌∙◌, arith, add-one}
+use Rattle.std.proofs.Math.Nat.{mul-le-mul_right}
+use Rattle.std.proofs.Math.Seq.{take-append-add, drop-cons}
+use Rattle.std.proofs.lemmas.List.{take-take, drop-take, drop-drop}
+use borrow.Rule.Slice.PartMut.{put_mid}
+use Rattle.auth_sectors.specs.Wholes.{sealed_pieces}
+use Rattle.block_traits.specs.Disk.{writes_from}
+use Rattle.block_traits.specs.declared.disk.Event.{Event}
+use Rattle.block_traits.specs.Parts.{parts}
+use Rattle.eli_base.specs.declared.algorithms.Auth.{Auth}
+use Rattle.eli_base.specs.declared.algorithms.Auth.TheVariants.{Off, Sha256, Sha384, Sha512}
+use Rattle.eli_base.specs.Keying.{Keying}
+use Rattle.eli_base.specs.Units.{unit_bytes_of, units_per_sector}
+use Rattle.sealing.specs.Pieces.{sealed_piece}
+use Rattle.sealing.specs.Sectors.{seal, units}
+use Rattle.sealing.proofs.Pieces.{sealed_unit-tagged}
+use Rattle.sealing.proofs.Sectors.{length-seal}
+use Rattle.provider.proofs.Cuts.{parts-put-some}
+use Rattle.provider.proofs.InMemory.{counted}
+use Rattle.provider.proofs.UnitLists.{piece_writes, piece_writes-start, piece_writes-at}
+
+-- ---- whole units
+
+-- there are as many units as whole ones, or more
+wholes_within : (auth : Auth) (size m : ℕ) → unit_bytes_of auth * m ≤ size → m ≤ units_per_sector auth size
+wholes_within Off size m fits = omega arith
+wholes_within Sha256 size m fits = omega arith
+wholes_within Sha384 size m fits = omega arith
+wholes_within Sha512 size m fits = omega arith
+
+-- the bytes of four whole units have their place among those of the sector
+pub four_fit : (u fours i size : ℕ) → i < fours → fours * (4 * u) ≤ size → u * (4 * i + 4) ≤ size
+four_fit u fours i size more fits =
+    let some : i + 1 ≤ fours = omega arith in
+    omega (arith, mul-le-mul_right (4 * u) some, fits)
+
+-- the group at which a loop over those of a logical sector stands, on a disk of this size
+pub record IsGroup (k : Keying) (sector i n group size : ℕ) : Type 0 where
+  pub place : n ≡ sector * units k + 4 * i
+  pub bytes : group ≡ 4 * unit_bytes_of k.auth
+  pub inside : n + 4 ≤ size
+
+pub is_group : (k : Keying) (auth : Auth) (sector fours i long width size : ℕ) → auth ≡ k.auth → width ≡ unit_bytes_of auth → long ≡ k.sectorsize → i < fours
+    → fours * (4 * unit_bytes_of k.auth) ≤ long → sector * units k + units k ≤ size → IsGroup k sector i (sector * ((long - 1) / width + 1) + 4 * i) (4 * width) size
+is_group k auth sector fours i long width size same wide all more fits inside =
+    let count = counted k auth long width same wide all in
+    let some = four_fit (unit_bytes_of k.auth) fours i long more fits in
+    let within = wholes_within k.auth k.sectorsize (4 * i + 4) (omega (arith, some, all)) in
+    let place : sector * ((long - 1) / width + 1) + 4 * i ≡ sector * units k + 4 * i = ap (λ (m : ℕ). sector * m + 4 * i) count in
+    record {
+      place = place;
+      bytes = ap (λ (w : ℕ). 4 * w) (wide ∙ ap (λ (a : Auth). unit_bytes_of a) same);
+      inside = omega (arith, place, within, inside);
+    }
+
+-- ---- what they are sealed to
+
+-- pieces depend on the bytes that they have alone
+sealed_pieces-take : (m : ℕ) (k : Keying) (offset : ℕ) (plain : List ℕ) → sealed_pieces k offset m (take (unit_bytes_of k.auth * m) plain) ≡ sealed_pieces k offset m plain
+sealed_pieces-take zero k offset plain = refl
+sealed_pieces-take (suc m) k offset plain =
+    let u : ℕ = unit_bytes_of k.auth in
+    let all : u * suc m ≡ u + u * m = omega arith in
+    let fits : u ≤ u + u * m = omega arith in
+    let first : take u (take (u * suc m) plain) ≡ take u plain = ap (λ (n : ℕ). take u (take n plain)) all ∙ take-take u (u + u * m) plain fits in
+    let others : drop u (take (u * suc m) plain) ≡ take (u * m) (drop u plain) = ap (λ (n : ℕ). drop u (take n plain)) all ∙ drop-take u (u * m) plain in
+    (λ i. sealed_piece k offset (first i) ∷ sealed_pieces k (offset + 512) m (others i))
+    ∙ ap (λ (l : List (List ℕ)). sealed_piece k offset (take u plain) ∷ l) (sealed_pieces-take m k (offset + 512) (drop u plain))
+
+-- the device sectors from unit j on are those of so many whole pieces, and those behind them
+some_sealed : (m : ℕ) (k : Keying) (sector j n : ℕ) (bytes plain : List ℕ) → k.auth ≢ Off → unit_bytes_of k.auth * (j + m) ≤ k.sectorsize → n ≡ sector * units k + j
+    → plain ≡ drop (unit_bytes_of k.auth * j) bytes → drop j (seal k sector bytes) ≡ sealed_pieces k (512 * n) m plain ++ drop (j + m) (seal k sector bytes)
+some_sealed zero k sector j n bytes plain on fits at is = let same : j ≡ j + 0 = omega arith in ap (λ (p : ℕ). drop p (seal k sector bytes)) same
+some_sealed (suc m) k sector j n bytes plain on fits at is =
+    let u : ℕ = unit_bytes_of k.auth in
+    let every : List (List ℕ) = seal k sector bytes in
+    let within = wholes_within k.auth k.sectorsize (j + suc m) fits in
+    let lt : j < units k = omega (arith, within) in
+    let offset : 512 * (sector * units k) + 512 * j ≡ 512 * n = omega (arith, at) in
+    let here : get_or every j [] ≡ sealed_piece k (512 * n) (take u plain) = sealed_unit-tagged k sector j bytes on lt ∙ (λ i. sealed_piece k (offset i) (take u (sym is i))) in
+    let next : u * (j + 1 + m) ≤ k.sectorsize = omega (arith, fits) in
+    let place : u * j + u ≡ u * (j + 1) = omega arith in
+    let behind : drop u plain ≡ drop (u * (j + 1)) bytes = ap (drop u) is ∙ drop-drop u (u * j) bytes ∙ ap (λ (p : ℕ). drop p bytes) place in
+    let number : n + 1 ≡ sector * units k + (j + 1) = omega (arith, at) in
+    let after : 512 * (n + 1) ≡ 512 * n + 512 = omega arith in
+    let count : j + 1 + m ≡ j + suc m = omega arith in
+    drop-cons every j [] (rw (length-seal k sector bytes) lt)
+    ∙ (λ i. here i ∷ drop (sym (add-one j) i) every)
+    ∙ ap (λ (l : List (List ℕ)). sealed_piece k (512 * n) (take u plain) ∷ l) (some_sealed m k sector (j + 1) (n + 1) bytes (drop u plain) on next number behind
+    ∙ (λ i. sealed_pieces k (after i) m (drop u plain) ++ drop (count i) every))
+
+-- those from unit 4 i on are those of a group, and those behind it
+pub group_sealed : (k now : Keying) (sector i n group width : ℕ) (bytes : List ℕ) → k.auth ≢ Off → now ≡ k → group ≡ 4 * unit_bytes_of k.auth → width ≡ group
+    → unit_bytes_of k.auth * (4 * i + 4) ≤ k.sectorsize → n ≡ sector * units k + 4 * i
+    → drop (4 * i) (seal k sector bytes) ≡ sealed_pieces now (512 * n) 4 (take width (drop (i * group) bytes)) ++ drop (4 * (i + 1)) (seal k sector bytes)
+group_sealed k now sector i n group width bytes on same four wide fits at =
+    let u : ℕ = unit_bytes_of k.auth in
+    let plain : List ℕ = drop (i * group) bytes in
+    let place : u * (4 * i) ≡ i * group = omega (arith, ap (λ (g : ℕ). i * g) four) in
+    let count : u * 4 ≡ width = omega (arith, four, wide) in
+    let more : 4 * i + 4 ≡ 4 * (i + 1) = omega arith in
+    some_sealed 4 k sector (4 * i) n bytes plain on fits at (ap (λ (p : ℕ). drop p bytes) (sym place))
+    ∙ (λ j. sym (sealed_pieces-take 4 k (512 * n) plain) j ++ drop (more j) (seal k sector bytes))
+    ∙ (λ j. sealed_pieces (sym same j) (512 * n) 4 (take (count j) plain) ++ drop (4 * (i + 1)) (seal k sector bytes))
+
+-- a group that is put behind those before it
+pub group_put : (k now : Keying) (sector i n group width room : ℕ) (bytes out sealed : List ℕ) → k.auth ≢ Off → now ≡ k → group ≡ 4 * unit_bytes_of k.auth → width ≡ group
+    → unit_bytes_of k.auth * (4 * i + 4) ≤ k.sectorsize → n ≡ sector * units k + 4 * i → parts 512 4 sealed ≡ sealed_pieces now (512 * n) 4 (take width (drop (i * group) bytes))
+    → length sealed ≡ 2048 → 2048 * i ≤ length out → parts 512 (4 * i) out ≡ take (4 * i) (seal k sector bytes)
+    → parts 512 (4 * (i + 1)) (put_mid (2048 * i) room out sealed) ≡ take (4 * (i + 1)) (seal k sector bytes)
+group_put k now sector i n group width room bytes out sealed on same four wide fits at is long fit so =
+    let every : List (List ℕ) = seal k sector bytes in
+    let more : 4 * (i + 1) ≡ 4 * i + 4 = omega arith in
+    let place : 2048 * i ≡ 512 * (4 * i) = omega arith in
+    let here : take 4 (drop (4 * i) every) ≡ sealed_pieces now (512 * n) 4 (take width (drop (i * group) bytes)) =
+    ap (take 4) (group_sealed k now sector i n group width bytes on same four wide fits at) in
+    (λ j. parts 512 (more j) (put_mid (place j) room out sealed))
+    ∙ parts-put-some (4 * i) 4 room out sealed long (omega (arith, fit))
+    ∙ (λ j. so j ++ (is ∙ sym here) j)
+    ∙ sym (take-add (4 * i) 4 every)
+    ∙ ap (λ (m : ℕ). take m every) (sym more)
+
+-- ---- what is written
+
+-- the writes from unit 4 i on are those of a group, and those behind it
+group_writes : (k now : Keying) (sector i n group width : ℕ) (bytes : List ℕ) → k.auth ≢ Off → now ≡ k → group ≡ 4 * unit_bytes_of k.auth → width ≡ group
+    → unit_bytes_of k.auth * (4 * i + 4) ≤ k.sectorsize → n ≡ sector * units k + 4 * i
+    → piece_writes k sector bytes (4 * i) ≡ writes_from n (sealed_pieces now (512 * n) 4 (take width (drop (i * group) bytes))) ++ piece_writes k sector bytes (4 * (i + 1))
+group_writes k now sector i n group width bytes on same four wide fits at =
+    let here : List Event = writes_from n (sealed_pieces now (512 * n) 4 (take width (drop (i * group) bytes))) in
+    let after : n + 1 + 1 + 1 + 1 ≡ sector * units k + 4 * (i + 1) = omega (arith, at) in
+    piece_writes-at k sector bytes (4 * i)
+    ∙ (λ j. writes_from (sym at j) (group_sealed k now sector i n group width bytes on same four wide fits at j))
+    ∙ ap (λ (m : ℕ). here ++ writes_from m (drop (4 * (i + 1)) (seal k sector bytes))) after
+    ∙ ap (λ (l : List Event). here ++ l) (sym (piece_writes-at k sector bytes (4 * (i + 1))))
+
+-- the writes of so many groups from the i-th on
+pub fours_left : Keying → ℕ → List ℕ → ℕ → ℕ → List Event
+fours_left k sector bytes fours i = take (4 * (fours - i)) (piece_writes k sector bytes (4 * i))
+
+pub fours_left-start : (k : Keying) (sector : ℕ) (bytes : List ℕ) (fours : ℕ) → fours_left k sector bytes fours 0 ≡ take (4 * fours) (writes_from (sector * units k) (seal k sector bytes))
+unfolding fours_left
+fours_left-start k sector bytes fours =
+    let all : 4 * (fours - 0) ≡ 4 * fours = omega arith in
+    let none : 4 * 0 ≡ 0 = omega arith in
+    (λ i. take (all i) (piece_writes k sector bytes (none i))) ∙ ap (take (4 * fours)) (piece_writes-start k sector bytes)
+
+pub fours_left-next : (k now : Keying) (sector fours i n group width : ℕ) (bytes : List ℕ) → k.auth ≢ Off → now ≡ k → length bytes ≡ k.sectorsize → group ≡ 4 * unit_bytes_of k.auth → width ≡ group
+    → i < fours → fours * (4 * unit_bytes_of k.auth) ≤ length bytes → n ≡ sector * units k + 4 * i
+    → fours_left k sector bytes fours i ≡ writes_from n (sealed_pieces now (512 * n) 4 (take width (drop (i * group) bytes))) ++ fours_left k sector bytes fours (i + 1)
+unfolding fours_left
+fours_left-next k now sector fours i n group width bytes on same long four wide more fits at =
+    let here : List Event = writes_from n (sealed_pieces now (512 * n) 4 (take width (drop (i * group) bytes))) in
+    let left : 4 * (fours - i) ≡ 4 + 4 * (fours - (i + 1)) = omega arith in
+    let inside = four_fit (unit_bytes_of k.auth) fours i (length bytes) more fits in
+    ap (λ (m : ℕ). take m (piece_writes k sector bytes (4 * i))) left
+    ∙ ap (take (4 + 4 * (fours - (i + 1)))) (group_writes k now sector i n group width bytes on same four wide (omega (arith, inside, long)) at)
+    ∙ take-append-add here (piece_writes k sector bytes (4 * (i + 1))) (4 * (fours - (i + 1)))
+
+pub fours_left-end : (k : Keying) (sector : ℕ) (bytes : List ℕ) (fours i : ℕ) → fours ≤ i → fours_left k sector bytes fours i ≡ []
+unfolding fours_left
+fours_left-end k sector bytes fours i done =
+    let none : 4 * (fours - i) ≡ 0 = omega arith in ap (λ (m : ℕ). take m (piece_writes k sector bytes (4 * i))) none

@@ -62,7 +62,9 @@ pub fn state_of(w: Columns) -> Block
 }
 
 // SubBytes and MixColumns of a column, each row of which stands in another word.
-#[inline(always)]
+//
+// Not `inline(always)`: what grows too large by such functions isn't put into its callers.
+#[inline]
 fn mixed(a: u32, b: u32, c: u32, d: u32) -> u32
     ensures { result ≡ mixed_word (sbox (a % 256)) (sbox (b / 2 ^ 8 % 256)) (sbox (c / 2 ^ 16 % 256)) (sbox (d / 2 ^ 24)) }
 {
@@ -88,7 +90,7 @@ pub fn after_round(w: Columns, keys: &[u8; 240], r: usize) -> Columns
 }
 
 // SubBytes of a column, each row of which stands in another word. Each table has the S-box itself in two of its rows.
-#[inline(always)]
+#[inline]
 fn substituted(a: u32, b: u32, c: u32, d: u32) -> u32
     ensures { result ≡ word_of (sbox (a % 256)) (sbox (b / 2 ^ 8 % 256)) (sbox (c / 2 ^ 16 % 256)) (sbox (d / 2 ^ 24)) }
 {

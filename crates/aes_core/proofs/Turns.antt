@@ -3,6 +3,8 @@ use Rattle.std.proofs.Common.{◌≡◌, ℕ, suc, ◌+◌, ◌-◌, ◌*◌, �
 use Rattle.aes_core.proofs.Boxes.{times-two}
 use Rattle.aes_core.proofs.Inverse.{power-lt}
 use lib.Bits.{xor_assoc, xor_zero_r}
+use Rattle.aes_core.specs.Columns.{words_of}
+use Rattle.aes_core.specs.State.{IsState}
 use Rattle.aes_core.specs.Field.{times_x, times_bits, times, power}
 use Rattle.aes_core.specs.Aes.{xor, word, rotated, key_term, sub_bytes, shift_rows, mix_columns, inverse_sub_bytes, inverse_shift_rows, inverse_mix_columns, round_key, after_rounds, after_inverse_rounds}
 
@@ -16,6 +18,16 @@ unfolding after_rounds
 after_rounds_step w b s s1 s2 s3 r n e e1 e2 e3 e4 =
     let next : after_rounds w b (n + 1) ≡ xor (mix_columns (shift_rows (sub_bytes (after_rounds w b n)))) (round_key w (n + 1)) = ap (after_rounds w b) (add-one n) in
     e4 ∙ ap (λ (x : List ℕ). xor x (round_key w (n + 1))) (e3 ∙ ap mix_columns (e2 ∙ ap shift_rows (e1 ∙ ap sub_bytes e))) ∙ sym next
+
+-- the columns behind round r, by those behind the round before it
+pub behind_round : (keys b : List ℕ) (w next : List ℕ) (n r : ℕ) → r ≡ n + 1 → ((s : List ℕ) → IsState s → w ≡ words_of s → next ≡ words_of (xor (mix_columns (shift_rows (sub_bytes s))) (round_key keys r)))
+    → IsState (after_rounds keys b n) → w ≡ words_of (after_rounds keys b n) → next ≡ words_of (after_rounds keys b r)
+behind_round keys b w next n r is round state held =
+    let before : List ℕ = after_rounds keys b n in
+    let after : List ℕ = xor (mix_columns (shift_rows (sub_bytes before))) (round_key keys (n + 1)) in
+    let step = after_rounds_step keys b before (sub_bytes before) (shift_rows (sub_bytes before)) (mix_columns (shift_rows (sub_bytes before))) after n refl refl refl refl refl in
+    let here : next ≡ words_of after = round before state held ∙ ap (λ (m : ℕ). words_of (xor (mix_columns (shift_rows (sub_bytes before))) (round_key keys m))) is in
+    here ∙ ap words_of step ∙ ap (λ (m : ℕ). words_of (after_rounds keys b m)) (sym is)
 
 pub after_inverse_rounds_start : (w b : List ℕ) (m : ℕ) → after_inverse_rounds w m b 0 ≡ xor b (round_key w (m + 1))
 unfolding after_inverse_rounds

@@ -10,7 +10,7 @@ ghost use Rattle.aes_core.specs.Columns.{word_of, word_at, words_of, mixed_word,
 ghost use Rattle.aes_core.specs.State.{IsState};
 
 use crate::blocks::Block;
-use crate::column_tables::{ROW_0, ROW_1, ROW_2, ROW_3};
+use crate::column_tables::ROWS;
 use crate::inverse_column_tables::{INVERSE_ROW_0, INVERSE_ROW_1, INVERSE_ROW_2, INVERSE_ROW_3};
 use crate::sboxes::inverse_sbox;
 use std::simd::prelude::*;
@@ -62,14 +62,16 @@ pub fn state_of(w: Columns) -> Block
 }
 
 // SubBytes and MixColumns of a column, each row of which stands in another word.
-#[inline(always)]
+//
+// Not `inline(always)`: what grows too large by such functions isn't put into its callers.
+#[inline]
 fn mixed(a: u32, b: u32, c: u32, d: u32) -> u32
     ensures { result ≡ mixed_word (sbox (a % 256)) (sbox (b / 2 ^ 8 % 256)) (sbox (c / 2 ^ 16 % 256)) (sbox (d / 2 ^ 24)) }
 {
-    ROW_0[(a % 256) as usize]
-        ^ ROW_1[((b >> 8) % 256) as usize]
-        ^ ROW_2[((c >> 16) % 256) as usize]
-        ^ ROW_3[(d >> 24) as usize]
+    ROWS[0][(a % 256) as usize]
+        ^ ROWS[1][((b >> 8) % 256) as usize]
+        ^ ROWS[2][((c >> 16) % 256) as usize]
+        ^ ROWS[3][(d >> 24) as usize]
 }
 
 /// SubBytes, ShiftRows, MixColumns, and the sum with round key r.
@@ -88,14 +90,14 @@ pub fn after_round(w: Columns, keys: &[u8; 240], r: usize) -> Columns
 }
 
 // SubBytes of a column, each row of which stands in another word. Each table has the S-box itself in two of its rows.
-#[inline(always)]
+#[inline]
 fn substituted(a: u32, b: u32, c: u32, d: u32) -> u32
     ensures { result ≡ word_of (sbox (a % 256)) (sbox (b / 2 ^ 8 % 256)) (sbox (c / 2 ^ 16 % 256)) (sbox (d / 2 ^ 24)) }
 {
-    (ROW_2[(a % 256) as usize] & 0xff)
-        ^ (ROW_3[((b >> 8) % 256) as usize] & 0xff00)
-        ^ (ROW_0[((c >> 16) % 256) as usize] & 0xff_0000)
-        ^ (ROW_1[(d >> 24) as usize] & 0xff00_0000)
+    (ROWS[2][(a % 256) as usize] & 0xff)
+        ^ (ROWS[3][((b >> 8) % 256) as usize] & 0xff00)
+        ^ (ROWS[0][((c >> 16) % 256) as usize] & 0xff_0000)
+        ^ (ROWS[1][(d >> 24) as usize] & 0xff00_0000)
 }
 
 /// SubBytes, ShiftRows, and the sum with round key r.

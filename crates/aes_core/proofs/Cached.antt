@@ -1,5 +1,5 @@
 -- The cipher with its S-box as a parameter, so that the examples are computed with the table.
-use Rattle.std.proofs.Common.{◌≡◌, ℕ, zero, suc, ◌+◌, ◌-◌, ◌*◌, ◌/◌, ◌%◌, ◌<◌, ◌≤◌, ◌==◌, ◌&&◌, List, ◌++◌, map, get_or, refl, sym, ap, ◌∙◌, if◌then◌else◌, nat_lt, arith}
+use Rattle.std.proofs.Common.{◌≡◌, ℕ, zero, suc, ◌+◌, ◌-◌, ◌*◌, ◌/◌, ◌%◌, ◌==◌, ◌&&◌, List, ◌++◌, map, get_or, refl, ap, ◌∙◌, if◌then◌else◌, nat_lt, arith}
 use Rattle.std.proofs.lemmas.Bool.Decides.{nat_tests}
 use Rattle.aes_core.specs.Aes.{sbox, xor, shift_rows, mix_columns, word, rotated, round_constant, key_words, rounds, round_key, expanded, after_rounds, encrypt}
 use Rattle.aes_core.proofs.Boxes.{sbox_table, sbox_entry}

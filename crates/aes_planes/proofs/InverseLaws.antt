@@ -10,7 +10,7 @@ use Rattle.std.specs.Simd.Lanes.{zip2}
 use Rattle.aes_core.specs.Field.{times}
 use Rattle.aes_core.specs.State.{IsState}
 use Rattle.aes_core.specs.Aes.{xor, bytes_by, inverse_sbox, inverse_sub_bytes, inverse_shift_rows, mix_columns, inverse_mix_columns, round_key, after_inverse_rounds, deciphered}
-use Rattle.aes_core.proofs.Boxes.{agree_at, inverse_sbox_table, inverse_sbox_entry}
+use Rattle.aes_core.proofs.Boxes.{agree_at, inverse_sbox_entry}
 use Rattle.aes_core.proofs.Inverse.{times-xor, sum4, sum4-xor, sum4-rotated, IsState-xor, IsState-bytes_by, AreRoundKeys}
 use Rattle.aes_planes.specs.Circuit.{run, outputs, inverse_sbox_gates, inverse_sbox_outputs}
 use Rattle.aes_planes.specs.Planes.{vector_ops, planes_of, rows, unshift_in, unshift_between, opposite_lane, opposite_row, mixed_rows, quadrupled_planes, turned, half_inverse, half_inverse_sub}

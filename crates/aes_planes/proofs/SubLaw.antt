@@ -1,5 +1,5 @@
 -- The circuit of the S-box on eight planes is SubBytes on each of the eight blocks.
-use Rattle.std.proofs.Common.{◌≡◌, ℕ, zero, suc, ◌+◌, ◌*◌, ◌/◌, ◌%◌, ◌<◌, List, [], ◌∷◌, map, get_or, length, min, max, bit_xor, bit_and, bit_or, replicate, refl, sym, ap, ◌∙◌, arith, inl, inr, zero-add, lit<}
+use Rattle.std.proofs.Common.{◌≡◌, ℕ, ◌+◌, ◌*◌, ◌/◌, ◌%◌, ◌<◌, List, [], ◌∷◌, map, get_or, length, bit_xor, bit_and, bit_or, replicate, refl, sym, ap, ◌∙◌, arith, inl, inr, zero-add, lit<}
 use Rattle.std.proofs.lemmas.Bool.{cases_lt}
 use Rattle.std.proofs.lemmas.Nat.{and_le_l, or_of_8, xor_of_8}
 use Rattle.std.proofs.lemmas.Nat.Bits.{bit_at-zero, bit_at-lt, bit_at_and, bit_at_or, bit_at_xor}

@@ -5,7 +5,7 @@ use Rattle.std.proofs.lemmas.List.FromFn.{get_or-map-range_with_len}
 use Rattle.std.proofs.lemmas.Nat.Bits.{bit_at-zero, bit_at-lt, bit_at_and, bit_at_or, bit_at_xor}
 use Rattle.aes_core.proofs.Boxes.{agree_at, sbox_table, sbox_entry, inverse_sbox_table}
 use Rattle.std.specs.List.{range_with_len}
-use Rattle.aes_core.specs.Aes.{sbox, bit}
+use Rattle.aes_core.specs.Aes.{bit}
 use Rattle.aes_planes.specs.Circuit.{Ops, Gate, run, outputs, sbox_gates, sbox_outputs, inverse_sbox_gates, inverse_sbox_outputs}
 use Rattle.aes_planes.specs.Planes.{half}
 use Rattle.aes_planes.specs.Blocks.{from_bits}

@@ -1,46 +1,52 @@
 -- Each entry of the tables of columns, a column from four of them, and a round by columns, both ways.
-use Rattle.std.proofs.Common.{◌≡◌, ℕ, zero, suc, ◌^◌, ◌+◌, ◌-◌, ◌*◌, ◌<◌, ◌/◌, ◌%◌, List, [], ◌∷◌, length, map, get_or, bit_xor, bit_and, refl, sym, ap, subst, ◌∙◌, arith, lit<}
+use Rattle.std.proofs.Common.{◌≡◌, ℕ, zero, suc, ◌^◌, ◌+◌, ◌-◌, ◌*◌, ◌<◌, ◌/◌, ◌%◌, List, [], ◌∷◌, length, map, get_or, bit_xor, bit_and, refl, sym, ap, subst, ◌∙◌, arith, lit<, zero-add}
 use Rattle.std.proofs.lemmas.Nat.{xor_block, xor_of_8}
 use Rattle.std.specs.Int.Bits.{xor_zero_l, xor_zero_r}
 use Rattle.std.specs.List.{range_with_len}
+use Rattle.std.proofs.lemmas.List.{get_or-map}
+use Rattle.std.proofs.lemmas.List.FromFn.{get_or-map-range_with_len}
 use Rattle.std.specs.Simd.Lanes.{digits_l, number_l}
-use Rattle.aes_core.specs.Field.{times, power}
+use Rattle.aes_core.specs.Field.{times}
 use Rattle.std.proofs.lemmas.Simd.{get_or-zip2, get_or-chunk}
 use Rattle.aes_core.specs.Aes.{sbox, inverse_affine, inverse_sbox, after_inverse_rounds, bytes_by, xor, sub_bytes, shift_rows, mix_columns, inverse_sub_bytes, inverse_shift_rows, inverse_mix_columns, circulant_byte, round_key}
-use Rattle.aes_core.proofs.Boxes.{agree_at}
+use Rattle.aes_core.proofs.Boxes.{sbox_table, sbox_entry}
 use Rattle.aes_core.specs.State.{IsState}
 use Rattle.aes_core.proofs.Inverse.{by_index, times-lt, power-lt, sum4, sum4-rotated, sbox-lt, IsState-sub_bytes, IsState-shift_rows, IsState-mix_columns, IsState-bytes_by, IsState-xor}
 use Rattle.aes_core.specs.Columns.{word_of, word_at, words_of, mixed_word, unmixed_word}
 use Rattle.aes_core.specs.declared.column_tables.TheConstants.{ROW_0, ROW_1, ROW_2, ROW_3}
 use Rattle.aes_core.specs.declared.inverse_column_tables.TheConstants.{INVERSE_ROW_0, INVERSE_ROW_1, INVERSE_ROW_2, INVERSE_ROW_3}
 
-entries0 : map (λ x. get_or ROW_0 x 0) (range_with_len 0 256) ≡ map (λ x. word_of (times 2 (sbox x)) (times 1 (sbox x)) (times 1 (sbox x)) (times 3 (sbox x))) (range_with_len 0 256)
-unfolding sbox power times
+-- what a table has at x, where the S-box's table gives it by f
+row_entry : (row : List ℕ) (f : ℕ → ℕ) (x : ℕ) → map f sbox_table ≡ row → x < 256 → get_or row x 0 ≡ f (sbox x)
+row_entry row f x same lt = sym (ap (λ (l : List ℕ). get_or l x 0) same) ∙ get_or-map f sbox_table x 0 0 lt ∙ ap f (sbox_entry x lt)
+
+entries0 : map (λ y. word_of (times 2 y) (times 1 y) (times 1 y) (times 3 y)) sbox_table ≡ ROW_0
+unfolding times
 entries0 = refl
 
 entry0 : (x : ℕ) → x < 256 → get_or ROW_0 x 0 ≡ word_of (times 2 (sbox x)) (times 1 (sbox x)) (times 1 (sbox x)) (times 3 (sbox x))
-entry0 x lt = agree_at (λ x. get_or ROW_0 x 0) (λ x. word_of (times 2 (sbox x)) (times 1 (sbox x)) (times 1 (sbox x)) (times 3 (sbox x))) 256 x entries0 lt
+entry0 x lt = row_entry ROW_0 (λ y. word_of (times 2 y) (times 1 y) (times 1 y) (times 3 y)) x entries0 lt
 
-entries1 : map (λ x. get_or ROW_1 x 0) (range_with_len 0 256) ≡ map (λ x. word_of (times 3 (sbox x)) (times 2 (sbox x)) (times 1 (sbox x)) (times 1 (sbox x))) (range_with_len 0 256)
-unfolding sbox power times
+entries1 : map (λ y. word_of (times 3 y) (times 2 y) (times 1 y) (times 1 y)) sbox_table ≡ ROW_1
+unfolding times
 entries1 = refl
 
 entry1 : (x : ℕ) → x < 256 → get_or ROW_1 x 0 ≡ word_of (times 3 (sbox x)) (times 2 (sbox x)) (times 1 (sbox x)) (times 1 (sbox x))
-entry1 x lt = agree_at (λ x. get_or ROW_1 x 0) (λ x. word_of (times 3 (sbox x)) (times 2 (sbox x)) (times 1 (sbox x)) (times 1 (sbox x))) 256 x entries1 lt
+entry1 x lt = row_entry ROW_1 (λ y. word_of (times 3 y) (times 2 y) (times 1 y) (times 1 y)) x entries1 lt
 
-entries2 : map (λ x. get_or ROW_2 x 0) (range_with_len 0 256) ≡ map (λ x. word_of (times 1 (sbox x)) (times 3 (sbox x)) (times 2 (sbox x)) (times 1 (sbox x))) (range_with_len 0 256)
-unfolding sbox power times
+entries2 : map (λ y. word_of (times 1 y) (times 3 y) (times 2 y) (times 1 y)) sbox_table ≡ ROW_2
+unfolding times
 entries2 = refl
 
 entry2 : (x : ℕ) → x < 256 → get_or ROW_2 x 0 ≡ word_of (times 1 (sbox x)) (times 3 (sbox x)) (times 2 (sbox x)) (times 1 (sbox x))
-entry2 x lt = agree_at (λ x. get_or ROW_2 x 0) (λ x. word_of (times 1 (sbox x)) (times 3 (sbox x)) (times 2 (sbox x)) (times 1 (sbox x))) 256 x entries2 lt
+entry2 x lt = row_entry ROW_2 (λ y. word_of (times 1 y) (times 3 y) (times 2 y) (times 1 y)) x entries2 lt
 
-entries3 : map (λ x. get_or ROW_3 x 0) (range_with_len 0 256) ≡ map (λ x. word_of (times 1 (sbox x)) (times 1 (sbox x)) (times 3 (sbox x)) (times 2 (sbox x))) (range_with_len 0 256)
-unfolding sbox power times
+entries3 : map (λ y. word_of (times 1 y) (times 1 y) (times 3 y) (times 2 y)) sbox_table ≡ ROW_3
+unfolding times
 entries3 = refl
 
 entry3 : (x : ℕ) → x < 256 → get_or ROW_3 x 0 ≡ word_of (times 1 (sbox x)) (times 1 (sbox x)) (times 3 (sbox x)) (times 2 (sbox x))
-entry3 x lt = agree_at (λ x. get_or ROW_3 x 0) (λ x. word_of (times 1 (sbox x)) (times 1 (sbox x)) (times 3 (sbox x)) (times 2 (sbox x))) 256 x entries3 lt
+entry3 x lt = row_entry ROW_3 (λ y. word_of (times 1 y) (times 1 y) (times 3 y) (times 2 y)) x entries3 lt
 
 word_of-xor : (a b c d e f g h : ℕ) → a < 256 → b < 256 → c < 256 → e < 256 → f < 256 → g < 256
     → bit_xor (word_of a b c d) (word_of e f g h) ≡ word_of (bit_xor a e) (bit_xor b f) (bit_xor c g) (bit_xor d h)
@@ -76,20 +82,23 @@ column_is a b c d la lb lc ld =
 
 -- ---- the S-box in the tables
 
-sbox_entries0 : map (λ x. bit_and (get_or ROW_2 x 0) 0xFF) (range_with_len 0 256) ≡ map (λ x. word_of (sbox x) 0 0 0) (range_with_len 0 256)
-unfolding sbox power times
+-- the part of an entry under a mask, where the S-box's table gives it by f
+part_entry : (row : List ℕ) (mask : ℕ) (f : ℕ → ℕ) (x : ℕ) → length row ≡ 256 → map (λ w. bit_and w mask) row ≡ map f sbox_table → x < 256
+    → bit_and (get_or row x 0) mask ≡ f (sbox x)
+part_entry row mask f x long same lt =
+    sym (get_or-map (λ w. bit_and w mask) row x 0 0 (omega arith)) ∙ ap (λ (l : List ℕ). get_or l x 0) same
+    ∙ get_or-map f sbox_table x 0 0 lt ∙ ap f (sbox_entry x lt)
+
+sbox_entries0 : map (λ w. bit_and w 0xFF) ROW_2 ≡ map (λ y. word_of y 0 0 0) sbox_table
 sbox_entries0 = refl
 
-sbox_entries1 : map (λ x. bit_and (get_or ROW_3 x 0) 0xFF00) (range_with_len 0 256) ≡ map (λ x. word_of 0 (sbox x) 0 0) (range_with_len 0 256)
-unfolding sbox power times
+sbox_entries1 : map (λ w. bit_and w 0xFF00) ROW_3 ≡ map (λ y. word_of 0 y 0 0) sbox_table
 sbox_entries1 = refl
 
-sbox_entries2 : map (λ x. bit_and (get_or ROW_0 x 0) 0xFF0000) (range_with_len 0 256) ≡ map (λ x. word_of 0 0 (sbox x) 0) (range_with_len 0 256)
-unfolding sbox power times
+sbox_entries2 : map (λ w. bit_and w 0xFF0000) ROW_0 ≡ map (λ y. word_of 0 0 y 0) sbox_table
 sbox_entries2 = refl
 
-sbox_entries3 : map (λ x. bit_and (get_or ROW_1 x 0) 0xFF000000) (range_with_len 0 256) ≡ map (λ x. word_of 0 0 0 (sbox x)) (range_with_len 0 256)
-unfolding sbox power times
+sbox_entries3 : map (λ w. bit_and w 0xFF000000) ROW_1 ≡ map (λ y. word_of 0 0 0 y) sbox_table
 sbox_entries3 = refl
 
 -- the sum of four entries, each with its S-box alone
@@ -100,10 +109,10 @@ substituted_is a b c d la lb lc ld =
     let w = sbox a in let x = sbox b in let y = sbox c in let z = sbox d in
     let lw = sbox-lt a in let lx = sbox-lt b in let ly = sbox-lt c in
     let none : 0 < 256 = lit< tt in
-    let e0 = agree_at (λ x. bit_and (get_or ROW_2 x 0) 0xFF) (λ x. word_of (sbox x) 0 0 0) 256 a sbox_entries0 la in
-    let e1 = agree_at (λ x. bit_and (get_or ROW_3 x 0) 0xFF00) (λ x. word_of 0 (sbox x) 0 0) 256 b sbox_entries1 lb in
-    let e2 = agree_at (λ x. bit_and (get_or ROW_0 x 0) 0xFF0000) (λ x. word_of 0 0 (sbox x) 0) 256 c sbox_entries2 lc in
-    let e3 = agree_at (λ x. bit_and (get_or ROW_1 x 0) 0xFF000000) (λ x. word_of 0 0 0 (sbox x)) 256 d sbox_entries3 ld in
+    let e0 = part_entry ROW_2 0xFF (λ y. word_of y 0 0 0) a refl sbox_entries0 la in
+    let e1 = part_entry ROW_3 0xFF00 (λ y. word_of 0 y 0 0) b refl sbox_entries1 lb in
+    let e2 = part_entry ROW_0 0xFF0000 (λ y. word_of 0 0 y 0) c refl sbox_entries2 lc in
+    let e3 = part_entry ROW_1 0xFF000000 (λ y. word_of 0 0 0 y) d refl sbox_entries3 ld in
     let ab : bit_xor (word_of w 0 0 0) (word_of 0 x 0 0) ≡ word_of w x 0 0 = word_of-xor w 0 0 0 0 x 0 0 lw none none none lx none ∙ (λ i. word_of (xor_zero_r w i) (xor_zero_l x i) 0 0) in
     let abc : bit_xor (word_of w x 0 0) (word_of 0 0 y 0) ≡ word_of w x y 0 = word_of-xor w x 0 0 0 0 y 0 lw lx none none none ly ∙ (λ i. word_of (xor_zero_r w i) (xor_zero_r x i) (xor_zero_l y i) 0) in
     let abcd : bit_xor (word_of w x y 0) (word_of 0 0 0 z) ≡ word_of w x y z = word_of-xor w x y 0 0 0 0 z lw lx ly none none none ∙ (λ i. word_of (xor_zero_r w i) (xor_zero_r x i) (xor_zero_r y i) (xor_zero_l z i)) in
@@ -113,33 +122,33 @@ substituted_is a b c d la lb lc ld =
 
 -- ---- the inverse
 
-inverse_entries0 : map (λ x. get_or INVERSE_ROW_0 x 0) (range_with_len 0 256) ≡ map (λ x. word_of (times 14 x) (times 9 x) (times 13 x) (times 11 x)) (range_with_len 0 256)
+inverse_entries0 : map (λ x. word_of (times 14 x) (times 9 x) (times 13 x) (times 11 x)) (range_with_len 0 256) ≡ INVERSE_ROW_0
 unfolding times
 inverse_entries0 = refl
 
 inverse_entry0 : (x : ℕ) → x < 256 → get_or INVERSE_ROW_0 x 0 ≡ word_of (times 14 x) (times 9 x) (times 13 x) (times 11 x)
-inverse_entry0 x lt = agree_at (λ x. get_or INVERSE_ROW_0 x 0) (λ x. word_of (times 14 x) (times 9 x) (times 13 x) (times 11 x)) 256 x inverse_entries0 lt
+inverse_entry0 x lt = sym (ap (λ (l : List ℕ). get_or l x 0) inverse_entries0) ∙ get_or-map-range_with_len (λ x. word_of (times 14 x) (times 9 x) (times 13 x) (times 11 x)) 0 256 x x 0 lt (zero-add x)
 
-inverse_entries1 : map (λ x. get_or INVERSE_ROW_1 x 0) (range_with_len 0 256) ≡ map (λ x. word_of (times 11 x) (times 14 x) (times 9 x) (times 13 x)) (range_with_len 0 256)
+inverse_entries1 : map (λ x. word_of (times 11 x) (times 14 x) (times 9 x) (times 13 x)) (range_with_len 0 256) ≡ INVERSE_ROW_1
 unfolding times
 inverse_entries1 = refl
 
 inverse_entry1 : (x : ℕ) → x < 256 → get_or INVERSE_ROW_1 x 0 ≡ word_of (times 11 x) (times 14 x) (times 9 x) (times 13 x)
-inverse_entry1 x lt = agree_at (λ x. get_or INVERSE_ROW_1 x 0) (λ x. word_of (times 11 x) (times 14 x) (times 9 x) (times 13 x)) 256 x inverse_entries1 lt
+inverse_entry1 x lt = sym (ap (λ (l : List ℕ). get_or l x 0) inverse_entries1) ∙ get_or-map-range_with_len (λ x. word_of (times 11 x) (times 14 x) (times 9 x) (times 13 x)) 0 256 x x 0 lt (zero-add x)
 
-inverse_entries2 : map (λ x. get_or INVERSE_ROW_2 x 0) (range_with_len 0 256) ≡ map (λ x. word_of (times 13 x) (times 11 x) (times 14 x) (times 9 x)) (range_with_len 0 256)
+inverse_entries2 : map (λ x. word_of (times 13 x) (times 11 x) (times 14 x) (times 9 x)) (range_with_len 0 256) ≡ INVERSE_ROW_2
 unfolding times
 inverse_entries2 = refl
 
 inverse_entry2 : (x : ℕ) → x < 256 → get_or INVERSE_ROW_2 x 0 ≡ word_of (times 13 x) (times 11 x) (times 14 x) (times 9 x)
-inverse_entry2 x lt = agree_at (λ x. get_or INVERSE_ROW_2 x 0) (λ x. word_of (times 13 x) (times 11 x) (times 14 x) (times 9 x)) 256 x inverse_entries2 lt
+inverse_entry2 x lt = sym (ap (λ (l : List ℕ). get_or l x 0) inverse_entries2) ∙ get_or-map-range_with_len (λ x. word_of (times 13 x) (times 11 x) (times 14 x) (times 9 x)) 0 256 x x 0 lt (zero-add x)
 
-inverse_entries3 : map (λ x. get_or INVERSE_ROW_3 x 0) (range_with_len 0 256) ≡ map (λ x. word_of (times 9 x) (times 13 x) (times 11 x) (times 14 x)) (range_with_len 0 256)
+inverse_entries3 : map (λ x. word_of (times 9 x) (times 13 x) (times 11 x) (times 14 x)) (range_with_len 0 256) ≡ INVERSE_ROW_3
 unfolding times
 inverse_entries3 = refl
 
 inverse_entry3 : (x : ℕ) → x < 256 → get_or INVERSE_ROW_3 x 0 ≡ word_of (times 9 x) (times 13 x) (times 11 x) (times 14 x)
-inverse_entry3 x lt = agree_at (λ x. get_or INVERSE_ROW_3 x 0) (λ x. word_of (times 9 x) (times 13 x) (times 11 x) (times 14 x)) 256 x inverse_entries3 lt
+inverse_entry3 x lt = sym (ap (λ (l : List ℕ). get_or l x 0) inverse_entries3) ∙ get_or-map-range_with_len (λ x. word_of (times 9 x) (times 13 x) (times 11 x) (times 14 x)) 0 256 x x 0 lt (zero-add x)
 
 -- the sum of the four entries
 pub unmixed_is : (a b c d : ℕ) → a < 256 → b < 256 → c < 256 → d < 256

@@ -11,7 +11,7 @@ use Rattle.std.specs.List.{range_with_len}
 pub use Rattle.aes_core.specs.State.{IsState}
 use Rattle.aes_core.specs.Field.{times_x, times_bits, times, power}
 use Rattle.aes_core.specs.Aes.{sbox, inverse_sbox, bytes_by, xor, sub_bytes, shift_rows, mix_columns, circulant_byte, inverse_sub_bytes, inverse_shift_rows, inverse_mix_columns, round_key, after_rounds, after_inverse_rounds, enciphered, deciphered}
-use Rattle.aes_core.proofs.Boxes.{agree_at}
+use Rattle.aes_core.proofs.Boxes.{agree_at, sbox_table, inverse_sbox_table, sbox_entry, inverse_sbox_entry}
 
 -- ---- bytes
 
@@ -58,13 +58,14 @@ sbox-lt b = omega arith
 
 -- ---- SubBytes
 
-sub_is : map (λ b. inverse_sbox (sbox b)) (range_with_len 0 256) ≡ range_with_len 0 256
-unfolding sbox inverse_sbox power times
+-- in the tables: what undoes each entry
+sub_is : map (λ y. get_or inverse_sbox_table y 0) sbox_table ≡ range_with_len 0 256
 sub_is = refl
 
 pub inverse_sbox-sbox : (b : ℕ) → b < 256 → inverse_sbox (sbox b) ≡ b
 inverse_sbox-sbox b lt =
-    sym (get_or-map-range_with_len (λ b. inverse_sbox (sbox b)) 0 256 b b 0 lt (zero-add b)) ∙ ap (λ (l : List ℕ). get_or l b 0) sub_is
+    sym (inverse_sbox_entry (sbox b) (sbox-lt b)) ∙ ap (λ (y : ℕ). get_or inverse_sbox_table y 0) (sym (sbox_entry b lt))
+    ∙ sym (get_or-map (λ y. get_or inverse_sbox_table y 0) sbox_table b 0 0 lt) ∙ ap (λ (l : List ℕ). get_or l b 0) sub_is
     ∙ get_or-range_with_len 0 256 b 0 lt ∙ zero-add b
 
 pub inverse_sub_bytes-sub_bytes : (s : List ℕ) → IsState s → inverse_sub_bytes (sub_bytes s) ≡ s

@@ -1,5 +1,6 @@
 pub mod Fill
 pub mod Boxes
+pub mod Cached
 pub mod Turns
 pub mod KeyWords
 pub mod Keys

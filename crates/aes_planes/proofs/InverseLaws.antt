@@ -10,13 +10,13 @@ use Rattle.std.specs.Simd.Lanes.{zip2}
 use Rattle.aes_core.specs.Field.{times}
 use Rattle.aes_core.specs.State.{IsState}
 use Rattle.aes_core.specs.Aes.{xor, bytes_by, inverse_sbox, inverse_sub_bytes, inverse_shift_rows, mix_columns, inverse_mix_columns, round_key, after_inverse_rounds, deciphered}
-use Rattle.aes_core.proofs.Boxes.{agree_at, inverse_sbox_table, inverse_sbox_entry}
+use Rattle.aes_core.proofs.Boxes.{agree_at, inverse_sbox_entry}
 use Rattle.aes_core.proofs.Inverse.{times-xor, sum4, sum4-xor, sum4-rotated, IsState-xor, IsState-bytes_by, AreRoundKeys}
 use Rattle.aes_planes.specs.Circuit.{run, outputs, inverse_sbox_gates, inverse_sbox_outputs}
 use Rattle.aes_planes.specs.Planes.{vector_ops, planes_of, rows, unshift_in, unshift_between, opposite_lane, opposite_row, mixed_rows, quadrupled_planes, turned, half_inverse, half_inverse_sub}
 use Rattle.aes_planes.specs.Blocks.{from_bits, bit_in, block_at, vector_at, AreStates, AreOf, added}
 use Rattle.aes_planes.specs.declared.vectors.Planes.{Planes}
-use Rattle.aes_planes.proofs.Truth.{bit_ops, bits_of, inverse_circuit_byte, inverse_circuit_table}
+use Rattle.aes_planes.proofs.Truth.{bit_ops, bits_of, inverse_sbox_circuit}
 use Rattle.aes_planes.proofs.Hom.{Every, run-hom, outputs-hom}
 use Rattle.aes_planes.proofs.SubLaw.{bits_back, vector_hom, same_on_range, IsState-zeros}
 use Rattle.aes_planes.proofs.LinearLaws.{IsState-lanes_by}
@@ -42,7 +42,7 @@ inverse_of_bits a b c d e f g h la lb lc ld le lf lg lh =
     let small : x < 256 = omega arith in
     let back = bits_back a b c d e f g h la lb lc ld le lf lg lh in
     ap (λ (l : List ℕ). from_bits (outputs bit_ops inverse_sbox_outputs (run bit_ops inverse_sbox_gates l))) (sym back)
-    ∙ agree_at inverse_circuit_byte (λ x. get_or inverse_sbox_table (bit_xor x 0x63) 0) 256 x inverse_circuit_table small
+    ∙ inverse_sbox_circuit x small
     ∙ inverse_sbox_entry (bit_xor x 0x63) (xor_of_8 x 0x63 small (lit< tt))
 
 pub inverse_sub_law : (q r : Planes) (j : ℕ) → j < 8 → AreStates q → IsInverseSub q r → block_at (planes_of r) j ≡ half_inverse_sub (block_at (planes_of q) j)

@@ -15,7 +15,8 @@ use Rattle.aes_planes.specs.Planes.{planes_of, next_lane, opposite_lane, with_ne
 use Rattle.aes_planes.specs.declared.vectors.Planes.{Planes}
 use Rattle.aes_planes.proofs.Truth.{bits_of}
 use Rattle.aes_planes.proofs.Hom.{Every}
-use Rattle.aes_planes.proofs.SubLaw.{from_bits, bit_in, block_at, bits_back, whole_is, vector_hom, same_on_range, xor_of_bits}
+use Rattle.aes_planes.proofs.SubLaw.{from_bits, bit_in, block_at, bits_back, whole_is, vector_hom, same_on_range}
+use Rattle.aes_planes.proofs.Truth.{xor_of_bits}
 
 pub shift_law : (q r : Planes) (j : ℕ) → planes_of r ≡ map shift_rows (planes_of q) → block_at (planes_of r) j ≡ shift_rows (block_at (planes_of q) j)
 shift_law q r j e = ap (λ (ps : List (List ℕ)). block_at ps j) e

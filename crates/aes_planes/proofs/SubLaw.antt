@@ -1,5 +1,5 @@
 -- The circuit of the S-box on eight planes is SubBytes on each of the eight blocks.
-use Rattle.std.proofs.Common.{◌≡◌, ℕ, zero, suc, ◌+◌, ◌*◌, ◌/◌, ◌%◌, ◌<◌, List, [], ◌∷◌, map, get_or, length, min, max, bit_xor, bit_and, bit_or, replicate, refl, sym, ap, ◌∙◌, arith, inl, inr, zero-add, lit<}
+use Rattle.std.proofs.Common.{◌≡◌, ℕ, ◌+◌, ◌*◌, ◌/◌, ◌%◌, ◌<◌, List, [], ◌∷◌, map, get_or, length, bit_xor, bit_and, bit_or, replicate, refl, sym, ap, ◌∙◌, arith, inl, inr, zero-add, lit<}
 use Rattle.std.proofs.lemmas.Bool.{cases_lt}
 use Rattle.std.proofs.lemmas.Nat.{and_le_l, or_of_8, xor_of_8}
 use Rattle.std.proofs.lemmas.Nat.Bits.{bit_at-zero, bit_at-lt, bit_at_and, bit_at_or, bit_at_xor}
@@ -16,34 +16,8 @@ pub use Rattle.aes_planes.specs.Blocks.{from_bits, bit_in, block_at}
 use Rattle.aes_planes.specs.Circuit.{run, outputs, sbox_gates, sbox_outputs}
 use Rattle.aes_planes.specs.Planes.{vector_ops, planes_of, half, half_sub}
 use Rattle.aes_planes.specs.declared.vectors.Planes.{Planes}
-use Rattle.aes_planes.proofs.Truth.{bit_ops, bits_of, circuit_bits, sbox_circuit}
+use Rattle.aes_planes.proofs.Truth.{bit_ops, bits_of, sbox_circuit, xor_of_bits, and_of_bits, or_of_bits}
 use Rattle.aes_planes.proofs.Hom.{IsHom, Every, run-hom, outputs-hom}
-
-zero_or_one : (x : ℕ) → x < 2 → (P : ℕ → Type 0) → P 0 → P 1 → P x
-zero_or_one zero lt P a b = a
-zero_or_one (suc zero) lt P a b = b
-zero_or_one (suc (suc n)) lt P a b = absurd (omega arith)
-
-pub xor_of_bits : (x y : ℕ) → x < 2 → y < 2 → (x + y) % 2 ≡ bit_xor x y
-xor_of_bits x y lx ly =
-    let P : ℕ → Type 0 = λ x. (x + y) % 2 ≡ bit_xor x y in
-    let Q : ℕ → Type 0 = λ y. (0 + y) % 2 ≡ bit_xor 0 y in
-    let R : ℕ → Type 0 = λ y. (1 + y) % 2 ≡ bit_xor 1 y in
-    zero_or_one x lx P (zero_or_one y ly Q refl refl) (zero_or_one y ly R refl refl)
-
-pub and_of_bits : (x y : ℕ) → x < 2 → y < 2 → min x y ≡ bit_and x y
-and_of_bits x y lx ly =
-    let P : ℕ → Type 0 = λ x. min x y ≡ bit_and x y in
-    let Q : ℕ → Type 0 = λ y. min 0 y ≡ bit_and 0 y in
-    let R : ℕ → Type 0 = λ y. min 1 y ≡ bit_and 1 y in
-    zero_or_one x lx P (zero_or_one y ly Q refl refl) (zero_or_one y ly R refl refl)
-
-pub or_of_bits : (x y : ℕ) → x < 2 → y < 2 → max x y ≡ bit_or x y
-or_of_bits x y lx ly =
-    let P : ℕ → Type 0 = λ x. max x y ≡ bit_or x y in
-    let Q : ℕ → Type 0 = λ y. max 0 y ≡ bit_or 0 y in
-    let R : ℕ → Type 0 = λ y. max 1 y ≡ bit_or 1 y in
-    zero_or_one x lx P (zero_or_one y ly Q refl refl) (zero_or_one y ly R refl refl)
 
 -- ---- from vectors to bits
 
@@ -100,11 +74,6 @@ vector_hom p j lp lj =
 
 -- ---- bytes and their bits
 
-pub agree_lists : (f g : ℕ → List ℕ) (n b : ℕ) → map f (range_with_len 0 n) ≡ map g (range_with_len 0 n) → b < n → f b ≡ g b
-agree_lists f g n b same lt =
-    sym (get_or-map-range_with_len f 0 n b b [] lt (zero-add b)) ∙ ap (λ (l : List (List ℕ)). get_or l b []) same
-    ∙ get_or-map-range_with_len g 0 n b b [] lt (zero-add b)
-
 pub whole_is : map (λ x. from_bits (bits_of x)) (range_with_len 0 256) ≡ map (λ x. x) (range_with_len 0 256)
 whole_is = refl
 
@@ -132,7 +101,7 @@ sbox_of_bits a b c d e f g h la lb lc ld le lf lg lh =
     let small : x < 256 = omega arith in
     let back = bits_back a b c d e f g h la lb lc ld le lf lg lh in
     ap (λ (l : List ℕ). from_bits (outputs bit_ops sbox_outputs (run bit_ops sbox_gates l))) (sym back)
-    ∙ ap from_bits (agree_lists circuit_bits (λ x. bits_of (half x)) 256 x sbox_circuit small)
+    ∙ ap from_bits (sbox_circuit x small)
     ∙ agree_at (λ x. from_bits (bits_of x)) (λ x. x) 256 (half x) whole_is (half-lt x)
 
 -- ---- the law

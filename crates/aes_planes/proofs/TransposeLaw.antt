@@ -14,9 +14,9 @@ use Rattle.aes_core.proofs.Inverse.{IsState, xor_swap}
 use Rattle.aes_planes.specs.Planes.{planes_of}
 use Rattle.aes_planes.specs.declared.vectors.Planes.{Planes}
 use Rattle.aes_planes.specs.Transposition.{Step, Add, Right, Left, Keep, Linear, step_of, steps_of, places_of, on_bytes, on_vectors, transposing, transposed_places}
-use Rattle.aes_planes.proofs.Truth.{bits_of}
+use Rattle.aes_planes.proofs.Truth.{bits_of, agree_lists}
 use Rattle.aes_planes.proofs.Hom.{Every, Every-get, Every-push, get_or-map_default, map-push}
-use Rattle.aes_planes.proofs.SubLaw.{from_bits, bit_in, block_at, bits_back, agree_lists}
+use Rattle.aes_planes.proofs.SubLaw.{from_bits, bit_in, block_at, bits_back}
 
 -- ---- a map that keeps the operations keeps the network
 
@@ -129,53 +129,43 @@ net-sum env =
 
 -- ---- one row at a time
 
-column0_is : map (λ x. net (x ∷ 0 ∷ 0 ∷ 0 ∷ 0 ∷ 0 ∷ 0 ∷ 0 ∷ [])) (range_with_len 0 256) ≡ map (λ x. bit x 7 * 128 ∷ bit x 6 * 128 ∷ bit x 5 * 128 ∷ bit x 4 * 128 ∷ bit x 3 * 128 ∷ bit x 2 * 128 ∷ bit x 1 * 128 ∷ bit x 0 * 128 ∷ []) (range_with_len 0 256)
-column0_is = refl
+-- an additive function of a byte, known at its two halves
+by_halves : (f g : ℕ → List ℕ) → ((x y : ℕ) → f (bit_xor x y) ≡ zip2 bit_xor (f x) (f y))
+    → map (λ h. f (16 * h)) (range_with_len 0 16) ≡ map (λ h. g (16 * h)) (range_with_len 0 16) → map f (range_with_len 0 16) ≡ map g (range_with_len 0 16)
+    → map (λ x. zip2 bit_xor (g (16 * (x / 16))) (g (x % 16))) (range_with_len 0 256) ≡ map g (range_with_len 0 256)
+    → (x : ℕ) → x < 256 → f x ≡ g x
+by_halves f g additive high low whole x lt =
+    let apart = agree_at (λ x. bit_xor (16 * (x / 16)) (x % 16)) (λ x. x) 256 x halves_are lt in
+    ap f (sym apart) ∙ additive (16 * (x / 16)) (x % 16)
+    ∙ (λ i. zip2 bit_xor (agree_lists (λ h. f (16 * h)) (λ h. g (16 * h)) 16 (x / 16) high (omega arith) i) (agree_lists f g 16 (x % 16) low (omega arith) i))
+    ∙ agree_lists (λ x. zip2 bit_xor (g (16 * (x / 16))) (g (x % 16))) g 256 x whole lt
+  where
+    halves_are : map (λ x. bit_xor (16 * (x / 16)) (x % 16)) (range_with_len 0 256) ≡ map (λ x. x) (range_with_len 0 256)
+    halves_are = refl
 
 column0 : (x : ℕ) → x < 256 → net (x ∷ 0 ∷ 0 ∷ 0 ∷ 0 ∷ 0 ∷ 0 ∷ 0 ∷ []) ≡ bit x 7 * 128 ∷ bit x 6 * 128 ∷ bit x 5 * 128 ∷ bit x 4 * 128 ∷ bit x 3 * 128 ∷ bit x 2 * 128 ∷ bit x 1 * 128 ∷ bit x 0 * 128 ∷ []
-column0 x lt = agree_lists (λ x. net (x ∷ 0 ∷ 0 ∷ 0 ∷ 0 ∷ 0 ∷ 0 ∷ 0 ∷ [])) (λ x. bit x 7 * 128 ∷ bit x 6 * 128 ∷ bit x 5 * 128 ∷ bit x 4 * 128 ∷ bit x 3 * 128 ∷ bit x 2 * 128 ∷ bit x 1 * 128 ∷ bit x 0 * 128 ∷ []) 256 x column0_is lt
-
-column1_is : map (λ x. net (0 ∷ x ∷ 0 ∷ 0 ∷ 0 ∷ 0 ∷ 0 ∷ 0 ∷ [])) (range_with_len 0 256) ≡ map (λ x. bit x 7 * 64 ∷ bit x 6 * 64 ∷ bit x 5 * 64 ∷ bit x 4 * 64 ∷ bit x 3 * 64 ∷ bit x 2 * 64 ∷ bit x 1 * 64 ∷ bit x 0 * 64 ∷ []) (range_with_len 0 256)
-column1_is = refl
+column0 = by_halves (λ x. net (x ∷ 0 ∷ 0 ∷ 0 ∷ 0 ∷ 0 ∷ 0 ∷ 0 ∷ [])) (λ x. bit x 7 * 128 ∷ bit x 6 * 128 ∷ bit x 5 * 128 ∷ bit x 4 * 128 ∷ bit x 3 * 128 ∷ bit x 2 * 128 ∷ bit x 1 * 128 ∷ bit x 0 * 128 ∷ []) (λ x y. net-sum ((x, y) ∷ (0, 0) ∷ (0, 0) ∷ (0, 0) ∷ (0, 0) ∷ (0, 0) ∷ (0, 0) ∷ (0, 0) ∷ [])) refl refl refl
 
 column1 : (x : ℕ) → x < 256 → net (0 ∷ x ∷ 0 ∷ 0 ∷ 0 ∷ 0 ∷ 0 ∷ 0 ∷ []) ≡ bit x 7 * 64 ∷ bit x 6 * 64 ∷ bit x 5 * 64 ∷ bit x 4 * 64 ∷ bit x 3 * 64 ∷ bit x 2 * 64 ∷ bit x 1 * 64 ∷ bit x 0 * 64 ∷ []
-column1 x lt = agree_lists (λ x. net (0 ∷ x ∷ 0 ∷ 0 ∷ 0 ∷ 0 ∷ 0 ∷ 0 ∷ [])) (λ x. bit x 7 * 64 ∷ bit x 6 * 64 ∷ bit x 5 * 64 ∷ bit x 4 * 64 ∷ bit x 3 * 64 ∷ bit x 2 * 64 ∷ bit x 1 * 64 ∷ bit x 0 * 64 ∷ []) 256 x column1_is lt
-
-column2_is : map (λ x. net (0 ∷ 0 ∷ x ∷ 0 ∷ 0 ∷ 0 ∷ 0 ∷ 0 ∷ [])) (range_with_len 0 256) ≡ map (λ x. bit x 7 * 32 ∷ bit x 6 * 32 ∷ bit x 5 * 32 ∷ bit x 4 * 32 ∷ bit x 3 * 32 ∷ bit x 2 * 32 ∷ bit x 1 * 32 ∷ bit x 0 * 32 ∷ []) (range_with_len 0 256)
-column2_is = refl
+column1 = by_halves (λ x. net (0 ∷ x ∷ 0 ∷ 0 ∷ 0 ∷ 0 ∷ 0 ∷ 0 ∷ [])) (λ x. bit x 7 * 64 ∷ bit x 6 * 64 ∷ bit x 5 * 64 ∷ bit x 4 * 64 ∷ bit x 3 * 64 ∷ bit x 2 * 64 ∷ bit x 1 * 64 ∷ bit x 0 * 64 ∷ []) (λ x y. net-sum ((0, 0) ∷ (x, y) ∷ (0, 0) ∷ (0, 0) ∷ (0, 0) ∷ (0, 0) ∷ (0, 0) ∷ (0, 0) ∷ [])) refl refl refl
 
 column2 : (x : ℕ) → x < 256 → net (0 ∷ 0 ∷ x ∷ 0 ∷ 0 ∷ 0 ∷ 0 ∷ 0 ∷ []) ≡ bit x 7 * 32 ∷ bit x 6 * 32 ∷ bit x 5 * 32 ∷ bit x 4 * 32 ∷ bit x 3 * 32 ∷ bit x 2 * 32 ∷ bit x 1 * 32 ∷ bit x 0 * 32 ∷ []
-column2 x lt = agree_lists (λ x. net (0 ∷ 0 ∷ x ∷ 0 ∷ 0 ∷ 0 ∷ 0 ∷ 0 ∷ [])) (λ x. bit x 7 * 32 ∷ bit x 6 * 32 ∷ bit x 5 * 32 ∷ bit x 4 * 32 ∷ bit x 3 * 32 ∷ bit x 2 * 32 ∷ bit x 1 * 32 ∷ bit x 0 * 32 ∷ []) 256 x column2_is lt
-
-column3_is : map (λ x. net (0 ∷ 0 ∷ 0 ∷ x ∷ 0 ∷ 0 ∷ 0 ∷ 0 ∷ [])) (range_with_len 0 256) ≡ map (λ x. bit x 7 * 16 ∷ bit x 6 * 16 ∷ bit x 5 * 16 ∷ bit x 4 * 16 ∷ bit x 3 * 16 ∷ bit x 2 * 16 ∷ bit x 1 * 16 ∷ bit x 0 * 16 ∷ []) (range_with_len 0 256)
-column3_is = refl
+column2 = by_halves (λ x. net (0 ∷ 0 ∷ x ∷ 0 ∷ 0 ∷ 0 ∷ 0 ∷ 0 ∷ [])) (λ x. bit x 7 * 32 ∷ bit x 6 * 32 ∷ bit x 5 * 32 ∷ bit x 4 * 32 ∷ bit x 3 * 32 ∷ bit x 2 * 32 ∷ bit x 1 * 32 ∷ bit x 0 * 32 ∷ []) (λ x y. net-sum ((0, 0) ∷ (0, 0) ∷ (x, y) ∷ (0, 0) ∷ (0, 0) ∷ (0, 0) ∷ (0, 0) ∷ (0, 0) ∷ [])) refl refl refl
 
 column3 : (x : ℕ) → x < 256 → net (0 ∷ 0 ∷ 0 ∷ x ∷ 0 ∷ 0 ∷ 0 ∷ 0 ∷ []) ≡ bit x 7 * 16 ∷ bit x 6 * 16 ∷ bit x 5 * 16 ∷ bit x 4 * 16 ∷ bit x 3 * 16 ∷ bit x 2 * 16 ∷ bit x 1 * 16 ∷ bit x 0 * 16 ∷ []
-column3 x lt = agree_lists (λ x. net (0 ∷ 0 ∷ 0 ∷ x ∷ 0 ∷ 0 ∷ 0 ∷ 0 ∷ [])) (λ x. bit x 7 * 16 ∷ bit x 6 * 16 ∷ bit x 5 * 16 ∷ bit x 4 * 16 ∷ bit x 3 * 16 ∷ bit x 2 * 16 ∷ bit x 1 * 16 ∷ bit x 0 * 16 ∷ []) 256 x column3_is lt
-
-column4_is : map (λ x. net (0 ∷ 0 ∷ 0 ∷ 0 ∷ x ∷ 0 ∷ 0 ∷ 0 ∷ [])) (range_with_len 0 256) ≡ map (λ x. bit x 7 * 8 ∷ bit x 6 * 8 ∷ bit x 5 * 8 ∷ bit x 4 * 8 ∷ bit x 3 * 8 ∷ bit x 2 * 8 ∷ bit x 1 * 8 ∷ bit x 0 * 8 ∷ []) (range_with_len 0 256)
-column4_is = refl
+column3 = by_halves (λ x. net (0 ∷ 0 ∷ 0 ∷ x ∷ 0 ∷ 0 ∷ 0 ∷ 0 ∷ [])) (λ x. bit x 7 * 16 ∷ bit x 6 * 16 ∷ bit x 5 * 16 ∷ bit x 4 * 16 ∷ bit x 3 * 16 ∷ bit x 2 * 16 ∷ bit x 1 * 16 ∷ bit x 0 * 16 ∷ []) (λ x y. net-sum ((0, 0) ∷ (0, 0) ∷ (0, 0) ∷ (x, y) ∷ (0, 0) ∷ (0, 0) ∷ (0, 0) ∷ (0, 0) ∷ [])) refl refl refl
 
 column4 : (x : ℕ) → x < 256 → net (0 ∷ 0 ∷ 0 ∷ 0 ∷ x ∷ 0 ∷ 0 ∷ 0 ∷ []) ≡ bit x 7 * 8 ∷ bit x 6 * 8 ∷ bit x 5 * 8 ∷ bit x 4 * 8 ∷ bit x 3 * 8 ∷ bit x 2 * 8 ∷ bit x 1 * 8 ∷ bit x 0 * 8 ∷ []
-column4 x lt = agree_lists (λ x. net (0 ∷ 0 ∷ 0 ∷ 0 ∷ x ∷ 0 ∷ 0 ∷ 0 ∷ [])) (λ x. bit x 7 * 8 ∷ bit x 6 * 8 ∷ bit x 5 * 8 ∷ bit x 4 * 8 ∷ bit x 3 * 8 ∷ bit x 2 * 8 ∷ bit x 1 * 8 ∷ bit x 0 * 8 ∷ []) 256 x column4_is lt
-
-column5_is : map (λ x. net (0 ∷ 0 ∷ 0 ∷ 0 ∷ 0 ∷ x ∷ 0 ∷ 0 ∷ [])) (range_with_len 0 256) ≡ map (λ x. bit x 7 * 4 ∷ bit x 6 * 4 ∷ bit x 5 * 4 ∷ bit x 4 * 4 ∷ bit x 3 * 4 ∷ bit x 2 * 4 ∷ bit x 1 * 4 ∷ bit x 0 * 4 ∷ []) (range_with_len 0 256)
-column5_is = refl
+column4 = by_halves (λ x. net (0 ∷ 0 ∷ 0 ∷ 0 ∷ x ∷ 0 ∷ 0 ∷ 0 ∷ [])) (λ x. bit x 7 * 8 ∷ bit x 6 * 8 ∷ bit x 5 * 8 ∷ bit x 4 * 8 ∷ bit x 3 * 8 ∷ bit x 2 * 8 ∷ bit x 1 * 8 ∷ bit x 0 * 8 ∷ []) (λ x y. net-sum ((0, 0) ∷ (0, 0) ∷ (0, 0) ∷ (0, 0) ∷ (x, y) ∷ (0, 0) ∷ (0, 0) ∷ (0, 0) ∷ [])) refl refl refl
 
 column5 : (x : ℕ) → x < 256 → net (0 ∷ 0 ∷ 0 ∷ 0 ∷ 0 ∷ x ∷ 0 ∷ 0 ∷ []) ≡ bit x 7 * 4 ∷ bit x 6 * 4 ∷ bit x 5 * 4 ∷ bit x 4 * 4 ∷ bit x 3 * 4 ∷ bit x 2 * 4 ∷ bit x 1 * 4 ∷ bit x 0 * 4 ∷ []
-column5 x lt = agree_lists (λ x. net (0 ∷ 0 ∷ 0 ∷ 0 ∷ 0 ∷ x ∷ 0 ∷ 0 ∷ [])) (λ x. bit x 7 * 4 ∷ bit x 6 * 4 ∷ bit x 5 * 4 ∷ bit x 4 * 4 ∷ bit x 3 * 4 ∷ bit x 2 * 4 ∷ bit x 1 * 4 ∷ bit x 0 * 4 ∷ []) 256 x column5_is lt
-
-column6_is : map (λ x. net (0 ∷ 0 ∷ 0 ∷ 0 ∷ 0 ∷ 0 ∷ x ∷ 0 ∷ [])) (range_with_len 0 256) ≡ map (λ x. bit x 7 * 2 ∷ bit x 6 * 2 ∷ bit x 5 * 2 ∷ bit x 4 * 2 ∷ bit x 3 * 2 ∷ bit x 2 * 2 ∷ bit x 1 * 2 ∷ bit x 0 * 2 ∷ []) (range_with_len 0 256)
-column6_is = refl
+column5 = by_halves (λ x. net (0 ∷ 0 ∷ 0 ∷ 0 ∷ 0 ∷ x ∷ 0 ∷ 0 ∷ [])) (λ x. bit x 7 * 4 ∷ bit x 6 * 4 ∷ bit x 5 * 4 ∷ bit x 4 * 4 ∷ bit x 3 * 4 ∷ bit x 2 * 4 ∷ bit x 1 * 4 ∷ bit x 0 * 4 ∷ []) (λ x y. net-sum ((0, 0) ∷ (0, 0) ∷ (0, 0) ∷ (0, 0) ∷ (0, 0) ∷ (x, y) ∷ (0, 0) ∷ (0, 0) ∷ [])) refl refl refl
 
 column6 : (x : ℕ) → x < 256 → net (0 ∷ 0 ∷ 0 ∷ 0 ∷ 0 ∷ 0 ∷ x ∷ 0 ∷ []) ≡ bit x 7 * 2 ∷ bit x 6 * 2 ∷ bit x 5 * 2 ∷ bit x 4 * 2 ∷ bit x 3 * 2 ∷ bit x 2 * 2 ∷ bit x 1 * 2 ∷ bit x 0 * 2 ∷ []
-column6 x lt = agree_lists (λ x. net (0 ∷ 0 ∷ 0 ∷ 0 ∷ 0 ∷ 0 ∷ x ∷ 0 ∷ [])) (λ x. bit x 7 * 2 ∷ bit x 6 * 2 ∷ bit x 5 * 2 ∷ bit x 4 * 2 ∷ bit x 3 * 2 ∷ bit x 2 * 2 ∷ bit x 1 * 2 ∷ bit x 0 * 2 ∷ []) 256 x column6_is lt
-
-column7_is : map (λ x. net (0 ∷ 0 ∷ 0 ∷ 0 ∷ 0 ∷ 0 ∷ 0 ∷ x ∷ [])) (range_with_len 0 256) ≡ map (λ x. bit x 7 * 1 ∷ bit x 6 * 1 ∷ bit x 5 * 1 ∷ bit x 4 * 1 ∷ bit x 3 * 1 ∷ bit x 2 * 1 ∷ bit x 1 * 1 ∷ bit x 0 * 1 ∷ []) (range_with_len 0 256)
-column7_is = refl
+column6 = by_halves (λ x. net (0 ∷ 0 ∷ 0 ∷ 0 ∷ 0 ∷ 0 ∷ x ∷ 0 ∷ [])) (λ x. bit x 7 * 2 ∷ bit x 6 * 2 ∷ bit x 5 * 2 ∷ bit x 4 * 2 ∷ bit x 3 * 2 ∷ bit x 2 * 2 ∷ bit x 1 * 2 ∷ bit x 0 * 2 ∷ []) (λ x y. net-sum ((0, 0) ∷ (0, 0) ∷ (0, 0) ∷ (0, 0) ∷ (0, 0) ∷ (0, 0) ∷ (x, y) ∷ (0, 0) ∷ [])) refl refl refl
 
 column7 : (x : ℕ) → x < 256 → net (0 ∷ 0 ∷ 0 ∷ 0 ∷ 0 ∷ 0 ∷ 0 ∷ x ∷ []) ≡ bit x 7 * 1 ∷ bit x 6 * 1 ∷ bit x 5 * 1 ∷ bit x 4 * 1 ∷ bit x 3 * 1 ∷ bit x 2 * 1 ∷ bit x 1 * 1 ∷ bit x 0 * 1 ∷ []
-column7 x lt = agree_lists (λ x. net (0 ∷ 0 ∷ 0 ∷ 0 ∷ 0 ∷ 0 ∷ 0 ∷ x ∷ [])) (λ x. bit x 7 * 1 ∷ bit x 6 * 1 ∷ bit x 5 * 1 ∷ bit x 4 * 1 ∷ bit x 3 * 1 ∷ bit x 2 * 1 ∷ bit x 1 * 1 ∷ bit x 0 * 1 ∷ []) 256 x column7_is lt
+column7 = by_halves (λ x. net (0 ∷ 0 ∷ 0 ∷ 0 ∷ 0 ∷ 0 ∷ 0 ∷ x ∷ [])) (λ x. bit x 7 * 1 ∷ bit x 6 * 1 ∷ bit x 5 * 1 ∷ bit x 4 * 1 ∷ bit x 3 * 1 ∷ bit x 2 * 1 ∷ bit x 1 * 1 ∷ bit x 0 * 1 ∷ []) (λ x y. net-sum ((0, 0) ∷ (0, 0) ∷ (0, 0) ∷ (0, 0) ∷ (0, 0) ∷ (0, 0) ∷ (0, 0) ∷ (x, y) ∷ [])) refl refl refl
 
 sums : (x0 x1 x2 x3 x4 x5 x6 x7 : ℕ) → x0 < 256 → x1 < 256 → x2 < 256 → x3 < 256 → x4 < 256 → x5 < 256 → x6 < 256 → x7 < 256 → net (x0 ∷ x1 ∷ x2 ∷ x3 ∷ x4 ∷ x5 ∷ x6 ∷ x7 ∷ []) ≡ (zip2 bit_xor (bit x0 7 * 128 ∷ bit x0 6 * 128 ∷ bit x0 5 * 128 ∷ bit x0 4 * 128 ∷ bit x0 3 * 128 ∷ bit x0 2 * 128 ∷ bit x0 1 * 128 ∷ bit x0 0 * 128 ∷ []) (zip2 bit_xor (bit x1 7 * 64 ∷ bit x1 6 * 64 ∷ bit x1 5 * 64 ∷ bit x1 4 * 64 ∷ bit x1 3 * 64 ∷ bit x1 2 * 64 ∷ bit x1 1 * 64 ∷ bit x1 0 * 64 ∷ []) (zip2 bit_xor (bit x2 7 * 32 ∷ bit x2 6 * 32 ∷ bit x2 5 * 32 ∷ bit x2 4 * 32 ∷ bit x2 3 * 32 ∷ bit x2 2 * 32 ∷ bit x2 1 * 32 ∷ bit x2 0 * 32 ∷ []) (zip2 bit_xor (bit x3 7 * 16 ∷ bit x3 6 * 16 ∷ bit x3 5 * 16 ∷ bit x3 4 * 16 ∷ bit x3 3 * 16 ∷ bit x3 2 * 16 ∷ bit x3 1 * 16 ∷ bit x3 0 * 16 ∷ []) (zip2 bit_xor (bit x4 7 * 8 ∷ bit x4 6 * 8 ∷ bit x4 5 * 8 ∷ bit x4 4 * 8 ∷ bit x4 3 * 8 ∷ bit x4 2 * 8 ∷ bit x4 1 * 8 ∷ bit x4 0 * 8 ∷ []) (zip2 bit_xor (bit x5 7 * 4 ∷ bit x5 6 * 4 ∷ bit x5 5 * 4 ∷ bit x5 4 * 4 ∷ bit x5 3 * 4 ∷ bit x5 2 * 4 ∷ bit x5 1 * 4 ∷ bit x5 0 * 4 ∷ []) (zip2 bit_xor (bit x6 7 * 2 ∷ bit x6 6 * 2 ∷ bit x6 5 * 2 ∷ bit x6 4 * 2 ∷ bit x6 3 * 2 ∷ bit x6 2 * 2 ∷ bit x6 1 * 2 ∷ bit x6 0 * 2 ∷ []) (bit x7 7 * 1 ∷ bit x7 6 * 1 ∷ bit x7 5 * 1 ∷ bit x7 4 * 1 ∷ bit x7 3 * 1 ∷ bit x7 2 * 1 ∷ bit x7 1 * 1 ∷ bit x7 0 * 1 ∷ []))))))))
 sums x0 x1 x2 x3 x4 x5 x6 x7 l0 l1 l2 l3 l4 l5 l6 l7 =

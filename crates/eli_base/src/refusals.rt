@@ -32,7 +32,7 @@ pub enum Reason {
 }
 
 /// Why a command was refused. Numbers of words count from 0, the verb.
-#[derive(Clone, Copy, Debug, PartialEq, Eq)]
+#[derive(Clone, Copy)]
 pub enum Refusal {
     /// The words of a line are no command: the place of the word, and what is wrong.
     Usage { word: u32, reason: Reason },

@@ -104,7 +104,6 @@ fn beside_of(alloc: Global, name: &str, number: u64) -> Result<String, AllocErro
 }
 
 // Brings the file beside to the name.
-#[tactic(auto, using(crate::proofs::Logs::more_then))]
 fn replace<O: Opener>(opener: &mut O, name: &str, beside: &str, bytes: &[u8]) -> Result<(), Stop>
     ensures { Moves O.asked name.now bytes.now opener.old beside.now result opener.new }
 {

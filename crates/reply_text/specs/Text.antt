@@ -13,6 +13,8 @@ use Rattle.eli_base.specs.Refusals.{number_of}
 use Rattle.eli_metadata.specs.declared.metadata.Metadata.{Metadata}
 use Rattle.reply_text.specs.declared.reply.Reply.{Reply}
 use Rattle.reply_text.specs.declared.reply.Reply.TheVariants.{Done, Payload, Digest, Rows, Dump, Tag, Left, Verified, Refused}
+use Rattle.reply_text.specs.declared.reply.Fields.{Fields}
+use Rattle.reply_text.specs.declared.reply.Fields.TheVariants as fields
 use Rattle.reply_text.specs.declared.rows.Row.{Row}
 
 -- a label, a value and a newline
@@ -142,6 +144,14 @@ refusal_fields refusals.DifferentKey = []
 refusal_fields (refusals.BadPlace place media) = number_fields (place ∷ media ∷ [])
 refusal_fields refusals.NotAuthenticated = []
 refusal_fields (refusals.BadPlaceFile word length) = number_fields (word ∷ length ∷ [])
+
+-- the text of the fields that the code takes from a refusal
+abbrev pub fields_text : Fields → List ℕ
+fields_text fields.Nothing = []
+fields_text (fields.One a) = number_fields (a ∷ [])
+fields_text (fields.Two a b) = number_fields (a ∷ b ∷ [])
+fields_text (fields.Three a b c) = number_fields (a ∷ b ∷ c ∷ [])
+fields_text (fields.Usage word reason) = number_fields (word ∷ []) ++ field (reason_name reason)
 
 -- `error `, the number and the name
 abbrev pub refusal_head : Refusal → List ℕ

@@ -1,7 +1,7 @@
 // What is answered to a command, and how it is printed.
 ghost use Rattle.std.specs.Prelude.{◌≡◌, ◌++◌, ◌∷◌, [], length};
 ghost use Rattle.reply_text.specs.Output.{Prints, Puts};
-ghost use Rattle.reply_text.specs.Text.{FitsPayload, reply_text, list_text, refusal_text, refusal_fields, number_fields, numbers_line, reason_name, refusal_head, field};
+ghost use Rattle.reply_text.specs.Text.{FitsPayload, reply_text, list_text, refusal_text, refusal_fields, fields_text, number_fields, numbers_line, reason_name, refusal_head, field};
 ghost use Rattle.std.specs.Fmt.{decimal};
 
 use crate::WriteEnd;
@@ -26,7 +26,7 @@ const SHORT_PAGE: usize = 1280;
 const SHORT_PAYLOAD: u32 = 512;
 
 /// The answer to one command.
-#[derive(Debug, Drop)]
+#[derive(Drop)]
 pub enum Reply {
     /// It was done.
     Done,
@@ -232,51 +232,52 @@ fn write_usage<K: Sink, const N: usize>(
     write_field(reason_name(reason), page, output)
 }
 
-// The fields of a refusal: a refusal without one stands here too, so that none is forgotten.
-#[tactic(auto, using(crate::proofs::Printing::puts_nothing))]
-fn write_fields<K: Sink, const N: usize>(
-    refusal: &Refusal,
-    page: &mut Page<N>,
-    output: &mut K,
-) -> Result<(), WriteEnd>
-    ensures { Puts (refusal_fields refusal.now) page.old.items (K.state output.old) result page.new.items (K.state output.new) }
+// The fields of a refusal: the numbers that it carries, or the number of a word and the reason.
+#[derive(Clone, Copy)]
+enum Fields {
+    Nothing,
+    One(u64),
+    Two(u64, u64),
+    Three(u64, u64, u64),
+    Usage(u32, Reason),
+}
+
+// A refusal without a field stands here too, so that none is forgotten.
+fn fields_of(refusal: &Refusal) -> Fields
+    ensures { fields_text result ≡ refusal_fields refusal.now }
 {
     match *refusal {
-        Refusal::Usage { word, reason } => write_usage(word, reason, page, output),
+        Refusal::Usage { word, reason } => Fields::Usage(word, reason),
         Refusal::KeyNumberOutOfRange { given: number }
         | Refusal::KeyNotSet { slot: number }
         | Refusal::LastKey { slot: number }
         | Refusal::NoRequest { tag: number }
-        | Refusal::RequestDone { tag: number } => write_numbers(&[number.into()], page, output),
+        | Refusal::RequestDone { tag: number } => Fields::One(number.into()),
         Refusal::UnsupportedCipher { found }
         | Refusal::UnsupportedAuth { found }
-        | Refusal::BadKeyLength { found } => write_numbers(&[found.into()], page, output),
+        | Refusal::BadKeyLength { found } => Fields::One(found.into()),
         Refusal::BadVersion { found: number }
         | Refusal::BadSectorSize { found: number }
         | Refusal::UnsupportedFlags { mask: number }
         | Refusal::FileAbsent { word: number }
         | Refusal::CabinetFault { word: number }
-        | Refusal::RequestsOpen { count: number } => write_numbers(&[number.into()], page, output),
+        | Refusal::RequestsOpen { count: number } => Fields::One(number.into()),
         Refusal::Integrity { offset: number }
         | Refusal::BackupTooShort { length: number }
-        | Refusal::TooSmall { size: number } => write_numbers(&[number], page, output),
-        Refusal::BadSize { kept, found } => write_numbers(&[kept, found], page, output),
-        Refusal::OldSizeMismatch { kept, given } => write_numbers(&[kept, given], page, output),
-        Refusal::NotGrown { size, given } => write_numbers(&[size, given], page, output),
-        Refusal::RequestNotDone { tag, left } => write_numbers(&[tag.into(), left], page, output),
-        Refusal::BadPlace { place, media } => write_numbers(&[place, media], page, output),
-        Refusal::BadPlaceFile { word, length } => {
-            write_numbers(&[word.into(), length], page, output)
-        }
-        Refusal::FileTooLong { word, limit } => write_numbers(&[word.into(), limit], page, output),
-        Refusal::BadLength { given, sectorsize } => {
-            write_numbers(&[given, sectorsize.into()], page, output)
-        }
+        | Refusal::TooSmall { size: number } => Fields::One(number),
+        Refusal::BadSize { kept, found } => Fields::Two(kept, found),
+        Refusal::OldSizeMismatch { kept, given } => Fields::Two(kept, given),
+        Refusal::NotGrown { size, given } => Fields::Two(size, given),
+        Refusal::RequestNotDone { tag, left } => Fields::Two(tag.into(), left),
+        Refusal::BadPlace { place, media } => Fields::Two(place, media),
+        Refusal::BadPlaceFile { word, length } => Fields::Two(word.into(), length),
+        Refusal::FileTooLong { word, limit } => Fields::Two(word.into(), limit),
+        Refusal::BadLength { given, sectorsize } => Fields::Two(given, sectorsize.into()),
         Refusal::OutOfRange {
             sector,
             count,
             media,
-        } => write_numbers(&[sector, count, media], page, output),
+        } => Fields::Three(sector, count, media),
         Refusal::UnknownProvider
         | Refusal::NotAttached
         | Refusal::StillAttached
@@ -297,6 +298,23 @@ fn write_fields<K: Sink, const N: usize>(
         | Refusal::Suspended
         | Refusal::NotSuspended
         | Refusal::DifferentKey
-        | Refusal::NotAuthenticated => Ok(()),
+        | Refusal::NotAuthenticated => Fields::Nothing,
+    }
+}
+
+#[tactic(auto, using(crate::proofs::Printing::puts_nothing))]
+fn write_fields<K: Sink, const N: usize>(
+    refusal: &Refusal,
+    page: &mut Page<N>,
+    output: &mut K,
+) -> Result<(), WriteEnd>
+    ensures { Puts (refusal_fields refusal.now) page.old.items (K.state output.old) result page.new.items (K.state output.new) }
+{
+    match fields_of(refusal) {
+        Fields::Nothing => Ok(()),
+        Fields::One(number) => write_numbers(&[number], page, output),
+        Fields::Two(first, second) => write_numbers(&[first, second], page, output),
+        Fields::Three(first, second, third) => write_numbers(&[first, second, third], page, output),
+        Fields::Usage(word, reason) => write_usage(word, reason, page, output),
     }
 }

@@ -2,7 +2,9 @@
 
 ghost use Rattle.key_slots.specs.Slots.{IsKeyBits};
 
+use crate::request::{Report, Request, Way};
 use crate::sectors::code;
+use crate::stopwatch::Stopwatch;
 use block_traits::Disk;
 use crash_disk::MemDisk;
 use eli_base::{Auth, MasterKey};
@@ -10,9 +12,6 @@ use eli_metadata::{Metadata, check, size_gate, slot_gate};
 use key_slots::{put_slot, wrap};
 use provider::Provider;
 use std::alloc::Global;
-use std::io;
-use std::rt::Clock;
-use std::time::Instant;
 use user_key::UserKey;
 
 const KEY: UserKey = UserKey { bytes: [0x5a; 64] };
@@ -21,19 +20,11 @@ const MASTER: MasterKey = MasterKey { bytes: [3; 128] };
 
 const SECTOR_SIZE: usize = 4096;
 
-/// The calls of a slice.
-pub const CALLS: u32 = 64;
+// A logical sector has no more device sectors.
+const MOST_UNITS: u64 = 16;
 
-/// What is measured of a logical sector.
-#[derive(Clone, Copy)]
-pub enum Part {
-    Write,
-    Read,
-    // The disk's calls alone, which such a write makes.
-    Disk,
-    // The codes alone of the sector's units.
-    Codes,
-}
+// The calls of a slice.
+const CALLS: u32 = 64;
 
 // The device sectors of a logical sector.
 fn units_of(auth: Auth) -> u64 {
@@ -72,38 +63,116 @@ fn attached(alloc: Global, auth: Auth, bits: u16) -> Option<Provider<MemDisk>>
     requires { IsKeyBits bits }
 {
     let units = units_of(auth);
-    if units > 16 {
+    if units > MOST_UNITS {
         return None;
     }
     let meta = metadata(auth, bits, 512 * (units + 1));
     let Ok(params) = check(&meta) else {
         return None;
     };
+    if size_gate(&meta, units + 1).is_err() || slot_gate(&meta, None).is_err() {
+        return None;
+    }
     let Ok(disk) = MemDisk::new(alloc, units + 1, units * u64::from(CALLS)) else {
         return None;
     };
-    if disk.sectors() >= 1 << 44 || size_gate(&meta, disk.sectors()).is_err() {
-        return None;
-    }
-    if slot_gate(&meta, None).is_err() {
-        return None;
-    }
     Provider::attach(alloc, disk, &meta, &params, &KEY, None, false).ok()
 }
 
-// Whether each of the calls was served.
+/// Slices of calls, each over a new provider of one logical sector, or of what its disk or its codes alone do.
+pub fn time_provider(
+    alloc: Global,
+    request: Request,
+    auth: Auth,
+    watch: &mut Stopwatch<'_>,
+) -> Option<Report> {
+    let bits = request.bits;
+    if bits != 128 && bits != 256 {
+        return None;
+    }
+    for _ in 0..watch.slices {
+        let is_served = match request.way {
+            Way::Write => time_calls(alloc, true, auth, bits, watch),
+            Way::Read => time_calls(alloc, false, auth, bits, watch),
+            Way::Disk => time_disk(alloc, units_of(auth), watch),
+            Way::Codes => time_codes(auth, watch),
+            _ => false,
+        };
+        if !is_served {
+            return None;
+        }
+    }
+    Some(Report {
+        count: CALLS,
+        last: None,
+    })
+}
+
+// A slice's calls over a new provider, and whether each was served.
+fn time_calls(alloc: Global, writes: bool, auth: Auth, bits: u16, watch: &mut Stopwatch<'_>) -> bool
+    requires { IsKeyBits bits }
+{
+    match attached(alloc, auth, bits) {
+        Some(mut provider) => time_attached(&mut provider, writes, watch),
+        None => false,
+    }
+}
+
+// What is read was written before.
+fn time_attached(
+    provider: &mut Provider<MemDisk>,
+    writes: bool,
+    watch: &mut Stopwatch<'_>,
+) -> bool {
+    let mut block = [5u8; SECTOR_SIZE];
+    if !writes && !call(provider, true, &mut block) {
+        return false;
+    }
+    watch.start();
+    let is_served = run_provider(provider, writes, &mut block);
+    watch.stop();
+    is_served
+}
+
 fn run_provider(provider: &mut Provider<MemDisk>, writes: bool, block: &mut [u8]) -> bool {
     for _ in 0..CALLS {
-        let size = provider.sector_size() as usize;
-        if block.is_empty() || block.len() % size != 0 {
+        if !call(provider, writes, block) {
             return false;
         }
-        let answer = if writes {
-            provider.write(0, block).is_ok()
-        } else {
-            provider.read(0, block).is_ok()
-        };
-        if !answer {
+    }
+    true
+}
+
+// Whether a call was served.
+fn call(provider: &mut Provider<MemDisk>, writes: bool, block: &mut [u8]) -> bool {
+    let size = provider.sector_size() as usize;
+    if block.is_empty() || block.len() % size != 0 {
+        return false;
+    }
+    if writes {
+        provider.write(0, block).is_ok()
+    } else {
+        provider.read(0, block).is_ok()
+    }
+}
+
+// The writes alone of a slice, on a new disk.
+fn time_disk(alloc: Global, units: u64, watch: &mut Stopwatch<'_>) -> bool {
+    if units > MOST_UNITS {
+        return false;
+    }
+    let Ok(mut disk) = MemDisk::new(alloc, units + 1, units * u64::from(CALLS)) else {
+        return false;
+    };
+    watch.start();
+    let is_served = run_disk(&mut disk, units);
+    watch.stop();
+    is_served
+}
+
+fn run_disk(disk: &mut MemDisk, units: u64) -> bool {
+    for _ in 0..CALLS {
+        if !pass_disk(disk, units) {
             return false;
         }
     }
@@ -120,13 +189,20 @@ fn pass_disk(disk: &mut MemDisk, units: u64) -> bool {
     true
 }
 
-fn run_disk(disk: &mut MemDisk, units: u64) -> bool {
-    for _ in 0..CALLS {
-        if !pass_disk(disk, units) {
-            return false;
-        }
-    }
+// The codes alone of a slice.
+fn time_codes(auth: Auth, watch: &mut Stopwatch<'_>) -> bool {
+    let mut block = [5u8; SECTOR_SIZE];
+    watch.start();
+    run_codes(auth, &mut block);
+    watch.stop();
     true
+}
+
+fn run_codes(auth: Auth, block: &mut [u8; SECTOR_SIZE]) {
+    for _ in 0..CALLS {
+        let sum = pass_codes(auth, block);
+        block[0] = sum;
+    }
 }
 
 // The first bytes of the codes of a sector's units, added.
@@ -136,77 +212,4 @@ fn pass_codes(auth: Auth, block: &[u8]) -> u8 {
         sum ^= code(auth, &[7; 32], piece);
     }
     sum
-}
-
-fn run_codes(auth: Auth, block: &mut [u8]) -> bool {
-    for _ in 0..CALLS {
-        if block.is_empty() {
-            return false;
-        }
-        let sum = pass_codes(auth, block);
-        block[0] = sum;
-    }
-    true
-}
-
-// A slice's calls over a new provider, timed; None where they weren't served.
-fn slice(
-    rt: &impl Clock,
-    alloc: Global,
-    part: Part,
-    auth: Auth,
-    bits: u16,
-) -> io::Result<Option<u128>>
-    requires { IsKeyBits bits }
-{
-    let mut block = [5u8; SECTOR_SIZE];
-    let Some(mut provider) = attached(alloc, auth, bits) else {
-        return Ok(None);
-    };
-    if let Part::Read = part {
-        let size = provider.sector_size() as usize;
-        if block.len() % size != 0 || provider.write(0, &block).is_err() {
-            return Ok(None);
-        }
-    }
-    let (is_served, nanos) = match part {
-        Part::Write | Part::Read => {
-            let start = Instant::now(rt)?;
-            let is_served = run_provider(&mut provider, matches!(part, Part::Write), &mut block);
-            (is_served, start.elapsed(rt)?.as_nanos())
-        }
-        Part::Disk => {
-            let mut disk = provider.withdraw();
-            let start = Instant::now(rt)?;
-            let is_served = run_disk(&mut disk, units_of(auth));
-            (is_served, start.elapsed(rt)?.as_nanos())
-        }
-        Part::Codes => {
-            let start = Instant::now(rt)?;
-            let is_served = run_codes(auth, &mut block);
-            (is_served, start.elapsed(rt)?.as_nanos())
-        }
-    };
-    Ok(if is_served { Some(nanos) } else { None })
-}
-
-/// The nanoseconds of the quickest of so many slices, each over a new provider; None where one wasn't served.
-pub fn time_provider(
-    rt: &impl Clock,
-    alloc: Global,
-    part: Part,
-    auth: Auth,
-    bits: u16,
-    slices: u32,
-) -> io::Result<Option<u128>>
-    requires { IsKeyBits bits }
-{
-    let mut least = u128::MAX;
-    for _ in 0..slices {
-        let Some(nanos) = slice(rt, alloc, part, auth, bits)? else {
-            return Ok(None);
-        };
-        least = least.min(nanos);
-    }
-    Ok(Some(least))
 }

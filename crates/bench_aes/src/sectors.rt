@@ -1,48 +1,117 @@
 //! The key ring, sealed sectors, and what their hashes alone cost.
 
 ghost use Rattle.std.specs.Prelude.{◌≡◌, ◌≢◌, ◌≤◌, ◌<◌, ◌%◌, length};
+ghost use Rattle.std.specs.Option.{IfSome};
 ghost use Rattle.eli_base.specs.Units.{unit_bytes_of};
 
+use crate::request::{Report, Request, Way};
+use crate::stopwatch::Stopwatch;
+use crate::{MOST_BYTES, calls_of};
 use auth_sectors::{open_piece, seal_piece};
 use block_traits::Sector;
-use eli_base::Auth;
+use eli_base::{Auth, Cipher, MasterKey, Params, sector_size_ok};
 use hmac_kdf::{Hmac256, Hmac384, Hmac512};
 use plain_sectors::{open_plain, seal_plain};
 use range_keys::KeyRing;
-use std::io;
-use std::rt::Clock;
-use std::time::Instant;
+use std::alloc::Global;
 
-fn run_keys(ring: &mut KeyRing, numbers: u64, count: u32) -> usize
+// The range keys that are asked for in a slice.
+const KEYS: u32 = 1000;
+
+// The pieces of a slice.
+const PIECES: u32 = 200;
+
+// A ring of these parameters, where there are such.
+fn ring(alloc: Global, auth: Auth, cipher: Cipher, bits: u16, size: u32) -> Option<KeyRing>
+    ensures auth { IfSome result (λ ring. ring.keying.auth ≡ auth) }
+    ensures size { IfSome result (λ ring. ring.keying.sectorsize ≡ size) }
+{
+    if !cipher.allows(bits) || !sector_size_ok(size) {
+        return None;
+    }
+    let params = Params::new(7, auth, cipher, bits, size, 0, false);
+    let master = MasterKey { bytes: [3; 128] };
+    KeyRing::new(alloc, &master, &params).ok()
+}
+
+/// Range keys, of so many numbers in turn as the request has bytes.
+pub fn time_keys(alloc: Global, request: Request, watch: &mut Stopwatch<'_>) -> Option<Report> {
+    let numbers = request.size as u64;
+    if numbers == 0 {
+        return None;
+    }
+    let mut ring = ring(alloc, Auth::Off, Cipher::AesXts, request.bits, 512)?;
+    time_ring(&mut ring, numbers, watch)
+}
+
+fn time_ring(ring: &mut KeyRing, numbers: u64, watch: &mut Stopwatch<'_>) -> Option<Report>
+    requires { 0 < numbers }
+{
+    for _ in 0..watch.slices {
+        watch.start();
+        let most = run_keys(ring, numbers);
+        watch.stop();
+        if most > 14 {
+            return None;
+        }
+    }
+    Some(Report {
+        count: KEYS,
+        last: None,
+    })
+}
+
+// The most rounds of the keys.
+fn run_keys(ring: &mut KeyRing, numbers: u64) -> usize
     requires { 0 < numbers }
 {
     let mut most = 0usize;
-    for i in 0..count {
+    for i in 0..KEYS {
         let number = u64::from(i) % numbers;
         most = most.max(ring.key_at(number << 29).second.rounds());
     }
     most
 }
 
-/// The nanoseconds of the quickest slice of range keys, of so many numbers in turn.
-pub fn time_keys(
-    rt: &impl Clock,
-    ring: &mut KeyRing,
-    numbers: u64,
-    slices: u32,
-    count: u32,
-) -> io::Result<u128>
-    requires { 0 < numbers }
-{
-    let mut least = u128::MAX;
-    for _ in 0..slices {
-        let start = Instant::now(rt)?;
-        if run_keys(ring, numbers, count) > 14 {
-            return Ok(0);
-        }
-        least = least.min(start.elapsed(rt)?.as_nanos());
+/// Logical sectors through a ring that keeps their range key.
+pub fn time_sectors(
+    alloc: Global,
+    request: Request,
+    cipher: Cipher,
+    watch: &mut Stopwatch<'_>,
+) -> Option<Report> {
+    let size = request.size;
+    if size > MOST_BYTES {
+        return None;
     }
-    Ok(least)
+    let Ok(mut block) = vec![in alloc; 0u8; size] else {
+        return None;
+    };
+    let mut ring = ring(alloc, Auth::Off, cipher, request.bits, size as u32)?;
+    Some(time_plain(
+        &mut ring,
+        matches!(request.way, Way::Seal),
+        &mut block,
+        watch,
+    ))
+}
+
+fn time_plain(
+    ring: &mut KeyRing,
+    seals: bool,
+    block: &mut [u8],
+    watch: &mut Stopwatch<'_>,
+) -> Report
+    requires off { ring.old.keying.auth ≡ Auth.Off }
+    requires size { length block.old ≡ ring.old.keying.sectorsize }
+{
+    let count = calls_of(block.len());
+    for _ in 0..watch.slices {
+        watch.start();
+        run_sectors(ring, seals, block, count);
+        watch.stop();
+    }
+    Report { count, last: None }
 }
 
 fn run_sectors(ring: &mut KeyRing, seals: bool, block: &mut [u8], count: u32)
@@ -59,52 +128,31 @@ fn run_sectors(ring: &mut KeyRing, seals: bool, block: &mut [u8], count: u32)
     }
 }
 
-/// The nanoseconds of the quickest slice of logical sectors without authentication.
-pub fn time_sectors(
-    rt: &impl Clock,
-    ring: &mut KeyRing,
-    seals: bool,
-    block: &mut [u8],
-    slices: u32,
-    count: u32,
-) -> io::Result<u128>
-    requires off { ring.old.keying.auth ≡ Auth.Off }
-    requires size { length block.old ≡ ring.old.keying.sectorsize }
-{
-    let mut least = u128::MAX;
-    for _ in 0..slices {
-        let start = Instant::now(rt)?;
-        run_sectors(ring, seals, block, count);
-        least = least.min(start.elapsed(rt)?.as_nanos());
-    }
-    Ok(least)
-}
-
-fn run_pieces(ring: &mut KeyRing, seals: bool, plain: &mut [u8], sector: &mut Sector, count: u32)
-    requires on { ring.old.keying.auth ≢ Auth.Off }
-    requires at_least { 16 ≤ length plain.old }
-    requires at_most { length plain.old ≤ unit_bytes_of ring.old.keying.auth }
-    requires blocks { length plain.old % 16 ≡ 0 }
-    ensures keying { ring.new.keying ≡ ring.old.keying }
-{
-    for _ in 0..count {
-        if seals {
-            seal_piece(ring, 0, plain, sector);
-        } else if open_piece(ring, 0, sector, plain).is_err() {
-            return;
-        }
-    }
-}
-
-/// The nanoseconds of the quickest slice of authenticated pieces.
+/// Whole authenticated pieces, or their codes alone.
 pub fn time_pieces(
-    rt: &impl Clock,
+    alloc: Global,
+    request: Request,
+    auth: Auth,
+    watch: &mut Stopwatch<'_>,
+) -> Option<Report> {
+    let mut plain = [5u8; 512];
+    let piece = &mut plain[..auth.data_bytes()];
+    if let Way::Hash = request.way {
+        return Some(time_hash(auth, piece, watch));
+    }
+    if auth == Auth::Off {
+        return None;
+    }
+    let mut ring = ring(alloc, auth, Cipher::AesXts, request.bits, 4096)?;
+    Some(time_whole(&mut ring, matches!(request.way, Way::Seal), piece, watch))
+}
+
+fn time_whole(
     ring: &mut KeyRing,
     seals: bool,
     plain: &mut [u8],
-    slices: u32,
-    count: u32,
-) -> io::Result<u128>
+    watch: &mut Stopwatch<'_>,
+) -> Report
     requires on { ring.old.keying.auth ≢ Auth.Off }
     requires at_least { 16 ≤ length plain.old }
     requires at_most { length plain.old ≤ unit_bytes_of ring.old.keying.auth }
@@ -112,13 +160,31 @@ pub fn time_pieces(
 {
     let mut sector = [0u8; 512];
     seal_piece(ring, 0, plain, &mut sector);
-    let mut least = u128::MAX;
-    for _ in 0..slices {
-        let start = Instant::now(rt)?;
-        run_pieces(ring, seals, plain, &mut sector, count);
-        least = least.min(start.elapsed(rt)?.as_nanos());
+    for _ in 0..watch.slices {
+        watch.start();
+        run_pieces(ring, seals, plain, &mut sector);
+        watch.stop();
     }
-    Ok(least)
+    Report {
+        count: PIECES,
+        last: None,
+    }
+}
+
+fn run_pieces(ring: &mut KeyRing, seals: bool, plain: &mut [u8], sector: &mut Sector)
+    requires on { ring.old.keying.auth ≢ Auth.Off }
+    requires at_least { 16 ≤ length plain.old }
+    requires at_most { length plain.old ≤ unit_bytes_of ring.old.keying.auth }
+    requires blocks { length plain.old % 16 ≡ 0 }
+    ensures keying { ring.new.keying ≡ ring.old.keying }
+{
+    for _ in 0..PIECES {
+        if seals {
+            seal_piece(ring, 0, plain, sector);
+        } else if open_piece(ring, 0, sector, plain).is_err() {
+            return;
+        }
+    }
 }
 
 /// The first byte of the code of a message.
@@ -131,31 +197,27 @@ pub fn code(auth: Auth, key: &[u8; 32], message: &[u8]) -> u8 {
     }
 }
 
-fn run_hash(auth: Auth, key: &[u8; 32], message: &mut [u8], count: u32)
-    requires { 0 < length message.old }
-{
-    for _ in 0..count {
-        let first = code(auth, key, message);
-        message[0] = first;
-    }
-}
-
-/// The nanoseconds of the quickest slice of codes of a message, each under a key that is new.
-pub fn time_hash(
-    rt: &impl Clock,
-    auth: Auth,
-    message: &mut [u8],
-    slices: u32,
-    count: u32,
-) -> io::Result<u128>
+// Codes of a message, each under a key that is new.
+fn time_hash(auth: Auth, message: &mut [u8], watch: &mut Stopwatch<'_>) -> Report
     requires { 0 < length message.old }
 {
     let key = [7u8; 32];
-    let mut least = u128::MAX;
-    for _ in 0..slices {
-        let start = Instant::now(rt)?;
-        run_hash(auth, &key, message, count);
-        least = least.min(start.elapsed(rt)?.as_nanos());
+    for _ in 0..watch.slices {
+        watch.start();
+        run_hash(auth, &key, message);
+        watch.stop();
     }
-    Ok(least)
+    Report {
+        count: PIECES,
+        last: None,
+    }
+}
+
+fn run_hash(auth: Auth, key: &[u8; 32], message: &mut [u8])
+    requires { 0 < length message.old }
+{
+    for _ in 0..PIECES {
+        let first = code(auth, key, message);
+        message[0] = first;
+    }
 }

@@ -61,7 +61,7 @@ def main():
         for auth in TAGS
         for cipher, bits in CIPHERS
     ]
-    print_or_check(__doc__, MADE_WITH, {("auth_sectors/src/tests.rt", "DIGESTS"): table(digests)})
+    print_or_check(__doc__, MADE_WITH, {("known_answers/src/pieces.rt", "DIGESTS"): table(digests)})
 
 
 if __name__ == "__main__":

@@ -10,8 +10,6 @@ ghost use Rattle.sealing.specs.Pieces.{opened_piece, sealed_piece};
 ghost use Rattle.auth_sectors.specs.Tags.{Tells};
 
 mod tags;
-#[cfg(test)]
-mod tests;
 
 use block_traits::Sector;
 use eli_base::Auth;

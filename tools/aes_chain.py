@@ -30,7 +30,7 @@ def main():
         for backwards in (False, True)
         for length in (16, 24, 32)
     ]
-    print_or_check(__doc__, MADE_WITH, {("aes_core/src/tests.rt", "CHAINS"): table(rows)})
+    print_or_check(__doc__, MADE_WITH, {("known_answers/src/aes.rt", "CHAINS"): table(rows)})
 
 
 if __name__ == "__main__":

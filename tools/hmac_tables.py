@@ -55,8 +55,8 @@ def kdf_case(password, salt, count):
 
 def main():
     print_or_check(__doc__, MADE_WITH, {
-        ("hmac_kdf/src/tests.rt", "MAC_CASES"): table(mac_case(*row) for row in MESSAGES),
-        ("hmac_kdf/src/tests.rt", "KDF_CASES"): table(kdf_case(*row) for row in KEYS),
+        ("known_answers/src/codes.rt", "MAC_CASES"): table(mac_case(*row) for row in MESSAGES),
+        ("known_answers/src/codes.rt", "KDF_CASES"): table(kdf_case(*row) for row in KEYS),
     })
 
 

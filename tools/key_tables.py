@@ -38,9 +38,9 @@ def main():
     key = user_key(KEY_FILE, b"abc", 1000)
     slots = [f'SlotCase {{ keylen: {keylen}, slot: "{wrapped(key, keylen).hex()}" }}' for keylen in (128, 192, 256)]
     print_or_check(__doc__, MADE_WITH, {
-        ("user_key/src/tests.rt", "KEY_CASES"): table(key_case(*row) for row in KEYS),
-        ("key_slots/src/tests.rt", "USER_KEY"): f"UserKey {{ bytes: {list(key)} }}",
-        ("key_slots/src/tests.rt", "SLOT_CASES"): table(slots),
+        ("known_answers/src/user_keys.rt", "KEY_CASES"): table(key_case(*row) for row in KEYS),
+        ("known_answers/src/slots.rt", "USER_KEY"): f"UserKey {{ bytes: {list(key)} }}",
+        ("known_answers/src/slots.rt", "SLOT_CASES"): table(slots),
     })
 
 

@@ -60,8 +60,8 @@ def xts_rows(rng):
 def main():
     rng = random.Random(197)
     print_or_check(__doc__, MADE_WITH, {
-        ("cbc_mode/src/tests.rt", "ROWS"): table(cbc_rows(rng)),
-        ("xts_mode/src/tests.rt", "ROWS"): table(xts_rows(rng)),
+        ("known_answers/src/cbc.rt", "ROWS"): table(cbc_rows(rng)),
+        ("known_answers/src/xts.rt", "ROWS"): table(xts_rows(rng)),
     })
 
 

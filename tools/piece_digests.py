@@ -76,7 +76,7 @@ def row(auth, cipher, bits, digest):
 def main():
     digests = [row(auth, *cipher, pieces_digest) for auth in TAGS for cipher in CIPHERS]
     fours = [row(*each, fours_digest) for each in FOURS]
-    test = "auth_sectors/src/tests.rt"
+    test = "known_answers/src/pieces.rt"
     print_or_check(__doc__, MADE_WITH, {(test, "DIGESTS"): table(digests), (test, "FOURS"): table(fours)})
 
 

@@ -15,7 +15,7 @@ from test_tables import print_or_check, table
 
 MADE_WITH = f"hmac and hashlib of Python {platform.python_version()}"
 
-TEST = "range_keys/src/tests.rt"
+TEST = "known_answers/src/rings.rt"
 
 MASTER = bytes(range(128))
 IV_KEY, DATA_KEY = MASTER[:64], MASTER[64:]

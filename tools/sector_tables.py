@@ -20,7 +20,7 @@ from test_tables import print_or_check, table
 
 MADE_WITH = f"hashlib and hmac of Python {platform.python_version()} and cryptography {cryptography.__version__}"
 
-TEST = "plain_sectors/src/tests.rt"
+TEST = "known_answers/src/sectors.rt"
 
 MASTER = bytes(range(128))
 IV_KEY, DATA_KEY = MASTER[:64], MASTER[64:]

@@ -11,7 +11,7 @@ import sys
 from collections import namedtuple
 from pathlib import Path
 
-TABLE = Path(__file__).parent.parent / "crates/command_words/src/tests/table.rt"
+TABLE = Path(__file__).parent.parent / "crates/known_answers/src/words/table.rt"
 
 # Bytes that the tables write by other signs.
 SIGNS = {b"~": b"\0", b"`": b"\t", b"^": b"\r", b"!": b"\xff", b"%": b"\xc3", b"{": b"a" * 262140, b"}": b"a" * 37855}
@@ -302,7 +302,7 @@ def main():
         rows = [make(row) for row in before]
         differ = [(old, new) for old, new in zip(before, rows) if old != new]
         if check:
-            print(f"command_words/src/tests/table.rt: {name}: {f'{len(differ)} rows differ' if differ else 'equal'}")
+            print(f"known_answers/src/words/table.rt: {name}: {f'{len(differ)} rows differ' if differ else 'equal'}")
             print("".join(f"  {old}\n  here {new}\n" for old, new in differ), end="")
         else:
             print("\n".join(rows))

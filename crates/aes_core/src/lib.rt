@@ -119,6 +119,3 @@ pub fn examples_of_the_standard()
     ensures key_192 { encrypt (example_key 24) example_plain ≡ example_192 }
     ensures key_256 { encrypt (example_key 32) example_plain ≡ example_256 }
 {}
-
-#[cfg(test)]
-mod tests;

@@ -12,8 +12,6 @@ ghost use Rattle.auth_sectors.specs.Tags.{Tells};
 ghost use Rattle.auth_sectors.specs.Wholes.{sealed_pieces};
 
 mod tags;
-#[cfg(test)]
-mod tests;
 mod whole;
 
 use block_traits::Sector;

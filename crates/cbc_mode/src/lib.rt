@@ -79,6 +79,3 @@ pub fn cbc_open_undoes_cbc_seal(key: &[u8], iv: &[u8], plain: &[u8])
 pub fn example_of_the_standard()
     ensures { cbc_seal example_key example_iv example_plain ≡ example_cipher }
 {}
-
-#[cfg(test)]
-mod tests;

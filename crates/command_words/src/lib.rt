@@ -18,6 +18,3 @@ pub use commands::{Command, JobWords, Usage};
 pub use images::{ImageNames, images_of, joined, script_images};
 pub use lines::{command_in, read_line};
 pub use spans::{KeyWords, Sep, Span, SpanList};
-
-#[cfg(test)]
-mod tests;

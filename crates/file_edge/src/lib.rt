@@ -12,8 +12,6 @@ mod random_file;
 mod reader;
 mod store;
 mod streams;
-#[cfg(test)]
-mod tests;
 
 pub use ask::{Ask, KeptAsk};
 pub use file_cabinet::FileCabinet;
@@ -23,4 +21,5 @@ pub use image_file::ImageFile;
 pub use opener::{Opener, SystemFiles};
 pub use random_file::RandomFile;
 pub use reader::{Reader, Writer};
+pub use store::{Stop, store_file};
 pub use streams::{InputSource, OutputSink};

@@ -33,7 +33,7 @@ pub enum Stop {
 }
 
 /// Stores the bytes under the name: after a crash what had the name stands, or the whole new file does.
-pub(crate) fn store_file<O: Opener>(
+pub fn store_file<O: Opener>(
     opener: &mut O,
     alloc: Global,
     images: &[FileId],

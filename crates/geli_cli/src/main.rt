@@ -2,8 +2,6 @@
 #![tactic(auto)]
 
 mod program;
-#[cfg(test)]
-mod tests;
 
 use file_edge::{InputSource, OutputSink, SystemFiles};
 use geli_core::Status;

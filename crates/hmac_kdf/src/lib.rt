@@ -9,8 +9,6 @@ mod laws;
 mod mac256;
 mod mac384;
 mod mac512;
-#[cfg(test)]
-mod tests;
 
 pub use kdf::pbkdf2_sha512;
 pub use laws::{codes_are_bytes, derived_keys_are_bytes, digests_are_bytes};

@@ -6,8 +6,6 @@
 
 mod opening;
 mod placing;
-#[cfg(test)]
-mod tests;
 mod wrapping;
 
 pub use opening::{unwrap, unwrap_any};

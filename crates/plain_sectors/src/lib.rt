@@ -39,6 +39,3 @@ pub fn open_plain(ring: &mut KeyRing, offset: u64, block: &mut [u8])
     ring.is_of_a_keying();
     open_run(ring, offset, block);
 }
-
-#[cfg(test)]
-mod tests;

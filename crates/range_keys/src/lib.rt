@@ -11,8 +11,6 @@ mod derivation;
 mod expanded;
 mod kept;
 mod ring;
-#[cfg(test)]
-mod tests;
 
 pub use expanded::RangeKey;
 pub use ring::KeyRing;

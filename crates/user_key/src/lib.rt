@@ -6,8 +6,6 @@
 mod components;
 mod derivation;
 mod passphrase;
-#[cfg(test)]
-mod tests;
 
 pub use components::{Components, KeyFault, PassPart, UserKey};
 pub use derivation::derive;

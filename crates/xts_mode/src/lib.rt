@@ -79,6 +79,3 @@ pub fn xts_open_undoes_xts_seal(key1: &[u8], key2: &[u8], tweak: u64, plain: &[u
 pub fn example_of_the_standard()
     ensures { xts_seal example_key1 example_key2 example_unit example_plain ≡ example_cipher }
 {}
-
-#[cfg(test)]
-mod tests;

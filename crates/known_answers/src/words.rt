@@ -1,29 +1,40 @@
 // Lines and words, against the tables of another implementation.
 mod table;
 
-use super::*;
+use command_words::{Sep, Usage, images_of, read_line};
 use std::alloc::Global;
 use std::fmt::Write;
 use std::test::Fail;
 use table::{IMAGES, LINES};
 
+// What a sign of the tables stands for: a byte, and how many of it.
+fn meaning(sign: u8) -> (u8, usize) {
+    match sign {
+        b'~' => (0, 1),
+        b'`' => (b'\t', 1),
+        b'^' => (b'\r', 1),
+        b'!' => (0xff, 1),
+        b'%' => (0xc3, 1),
+        b'{' => (b'a', 262_140),
+        b'}' => (b'a', 37_855),
+        other => (other, 1),
+    }
+}
+
+// Puts so many of a byte behind the others.
+fn push_times(bytes: &mut Vec<u8>, byte: u8, count: usize) -> Result<(), Fail> {
+    for _ in 0..count {
+        bytes.push(byte)?;
+    }
+    Ok(())
+}
+
 // The bytes that a text of the tables stands for.
 fn plain_bytes(alloc: Global, text: &str) -> Result<Vec<u8>, Fail> {
     let mut bytes = Vec::new(alloc);
-    for byte in text.bytes() {
-        let (byte, count) = match byte {
-            b'~' => (0, 1),
-            b'`' => (b'\t', 1),
-            b'^' => (b'\r', 1),
-            b'!' => (0xff, 1),
-            b'%' => (0xc3, 1),
-            b'{' => (b'a', 262_140),
-            b'}' => (b'a', 37_855),
-            other => (other, 1),
-        };
-        for _ in 0..count {
-            bytes.push(byte)?;
-        }
+    for sign in text.bytes() {
+        let (byte, count) = meaning(sign);
+        push_times(&mut bytes, byte, count)?;
     }
     Ok(bytes)
 }

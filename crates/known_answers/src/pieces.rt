@@ -1,7 +1,8 @@
 //! Sealed pieces by authentication, cipher and place.
 
-use crate::{open_piece, seal_four, seal_piece};
-use eli_base::{Auth, Cipher, MasterKey, Params, sector_size_ok};
+use crate::common::{is_hex, master};
+use auth_sectors::{open_piece, seal_four, seal_piece};
+use eli_base::{Auth, Cipher, Params, sector_size_ok};
 use range_keys::KeyRing;
 use sha2::{Digest, Sha256};
 use std::alloc::Global;
@@ -137,16 +138,9 @@ fn ring_of(
     cipher: Cipher,
     keylen: u16,
 ) -> Result<KeyRing, Fail> {
-    let mut bytes = [0u8; 128];
-    for (i, byte) in bytes.iter_mut().enumerate() {
-        *byte = (i % 128) as u8;
-    }
-    assert!(rt;
-        cipher.allows(keylen) && sector_size_ok(4_096),
-        "{auth:?} {cipher:?} {keylen}"
-    );
+    assert!(rt; cipher.allows(keylen) && sector_size_ok(4_096));
     let params = Params::new(7, auth, cipher, keylen, 4_096, 0, false);
-    Ok(KeyRing::new(alloc, &MasterKey { bytes }, &params)?)
+    Ok(KeyRing::new(alloc, &master(), &params)?)
 }
 
 // The plain bytes of a piece at this offset.
@@ -158,71 +152,96 @@ fn plain_bytes(offset: u64) -> [u8; 480] {
     plain
 }
 
-// Seals a piece and opens it again.
-fn sealed(
+// Seals a piece of so many bytes, adds its device sector to the digest, and opens it again.
+fn add_sealed(
     rt: &impl Abort,
     ring: &mut KeyRing,
     offset: u64,
-    plain: &[u8],
-) -> Result<[u8; 512], Fail> {
-    let length = plain.len();
+    length: usize,
+    digest: &mut Sha256,
+) {
     assert!(rt;
-        ring.auth() != Auth::Off && 16 <= length && length <= 480,
+        ring.auth() != Auth::Off && length <= ring.auth().data_bytes(),
         "{length} bytes at {offset}"
     );
     assert!(rt;
-        length <= ring.auth().data_bytes() && length % 16 == 0,
+        16 <= length && length <= 480 && length % 16 == 0,
         "{length} bytes at {offset}"
     );
+    let plain = plain_bytes(offset);
     let mut sector = [0xff; 512];
-    seal_piece(ring, offset, plain, &mut sector);
+    seal_piece(ring, offset, &plain[..length], &mut sector);
+    digest.update(&sector);
     let mut opened = [0u8; 480];
-    assert!(rt; ring.auth() != Auth::Off && length <= ring.auth().data_bytes());
+    assert!(rt;
+        ring.auth() != Auth::Off && length <= ring.auth().data_bytes(),
+        "{length} bytes at {offset}"
+    );
     assert!(rt;
         open_piece(ring, offset, &sector, &mut opened[..length]).is_ok(),
         "{length} bytes at {offset}"
     );
-    assert_eq!(rt; &opened[..length], plain, "{length} bytes at {offset}");
-    Ok(sector)
+    assert!(rt;
+        opened[..length] == plain[..length],
+        "{length} bytes at {offset}"
+    );
 }
 
 #[test]
 fn sealed_pieces(rt: HostRuntime) -> Result<(), Fail> {
+    let alloc = rt.alloc();
     for (auth, cipher, keylen, expected) in DIGESTS {
-        let mut ring = ring_of(&rt, rt.alloc(), auth, cipher, keylen)?;
+        let mut ring = ring_of(&rt, alloc, auth, cipher, keylen)?;
         let mut digest = Sha256::new();
         for offset in OFFSETS {
-            let plain = plain_bytes(offset);
-            for length in [16, 32, auth.data_bytes()] {
-                assert!(rt; length <= 480, "{auth:?} {length} bytes at {offset}");
-                digest.update(&sealed(&rt, &mut ring, offset, &plain[..length])?);
-            }
+            add_sealed(&rt, &mut ring, offset, 16, &mut digest);
+            add_sealed(&rt, &mut ring, offset, 32, &mut digest);
+            add_sealed(&rt, &mut ring, offset, auth.data_bytes(), &mut digest);
         }
-        let digest = hex::encode(rt.alloc(), digest.finalize())?;
-        assert_eq!(rt; digest.as_str(), expected, "{auth:?} {cipher:?} {keylen}");
+        assert!(&rt;
+            is_hex(alloc, &digest.finalize(), expected)?,
+            "{auth:?} {cipher:?} {keylen}"
+        );
     }
     Ok(())
 }
 
+// Seals four whole pieces at once, and adds their device sectors to the digest.
+fn add_four(
+    rt: &impl Abort,
+    ring: &mut KeyRing,
+    pieces: &[[u8; 480]; 4],
+    width: usize,
+    digest: &mut Sha256,
+) {
+    assert!(rt; 16 <= width && width <= 480);
+    let mut plain = [0u8; 1_920];
+    for (j, piece) in pieces.iter().enumerate() {
+        plain[width * j..width * j + width].copy_from_slice(&piece[..width]);
+    }
+    assert!(rt; ring.auth() != Auth::Off && width == ring.auth().data_bytes());
+    let mut sectors = [0xff; 2_048];
+    seal_four(ring, FIRST_OF_FOUR, &plain[..4 * width], &mut sectors);
+    digest.update(&sectors);
+}
+
 #[test]
 fn four_sealed_pieces(rt: HostRuntime) -> Result<(), Fail> {
+    let alloc = rt.alloc();
+    let pieces = [
+        plain_bytes(FIRST_OF_FOUR),
+        plain_bytes(FIRST_OF_FOUR + 512),
+        plain_bytes(FIRST_OF_FOUR + 1_024),
+        plain_bytes(FIRST_OF_FOUR + 1_536),
+    ];
     for (auth, cipher, keylen, expected) in FOURS {
-        let mut ring = ring_of(&rt, rt.alloc(), auth, cipher, keylen)?;
-        let width = auth.data_bytes();
-        assert!(rt; width <= 480, "{auth:?}");
-        let mut plain = Vec::new(rt.alloc());
-        for j in 0..4 {
-            plain.extend_from_slice(&plain_bytes(FIRST_OF_FOUR + 512 * j)[..width])?;
-        }
-        assert!(rt;
-            ring.auth() != Auth::Off && plain.len() == 4 * ring.auth().data_bytes(),
-            "{} bytes",
-            plain.len()
+        let mut ring = ring_of(&rt, alloc, auth, cipher, keylen)?;
+        let mut digest = Sha256::new();
+        add_four(&rt, &mut ring, &pieces, auth.data_bytes(), &mut digest);
+        assert!(&rt;
+            is_hex(alloc, &digest.finalize(), expected)?,
+            "{auth:?} {cipher:?} {keylen}"
         );
-        let mut out = [0xff; 2048];
-        seal_four(&mut ring, FIRST_OF_FOUR, &plain, &mut out);
-        let digest = hex::encode(rt.alloc(), Sha256::digest(&out))?;
-        assert_eq!(rt; digest.as_str(), expected, "{auth:?} {cipher:?} {keylen}");
     }
     Ok(())
 }

@@ -1,7 +1,8 @@
 //! Sealed logical sectors by cipher, size and place.
 
-use crate::{open_plain, seal_plain};
-use eli_base::{Auth, Cipher, MasterKey, Params, sector_size_ok};
+use crate::common::{fill, is_hex, master};
+use eli_base::{Auth, Cipher, Params, sector_size_ok};
+use plain_sectors::{open_plain, seal_plain};
 use range_keys::KeyRing;
 use sha2::{Digest, Sha256};
 use std::alloc::Global;
@@ -69,21 +70,6 @@ const CBC_256: [&str; 8] = [
     "bef0accb2a87951b997baeb967dafdca5996fcf36de2f7b77541cbc15f9f8c3f",
 ];
 
-fn master() -> MasterKey {
-    let mut bytes = [0u8; 128];
-    for (i, byte) in bytes.iter_mut().enumerate() {
-        *byte = (i % 128) as u8;
-    }
-    MasterKey { bytes }
-}
-
-// The plain text of each sector: byte i is (7 * i + i / 256) mod 256.
-fn fill(text: &mut [u8]) {
-    for (i, byte) in text.iter_mut().enumerate() {
-        *byte = ((7 * (i % 256) + i / 256 % 256) % 256) as u8;
-    }
-}
-
 // The version of the metadata, a cipher, the bits of its key and the bytes of a logical sector.
 #[derive(Clone, Copy)]
 struct Combination {
@@ -147,12 +133,9 @@ fn check_row(
     for offset in [0, size, next_number - size, next_number, (1 << 53) - size] {
         check_at(rt, alloc, tried, offset, &plain, &mut digest)?;
     }
-    let digest = hex::encode(alloc, &digest.finalize())?;
-    assert_eq!(rt;
-        digest.as_str(),
-        expected,
-        "{} bits, {size} bytes",
-        tried.keylen
+    assert!(rt;
+        is_hex(alloc, &digest.finalize(), expected)?,
+        "{size} bytes"
     );
     Ok(())
 }
@@ -178,16 +161,12 @@ fn check_table(
 
 #[test]
 fn sectors_by_cipher_and_size(rt: HostRuntime) -> Result<(), Fail> {
-    for (cipher, keylen, digests) in &[
-        (Cipher::AesXts, 128, XTS_128),
-        (Cipher::AesXts, 256, XTS_256),
-        (Cipher::AesCbc, 128, CBC_128),
-        (Cipher::AesCbc, 192, CBC_192),
-        (Cipher::AesCbc, 256, CBC_256),
-    ] {
-        check_table(&rt, rt.alloc(), *cipher, *keylen, digests)?;
-    }
-    Ok(())
+    let alloc = rt.alloc();
+    check_table(&rt, alloc, Cipher::AesXts, 128, &XTS_128)?;
+    check_table(&rt, alloc, Cipher::AesXts, 256, &XTS_256)?;
+    check_table(&rt, alloc, Cipher::AesCbc, 128, &CBC_128)?;
+    check_table(&rt, alloc, Cipher::AesCbc, 192, &CBC_192)?;
+    check_table(&rt, alloc, Cipher::AesCbc, 256, &CBC_256)
 }
 
 // A logical sector by its number, and the digest of what the plain text is sealed to there.
@@ -289,12 +268,9 @@ fn check_sector(rt: &impl Abort, alloc: Global, vector: &Vector) -> Result<(), F
     let offset = vector.number * u64::from(vector.sectorsize);
     let mut digest = Sha256::new();
     check_at(rt, alloc, &tried, offset, &plain, &mut digest)?;
-    let digest = hex::encode(alloc, &digest.finalize())?;
-    assert_eq!(rt;
-        digest.as_str(),
-        vector.digest,
-        "version {}, at {offset}",
-        vector.version
+    assert!(rt;
+        is_hex(alloc, &digest.finalize(), vector.digest)?,
+        "at {offset}"
     );
     Ok(())
 }

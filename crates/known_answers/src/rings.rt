@@ -1,8 +1,9 @@
 //! Keys, initial vectors and tag keys by offset, and which range keys are kept.
 
-use crate::KeyRing;
+use crate::common::{bytes_of, master};
 use aes_core::Schedule;
-use eli_base::{Auth, Cipher, MasterKey, Params, sector_size_ok};
+use eli_base::{Auth, Cipher, Params, sector_size_ok};
+use range_keys::KeyRing;
 use std::alloc::Global;
 use std::process::Abort;
 use std::test::Fail;
@@ -139,14 +140,6 @@ const PLACES: [Place; 6] = [
     },
 ];
 
-fn master() -> MasterKey {
-    let mut bytes = [0u8; 128];
-    for (i, byte) in bytes.iter_mut().enumerate() {
-        *byte = (i % 128) as u8;
-    }
-    MasterKey { bytes }
-}
-
 // A block of zeros under a key of 256 bits.
 fn enciphered(key: &Schedule) -> [u8; 16] {
     let mut block = [0u8; 16];
@@ -155,10 +148,7 @@ fn enciphered(key: &Schedule) -> [u8; 16] {
 }
 
 fn expected(key: [u128; 2]) -> Result<[u8; 16], Fail> {
-    let mut bytes = [0u8; 32];
-    bytes[..16].copy_from_slice(&key[0].to_be_bytes());
-    bytes[16..].copy_from_slice(&key[1].to_be_bytes());
-    Ok(enciphered(&Schedule::new(&bytes).ok_or("no key")?))
+    Ok(enciphered(&Schedule::new(&bytes_of(key)).ok_or("no key")?))
 }
 
 fn check_place(rt: &impl Abort, alloc: Global, place: &Place) -> Result<(), Fail> {
@@ -285,18 +275,15 @@ const VECTORS: [Vector; 2] = [
 ];
 
 fn check_vector(rt: &impl Abort, ring: &KeyRing, vector: &Vector) {
+    let offset = vector.offset;
     assert!(rt; ring.auth() != Auth::Off);
-    let tag_key = ring.tag_key_at(vector.offset);
-    let mut expected = [0u8; 32];
-    expected[..16].copy_from_slice(&vector.tag_key[0].to_be_bytes());
-    expected[16..].copy_from_slice(&vector.tag_key[1].to_be_bytes());
-    assert_eq!(rt; tag_key, expected, "{:?} at {}", ring.auth(), vector.offset);
-    assert_eq!(rt;
-        ring.iv_at(vector.offset),
-        vector.vector.to_be_bytes(),
-        "{:?} at {}",
-        ring.auth(),
-        vector.offset
+    assert!(rt;
+        ring.tag_key_at(offset) == bytes_of(vector.tag_key),
+        "at {offset}"
+    );
+    assert!(rt;
+        ring.iv_at(offset) == vector.vector.to_be_bytes(),
+        "at {offset}"
     );
 }
 
@@ -314,34 +301,68 @@ fn vectors_and_tag_keys(rt: HostRuntime) -> Result<(), Fail> {
     Ok(())
 }
 
-// The kept range keys of the master key above, with logical sectors of 512 bytes: each number begins 2^29 bytes behind
-// the one before it.
+// The numbers of 0 to 16 whose range keys a ring keeps, each as the bit of its place. The ring has logical sectors of
+// 512 bytes, so each number begins 2^29 bytes behind the one before it.
+fn kept(ring: &KeyRing) -> u32 {
+    let mut bits = 0;
+    for number in 0..17u32 {
+        if ring.keeps(u64::from(number) << 29) {
+            bits |= 1 << number;
+        }
+    }
+    bits
+}
+
+// The number whose range key is asked for, and the numbers whose keys are kept then: the last sixteen that were asked
+// for.
+const USES: [(u64, u32); 20] = [
+    (0, 0x1),
+    (1, 0x3),
+    (2, 0x7),
+    (3, 0xf),
+    (4, 0x1f),
+    (5, 0x3f),
+    (6, 0x7f),
+    (7, 0xff),
+    (8, 0x1ff),
+    (9, 0x3ff),
+    (10, 0x7ff),
+    (11, 0xfff),
+    (12, 0x1fff),
+    (13, 0x3fff),
+    (14, 0x7fff),
+    (15, 0xffff),
+    (16, 0x1fffe),
+    (0, 0x1fffd),
+    (2, 0x1fffd),
+    (1, 0x1fff7),
+];
+
+// Asks for the range key of a number. That of number 0 is the one above, also where it comes back.
+fn use_number(rt: &impl Abort, ring: &mut KeyRing, number: u64) -> Result<(), Fail> {
+    assert!(rt; number < 17, "number {number}");
+    let key = ring.key_at(number << 29);
+    if number == 0 {
+        assert!(rt;
+            enciphered(key.first.schedule()) == expected(PLAIN_0_FRONT)?,
+            "number 0"
+        );
+        assert!(rt;
+            enciphered(&key.second) == expected(PLAIN_0_BACK)?,
+            "number 0"
+        );
+    }
+    Ok(())
+}
+
 #[test]
 fn sixteen_range_keys_are_kept(rt: HostRuntime) -> Result<(), Fail> {
     assert!(rt; Cipher::AesXts.allows(256) && sector_size_ok(512));
     let params = Params::new(7, Auth::Off, Cipher::AesXts, 256, 512, 0, false);
     let mut ring = KeyRing::new(rt.alloc(), &master(), &params)?;
-    for number in 0..17u64 {
-        assert!(rt; !ring.keeps(number << 29), "{number}");
-        let key = enciphered(ring.key_at(number << 29).first.schedule());
-        if number == 0 {
-            assert_eq!(rt; key, expected(PLAIN_0_FRONT)?, "{number}");
-        }
-    }
-    for number in 0..17u64 {
-        assert!(rt; ring.keeps(number << 29) == (number > 0), "{number}");
-    }
-    let key = ring.key_at(0);
-    assert_eq!(rt; enciphered(key.first.schedule()), expected(PLAIN_0_FRONT)?);
-    assert_eq!(rt; enciphered(&key.second), expected(PLAIN_0_BACK)?);
-    for (number, kept) in [(0, true), (1, false), (2, true), (16, true)] {
-        assert!(rt; ring.keeps(number << 29) == kept, "{number} in the end");
-    }
-    // A number in the list comes to the front: number 2 isn't the next to be dropped, but number 3.
-    ring.key_at(2 << 29);
-    ring.key_at(1 << 29);
-    for (number, kept) in [(1, true), (2, true), (3, false), (4, true)] {
-        assert!(rt; ring.keeps(number << 29) == kept, "{number} after number 2");
+    for (number, bits) in USES {
+        use_number(&rt, &mut ring, number)?;
+        assert!(rt; kept(&ring) == bits, "number {number}");
     }
     Ok(())
 }

@@ -1,18 +1,11 @@
 //! The vectors of IEEE 1619, and texts of other lengths.
 
-use crate::{xts_open, xts_seal};
+use crate::common::{bytes_of, fill};
 use aes_core::Schedule;
 use sha2::{Digest, Sha256};
 use std::process::Abort;
 use std::test::Fail;
-
-// Numbers as bytes, the first number first and each big-endian.
-fn bytes_of(numbers: [u128; 2]) -> [u8; 32] {
-    let mut out = [0u8; 32];
-    out[..16].copy_from_slice(&numbers[0].to_be_bytes());
-    out[16..].copy_from_slice(&numbers[1].to_be_bytes());
-    out
-}
+use xts_mode::{xts_open, xts_seal};
 
 // Two keys, the number of a data unit, and two blocks of it.
 #[derive(Clone, Copy)]
@@ -238,13 +231,6 @@ const ROWS: [Row; 6] = [
         ],
     },
 ];
-
-// The plain text of a row: byte i is (7 * i + i / 256) mod 256.
-fn fill(text: &mut [u8]) {
-    for (i, byte) in text.iter_mut().enumerate() {
-        *byte = ((7 * (i % 256) + i / 256 % 256) % 256) as u8;
-    }
-}
 
 fn check_row(rt: &impl Abort, row: Row, text: &mut [u8]) -> Result<(), Fail> {
     assert!(rt; row.key_length <= 32, "{}", row.length);

@@ -1,0 +1,142 @@
+// The disks of images over the system's own files.
+use block_traits::Disk;
+use file_edge::{FileDisk, FileId, SystemFiles};
+use image_layers::{ImageDisk, open_image};
+use std::fs::{self, File, OpenOptions};
+use std::test::Fail;
+
+// The disk of a file, beside no other.
+fn disk_of(rt: &HostRuntime, changes: bool, name: &str) -> Result<FileDisk<File>, Fail> {
+    let mut files = SystemFiles::new(rt.clone()?);
+    Ok(FileDisk::open(&mut files, &[], changes, name))
+}
+
+// Whether a sector takes this byte at each place.
+fn takes(disk: &mut FileDisk<File>, n: u64, byte: u8) -> bool {
+    n < disk.sectors() && disk.write(n, &[byte; 512]).is_ok()
+}
+
+// Whether sectors 1 and 2 do, by one write.
+fn take(disk: &mut FileDisk<File>, byte: u8) -> bool {
+    2 < disk.sectors() && disk.write_sectors(1, &[byte; 1024]).is_ok()
+}
+
+// Whether a sector has this byte at each place.
+fn has(disk: &mut FileDisk<File>, n: u64, byte: u8) -> bool {
+    let mut bytes = [0; 512];
+    n < disk.sectors() && disk.read(n, &mut bytes).is_ok() && bytes == [byte; 512]
+}
+
+// Whether a disk of three sectors has and takes bytes.
+fn serves(disk: &mut FileDisk<File>) -> bool {
+    let before = disk.sectors() == 3 && has(disk, 1, 7) && has(disk, 2, 7);
+    let one = before
+        && takes(disk, 2, 3)
+        && disk.flush().is_ok()
+        && has(disk, 1, 7)
+        && has(disk, 2, 3);
+    one && take(disk, 4) && has(disk, 1, 4) && has(disk, 2, 4)
+}
+
+// Whether it takes bytes where its file has 1,100 left: sector 1 stands before the end, and what reaches behind it is
+// refused whole.
+fn serves_the_front(disk: &mut FileDisk<File>) -> bool {
+    takes(disk, 1, 5) && !takes(disk, 2, 6) && !take(disk, 6)
+}
+
+// The file becomes shorter: what stands behind its end then fails. The null device can't be synced.
+#[test]
+fn a_file_is_a_disk(rt: HostRuntime) -> Result<(), Fail> {
+    let name = "file_disk_test.img";
+    fs::write(&rt, name, [7u8; 1636].as_slice())?;
+    let mut disk = disk_of(&rt, true, name)?;
+    assert!(rt; serves(&mut disk), "before");
+    OpenOptions::new()
+        .write(true)
+        .open(&rt, name)?
+        .set_len(1100)?;
+    assert!(rt; serves_the_front(&mut disk), "behind");
+    let file = fs::read(&rt, name)?;
+    fs::remove_file(&rt, name)?;
+    assert_eq!(rt; file.len(), 1100);
+    assert!(rt; file.starts_with(&[7; 512]));
+    assert!(rt; file.get(512..1024) == Some([5; 512].as_slice()));
+    assert!(rt; file.ends_with(&[4; 76]));
+    let null = FileId {
+        device: 1,
+        number: 2,
+    };
+    let mut null = FileDisk::of_file(File::open(&rt, "/dev/null")?, null, 0);
+    assert!(rt; null.flush().is_err());
+    Ok(())
+}
+
+// The sectors of the disk of a file: two where none is opened.
+fn sectors_of(rt: &HostRuntime, changes: bool, name: &str) -> Result<u64, Fail> {
+    Ok(disk_of(rt, changes, name)?.sectors())
+}
+
+// While one disk has a file, a second one that is to be changed has none, and one that is read has it.
+#[test]
+fn an_image_is_held_by_one_disk(rt: HostRuntime) -> Result<(), Fail> {
+    let name = "held_test.img";
+    fs::write(&rt, name, [7u8; 1536].as_slice())?;
+    let held = disk_of(&rt, true, name)?;
+    assert_eq!(rt; sectors_of(&rt, true, name)?, 2);
+    assert_eq!(rt; sectors_of(&rt, false, name)?, 3);
+    assert_eq!(rt; held.sectors(), 3);
+    fs::remove_file(&rt, name)?;
+    for name in ["/dev/null", ".", "no_such_file"] {
+        assert_eq!(rt; sectors_of(&rt, true, name)?, 2, "{name}");
+    }
+    Ok(())
+}
+
+// Whether the last sector of a disk takes bytes that are flushed.
+fn ends<D: Disk>(disk: &mut D) -> bool {
+    match disk.sectors().checked_sub(1) {
+        Some(last) => disk.write(last, &[9; 512]).is_ok() && disk.flush().is_ok(),
+        None => false,
+    }
+}
+
+// Whether the image of a name takes a last sector.
+fn ends_image(rt: &HostRuntime, name: &str) -> Result<bool, Fail> {
+    let mut opener = SystemFiles::new(rt.clone()?);
+    let mut files = Vec::new(rt.alloc());
+    match open_image(rt.alloc(), &mut opener, &mut files, true, name)? {
+        ImageDisk::Plain(mut disk) => Ok(ends(&mut disk)),
+        ImageDisk::Behind(mut disk) => Ok(ends(&mut disk)),
+        ImageDisk::Join(mut disk) => Ok(ends(&mut disk)),
+    }
+}
+
+// Whether a file of three sectors is left with zeros, and these bytes in its last sector. It goes.
+fn is_left(rt: &HostRuntime, name: &str, last: u8) -> Result<bool, Fail> {
+    let file = fs::read(rt, name)?;
+    fs::remove_file(rt, name)?;
+    Ok(file.len() == 1536 && file.starts_with(&[0; 1024]) && file.ends_with(&[last; 512]))
+}
+
+const FILES: [(&str, u8); 5] = [
+    ("plain.img", 9),
+    ("behind.img", 9),
+    ("left.img", 0),
+    ("right.img", 9),
+    ("other.img", 0),
+];
+
+// The last sectors of the files that are named change, and nothing else does.
+#[test]
+fn images_end_in_their_files(rt: HostRuntime) -> Result<(), Fail> {
+    for (name, _) in FILES {
+        fs::write(&rt, name, [0u8; 1536].as_slice())?;
+    }
+    for name in ["plain.img", "behind:behind.img", "join:left.img:right.img"] {
+        assert!(&rt; ends_image(&rt, name)?, "{name}");
+    }
+    for (name, last) in FILES {
+        assert!(&rt; is_left(&rt, name, last)?, "{name}");
+    }
+    Ok(())
+}

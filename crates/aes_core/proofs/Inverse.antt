@@ -1,12 +1,12 @@
 -- The inverse cipher undoes the cipher: each inverse step undoes its step.
 use Rattle.std.proofs.Common.{◌≡◌, ℕ, zero, suc, ◌+◌, ◌-◌, ◌*◌, ◌/◌, ◌%◌, ◌<◌, ◌≤◌, List, [], ◌∷◌, length, map, get_or, bit_xor, refl, sym, ap, ◌∙◌, arith, zero-add}
-use lib.Bits.{xor_assoc, xor_comm, xor_self, xor_zero_r, xor_zero_l}
-use Rattle.std.proofs.lemmas.Nat.{xor_shr, xor_mod, xor_of_8}
+use lib.Bits.{xor_assoc, xor_comm, xor_self, xor_zero_r}
+use Rattle.std.proofs.lemmas.Nat.{xor_shr, xor_of_8}
 use Rattle.std.proofs.lemmas.List.{length-map, get_or-map, get_or_past, ext_get_or}
 use Rattle.std.proofs.lemmas.List.FromFn.{fill_by_all, length-map-range_with_len, get_or-map-range_with_len, get_or-range_with_len}
 use Rattle.std.proofs.lemmas.Simd.{length-zip2, get_or-zip2}
 use Rattle.std.proofs.lemmas.Bool.{cases_lt}
-use Rattle.std.proofs.Common.{inl, inr, ◌⊎◌, lit<}
+use Rattle.std.proofs.Common.{inl, inr, lit<}
 use Rattle.std.specs.List.{range_with_len}
 pub use Rattle.aes_core.specs.State.{IsState}
 pub use Rattle.aes_core.proofs.Sums.{xor_swap}

@@ -2,8 +2,9 @@
 use Rattle.std.proofs.Common.{◌≡◌, ℕ, ◌+◌, ◌-◌, ◌*◌, ◌<◌, ◌≤◌, List, [], ◌∷◌, refl, sym, ap, ◌∙◌, map, get_or, arith, zero-add, bit_xor}
 use Rattle.std.proofs.lemmas.List.FromFn.{get_or-map-range_with_len}
 use Rattle.std.specs.List.{range_with_len}
-use Rattle.aes_core.specs.Field.{times, times_x, power}
-use Rattle.aes_core.specs.Aes.{sbox, inverse_sbox}
+use Rattle.aes_core.specs.Field.{times, times_x}
+use Rattle.aes_core.specs.Aes.{affine, inverse_affine, sbox, inverse_sbox}
+use Rattle.aes_core.proofs.Powers.{pick, rows, twice, squares, power_254}
 
 abbrev pub sbox_table : List ℕ
 sbox_table =
@@ -43,13 +44,21 @@ inverse_sbox_table =
     0xA0 ∷ 0xE0 ∷ 0x3B ∷ 0x4D ∷ 0xAE ∷ 0x2A ∷ 0xF5 ∷ 0xB0 ∷ 0xC8 ∷ 0xEB ∷ 0xBB ∷ 0x3C ∷ 0x83 ∷ 0x53 ∷ 0x99 ∷ 0x61 ∷
     0x17 ∷ 0x2B ∷ 0x04 ∷ 0x7E ∷ 0xBA ∷ 0x77 ∷ 0xD6 ∷ 0x26 ∷ 0xE1 ∷ 0x69 ∷ 0x14 ∷ 0x63 ∷ 0x55 ∷ 0x21 ∷ 0x0C ∷ 0x7D ∷ []
 
+by_squares : map (λ b. affine (squares (twice (rows b 8)) 6)) (range_with_len 0 256) ≡ sbox_table
+unfolding squares twice rows pick
+by_squares = refl
+
 pub sbox_table_is : map sbox (range_with_len 0 256) ≡ sbox_table
-unfolding sbox power times
-sbox_table_is = refl
+unfolding sbox
+sbox_table_is = (λ i. map (λ b. affine (power_254 b i)) (range_with_len 0 256)) ∙ by_squares
+
+inverse_by_squares : map (λ b. squares (twice (rows (inverse_affine b) 8)) 6) (range_with_len 0 256) ≡ inverse_sbox_table
+unfolding squares twice rows pick
+inverse_by_squares = refl
 
 pub inverse_sbox_table_is : map inverse_sbox (range_with_len 0 256) ≡ inverse_sbox_table
-unfolding inverse_sbox power times
-inverse_sbox_table_is = refl
+unfolding inverse_sbox
+inverse_sbox_table_is = (λ i. map (λ b. power_254 (inverse_affine b) i) (range_with_len 0 256)) ∙ inverse_by_squares
 
 -- Tables
 

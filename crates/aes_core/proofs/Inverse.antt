@@ -1,32 +1,21 @@
 -- The inverse cipher undoes the cipher: each inverse step undoes its step.
 use Rattle.std.proofs.Common.{◌≡◌, ℕ, zero, suc, ◌+◌, ◌-◌, ◌*◌, ◌/◌, ◌%◌, ◌<◌, ◌≤◌, List, [], ◌∷◌, length, map, get_or, bit_xor, refl, sym, ap, ◌∙◌, arith, zero-add}
-use lib.Bits.{xor_assoc, xor_comm, xor_self, xor_zero_r, xor_zero_l}
-use Rattle.std.proofs.lemmas.Nat.{xor_shr, xor_mod, xor_of_8}
+use lib.Bits.{xor_assoc, xor_comm, xor_self, xor_zero_r}
+use Rattle.std.proofs.lemmas.Nat.{xor_shr, xor_of_8}
 use Rattle.std.proofs.lemmas.List.{length-map, get_or-map, get_or_past, ext_get_or}
 use Rattle.std.proofs.lemmas.List.FromFn.{fill_by_all, length-map-range_with_len, get_or-map-range_with_len, get_or-range_with_len}
 use Rattle.std.proofs.lemmas.Simd.{length-zip2, get_or-zip2}
 use Rattle.std.proofs.lemmas.Bool.{cases_lt}
-use Rattle.std.proofs.Common.{inl, inr, ◌⊎◌, lit<}
+use Rattle.std.proofs.Common.{inl, inr, lit<}
 use Rattle.std.specs.List.{range_with_len}
 pub use Rattle.aes_core.specs.State.{IsState}
+pub use Rattle.aes_core.proofs.Sums.{xor_swap}
+use Rattle.aes_core.proofs.Sums.{bit_times, bit_of_xor}
 use Rattle.aes_core.specs.Field.{times_x, times_bits, times, power}
 use Rattle.aes_core.specs.Aes.{sbox, inverse_sbox, bytes_by, xor, sub_bytes, shift_rows, mix_columns, circulant_byte, inverse_sub_bytes, inverse_shift_rows, inverse_mix_columns, round_key, after_rounds, after_inverse_rounds, enciphered, deciphered}
 use Rattle.aes_core.proofs.Boxes.{agree_at, sbox_table, inverse_sbox_table, sbox_entry, inverse_sbox_entry}
 
 -- ---- bytes
-
--- a bit times a number is 0 or the number
-bit_times : (r a : ℕ) → r < 2 → ((r ≡ 0) × (r * a ≡ 0)) ⊎ ((r ≡ 1) × (r * a ≡ a))
-bit_times r a lt = elim (cases_lt r 1) [
-  | inl low ↦
-      let z : r ≡ 0 = omega arith in
-      let none : 0 * a ≡ 0 = omega arith in
-      inl (z, ap (λ (k : ℕ). k * a) z ∙ none)
-  | inr high ↦
-      let z : r ≡ 1 = omega arith in
-      let same : 1 * a ≡ a = omega arith in
-      inr (z, ap (λ (k : ℕ). k * a) z ∙ same)
-]
 
 bit_times-le : (r a : ℕ) → r < 2 → r * a ≤ a
 bit_times-le r a lt = elim (bit_times r a lt) [ inl l ↦ omega (arith, l.1) | inr h ↦ omega (arith, h.1) ]
@@ -85,26 +74,6 @@ pub inverse_shift_rows-shift_rows : (s : List ℕ) → length s ≡ 16 → inver
 inverse_shift_rows-shift_rows s len = sym (by_index s len)
 
 -- ---- MixColumns
-
-bits_times : (p q a : ℕ) → p < 2 → q < 2 → bit_xor p q * a ≡ bit_xor (p * a) (q * a)
-bits_times p q a lp lq = elim (bit_times p a lp) [
-  | inl low ↦ rw (low.1, low.0, xor_zero_l q) (sym (xor_zero_l (q * a)))
-  | inr high ↦ elim (bit_times q a lq) [
-    | inl low ↦ rw (low.1, low.0, xor_zero_r p) (sym (xor_zero_r (p * a)))
-    | inr both ↦ rw (both.1, high.1, both.0, high.0) (let none : 0 * a ≡ 0 = omega arith in none ∙ sym (xor_self a))
-  ]
-]
-
-bit_of_xor : (x y a : ℕ) → bit_xor x y % 2 * a ≡ bit_xor (x % 2 * a) (y % 2 * a)
-bit_of_xor x y a =
-    let bit : bit_xor x y % 2 ≡ bit_xor (x % 2) (y % 2) = xor_mod x y 1 in
-    ap (λ (k : ℕ). k * a) bit ∙ bits_times (x % 2) (y % 2) a (omega arith) (omega arith)
-
-pub xor_swap : (p q r s : ℕ) → bit_xor (bit_xor p q) (bit_xor r s) ≡ bit_xor (bit_xor p r) (bit_xor q s)
-xor_swap p q r s =
-    xor_assoc p q (bit_xor r s)
-    ∙ ap (bit_xor p) (sym (xor_assoc q r s) ∙ ap (λ (k : ℕ). bit_xor k s) (xor_comm q r) ∙ xor_assoc r q s)
-    ∙ sym (xor_assoc p r (bit_xor q s))
 
 -- a product is additive
 pub times_bits-xor : (a x y n : ℕ) → times_bits a (bit_xor x y) n ≡ bit_xor (times_bits a x n) (times_bits a y n)

@@ -1,4 +1,6 @@
 pub mod Fill
+pub mod Sums
+pub mod Powers
 pub mod Boxes
 pub mod Cached
 pub mod Turns

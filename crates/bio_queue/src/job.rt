@@ -1,7 +1,7 @@
 // What is asked of a provider, and what was done.
 
 /// What is asked of a provider.
-#[derive(Clone, Copy, Debug, PartialEq, Eq)]
+#[derive(Clone, Copy)]
 pub enum Job {
     /// Logical sectors from number `sector` on are read.
     Read { sector: u64, count: u32 },
@@ -12,7 +12,7 @@ pub enum Job {
 }
 
 /// What a request gave that is done.
-#[derive(Clone, Copy, Debug, PartialEq, Eq)]
+#[derive(Clone, Copy)]
 pub enum Reaped {
     /// So many bytes were read.
     Bytes { length: u32 },

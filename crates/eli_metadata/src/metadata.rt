@@ -58,7 +58,7 @@ impl Metadata {
 }
 
 /// Why bytes are no metadata, or metadata no provider that can be used.
-#[derive(Clone, Copy, Debug, PartialEq, Eq, Error)]
+#[derive(Clone, Copy, Debug, Error)]
 pub enum MetaFault {
     /// The first sixteen bytes aren't the magic.
     #[error("no GELI metadata")]

@@ -11,7 +11,7 @@ use eli_base::Refusal;
 use thiserror::Error;
 
 /// Why no metadata was read.
-#[derive(Clone, Copy, Debug, PartialEq, Eq, Error)]
+#[derive(Clone, Copy, Debug, Error)]
 pub enum ReadMetaFault {
     /// The image has fewer than two device sectors. `size` is in bytes.
     #[error("an image of {size} bytes is too small")]

@@ -1,8 +1,8 @@
 //! The time of the cipher modes, of the key ring, of sealed sectors and of a provider, for bench/aes.py.
 //!
-//! Its arguments are what is measured, what is done with it, the bits of a key, the bytes of a call and how many slices
-//! are measured. It prints the nanoseconds of the quickest slice, the calls of a slice, and for a mode the last 16 bytes
-//! that one call leaves of zeros. With other arguments it does nothing.
+//! Its arguments are what is measured, what is done with it, the bits of a key, the bytes of a call and how many
+//! slices are measured. It prints the nanoseconds of the quickest slice, the calls of a slice, and for a mode the last
+//! 16 bytes that one call leaves of zeros. With other arguments it does nothing.
 #![tactic(auto)]
 
 mod modes;

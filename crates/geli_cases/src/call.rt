@@ -68,8 +68,8 @@ pub fn add_name(alloc: Global, name: &str, into: &mut Vec<String>) -> Result<(),
     Ok(into.push(String::from_str(alloc, name)?)?)
 }
 
-/// Makes the program's run over the disks, which it takes, and answers the number of its status. The disks of the case note
-/// which of them are on the shelf still.
+/// Makes the program's run over the disks, which it takes, and answers the number of its status. The disks of the case
+/// note which of them are on the shelf still.
 pub fn top_call(
     alloc: Global,
     shelved: &mut Shelved,

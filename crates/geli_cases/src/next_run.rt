@@ -199,7 +199,8 @@ pub fn fail_calls(
     Ok(disk.fail_calls(&calls)?)
 }
 
-/// Offers disks of these names to the shelf, behind its disks, and tells what it answers. Those that it takes are added.
+/// Offers disks of these names to the shelf, behind its disks, and tells what it answers.
+/// Those that it takes are added.
 pub fn add_offers(
     alloc: Global,
     names: &[String],

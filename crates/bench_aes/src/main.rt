@@ -1,8 +1,8 @@
 //! The time of the cipher modes, of the key ring, of sealed sectors and of a provider, for bench/aes.py.
 //!
-//! Its arguments are what is measured, what is done with it, the bits of a key, the bytes of a call and how many slices
-//! are measured. It prints the nanoseconds of the quickest slice, the calls of a slice, and for a mode the last 16 bytes
-//! that one call leaves of zeros. With other arguments it does nothing.
+//! Its arguments are what is measured, what is done with it, the bits of a key, the bytes of a call and how many
+//! slices are measured. It prints the nanoseconds of the quickest slice, the calls of a slice, and for a mode the last
+//! 16 bytes that one call leaves of zeros. With other arguments it does nothing.
 #![tactic(auto)]
 
 mod modes;
@@ -31,16 +31,22 @@ pub fn calls_of(size: usize) -> u32 {
 }
 
 fn main(rt: HostRuntime) -> io::Result<()> {
-    let mut words = env::args(&rt)?;
-    words.next();
-    let Some(request) = Request::read(&mut words) else {
-        return Ok(());
-    };
-    let mut watch = Stopwatch::new(&rt, request.slices);
-    match measured(rt.alloc(), request, &mut watch) {
-        Some(report) => print_report(&rt, watch.quickest()?, report),
+    match request_of(&rt)? {
+        Some(request) => measure(&rt, request),
         None => Ok(()),
     }
+}
+
+fn request_of(rt: &HostRuntime) -> io::Result<Option<Request>> {
+    let mut words = env::args(rt)?;
+    words.next();
+    Ok(Request::read(&mut words))
+}
+
+fn measure(rt: &HostRuntime, request: Request) -> io::Result<()> {
+    let mut watch = Stopwatch::new(rt, request.slices);
+    let report = measured(rt.alloc(), request, &mut watch);
+    print_report(rt, watch.quickest()?, report)
 }
 
 fn measured(alloc: Global, request: Request, watch: &mut Stopwatch<'_>) -> Option<Report> {
@@ -53,9 +59,11 @@ fn measured(alloc: Global, request: Request, watch: &mut Stopwatch<'_>) -> Optio
     }
 }
 
-fn print_report(rt: &HostRuntime, nanos: u128, report: Report) -> io::Result<()> {
-    let count = report.count;
-    match report.last {
+fn print_report(rt: &HostRuntime, nanos: u128, report: Option<Report>) -> io::Result<()> {
+    let Some(Report { count, last }) = report else {
+        return Ok(());
+    };
+    match last {
         Some(last) => println!(rt; "{nanos} {count} {last:032x}"),
         None => println!(rt; "{nanos} {count}"),
     }

@@ -30,11 +30,24 @@ pub fn time_mode(
     if size < 16 || size % 16 != 0 || size > MOST_BYTES {
         return None;
     }
+    let keys = schedules_of(request.bits)?;
+    time_bytes(alloc, mode_of(cipher, request.way), &keys, size, watch)
+}
+
+fn time_bytes(
+    alloc: Global,
+    mode: Mode,
+    keys: &Schedules,
+    size: usize,
+    watch: &mut Stopwatch<'_>,
+) -> Option<Report>
+    requires at_least { 16 ≤ size }
+    requires blocks { size % 16 ≡ 0 }
+{
     let Ok(mut bytes) = vec![in alloc; 0u8; size] else {
         return None;
     };
-    let keys = schedules_of(request.bits)?;
-    Some(time_calls(mode_of(cipher, request.way), &keys, &mut bytes, watch))
+    Some(time_calls(mode, keys, &mut bytes, watch))
 }
 
 // A cipher mode, one way.

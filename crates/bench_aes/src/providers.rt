@@ -1,4 +1,5 @@
-//! A whole provider over a disk in memory, and what the disk and the codes alone cost: one logical sector of 4,096 bytes.
+//! A whole provider over a disk in memory, and what the disk and the codes alone cost: one logical sector of 4,096
+//! bytes.
 
 ghost use Rattle.key_slots.specs.Slots.{IsKeyBits};
 

@@ -84,16 +84,30 @@ pub fn time_sectors(
     if size > MOST_BYTES {
         return None;
     }
+    let mut ring = ring(alloc, Auth::Off, cipher, request.bits, size as u32)?;
+    time_block(
+        alloc,
+        &mut ring,
+        matches!(request.way, Way::Seal),
+        size,
+        watch,
+    )
+}
+
+fn time_block(
+    alloc: Global,
+    ring: &mut KeyRing,
+    seals: bool,
+    size: usize,
+    watch: &mut Stopwatch<'_>,
+) -> Option<Report>
+    requires off { ring.old.keying.auth ≡ Auth.Off }
+    requires size { size ≡ ring.old.keying.sectorsize }
+{
     let Ok(mut block) = vec![in alloc; 0u8; size] else {
         return None;
     };
-    let mut ring = ring(alloc, Auth::Off, cipher, request.bits, size as u32)?;
-    Some(time_plain(
-        &mut ring,
-        matches!(request.way, Way::Seal),
-        &mut block,
-        watch,
-    ))
+    Some(time_plain(ring, seals, &mut block, watch))
 }
 
 fn time_plain(
@@ -135,16 +149,26 @@ pub fn time_pieces(
     auth: Auth,
     watch: &mut Stopwatch<'_>,
 ) -> Option<Report> {
-    let mut plain = [5u8; 512];
-    let piece = &mut plain[..auth.data_bytes()];
-    if let Way::Hash = request.way {
-        return Some(time_hash(auth, piece, watch));
+    match request.way {
+        Way::Hash => Some(time_codes(auth, watch)),
+        way => time_sealed(alloc, matches!(way, Way::Seal), request.bits, auth, watch),
     }
+}
+
+fn time_sealed(
+    alloc: Global,
+    seals: bool,
+    bits: u16,
+    auth: Auth,
+    watch: &mut Stopwatch<'_>,
+) -> Option<Report> {
     if auth == Auth::Off {
         return None;
     }
-    let mut ring = ring(alloc, auth, Cipher::AesXts, request.bits, 4096)?;
-    Some(time_whole(&mut ring, matches!(request.way, Way::Seal), piece, watch))
+    let mut ring = ring(alloc, auth, Cipher::AesXts, bits, 4096)?;
+    let mut plain = [5u8; 512];
+    let piece = &mut plain[..auth.data_bytes()];
+    Some(time_whole(&mut ring, seals, piece, watch))
 }
 
 fn time_whole(
@@ -195,6 +219,12 @@ pub fn code(auth: Auth, key: &[u8; 32], message: &[u8]) -> u8 {
         Auth::Sha384 => Hmac384::code_of(key, message)[0],
         Auth::Sha512 => Hmac512::code_of(key, message)[0],
     }
+}
+
+// The codes alone of a piece.
+fn time_codes(auth: Auth, watch: &mut Stopwatch<'_>) -> Report {
+    let mut plain = [5u8; 512];
+    time_hash(auth, &mut plain[..auth.data_bytes()], watch)
 }
 
 // Codes of a message, each under a key that is new.

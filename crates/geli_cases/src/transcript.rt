@@ -21,7 +21,7 @@ pub struct Transcript {
 }
 
 /// A part of a line of the transcript.
-#[derive(Drop)]
+#[derive(Clone, Copy)]
 pub enum Part<'a> {
     /// A text.
     Text(&'a str),

@@ -1,23 +1,71 @@
-// What whole runs over memory share: the objects that a run is given, its words, and what it leaves.
-use block_traits::{Disk, Event, Sector};
+// What whole runs over memory share: the objects that a run is given, and its words.
+use block_traits::{Disk, DiskFailed, Event, Sector};
 use crash_disk::{MemCabinet, MemDisk, MemEntropy, MemSink, MemSource};
 use geli_core::{Drawers, Status, run};
-use md5::{Digest, Md5};
-use sha2::{Digest as _, Sha256};
 use std::alloc::Global;
+use std::cell::Cell;
+use std::rc::Rc;
 use std::test::Fail;
+
+// A disk whose calls are counted where the test sees them.
+#[derive(Drop)]
+pub(crate) struct CountingDisk {
+    disk: MemDisk,
+    calls: Rc<Cell<u64>>,
+}
+
+impl CountingDisk {
+    fn count(&self) {
+        self.calls.set(self.calls.get().saturating_add(1));
+    }
+}
+
+impl Disk for CountingDisk {
+    ghost use Rattle.crash_disk.specs.MemDisk.{disk_of};
+
+    ghost state = { λ counting. disk_of counting.disk };
+
+    fn sectors(&self) -> u64 {
+        self.disk.sectors()
+    }
+
+    fn read(&mut self, n: u64, into: &mut Sector) -> Result<(), DiskFailed> {
+        self.count();
+        self.disk.read(n, into)
+    }
+
+    fn write(&mut self, n: u64, from: &Sector) -> Result<(), DiskFailed> {
+        self.count();
+        self.disk.write(n, from)
+    }
+
+    fn flush(&mut self) -> Result<(), DiskFailed> {
+        self.count();
+        self.disk.flush()
+    }
+
+    fn events(&self) -> Option<&[Event]> {
+        self.disk.events()
+    }
+}
 
 /// What runs are given beside their words and their output.
 #[derive(Drop)]
 pub(crate) struct World {
-    shelf: Drawers<MemDisk>,
+    shelf: Drawers<CountingDisk>,
     files: MemCabinet,
     entropy: MemEntropy,
+    calls: Rc<Cell<u64>>,
 }
 
 impl World {
-    // The disk under the name `a.img`, a cabinet, and random bytes for ten providers.
-    pub(crate) fn new(alloc: Global, disk: MemDisk) -> Result<World, Fail> {
+    // An image of 64 sectors of zeros under the name `a.img`, a cabinet, and random bytes for ten providers.
+    pub(crate) fn new(alloc: Global) -> Result<World, Fail> {
+        let calls = Rc::new(alloc, Cell::new(0))?;
+        let disk = CountingDisk {
+            disk: MemDisk::new(alloc, 64, 64)?,
+            calls: calls.clone()?,
+        };
         let mut shelf = Drawers::new(alloc)?;
         if shelf.add("a.img", disk).is_err() {
             return Err(Fail::from("the shelf has no room"));
@@ -25,114 +73,51 @@ impl World {
         Ok(World {
             shelf,
             files: stock(alloc)?,
-            entropy: MemEntropy::new(alloc, &random_bytes())?,
+            entropy: MemEntropy::new(alloc, &[0x5a; 3840])?,
+            calls,
         })
     }
 
-    // Runs the words of a line.
+    // How many calls the disk got.
+    pub(crate) fn calls(&self) -> u64 {
+        self.calls.get()
+    }
+
+    // Runs the words of a line over this input.
     pub(crate) fn run(
         &mut self,
         alloc: Global,
         line: &str,
+        input: &str,
         output: &mut MemSink,
     ) -> Result<Status, Fail> {
         let words = words(alloc, line)?;
+        let mut input = MemSource::new(alloc, input.as_bytes(), &[], &[])?;
         Ok(run(
             alloc,
             &words,
-            &mut MemSource::new(alloc, b"", &[], &[])?,
+            &mut input,
             output,
             &mut self.files,
             &mut self.entropy,
             &mut self.shelf,
         ))
     }
-
-    // The bytes that were written last.
-    fn written(&self) -> Option<Sector> {
-        let mut last = None;
-        for event in self.shelf.events("a.img").unwrap_or(&[]) {
-            if let Event::Write { bytes, .. } = event {
-                last = Some(*bytes);
-            }
-        }
-        last
-    }
-}
-
-// Ten times 384 bytes, of which byte i is (i * 7 + 3) mod 256.
-pub(crate) fn random_bytes() -> [u8; 3840] {
-    let mut random = [0; 3840];
-    for (i, byte) in random.iter_mut().enumerate() {
-        *byte = ((i % 384 * 7 + 3) % 256) as u8;
-    }
-    random
-}
-
-// The bytes 0x00 to 0x3f.
-fn key_file() -> [u8; 64] {
-    let mut bytes = [0; 64];
-    for (i, byte) in bytes.iter_mut().enumerate() {
-        *byte = (i % 64) as u8;
-    }
-    bytes
 }
 
 // A cabinet with a key file and a passphrase.
-pub(crate) fn stock(alloc: Global) -> Result<MemCabinet, Fail> {
+fn stock(alloc: Global) -> Result<MemCabinet, Fail> {
     let mut files = MemCabinet::new(alloc);
-    files.put("k", &key_file())?;
+    files.put("k", b"key")?;
     files.put("p", b"abc\n")?;
     Ok(files)
 }
 
-// The words of a line, each between two blanks. The empty line has none.
+// The words of a line, each between two blanks.
 pub(crate) fn words(alloc: Global, line: &str) -> Result<Vec<String>, Fail> {
     let mut words = Vec::new(alloc);
-    if line.is_empty() {
-        return Ok(words);
-    }
     for word in line.split(' ') {
         words.push(String::from_str(alloc, word)?)?;
     }
     Ok(words)
-}
-
-// A disk of so many sectors of zeros.
-pub(crate) fn blank(alloc: Global, sectors: u32) -> Result<MemDisk, Fail> {
-    Ok(MemDisk::new(alloc, u64::from(sectors), 64)?)
-}
-
-// The same, but for the last sector.
-pub(crate) fn disk_with(alloc: Global, sectors: u32, last: &Sector) -> Result<MemDisk, Fail> {
-    let mut disk = blank(alloc, sectors)?;
-    let Some(place) = disk.sectors().checked_sub(1) else {
-        return Err(Fail::from("a disk without a sector"));
-    };
-    disk.alter(place, last)?;
-    Ok(disk)
-}
-
-// The last sector that `init` writes by the words of a line, on an image of zeros with so many sectors.
-pub(crate) fn made(alloc: Global, sectors: u32, line: &str) -> Result<Sector, Fail> {
-    let mut world = World::new(alloc, blank(alloc, sectors)?)?;
-    let mut output = MemSink::new(alloc, &[], &[], 2048)?;
-    world.run(alloc, line, &mut output)?;
-    match world.written() {
-        Some(sector) => Ok(sector),
-        None => Err(Fail::from("init wrote nothing")),
-    }
-}
-
-// The sector with the MD5 of its first 495 bytes behind them.
-pub(crate) fn hashed(sector: &Sector) -> Sector {
-    let mut anew = *sector;
-    let digest = Md5::digest(&sector[..495]);
-    anew[495..511].copy_from_slice(&digest);
-    anew
-}
-
-// The SHA-256 digest of bytes, in hexadecimal.
-pub(crate) fn digest_text(alloc: Global, bytes: &[u8]) -> Result<String, Fail> {
-    Ok(hex::encode(alloc, Sha256::digest(bytes))?)
 }

@@ -1,25 +1,23 @@
 // A sink that fails at the reply of `init` and of `attach -C`.
-use crate::common::{World, disk_with, made};
-use crash_disk::{MemDisk, MemSink};
+use crate::common::World;
+use crash_disk::MemSink;
 use std::alloc::Global;
 use std::test::Fail;
 
 const MAKING: &str = "init -B b -K k -J p -i 10 a.img";
 
 // What a sink that takes a byte a call takes of two runs, where this call fails: the status of the first, how many
-// bytes it took of that, the status of the second, and all bytes.
-fn taken_twice(
-    alloc: Global,
-    disk: MemDisk,
-    first: &str,
-    call: u64,
-    second: &str,
-) -> Result<String, Fail> {
-    let mut world = World::new(alloc, disk)?;
+// bytes it took of that, the status of the second, and all bytes. `attach` finds a provider that was made before.
+fn taken_twice(alloc: Global, first: &str, call: u64, second: &str) -> Result<String, Fail> {
+    let mut world = World::new(alloc)?;
+    if first != MAKING {
+        let mut unseen = MemSink::new(alloc, &[], &[], 2048)?;
+        world.run(alloc, MAKING, "", &mut unseen)?;
+    }
     let mut output = MemSink::new(alloc, &[1; 80], &[call], 2048)?;
-    let number = world.run(alloc, first, &mut output)?.number();
+    let number = world.run(alloc, first, "", &mut output)?.number();
     let length = output.bytes().len();
-    let last = world.run(alloc, second, &mut output)?.number();
+    let last = world.run(alloc, second, "", &mut output)?.number();
     let text = std::str::from_utf8(output.bytes())?;
     Ok(format!(in alloc; "{number} {length} {last} {text}")?)
 }
@@ -48,15 +46,9 @@ const SINK_FAILS: [(&str, u64, &str, &str); 8] = [
 
 #[test]
 fn a_sink_that_fails_gets_the_bytes_before(rt: HostRuntime) -> Result<(), Fail> {
-    let alloc = rt.alloc();
     for (first, call, second, want) in SINK_FAILS {
-        let last = if first == MAKING {
-            [0; 512]
-        } else {
-            made(alloc, 2048, MAKING)?
-        };
-        let taken = taken_twice(alloc, disk_with(alloc, 2048, &last)?, first, call, second)?;
-        assert_eq!(rt; taken.as_str(), want, "call {call}");
+        let taken = taken_twice(rt.alloc(), first, call, second)?;
+        assert!(rt; taken.as_str() == want, "call {call} of {first}");
     }
     Ok(())
 }

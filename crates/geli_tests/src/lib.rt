@@ -11,8 +11,6 @@ mod eject;
 #[cfg(test)]
 mod failures;
 #[cfg(test)]
-mod hashes;
-#[cfg(test)]
 mod metadata;
 #[cfg(test)]
 mod replies;

@@ -3,6 +3,7 @@
 use crate::common::bytes_of;
 use aes_core::Schedule;
 use aes_core::steps::{decipher, encipher};
+use std::process::Abort;
 use std::test::Fail;
 
 // The schedule of so many bytes of a key of up to 32 bytes, given by its halves.
@@ -26,32 +27,30 @@ const VECTORS: [(usize, u128); 3] = [
     (32, 0x8ea2b7ca516745bfeafc49904b496089),
 ];
 
-// Whether the tables give it, both ways.
-fn by_tables(schedule: &Schedule, cipher: u128) -> bool {
+// By the tables.
+fn check_tables(rt: &impl Abort, schedule: &Schedule, cipher: u128) {
     let mut block = PLAIN.to_be_bytes();
     schedule.encrypt_block(&mut block);
-    let enciphered = u128::from_be_bytes(block);
+    assert_eq!(rt; u128::from_be_bytes(block), cipher);
     schedule.decrypt_block(&mut block);
-    enciphered == cipher && u128::from_be_bytes(block) == PLAIN
+    assert_eq!(rt; u128::from_be_bytes(block), PLAIN);
 }
 
-// Whether the plain program of the equations gives it, both ways.
-fn by_equations(schedule: &Schedule, cipher: u128) -> bool {
+// By the plain program of the equations.
+fn check_equations(rt: &impl Abort, schedule: &Schedule, cipher: u128) {
     let (keys, count) = (schedule.round_keys(), schedule.rounds() - 1);
     let enciphered = encipher(keys, count, PLAIN.to_be_bytes());
+    assert_eq!(rt; u128::from_be_bytes(enciphered), cipher);
     let deciphered = decipher(keys, count, cipher.to_be_bytes());
-    u128::from_be_bytes(enciphered) == cipher && u128::from_be_bytes(deciphered) == PLAIN
+    assert_eq!(rt; u128::from_be_bytes(deciphered), PLAIN);
 }
 
 #[test]
 fn vectors_of_the_standard(rt: HostRuntime) -> Result<(), Fail> {
     for (length, cipher) in VECTORS {
         let schedule = schedule_of(FIRST, SECOND, length)?;
-        assert!(rt; by_tables(&schedule, cipher), "{length}");
-        assert!(rt;
-            by_equations(&schedule, cipher),
-            "{length} by the equations"
-        );
+        check_tables(&rt, &schedule, cipher);
+        check_equations(&rt, &schedule, cipher);
     }
     assert!(rt; Schedule::new(&[0; 20]).is_none());
     Ok(())

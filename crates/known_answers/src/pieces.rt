@@ -160,27 +160,15 @@ fn add_sealed(
     length: usize,
     digest: &mut Sha256,
 ) {
-    assert!(rt;
-        ring.auth() != Auth::Off && length <= ring.auth().data_bytes(),
-        "{length} bytes at {offset}"
-    );
-    assert!(rt;
-        16 <= length && length <= 480 && length % 16 == 0,
-        "{length} bytes at {offset}"
-    );
+    assert!(rt; ring.auth() != Auth::Off && length <= ring.auth().data_bytes());
+    assert!(rt; 16 <= length && length <= 480 && length % 16 == 0);
     let plain = plain_bytes(offset);
     let mut sector = [0xff; 512];
     seal_piece(ring, offset, &plain[..length], &mut sector);
     digest.update(&sector);
     let mut opened = [0u8; 480];
-    assert!(rt;
-        ring.auth() != Auth::Off && length <= ring.auth().data_bytes(),
-        "{length} bytes at {offset}"
-    );
-    assert!(rt;
-        open_piece(ring, offset, &sector, &mut opened[..length]).is_ok(),
-        "{length} bytes at {offset}"
-    );
+    assert!(rt; ring.auth() != Auth::Off && length <= ring.auth().data_bytes());
+    assert!(rt; open_piece(ring, offset, &sector, &mut opened[..length]).is_ok());
     assert!(rt;
         opened[..length] == plain[..length],
         "{length} bytes at {offset}"

@@ -340,17 +340,11 @@ const USES: [(u64, u32); 20] = [
 
 // Asks for the range key of a number. That of number 0 is the one above, also where it comes back.
 fn use_number(rt: &impl Abort, ring: &mut KeyRing, number: u64) -> Result<(), Fail> {
-    assert!(rt; number < 17, "number {number}");
+    assert!(rt; number < 17);
     let key = ring.key_at(number << 29);
     if number == 0 {
-        assert!(rt;
-            enciphered(key.first.schedule()) == expected(PLAIN_0_FRONT)?,
-            "number 0"
-        );
-        assert!(rt;
-            enciphered(&key.second) == expected(PLAIN_0_BACK)?,
-            "number 0"
-        );
+        assert!(rt; enciphered(key.first.schedule()) == expected(PLAIN_0_FRONT)?);
+        assert!(rt; enciphered(&key.second) == expected(PLAIN_0_BACK)?);
     }
     Ok(())
 }

@@ -42,7 +42,8 @@ fn hashes_under(keys: &[[u8; 32]; 4], pad: u8, messages: [&[u8]; 4]) -> [[u8; 32
 /// have 32 bytes each.
 pub fn codes_of_four(keys: &[[u8; 32]; 4], messages: [&[u8]; 4]) -> [[u8; 32]; 4]
     requires { HaveOneLength messages }
-    ensures { (j : ℕ) → j < 4 → slice_index_or result j [] ≡ hmac256 (slice_index_or keys.now j []) (bytes_of j messages.entry) }
+    ensures { (j : ℕ) → j < 4 → slice_index_or result j []
+        ≡ hmac256 (slice_index_or keys.now j []) (bytes_of j messages.entry) }
 {
     let [a, b, c, d] = hashes_under(keys, INNER_PAD, messages);
     hashes_under(keys, OUTER_PAD, [&a, &b, &c, &d])

@@ -1,8 +1,16 @@
-use Rattle.std.proofs.Common.{◌≡◌, ℕ, List, [], ◌∷◌, ◌++◌, slice_index_or, ap, refl, ◌∙◌}
+use Rattle.std.proofs.Common.{◌≡◌, ℕ, ◌<◌, List, [], ◌∷◌, ◌++◌, length, slice_index_or, ap, arith, refl, sym, ◌∙◌}
 use Rattle.sha2.specs.Sha256.{sha256}
+use Rattle.sha2.proofs.Facts256.{length-sha256}
 use Rattle.hmac_kdf.specs.Hmac.{hmac256, key_block, masked}
 use Rattle.sha_lanes.proofs.LaneLaws.{below_four}
 use Rattle.sha_lanes.proofs.codes_of_four.Goals as goal
+
+pub hashes_under-requires-2 : goal.hashes_under-requires-2
+hashes_under-requires-2 c =
+    let inner : List (List ℕ) = c.hashes_under.result in
+    let long : (k : ℕ) → k < 4 → length (slice_index_or inner k []) ≡ 32 = λ k below. ap length (c.hashes_under.ensures k below) ∙ length-sha256 _ in
+    let first = sym (long 0 (omega arith)) in
+    below_four _ refl (long 1 (omega arith) ∙ first) (long 2 (omega arith) ∙ first) (long 3 (omega arith) ∙ first)
 
 pub returns : goal.returns
 unfolding hmac256

@@ -52,8 +52,8 @@ pub fn seal_piece(ring: &mut KeyRing, offset: u64, plain: &[u8], out: &mut Secto
     zeros.fill(0);
 }
 
-/// Seals the plain bytes of four whole pieces into their device sectors, each behind the one before it. The first stands
-/// at this byte offset of the device.
+/// Seals the plain bytes of four whole pieces into their device sectors, each behind the one before it.
+/// The first stands at this byte offset of the device.
 pub fn seal_four(ring: &mut KeyRing, offset: u64, plain: &[u8], out: &mut [u8; 2048])
     requires on { ring.old.keying.auth ≢ Auth.Off }
     requires plain { length plain.now ≡ 4 * unit_bytes_of ring.old.keying.auth }

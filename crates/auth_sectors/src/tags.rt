@@ -80,8 +80,8 @@ fn codes_of_four(
     ]
 }
 
-/// The tags of four cipher texts of one length, that of the first at this byte offset and each other in the device sector behind
-/// that of the one before it.
+/// The tags of four cipher texts of one length. The first is that of this byte offset, and each other is that of the
+/// device sector behind the one before it.
 pub fn tags_of_four(
     ring: &KeyRing,
     offset: u64,

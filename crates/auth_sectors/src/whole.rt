@@ -1,6 +1,6 @@
 //! A whole piece, whose cipher text fills its device sector behind the tag.
 
-ghost use Rattle.std.specs.Prelude.{◌≡◌, ◌≢◌, ◌≤◌, ◌++◌, drop, length};
+ghost use Rattle.std.specs.Prelude.{◌≡◌, ◌≤◌, ◌++◌, drop, length};
 ghost use Rattle.eli_base.specs.Units.{tag_bytes, unit_bytes_of};
 ghost use Rattle.sealing.specs.Runs.{sealed_run};
 

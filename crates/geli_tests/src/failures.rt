@@ -6,20 +6,42 @@ use std::test::Fail;
 
 const MAKING: &str = "init -B b -K k -J p -i 10 a.img";
 
-// What a sink that takes a byte a call takes of two runs, where this call fails: the status of the first, how many
-// bytes it took of that, the status of the second, and all bytes. `attach` finds a provider that was made before.
-fn taken_twice(alloc: Global, first: &str, call: u64, second: &str) -> Result<String, Fail> {
+// A world where `attach` finds a provider that was made before.
+fn world_for(alloc: Global, first: &str) -> Result<World, Fail> {
     let mut world = World::new(alloc)?;
     if first != MAKING {
         let mut unseen = MemSink::new(alloc, &[], &[], 2048)?;
         world.run(alloc, MAKING, "", &mut unseen)?;
     }
+    Ok(world)
+}
+
+// Runs a line: the number of its status, and how many bytes the sink has then.
+fn ended(
+    alloc: Global,
+    world: &mut World,
+    line: &str,
+    output: &mut MemSink,
+) -> Result<(u8, usize), Fail> {
+    let status = world.run(alloc, line, "", output)?;
+    Ok((status.number(), output.bytes().len()))
+}
+
+// Whether a sink that takes a byte a call takes this of two runs, where this call fails: the status of the first, how
+// many bytes it took of that, the status of the second, and all bytes.
+fn is_taken(
+    alloc: Global,
+    first: &str,
+    call: u64,
+    second: &str,
+    want: (u8, usize, u8, &str),
+) -> Result<bool, Fail> {
+    let mut world = world_for(alloc, first)?;
     let mut output = MemSink::new(alloc, &[1; 80], &[call], 2048)?;
-    let number = world.run(alloc, first, "", &mut output)?.number();
-    let length = output.bytes().len();
-    let last = world.run(alloc, second, "", &mut output)?.number();
-    let text = std::str::from_utf8(output.bytes())?;
-    Ok(format!(in alloc; "{number} {length} {last} {text}")?)
+    let (number, length) = ended(alloc, &mut world, first, &mut output)?;
+    let (last, _) = ended(alloc, &mut world, second, &mut output)?;
+    let is_same = number == want.0 && length == want.1 && last == want.2;
+    Ok(is_same && output.bytes() == want.3.as_bytes())
 }
 
 const OPENING: &str = "attach -C -k k -j p a.img";
@@ -28,27 +50,34 @@ const NO_SUCH_SLOT: &str = "attach -C -n 2 a.img";
 
 // Words, the call of the sink that fails, further words, and what comes of it. A provider whose reply can't be printed
 // was made all the same.
-const SINK_FAILS: [(&str, u64, &str, &str); 8] = [
-    (MAKING, 1, OPENING, "4 0 0 ok\n"),
-    (MAKING, 2, OPENING, "4 1 0 ook\n"),
-    (MAKING, 3, OPENING, "4 2 0 okok\n"),
-    (MAKING, 4, OPENING, "0 3 4 ok\n"),
-    (OPENING, 1, MAKING, "4 0 0 ok\n"),
-    (OPENING, 3, OPENING, "4 2 0 okok\n"),
-    (OPENING, 5, OPENING, "0 3 4 ok\no"),
+const SINK_FAILS: [(&str, u64, &str, (u8, usize, u8, &str)); 8] = [
+    (MAKING, 1, OPENING, (4, 0, 0, "ok\n")),
+    (MAKING, 2, OPENING, (4, 1, 0, "ook\n")),
+    (MAKING, 3, OPENING, (4, 2, 0, "okok\n")),
+    (MAKING, 4, OPENING, (0, 3, 4, "ok\n")),
+    (OPENING, 1, MAKING, (4, 0, 0, "ok\n")),
+    (OPENING, 3, OPENING, (4, 2, 0, "okok\n")),
+    (OPENING, 5, OPENING, (0, 3, 4, "ok\no")),
     (
         NO_SUCH_SLOT,
         31,
         NO_SUCH_SLOT,
-        "4 30 1 error 18 KeyNumberOutOfRange 2error 18 KeyNumberOutOfRange 2\n",
+        (
+            4,
+            30,
+            1,
+            "error 18 KeyNumberOutOfRange 2error 18 KeyNumberOutOfRange 2\n",
+        ),
     ),
 ];
 
 #[test]
 fn a_sink_that_fails_gets_the_bytes_before(rt: HostRuntime) -> Result<(), Fail> {
     for (first, call, second, want) in SINK_FAILS {
-        let taken = taken_twice(rt.alloc(), first, call, second)?;
-        assert!(rt; taken.as_str() == want, "call {call} of {first}");
+        assert!(&rt;
+            is_taken(rt.alloc(), first, call, second, want)?,
+            "call {call} of {first}"
+        );
     }
     Ok(())
 }

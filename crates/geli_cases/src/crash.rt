@@ -1,8 +1,6 @@
 // What crashes leave of a disk.
-use crate::call::Shelved;
 use crate::fault::Fault;
 use crate::line::{Form, Line};
-use block_traits::Sector;
 use crash_disk::{Pick, SparseDisk, SurvivorFault, Torn, sparse_survivor};
 use std::alloc::Global;
 
@@ -26,21 +24,6 @@ pub enum Crashed {
     Beyond,
 }
 
-/// The survivors of a disk's crash at a moment that differ in one sector alone.
-#[derive(Clone, Copy)]
-pub struct Crash<'a> {
-    /// The name that a survivor has in its run.
-    pub new: &'a str,
-    /// The name of the disk.
-    pub old: &'a str,
-    /// The sector.
-    pub n: u64,
-    /// After so many events.
-    pub moment: usize,
-    /// The place among the values that the sector may have.
-    pub place: usize,
-}
-
 impl Choices {
     /// Nothing was gathered.
     pub fn new(alloc: Global) -> Choices {
@@ -48,12 +31,6 @@ impl Choices {
             picks: Vec::new(alloc),
             torn: Vec::new(alloc),
         }
-    }
-
-    /// Forgets what was gathered.
-    pub fn clear(&mut self) {
-        self.picks.clear();
-        self.torn.clear();
     }
 
     /// Adds a pick.
@@ -65,7 +42,15 @@ impl Choices {
     /// Adds a torn sector: the bytes of the line, with zeros behind them.
     pub fn tear(&mut self, alloc: Global, line: &mut Line<'_>) -> Result<(), Fault> {
         let n = line.number();
-        let bytes = sector_of(alloc, line)?;
+        let mut front = Vec::new(alloc);
+        line.bytes(alloc, Form::Hex, &mut front)?;
+        let mut bytes = [0; 512];
+        if front.len() > bytes.len() {
+            return Err(Fault::Bad("more bytes than a sector has"));
+        }
+        for (into, byte) in bytes.iter_mut().zip(front.as_slice()) {
+            *into = *byte;
+        }
         Ok(self.torn.push(Torn { n, bytes })?)
     }
 
@@ -77,31 +62,14 @@ impl Choices {
         moment: u64,
     ) -> Result<Crashed, Fault> {
         let made = survivor_at(alloc, disk, moment as usize, &self.picks, &self.torn);
-        self.clear();
+        self.picks.clear();
+        self.torn.clear();
         made
     }
 }
 
-// The bytes of a line, with zeros behind them.
-fn sector_of(alloc: Global, line: &mut Line<'_>) -> Result<Sector, Fault> {
-    let mut front = Vec::new(alloc);
-    line.bytes(alloc, Form::Hex, &mut front)?;
-    with_zeros(&front)
-}
-
-fn with_zeros(front: &[u8]) -> Result<Sector, Fault> {
-    let mut bytes = [0; 512];
-    if front.len() > bytes.len() {
-        return Err(Fault::Bad("more bytes than a sector has"));
-    }
-    for (into, byte) in bytes.iter_mut().zip(front) {
-        *into = *byte;
-    }
-    Ok(bytes)
-}
-
-// What a crash leaves of a disk after so many events.
-fn survivor_at(
+/// What a crash leaves of a disk after so many events.
+pub fn survivor_at(
     alloc: Global,
     disk: &SparseDisk,
     moment: usize,
@@ -116,23 +84,5 @@ fn survivor_at(
         Err(SurvivorFault::BadPick { index }) => Ok(Crashed::BadPick(index)),
         Err(SurvivorFault::BadTorn { index }) => Ok(Crashed::BadTorn(index)),
         Err(SurvivorFault::NoMemory) => Err(Fault::NoMemory),
-    }
-}
-
-/// Puts a survivor of this disk alone on a shelf, and answers whether the sector may have a value at the place.
-pub fn shelve_survivor(
-    alloc: Global,
-    disk: &SparseDisk,
-    crash: Crash<'_>,
-    into: &mut Shelved,
-) -> Result<bool, Fault> {
-    into.clear();
-    let Crash { n, place, .. } = crash;
-    match survivor_at(alloc, disk, crash.moment, &[Pick { n, place }], &[])? {
-        Crashed::Disk(survivor) => {
-            into.add_plain(alloc, crash.new, survivor)?;
-            Ok(true)
-        }
-        _ => Ok(false),
     }
 }

@@ -66,25 +66,15 @@ impl Files {
         Ok(self.files.push(NamedFile { name, bytes })?)
     }
 
-    /// Forgets all files.
-    pub fn clear(&mut self) {
-        self.files.clear();
-    }
-
-    /// A cabinet that has the files as they stand, and whose calls of these numbers fail.
-    pub fn cabinet(&self, alloc: Global, fails: &[u64]) -> Result<Box<MemCabinet>, Fault> {
-        let mut cabinet = Box::new(alloc, MemCabinet::new(alloc))?;
-        self.fill(&mut cabinet, fails)?;
-        Ok(cabinet)
-    }
-
-    fn fill(&self, cabinet: &mut MemCabinet, fails: &[u64]) -> Result<(), Fault> {
+    /// A cabinet that has the files as they stand.
+    pub fn cabinet(&self, alloc: Global) -> Result<MemCabinet, Fault> {
+        let mut cabinet = MemCabinet::new(alloc);
         for file in &self.files {
             if let Some(bytes) = &file.bytes {
                 cabinet.put(file.name.as_str(), bytes)?;
             }
         }
-        Ok(cabinet.fail_calls(fails)?)
+        Ok(cabinet)
     }
 
     /// Keeps the files that a run left, and tells those that changed or came.

@@ -55,18 +55,10 @@ impl Layers {
     ) -> Result<(), Fault> {
         let name = line.word();
         self.forget(name);
-        let layer = layer_of(alloc, kind, line)?;
-        self.add(alloc, name, layer)
-    }
-
-    fn add(&mut self, alloc: Global, name: &str, layer: Layer) -> Result<(), Fault> {
         let name = String::from_str(alloc, name)?;
+        let under = String::from_str(alloc, line.word())?;
+        let layer = layer_of(alloc, kind, under, line)?;
         Ok(self.layers.push((name, layer))?)
-    }
-
-    /// Forgets all layers.
-    pub fn clear(&mut self) {
-        self.layers.clear();
     }
 
     /// The layer of this name.
@@ -103,31 +95,30 @@ impl Layers {
     }
 }
 
-// The layer of a kind, as the line says it behind the name.
-fn layer_of(alloc: Global, kind: LayerKind, line: &mut Line<'_>) -> Result<Layer, Fault> {
+// The layer of a kind over this disk, with what the line says besides.
+fn layer_of(
+    alloc: Global,
+    kind: LayerKind,
+    under: String,
+    line: &mut Line<'_>,
+) -> Result<Layer, Fault> {
     match kind {
-        LayerKind::Behind => behind_of(alloc, line),
-        LayerKind::Join => join_of(alloc, line),
-        LayerKind::Provider => provider_of(alloc, line),
+        LayerKind::Behind => {
+            let room = line.number();
+            Ok(Layer::Behind { under, room })
+        }
+        LayerKind::Join => {
+            let second = String::from_str(alloc, line.word())?;
+            Ok(Layer::Join {
+                first: under,
+                second,
+            })
+        }
+        LayerKind::Provider => {
+            let passphrase = String::from_str(alloc, line.text())?;
+            Ok(Layer::Provider { under, passphrase })
+        }
     }
-}
-
-fn behind_of(alloc: Global, line: &mut Line<'_>) -> Result<Layer, Fault> {
-    let under = String::from_str(alloc, line.word())?;
-    let room = line.number();
-    Ok(Layer::Behind { under, room })
-}
-
-fn join_of(alloc: Global, line: &mut Line<'_>) -> Result<Layer, Fault> {
-    let first = String::from_str(alloc, line.word())?;
-    let second = String::from_str(alloc, line.word())?;
-    Ok(Layer::Join { first, second })
-}
-
-fn provider_of(alloc: Global, line: &mut Line<'_>) -> Result<Layer, Fault> {
-    let under = String::from_str(alloc, line.word())?;
-    let passphrase = String::from_str(alloc, line.text())?;
-    Ok(Layer::Provider { under, passphrase })
 }
 
 /// A disk for which up to `room` writes wait.
@@ -150,24 +141,26 @@ pub fn joined(first: TracedDisk, second: TracedDisk) -> Result<RunDisk, Fault> {
     }
 }
 
-/// What the last sector of a provider's disk tells.
-pub fn metadata_of(last: &Sector) -> Result<Metadata, Fault> {
-    match decode(last) {
-        Ok(meta) => Ok(meta),
-        Err(_) => Err(Fault::Bad("no provider")),
-    }
-}
-
-/// A provider as a disk.
-pub fn as_disk(provider: Provider<TracedDisk>) -> Result<RunDisk, Fault> {
+/// The provider on a disk whose last sector is this, by its passphrase. No call of the disk is made.
+pub fn opened(
+    alloc: Global,
+    under: TracedDisk,
+    last: &Sector,
+    passphrase: &str,
+) -> Result<RunDisk, Fault> {
+    let Ok(meta) = decode(last) else {
+        return Err(Fault::Bad("no provider"));
+    };
+    let key = key_of(alloc, &meta, passphrase)?;
+    let provider = attached(alloc, under, &meta, &key)?;
     match ProviderDisk::new(provider) {
         Ok(disk) => Ok(RunDisk::Provider(disk)),
         Err(_) => Err(Fault::Bad("this provider is no disk")),
     }
 }
 
-/// The key that the passphrase makes under these metadata.
-pub fn key_of(alloc: Global, meta: &Metadata, passphrase: &str) -> Result<UserKey, Fault> {
+// The key that the passphrase makes under these metadata.
+fn key_of(alloc: Global, meta: &Metadata, passphrase: &str) -> Result<UserKey, Fault> {
     let passphrase = Vec::from_slice(alloc, passphrase.as_bytes())?;
     let parts = Components {
         keyfile_count: 0,
@@ -180,17 +173,17 @@ pub fn key_of(alloc: Global, meta: &Metadata, passphrase: &str) -> Result<UserKe
     }
 }
 
-/// The provider on a disk, open for writing. No call of the disk is made.
-pub fn attached(
+// The provider on a disk, open for writing.
+fn attached(
     alloc: Global,
     under: TracedDisk,
     meta: &Metadata,
     key: &UserKey,
 ) -> Result<Provider<TracedDisk>, Fault> {
-    let (Ok(params), Ok(())) = (check(meta), slot_gate(meta, None)) else {
+    let Ok(params) = check(meta) else {
         return Err(Fault::Bad("no provider"));
     };
-    if size_gate(meta, under.sectors()).is_err() {
+    if size_gate(meta, under.sectors()).is_err() || slot_gate(meta, None).is_err() {
         return Err(Fault::Bad("no provider"));
     }
     match Provider::attach(alloc, under, meta, &params, key, None, false) {

@@ -1,5 +1,4 @@
 // The lines of a case file, as docs/CASES.md says them: a word, and arguments between single spaces.
-use crate::call::add_name;
 use crate::fault::Fault;
 use crate::layers::LayerKind;
 use std::alloc::{AllocError, Global};
@@ -211,10 +210,19 @@ impl<'a> Line<'a> {
     pub fn bytes(&mut self, alloc: Global, form: Form, into: &mut Vec<u8>) -> Result<(), Fault> {
         match form {
             Form::Hex => self.hex(alloc, into),
-            Form::Counted => self.counted(into),
+            Form::Counted => {
+                let (count, first) = (self.number(), self.number());
+                Ok(counted(count, first, into)?)
+            }
             Form::Times => self.times(alloc, into),
-            Form::TextTimes => self.text_times(into),
-            Form::Line => self.line(into),
+            Form::TextTimes => {
+                let count = self.number();
+                Ok(repeat(count, self.text().as_bytes(), into)?)
+            }
+            Form::Line => {
+                into.extend_from_slice(self.text().as_bytes())?;
+                Ok(into.push(b'\n')?)
+            }
             Form::LineTimes => self.line_times(into),
             Form::LineCounted => self.line_counted(alloc, into),
         }
@@ -230,24 +238,6 @@ impl<'a> Line<'a> {
             Ok(bytes) => Ok(into.extend_from_slice(&bytes)?),
             Err(_) => Err(Fault::Bad("no hexadecimal digits")),
         }
-    }
-
-    // N FIRST.
-    fn counted(&mut self, into: &mut Vec<u8>) -> Result<(), Fault> {
-        let (count, first) = (self.number(), self.number());
-        Ok(counted(count, first, into)?)
-    }
-
-    // N TEXT.
-    fn text_times(&mut self, into: &mut Vec<u8>) -> Result<(), Fault> {
-        let count = self.number();
-        Ok(repeat(count, self.text().as_bytes(), into)?)
-    }
-
-    // TEXT.
-    fn line(&mut self, into: &mut Vec<u8>) -> Result<(), Fault> {
-        into.extend_from_slice(self.text().as_bytes())?;
-        Ok(into.push(b'\n')?)
     }
 
     // N HEX.
@@ -271,9 +261,12 @@ impl<'a> Line<'a> {
     // N FIRST TEXT.
     fn line_counted(&mut self, alloc: Global, into: &mut Vec<u8>) -> Result<(), Fault> {
         let (count, first) = (self.number(), self.number());
+        let mut bytes = Vec::new(alloc);
+        counted(count, first, &mut bytes)?;
+        let digits = hex::encode(alloc, bytes.as_slice())?;
         into.extend_from_slice(self.text().as_bytes())?;
         into.push(b' ')?;
-        counted_digits(alloc, count, first, into)?;
+        into.extend_from_slice(digits.as_bytes())?;
         Ok(into.push(b'\n')?)
     }
 
@@ -283,7 +276,7 @@ impl<'a> Line<'a> {
             if self.rest.is_none() {
                 break;
             }
-            add_name(alloc, self.word(), into)?;
+            into.push(String::from_str(alloc, self.word())?)?;
         }
         Ok(())
     }
@@ -307,23 +300,6 @@ fn counted(count: u64, first: u64, into: &mut Vec<u8>) -> Result<(), AllocError>
         into.extend_from_slice(&[((first + i % 251) % 251) as u8])?;
     }
     Ok(())
-}
-
-// Appends the digits of so many bytes of the counted pattern.
-fn counted_digits(
-    alloc: Global,
-    count: u64,
-    first: u64,
-    into: &mut Vec<u8>,
-) -> Result<(), AllocError> {
-    let mut bytes = Vec::new(alloc);
-    counted(count, first, &mut bytes)?;
-    append_digits(alloc, &bytes, into)
-}
-
-fn append_digits(alloc: Global, bytes: &[u8], into: &mut Vec<u8>) -> Result<(), AllocError> {
-    let digits = hex::encode(alloc, bytes)?;
-    into.extend_from_slice(digits.as_bytes())
 }
 
 // Appends a piece so many times.

@@ -1,8 +1,10 @@
 // What the next run of a case is given.
-use crate::call::{Shelved, add_name, refusal_of};
+use crate::call::{Drawer, add_drawer, refusal_of};
 use crate::disks::blank;
 use crate::fault::Fault;
 use crate::line::{Form, Given, Line};
+use crate::run_disk::RunDisk;
+use crate::traced_disk::untraced;
 use crate::transcript::{Part, Transcript};
 use crash_disk::{CallKind, FailAt, MemSink, MemSource, SparseDisk};
 use std::alloc::Global;
@@ -73,18 +75,6 @@ impl NextRun {
         }
     }
 
-    /// Forgets what was gathered.
-    pub fn clear(&mut self) {
-        self.words.clear();
-        self.input.clear();
-        self.source.clear();
-        self.sink.clear();
-        self.room = USUAL_ROOM;
-        self.file_fails.clear();
-        self.disk_fails.clear();
-        self.offers.clear();
-    }
-
     /// No call of the cabinet, the source and the sink fails.
     pub fn fail_none(&mut self) {
         self.file_fails.clear();
@@ -126,21 +116,14 @@ impl Stream {
         }
     }
 
-    fn clear(&mut self) {
-        self.cuts.clear();
-        self.fails.clear();
-    }
-
     /// A source of this input.
-    pub fn source(&self, alloc: Global, input: &[u8]) -> Result<Box<MemSource>, Fault> {
-        let source = MemSource::new(alloc, input, &self.cuts, &self.fails)?;
-        Ok(Box::new(alloc, source)?)
+    pub fn source(&self, alloc: Global, input: &[u8]) -> Result<MemSource, Fault> {
+        Ok(MemSource::new(alloc, input, &self.cuts, &self.fails)?)
     }
 
     /// A sink with so much room.
-    pub fn sink(&self, alloc: Global, room: u64) -> Result<Box<MemSink>, Fault> {
-        let sink = MemSink::new(alloc, &self.cuts, &self.fails, room)?;
-        Ok(Box::new(alloc, sink)?)
+    pub fn sink(&self, alloc: Global, room: u64) -> Result<MemSink, Fault> {
+        Ok(MemSink::new(alloc, &self.cuts, &self.fails, room)?)
     }
 }
 
@@ -171,16 +154,17 @@ fn add_word(
 // Adds a call of a disk that fails.
 fn add_fail(alloc: Global, line: &mut Line<'_>, into: &mut Vec<NamedFail>) -> Result<(), Fault> {
     let name = line.word();
-    let call = fail_of(line)?;
-    let name = String::from_str(alloc, name)?;
-    Ok(into.push(NamedFail { name, call })?)
-}
-
-fn fail_of(line: &mut Line<'_>) -> Result<FailAt, Fault> {
     let kind = line.one_of(&CALLS, "a call is read, write or flush")?;
     let nth = line.number();
     let lands = line.one_of(&LANDS, "a failing call is lands or lost")?;
-    Ok(FailAt { kind, nth, lands })
+    let name = String::from_str(alloc, name)?;
+    let call = FailAt { kind, nth, lands };
+    Ok(into.push(NamedFail { name, call })?)
+}
+
+/// Adds a name.
+pub fn add_name(alloc: Global, name: &str, into: &mut Vec<String>) -> Result<(), Fault> {
+    Ok(into.push(String::from_str(alloc, name)?)?)
 }
 
 /// Lets the calls of the disk of this name fail.
@@ -199,31 +183,25 @@ pub fn fail_calls(
     Ok(disk.fail_calls(&calls)?)
 }
 
-/// Offers disks of these names to the shelf, behind its disks, and tells what it answers.
-/// Those that it takes are added.
+/// Offers disks of these names to the shelf, behind the drawers, and tells what it answers. Those that it takes are added.
 pub fn add_offers(
     alloc: Global,
     names: &[String],
-    shelved: &mut Shelved,
+    drawers: &mut Vec<Drawer>,
     transcript: &mut Transcript,
 ) -> Result<(), Fault> {
     for name in names {
-        add_offer(alloc, name.as_str(), shelved, transcript)?;
+        let name = name.as_str();
+        let refusal = refusal_of(alloc, drawers, name)?;
+        transcript.line(&[
+            Part::Text("offer"),
+            Part::Text(name),
+            Part::Text(refusal.unwrap_or("ok")),
+        ]);
+        if refusal.is_none() {
+            let disk = untraced(alloc, blank(alloc, OFFERED_SECTORS, OFFERED_ROOM)?)?;
+            add_drawer(alloc, name, RunDisk::Plain(disk), drawers)?;
+        }
     }
     Ok(())
-}
-
-fn add_offer(
-    alloc: Global,
-    name: &str,
-    shelved: &mut Shelved,
-    transcript: &mut Transcript,
-) -> Result<(), Fault> {
-    let refusal = refusal_of(alloc, shelved.names(), name)?;
-    let answer = refusal.unwrap_or("ok");
-    transcript.line(&[Part::Text("offer"), Part::Text(name), Part::Text(answer)]);
-    match refusal {
-        Some(_) => Ok(()),
-        None => shelved.add_plain(alloc, name, blank(alloc, OFFERED_SECTORS, OFFERED_ROOM)?),
-    }
 }

@@ -27,23 +27,22 @@ pub struct TracedDisk {
     trace: SharedTrace,
 }
 
-// A trace of nothing.
-fn new_trace(alloc: Global) -> Result<SharedTrace, Fault> {
+/// A trace of nothing.
+pub fn new_trace(alloc: Global) -> Result<SharedTrace, Fault> {
     let events = Vec::new(alloc);
     let is_cut = false;
     Ok(Rc::new(alloc, RefCell::new(Trace { events, is_cut }))?)
 }
 
-/// A disk to which nothing was done, with a trace at which nobody looks yet.
-pub fn traced(alloc: Global, disk: SparseDisk) -> Result<TracedDisk, Fault> {
-    let trace = new_trace(alloc)?;
-    Ok(TracedDisk { disk, trace })
+/// A disk to which nothing was done, with a trace at which nobody looks.
+pub fn untraced(alloc: Global, disk: SparseDisk) -> Result<TracedDisk, Fault> {
+    Ok(TracedDisk::new(disk, new_trace(alloc)?))
 }
 
 impl TracedDisk {
-    /// The disk's trace, to look at.
-    pub fn share(&self) -> Result<SharedTrace, Fault> {
-        Ok(self.trace.clone()?)
+    /// A disk to which nothing was done, with its trace.
+    pub fn new(disk: SparseDisk, trace: SharedTrace) -> TracedDisk {
+        TracedDisk { disk, trace }
     }
 
     // Notes the last event of the disk, if it is a further one.

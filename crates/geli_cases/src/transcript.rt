@@ -21,7 +21,7 @@ pub struct Transcript {
 }
 
 /// A part of a line of the transcript.
-#[derive(Clone, Copy)]
+#[derive(Drop)]
 pub enum Part<'a> {
     /// A text.
     Text(&'a str),

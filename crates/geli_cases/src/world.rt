@@ -1,14 +1,16 @@
 // The world of a case: its disks, files and random bytes, what the next run is given, and the runs.
-use crate::call::{Objects, Shelved, top_call};
-use crate::crash::{Choices, Crash, Crashed, shelve_survivor};
+use crate::call::{Objects, add_drawer, top_call};
+use crate::crash::{Choices, Crashed, survivor_at};
 use crate::disks::Disks;
 use crate::fault::Fault;
 use crate::files::Files;
 use crate::line::{Has, Kind, Line};
 use crate::next_run::{NextRun, add_offers};
+use crate::run_disk::RunDisk;
+use crate::traced_disk::untraced;
 use crate::transcript::{Part, Transcript};
 use block_traits::{Entropy, Source};
-use crash_disk::{MemEntropy, MemSource};
+use crash_disk::{MemEntropy, MemSource, Pick, SparseDisk};
 use std::alloc::Global;
 
 // The last status that tells how much input is left.
@@ -47,7 +49,8 @@ impl World {
     ) -> Result<(), Fault> {
         match line.kind()? {
             Kind::Case => {
-                self.begin(line, transcript);
+                *self = World::new(alloc);
+                transcript.line(&[Part::Text("case"), Part::Text(line.word())]);
                 Ok(())
             }
             Kind::Has(has) => self.has(alloc, has, line),
@@ -58,17 +61,6 @@ impl World {
             Kind::Survivor => self.survivor(alloc, line, transcript),
             Kind::Crashes => self.crashes(alloc, line, transcript),
         }
-    }
-
-    // A case begins, which has nothing.
-    fn begin(&mut self, line: &mut Line<'_>, transcript: &mut Transcript) {
-        self.runs = 0;
-        self.disks.clear();
-        self.files.clear();
-        self.entropy.clear();
-        self.next.clear();
-        self.choices.clear();
-        transcript.line(&[Part::Text("case"), Part::Text(line.word())]);
     }
 
     // What the case has from now on.
@@ -94,57 +86,25 @@ impl World {
     fn run(&mut self, alloc: Global, transcript: &mut Transcript) -> Result<(), Fault> {
         self.runs = self.runs.saturating_add(1);
         transcript.line(&[Part::Text("run"), Part::Number(self.runs)]);
-        let mut shelved = Shelved::new(alloc);
-        self.shelve(alloc, &mut shelved, transcript)?;
-        self.run_over(alloc, &mut shelved, transcript)
-    }
-
-    // The disks on the shelf, and those that are offered to it.
-    fn shelve(
-        &mut self,
-        alloc: Global,
-        shelved: &mut Shelved,
-        transcript: &mut Transcript,
-    ) -> Result<(), Fault> {
-        self.disks.shelve(alloc, &self.next.disk_fails, shelved)?;
-        add_offers(alloc, &self.next.offers, shelved, transcript)
-    }
-
-    fn run_over(
-        &mut self,
-        alloc: Global,
-        shelved: &mut Shelved,
-        transcript: &mut Transcript,
-    ) -> Result<(), Fault> {
+        let mut drawers = self.disks.drawers(alloc, &self.next.disk_fails)?;
+        add_offers(alloc, &self.next.offers, &mut drawers, transcript)?;
         let mut objects = self.objects(alloc)?;
-        self.run_with(alloc, shelved, &mut objects, transcript)
-    }
-
-    fn run_with(
-        &mut self,
-        alloc: Global,
-        shelved: &mut Shelved,
-        objects: &mut Objects,
-        transcript: &mut Transcript,
-    ) -> Result<(), Fault> {
         let words = &self.next.words;
-        let status = top_call(alloc, shelved, words, objects, self.disks.all())?;
-        self.tell_streams(status, objects, transcript);
+        let status = top_call(alloc, drawers, words, &mut objects, &mut self.disks)?;
+        self.tell_streams(status, &mut objects, transcript);
         self.disks.settle(alloc, transcript)?;
-        self.settle_rest(alloc, objects, transcript)
+        self.settle_rest(alloc, &mut objects, transcript)
     }
 
     // The objects of a run besides the shelf, made anew.
     fn objects(&self, alloc: Global) -> Result<Objects, Fault> {
-        let input = self.next.source.source(alloc, &self.next.input)?;
-        let output = self.next.sink.sink(alloc, self.next.room)?;
-        let cabinet = self.files.cabinet(alloc, &self.next.file_fails)?;
-        let entropy = entropy_of(alloc, &self.entropy)?;
+        let mut cabinet = self.files.cabinet(alloc)?;
+        cabinet.fail_calls(&self.next.file_fails)?;
         Ok(Objects {
-            input,
-            output,
+            input: self.next.source.source(alloc, &self.next.input)?,
+            output: self.next.sink.sink(alloc, self.next.room)?,
             cabinet,
-            entropy,
+            entropy: MemEntropy::new(alloc, &self.entropy)?,
         })
     }
 
@@ -171,7 +131,7 @@ impl World {
             transcript.line(&[Part::Text("taken"), Part::Number(taken as u64)]);
         }
         self.entropy = Vec::from_slice(alloc, self.entropy.get(taken..).unwrap_or(&[]))?;
-        self.next.clear();
+        self.next = NextRun::new(alloc);
         self.files.settle(alloc, &objects.cabinet, transcript)
     }
 
@@ -184,8 +144,15 @@ impl World {
     ) -> Result<(), Fault> {
         let (new, old, moment) = (line.word(), line.word(), line.number());
         let disk = self.disks.find(old)?.last();
-        let made = self.choices.survivor(alloc, disk, moment)?;
-        let (answer, index) = keep_survivor(alloc, &mut self.disks, new, made)?;
+        let (answer, index) = match self.choices.survivor(alloc, disk, moment)? {
+            Crashed::Beyond => ("beyond", None),
+            Crashed::BadPick(index) => ("BadPick", Some(index)),
+            Crashed::BadTorn(index) => ("BadTorn", Some(index)),
+            Crashed::Disk(survivor) => {
+                self.disks.set(alloc, new, survivor)?;
+                ("ok", None)
+            }
+        };
         transcript.survivor(new, old, moment, answer, index);
         Ok(())
     }
@@ -201,20 +168,9 @@ impl World {
         let count = self.disks.find(old)?.last().history().len();
         self.next.fail_none();
         for moment in 0..=count {
-            let place = 0;
-            self.crashes_at(
-                alloc,
-                Crash {
-                    new,
-                    old,
-                    n,
-                    moment,
-                    place,
-                },
-                transcript,
-            )?;
+            self.crashes_at(alloc, new, old, n, moment, transcript)?;
         }
-        self.next.clear();
+        self.next = NextRun::new(alloc);
         Ok(())
     }
 
@@ -222,78 +178,38 @@ impl World {
     fn crashes_at(
         &mut self,
         alloc: Global,
-        first: Crash<'_>,
-        transcript: &mut Transcript,
-    ) -> Result<(), Fault> {
-        let mut shelved = Shelved::new(alloc);
-        self.crashes_on(alloc, &mut shelved, first, transcript)
-    }
-
-    fn crashes_on(
-        &mut self,
-        alloc: Global,
-        shelved: &mut Shelved,
-        first: Crash<'_>,
+        new: &str,
+        old: &str,
+        n: u64,
+        moment: usize,
         transcript: &mut Transcript,
     ) -> Result<(), Fault> {
         for place in 0..usize::MAX {
-            let crash = Crash { place, ..first };
-            let disk = self.disks.find(crash.old)?.last();
-            if !shelve_survivor(alloc, disk, crash, shelved)? {
+            let disk = self.disks.find(old)?.last();
+            let made = survivor_at(alloc, disk, moment, &[Pick { n, place }], &[])?;
+            let Crashed::Disk(survivor) = made else {
                 break;
-            }
-            self.crash(alloc, shelved, crash, transcript)?;
+            };
+            let mut objects = self.objects(alloc)?;
+            let status = self.crash(alloc, new, survivor, &mut objects)?;
+            transcript.crash(moment, place, status, objects.output.bytes());
         }
         Ok(())
     }
 
-    // The top call over one survivor, alone on a shelf.
+    // The status of the top call over one disk, alone on a shelf.
     fn crash(
         &self,
         alloc: Global,
-        shelved: &mut Shelved,
-        crash: Crash<'_>,
-        transcript: &mut Transcript,
-    ) -> Result<(), Fault> {
-        let mut objects = self.objects(alloc)?;
-        self.crash_with(alloc, shelved, &mut objects, crash, transcript)
-    }
-
-    fn crash_with(
-        &self,
-        alloc: Global,
-        shelved: &mut Shelved,
+        name: &str,
+        disk: SparseDisk,
         objects: &mut Objects,
-        crash: Crash<'_>,
-        transcript: &mut Transcript,
-    ) -> Result<(), Fault> {
-        let status = top_call(alloc, shelved, &self.next.words, objects, &mut [])?;
-        transcript.crash(crash.moment, crash.place, status, objects.output.bytes());
-        Ok(())
-    }
-}
-
-// Random bytes of a run.
-fn entropy_of(alloc: Global, bytes: &[u8]) -> Result<Box<MemEntropy>, Fault> {
-    let entropy = MemEntropy::new(alloc, bytes)?;
-    Ok(Box::new(alloc, entropy)?)
-}
-
-// Keeps a survivor as a disk of this name, and answers what came of it, and of a bad entry its place.
-fn keep_survivor(
-    alloc: Global,
-    disks: &mut Disks,
-    name: &str,
-    made: Crashed,
-) -> Result<(&'static str, Option<usize>), Fault> {
-    match made {
-        Crashed::Beyond => Ok(("beyond", None)),
-        Crashed::BadPick(index) => Ok(("BadPick", Some(index))),
-        Crashed::BadTorn(index) => Ok(("BadTorn", Some(index))),
-        Crashed::Disk(survivor) => {
-            disks.set(alloc, name, survivor)?;
-            Ok(("ok", None))
-        }
+    ) -> Result<u8, Fault> {
+        let mut drawers = Vec::new(alloc);
+        let disk = RunDisk::Plain(untraced(alloc, disk)?);
+        add_drawer(alloc, name, disk, &mut drawers)?;
+        let mut others = Disks::new(alloc);
+        top_call(alloc, drawers, &self.next.words, objects, &mut others)
     }
 }
 

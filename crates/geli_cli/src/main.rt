@@ -11,29 +11,20 @@ use std::process::ExitCode;
 use std::{env, io};
 
 fn main(rt: HostRuntime) -> ExitCode {
+    let alloc = rt.alloc();
     // Where standard streams are closed, these take their numbers, and no file of the run does.
     let _first = File::open(&rt, "/dev/null");
     let _second = File::open(&rt, "/dev/null");
     let _third = File::open(&rt, "/dev/null");
-    exit_code(run(&rt))
-}
-
-// The run of the words that are the program's arguments.
-fn run(rt: &HostRuntime) -> Status {
-    match words_of(rt.alloc(), env::args(rt)) {
-        Ok(words) => run_over_system(rt, &words),
-        Err(_) => Status::NoMemory,
-    }
-}
-
-// The run of the words over the streams and the files of the system.
-fn run_over_system(rt: &HostRuntime, words: &[String]) -> Status {
     let files: Result<_, _> = rt.clone();
-    let Ok(files) = files else {
-        return Status::NoMemory;
+    let status = match (words_of(alloc, env::args(&rt)), files) {
+        (Ok(words), Ok(files)) => {
+            let opener = SystemFiles::new(files);
+            let mut input = InputSource::new(rt.reader());
+            let mut output = OutputSink::new(io::writer(&rt));
+            run_words(alloc, &words, opener, &mut input, &mut output)
+        }
+        _ => Status::NoMemory,
     };
-    let mut input = InputSource::new(rt.reader());
-    let mut output = OutputSink::new(io::writer(rt));
-    let opener = SystemFiles::new(files);
-    run_words(rt.alloc(), words, opener, &mut input, &mut output)
+    exit_code(status)
 }

@@ -31,7 +31,7 @@ pub enum StoreFault {
 /// What keeps files by their names.
 pub trait Cabinet {
     /// Its files, where it tells them, which it then always does; how often it has failed; how often a file was
-    /// absent or too long; and a count of the loads that it was asked for. No count falls.
+    /// absent or too long; and counts of the loads and of the stores that it was asked for. No count falls.
     ghost state: { Self → CabinetState };
 
     /// The whole file of this name, if it has at most `limit` bytes. Changes no file. It is counted whatever it
@@ -45,15 +45,17 @@ pub trait Cabinet {
         ensures more_misses { (state self.old).misses ≤ (state self.new).misses }
         ensures absent { IsErrOf result LoadFault.Absent → Rose (state self.old).misses (state self.new).misses }
         ensures too_long { IsErrOf result LoadFault.TooLong → Rose (state self.old).misses (state self.new).misses }
-        ensures asked { Counted 1 (state self.old).loads (state self.new).loads };
+        ensures asked { Counted 1 (state self.old).loads (state self.new).loads }
+        ensures unstored { (state self.new).stores ≡ (state self.old).stores };
 
     /// Makes or replaces the file of this name, and leaves the others. After a failure a cabinet
-    /// that tells its files has what it had. It loads nothing.
+    /// that tells its files has what it had. It loads nothing. It is counted whatever it answers.
     fn store(&mut self, alloc: Global, name: &[u8], bytes: &[u8]) -> Result<(), StoreFault>
         ensures ok { OnOk result ((state self.new).files ≡ stored name.now bytes.now (state self.old).files) }
         ensures err { OnErr result ((state self.new).files ≡ (state self.old).files) }
         ensures later { (state self.old).faults ≤ (state self.new).faults }
         ensures failed { IsErrOf result StoreFault.Failed → Rose (state self.old).faults (state self.new).faults }
         ensures more_misses { (state self.old).misses ≤ (state self.new).misses }
-        ensures unasked { (state self.new).loads ≡ (state self.old).loads };
+        ensures unasked { (state self.new).loads ≡ (state self.old).loads }
+        ensures stored { Counted 1 (state self.old).stores (state self.new).stores };
 }

@@ -18,7 +18,8 @@ pub struct EntropyFailed;
 
 /// What gives bytes, as standard input.
 pub trait Source {
-    /// The bytes that are left, where it tells them; and how often it has failed, which never falls.
+    /// The bytes that are left, where it tells them; how often it has failed, which never falls; and counts of the
+    /// calls that were refused, and of those that met the end.
     ghost state: { Self → SourceState };
 
     /// Moves the first bytes that are left to the front of `into`, and answers how many. 0 means
@@ -29,22 +30,33 @@ pub trait Source {
         ensures bytes { IfOk result (λ k. (state self.old).left ≡ prepend_known (take k into.new) (state self.new).left) }
         ensures end { IfOk result (λ k. k ≡ 0 → IsAtEnd (state self.new).left) }
         ensures err { OnErr result ((state self.new).left ≡ (state self.old).left) }
-        ensures cause { HasCause (state self.old).faults (state self.new).faults result };
+        ensures cause { HasCause (state self.old).faults (state self.new).faults result }
+        ensures granted { OnOk result ((state self.new).refused ≡ (state self.old).refused) }
+        ensures refused { OnErr result (Counted 1 (state self.old).refused (state self.new).refused) }
+        ensures ended { IfOk result (λ k. k ≡ 0 → Counted 1 (state self.old).ends (state self.new).ends) }
+        ensures gave { IfOk result (λ k. 0 < k → (state self.new).ends ≡ (state self.old).ends) }
+        ensures unended { OnErr result ((state self.new).ends ≡ (state self.old).ends) };
 }
 
 /// What takes bytes, as standard output.
 pub trait Sink {
-    /// The bytes that it took, where it tells them; and how often it has failed, which never falls.
+    /// The bytes that it took, where it tells them; how often it has failed, which never falls; and counts of the
+    /// calls that were refused, and of those that gave nothing.
     ghost state: { Self → SinkState };
 
     /// Takes the first bytes of `from`, and answers how many. To take nothing of something is a
-    /// fault, and is counted. A failure takes nothing.
+    /// fault, and is counted; the call is then refused, as where it fails. A failure takes nothing.
     fn give(&mut self, from: &[u8]) -> Result<usize, SinkFailed>
         ensures bound { IfOk result (λ k. k ≤ length from.now) }
         ensures bytes { IfOk result (λ k. (state self.new).taken ≡ append_known (state self.old).taken (take k from.now)) }
         ensures none { IfOk result (λ k. k ≡ 0 → 0 < length from.now → Rose (state self.old).faults (state self.new).faults) }
         ensures err { OnErr result ((state self.new).taken ≡ (state self.old).taken) }
-        ensures cause { HasCause (state self.old).faults (state self.new).faults result };
+        ensures cause { HasCause (state self.old).faults (state self.new).faults result }
+        ensures granted { IfOk result (λ k. 0 < k → (state self.new).refused ≡ (state self.old).refused) }
+        ensures unmoved { IfOk result (λ k. k ≡ 0 → 0 < length from.now → Counted 1 (state self.old).refused (state self.new).refused) }
+        ensures refused { OnErr result (Counted 1 (state self.old).refused (state self.new).refused) }
+        ensures idled { length from.now ≡ 0 → Counted 1 (state self.old).idle (state self.new).idle }
+        ensures busy { 0 < length from.now → (state self.new).idle ≡ (state self.old).idle };
 }
 
 /// Where random bytes come from.

@@ -16,7 +16,7 @@ use std::fs::OpenOptions;
 use std::io::{self, ErrorKind};
 
 /// Files as an opener finds them, but for the images of the run. It tells no content, and counts each failure, each
-/// file that is absent or too long, and each load. A name that isn't UTF-8 names no file.
+/// file that is absent or too long, each load and each store. A name that isn't UTF-8 names no file.
 #[derive(Drop)]
 pub struct FileCabinet<O: Opener + Drop> {
     opener: O,
@@ -24,6 +24,7 @@ pub struct FileCabinet<O: Opener + Drop> {
     faults: u64,
     misses: u64,
     loads: u64,
+    stores: u64,
 }
 
 impl<O: Opener + Drop> FileCabinet<O> {
@@ -34,6 +35,7 @@ impl<O: Opener + Drop> FileCabinet<O> {
         ensures faults { result.faults ≡ 0 }
         ensures misses { result.misses ≡ 0 }
         ensures loads { result.loads ≡ 0 }
+        ensures stores { result.stores ≡ 0 }
     {
         FileCabinet {
             opener,
@@ -41,6 +43,7 @@ impl<O: Opener + Drop> FileCabinet<O> {
             faults: 0,
             misses: 0,
             loads: 0,
+            stores: 0,
         }
     }
 }
@@ -50,7 +53,7 @@ impl<O: Opener + Drop> Cabinet for FileCabinet<O>
 where
     O::File: Reader,
 {
-    ghost state = { λ cabinet. record { files = None; faults = cabinet.faults; misses = cabinet.misses; loads = cabinet.loads } };
+    ghost state = { λ cabinet. record { files = None; faults = cabinet.faults; misses = cabinet.misses; loads = cabinet.loads; stores = cabinet.stores } };
 
     /// Besides what a cabinet does: the file that is opened under the name is read, whole where it knows its bytes, and
     /// nothing else is asked of the opener. An image isn't read.
@@ -64,6 +67,7 @@ where
         ensures absent { IsErrOf result LoadFault.Absent → Rose self.old.misses self.new.misses }
         ensures too_long { IsErrOf result LoadFault.TooLong → Rose self.old.misses self.new.misses }
         ensures asked { Counted 1 self.old.loads self.new.loads }
+        ensures unstored { self.new.stores ≡ self.old.stores }
     {
         self.loads = self.loads.saturating_add(1);
         let loaded = load_file(&mut self.opener, alloc, self.images.as_slice(), name, limit);
@@ -86,7 +90,9 @@ where
         ensures failed { IsErrOf result StoreFault.Failed → Rose self.old.faults self.new.faults }
         ensures more_misses { self.old.misses ≤ self.new.misses }
         ensures unasked { self.new.loads ≡ self.old.loads }
+        ensures stored { Counted 1 self.old.stores self.new.stores }
     {
+        self.stores = self.stores.saturating_add(1);
         match store_file(&mut self.opener, alloc, self.images.as_slice(), name, bytes) {
             Ok(()) => Ok(()),
             Err(Stop::Memory) => Err(StoreFault::NoMemory),

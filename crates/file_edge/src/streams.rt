@@ -1,19 +1,20 @@
 // The standard streams, or any reader and writer.
-ghost use Rattle.std.specs.Prelude.{◌≡◌, ◌<◌, ◌≤◌, None, IfOk, length};
+ghost use Rattle.std.specs.Prelude.{◌≡◌, ◌<◌, ◌≤◌, None, IfOk, OnOk, OnErr, length};
 ghost use Rattle.std.specs.Io.KnownBytes.{ReadConsumes, WriteAppends};
 ghost use Rattle.std.specs.Result.{result_ok};
-ghost use Rattle.block_traits.specs.Causes.{HasCause, Rose};
+ghost use Rattle.block_traits.specs.Causes.{Counted, HasCause, Rose};
 ghost use Rattle.file_edge.specs.Streams.{AnswersOnce, PassesOn, given};
 
 use crate::reader::{Reader, Writer};
 use block_traits::{Sink, SinkFailed, Source, SourceFailed};
 use std::io::{self, ErrorKind};
 
-/// A reader as a source. It tells no content, and counts each failure.
+/// A reader as a source. It tells no content, and counts each failure, and each call that met the end.
 #[derive(Drop)]
 pub struct InputSource<R: Reader> {
     reader: R,
     faults: u64,
+    ends: u64,
 }
 
 impl<R: Reader> InputSource<R> {
@@ -21,13 +22,18 @@ impl<R: Reader> InputSource<R> {
     pub fn new(reader: R) -> InputSource<R>
         ensures reader { result.reader ≡ reader }
         ensures faults { result.faults ≡ 0 }
+        ensures ends { result.ends ≡ 0 }
     {
-        InputSource { reader, faults: 0 }
+        InputSource {
+            reader,
+            faults: 0,
+            ends: 0,
+        }
     }
 }
 
 impl<R: Reader> Source for InputSource<R> {
-    ghost state = { λ source. record { left = None; faults = source.faults } };
+    ghost state = { λ source. record { left = None; faults = source.faults; refused = source.faults; ends = source.ends } };
 
     /// Besides what a source does: it answers as one read of the reader did, made again only where a signal interrupted
     /// it, and fails only where that failed. Where the reader knows its bytes, they are given, and 0 only at their end.
@@ -37,8 +43,17 @@ impl<R: Reader> Source for InputSource<R> {
         ensures known { ReadConsumes (R.remaining self.old.reader) (R.remaining self.new.reader) result into.new }
         ensures answered { PassesOn (R.gives (length into.old)) self.old.reader (result_ok (given result into.new)) self.new.reader }
         ensures cause { HasCause self.old.faults self.new.faults result }
+        ensures granted { OnOk result (self.new.faults ≡ self.old.faults) }
+        ensures refused { OnErr result (Counted 1 self.old.faults self.new.faults) }
+        ensures ended { IfOk result (λ k. k ≡ 0 → Counted 1 self.old.ends self.new.ends) }
+        ensures gave { IfOk result (λ k. 0 < k → self.new.ends ≡ self.old.ends) }
+        ensures unended { OnErr result (self.new.ends ≡ self.old.ends) }
     {
         match read_on(&mut self.reader, into) {
+            Ok(0) => {
+                self.ends = self.ends.saturating_add(1);
+                Ok(0)
+            }
             Ok(count) => Ok(count),
             Err(_) => {
                 self.faults = self.faults.saturating_add(1);
@@ -72,6 +87,7 @@ fn read_on<R: Reader>(reader: &mut R, into: &mut [u8]) -> io::Result<usize>
 pub struct OutputSink<W: Writer> {
     writer: W,
     faults: u64,
+    idle: u64,
 }
 
 impl<W: Writer> OutputSink<W> {
@@ -79,13 +95,18 @@ impl<W: Writer> OutputSink<W> {
     pub fn new(writer: W) -> OutputSink<W>
         ensures writer { result.writer ≡ writer }
         ensures faults { result.faults ≡ 0 }
+        ensures idle { result.idle ≡ 0 }
     {
-        OutputSink { writer, faults: 0 }
+        OutputSink {
+            writer,
+            faults: 0,
+            idle: 0,
+        }
     }
 }
 
 impl<W: Writer> Sink for OutputSink<W> {
-    ghost state = { λ sink. record { taken = None; faults = sink.faults } };
+    ghost state = { λ sink. record { taken = None; faults = sink.faults; refused = sink.faults; idle = sink.idle } };
 
     /// Besides what a sink does: it answers as one write of the writer did, made again only where a signal interrupted
     /// it, and fails only where that failed. Where the writer knows its bytes, those that are taken stand behind them.
@@ -95,7 +116,15 @@ impl<W: Writer> Sink for OutputSink<W> {
         ensures none { IfOk result (λ k. k ≡ 0 → 0 < length from.now → Rose self.old.faults self.new.faults) }
         ensures answered { PassesOn (W.takes from.now) self.old.writer (result_ok result) self.new.writer }
         ensures cause { HasCause self.old.faults self.new.faults result }
+        ensures granted { IfOk result (λ k. 0 < k → self.new.faults ≡ self.old.faults) }
+        ensures unmoved { IfOk result (λ k. k ≡ 0 → 0 < length from.now → Counted 1 self.old.faults self.new.faults) }
+        ensures refused { OnErr result (Counted 1 self.old.faults self.new.faults) }
+        ensures idled { length from.now ≡ 0 → Counted 1 self.old.idle self.new.idle }
+        ensures busy { 0 < length from.now → self.new.idle ≡ self.old.idle }
     {
+        if from.is_empty() {
+            self.idle = self.idle.saturating_add(1);
+        }
         match write_on(&mut self.writer, from) {
             Ok(0) => {
                 self.faults = self.faults.saturating_add(1);

@@ -19,4 +19,5 @@ store-tells g c = record {
   failed = c.ensures.failed;
   more_misses = c.ensures.more_misses;
   unasked = c.ensures.unasked;
+  stored = c.ensures.stored;
 }

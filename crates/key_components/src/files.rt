@@ -42,6 +42,7 @@ pub fn load_file<C: Cabinet>(
     ensures cause { IfErr result (MayRefuse limit (C.state files.old) (C.state files.new)) }
     ensures keeps { KeepsFiles (C.state files.old) (C.state files.new) }
     ensures asked { Counted 1 (C.state files.old).loads (C.state files.new).loads }
+    ensures unstored { (C.state files.new).stores ≡ (C.state files.old).stores }
 {
     load_within(alloc, line, span, limit, limit, files)
 }
@@ -62,6 +63,7 @@ pub(crate) fn load_within<C: Cabinet>(
     ensures cause { IfErr result (MayRefuse named (C.state files.old) (C.state files.new)) }
     ensures keeps { KeepsFiles (C.state files.old) (C.state files.new) }
     ensures asked { Counted 1 (C.state files.old).loads (C.state files.new).loads }
+    ensures unstored { (C.state files.new).stores ≡ (C.state files.old).stores }
 {
     match files.load(alloc, span.bytes_in(line), room as u64) {
         Ok(bytes) => Ok(bytes),

@@ -60,6 +60,9 @@ pub fn load_components<C: Cabinet>(
 
     // No file changes, and no count falls.
     ensures keeps { KeepsFiles (C.state files.old) (C.state files.new) }
+
+    // Nothing is stored.
+    ensures unstored { (C.state files.new).stores ≡ (C.state files.old).stores }
 {
     let keyfiles = load_part(alloc, line, Part::KeyFiles, words.files.as_slice(), files)?;
     let passphrase = load_part(alloc, line, Part::Passphrase, words.pass.as_slice(), files)?;

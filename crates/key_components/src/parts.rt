@@ -65,6 +65,7 @@ impl Part {
         ensures cause { IfErr result (MayRefuseOf self (C.state files.old) (C.state files.new)) }
         ensures keeps { KeepsFiles (C.state files.old) (C.state files.new) }
         ensures asked { Counted 1 (C.state files.old).loads (C.state files.new).loads }
+        ensures unstored { (C.state files.new).stores ≡ (C.state files.old).stores }
     {
         match self {
             Part::KeyFiles => {
@@ -95,6 +96,7 @@ pub fn load_part<C: Cabinet>(
     ensures cause { IfErr result (MayRefuseOf part (C.state files.old) (C.state files.new)) }
     ensures keeps { KeepsFiles (C.state files.old) (C.state files.new) }
     ensures asked { LoadsEach spans.now (C.state files.old) result (C.state files.new) }
+    ensures unstored { (C.state files.new).stores ≡ (C.state files.old).stores }
 {
     let mut joined = Vec::new(alloc);
     for span in spans {

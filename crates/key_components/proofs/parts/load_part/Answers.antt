@@ -1,4 +1,4 @@
-use Rattle.std.proofs.Common.{◌≡◌, ◌+◌, ◌++◌, length, refl, rules, arith, length-append, ap}
+use Rattle.std.proofs.Common.{◌≡◌, ◌∙◌, ◌+◌, ◌++◌, length, refl, rules, arith, length-append, ap}
 use Rattle.std.proofs.lemmas.Result.{err_from_is_err_and}
 use Rattle.key_components.specs.Parts.{taking_of}
 use Rattle.block_traits.proofs.Causes.{Counted-then}
@@ -49,4 +49,5 @@ loop-span-preserved g c =
       omega (arith, sum, c.in_ok-piece.ensures.within),
       KeepsFiles-then c.loop-span.invariant.2 c.in_ok-piece.ensures.keeps,
       Counted-then c.loop-span.span-index 1 (c.loop-span.span-index + 1) refl c.loop-span.invariant.3 c.load_piece.ensures.asked,
+      c.load_piece.ensures.unstored ∙ c.loop-span.invariant.4,
     )

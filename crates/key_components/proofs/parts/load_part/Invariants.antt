@@ -1,4 +1,4 @@
-use Rattle.std.proofs.Common.{◌≤◌, take, length}
+use Rattle.std.proofs.Common.{◌≡◌, ◌≤◌, take, length}
 use Rattle.block_traits.specs.Causes.{Counted}
 use Rattle.key_components.specs.Answers.{KeepsFiles}
 use Rattle.key_components.specs.Parts.{limit_of, taking_of}
@@ -13,3 +13,4 @@ invariant-loop-span g l =
     × (length l.joined.items ≤ limit_of l.part)
     × KeepsFiles (cabinet l.initial.files) (cabinet l.files)
     × Counted l.span-index (cabinet l.initial.files).loads (cabinet l.files).loads
+    × ((cabinet l.files).stores ≡ (cabinet l.initial.files).stores)

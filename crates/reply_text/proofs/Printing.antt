@@ -1,11 +1,12 @@
 -- Texts printed one after another.
-use Rattle.std.proofs.Common.{◌≡◌, ℕ, ◌+◌, ◌<◌, List, [], ◌++◌, length, take, drop, map, get_or, refl, ap, ◌∙◌, sym, append_assoc, arith, length-append, Option, Some, None, Result, Ok, Err, IsErr}
+use Rattle.std.proofs.Common.{◌≡◌, ℕ, ◌+◌, ◌<◌, List, [], ◌++◌, length, take, drop, map, get_or, refl, ap, ◌∙◌, sym, subst, append_assoc, arith, length-append, Option, Some, None, Result, Ok, Err, IsErr}
 use Rattle.std.proofs.Math.Seq.{take-append-add}
 use Rattle.std.proofs.lemmas.List.{take-append-le, append-nil, take_more, take-append-drop, map-append}
 use Rattle.std.proofs.lemmas.List.Folds.{concat-append}
 use Rattle.std.proofs.lemmas.Bool.{false≢true}
 use Rattle.std.specs.List.{concat}
 use Rattle.std.specs.Io.KnownBytes.{append_known}
+use Rattle.block_traits.specs.Causes.{Counted}
 use Rattle.block_traits.specs.Streams.{SinkState, TookAll, TookPart}
 use Rattle.reply_text.specs.declared.print.WriteEnd.{WriteEnd}
 use Rattle.reply_text.specs.Output.{Prints, Puts, PutsAll, PutsPart}
@@ -20,13 +21,15 @@ append_known-nothing (Some bytes) = ap Some (append-nil bytes)
 
 -- nothing is printed of no text
 pub TookAll-nothing : (s : SinkState) → TookAll [] s s
-TookAll-nothing s = record { took = sym (append_known-nothing s.taken); later = omega arith }
+TookAll-nothing s = record { took = sym (append_known-nothing s.taken); later = omega arith; refused = refl; idle = refl }
 
 -- two texts, one after the other
 pub TookAll-then : (first second : List ℕ) {old middle new : SinkState} → TookAll first old middle → TookAll second middle new → TookAll (first ++ second) old new
 TookAll-then first second {old} {middle} {new} a b = record {
   took = b.took ∙ ap (λ (k : Option (List ℕ)). append_known k second) a.took ∙ append_known-then old.taken first second;
   later = omega (arith, a.later, b.later);
+  refused = b.refused ∙ a.refused;
+  idle = b.idle ∙ a.idle;
 }
 
 -- the second of two texts failed
@@ -39,6 +42,8 @@ TookPart-then first second {old} {middle} {new} a b = record {
       ∙ ap (append_known old.taken) (sym (take-append-add first second b.count));
   later = omega (arith, a.later, b.later);
   rose = omega (arith, a.later, b.rose);
+  refused = subst (λ (n : ℕ). Counted 1 n new.refused) a.refused b.refused;
+  idle = b.idle ∙ a.idle;
 }
 
 -- the first of two texts failed
@@ -49,6 +54,8 @@ TookPart-more first second {old} {new} a = record {
   took = a.took ∙ ap (append_known old.taken) (sym (take-append-le a.count first second a.within));
   later = a.later;
   rose = a.rose;
+  refused = a.refused;
+  idle = a.idle;
 }
 
 -- a failed print

@@ -105,7 +105,7 @@ admitted m sectors slot = or_refusal refusal_of (unless_faulty (settings_for_siz
 abbrev pub Admits : Metadata → Option ℕ → Reach → Result Settings Refusal → Reach → Type 0
 Admits m slot old answer new = Decides (admitted m old.disk.size slot) old answer new
 
--- ---- files are loaded, each once, and all else stays
+-- ---- files are loaded, each once, none is stored, and all else stays
 
 -- the components of a key, of files in order
 pub record LoadsComponents (line : List ℕ) (words : KeyWords) (old : Reach) (answer : Result Components Refusal) (new : Reach) : Type 0 where
@@ -115,6 +115,7 @@ pub record LoadsComponents (line : List ℕ) (words : KeyWords) (old : Reach) (a
   pub keeps : KeepsFiles old.cabinet new.cabinet
   pub named : IfErr answer (λ refusal. 1 ≤ length words.files + length words.pass)
   pub asked : LoadsEach (words.files ++ words.pass) old.cabinet answer new.cabinet
+  pub unstored : new.cabinet.stores ≡ old.cabinet.stores
   pub disk : new.disk ≡ old.disk
   pub holding : new.holding ≡ old.holding
   pub entropy : new.entropy ≡ old.entropy
@@ -127,6 +128,7 @@ pub record LoadsFile (limit : ℕ) (line : List ℕ) (file : Span) (old : Reach)
   pub cause : IfErr answer (MayRefuse limit old.cabinet new.cabinet)
   pub keeps : KeepsFiles old.cabinet new.cabinet
   pub asked : Counted 1 old.cabinet.loads new.cabinet.loads
+  pub unstored : new.cabinet.stores ≡ old.cabinet.stores
   pub disk : new.disk ≡ old.disk
   pub holding : new.holding ≡ old.holding
   pub entropy : new.entropy ≡ old.entropy
@@ -138,7 +140,7 @@ pub record MakesProvider (options : InitOptions) (parts : Components) (old : Rea
   pub holding : new.holding ≡ old.holding
   pub cabinet : new.cabinet ≡ old.cabinet
 
--- ---- bytes are stored under the name at a place of the line, and nothing is loaded
+-- ---- bytes are stored under the name at a place of the line, in one store, and nothing is loaded
 
 -- the file is made or replaced, the others stay, and no count fell
 pub record StoresFile (name bytes : List ℕ) (old new : CabinetState) : Type 0 where
@@ -160,6 +162,7 @@ StoreAnswers line span bytes old (Err refusal) new = ⊥
 pub record StoresBytes (line : List ℕ) (span : Span) (bytes : List ℕ) (old : Reach) (answer : Result (Unit {0}) Refusal) (new : Reach) : Type 0 where
   pub stores : StoreAnswers line span bytes old.cabinet answer new.cabinet
   pub unasked : new.cabinet.loads ≡ old.cabinet.loads
+  pub stored : Counted 1 old.cabinet.stores new.cabinet.stores
   pub disk : new.disk ≡ old.disk
   pub holding : new.holding ≡ old.holding
   pub entropy : new.entropy ≡ old.entropy

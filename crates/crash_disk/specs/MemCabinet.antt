@@ -9,13 +9,15 @@ use Rattle.crash_disk.specs.declared.mem_cabinet.NamedFile.{NamedFile}
 use Rattle.crash_disk.specs.Calls.{CallsState, called, next_fails}
 use Rattle.crash_disk.specs.Count.{one_more}
 
--- its files, the calls that fail, how often it has failed, how often a file was absent or too long, and how many loads were made
+-- its files, the calls that fail, how often it has failed, how often a file was absent or too long, and how many loads and how
+-- many stores were made
 pub record MemCabinetState : Type 0 where
   pub files : List NamedFile
   pub calls : CallsState
   pub faults : ℕ
   pub misses : ℕ
   pub loads : ℕ
+  pub stores : ℕ
 
 -- the bytes of the first file of this name
 abbrev pub file_in : List ℕ → List NamedFile → Option (List ℕ)

@@ -3,12 +3,15 @@ use Rattle.std.specs.Prelude.{ℕ, ◌-◌, ◌==◌, ◌&&◌, ◌||◌, not, n
 use Rattle.crash_disk.specs.Calls.{CallsState, called, next_fails, piece}
 use Rattle.crash_disk.specs.Count.{one_more}
 
--- the bytes that are left, the most that each call gives, the calls that fail, and how often it has failed
+-- the bytes that are left, the most that each call gives, the calls that fail, how often it has failed, how often a call was
+-- refused, and how often one met the end
 pub record MemSourceState : Type 0 where
   pub left : List ℕ
   pub cuts : List ℕ
   pub calls : CallsState
   pub faults : ℕ
+  pub refused : ℕ
+  pub ends : ℕ
 
 -- how many bytes the next call gives, where there is so much room
 abbrev pub given : ℕ → MemSourceState → ℕ
@@ -20,16 +23,20 @@ after_take room source = record source {
   left = if next_fails source.calls then source.left else drop (given room source) source.left;
   calls = called source.calls;
   faults = if next_fails source.calls then one_more source.faults else source.faults;
+  refused = if next_fails source.calls then one_more source.refused else source.refused;
+  ends = if not (next_fails source.calls) && given room source == 0 then one_more source.ends else source.ends;
 }
 
--- the bytes that it took, how many it has room for, the most that each call takes, the calls that fail, and how
--- often it has failed
+-- the bytes that it took, how many it has room for, the most that each call takes, the calls that fail, how often it has
+-- failed, how often a call was refused, and how often it was given nothing
 pub record MemSinkState : Type 0 where
   pub bytes : List ℕ
   pub room : ℕ
   pub cuts : List ℕ
   pub calls : CallsState
   pub faults : ℕ
+  pub refused : ℕ
+  pub idle : ℕ
 
 -- how many bytes of a piece of this length the next call takes
 abbrev pub taken : ℕ → MemSinkState → ℕ
@@ -45,6 +52,8 @@ after_give from sink = record sink {
   bytes = if give_fails (length from) sink then sink.bytes else sink.bytes ++ take (taken (length from) sink) from;
   calls = called sink.calls;
   faults = if give_fails (length from) sink then one_more sink.faults else sink.faults;
+  refused = if give_fails (length from) sink then one_more sink.refused else sink.refused;
+  idle = if length from == 0 then one_more sink.idle else sink.idle;
 }
 
 -- the bytes that are left, how often it has failed, and how often it was called

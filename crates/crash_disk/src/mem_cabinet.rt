@@ -3,6 +3,7 @@ ghost use Rattle.std.specs.Prelude.{◌≡◌, ◌<◌, ◌≤◌, ◌↔◌, []
 ghost use Rattle.block_traits.specs.Cabinet.{LoadGives, stored, with_file};
 ghost use Rattle.block_traits.specs.Causes.{Counted, Rose};
 ghost use Rattle.crash_disk.specs.Calls.{failing, next_fails, with_fails};
+ghost use Rattle.crash_disk.specs.Count.{one_more};
 ghost use Rattle.crash_disk.specs.MemCabinet.{file_in, files_of, place_in};
 
 use crate::calls::Calls;
@@ -25,6 +26,7 @@ pub struct MemCabinet {
     faults: u64,
     misses: u64,
     loads: u64,
+    stores: u64,
 }
 
 impl Model for MemCabinet {
@@ -38,6 +40,7 @@ impl Model for MemCabinet {
       faults = cabinet.faults;
       misses = cabinet.misses;
       loads = cabinet.loads;
+      stores = cabinet.stores;
     } };
 }
 
@@ -46,7 +49,7 @@ impl MemCabinet {
 
     /// No file, and no call that fails.
     pub fn new(alloc: Global) -> MemCabinet
-        ensures { result ≡ record { files = []; calls = failing []; faults = 0; misses = 0; loads = 0 } }
+        ensures { result ≡ record { files = []; calls = failing []; faults = 0; misses = 0; loads = 0; stores = 0 } }
     {
         MemCabinet {
             files: Vec::new(alloc),
@@ -54,6 +57,7 @@ impl MemCabinet {
             faults: 0,
             misses: 0,
             loads: 0,
+            stores: 0,
         }
     }
 
@@ -101,7 +105,7 @@ impl MemCabinet {
 impl Cabinet for MemCabinet {
     ghost use Rattle.crash_disk.specs.MemCabinet.{Loads, after_call, after_load};
 
-    ghost state = { λ cabinet. record { files = Some (files_of cabinet.files); faults = cabinet.faults; misses = cabinet.misses; loads = cabinet.loads } };
+    ghost state = { λ cabinet. record { files = Some (files_of cabinet.files); faults = cabinet.faults; misses = cabinet.misses; loads = cabinet.loads; stores = cabinet.stores } };
 
     fn load(&mut self, alloc: Global, name: &[u8], limit: u64) -> Result<ByteList, LoadFault>
         ensures gives { LoadGives (Some (files_of self.old.files)) name.now limit result }
@@ -113,6 +117,7 @@ impl Cabinet for MemCabinet {
         ensures absent { IsErrOf result LoadFault.Absent → Rose self.old.misses self.new.misses }
         ensures too_long { IsErrOf result LoadFault.TooLong → Rose self.old.misses self.new.misses }
         ensures asked { Counted 1 self.old.loads self.new.loads }
+        ensures unstored { self.new.stores ≡ self.old.stores }
         ensures answer { Loads name.now limit self.old result }
         ensures after { self.new ≡ after_load name.now limit self.old }
     {
@@ -139,9 +144,11 @@ impl Cabinet for MemCabinet {
         ensures failed { IsErrOf result StoreFault.Failed → Rose self.old.faults self.new.faults }
         ensures more_misses { self.old.misses ≤ self.new.misses }
         ensures unasked { self.new.loads ≡ self.old.loads }
+        ensures stored { Counted 1 self.old.stores self.new.stores }
         ensures answer { IsErrOf result StoreFault.Failed ↔ IsTrue (next_fails self.old.calls) }
-        ensures after { self.new ≡ record (after_call self.old) { files = self.new.files } }
+        ensures after { self.new ≡ record (after_call self.old) { files = self.new.files; stores = one_more self.old.stores } }
     {
+        self.stores = self.stores.saturating_add(1);
         if self.call() {
             return Err(StoreFault::Failed);
         }

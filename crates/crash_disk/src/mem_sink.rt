@@ -1,7 +1,7 @@
 // A sink in memory.
 ghost use Rattle.std.specs.Prelude.{◌≡◌, ◌<◌, ◌≤◌, [], Some, IfOk, OnErr, is_err, length, take};
 ghost use Rattle.std.specs.Io.KnownBytes.{append_known};
-ghost use Rattle.block_traits.specs.Causes.{HasCause, Rose};
+ghost use Rattle.block_traits.specs.Causes.{Counted, HasCause, Rose};
 ghost use Rattle.crash_disk.specs.Calls.{failing};
 
 use crate::calls::Calls;
@@ -17,6 +17,8 @@ pub struct MemSink {
     cuts: Vec<usize>,
     calls: Calls,
     faults: u64,
+    refused: u64,
+    idle: u64,
 }
 
 impl Model for MemSink {
@@ -31,6 +33,8 @@ impl Model for MemSink {
       cuts = sink.cuts.items;
       calls = sink.calls;
       faults = sink.faults;
+      refused = sink.refused;
+      idle = sink.idle;
     } };
 
     ghost invariant = { λ sink. (length sink.bytes.items ≤ sink.room) × (sink.room ≤ vec_capacity sink.bytes) };
@@ -41,7 +45,7 @@ impl MemSink {
     /// cut of 0 counts as 1, and fails where `fails` has k. Without room left it fails at a piece that
     /// isn't empty.
     pub fn new(alloc: Global, cuts: &[usize], fails: &[u64], room: u64) -> Result<MemSink, NoMemory>
-        ensures { IfOk result (λ sink. sink ≡ record { bytes = []; room = room; cuts = cuts.now; calls = failing fails.now; faults = 0 }) }
+        ensures { IfOk result (λ sink. sink ≡ record { bytes = []; room = room; cuts = cuts.now; calls = failing fails.now; faults = 0; refused = 0; idle = 0 }) }
     {
         Ok(MemSink {
             bytes: Vec::with_capacity(alloc, room as usize)?,
@@ -49,6 +53,8 @@ impl MemSink {
             cuts: Vec::from_slice(alloc, cuts)?,
             calls: Calls::failing(alloc, fails)?,
             faults: 0,
+            refused: 0,
+            idle: 0,
         })
     }
 
@@ -63,7 +69,7 @@ impl MemSink {
 impl Sink for MemSink {
     ghost use Rattle.crash_disk.specs.Streams.{after_give, give_fails, taken};
 
-    ghost state = { λ sink. record { taken = Some sink.bytes; faults = sink.faults } };
+    ghost state = { λ sink. record { taken = Some sink.bytes; faults = sink.faults; refused = sink.refused; idle = sink.idle } };
 
     fn give(&mut self, from: &[u8]) -> Result<usize, SinkFailed>
         ensures bound { IfOk result (λ k. k ≤ length from.now) }
@@ -71,14 +77,23 @@ impl Sink for MemSink {
         ensures none { IfOk result (λ k. k ≡ 0 → 0 < length from.now → Rose self.old.faults self.new.faults) }
         ensures err { OnErr result (Some self.new.bytes ≡ Some self.old.bytes) }
         ensures cause { HasCause self.old.faults self.new.faults result }
+        ensures granted { IfOk result (λ k. 0 < k → self.new.refused ≡ self.old.refused) }
+        ensures unmoved { IfOk result (λ k. k ≡ 0 → 0 < length from.now → Counted 1 self.old.refused self.new.refused) }
+        ensures refused { OnErr result (Counted 1 self.old.refused self.new.refused) }
+        ensures idled { length from.now ≡ 0 → Counted 1 self.old.idle self.new.idle }
+        ensures busy { 0 < length from.now → self.new.idle ≡ self.old.idle }
         ensures answer { is_err result ≡ give_fails (length from.now) self.old }
         ensures count { IfOk result (λ k. k ≡ taken (length from.now) self.old) }
         ensures after { self.new ≡ after_give from.now self.old }
     {
+        if from.is_empty() {
+            self.idle = self.idle.saturating_add(1);
+        }
         let most = self.calls.piece(&self.cuts, from.len());
         let left = self.room - self.bytes.len() as u64;
         if self.calls.next() || (left == 0 && !from.is_empty()) {
             self.faults = self.faults.saturating_add(1);
+            self.refused = self.refused.saturating_add(1);
             return Err(SinkFailed);
         }
         let count = most.min(left as usize);

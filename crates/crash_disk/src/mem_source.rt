@@ -1,7 +1,7 @@
 // A source in memory.
-ghost use Rattle.std.specs.Prelude.{◌≡◌, ◌<◌, ◌≤◌, Some, IfOk, OnErr, is_err, length, take};
+ghost use Rattle.std.specs.Prelude.{◌≡◌, ◌<◌, ◌≤◌, Some, IfOk, OnOk, OnErr, is_err, length, take};
 ghost use Rattle.std.specs.Io.KnownBytes.{prepend_known, IsAtEnd};
-ghost use Rattle.block_traits.specs.Causes.{HasCause};
+ghost use Rattle.block_traits.specs.Causes.{Counted, HasCause};
 ghost use Rattle.crash_disk.specs.Calls.{failing, next_fails};
 
 use crate::calls::Calls;
@@ -17,6 +17,8 @@ pub struct MemSource {
     cuts: Vec<usize>,
     calls: Calls,
     faults: u64,
+    refused: u64,
+    ends: u64,
 }
 
 impl Model for MemSource {
@@ -30,6 +32,8 @@ impl Model for MemSource {
       cuts = source.cuts.items;
       calls = source.calls;
       faults = source.faults;
+      refused = source.refused;
+      ends = source.ends;
     } };
 
     ghost invariant = { λ source. source.given ≤ length source.bytes.items };
@@ -44,7 +48,7 @@ impl MemSource {
         cuts: &[usize],
         fails: &[u64],
     ) -> Result<MemSource, NoMemory>
-        ensures { IfOk result (λ source. source ≡ record { left = bytes.now; cuts = cuts.now; calls = failing fails.now; faults = 0 }) }
+        ensures { IfOk result (λ source. source ≡ record { left = bytes.now; cuts = cuts.now; calls = failing fails.now; faults = 0; refused = 0; ends = 0 }) }
     {
         Ok(MemSource {
             bytes: Vec::from_slice(alloc, bytes)?,
@@ -52,6 +56,8 @@ impl MemSource {
             cuts: Vec::from_slice(alloc, cuts)?,
             calls: Calls::failing(alloc, fails)?,
             faults: 0,
+            refused: 0,
+            ends: 0,
         })
     }
 }
@@ -59,7 +65,7 @@ impl MemSource {
 impl Source for MemSource {
     ghost use Rattle.crash_disk.specs.Streams.{after_take, given};
 
-    ghost state = { λ source. record { left = Some source.left; faults = source.faults } };
+    ghost state = { λ source. record { left = Some source.left; faults = source.faults; refused = source.refused; ends = source.ends } };
 
     fn take(&mut self, into: &mut [u8]) -> Result<usize, SourceFailed>
         requires { 0 < length into.old }
@@ -68,6 +74,11 @@ impl Source for MemSource {
         ensures end { IfOk result (λ k. k ≡ 0 → IsAtEnd (Some self.new.left)) }
         ensures err { OnErr result (Some self.new.left ≡ Some self.old.left) }
         ensures cause { HasCause self.old.faults self.new.faults result }
+        ensures granted { OnOk result (self.new.refused ≡ self.old.refused) }
+        ensures refused { OnErr result (Counted 1 self.old.refused self.new.refused) }
+        ensures ended { IfOk result (λ k. k ≡ 0 → Counted 1 self.old.ends self.new.ends) }
+        ensures gave { IfOk result (λ k. 0 < k → self.new.ends ≡ self.old.ends) }
+        ensures unended { OnErr result (self.new.ends ≡ self.old.ends) }
         ensures answer { is_err result ≡ next_fails self.old.calls }
         ensures count { IfOk result (λ k. k ≡ given (length into.old) self.old) }
         ensures after { self.new ≡ after_take (length into.old) self.old }
@@ -75,12 +86,16 @@ impl Source for MemSource {
         let most = self.calls.piece(&self.cuts, into.len());
         if self.calls.next() {
             self.faults = self.faults.saturating_add(1);
+            self.refused = self.refused.saturating_add(1);
             return Err(SourceFailed);
         }
         let left = &self.bytes[self.given..];
         let count = most.min(left.len());
         into[..count].copy_from_slice(&left[..count]);
         self.given += count;
+        if count == 0 {
+            self.ends = self.ends.saturating_add(1);
+        }
         Ok(count)
     }
 }

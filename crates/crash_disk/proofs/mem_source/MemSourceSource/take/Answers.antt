@@ -4,8 +4,8 @@ use Rattle.std.proofs.lemmas.Grind.{common_steps}
 use Rattle.crash_disk.proofs.Streams.{left_split}
 use Rattle.crash_disk.proofs.mem_source.MemSourceSource.take.Goals as goal
 
-pub returns-clause-bytes : goal.returns-clause-bytes
-returns-clause-bytes c =
+pub returns-else-count-eq0-clause-bytes : goal.returns-else-count-eq0-clause-bytes
+returns-else-count-eq0-clause-bytes c =
     let bytes = c.deref-2.result.now in
     let given = c.self.inside.given in
     let count = c.min-count.result in

@@ -1,5 +1,5 @@
 -- How rows are gone through.
-use Rattle.std.proofs.Common.{ℕ, ◌+◌, ◌≤◌, List, ◌++◌, length, IfOk, IfSome, Result, Ok, Err, refl}
+use Rattle.std.proofs.Common.{◌≡◌, ℕ, ◌+◌, ◌≤◌, List, ◌++◌, length, IfOk, IfSome, Result, Ok, Err, refl}
 use Rattle.std.specs.Prelude.{IfErr}
 use Rattle.block_traits.specs.Cabinet.{CabinetState}
 use Rattle.block_traits.specs.Disk.{DiskState}
@@ -26,6 +26,6 @@ Then-goes_on First Next old middle value answer new first next = record { given 
 pub loaded : (line : List ℕ) (words : KeyWords) (disk : DiskState) (holding : Holding) (entropy : EntropyState) (old new : CabinetState) (answer : Result Components Refusal)
     → IfSome old.files (λ files. IsAnswer (components_of files line words) answer) → IfOk answer (FitsWords words)
     → IfErr answer (λ refusal. StopsAtFile line words old refusal new) → KeepsFiles old new
-    → IfErr answer (λ refusal. 1 ≤ length words.files + length words.pass) → LoadsEach (words.files ++ words.pass) old answer new
+    → IfErr answer (λ refusal. 1 ≤ length words.files + length words.pass) → LoadsEach (words.files ++ words.pass) old answer new → new.stores ≡ old.stores
     → LoadsComponents line words (record { disk = disk; holding = holding; cabinet = old; entropy = entropy }) answer (record { disk = disk; holding = holding; cabinet = new; entropy = entropy })
-loaded line words disk holding entropy old new answer told fits stops keeps named asked = record { told = told; fits = fits; stops = stops; keeps = keeps; named = named; asked = asked; disk = refl; holding = refl; entropy = refl }
+loaded line words disk holding entropy old new answer told fits stops keeps named asked unstored = record { told = told; fits = fits; stops = stops; keeps = keeps; named = named; asked = asked; unstored = unstored; disk = refl; holding = refl; entropy = refl }

@@ -84,32 +84,32 @@ few_offsets k there place count bad before buffer old new h =
 
 place_load : (line : List ℕ) (file : Span) (disk : DiskState) (holding : Holding) (entropy : EntropyState) (old new : CabinetState) (loaded : Result (List ℕ) Refusal)
     → IfSome old.files (λ files. IsAnswer (file_answer file.word place_size (files (bytes_at line file))) loaded) → IfOk loaded (λ bytes. length bytes ≤ place_size) → IfErr loaded (λ refusal. IfSome (word_of refusal) (λ word. file.word ≡ word))
-    → IfErr loaded (MayRefuse place_size old new) → KeepsFiles old new → Counted 1 old.loads new.loads
+    → IfErr loaded (MayRefuse place_size old new) → KeepsFiles old new → Counted 1 old.loads new.loads → new.stores ≡ old.stores
     → LoadsPlace line file (reach_of disk holding old entropy) (unless_absent loaded) (reach_of disk holding new entropy)
-place_load line file disk holding entropy old new loaded told within word cause keeps asked = record {
+place_load line file disk holding entropy old new loaded told within word cause keeps asked unstored = record {
   loaded = loaded;
-  loads = record { told = told; within = within; word = word; cause = cause; keeps = keeps; asked = asked; disk = refl; holding = refl; entropy = refl };
+  loads = record { told = told; within = within; word = word; cause = cause; keeps = keeps; asked = asked; unstored = unstored; disk = refl; holding = refl; entropy = refl };
   answered = refl;
 }
 
 -- the file was loaded
 pub place_loaded : (line : List ℕ) (file : Span) (disk : DiskState) (holding : Holding) (entropy : EntropyState) (old new : CabinetState) (bytes : List ℕ)
-    → IfSome old.files (λ files. IsAnswer (file_answer file.word place_size (files (bytes_at line file))) (Ok bytes)) → length bytes ≤ place_size → KeepsFiles old new → Counted 1 old.loads new.loads
+    → IfSome old.files (λ files. IsAnswer (file_answer file.word place_size (files (bytes_at line file))) (Ok bytes)) → length bytes ≤ place_size → KeepsFiles old new → Counted 1 old.loads new.loads → new.stores ≡ old.stores
     → FindsPlace false line file (reach_of disk holding old entropy) (place_in file.word (Some bytes)) (reach_of disk holding new entropy)
-place_loaded line file disk holding entropy old new bytes told within keeps asked =
+place_loaded line file disk holding entropy old new bytes told within keeps asked unstored =
     Then-goes_on (LoadsPlace line file) _ (reach_of disk holding old entropy) (reach_of disk holding new entropy) (Some bytes) _ _
-    (place_load line file disk holding entropy old new (Ok bytes) told within tt tt keeps asked) (refl, refl)
+    (place_load line file disk holding entropy old new (Ok bytes) told within tt tt keeps asked unstored) (refl, refl)
 
 -- it wasn't
 pub place_unloaded : (line : List ℕ) (file : Span) (disk : DiskState) (holding : Holding) (entropy : EntropyState) (old new : CabinetState) (refusal : Refusal)
     → IfSome old.files (λ files. IsAnswer {T = List ℕ} (file_answer file.word place_size (files (bytes_at line file))) (Err refusal)) → IfSome (word_of refusal) (λ word. file.word ≡ word) → MayRefuse place_size old new refusal
-    → KeepsFiles old new → Counted 1 old.loads new.loads → FindsPlace false line file (reach_of disk holding old entropy) (without_file refusal) (reach_of disk holding new entropy)
-place_unloaded line file disk holding entropy old new (refusals.FileAbsent word) told named cause keeps asked =
+    → KeepsFiles old new → Counted 1 old.loads new.loads → new.stores ≡ old.stores → FindsPlace false line file (reach_of disk holding old entropy) (without_file refusal) (reach_of disk holding new entropy)
+place_unloaded line file disk holding entropy old new (refusals.FileAbsent word) told named cause keeps asked unstored =
     Then-goes_on (LoadsPlace line file) _ (reach_of disk holding old entropy) (reach_of disk holding new entropy) None _ _
-    (place_load line file disk holding entropy old new (Err (refusals.FileAbsent word)) told tt named cause keeps asked) (refl, refl)
-place_unloaded line file disk holding entropy old new refusal told named cause keeps asked =
+    (place_load line file disk holding entropy old new (Err (refusals.FileAbsent word)) told tt named cause keeps asked unstored) (refl, refl)
+place_unloaded line file disk holding entropy old new refusal told named cause keeps asked unstored =
     Then-refused (LoadsPlace line file) _ (reach_of disk holding old entropy) (reach_of disk holding new entropy) refusal
-    (place_load line file disk holding entropy old new (Err refusal) told tt named cause keeps asked)
+    (place_load line file disk holding entropy old new (Err refusal) told tt named cause keeps asked unstored)
 
 -- ---- the sweep
 

@@ -8,6 +8,7 @@ returns-in-Err g c =
     λ disk holding entropy. rw c.store_refusal.ensures (record {
       stores = store_failed c.args.line.now c.args.span c.args.bytes.now _ _ c.in-Err.fault (record { files = e.err; faults = e.later; misses = e.more_misses }) e.failed;
       unasked = e.unasked;
+      stored = e.stored;
       disk = refl;
       holding = refl;
       entropy = refl;

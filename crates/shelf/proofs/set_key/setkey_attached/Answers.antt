@@ -36,7 +36,7 @@ returns-in_err-parts-clause-row g c =
     λ holding entropy. rw (p.1, p.2) (Then-goes_on _ _ _ _ _ _ _ (record { reads = c.in_ok-meta.ensures.reads; holding = refl; cabinet = refl; entropy = refl })
     (Then-goes_on _ _ _ _ _ _ _ (sym passed, refl)
     (Then-goes_on _ _ _ _ _ _ _ (c.in_ok-needs_slot.ensures, refl)
-    (Then-refused _ _ _ _ _ (loaded _ _ _ _ _ _ _ _ e.answer e.fits e.stops e.keeps e.named e.asked)))))
+    (Then-refused _ _ _ _ _ (loaded _ _ _ _ _ _ _ _ e.answer e.fits e.stops e.keeps e.named e.asked e.unstored)))))
 
 pub returns-clause-row : goal.returns-clause-row
 returns-clause-row g c =
@@ -46,5 +46,5 @@ returns-clause-row g c =
     λ holding entropy. Then-goes_on _ _ _ _ _ _ _ (record { reads = c.in_ok-meta.ensures.reads; holding = refl; cabinet = refl; entropy = refl })
     (Then-goes_on _ _ _ _ _ _ _ (sym passed, refl)
     (Then-goes_on _ _ _ _ _ _ _ (c.in_ok-needs_slot.ensures, refl)
-    (Then-goes_on _ _ _ _ _ _ _ (loaded _ _ _ _ _ _ _ _ e.answer e.fits e.stops e.keeps e.named e.asked)
+    (Then-goes_on _ _ _ _ _ _ _ (loaded _ _ _ _ _ _ _ _ e.answer e.fits e.stops e.keeps e.named e.asked e.unstored)
     (c.store_key.ensures.stores _ _ _))))

@@ -36,7 +36,7 @@ returns-in_err-parts-clause-row g c =
     λ holding entropy. rw (p.1, p.2) (Then-goes_on _ _ _ _ _ _ _ (record { reads = c.in_ok-meta.ensures.reads; holding = refl; cabinet = refl; entropy = refl })
     (Then-goes_on _ _ _ _ _ _ _ (sym passed, refl)
     (Then-goes_on _ _ _ _ _ _ _ (c.in_ok-needs_slot.ensures, refl)
-    (Then-refused _ _ _ _ _ (loaded _ _ _ _ _ _ _ _ e.answer e.fits e.stops e.keeps e.named e.asked)))))
+    (Then-refused _ _ _ _ _ (loaded _ _ _ _ _ _ _ _ e.answer e.fits e.stops e.keeps e.named e.asked e.unstored)))))
 
 pub returns-in_err-next-clause-row : goal.returns-in_err-next-clause-row
 returns-in_err-next-clause-row g c =
@@ -48,8 +48,8 @@ returns-in_err-next-clause-row g c =
     λ holding entropy. rw (p.1, p.2) (Then-goes_on _ _ _ _ _ _ _ (record { reads = c.in_ok-meta.ensures.reads; holding = refl; cabinet = refl; entropy = refl })
     (Then-goes_on _ _ _ _ _ _ _ (sym passed, refl)
     (Then-goes_on _ _ _ _ _ _ _ (c.in_ok-needs_slot.ensures, refl)
-    (Then-goes_on _ _ _ _ _ _ _ (loaded _ _ _ _ _ _ _ _ d.answer d.fits d.stops d.keeps d.named d.asked)
-    (Then-refused _ _ _ _ _ (loaded _ _ _ _ _ _ _ _ e.answer e.fits e.stops e.keeps e.named e.asked))))))
+    (Then-goes_on _ _ _ _ _ _ _ (loaded _ _ _ _ _ _ _ _ d.answer d.fits d.stops d.keeps d.named d.asked d.unstored)
+    (Then-refused _ _ _ _ _ (loaded _ _ _ _ _ _ _ _ e.answer e.fits e.stops e.keeps e.named e.asked e.unstored))))))
 
 pub returns-in_err-master-clause-row : goal.returns-in_err-master-clause-row
 returns-in_err-master-clause-row g c =
@@ -61,8 +61,8 @@ returns-in_err-master-clause-row g c =
     λ holding entropy. rw (p.1, p.2) (Then-goes_on _ _ _ _ _ _ _ (record { reads = c.in_ok-meta.ensures.reads; holding = refl; cabinet = refl; entropy = refl })
     (Then-goes_on _ _ _ _ _ _ _ (sym passed, refl)
     (Then-goes_on _ _ _ _ _ _ _ (c.in_ok-needs_slot.ensures, refl)
-    (Then-goes_on _ _ _ _ _ _ _ (loaded _ _ _ _ _ _ _ _ d.answer d.fits d.stops d.keeps d.named d.asked)
-    (Then-goes_on _ _ _ _ _ _ _ (loaded _ _ _ _ _ _ _ _ e.answer e.fits e.stops e.keeps e.named e.asked)
+    (Then-goes_on _ _ _ _ _ _ _ (loaded _ _ _ _ _ _ _ _ d.answer d.fits d.stops d.keeps d.named d.asked d.unstored)
+    (Then-goes_on _ _ _ _ _ _ _ (loaded _ _ _ _ _ _ _ _ e.answer e.fits e.stops e.keeps e.named e.asked e.unstored)
     (Then-refused _ _ _ _ _ (c.in_err-master.ensures.answer, refl)))))))
 
 pub returns-clause-row : goal.returns-clause-row
@@ -74,7 +74,7 @@ returns-clause-row g c =
     λ holding entropy. Then-goes_on _ _ _ _ _ _ _ (record { reads = c.in_ok-meta.ensures.reads; holding = refl; cabinet = refl; entropy = refl })
     (Then-goes_on _ _ _ _ _ _ _ (sym passed, refl)
     (Then-goes_on _ _ _ _ _ _ _ (c.in_ok-needs_slot.ensures, refl)
-    (Then-goes_on _ _ _ _ _ _ _ (loaded _ _ _ _ _ _ _ _ d.answer d.fits d.stops d.keeps d.named d.asked)
-    (Then-goes_on _ _ _ _ _ _ _ (loaded _ _ _ _ _ _ _ _ e.answer e.fits e.stops e.keeps e.named e.asked)
+    (Then-goes_on _ _ _ _ _ _ _ (loaded _ _ _ _ _ _ _ _ d.answer d.fits d.stops d.keeps d.named d.asked d.unstored)
+    (Then-goes_on _ _ _ _ _ _ _ (loaded _ _ _ _ _ _ _ _ e.answer e.fits e.stops e.keeps e.named e.asked e.unstored)
     (Then-goes_on _ _ _ _ _ _ _ (c.in_ok-master.ensures.answer, refl)
     (rw (← c.unwrap_or-target.ensures) (c.store_key.ensures.stores _ _ _)))))))

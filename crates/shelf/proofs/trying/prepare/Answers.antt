@@ -27,7 +27,7 @@ returns-in_err-parts-clause-row g c =
     let e = c.in_err-parts.ensures in
     λ readonly holding entropy. rw (p.1, p.2) (Then-goes_on _ _ _ _ _ _ _ (record { reads = c.in_ok-meta.ensures.reads; holding = refl; cabinet = refl; entropy = refl })
     (Then-goes_on _ _ _ _ _ _ _ (sym passed, refl)
-    (Then-refused _ _ _ _ _ (loaded _ _ _ _ _ _ _ _ e.answer e.fits e.stops e.keeps e.named e.asked))))
+    (Then-refused _ _ _ _ _ (loaded _ _ _ _ _ _ _ _ e.answer e.fits e.stops e.keeps e.named e.asked e.unstored))))
 
 pub returns-in_err-key-clause-row : goal.returns-in_err-key-clause-row
 returns-in_err-key-clause-row g c =
@@ -37,7 +37,7 @@ returns-in_err-key-clause-row g c =
     let e = c.in_ok-parts.ensures in
     λ readonly holding entropy. rw (p.1, p.2) (Then-goes_on _ _ _ _ _ _ _ (record { reads = c.in_ok-meta.ensures.reads; holding = refl; cabinet = refl; entropy = refl })
     (Then-goes_on _ _ _ _ _ _ _ (sym passed, refl)
-    (Then-goes_on _ _ _ _ _ _ _ (loaded _ _ _ _ _ _ _ _ e.answer e.fits e.stops e.keeps e.named e.asked)
+    (Then-goes_on _ _ _ _ _ _ _ (loaded _ _ _ _ _ _ _ _ e.answer e.fits e.stops e.keeps e.named e.asked e.unstored)
     (refused_key c.in_ok-meta.meta (settings_of c.in_ok-params.params) c.args.slot readonly _ c.in_err-key.field-0.0 c.in_err-key.ensures, refl))))
 
 pub returns-clause-row : goal.returns-clause-row
@@ -47,5 +47,5 @@ returns-clause-row g c =
     let e = c.in_ok-parts.ensures in
     λ readonly holding entropy. Then-goes_on _ _ _ _ _ _ _ (record { reads = c.in_ok-meta.ensures.reads; holding = refl; cabinet = refl; entropy = refl })
     (Then-goes_on _ _ _ _ _ _ _ (sym passed, refl)
-    (Then-goes_on _ _ _ _ _ _ _ (loaded _ _ _ _ _ _ _ _ e.answer e.fits e.stops e.keeps e.named e.asked)
+    (Then-goes_on _ _ _ _ _ _ _ (loaded _ _ _ _ _ _ _ _ e.answer e.fits e.stops e.keeps e.named e.asked e.unstored)
     (tried_key c.in_ok-meta.meta (settings_of c.in_ok-params.params) c.args.slot readonly _ c.in_ok-key.key c.in_ok-key.ensures, refl)))

@@ -33,7 +33,7 @@ all_given old new taken gave none =
     gave ∙ ap (λ (l : List ℕ). prepend_known (taken.read ++ l) new.left) none ∙ ap (λ (l : List ℕ). prepend_known l new.left) (append-nil taken.read)
 
 ended_script : (old new : Whole) (trace : Trace) (status : Status) (taken : Taken) (failed : ℕ) (refused : Bool)
-    → old.source.left ≡ prepend_known (taken.read ++ taken.unread) new.source.left → CutsInto taken.read taken.lines taken.rest → IsReadToEnd taken (lines_of trace.lines) new.source
+    → old.source.left ≡ prepend_known (taken.read ++ taken.unread) new.source.left → CutsInto taken.read taken.lines taken.rest → IsReadToEnd taken (lines_of trace.lines) old.source new.source
     → trace.sep ≡ Blanks → trace.closing ≡ Some failed → any_refused (answers_of trace.lines ++ closing_answers failed) ≡ refused → status ≡ status_by refused
     → TookAll (answers_text (answers_of trace.lines ++ closing_answers failed)) old.sink new.sink → ScriptToEnd old trace status new
 ended_script old new trace status taken failed refused gave cut end sep closed any is printed = record {

@@ -21,7 +21,7 @@ use Rattle.reply_text.proofs.Printing.{TookAll-then}
 use Rattle.shelf.specs.Closing.{ClosesWorld}
 use Rattle.geli_core.specs.Lines.{CutsInto, last_line}
 use Rattle.geli_core.specs.Run.{FailsInLast, ServesAndPrints, ServesLine, answers_text, any_refused, closing_answers, is_refusal, refuses, text_of}
-use Rattle.geli_core.specs.Script.{RunsScript, script_limit}
+use Rattle.geli_core.specs.Script.{MetEnd, MetNothing, MetRefusal, RunsScript, script_limit}
 use Rattle.command_rows.specs.World.{World}
 use Rattle.geli_core.specs.Served.{ClosesAndPrints, IsAllServed, IsAllUnprinted, IsServed, IsTaken, PrintsClosing, ServesAll, ServesLines, Site, StopsWithin, Traced, status_by, whole_of}
 use Rattle.geli_core.specs.Trace.{Run, ServedLine, Trace, answers_of, lines_of}
@@ -111,149 +111,157 @@ traced old middle new source after status served failed run closes runs = record
 }
 
 -- all was printed
-ended_by : (bytes : List ℕ) (old middle new : Site) (source after : SourceState) (h : ServesAll bytes old middle) (failed : ℕ) (all : Bool) → length bytes < script_limit → IsAtEnd after.left
+ended_by : (bytes : List ℕ) (old middle new : Site) (source after : SourceState) (h : ServesAll bytes old middle) (failed : ℕ) (all : Bool) → length bytes < script_limit → IsAtEnd after.left → MetEnd source after
     → source.left ≡ prepend_known bytes after.left → ClosesWorld middle.world failed new.world → any_refused (answers_of h.served ++ closing_answers failed) ≡ all
     → TookAll (answers_text (answers_of h.served ++ closing_answers failed)) old.sink new.sink → Traced RunsScript (whole_of old source) (status_by all) (whole_of new after)
-ended_by bytes old middle new source after h failed false small end gave closes refused took = traced old middle new source after Done h.served failed h.run closes (record {
+ended_by bytes old middle new source after h failed false small end met gave closes refused took = traced old middle new source after Done h.served failed h.run closes (record {
   sep = refl;
   taken = record { read = bytes; lines = h.lines; rest = h.rest; unread = [] };
   gave = gave_all bytes source after gave;
+  behind = omega arith;
   limit = limit_all bytes (omega (arith, small));
   cut = h.cut;
   short = h.short;
-  up_to = record { small = small; all = h.all; unread = refl; end = end };
+  up_to = record { small = small; all = h.all; unread = refl; end = end; met = met };
   failed = failed;
   closed = refl;
   prints = (refused, took);
 })
-ended_by bytes old middle new source after h failed true small end gave closes refused took = traced old middle new source after SomeRefused h.served failed h.run closes (record {
+ended_by bytes old middle new source after h failed true small end met gave closes refused took = traced old middle new source after SomeRefused h.served failed h.run closes (record {
   sep = refl;
   taken = record { read = bytes; lines = h.lines; rest = h.rest; unread = [] };
   gave = gave_all bytes source after gave;
+  behind = omega arith;
   limit = limit_all bytes (omega (arith, small));
   cut = h.cut;
   short = h.short;
-  up_to = record { small = small; all = h.all; unread = refl; end = end };
+  up_to = record { small = small; all = h.all; unread = refl; end = end; met = met };
   failed = failed;
   closed = refl;
   prints = (refused, took);
 })
 
-ended_whole : (bytes : List ℕ) (old middle new : Site) (source after : SourceState) (refused : Bool) (failed : ℕ) (status : Status) → IsAllServed bytes old refused middle → length bytes < script_limit → IsAtEnd after.left
+ended_whole : (bytes : List ℕ) (old middle new : Site) (source after : SourceState) (refused : Bool) (failed : ℕ) (status : Status) → IsAllServed bytes old refused middle → length bytes < script_limit → IsAtEnd after.left → MetEnd source after
     → source.left ≡ prepend_known bytes after.left → ClosesWorld middle.world failed new.world
     → (status ≡ status_by (refused || any_refused (closing_answers failed))) × TookAll (answers_text (closing_answers failed)) middle.sink new.sink
     → Traced RunsScript (whole_of old source) status (whole_of new after)
-ended_whole bytes old middle new source after refused failed status h small end gave closes p =
+ended_whole bytes old middle new source after refused failed status h small end met gave closes p =
     let all : Bool = refused || any_refused (closing_answers failed) in
     let text = flat_map-append text_of (answers_of h.serves.served) (closing_answers failed) in
     let took : TookAll (answers_text ((answers_of h.serves.served) ++ closing_answers failed)) old.sink new.sink = rw text (TookAll-then _ _ h.printed p.1) in
     subst (λ (s : Status). Traced RunsScript (whole_of old source) s (whole_of new after)) (sym p.0)
-    (ended_by bytes old middle new source after h.serves failed all small end gave closes (any_all (answers_of h.serves.served) failed refused h.any) took)
+    (ended_by bytes old middle new source after h.serves failed all small end met gave closes (any_all (answers_of h.serves.served) failed refused h.any) took)
 
-ended_part : (bytes : List ℕ) (old middle new : Site) (source after : SourceState) (refused : Bool) (failed : ℕ) → IsAllServed bytes old refused middle → length bytes < script_limit → IsAtEnd after.left
+ended_part : (bytes : List ℕ) (old middle new : Site) (source after : SourceState) (refused : Bool) (failed : ℕ) → IsAllServed bytes old refused middle → length bytes < script_limit → IsAtEnd after.left → MetEnd source after
     → source.left ≡ prepend_known bytes after.left → ClosesWorld middle.world failed new.world → (1 ≤ failed) × TookPart (answers_text (closing_answers failed)) middle.sink new.sink
     → Traced RunsScript (whole_of old source) WriteFault (whole_of new after)
-ended_part bytes old middle new source after refused failed h small end gave closes p = traced old middle new source after WriteFault h.serves.served failed h.serves.run closes (record {
+ended_part bytes old middle new source after refused failed h small end met gave closes p = traced old middle new source after WriteFault h.serves.served failed h.serves.run closes (record {
   sep = refl;
   taken = record { read = bytes; lines = h.serves.lines; rest = h.serves.rest; unread = [] };
   gave = gave_all bytes source after gave;
+  behind = omega arith;
   limit = limit_all bytes (omega (arith, small));
   cut = h.serves.cut;
   short = h.serves.short;
-  up_to = inr (record { small = small; all = h.serves.all; unread = refl; end = end });
+  up_to = inr (record { small = small; all = h.serves.all; unread = refl; end = end; met = met });
   failed = failed;
   closed = refl;
   prints = inr (record { some = p.0; middle = middle.sink; before = h.printed; part = p.1 });
 })
 
-pub ended_script : (bytes : List ℕ) (old middle new : Site) (source after : SourceState) (refused : Bool) (status : Status) → IsAllServed bytes old refused middle → length bytes < script_limit → IsAtEnd after.left
+pub ended_script : (bytes : List ℕ) (old middle new : Site) (source after : SourceState) (refused : Bool) (status : Status) → IsAllServed bytes old refused middle → length bytes < script_limit → IsAtEnd after.left → MetEnd source after
     → source.left ≡ prepend_known bytes after.left → (c : ClosesAndPrints refused middle status new) → Traced RunsScript (whole_of old source) status (whole_of new after)
-ended_script bytes old middle new source after refused WriteFault h small end gave c = ended_part bytes old middle new source after refused c.failed h small end gave c.closes c.prints
-ended_script bytes old middle new source after refused Done h small end gave c = ended_whole bytes old middle new source after refused c.failed Done h small end gave c.closes c.prints
-ended_script bytes old middle new source after refused SomeRefused h small end gave c = ended_whole bytes old middle new source after refused c.failed SomeRefused h small end gave c.closes c.prints
-ended_script bytes old middle new source after refused BadWords h small end gave c = ended_whole bytes old middle new source after refused c.failed BadWords h small end gave c.closes c.prints
-ended_script bytes old middle new source after refused ReadFault h small end gave c = ended_whole bytes old middle new source after refused c.failed ReadFault h small end gave c.closes c.prints
-ended_script bytes old middle new source after refused NoMemory h small end gave c = ended_whole bytes old middle new source after refused c.failed NoMemory h small end gave c.closes c.prints
-ended_script bytes old middle new source after refused LineTooLong h small end gave c = ended_whole bytes old middle new source after refused c.failed LineTooLong h small end gave c.closes c.prints
-ended_script bytes old middle new source after refused ScriptTooLong h small end gave c = ended_whole bytes old middle new source after refused c.failed ScriptTooLong h small end gave c.closes c.prints
+ended_script bytes old middle new source after refused WriteFault h small end met gave c = ended_part bytes old middle new source after refused c.failed h small end met gave c.closes c.prints
+ended_script bytes old middle new source after refused Done h small end met gave c = ended_whole bytes old middle new source after refused c.failed Done h small end met gave c.closes c.prints
+ended_script bytes old middle new source after refused SomeRefused h small end met gave c = ended_whole bytes old middle new source after refused c.failed SomeRefused h small end met gave c.closes c.prints
+ended_script bytes old middle new source after refused BadWords h small end met gave c = ended_whole bytes old middle new source after refused c.failed BadWords h small end met gave c.closes c.prints
+ended_script bytes old middle new source after refused ReadFault h small end met gave c = ended_whole bytes old middle new source after refused c.failed ReadFault h small end met gave c.closes c.prints
+ended_script bytes old middle new source after refused NoMemory h small end met gave c = ended_whole bytes old middle new source after refused c.failed NoMemory h small end met gave c.closes c.prints
+ended_script bytes old middle new source after refused LineTooLong h small end met gave c = ended_whole bytes old middle new source after refused c.failed LineTooLong h small end met gave c.closes c.prints
+ended_script bytes old middle new source after refused ScriptTooLong h small end met gave c = ended_whole bytes old middle new source after refused c.failed ScriptTooLong h small end met gave c.closes c.prints
 
 -- the last line was not printed
-pub ended_unprinted : (bytes : List ℕ) (old middle new : Site) (source after : SourceState) (failed : ℕ) → IsAllUnprinted bytes old middle → length bytes < script_limit → IsAtEnd after.left
+pub ended_unprinted : (bytes : List ℕ) (old middle new : Site) (source after : SourceState) (failed : ℕ) → IsAllUnprinted bytes old middle → length bytes < script_limit → IsAtEnd after.left → MetEnd source after
     → source.left ≡ prepend_known bytes after.left → ClosesWorld middle.world failed new.world → new.sink ≡ middle.sink → Traced RunsScript (whole_of old source) WriteFault (whole_of new after)
-ended_unprinted bytes old middle new source after failed h small end gave closes same = traced old middle new source after WriteFault h.serves.served failed h.serves.run closes (record {
+ended_unprinted bytes old middle new source after failed h small end met gave closes same = traced old middle new source after WriteFault h.serves.served failed h.serves.run closes (record {
   sep = refl;
   taken = record { read = bytes; lines = h.serves.lines; rest = h.serves.rest; unread = [] };
   gave = gave_all bytes source after gave;
+  behind = omega arith;
   limit = limit_all bytes (omega (arith, small));
   cut = h.serves.cut;
   short = h.serves.short;
-  up_to = inr (record { small = small; all = h.serves.all; unread = refl; end = end });
+  up_to = inr (record { small = small; all = h.serves.all; unread = refl; end = end; met = met });
   failed = failed;
   closed = refl;
   prints = inl (subst (λ (s : SinkState). FailsInLast (answers_of h.serves.served) old.sink s) (sym same) h.printed);
 })
 
 -- the source failed
-pub ended_failed : (bytes : List ℕ) (old middle new : Site) (source after : SourceState) (rest : List ℕ) (refused : Bool) (failed : ℕ) → IsTaken bytes old source rest refused middle after → length bytes < script_limit → Rose source.faults after.faults
+pub ended_failed : (bytes : List ℕ) (old middle new : Site) (source after : SourceState) (rest : List ℕ) (refused : Bool) (failed : ℕ) → IsTaken bytes old source rest refused middle after → length bytes < script_limit → Rose source.faults after.faults → MetRefusal source after
     → ClosesWorld middle.world failed new.world → new.sink ≡ middle.sink → Traced RunsScript (whole_of old source) ReadFault (whole_of new after)
-ended_failed bytes old middle new source after rest refused failed h small rose closes same = traced old middle new source after ReadFault h.served.serves.served failed h.served.serves.run closes (record {
+ended_failed bytes old middle new source after rest refused failed h small rose met closes same = traced old middle new source after ReadFault h.served.serves.served failed h.served.serves.run closes (record {
   sep = refl;
   taken = record { read = bytes; lines = lines_of h.served.serves.served; rest = rest; unread = [] };
   gave = gave_all bytes source after h.gave;
+  behind = omega arith;
   limit = limit_all bytes (omega (arith, small));
   cut = h.served.serves.cut;
   short = h.served.serves.short;
-  up_to = (record { whole = refl; unread = refl; short = h.short }, small, rose);
+  up_to = (record { whole = refl; unread = refl; short = h.short }, small, rose, met);
   failed = failed;
   closed = refl;
   prints = subst (λ (s : SinkState). TookAll (answers_text (answers_of h.served.serves.served)) old.sink s) (sym same) h.served.printed;
 })
 
 -- the limit was reached
-pub ended_full : (bytes : List ℕ) (old middle new : Site) (source after : SourceState) (rest : List ℕ) (refused : Bool) (failed : ℕ) → IsTaken bytes old source rest refused middle after → length bytes ≡ script_limit
+pub ended_full : (bytes : List ℕ) (old middle new : Site) (source after : SourceState) (rest : List ℕ) (refused : Bool) (failed : ℕ) → IsTaken bytes old source rest refused middle after → length bytes ≡ script_limit → MetNothing source after
     → ClosesWorld middle.world failed new.world → new.sink ≡ middle.sink → Traced RunsScript (whole_of old source) ScriptTooLong (whole_of new after)
-ended_full bytes old middle new source after rest refused failed h full closes same = traced old middle new source after ScriptTooLong h.served.serves.served failed h.served.serves.run closes (record {
+ended_full bytes old middle new source after rest refused failed h full met closes same = traced old middle new source after ScriptTooLong h.served.serves.served failed h.served.serves.run closes (record {
   sep = refl;
   taken = record { read = bytes; lines = lines_of h.served.serves.served; rest = rest; unread = [] };
   gave = gave_all bytes source after h.gave;
+  behind = omega arith;
   limit = limit_all bytes (omega (arith, full));
   cut = h.served.serves.cut;
   short = h.served.serves.short;
-  up_to = (record { whole = refl; unread = refl; short = h.short }, full);
+  up_to = (record { whole = refl; unread = refl; short = h.short }, full, met);
   failed = failed;
   closed = refl;
   prints = subst (λ (s : SinkState). TookAll (answers_text (answers_of h.served.serves.served)) old.sink s) (sym same) h.served.printed;
 })
 
 -- a line was too long
-pub ended_long : (bytes : List ℕ) (old middle new : Site) (source after : SourceState) (failed : ℕ) → StopsWithin bytes old TooLong middle → length bytes ≤ script_limit → source.left ≡ prepend_known bytes after.left
+pub ended_long : (bytes : List ℕ) (old middle new : Site) (source after : SourceState) (failed : ℕ) → StopsWithin bytes old TooLong middle → length bytes ≤ script_limit → source.left ≡ prepend_known bytes after.left → MetNothing source after
     → ClosesWorld middle.world failed new.world → new.sink ≡ middle.sink → Traced RunsScript (whole_of old source) LineTooLong (whole_of new after)
-ended_long bytes old middle new source after failed h limit gave closes same = traced old middle new source after LineTooLong h.stops.served.serves.served failed h.stops.served.serves.run closes (record {
+ended_long bytes old middle new source after failed h limit gave met closes same = traced old middle new source after LineTooLong h.stops.served.serves.served failed h.stops.served.serves.run closes (record {
   sep = refl;
   taken = record { read = h.read; lines = lines_of h.stops.served.serves.served; rest = h.stops.rest; unread = h.unread };
   gave = subst (λ (l : List ℕ). source.left ≡ prepend_known l after.left) h.whole gave;
+  behind = h.few;
   limit = subst (λ (l : List ℕ). length l ≤ script_limit) h.whole limit;
   cut = h.stops.served.serves.cut;
   short = h.stops.served.serves.short;
-  up_to = (refl, h.stops.long);
+  up_to = (refl, h.stops.long, met);
   failed = failed;
   closed = refl;
   prints = subst (λ (s : SinkState). TookAll (answers_text (answers_of h.stops.served.serves.served)) old.sink s) (sym same) h.stops.served.printed;
 })
 
 -- an answer was not printed
-pub ended_broken : (bytes : List ℕ) (old middle new : Site) (source after : SourceState) (failed : ℕ) → StopsWithin bytes old Unprinted middle → length bytes ≤ script_limit → source.left ≡ prepend_known bytes after.left
+pub ended_broken : (bytes : List ℕ) (old middle new : Site) (source after : SourceState) (failed : ℕ) → StopsWithin bytes old Unprinted middle → length bytes ≤ script_limit → source.left ≡ prepend_known bytes after.left → MetNothing source after
     → ClosesWorld middle.world failed new.world → new.sink ≡ middle.sink → Traced RunsScript (whole_of old source) WriteFault (whole_of new after)
-ended_broken bytes old middle new source after failed h limit gave closes same =
+ended_broken bytes old middle new source after failed h limit gave met closes same =
     let failed_last = subst (λ (s : SinkState). FailsInLast (answers_of h.stops.serves.served) old.sink s) (sym same) h.stops.printed in
     traced old middle new source after WriteFault h.stops.serves.served failed h.stops.serves.run closes (record {
       sep = refl;
       taken = record { read = h.read; lines = lines_of h.stops.serves.served; rest = []; unread = h.unread };
       gave = subst (λ (l : List ℕ). source.left ≡ prepend_known l after.left) h.whole gave;
+      behind = h.few;
       limit = subst (λ (l : List ℕ). length l ≤ script_limit) h.whole limit;
       cut = h.stops.serves.cut;
       short = h.stops.serves.short;
-      up_to = inl (refl, refl, failed_last);
+      up_to = inl (refl, refl, failed_last, met);
       failed = failed;
       closed = refl;
       prints = inl failed_last;

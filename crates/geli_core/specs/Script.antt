@@ -2,7 +2,7 @@
 use Rattle.std.specs.Prelude.{◌≡◌, ◌≢◌, ◌⊎◌, ℕ, ◌+◌, ◌^◌, ◌<◌, ◌≤◌, List, [], ◌∷◌, ◌++◌, length, true, false, Option, Some, None, codes}
 use Rattle.std.specs.List.{AllByRecursion}
 use Rattle.std.specs.Io.KnownBytes.{IsAtEnd, prepend_known}
-use Rattle.block_traits.specs.Causes.{Rose}
+use Rattle.block_traits.specs.Causes.{Counted, Rose}
 use Rattle.block_traits.specs.Streams.{SinkState, TookAll, TookPart, SourceState}
 use Rattle.command_words.specs.Images.{line_of, script_images}
 use Rattle.command_words.specs.Reading.{command_in, line_limit}
@@ -52,12 +52,32 @@ pub record Taken : Type 0 where
   pub rest : List ℕ
   pub unread : List ℕ
 
--- the input was read to its end, and all its lines were served
-pub record IsReadToEnd (taken : Taken) (served : List (List ℕ)) (after : SourceState) : Type 0 where
+-- the most bytes that are taken at a time
+abbrev pub piece_size : ℕ
+piece_size = 4096
+
+-- no call of the source was refused, and none met its end
+pub record MetNothing (old new : SourceState) : Type 0 where
+  pub refused : new.refused ≡ old.refused
+  pub ends : new.ends ≡ old.ends
+
+-- one call met its end, and none was refused
+pub record MetEnd (old new : SourceState) : Type 0 where
+  pub refused : new.refused ≡ old.refused
+  pub ends : Counted 1 old.ends new.ends
+
+-- one call was refused, and none met its end
+pub record MetRefusal (old new : SourceState) : Type 0 where
+  pub refused : Counted 1 old.refused new.refused
+  pub ends : new.ends ≡ old.ends
+
+-- the input was read to its end, which was met once, and all its lines were served
+pub record IsReadToEnd (taken : Taken) (served : List (List ℕ)) (before after : SourceState) : Type 0 where
   pub small : length taken.read < script_limit
   pub all : served ≡ taken.lines ++ last_line taken.rest
   pub unread : taken.unread ≡ []
   pub end : IsAtEnd after.left
+  pub met : MetEnd before after
 
 -- all bytes that the source gave were read, no line among them is too long, and the whole ones were served
 pub record IsReadSoFar (taken : Taken) (served : List (List ℕ)) : Type 0 where
@@ -67,22 +87,23 @@ pub record IsReadSoFar (taken : Taken) (served : List (List ℕ)) : Type 0 where
 
 -- how far a script was served, by the status: the first that is met of the end of the input, a failure and a limit ends it
 abbrev pub ServesUpTo : Taken → List (List ℕ) → List (Option Answer) → Whole → Status → Whole → Type 0
-ServesUpTo taken served answers old Done new = IsReadToEnd taken served new.source
-ServesUpTo taken served answers old SomeRefused new = IsReadToEnd taken served new.source
-ServesUpTo taken served answers old WriteFault new = ((served ≡ taken.lines) × (taken.rest ≡ []) × FailsInLast answers old.sink new.sink) ⊎ IsReadToEnd taken served new.source
-ServesUpTo taken served answers old ReadFault new = IsReadSoFar taken served × (length taken.read < script_limit) × Rose old.source.faults new.source.faults
-ServesUpTo taken served answers old LineTooLong new = (served ≡ taken.lines) × (length taken.rest ≡ line_limit + 1)
-ServesUpTo taken served answers old ScriptTooLong new = IsReadSoFar taken served × (length taken.read ≡ script_limit)
+ServesUpTo taken served answers old Done new = IsReadToEnd taken served old.source new.source
+ServesUpTo taken served answers old SomeRefused new = IsReadToEnd taken served old.source new.source
+ServesUpTo taken served answers old WriteFault new = ((served ≡ taken.lines) × (taken.rest ≡ []) × FailsInLast answers old.sink new.sink × MetNothing old.source new.source) ⊎ IsReadToEnd taken served old.source new.source
+ServesUpTo taken served answers old ReadFault new = IsReadSoFar taken served × (length taken.read < script_limit) × Rose old.source.faults new.source.faults × MetRefusal old.source new.source
+ServesUpTo taken served answers old LineTooLong new = (served ≡ taken.lines) × (length taken.rest ≡ line_limit + 1) × MetNothing old.source new.source
+ServesUpTo taken served answers old ScriptTooLong new = IsReadSoFar taken served × (length taken.read ≡ script_limit) × MetNothing old.source new.source
 ServesUpTo taken served answers old BadWords new = ⊥
 ServesUpTo taken served answers old NoMemory new = ⊥
 
 -- a script was run: the source gave bytes, the lines of the trace among them were served, the drawers were closed, and the answers
--- were printed; no more bytes are taken from the source than make a script too long
+-- were printed; no more bytes are taken from the source than make a script too long, and no further piece behind the byte that ended it
 pub record RunsScript (old : Whole) (trace : Trace) (status : Status) (new : Whole) : Type 0 where
   pub sep : trace.sep ≡ Blanks
   pub taken : Taken
   pub gave : old.source.left ≡ prepend_known (taken.read ++ taken.unread) new.source.left
   pub limit : length (taken.read ++ taken.unread) ≤ script_limit
+  pub behind : length taken.unread < piece_size
   pub cut : CutsInto taken.read taken.lines taken.rest
   pub short : AllByRecursion (λ line. length line ≤ line_limit) (lines_of trace.lines)
   pub up_to : ServesUpTo taken (lines_of trace.lines) (answers_of trace.lines) old status new

@@ -12,7 +12,7 @@ use Rattle.geli_core.specs.declared.status.Status.TheVariants.{Done, SomeRefused
 use Rattle.std.specs.Io.KnownBytes.{IsAtEnd, prepend_known}
 use Rattle.block_traits.specs.Causes.{Rose}
 use Rattle.geli_core.specs.Lines.{CutsInto, last_line}
-use Rattle.geli_core.specs.Script.{Whole, script_limit}
+use Rattle.geli_core.specs.Script.{MetEnd, MetNothing, MetRefusal, Whole, piece_size, script_limit}
 use Rattle.geli_core.specs.declared.feeding.Ending.{Ending}
 use Rattle.geli_core.specs.declared.feeding.Ending.TheVariants.{AtEnd, SourceFailed, Full, Stopped}
 use Rattle.geli_core.specs.Run.{FailsInLast, answers_text, any_refused, closing_answers}
@@ -68,6 +68,7 @@ pub record StopsWithin (bytes : List ℕ) (old : Site) (stop : Stop) (new : Site
   pub read : List ℕ
   pub unread : List ℕ
   pub whole : bytes ≡ read ++ unread
+  pub few : length unread < piece_size
   pub stops : StopsBy read old stop new
 
 -- a piece was looked at
@@ -86,10 +87,10 @@ pub record IsTaken (bytes : List ℕ) (old : Site) (source : SourceState) (rest 
 
 -- the input was looked at up to its end, up to a failure, or up to the limit; or it stopped before
 abbrev pub FeedsUpTo : List ℕ → Site → SourceState → Ending → List ℕ → Bool → Site → SourceState → Type 0
-FeedsUpTo bytes old source AtEnd rest refused new after = IsTaken bytes old source rest refused new after × (length bytes < script_limit) × IsAtEnd after.left
-FeedsUpTo bytes old source SourceFailed rest refused new after = IsTaken bytes old source rest refused new after × (length bytes < script_limit) × Rose source.faults after.faults
-FeedsUpTo bytes old source Full rest refused new after = IsTaken bytes old source rest refused new after × (length bytes ≡ script_limit)
-FeedsUpTo bytes old source (Stopped stop) rest refused new after = StopsWithin bytes old stop new × (length bytes ≤ script_limit) × (source.left ≡ prepend_known bytes after.left)
+FeedsUpTo bytes old source AtEnd rest refused new after = IsTaken bytes old source rest refused new after × (length bytes < script_limit) × IsAtEnd after.left × MetEnd source after
+FeedsUpTo bytes old source SourceFailed rest refused new after = IsTaken bytes old source rest refused new after × (length bytes < script_limit) × Rose source.faults after.faults × MetRefusal source after
+FeedsUpTo bytes old source Full rest refused new after = IsTaken bytes old source rest refused new after × (length bytes ≡ script_limit) × MetNothing source after
+FeedsUpTo bytes old source (Stopped stop) rest refused new after = StopsWithin bytes old stop new × (length bytes ≤ script_limit) × (source.left ≡ prepend_known bytes after.left) × MetNothing source after
 
 pub record FeedsSource (old : Site) (source : SourceState) (ending : Ending) (rest : List ℕ) (refused : Bool) (new : Site) (after : SourceState) : Type 0 where
   pub bytes : List ℕ

@@ -7,7 +7,7 @@ ghost use Rattle.command_words.specs.Reading.{line_limit};
 ghost use Rattle.reply_text.specs.Output.{Prints};
 ghost use Rattle.shelf.specs.Shelved.{world_of};
 ghost use Rattle.geli_core.specs.Run.{answers_text, closing_answers};
-ghost use Rattle.geli_core.specs.Script.{RunsScript, script_limit};
+ghost use Rattle.geli_core.specs.Script.{MetNothing, RunsScript, script_limit};
 ghost use Rattle.geli_core.specs.Served.{ClosesAndPrints, EndsLines, FeedsUpTo, IsServed, Site, StopsWithin, Traced, site_of, status_by, whole_of};
 
 use crate::Status;
@@ -116,7 +116,7 @@ pub(crate) fn end_script<K: Sink, C: Cabinet, E: Entropy, D: Disk>(
 // Ends a script that stopped within its input.
 fn end_stopped<D: Disk>(shelf: &mut Drawers<D>, stop: Stop) -> Status
     ensures { (bytes : List ℕ) (old : Site) (source after : SourceState) (cabinet : CabinetState) (entropy : EntropyState) (sink : SinkState) →
-        StopsWithin bytes old stop (site_of (world_of D.state shelf.old cabinet entropy) sink) → length bytes ≤ script_limit → source.left ≡ prepend_known bytes after.left →
+        StopsWithin bytes old stop (site_of (world_of D.state shelf.old cabinet entropy) sink) → length bytes ≤ script_limit → source.left ≡ prepend_known bytes after.left → MetNothing source after →
         Traced RunsScript (whole_of old source) result (whole_of (site_of (world_of D.state shelf.new cabinet entropy) sink) after) }
 {
     shelf.close();

@@ -3,6 +3,7 @@ ghost use Rattle.std.specs.Prelude.{◌≡◌, ◌≤◌, ◌∷◌, ◌++◌, [
 ghost use Rattle.command_words.specs.Reading.{line_limit};
 ghost use Rattle.shelf.specs.Shelved.{world_of};
 ghost use Rattle.geli_core.specs.Lines.{IsOneLine};
+ghost use Rattle.geli_core.specs.Script.{piece_size};
 ghost use Rattle.geli_core.specs.Served.{FeedsByte, FeedsPiece, FeedsSource, IsServed, Site, site_of};
 
 use crate::serving::{either, serve_and_print};
@@ -91,6 +92,7 @@ pub(crate) fn feed_piece<K: Sink, C: Cabinet, E: Entropy, D: Disk>(
 ) -> Result<(), Stop>
     requires room { line_limit ≤ vec_capacity line.old }
     requires short { vec_len line.old ≤ line_limit }
+    requires small { length piece.now ≤ piece_size }
     ensures room { line_limit ≤ vec_capacity line.new }
     ensures short { vec_len line.new ≤ line_limit }
     ensures feeds { (bytes : List ℕ) (old : Site) →
@@ -140,6 +142,7 @@ fn feed_text(line: &mut Vec<u8>, text: &[u8]) -> usize
 }
 
 /// Takes the input piece by piece, and looks at its bytes.
+#[tactic(auto, using(crate::proofs::Pieces::met_end, crate::proofs::Pieces::met_refusal))]
 pub(crate) fn feed_source<S: Source, K: Sink, C: Cabinet, E: Entropy, D: Disk>(
     input: &mut S,
     shelf: &mut Drawers<D>,

@@ -4,8 +4,8 @@ use Rattle.geli_core.proofs.ending.end_lines.Goals as goal
 
 pub returns-in-Ok : goal.returns-in-Ok
 returns-in-Ok g c = λ bytes old source after h.
-    ended_script bytes old _ _ source after c.in-Ok.refused c.close_and_print.result (c.in-Ok.ensures bytes old h.0.served) h.1 h.2 h.0.gave (c.close_and_print.ensures _ _)
+    ended_script bytes old _ _ source after c.in-Ok.refused c.close_and_print.result (c.in-Ok.ensures bytes old h.0.served) h.1 h.2 h.3 h.0.gave (c.close_and_print.ensures _ _)
 
 pub returns-in-Err : goal.returns-in-Err
 returns-in-Err g c = λ bytes old source after h.
-    ended_unprinted bytes old _ _ source after c.close.result (c.in-Err.ensures bytes old h.0.served) h.1 h.2 h.0.gave (record { drawers = c.close.ensures.closing; cabinet = refl; entropy = refl }) refl
+    ended_unprinted bytes old _ _ source after c.close.result (c.in-Err.ensures bytes old h.0.served) h.1 h.2 h.3 h.0.gave (record { drawers = c.close.ensures.closing; cabinet = refl; entropy = refl }) refl

@@ -16,7 +16,7 @@ returns-in_err-feed_byte-clause-feeds g c =
     λ bytes old h.
     let served = rw same at (IsServed-part bytes piece place taken _ old _ _ _ c.plain_part.ensures.one c.plain_part.ensures.front c.feed_text-taken.ensures.bound (c.places.invariant.feeds bytes old h)) in
     rw (p.1, p.2)
-    (stops_at bytes piece place old _ _ c.places-test.true (c.in_err-feed_byte.ensures.feeds (bytes ++ take place piece) old (rw c.feed_text-taken.ensures.items served)))
+    (stops_at bytes piece place old _ _ c.requires.small c.places-test.true (c.in_err-feed_byte.ensures.feeds (bytes ++ take place piece) old (rw c.feed_text-taken.ensures.items served)))
 
 pub places-preserved-then-taken-eq0 : goal.places-preserved-then-taken-eq0
 places-preserved-then-taken-eq0 g c =

@@ -1,7 +1,7 @@
-use Rattle.std.proofs.Common.{[], ◌++◌, ◌≤◌, ap, arith, length, length-append, length-take, sym, take}
+use Rattle.std.proofs.Common.{[], ◌++◌, ◌≤◌, ap, arith, length, length-append, length-take, refl, sym, take}
 use Rattle.std.proofs.lemmas.List.{take-append-le}
 use Rattle.geli_core.specs.Script.{script_limit}
-use Rattle.geli_core.proofs.Pieces.{IsTaken-piece, gave_piece, prepend_known-nothing}
+use Rattle.geli_core.proofs.Pieces.{IsTaken-piece, gave_piece, met_more, prepend_known-nothing}
 use Rattle.geli_core.proofs.Running.{IsServed-nothing}
 use Rattle.geli_core.proofs.feeding.feed_source.Goals as goal
 
@@ -20,6 +20,7 @@ loop-room-init g c =
         short = omega arith;
       };
       counted = omega arith;
+      met = record { refused = refl; ends = refl };
     }
 
 pub returns-in-Err-fed-clause-feeds : goal.returns-in-Err-fed-clause-feeds
@@ -36,7 +37,7 @@ returns-in-Err-fed-clause-feeds g c =
     let limit : length bytes ≤ script_limit = omega (arith, length-append inv.bytes (take count into), length-take count into, length-take c.min-most.result c.loop-room.piece) in
     record {
       bytes = bytes;
-      up_to = (fed, limit, gave_piece inv.bytes (take count into) _ _ _ inv.taken.gave c.in-Ok.ensures.bytes);
+      up_to = (fed, limit, gave_piece inv.bytes (take count into) _ _ _ inv.taken.gave c.in-Ok.ensures.bytes, met_more inv.met c.in-Ok.ensures.granted (c.in-Ok.ensures.gave (omega (arith, c))));
     }
 
 pub loop-room-preserved : goal.loop-room-preserved
@@ -57,4 +58,5 @@ loop-room-preserved g c =
       bytes = inv.bytes ++ take count into;
       taken = IsTaken-piece inv.bytes (take count into) _ _ _ _ _ _ _ _ _ _ inv.taken c.in-Ok.ensures.bytes c.in-Ok.ensures.cause.later (omega arith) fed;
       counted = omega (arith, length-append inv.bytes (take count into), length-take count into, length-take c.min-most.result c.loop-room.piece);
+      met = met_more inv.met c.in-Ok.ensures.granted (c.in-Ok.ensures.gave (omega (arith, c)));
     }

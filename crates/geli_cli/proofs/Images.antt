@@ -28,11 +28,12 @@ pub if_ok : {A E : Type 0} {P Q : A → Type 0} (result : Result A E) → ((x : 
 if_ok (Ok x) step h = step x h
 if_ok (Err e) step h = tt
 
-abbrev pub cabinet_with : ℕ → ℕ → ℕ → CabinetState
-cabinet_with faults misses loads = record { files = None; faults = faults; misses = misses; loads = loads }
+abbrev pub cabinet_with : ℕ → ℕ → ℕ → ℕ → CabinetState
+cabinet_with faults misses loads stores = record { files = None; faults = faults; misses = misses; loads = loads; stores = stores }
 
-pub cabinet_is_new : (faults misses loads : ℕ) → faults ≡ 0 → misses ≡ 0 → loads ≡ 0 → cabinet_with faults misses loads ≡ new_cabinet
-cabinet_is_new faults misses loads a b d = ap (λ (n : ℕ). cabinet_with n misses loads) a ∙ ap (λ (n : ℕ). cabinet_with 0 n loads) b ∙ ap (λ (n : ℕ). cabinet_with 0 0 n) d
+pub cabinet_is_new : (faults misses loads stores : ℕ) → faults ≡ 0 → misses ≡ 0 → loads ≡ 0 → stores ≡ 0 → cabinet_with faults misses loads stores ≡ new_cabinet
+cabinet_is_new faults misses loads stores a b d e =
+    ap (λ (n : ℕ). cabinet_with n misses loads stores) a ∙ ap (λ (n : ℕ). cabinet_with 0 n loads stores) b ∙ ap (λ (n : ℕ). cabinet_with 0 0 n stores) d ∙ ap (λ (n : ℕ). cabinet_with 0 0 0 n) e
 
 abbrev pub entropy_with : ℕ → ℕ → EntropyState
 entropy_with faults calls = record { left = None; faults = faults; calls = calls }

@@ -47,7 +47,7 @@ AsksPart log_of words old new = AsksFirst log_of (changes_images words) (image_n
 
 -- what the system's files tell of themselves as a cabinet, and its random bytes as entropy, before anything was asked of them
 abbrev pub new_cabinet : CabinetState
-new_cabinet = record { files = None; faults = 0; misses = 0; loads = 0 }
+new_cabinet = record { files = None; faults = 0; misses = 0; loads = 0; stores = 0 }
 
 abbrev pub new_entropy : EntropyState
 new_entropy = record { left = None; faults = 0; calls = 0 }

@@ -23,6 +23,6 @@ returns-clause-runs g c =
       left = runs.0;
       cabinet = _;
       entropy = _;
-      runs = over_new _ _ _ _ _ _ _ _ _ _ (c.as_slice.ensures ∙ c.in_ok-names.ensures.names) (cabinet_is_new _ _ _ cabinet.faults cabinet.misses cabinet.loads)
+      runs = over_new _ _ _ _ _ _ _ _ _ _ (c.as_slice.ensures ∙ c.in_ok-names.ensures.names) (cabinet_is_new _ _ _ _ cabinet.faults cabinet.misses cabinet.loads cabinet.stores)
           (entropy_is_new _ _ c.in_ok-names.ensures.faults c.in_ok-names.ensures.calls) runs.1;
     }) c.run_disks.ensures.runs

@@ -73,8 +73,11 @@ abbrev pub Gives : DiskState → ℕ → List ℕ → Type 0
 Gives d n bytes = GivesFrom d.content n bytes
 
 -- each 512 of the bytes are what stands in a sector, the first in number n, where that is told
+abbrev pub GivesEachFrom : Option Content → ℕ → List ℕ → Type 0
+GivesEachFrom told n bytes = (j : ℕ) → j < length bytes / 512 → GivesFrom told (n + j) (part 512 j bytes)
+
 abbrev pub GivesEach : DiskState → ℕ → List ℕ → Type 0
-GivesEach d n bytes = (j : ℕ) → j < length bytes / 512 → Gives d (n + j) (part 512 j bytes)
+GivesEach d n bytes = GivesEachFrom d.content n bytes
 
 -- writes of these sectors in order, the first to number n
 abbrev pub writes_from : ℕ → List (List ℕ) → List Event

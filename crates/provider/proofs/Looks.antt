@@ -1,5 +1,5 @@
 -- Logical sectors that are opened from what a look gave.
-use Rattle.std.proofs.Common.{◌≡◌, ℕ, zero, suc, ◌+◌, ◌*◌, ◌/◌, ◌%◌, ◌<◌, ◌≤◌, List, [], ◌∷◌, length, take, drop, refl, sym, ap, subst, ◌∙◌, arith, Option, Some, None, Ok, IfSome}
+use Rattle.std.proofs.Common.{◌≡◌, ℕ, zero, suc, ◌+◌, ◌*◌, ◌/◌, ◌%◌, ◌<◌, ◌≤◌, List, ◌∷◌, length, take, drop, refl, sym, ap, subst, ◌∙◌, arith, Option, Some, None, Ok, IfSome}
 use Rattle.std.proofs.Math.Nat.{div-add-mod}
 use Rattle.std.proofs.lemmas.List.{take-take, take_all, drop-drop}
 use Rattle.std.proofs.lemmas.Slice.{drop-put_mid}
@@ -81,13 +81,3 @@ pub whole_length : (len size i : ℕ) → len % size ≡ 0 → i ≡ len / size 
 whole_length len size i whole end =
     let at : i * size ≡ len / size * size = ap (λ (n : ℕ). n * size) end in
     omega (arith, div-add-mod len size, at, whole)
-
-pub run_bytes : (len size units : ℕ) → size ≡ 512 * units → len % size ≡ 0 → len ≡ 512 * (len / size * units)
-run_bytes len size units wide whole =
-    let at : len / size * size ≡ len / size * (512 * units) = ap (λ (s : ℕ). len / size * s) wide in
-    omega (arith, div-add-mod len size, at, whole)
-
--- the device sectors that were looked at are those of the logical sectors from this one on
-pub stand_at : (told : Option Content) (k : Keying) (sector count : ℕ) (bytes : List ℕ) → count ≡ units k → GivesEachFrom told (sector * count) bytes → GivesEachFrom told (sector * units k) bytes
-stand_at told k sector count bytes same each =
-    let P : ℕ → Type 0 = λ n. GivesEachFrom told n bytes in subst P (ap (λ (n : ℕ). sector * n) same) each

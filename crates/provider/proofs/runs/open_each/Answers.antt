@@ -1,4 +1,4 @@
-use Rattle.std.proofs.Common.{◌≡◌, ℕ, ◌+◌, ◌-◌, ◌*◌, ◌/◌, ◌<◌, ◌≤◌, length, ◌∙◌, refl, arith}
+use Rattle.std.proofs.Common.{◌≡◌, ℕ, ◌*◌, ◌/◌, ◌<◌, ◌≤◌, length, ◌∙◌, refl, arith}
 use Rattle.provider.proofs.Looks.{block_reads, reads_all, reads_none, rest_next, whole_length}
 use Rattle.provider.proofs.Ranges.{bytes_inside}
 use Rattle.provider.proofs.Readings.{ReadsFrom-next}

@@ -2,7 +2,7 @@
 use Rattle.std.specs.Prelude.{◌≡◌, ℕ, ◌+◌, ◌<◌, ◌≤◌, ◌-◌, ◌/◌, ◌^◌, List, [], ◌∷◌, length, take, Option, Some, None, Bool, true, false, IsTrue, IsSome}
 use Rattle.block_traits.specs.Causes.{Rose}
 use Rattle.block_traits.specs.Content.{Content, IsContentOf, logged, present}
-use Rattle.block_traits.specs.Parts.{parts}
+use Rattle.block_traits.specs.Parts.{part, parts}
 use Rattle.block_traits.specs.declared.disk.Event.{Event}
 use Rattle.block_traits.specs.declared.disk.Event.TheVariants.{Write, Flush}
 
@@ -71,6 +71,13 @@ GivesFrom (Some c) n bytes = bytes ≡ present c n
 
 abbrev pub Gives : DiskState → ℕ → List ℕ → Type 0
 Gives d n bytes = GivesFrom d.content n bytes
+
+-- each 512 of the bytes are what stands in a sector, the first in number n, where that is told
+abbrev pub GivesEachFrom : Option Content → ℕ → List ℕ → Type 0
+GivesEachFrom told n bytes = (j : ℕ) → j < length bytes / 512 → GivesFrom told (n + j) (part 512 j bytes)
+
+abbrev pub GivesEach : DiskState → ℕ → List ℕ → Type 0
+GivesEach d n bytes = GivesEachFrom d.content n bytes
 
 -- writes of these sectors in order, the first to number n
 abbrev pub writes_from : ℕ → List (List ℕ) → List Event

@@ -1,7 +1,7 @@
 // A disk of 512-byte sectors, by what it had at first and what was done to it since.
-ghost use Rattle.std.specs.Prelude.{◌≡◌, ◌+◌, ◌*◌, ◌/◌, ◌%◌, ◌<◌, ◌≤◌, ◌∷◌, [], OnOk, OnErr, is_some, length, option_copied};
+ghost use Rattle.std.specs.Prelude.{◌≡◌, ◌+◌, ◌*◌, ◌/◌, ◌%◌, ◌<◌, ◌≤◌, ◌∷◌, [], OnOk, OnErr, is_some, length, option_copied, true};
 ghost use Rattle.block_traits.specs.Causes.{Counted};
-ghost use Rattle.block_traits.specs.Disk.{DiskState, FailsIn, Gives, IsHistory, Logs, write_events};
+ghost use Rattle.block_traits.specs.Disk.{DiskState, FailsIn, Gives, GivesEach, IsHistory, Logs, write_events};
 ghost use Rattle.block_traits.specs.Parts.{part};
 
 /// The content of one sector.
@@ -50,6 +50,22 @@ pub trait Disk: Drop {
         ensures err { OnErr result (FailsIn [] (state self.old) (state self.new)) }
         ensures asked { Counted 1 (state self.old).reads (state self.new).reads };
 
+    /// Looks at what stands in whole sectors now, the first of number `first`, where the disk lets that be done. It is no read: it
+    /// isn't counted, and nothing changes. `false` says nothing, and `into` may then hold any bytes.
+    fn peek(&mut self, first: u64, into: &mut [u8]) -> bool
+        requires whole { length into.old % 512 ≡ 0 }
+        requires inside { first + length into.old / 512 ≤ (state self.old).size }
+        ensures stand { result ≡ true → GivesEach (state self.old) first into.new }
+        ensures stays { state self.new ≡ state self.old }
+    {
+        false
+    }
+
+    /// Counts so many reads, which a look has served. None of them is made.
+    fn count_reads(&mut self, many: u64)
+        ensures asked { Counted many (state self.old).reads (state self.new).reads }
+        ensures logs { Logs [] (state self.old) (state self.new) };
+
     /// Writes sector `n`. A failed write was done or wasn't.
     fn write(&mut self, n: u64, from: &Sector) -> Result<(), DiskFailed>
         requires { n < (state self.old).size }
@@ -94,6 +110,14 @@ impl Disk for Box<dyn Disk> {
 
     fn read(&mut self, n: u64, into: &mut Sector) -> Result<(), DiskFailed> {
         (**self).read(n, into)
+    }
+
+    fn peek(&mut self, first: u64, into: &mut [u8]) -> bool {
+        (**self).peek(first, into)
+    }
+
+    fn count_reads(&mut self, many: u64) {
+        (**self).count_reads(many)
     }
 
     fn write(&mut self, n: u64, from: &Sector) -> Result<(), DiskFailed> {

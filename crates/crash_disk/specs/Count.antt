@@ -4,3 +4,7 @@ use Rattle.std.specs.Prelude.{ℕ, ◌+◌, ◌-◌, ◌^◌, min}
 -- one more, but the last value stands still
 abbrev pub one_more : ℕ → ℕ
 one_more count = min (count + 1) (2 ^ 64 - 1)
+
+-- so many more, but the last value stands still
+abbrev pub more : ℕ → ℕ → ℕ
+more many count = min (count + many) (2 ^ 64 - 1)

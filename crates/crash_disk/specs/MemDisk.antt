@@ -8,7 +8,7 @@ use Rattle.crash_disk.specs.declared.plan.CallKind.TheVariants.{Read}
 use Rattle.crash_disk.specs.declared.mem_disk.MemDisk.{MemDisk}
 use Rattle.crash_disk.specs.Count.{one_more}
 use Rattle.crash_disk.specs.Image.{numbers_below}
-use Rattle.crash_disk.specs.Plan.{PlanState, counted, no_plan, planned}
+use Rattle.crash_disk.specs.Plan.{PlanState, counted, more_reads, no_plan, planned}
 use Rattle.crash_disk.specs.SectorLog.{content_of}
 
 -- its content, how many events it has room for, how often it has failed, and which calls fail
@@ -64,6 +64,10 @@ after_read state = record state {
   faults = if read_fails state then one_more state.faults else state.faults;
   plan = counted Read state.plan;
 }
+
+-- after a look has served so many reads
+abbrev pub after_look : ℕ → MemState → MemState
+after_look many state = record state { plan = more_reads many state.plan }
 
 -- after the next write or flush
 abbrev pub after_change : CallKind → Event → MemState → MemState

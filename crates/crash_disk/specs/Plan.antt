@@ -1,6 +1,6 @@
 -- Which calls of a disk fail.
 use Rattle.std.specs.Prelude.{ℕ, ◌==◌, ◌&&◌, Bool, true, false, List, [], ◌∷◌, if◌then◌else◌, Option, Some, None}
-use Rattle.crash_disk.specs.Count.{one_more}
+use Rattle.crash_disk.specs.Count.{more, one_more}
 use Rattle.crash_disk.specs.declared.plan.CallKind.{CallKind}
 use Rattle.crash_disk.specs.declared.plan.CallKind.TheVariants.{Read, Write, Flush}
 use Rattle.crash_disk.specs.declared.plan.FailAt.{FailAt}
@@ -31,6 +31,10 @@ abbrev pub counted : CallKind → PlanState → PlanState
 counted Read plan = record plan { reads = one_more plan.reads }
 counted Write plan = record plan { writes = one_more plan.writes }
 counted Flush plan = record plan { flushes = one_more plan.flushes }
+
+-- so many more reads were made
+abbrev pub more_reads : ℕ → PlanState → PlanState
+more_reads many plan = record plan { reads = more many plan.reads }
 
 abbrev pub same_kind : CallKind → CallKind → Bool
 same_kind Read Read = true

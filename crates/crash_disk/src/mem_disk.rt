@@ -150,7 +150,7 @@ impl MemDisk {
 impl Disk for MemDisk {
     ghost use Rattle.block_traits.specs.Causes.{Counted};
     ghost use Rattle.block_traits.specs.Disk.{FailsIn, Gives, Logs};
-    ghost use Rattle.crash_disk.specs.MemDisk.{after_change, after_read, change_fails, disk_of, read_fails, state_of};
+    ghost use Rattle.crash_disk.specs.MemDisk.{after_change, after_look, after_read, change_fails, disk_of, read_fails, state_of};
 
     ghost state = { disk_of };
 
@@ -172,6 +172,14 @@ impl Disk for MemDisk {
         }
         *into = *self.log.get(n);
         Ok(())
+    }
+
+    fn count_reads(&mut self, many: u64)
+        ensures asked { Counted many (disk_of self.old).reads (disk_of self.new).reads }
+        ensures logs { Logs [] (disk_of self.old) (disk_of self.new) }
+        ensures after { state_of self.new ≡ after_look many (state_of self.old) }
+    {
+        self.plan.count_reads(many);
     }
 
     fn write(&mut self, n: u64, from: &Sector) -> Result<(), DiskFailed>

@@ -46,7 +46,7 @@ impl Model for Plan {
 }
 
 impl Plan {
-    ghost use Rattle.crash_disk.specs.Plan.{PlanState, counted, made, no_plan, planned, with_entries};
+    ghost use Rattle.crash_disk.specs.Plan.{PlanState, counted, made, more_reads, no_plan, planned, with_entries};
 
     /// No call was made, and none fails.
     pub fn new(alloc: Global) -> Plan
@@ -77,6 +77,13 @@ impl Plan {
     {
         self.count(kind);
         entry_at(&self.entries, kind, self.made(kind))
+    }
+
+    /// Counts so many reads, none of which fails.
+    pub fn count_reads(&mut self, many: u64)
+        ensures { self.new ≡ more_reads many self.old }
+    {
+        self.reads = self.reads.saturating_add(many);
     }
 
     fn count(&mut self, kind: CallKind)

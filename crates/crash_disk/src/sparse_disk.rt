@@ -143,7 +143,7 @@ impl SparseDisk {
 impl Disk for SparseDisk {
     ghost use Rattle.block_traits.specs.Causes.{Counted};
     ghost use Rattle.block_traits.specs.Disk.{FailsIn, Gives, Logs};
-    ghost use Rattle.crash_disk.specs.MemDisk.{after_change, after_read, change_fails, read_fails};
+    ghost use Rattle.crash_disk.specs.MemDisk.{after_change, after_look, after_read, change_fails, read_fails};
     ghost use Rattle.crash_disk.specs.SparseDisk.{disk_of, state_of};
 
     ghost state = { disk_of };
@@ -166,6 +166,14 @@ impl Disk for SparseDisk {
         }
         *into = self.log.get(n);
         Ok(())
+    }
+
+    fn count_reads(&mut self, many: u64)
+        ensures asked { Counted many (disk_of self.old).reads (disk_of self.new).reads }
+        ensures logs { Logs [] (disk_of self.old) (disk_of self.new) }
+        ensures after { state_of self.new ≡ after_look many (state_of self.old) }
+    {
+        self.plan.count_reads(many);
     }
 
     fn write(&mut self, n: u64, from: &Sector) -> Result<(), DiskFailed>

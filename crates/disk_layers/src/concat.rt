@@ -97,6 +97,15 @@ impl<A: Disk, B: Disk> Disk for Concat<A, B> {
         self.read_at(n, into)
     }
 
+    /// They are counted in the first.
+    fn count_reads(&mut self, many: u64)
+        ensures asked { Counted many (disk_of self.old).reads (disk_of self.new).reads }
+        ensures logs { Logs [] (disk_of self.old) (disk_of self.new) }
+        ensures second { self.new.second ≡ self.old.second }
+    {
+        self.first.count_reads(many);
+    }
+
     fn write(&mut self, n: u64, from: &Sector) -> Result<(), DiskFailed>
         requires { n < (disk_of self.old).size }
         ensures ok { OnOk result (Logs (Event.Write n from.now ∷ []) (disk_of self.old) (disk_of self.new)) }

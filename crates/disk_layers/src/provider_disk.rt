@@ -69,6 +69,10 @@ impl<D: Disk> Disk for ProviderDisk<D> {
         }
     }
 
+    fn count_reads(&mut self, many: u64) {
+        self.on.count_reads(many);
+    }
+
     fn write(&mut self, n: u64, from: &Sector) -> Result<(), DiskFailed> {
         match self.on.write(n, from) {
             Ok(()) => Ok(()),

@@ -222,6 +222,15 @@ impl<D: Disk> Disk for WriteBehind<D> {
         self.read_at(n, into)
     }
 
+    /// Counted is here alone, and nothing is done below.
+    fn count_reads(&mut self, many: u64)
+        ensures asked { Counted many self.old.reads self.new.reads }
+        ensures logs { Logs [] (disk_of D.state self.old) (disk_of D.state self.new) }
+        ensures stays { behind_of D.state self.new ≡ behind_of D.state self.old }
+    {
+        self.reads = self.reads.saturating_add(many);
+    }
+
     fn write(&mut self, n: u64, from: &Sector) -> Result<(), DiskFailed>
         requires { n < (disk_of D.state self.old).size }
         ensures ok { OnOk result (Logs (Event.Write n from.now ∷ []) (disk_of D.state self.old) (disk_of D.state self.new)) }

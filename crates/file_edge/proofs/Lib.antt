@@ -3,3 +3,4 @@ mod Kept
 mod Logs
 mod Steps
 mod Turns
+mod Same

@@ -7,6 +7,11 @@ abbrev pub read_bytes : {X E : Type 0} → Result X E → List ℕ → Option (L
 read_bytes (Ok done) bytes = Some bytes
 read_bytes (Err error) bytes = None
 
+-- the bytes that a look gave, if it did
+abbrev pub looked : Bool → List ℕ → Option (List ℕ)
+looked true bytes = Some bytes
+looked false bytes = None
+
 -- a file that is to be changed is locked
 abbrev pub IsHeld : {F : Type 0} → (F → Bool → Type 0) → Bool → F → Bool → Type 0
 IsHeld locks false file held = held ≡ true

@@ -1,8 +1,8 @@
 // A file, or a device, as a disk.
 ghost use Rattle.std.specs.Prelude.{◌≡◌, ◌<◌, ◌≤◌, ◌^◌, ◌+◌, ◌*◌, ◌/◌, ◌%◌, ◌∷◌, [], IsErr, IsNone, MatchOption, OnErr, OnOk, false, is_err, is_ok, length, true};
 ghost use Rattle.block_traits.specs.Causes.{Counted, Rose};
-ghost use Rattle.block_traits.specs.Disk.{FailsIn, Gives, Logs, write_events};
-ghost use Rattle.file_edge.specs.ImageFile.{IsHeld, LeavesFile, WritesFile, WritesWithin, read_bytes};
+ghost use Rattle.block_traits.specs.Disk.{FailsIn, Gives, GivesEach, Logs, write_events};
+ghost use Rattle.file_edge.specs.ImageFile.{IsHeld, LeavesFile, WritesFile, WritesWithin, looked, read_bytes};
 ghost use Rattle.file_edge.specs.Opening.{AsksImage};
 
 use crate::found::{FileId, is_free};
@@ -226,11 +226,36 @@ impl<F: ImageFile + Drop> Disk for FileDisk<F> {
     {
         self.reads = self.reads.saturating_add(1);
         if let Some(file) = &mut self.file
-            && file.read_sector(512 * n, into).is_ok()
+            && file.read_bytes(512 * n, into).is_ok()
         {
             return Ok(());
         }
         Err(self.fail())
+    }
+
+    /// Besides what a disk does: a look is one read of the file, of all the bytes.
+    fn peek(&mut self, first: u64, into: &mut [u8]) -> bool
+        requires whole { length into.old % 512 ≡ 0 }
+        requires inside { first + length into.old / 512 ≤ (state_of self.old).size }
+        ensures stand { result ≡ true → GivesEach (state_of self.old) first into.new }
+        ensures stays { state_of self.new ≡ state_of self.old }
+        ensures placed { MatchOption self.old.file (result ≡ false) (λ file. F.reads file (512 * first) (looked result into.new)) }
+        ensures kept { LeavesFile F.written self.old.file self.new.file }
+        ensures unsynced { self.new.unsynced ≡ self.old.unsynced }
+    {
+        match &mut self.file {
+            Some(file) => file.read_bytes(512 * first, into).is_ok(),
+            None => false,
+        }
+    }
+
+    fn count_reads(&mut self, many: u64)
+        ensures asked { Counted many self.old.reads self.new.reads }
+        ensures logs { Logs [] (state_of self.old) (state_of self.new) }
+        ensures file { self.new.file ≡ self.old.file }
+        ensures unsynced { self.new.unsynced ≡ self.old.unsynced }
+    {
+        self.reads = self.reads.saturating_add(many);
     }
 
     /// Besides what a disk does: where the file became shorter, what stands behind its end isn't written.

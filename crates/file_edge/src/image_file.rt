@@ -8,7 +8,6 @@ ghost use Rattle.file_edge.specs.declared.found.Found.{Found};
 
 use crate::found::Found;
 use crate::opener::found_of;
-use block_traits::Sector;
 use std::fs::{File, OpenFile};
 use std::io::{self, Seek, SeekFrom};
 use std::os::unix::fs::FileExt;
@@ -25,7 +24,7 @@ pub trait ImageFile {
     /// Whether its end may be found at this byte offset; none: it isn't found.
     ghost ends: { Self → Option ℕ → Type 0 };
 
-    /// Whether the sector at a byte offset may be read as these bytes; none: it isn't read.
+    /// Whether bytes at a byte offset may be read as these; none: they aren't read.
     ghost reads: { Self → ℕ → Option (List ℕ) → Type 0 };
 
     /// Whether a write of these bytes at a byte offset may be answered so; true: it is done.
@@ -49,8 +48,8 @@ pub trait ImageFile {
     fn end(&self) -> io::Result<u64>
         ensures { ends self.now (result_ok result) };
 
-    /// Reads the sector at a byte offset.
-    fn read_sector(&mut self, at: u64, into: &mut Sector) -> io::Result<()>
+    /// Reads bytes at a byte offset, all or none.
+    fn read_bytes(&mut self, at: u64, into: &mut [u8]) -> io::Result<()>
         ensures reads { reads self.old at (read_bytes result into.new) }
         ensures written { written self.new ≡ written self.old };
 
@@ -98,7 +97,7 @@ impl ImageFile for File {
         file.seek(SeekFrom::End(0))
     }
 
-    fn read_sector(&mut self, at: u64, into: &mut Sector) -> io::Result<()> {
+    fn read_bytes(&mut self, at: u64, into: &mut [u8]) -> io::Result<()> {
         self.read_exact_at(into, at)
     }
 

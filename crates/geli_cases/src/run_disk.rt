@@ -40,6 +40,15 @@ impl Disk for RunDisk {
         }
     }
 
+    fn count_reads(&mut self, many: u64) {
+        match self {
+            RunDisk::Plain(disk) => disk.count_reads(many),
+            RunDisk::Behind(disk) => disk.count_reads(many),
+            RunDisk::Join(disk) => disk.count_reads(many),
+            RunDisk::Provider(disk) => disk.count_reads(many),
+        }
+    }
+
     fn write(&mut self, n: u64, from: &Sector) -> Result<(), DiskFailed> {
         match self {
             RunDisk::Plain(disk) => disk.write(n, from),

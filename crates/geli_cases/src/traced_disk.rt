@@ -69,6 +69,10 @@ impl Disk for TracedDisk {
         self.disk.read(n, into)
     }
 
+    fn count_reads(&mut self, many: u64) {
+        self.disk.count_reads(many);
+    }
+
     fn write(&mut self, n: u64, from: &Sector) -> Result<(), DiskFailed> {
         let answer = self.disk.write(n, from);
         self.note();

@@ -34,6 +34,10 @@ impl Disk for CountingDisk {
         self.disk.read(n, into)
     }
 
+    fn count_reads(&mut self, many: u64) {
+        self.disk.count_reads(many);
+    }
+
     fn write(&mut self, n: u64, from: &Sector) -> Result<(), DiskFailed> {
         self.count();
         self.disk.write(n, from)

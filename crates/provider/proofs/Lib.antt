@@ -10,3 +10,4 @@ pub mod Sealed
 pub mod Told
 pub mod Adjoining
 pub mod InMemory
+pub mod Looks

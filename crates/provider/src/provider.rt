@@ -226,6 +226,15 @@ impl<D: Disk> Provider<D> {
         read_run(&mut self.ring, &mut self.disk, sector, size, into)
     }
 
+    /// Counts so many reads of the disk, which a look has served. None of them is made.
+    pub fn count_reads(&mut self, many: u64)
+        ensures asked { Counted many (D.state self.old.disk).reads (D.state self.new.disk).reads }
+        ensures logs { Logs [] (D.state self.old.disk) (D.state self.new.disk) }
+        ensures kept { IsKept self.old self.new }
+    {
+        self.disk.count_reads(many);
+    }
+
     /// Writes logical sectors from number `sector` on, whose plain bytes are `from`; its length is a positive multiple of
     /// the sector size.
     ///

@@ -1,10 +1,11 @@
 // Logical sectors one after the other, opened and sealed, with authentication and without.
-ghost use Rattle.std.specs.Prelude.{◌≡◌, ℕ, ◌+◌, ◌*◌, ◌/◌, ◌%◌, ◌≤◌, [], OnOk, OnErr, IfSome, length};
+ghost use Rattle.std.specs.Prelude.{◌≡◌, ℕ, ◌+◌, ◌*◌, ◌/◌, ◌%◌, ◌^◌, ◌<◌, ◌≤◌, [], Ok, OnOk, OnErr, IfSome, Option, false, length, true};
 ghost use Rattle.block_traits.specs.Causes.{Counted};
-ghost use Rattle.block_traits.specs.Disk.{DiskState, FailsIn, Logs};
+ghost use Rattle.block_traits.specs.Content.{Content};
+ghost use Rattle.block_traits.specs.Disk.{DiskState, FailsIn, GivesEachFrom, Logs};
 ghost use Rattle.eli_base.specs.declared.algorithms.Auth.TheVariants.{Off};
 ghost use Rattle.sealing.specs.Sectors.{units};
-ghost use Rattle.provider.specs.Reading.{sector_reading};
+ghost use Rattle.provider.specs.Reading.{ReadsAs, ReadsFrom, sector_reading};
 ghost use Rattle.provider.specs.Reads.{FailsAmong, RunAnswers, SectorAnswers};
 ghost use Rattle.provider.specs.Writing.{data_writes, sector_writes};
 
@@ -60,8 +61,53 @@ fn read_sector<D: Disk>(
     }
 }
 
-// Reads logical sectors of `size` bytes, the first of number `sector`.
-pub fn read_run<D: Disk>(
+// Opens logical sectors of `size` bytes in place, the first of number `sector`, where there is no authentication.
+fn open_each(ring: &mut KeyRing, sector: u64, size: usize, into: &mut [u8])
+    requires off { ring.old.keying.auth ≡ Off }
+    requires size { size ≡ ring.old.keying.sectorsize }
+    requires whole { length into.old % size ≡ 0 }
+    requires place { (sector + length into.old / size) * units ring.old.keying < 2 ^ 44 }
+    ensures opened { (told : Option Content) → GivesEachFrom told (sector * units ring.old.keying) into.old →
+        ReadsFrom told ring.old.keying sector (length into.old / size) (Ok into.new) }
+    ensures keying { ring.new.keying ≡ ring.old.keying }
+{
+    ring.is_of_a_keying();
+    for i in 0..into.len() / size {
+        let block = &mut into[i * size..i * size + size];
+        open_plain(ring, (sector + i as u64) * size as u64, block);
+    }
+}
+
+// Looks at logical sectors of `size` bytes all at once, the first of number `sector`, where there is no authentication, and opens
+// them. Where the look says nothing, `into` may hold any bytes, and nothing else has changed.
+fn look_run<D: Disk>(
+    ring: &mut KeyRing,
+    disk: &mut D,
+    sector: u64,
+    size: usize,
+    into: &mut [u8],
+) -> bool
+    requires off { ring.old.keying.auth ≡ Off }
+    requires size { size ≡ ring.old.keying.sectorsize }
+    requires whole { length into.old % size ≡ 0 }
+    requires inside { (sector + length into.old / size) * units ring.old.keying ≤ (D.state disk.old).size }
+    ensures asked { result ≡ true → Counted (length into.old / size * units ring.old.keying) (D.state disk.old).reads (D.state disk.new).reads }
+    ensures logs { result ≡ true → Logs [] (D.state disk.old) (D.state disk.new) }
+    ensures reads { result ≡ true → ReadsAs (D.state disk.old) ring.old.keying sector (length into.old / size) (Ok into.new) }
+    ensures missed { result ≡ false → D.state disk.new ≡ D.state disk.old }
+    ensures keying { ring.new.keying ≡ ring.old.keying }
+{
+    ring.is_of_a_keying();
+    if !disk.peek(sector * (size / 512) as u64, into) {
+        return false;
+    }
+    disk.count_reads((into.len() / 512) as u64);
+    open_each(ring, sector, size, into);
+    true
+}
+
+// Reads logical sectors of `size` bytes, the first of number `sector`, unit by unit.
+fn read_each<D: Disk>(
     ring: &mut KeyRing,
     disk: &mut D,
     sector: u64,
@@ -83,6 +129,30 @@ pub fn read_run<D: Disk>(
         }
     }
     Ok(())
+}
+
+// Reads logical sectors of `size` bytes, the first of number `sector`. Without authentication the disk is looked at for them all,
+// and where that says nothing they are read unit by unit.
+pub fn read_run<D: Disk>(
+    ring: &mut KeyRing,
+    disk: &mut D,
+    sector: u64,
+    size: usize,
+    into: &mut [u8],
+) -> Result<(), ReadFault>
+    requires size { size ≡ ring.old.keying.sectorsize }
+    requires whole { length into.old % size ≡ 0 }
+    requires inside { (sector + length into.old / size) * units ring.old.keying ≤ (D.state disk.old).size }
+    ensures answer { RunAnswers ring.old.keying sector (length into.old / size) (D.state disk.old) (D.state disk.new) into.new result }
+    ensures keying { ring.new.keying ≡ ring.old.keying }
+{
+    if ring.auth() != Auth::Off {
+        return read_each(ring, disk, sector, size, into);
+    }
+    if look_run(ring, disk, sector, size, into) {
+        return Ok(());
+    }
+    read_each(ring, disk, sector, size, into)
 }
 
 // Writes one logical sector without authentication, which is sealed in `buffer`.

@@ -3,7 +3,7 @@ use Rattle.block_traits.specs.Causes.{Counted}
 use Rattle.block_traits.specs.Disk.{Logs}
 use Rattle.sealing.specs.Sectors.{units}
 use Rattle.provider.specs.Reading.{ReadsAs}
-use Rattle.provider.proofs.runs.read_run.Given as goal
+use Rattle.provider.proofs.runs.read_each.Given as goal
 
 abbrev pub invariant-loop-i : goal.invariant-loop-i
 invariant-loop-i g l =

@@ -10,7 +10,7 @@ use Rattle.provider.specs.Reading.{sector_reading}
 use Rattle.provider.proofs.Ranges.{bytes_inside, number_small}
 use Rattle.provider.proofs.FirstFaults.{run_fault}
 use Rattle.provider.proofs.Readings.{ReadsFrom-next}
-use Rattle.provider.proofs.runs.read_run.Goals as goal
+use Rattle.provider.proofs.runs.read_each.Goals as goal
 
 pub loop-i-preserved : goal.loop-i-preserved
 loop-i-preserved g c =

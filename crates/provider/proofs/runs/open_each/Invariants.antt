@@ -1,0 +1,15 @@
+use Rattle.std.proofs.Common.{◌≡◌, ◌*◌, drop, take, Option, Ok}
+use Rattle.block_traits.specs.Content.{Content}
+use Rattle.block_traits.specs.Disk.{GivesEachFrom}
+use Rattle.sealing.specs.Sectors.{units}
+use Rattle.provider.specs.Reading.{ReadsFrom}
+use Rattle.provider.proofs.runs.open_each.Given as goal
+
+abbrev pub invariant-loop-i : goal.invariant-loop-i
+invariant-loop-i l =
+    let k = l.initial.ring.keying in
+    record {
+      keying : l.ring.keying ≡ k;
+      rest : drop (l.i * l.size) l.into ≡ drop (l.i * l.size) l.initial.into;
+      opened : (told : Option Content) → GivesEachFrom told (l.sector * units k) l.initial.into → ReadsFrom told k l.sector l.i (Ok (take (l.i * l.size) l.into));
+    }

@@ -84,6 +84,10 @@ WriteAnswers write old new (Ok done) =
     (length old.waiting < old.room → PutsBehind write old new) × (old.room ≤ length old.waiting → MakesRoom write old new)
 WriteAnswers write old new (Err failed) = (old.room ≤ length old.waiting) × RefusesWrite old new
 
+-- a write of one sector
+abbrev pub WritesSector : ℕ → List ℕ → Behind → Behind → Result (Unit {0}) DiskFailed → Type 0
+WritesSector n bytes old new result = WriteAnswers (record { n = n; bytes = bytes }) old new result
+
 -- ---- flushing, which reads nothing
 
 -- what waited was written below, in order, and then the disk was flushed

@@ -2,7 +2,7 @@
 ghost use Rattle.std.specs.Prelude.{◌≡◌, ◌+◌, ◌-◌, ◌<◌, ◌^◌, ◌∷◌, [], OnOk};
 ghost use Rattle.disk_layers.specs.Concat.{AsksOne, BothLog, FlushesBoth, WritesOne};
 
-use block_traits::{Disk, DiskFailed, Event, Sector};
+use block_traits::{Disk, DiskFailed, Event, Sector, sector_of};
 
 /// Two disks as one: the sectors of the first, and behind them those of the second. As a disk it
 /// tells no content and shows no events.
@@ -75,10 +75,12 @@ impl<A: Disk, B: Disk> Concat<A, B> {
 
 /// It tells its size, and the faults and reads of both disks. Its calls are `read_at`, `write_at` and `flush_all`.
 impl<A: Disk, B: Disk> Disk for Concat<A, B> {
-    ghost use Rattle.std.specs.Prelude.{OnErr};
-    ghost use Rattle.disk_layers.specs.ConcatDisk.{disk_of};
+    ghost use Rattle.std.specs.Prelude.{◌/◌, ◌%◌, ◌≤◌, OnErr, length};
+    ghost use Rattle.disk_layers.specs.Calls.{EachWritten};
+    ghost use Rattle.disk_layers.specs.ConcatDisk.{WritesSector, disk_of};
     ghost use Rattle.block_traits.specs.Causes.{Counted};
-    ghost use Rattle.block_traits.specs.Disk.{FailsIn, Gives, Logs};
+    ghost use Rattle.block_traits.specs.Disk.{FailsIn, Gives, Logs, write_events};
+    ghost use Rattle.block_traits.specs.Parts.{parts};
 
     ghost state = { disk_of };
 
@@ -114,6 +116,21 @@ impl<A: Disk, B: Disk> Disk for Concat<A, B> {
         ensures answer { WritesOne A.state B.state n from.now self.old.first self.new.first self.old.second self.new.second result }
     {
         self.write_at(n, from)
+    }
+
+    /// Each sector is written as by `write`, in ascending order, up to the first that fails.
+    fn write_sectors(&mut self, first: u64, from: &[u8]) -> Result<(), DiskFailed>
+        requires whole { length from.now % 512 ≡ 0 }
+        requires inside { first + length from.now / 512 ≤ (disk_of self.old).size }
+        ensures ok { OnOk result (Logs (write_events first from.now) (disk_of self.old) (disk_of self.new)) }
+        ensures err { OnErr result (FailsIn (write_events first from.now) (disk_of self.old) (disk_of self.new)) }
+        ensures unasked { (disk_of self.new).reads ≡ (disk_of self.old).reads }
+        ensures answer { EachWritten (WritesSector A.state B.state) first (parts 512 (length from.now / 512) from.now) (self.old.first, self.old.second) (self.new.first, self.new.second) result }
+    {
+        for j in 0..from.len() / 512 {
+            self.write(first + j as u64, &sector_of(from, j))?;
+        }
+        Ok(())
     }
 
     fn flush(&mut self) -> Result<(), DiskFailed>

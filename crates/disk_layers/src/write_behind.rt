@@ -6,7 +6,7 @@ ghost use Rattle.block_traits.specs.Disk.{GivesFrom, Logs};
 ghost use Rattle.block_traits.specs.Content.{logged};
 ghost use Rattle.disk_layers.specs.Waiting.{FitBelow, FitBelow-prop, StopsIn, last_waiting, writes_of};
 
-use block_traits::{Disk, DiskFailed, Event, NoMemory, Sector};
+use block_traits::{Disk, DiskFailed, Event, NoMemory, Sector, sector_of};
 use std::alloc::Global;
 use std::collections::VecDeque;
 
@@ -202,8 +202,11 @@ fn last_of(waiting: &VecDeque<Waiting>, n: u64) -> Option<Sector>
 
 /// It tells the size and the faults of the disk below, and its own reads. Its calls are `read_at`, `write_at` and `flush_all`.
 impl<D: Disk> Disk for WriteBehind<D> {
-    ghost use Rattle.disk_layers.specs.WriteBehind.{FlushAnswers, ReadAnswers, WriteAnswers, behind_of, disk_of};
-    ghost use Rattle.block_traits.specs.Disk.{FailsIn, Gives};
+    ghost use Rattle.std.specs.Prelude.{◌/◌, ◌%◌, ◌+◌};
+    ghost use Rattle.disk_layers.specs.Calls.{EachWritten};
+    ghost use Rattle.disk_layers.specs.WriteBehind.{FlushAnswers, ReadAnswers, WriteAnswers, WritesSector, behind_of, disk_of};
+    ghost use Rattle.block_traits.specs.Disk.{FailsIn, Gives, write_events};
+    ghost use Rattle.block_traits.specs.Parts.{parts};
 
     ghost state = { disk_of D.state };
 
@@ -239,6 +242,21 @@ impl<D: Disk> Disk for WriteBehind<D> {
         ensures answer { WriteAnswers (record { n = n; bytes = from.now }) (behind_of D.state self.old) (behind_of D.state self.new) result }
     {
         self.write_at(n, from)
+    }
+
+    /// Each sector is written as by `write`, in ascending order, up to the first that fails.
+    fn write_sectors(&mut self, first: u64, from: &[u8]) -> Result<(), DiskFailed>
+        requires whole { length from.now % 512 ≡ 0 }
+        requires inside { first + length from.now / 512 ≤ (disk_of D.state self.old).size }
+        ensures ok { OnOk result (Logs (write_events first from.now) (disk_of D.state self.old) (disk_of D.state self.new)) }
+        ensures err { OnErr result (FailsIn (write_events first from.now) (disk_of D.state self.old) (disk_of D.state self.new)) }
+        ensures unasked { (disk_of D.state self.new).reads ≡ (disk_of D.state self.old).reads }
+        ensures answer { EachWritten WritesSector first (parts 512 (length from.now / 512) from.now) (behind_of D.state self.old) (behind_of D.state self.new) result }
+    {
+        for j in 0..from.len() / 512 {
+            self.write(first + j as u64, &sector_of(from, j))?;
+        }
+        Ok(())
     }
 
     fn flush(&mut self) -> Result<(), DiskFailed>

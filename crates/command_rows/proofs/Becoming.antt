@@ -15,7 +15,7 @@ use Rattle.key_commands.specs.declared.options.InitOptions.{InitOptions}
 use Rattle.key_components.specs.Files.{file_limit}
 use Rattle.sha2.specs.Sha256.{sha256}
 use Rattle.command_rows.specs.Answer.{Answer}
-use Rattle.command_rows.specs.Becoming.{Becomes, BecomesAt, BecomesBy, BecomesSo, BecomesUnless}
+use Rattle.command_rows.specs.Becoming.{Becomes, BecomesAt, BecomesBy, BecomesSo, BecomesUnless, opens_requests}
 use Rattle.command_rows.specs.DeleteKeys.{DeletesRow, NamesSlots, slot_of}
 use Rattle.command_rows.specs.Digits.{bytes_spelled}
 use Rattle.command_rows.specs.Gate.{ASuspended, AnAttached, AnIdle, AnyOne, Needs, NoIdle, NoSuspended, needs, refused_by}
@@ -156,7 +156,7 @@ becomes_as line command old said new holding is h = subst (λ (x : Holding). Bec
 
 stays_as : (line : List ℕ) (command : Command) (old : Reach) (said : Answer) (new : Reach) (holding : Holding) → old.holding ≡ holding → ((kept : Kept) → holding ≡ IsSuspended kept → Logs [] old.disk new.disk) → BecomesBy holding line command old said new
 stays_as line command old said new Idle is logs = inl is
-stays_as line command old said new (IsAttached a) is logs = inl (record { before = a; was = is; slot = refl; keying = refl; readonly = refl })
+stays_as line command old said new (IsAttached a) is logs = inl (record { before = a; was = is; slot = refl; keying = refl; readonly = refl; queue = λ same. refl })
 stays_as line command old said new (IsSuspended kept) is logs = inl (record { was = is; logs = logs kept refl })
 
 -- a quiet line that leaves it as it is
@@ -282,7 +282,7 @@ suspended_so : (line : List ℕ) (prov : Span) (a : Attachment) (given : Result 
     → NeedsNoRequests a old given middle → GoesOn (λ _. Suspends a) given middle answer new → Becomes line (commands.Suspend prov) old said new
 suspended_so line prov a (Ok done) old middle answer said new was first h = flushed_by line prov a old answer said new was (subst (λ (r : Reach). Suspends a r answer new) first.1 h)
 suspended_so line prov a (Err refusal) old middle answer said new was first h =
-    becomes_as line _ old said new (IsAttached a) (same_reach middle new h.1 ∙ same_reach old middle first.1 ∙ was) (inl (record { before = a; was = was; slot = refl; keying = refl; readonly = refl }))
+    becomes_as line _ old said new (IsAttached a) (same_reach middle new h.1 ∙ same_reach old middle first.1 ∙ was) (inl (record { before = a; was = was; slot = refl; keying = refl; readonly = refl; queue = λ same. refl }))
 
 suspended_by : (line : List ℕ) (prov : Span) (a : Attachment) (old : Reach) (answer : Result (Unit {0}) Refusal) (said : Answer) (new : Reach) → old.holding ≡ IsAttached a → SuspendRow a old answer new
     → Becomes line (commands.Suspend prov) old said new
@@ -290,8 +290,8 @@ suspended_by line prov a old answer said new was h = suspended_so line prov a h.
 
 -- ---- requests in flight
 
-holds_same : (line : List ℕ) (command : Command) (a : Attachment) (old : Reach) (said : Answer) (new : Reach) → old.holding ≡ IsAttached a → HoldsSame a new.holding → Becomes line command old said new
-holds_same line command a old said new was h = becomes_as line command old said new (IsAttached h.now) h.is (inl (record { before = a; was = was; slot = h.slot; keying = h.keying; readonly = h.readonly }))
+holds_same : (line : List ℕ) (command : Command) → opens_requests command ≡ true → (a : Attachment) (old : Reach) (said : Answer) (new : Reach) → old.holding ≡ IsAttached a → HoldsSame a new.holding → Becomes line command old said new
+holds_same line command opens a old said new was h = becomes_as line command old said new (IsAttached h.now) h.is (inl (record { before = a; was = was; slot = h.slot; keying = h.keying; readonly = h.readonly; queue = λ same. absurd (false_is_true (sym opens ∙ same)) }))
 
 -- ---- the lines
 
@@ -327,13 +327,13 @@ row_becomes line (commands.Sum prov start count) old said new gate h =
     (λ a is row. stays_so line (commands.Sum prov start count) old said new gate refl (sum_stays start count a old row.answer new row.row)) h
 row_becomes line (commands.Submit prov job) old said new gate h =
     with_attached old.holding _ (Becomes line (commands.Submit prov job) old said new)
-    (λ a is row. holds_same line (commands.Submit prov job) a old said new is (submit_holds line job a old row.answer new is row.row)) h
+    (λ a is row. holds_same line (commands.Submit prov job) refl a old said new is (submit_holds line job a old row.answer new is row.row)) h
 row_becomes line (commands.Step prov tag) old said new gate h =
     with_attached old.holding _ (Becomes line (commands.Step prov tag) old said new)
-    (λ a is row. holds_same line (commands.Step prov tag) a old said new is (step_holds tag a old row.answer new is row.row)) h
+    (λ a is row. holds_same line (commands.Step prov tag) refl a old said new is (step_holds tag a old row.answer new is row.row)) h
 row_becomes line (commands.Reap prov tag) old said new gate h =
     with_attached old.holding _ (Becomes line (commands.Reap prov tag) old said new)
-    (λ a is row. holds_same line (commands.Reap prov tag) a old said new is (reap_holds tag a old row.answer new is row.row)) h
+    (λ a is row. holds_same line (commands.Reap prov tag) refl a old said new is (reap_holds tag a old row.answer new is row.row)) h
 row_becomes line (commands.Suspend prov) old said new gate h =
     with_attached old.holding _ (Becomes line (commands.Suspend prov) old said new) (λ a is row. suspended_by line prov a old row.answer said new is row.row) h
 row_becomes line (commands.Resume prov words) old said new gate h =

@@ -24,13 +24,18 @@ lets_go command = (traits_of command).lets_go
 
 -- ---- attached
 
--- it was attached before, with the same slot, keying and read-only state
-pub record StaysAttached (a : Attachment) (old : Holding) : Type 0 where
+-- whether a verb changes the requests that are open on its drawer
+abbrev pub opens_requests : Command → Bool
+opens_requests command = (traits_of command).opens_requests
+
+-- it was attached before, with the same slot, keying and read-only state; and but for `submit`, `step` and `reap` the same requests are open
+pub record StaysAttached (command : Command) (a : Attachment) (old : Holding) : Type 0 where
   pub before : Attachment
   pub was : old ≡ IsAttached before
   pub slot : a.slot ≡ before.slot
   pub keying : a.keying ≡ before.keying
   pub readonly : a.readonly ≡ before.readonly
+  pub queue : opens_requests command ≡ false → a.queue ≡ before.queue
 
 -- it was idle, and `attach` was done, with a key that opens
 pub record IsOpened (line : List ℕ) (command : Command) (a : Attachment) (old : Reach) (answer : Answer) : Type 0 where
@@ -76,7 +81,7 @@ pub record IsSuspendedBy (command : Command) (kept : Kept) (old new : Reach) : T
 -- how a drawer came to do this with its disk
 abbrev pub BecomesBy : Holding → List ℕ → Command → Reach → Answer → Reach → Type 0
 BecomesBy Idle line command old answer new = (old.holding ≡ Idle) ⊎ IsTrue (lets_go command)
-BecomesBy (IsAttached a) line command old answer new = StaysAttached a old.holding ⊎ IsOpened line command a old answer ⊎ IsResumed line command a old answer new
+BecomesBy (IsAttached a) line command old answer new = StaysAttached command a old.holding ⊎ IsOpened line command a old answer ⊎ IsResumed line command a old answer new
 BecomesBy (IsSuspended kept) line command old answer new = StaysSuspended kept old new ⊎ IsSuspendedBy command kept old new
 
 abbrev pub Becomes : List ℕ → Command → Reach → Answer → Reach → Type 0

@@ -20,7 +20,7 @@ pub data Needs : Type 0 where
 -- ---- what each verb is, in one table, so that a new verb has to be decided on
 
 -- which drawer a line needs; and whether it may be refused for want of memory, is refused by a provider that is only read or by one without authentication,
--- stores a file once its events are done, leaves its drawer idle, or takes it out of the list
+-- stores a file once its events are done, leaves its drawer idle, changes the requests that are open on it, or takes it out of the list
 pub record Traits : Type 0 where
   pub drawer : Needs
   pub lacks_memory : Bool
@@ -28,12 +28,13 @@ pub record Traits : Type 0 where
   pub needs_tags : Bool
   pub stores_last : Bool
   pub lets_go : Bool
+  pub opens_requests : Bool
   pub takes_out : Bool
 
 -- one that needs such a drawer, and none of the rest
 abbrev pub plain : Needs → Traits
 plain wanted =
-    record { drawer = wanted; lacks_memory = false; writes_data = false; needs_tags = false; stores_last = false; lets_go = false; takes_out = false }
+    record { drawer = wanted; lacks_memory = false; writes_data = false; needs_tags = false; stores_last = false; lets_go = false; opens_requests = false; takes_out = false }
 
 -- whether a request is refused by a provider that is only read
 abbrev pub job_writes : JobWords → Bool
@@ -59,9 +60,9 @@ traits_of (commands.Resize prov oldsize) = plain AnIdle
 traits_of (commands.Fill prov seed start count) = record (plain AnAttached) { writes_data = true }
 traits_of (commands.Sum prov start count) = plain AnAttached
 traits_of (commands.Eject prov) = record (plain AnyOne) { takes_out = true }
-traits_of (commands.Submit prov job) = record (plain AnAttached) { lacks_memory = true; writes_data = job_writes job }
-traits_of (commands.Step prov tag) = plain AnAttached
-traits_of (commands.Reap prov tag) = plain AnAttached
+traits_of (commands.Submit prov job) = record (plain AnAttached) { lacks_memory = true; writes_data = job_writes job; opens_requests = true }
+traits_of (commands.Step prov tag) = record (plain AnAttached) { opens_requests = true }
+traits_of (commands.Reap prov tag) = record (plain AnAttached) { opens_requests = true }
 traits_of (commands.Suspend prov) = plain AnAttached
 traits_of (commands.Resume prov words) = record (plain ASuspended) { lacks_memory = true }
 traits_of (commands.Verify prov file count restart) = record (plain AnAttached) { lacks_memory = true; needs_tags = true }

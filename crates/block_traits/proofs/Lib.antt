@@ -1,5 +1,6 @@
 pub mod Causes
 pub mod Contents
+pub mod EachWritten
 pub mod Images
 pub mod Keeping
 pub mod Logs

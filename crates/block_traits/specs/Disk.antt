@@ -18,7 +18,7 @@ pub record IsWellFormed (size : ℕ) (shows : Bool) (told : Option Content) : Ty
   pub shown : IsTrue shows → IsSome told
 
 -- what a disk tells of itself: its size in sectors, whether it shows its events, its content where it tells that,
--- how often it has failed, and how often it was asked to read
+-- how often it has failed, and how often it was asked to read or a look has served a read
 pub record DiskState : Type 0 where
   pub size : ℕ
   pub shows : Bool
@@ -49,8 +49,8 @@ showing c faults reads bound fits = record {
   well_formed = record { bound = bound; fits = fits; shown = λ h. h };
 }
 
--- these events were logged, and nothing else happened but that the count of faults may have risen; how often the disk was
--- asked to read isn't said here
+-- these events were logged, and nothing else happened but that the count of faults may have risen; what became of the count
+-- of reads isn't said here
 pub record Logs (events : List Event) (old new : DiskState) : Type 0 where
   pub content : new.content ≡ logged events old.content
   pub size : new.size ≡ old.size

@@ -3,6 +3,7 @@ pub mod Causes
 pub mod Content
 pub mod Crash
 pub mod Disk
+pub mod EachWritten
 pub mod Moments
 pub mod Overwriting
 pub mod Parts

@@ -34,7 +34,7 @@ pub fn sector_of(bytes: &[u8], j: usize) -> Sector
 pub trait Disk: Drop {
     /// Its size, which never changes; whether it shows its events, which never changes; its content
     /// where it tells that, which it then always does; a count of faults, which never falls; and a
-    /// count of the reads that it was asked for. What it tells is well formed.
+    /// count of the reads that it was asked for and of those that looks have served. What it tells is well formed.
     ghost state: { Self → DiskState };
 
     /// The size in sectors.
@@ -50,8 +50,8 @@ pub trait Disk: Drop {
         ensures err { OnErr result (FailsIn [] (state self.old) (state self.new)) }
         ensures asked { Counted 1 (state self.old).reads (state self.new).reads };
 
-    /// Looks at what stands in whole sectors now, the first of number `first`, where the disk lets that be done. It is no read: it
-    /// isn't counted, and nothing changes. `false` says nothing, and `into` may then hold any bytes.
+    /// Looks at what stands in whole sectors now, the first of number `first`, where the disk lets that be done. It is no
+    /// read: it isn't counted, and nothing changes. `false` says nothing, and `into` may then hold any bytes.
     fn peek(&mut self, first: u64, into: &mut [u8]) -> bool
         requires whole { length into.old % 512 ≡ 0 }
         requires inside { first + length into.old / 512 ≤ (state self.old).size }

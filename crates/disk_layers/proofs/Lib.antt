@@ -8,4 +8,3 @@ pub mod ConcatLemmas
 pub mod Above
 pub mod Cuts
 pub mod ReadsAbove
-pub mod EachLemmas

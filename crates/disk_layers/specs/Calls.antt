@@ -1,5 +1,5 @@
 -- What a call of a disk does, by its answer.
-use Rattle.std.specs.Prelude.{◌≡◌, ◌⊎◌, ℕ, ◌+◌, List, [], ◌∷◌, Result, Ok, OnOk, OnErr}
+use Rattle.std.specs.Prelude.{◌≡◌, ℕ, List, [], ◌∷◌, Result, OnOk, OnErr}
 use Rattle.block_traits.specs.declared.disk.DiskFailed.{DiskFailed}
 use Rattle.block_traits.specs.declared.disk.Event.{Event}
 use Rattle.block_traits.specs.Causes.{Counted}
@@ -17,13 +17,3 @@ pub record ChangesSector (event : Event) (old new : DiskState) (result : Result 
   pub ok : OnOk result (Logs (event ∷ []) old new)
   pub err : OnErr result (FailsIn (event ∷ []) old new)
   pub unasked : new.reads ≡ old.reads
-
--- ---- sectors one after another
-
--- each of these sectors, the first of number n, is written as this says of one, in ascending order, up to the first that fails
-module _ {S : Type 0} (Writes : ℕ → List ℕ → S → S → Result (Unit {0}) DiskFailed → Type 0) where
-  abbrev pub EachWritten : ℕ → List (List ℕ) → S → S → Result (Unit {0}) DiskFailed → Type 0
-  EachWritten n [] old new result = (result ≡ Ok tt) × (new ≡ old)
-  EachWritten n (bytes ∷ sectors) old new result =
-      ((middle : S) × Writes n bytes old middle (Ok tt) × EachWritten (n + 1) sectors middle new result)
-      ⊎ (OnOk result ⊥ × Writes n bytes old new result)

@@ -76,7 +76,7 @@ impl<A: Disk, B: Disk> Concat<A, B> {
 /// It tells its size, and the faults and reads of both disks. Its calls are `read_at`, `write_at` and `flush_all`.
 impl<A: Disk, B: Disk> Disk for Concat<A, B> {
     ghost use Rattle.std.specs.Prelude.{◌/◌, ◌%◌, ◌≤◌, OnErr, length};
-    ghost use Rattle.disk_layers.specs.Calls.{EachWritten};
+    ghost use Rattle.block_traits.specs.EachWritten.{EachWritten};
     ghost use Rattle.disk_layers.specs.ConcatDisk.{WritesSector, disk_of};
     ghost use Rattle.block_traits.specs.Causes.{Counted};
     ghost use Rattle.block_traits.specs.Disk.{FailsIn, Gives, Logs, write_events};

@@ -203,7 +203,7 @@ fn last_of(waiting: &VecDeque<Waiting>, n: u64) -> Option<Sector>
 /// It tells the size and the faults of the disk below, and its own reads. Its calls are `read_at`, `write_at` and `flush_all`.
 impl<D: Disk> Disk for WriteBehind<D> {
     ghost use Rattle.std.specs.Prelude.{◌/◌, ◌%◌, ◌+◌};
-    ghost use Rattle.disk_layers.specs.Calls.{EachWritten};
+    ghost use Rattle.block_traits.specs.EachWritten.{EachWritten};
     ghost use Rattle.disk_layers.specs.WriteBehind.{FlushAnswers, ReadAnswers, WriteAnswers, WritesSector, behind_of, disk_of};
     ghost use Rattle.block_traits.specs.Disk.{FailsIn, Gives, write_events};
     ghost use Rattle.block_traits.specs.Parts.{parts};

@@ -7,7 +7,7 @@ use Rattle.block_traits.specs.Disk.{Continues, write_events}
 use Rattle.block_traits.proofs.Logs.{Continues-then, FailsIn-part, Continues-start, Continues-end}
 use Rattle.block_traits.proofs.SectorWrites.{writes_left, writes_left-start, writes_left-next, writes_left-end}
 use Rattle.disk_layers.specs.WriteBehind.{WritesSector, behind_of, disk_of}
-use Rattle.disk_layers.proofs.EachLemmas.{Goes-start, Goes-next, Goes-fail, Goes-end}
+use Rattle.block_traits.proofs.EachWritten.{Goes-start, Goes-next, Goes-fail, Goes-end}
 use Rattle.disk_layers.proofs.write_behind.WriteBehindDisk.write_sectors.Goals as goal
 
 pub loop-j-init : goal.loop-j-init

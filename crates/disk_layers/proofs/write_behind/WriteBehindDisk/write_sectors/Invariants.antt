@@ -3,7 +3,7 @@ use Rattle.std.proofs.Common.{◌≡◌}
 use Rattle.block_traits.specs.Disk.{Continues, write_events}
 use Rattle.block_traits.proofs.SectorWrites.{writes_left}
 use Rattle.disk_layers.specs.WriteBehind.{WritesSector, behind_of, disk_of}
-use Rattle.disk_layers.proofs.EachLemmas.{Goes}
+use Rattle.block_traits.proofs.EachWritten.{Goes}
 use Rattle.disk_layers.proofs.write_behind.WriteBehindDisk.write_sectors.Given as goal
 
 abbrev pub invariant-loop-j : goal.invariant-loop-j

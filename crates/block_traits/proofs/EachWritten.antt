@@ -3,7 +3,7 @@ use Rattle.std.proofs.Common.{◌≡◌, ℕ, suc, ◌+◌, ◌-◌, ◌*◌, �
 use Rattle.std.proofs.lemmas.List.{drop-drop}
 use Rattle.block_traits.specs.Parts.{part, parts}
 use Rattle.block_traits.specs.declared.disk.DiskFailed.{DiskFailed}
-use Rattle.disk_layers.specs.Calls.{EachWritten}
+use Rattle.block_traits.specs.EachWritten.{EachWritten}
 
 -- the sectors that are left behind the first j of them
 pub sectors_left : List ℕ → ℕ → List (List ℕ)

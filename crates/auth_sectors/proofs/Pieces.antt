@@ -28,7 +28,7 @@ sealed_parts k offset n plain tag text zeros tagged sealed filled count =
 
 -- ---- opening
 
-same_front : (n : ℕ) (xs ys : List ℕ) → length xs ≡ n → length ys ≡ n → padded xs ≡ padded ys → xs ≡ ys
+pub same_front : (n : ℕ) (xs ys : List ℕ) → length xs ≡ n → length ys ≡ n → padded xs ≡ padded ys → xs ≡ ys
 same_front n xs ys lx ly same =
     sym (take_at xs (replicate (64 - length xs) 0) n lx) ∙ ap (take n) same ∙ take_at ys (replicate (64 - length ys) 0) n ly
 

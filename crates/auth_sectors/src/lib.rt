@@ -8,8 +8,9 @@ ghost use Rattle.std.specs.Prelude.{◌≡◌, ◌≢◌, ◌+◌, ◌*◌, ◌%
 ghost use Rattle.block_traits.specs.Parts.{parts};
 ghost use Rattle.eli_base.specs.Units.{unit_bytes_of};
 ghost use Rattle.sealing.specs.Pieces.{opened_piece, sealed_piece};
+ghost use Rattle.sealing.specs.Sectors.{joined};
 ghost use Rattle.auth_sectors.specs.Tags.{Tells};
-ghost use Rattle.auth_sectors.specs.Wholes.{sealed_pieces};
+ghost use Rattle.auth_sectors.specs.Wholes.{opened_pieces, sealed_pieces};
 
 mod tags;
 mod whole;
@@ -18,8 +19,8 @@ use block_traits::Sector;
 use eli_base::Auth;
 use range_keys::KeyRing;
 use sealing::{open_run, seal_run};
-use tags::{is_same, padded, tag_of, tags_of_four};
-use whole::{encipher_whole, put_tag};
+use tags::{has_tag, is_same, padded, tag_of, tags_of_four};
+use whole::{decipher_whole, encipher_whole, put_tag};
 
 /// That the tag in a device sector isn't that of its cipher text. Of both the first `length` bytes are the tag, and the
 /// rest is zeros.
@@ -118,5 +119,57 @@ pub fn open_piece(
     }
     out.copy_from_slice(text);
     open_run(ring, offset, out);
+    Ok(())
+}
+
+/// Opens four whole pieces from their device sectors, each behind the one before it. The first stands at this byte offset
+/// of the device.
+///
+/// A fault is answered exactly where a tag differs: the byte offset of the first piece whose tag does. `out` is then as it was.
+pub fn open_four(
+    ring: &mut KeyRing,
+    offset: u64,
+    from: &[u8; 2048],
+    out: &mut [u8],
+) -> Result<(), u64>
+    requires on { ring.old.keying.auth ≢ Auth.Off }
+    requires out { length out.old ≡ 4 * unit_bytes_of ring.old.keying.auth }
+    requires place { offset + 1536 < 2 ^ 64 }
+    ensures opened { let answer = joined (opened_pieces ring.old.keying offset (parts 512 4 from.now)) in
+        MatchResult result (λ _. answer ≡ Ok out.new) (λ bad. answer ≡ Err bad) }
+    ensures keying { ring.new.keying ≡ ring.old.keying }
+{
+    let size = ring.auth().tag_bytes();
+    let width = ring.auth().data_bytes();
+    let (first, rest) = from.split_at(512);
+    let (second, rest) = rest.split_at(512);
+    let (third, fourth) = rest.split_at(512);
+    let tags = tags_of_four(
+        ring,
+        offset,
+        &first[size..],
+        &second[size..],
+        &third[size..],
+        &fourth[size..],
+    );
+    if !has_tag(ring, first, &tags[0]) {
+        return Err(offset);
+    }
+    if !has_tag(ring, second, &tags[1]) {
+        return Err(offset + 512);
+    }
+    if !has_tag(ring, third, &tags[2]) {
+        return Err(offset + 1024);
+    }
+    if !has_tag(ring, fourth, &tags[3]) {
+        return Err(offset + 1536);
+    }
+    let (a, rest) = out.split_at_mut(width);
+    let (b, rest) = rest.split_at_mut(width);
+    let (c, d) = rest.split_at_mut(width);
+    decipher_whole(ring, offset, first, a);
+    decipher_whole(ring, offset + 512, second, b);
+    decipher_whole(ring, offset + 1024, third, c);
+    decipher_whole(ring, offset + 1536, fourth, d);
     Ok(())
 }

@@ -1,7 +1,7 @@
 //! Tags, in the first bytes of 64.
 
 ghost use Rattle.std.specs.Prelude.{◌≡◌, ◌≢◌, ◌↔◌, ◌+◌, ◌-◌, ◌^◌, ◌<◌, ◌≤◌, [], ◌∷◌, ◌++◌, IsTrue, get_or, length, replicate};
-ghost use Rattle.sealing.specs.Pieces.{hmac_of, tag_of};
+ghost use Rattle.sealing.specs.Pieces.{hmac_of, kept_tag, tag_of};
 ghost use Rattle.auth_sectors.specs.Tags.{padded};
 
 use eli_base::Auth;
@@ -118,4 +118,13 @@ pub fn is_same(a: &[u8; 64], b: &[u8; 64]) -> bool
         same &= a[i] == b[i];
     }
     same
+}
+
+/// Whether a device sector has this tag, which has zeros behind it.
+pub fn has_tag(ring: &KeyRing, sector: &[u8], tag: &[u8; 64]) -> bool
+    requires { length sector.now ≡ 512 }
+    ensures { IsTrue result ↔ (padded (kept_tag ring.now.keying sector.now) ≡ tag.now) }
+{
+    let size = ring.auth().tag_bytes();
+    is_same(&padded(&sector[..size]), tag)
 }

@@ -6,7 +6,7 @@ ghost use Rattle.geli_core.specs.Images.{IsNotShelved, RunsOver, idle_drawers, o
 ghost use Rattle.shelf.specs.Shelved.{drawers_of};
 
 use crate::Status;
-use crate::top_call::geli_main;
+use crate::top_call::{geli_main, run};
 use block_traits::{Cabinet, Disk, Entropy, Sink, Source};
 use shelf::{AddFault, Drawers, Shelf};
 use std::alloc::Global;
@@ -34,6 +34,31 @@ pub fn run_images<S: Source, K: Sink, C: Cabinet, E: Entropy>(
 {
     let mut shelf = shelved(alloc, names, disks)?;
     let status = geli_main(alloc, words, input, output, files, entropy, &mut shelf);
+    Ok((status, shelf))
+}
+
+/// The same over disks of any one type, without boxes.
+pub fn run_over<S: Source, K: Sink, C: Cabinet, E: Entropy, D: Disk>(
+    alloc: Global,
+    words: &[String],
+    names: &[String],
+    disks: Vec<D>,
+    input: &mut S,
+    output: &mut K,
+    files: &mut C,
+    entropy: &mut E,
+) -> Result<(Status, Drawers<D>), AddFault>
+    requires { length disks.items ≡ length names.now }
+    ensures runs { IfOk result (λ ran. RunsOver (map string_bytes words.now) (map string_bytes names.now) (map D.state disks.items)
+        (outside_of (C.state files.old) (E.state entropy.old) (S.state input.old) (K.state output.old)) ran.0
+        (drawers_of D.state ran.1.drawers)
+        (outside_of (C.state files.new) (E.state entropy.new) (S.state input.new) (K.state output.new))) }
+    ensures unread { OnOk result (script_images (map string_bytes words.now) ≡ None → input.new ≡ input.old) }
+    ensures refused { IfErr result (λ fault. IsNotShelved fault (idle_drawers (map string_bytes names.now) (map D.state disks.items))) }
+    ensures nothing { OnErr result ((input.new ≡ input.old) × (output.new ≡ output.old) × (files.new ≡ files.old) × (entropy.new ≡ entropy.old)) }
+{
+    let mut shelf = shelved(alloc, names, disks)?;
+    let status = run(alloc, words, input, output, files, entropy, &mut shelf);
     Ok((status, shelf))
 }
 

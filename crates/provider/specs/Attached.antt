@@ -5,7 +5,7 @@ use Rattle.eli_base.specs.declared.algorithms.Auth.{Auth}
 use Rattle.eli_base.specs.declared.algorithms.Auth.TheVariants.{Off, Sha256, Sha384, Sha512}
 use Rattle.eli_base.specs.declared.parameters.MasterKey.{MasterKey}
 use Rattle.eli_base.specs.Keying.{Keying}
-use Rattle.eli_base.specs.Units.{media_sectors}
+use Rattle.eli_base.specs.Units.{media_sectors, units_per_sector}
 use Rattle.eli_metadata.specs.declared.metadata.Metadata.{Metadata}
 use Rattle.key_slots.specs.Slots.{IsFirstToOpen, Opens, numbered, unwrapped, unwrapped_any}
 
@@ -33,11 +33,9 @@ has_tags Sha256 = true
 has_tags Sha384 = true
 has_tags Sha512 = true
 
--- the bytes of the buffer that a provider keeps: a logical sector without authentication, where a whole one is sealed in place,
--- and none with it, where four device sectors at most are sealed at a time
+-- the bytes of the buffer that a provider keeps, in which a logical sector is sealed: those of its device sectors
 abbrev pub buffer_bytes : Auth → ℕ → ℕ
-buffer_bytes Off sectorsize = sectorsize
-buffer_bytes _ sectorsize = 0
+buffer_bytes auth sectorsize = 512 * units_per_sector auth sectorsize
 
 -- the master key, and the number of its slot, that the user key u opens: of the named slot, or else of the first that opens
 abbrev pub opened : Metadata → List ℕ → Option ℕ → Option (MasterKey × ℕ)

@@ -1,5 +1,5 @@
 // What is opened and reserved before a provider is attached.
-ghost use Rattle.std.specs.Prelude.{◌≡◌, ℕ, ◌<◌, ◌↔◌, List, IfOk, Some, vec_len};
+ghost use Rattle.std.specs.Prelude.{◌≡◌, ℕ, ◌<◌, ◌≤◌, ◌↔◌, List, IfOk, Some, vec_len};
 ghost use Rattle.std.specs.Option.{ForSome};
 ghost use Rattle.eli_base.specs.Keying.{keying_of};
 ghost use Rattle.key_slots.specs.Slots.{IsKeyBits};
@@ -28,17 +28,15 @@ pub fn opened(meta: &Metadata, key: &UserKey, named: Option<u8>) -> Option<(Mast
     Some((master, slot))
 }
 
-// The bytes of the buffer that a provider keeps.
+// The bytes of the buffer that a provider keeps: those of the device sectors of one logical sector.
 fn buffer_bytes(auth: Auth, sectorsize: u32) -> usize
+    requires { 512 ≤ sectorsize }
     ensures { result ≡ buffer_bytes auth sectorsize }
 {
-    match auth {
-        Auth::Off => sectorsize as usize,
-        Auth::Sha256 | Auth::Sha384 | Auth::Sha512 => 0,
-    }
+    512 * ((sectorsize as usize - 1) / auth.data_bytes() + 1)
 }
 
-/// The memory that a provider keeps: its keys, and without authentication a buffer for one logical sector.
+/// The memory that a provider keeps: its keys, and a buffer for the device sectors of one logical sector.
 pub fn reserve(
     alloc: Global,
     master: &MasterKey,

@@ -9,11 +9,12 @@ ghost use Rattle.provider.specs.Reads.{FailsAmong, RunAnswers, SectorAnswers};
 ghost use Rattle.provider.specs.Writing.{data_writes, sector_writes};
 
 use crate::ReadFault;
-use crate::pieces::{read_pieces, write_pieces};
+use crate::pieces::read_pieces;
+use crate::sectors::seal_sector;
 use crate::units::read_units;
 use block_traits::{Disk, DiskFailed};
 use eli_base::Auth;
-use plain_sectors::{open_plain, seal_plain};
+use plain_sectors::open_plain;
 use range_keys::KeyRing;
 
 // Reads one logical sector without authentication.
@@ -85,31 +86,7 @@ pub fn read_run<D: Disk>(
     Ok(())
 }
 
-// Writes one logical sector without authentication, which is sealed in `buffer`.
-fn write_whole<D: Disk>(
-    ring: &mut KeyRing,
-    disk: &mut D,
-    sector: u64,
-    from: &[u8],
-    buffer: &mut [u8],
-) -> Result<(), DiskFailed>
-    requires off { ring.old.keying.auth ≡ Off }
-    requires size { length from.now ≡ ring.old.keying.sectorsize }
-    requires buffer { length buffer.old ≡ length from.now }
-    requires inside { sector * units ring.old.keying + units ring.old.keying ≤ (D.state disk.old).size }
-    ensures ok { OnOk result (Logs (sector_writes ring.old.keying sector from.now) (D.state disk.old) (D.state disk.new)) }
-    ensures err { OnErr result (FailsIn (sector_writes ring.old.keying sector from.now) (D.state disk.old) (D.state disk.new)) }
-    ensures unasked { (D.state disk.new).reads ≡ (D.state disk.old).reads }
-    ensures keying { ring.new.keying ≡ ring.old.keying }
-{
-    ring.is_of_a_keying();
-    let size = from.len() as u64;
-    buffer.copy_from_slice(from);
-    seal_plain(ring, sector * size, buffer);
-    disk.write_sectors(sector * (size / 512), buffer)
-}
-
-// Writes one logical sector. Without authentication it is sealed in `buffer`, which has its size.
+// Writes one logical sector, which is sealed in `buffer`.
 fn write_sector<D: Disk>(
     ring: &mut KeyRing,
     disk: &mut D,
@@ -118,21 +95,19 @@ fn write_sector<D: Disk>(
     buffer: &mut [u8],
 ) -> Result<(), DiskFailed>
     requires size { length from.now ≡ ring.old.keying.sectorsize }
-    requires buffer { ring.old.keying.auth ≡ Off → length buffer.old ≡ length from.now }
+    requires buffer { length buffer.old ≡ 512 * units ring.old.keying }
     requires inside { sector * units ring.old.keying + units ring.old.keying ≤ (D.state disk.old).size }
     ensures ok { OnOk result (Logs (sector_writes ring.old.keying sector from.now) (D.state disk.old) (D.state disk.new)) }
     ensures err { OnErr result (FailsIn (sector_writes ring.old.keying sector from.now) (D.state disk.old) (D.state disk.new)) }
     ensures unasked { (D.state disk.new).reads ≡ (D.state disk.old).reads }
     ensures keying { ring.new.keying ≡ ring.old.keying }
 {
-    if ring.auth() != Auth::Off {
-        return write_pieces(ring, disk, sector, from);
-    }
-    write_whole(ring, disk, sector, from, buffer)
+    seal_sector(ring, sector, from, buffer);
+    let units = (buffer.len() / 512) as u64;
+    disk.write_sectors(sector * units, buffer)
 }
 
-// Writes logical sectors of `size` bytes in ascending order, the first to number `sector`. Without authentication each is sealed
-// in `buffer`, which then has its size.
+// Writes logical sectors of `size` bytes in ascending order, the first to number `sector`. Each is sealed in `buffer`.
 pub fn write_run<D: Disk>(
     ring: &mut KeyRing,
     disk: &mut D,
@@ -142,7 +117,7 @@ pub fn write_run<D: Disk>(
     buffer: &mut [u8],
 ) -> Result<(), DiskFailed>
     requires size { size ≡ ring.old.keying.sectorsize }
-    requires buffer { ring.old.keying.auth ≡ Off → length buffer.old ≡ size }
+    requires buffer { length buffer.old ≡ 512 * units ring.old.keying }
     requires whole { length from.now % size ≡ 0 }
     requires inside { (sector + length from.now / size) * units ring.old.keying ≤ (D.state disk.old).size }
     ensures ok { OnOk result (Logs (data_writes ring.old.keying sector (length from.now / size) from.now) (D.state disk.old) (D.state disk.new)) }

@@ -13,10 +13,6 @@ pub tweak_start : (t : ℕ) → tweak_at t 0 ≡ t
 unfolding tweak_at
 tweak_start t = refl
 
-pub tweak_step : (t now next j : ℕ) → now ≡ tweak_at t j → next ≡ doubled now → next ≡ tweak_at t (j + 1)
-unfolding tweak_at
-tweak_step t now next j e en = en ∙ ap doubled e ∙ sym (ap (tweak_at t) (add-one j))
-
 -- the tweak i blocks after block j
 pub tweak_at-add : (t j i : ℕ) → tweak_at (tweak_at t j) i ≡ tweak_at t (j + i)
 unfolding tweak_at

@@ -18,7 +18,6 @@ use Rattle.sealing.proofs.Pieces.{sealed_unit-tagged}
 use Rattle.sealing.proofs.Sectors.{length-seal}
 use Rattle.provider.proofs.Cuts.{parts-put-some}
 use Rattle.provider.proofs.InMemory.{counted}
-use Rattle.provider.proofs.UnitLists.{piece_writes, piece_writes-start, piece_writes-at}
 
 -- ---- whole units
 
@@ -120,45 +119,3 @@ group_put k now sector i n group width room bytes out sealed on same four wide f
     ∙ (λ j. so j ++ (is ∙ sym here) j)
     ∙ sym (take-add (4 * i) 4 every)
     ∙ ap (λ (m : ℕ). take m every) (sym more)
-
--- ---- what is written
-
--- the writes from unit 4 i on are those of a group, and those behind it
-group_writes : (k now : Keying) (sector i n group width : ℕ) (bytes : List ℕ) → k.auth ≢ Off → now ≡ k → group ≡ 4 * unit_bytes_of k.auth → width ≡ group
-    → unit_bytes_of k.auth * (4 * i + 4) ≤ k.sectorsize → n ≡ sector * units k + 4 * i
-    → piece_writes k sector bytes (4 * i) ≡ writes_from n (sealed_pieces now (512 * n) 4 (take width (drop (i * group) bytes))) ++ piece_writes k sector bytes (4 * (i + 1))
-group_writes k now sector i n group width bytes on same four wide fits at =
-    let here : List Event = writes_from n (sealed_pieces now (512 * n) 4 (take width (drop (i * group) bytes))) in
-    let after : n + 1 + 1 + 1 + 1 ≡ sector * units k + 4 * (i + 1) = omega (arith, at) in
-    piece_writes-at k sector bytes (4 * i)
-    ∙ (λ j. writes_from (sym at j) (group_sealed k now sector i n group width bytes on same four wide fits at j))
-    ∙ ap (λ (m : ℕ). here ++ writes_from m (drop (4 * (i + 1)) (seal k sector bytes))) after
-    ∙ ap (λ (l : List Event). here ++ l) (sym (piece_writes-at k sector bytes (4 * (i + 1))))
-
--- the writes of so many groups from the i-th on
-pub fours_left : Keying → ℕ → List ℕ → ℕ → ℕ → List Event
-fours_left k sector bytes fours i = take (4 * (fours - i)) (piece_writes k sector bytes (4 * i))
-
-pub fours_left-start : (k : Keying) (sector : ℕ) (bytes : List ℕ) (fours : ℕ) → fours_left k sector bytes fours 0 ≡ take (4 * fours) (writes_from (sector * units k) (seal k sector bytes))
-unfolding fours_left
-fours_left-start k sector bytes fours =
-    let all : 4 * (fours - 0) ≡ 4 * fours = omega arith in
-    let none : 4 * 0 ≡ 0 = omega arith in
-    (λ i. take (all i) (piece_writes k sector bytes (none i))) ∙ ap (take (4 * fours)) (piece_writes-start k sector bytes)
-
-pub fours_left-next : (k now : Keying) (sector fours i n group width : ℕ) (bytes : List ℕ) → k.auth ≢ Off → now ≡ k → length bytes ≡ k.sectorsize → group ≡ 4 * unit_bytes_of k.auth → width ≡ group
-    → i < fours → fours * (4 * unit_bytes_of k.auth) ≤ length bytes → n ≡ sector * units k + 4 * i
-    → fours_left k sector bytes fours i ≡ writes_from n (sealed_pieces now (512 * n) 4 (take width (drop (i * group) bytes))) ++ fours_left k sector bytes fours (i + 1)
-unfolding fours_left
-fours_left-next k now sector fours i n group width bytes on same long four wide more fits at =
-    let here : List Event = writes_from n (sealed_pieces now (512 * n) 4 (take width (drop (i * group) bytes))) in
-    let left : 4 * (fours - i) ≡ 4 + 4 * (fours - (i + 1)) = omega arith in
-    let inside = four_fit (unit_bytes_of k.auth) fours i (length bytes) more fits in
-    ap (λ (m : ℕ). take m (piece_writes k sector bytes (4 * i))) left
-    ∙ ap (take (4 + 4 * (fours - (i + 1)))) (group_writes k now sector i n group width bytes on same four wide (omega (arith, inside, long)) at)
-    ∙ take-append-add here (piece_writes k sector bytes (4 * (i + 1))) (4 * (fours - (i + 1)))
-
-pub fours_left-end : (k : Keying) (sector : ℕ) (bytes : List ℕ) (fours i : ℕ) → fours ≤ i → fours_left k sector bytes fours i ≡ []
-unfolding fours_left
-fours_left-end k sector bytes fours i done =
-    let none : 4 * (fours - i) ≡ 0 = omega arith in ap (λ (m : ℕ). take m (piece_writes k sector bytes (4 * i))) none

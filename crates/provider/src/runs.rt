@@ -7,14 +7,15 @@ ghost use Rattle.eli_base.specs.declared.algorithms.Auth.TheVariants.{Off};
 ghost use Rattle.sealing.specs.Sectors.{units};
 ghost use Rattle.provider.specs.Reading.{ReadsAs, ReadsFrom, sector_reading};
 ghost use Rattle.provider.specs.Reads.{FailsAmong, RunAnswers, SectorAnswers};
-ghost use Rattle.provider.specs.Writing.{data_writes, sector_writes};
+ghost use Rattle.provider.specs.Writing.{data_writes};
 
 use crate::ReadFault;
-use crate::pieces::{read_pieces, write_pieces};
-use crate::units::read_units;
+use crate::pieces::read_pieces;
+use crate::sectors::seal_sectors;
+use crate::units::{read_units, unit_count};
 use block_traits::{Disk, DiskFailed};
 use eli_base::Auth;
-use plain_sectors::{open_plain, seal_plain};
+use plain_sectors::open_plain;
 use range_keys::KeyRing;
 
 // Reads one logical sector without authentication.
@@ -155,54 +156,34 @@ pub fn read_run<D: Disk>(
     read_each(ring, disk, sector, size, into)
 }
 
-// Writes one logical sector without authentication, which is sealed in `buffer`.
-fn write_whole<D: Disk>(
+// Writes logical sectors of `size` bytes by one write of the disk, the first to number `sector`. They are sealed in `buffer`, which
+// has room for them all.
+fn write_batch<D: Disk>(
     ring: &mut KeyRing,
     disk: &mut D,
     sector: u64,
+    size: usize,
     from: &[u8],
     buffer: &mut [u8],
 ) -> Result<(), DiskFailed>
-    requires off { ring.old.keying.auth ≡ Off }
-    requires size { length from.now ≡ ring.old.keying.sectorsize }
-    requires buffer { length buffer.old ≡ length from.now }
-    requires inside { sector * units ring.old.keying + units ring.old.keying ≤ (D.state disk.old).size }
-    ensures ok { OnOk result (Logs (sector_writes ring.old.keying sector from.now) (D.state disk.old) (D.state disk.new)) }
-    ensures err { OnErr result (FailsIn (sector_writes ring.old.keying sector from.now) (D.state disk.old) (D.state disk.new)) }
+    requires size { size ≡ ring.old.keying.sectorsize }
+    requires whole { length from.now % size ≡ 0 }
+    requires buffer { length from.now / size * (512 * units ring.old.keying) ≤ length buffer.old }
+    requires inside { (sector + length from.now / size) * units ring.old.keying ≤ (D.state disk.old).size }
+    ensures ok { OnOk result (Logs (data_writes ring.old.keying sector (length from.now / size) from.now) (D.state disk.old) (D.state disk.new)) }
+    ensures err { OnErr result (FailsIn (data_writes ring.old.keying sector (length from.now / size) from.now) (D.state disk.old) (D.state disk.new)) }
     ensures unasked { (D.state disk.new).reads ≡ (D.state disk.old).reads }
     ensures keying { ring.new.keying ≡ ring.old.keying }
 {
     ring.is_of_a_keying();
-    let size = from.len() as u64;
-    buffer.copy_from_slice(from);
-    seal_plain(ring, sector * size, buffer);
-    disk.write_sectors(sector * (size / 512), buffer)
+    let units = unit_count(ring.auth(), size);
+    let sealed = &mut buffer[..from.len() / size * (512 * units)];
+    seal_sectors(ring, sector, size, from, sealed);
+    disk.write_sectors(sector * units as u64, sealed)
 }
 
-// Writes one logical sector. Without authentication it is sealed in `buffer`, which has its size.
-fn write_sector<D: Disk>(
-    ring: &mut KeyRing,
-    disk: &mut D,
-    sector: u64,
-    from: &[u8],
-    buffer: &mut [u8],
-) -> Result<(), DiskFailed>
-    requires size { length from.now ≡ ring.old.keying.sectorsize }
-    requires buffer { ring.old.keying.auth ≡ Off → length buffer.old ≡ length from.now }
-    requires inside { sector * units ring.old.keying + units ring.old.keying ≤ (D.state disk.old).size }
-    ensures ok { OnOk result (Logs (sector_writes ring.old.keying sector from.now) (D.state disk.old) (D.state disk.new)) }
-    ensures err { OnErr result (FailsIn (sector_writes ring.old.keying sector from.now) (D.state disk.old) (D.state disk.new)) }
-    ensures unasked { (D.state disk.new).reads ≡ (D.state disk.old).reads }
-    ensures keying { ring.new.keying ≡ ring.old.keying }
-{
-    if ring.auth() != Auth::Off {
-        return write_pieces(ring, disk, sector, from);
-    }
-    write_whole(ring, disk, sector, from, buffer)
-}
-
-// Writes logical sectors of `size` bytes in ascending order, the first to number `sector`. Without authentication each is sealed
-// in `buffer`, which then has its size.
+// Writes logical sectors of `size` bytes in ascending order, the first to number `sector`. As many as `buffer` has room for are
+// sealed there and go by one write of the disk; it has room for one at least.
 pub fn write_run<D: Disk>(
     ring: &mut KeyRing,
     disk: &mut D,
@@ -212,7 +193,7 @@ pub fn write_run<D: Disk>(
     buffer: &mut [u8],
 ) -> Result<(), DiskFailed>
     requires size { size ≡ ring.old.keying.sectorsize }
-    requires buffer { ring.old.keying.auth ≡ Off → length buffer.old ≡ size }
+    requires buffer { 512 * units ring.old.keying ≤ length buffer.old }
     requires whole { length from.now % size ≡ 0 }
     requires inside { (sector + length from.now / size) * units ring.old.keying ≤ (D.state disk.old).size }
     ensures ok { OnOk result (Logs (data_writes ring.old.keying sector (length from.now / size) from.now) (D.state disk.old) (D.state disk.new)) }
@@ -221,9 +202,14 @@ pub fn write_run<D: Disk>(
     ensures keying { ring.new.keying ≡ ring.old.keying }
 {
     ring.is_of_a_keying();
-    for i in 0..from.len() / size {
-        let plain = &from[i * size..i * size + size];
-        write_sector(ring, disk, sector + i as u64, plain, buffer)?;
+    let most = buffer.len() / (512 * unit_count(ring.auth(), size));
+    let count = from.len() / size;
+    let mut done = 0;
+    'batches: while done < count {
+        let many = most.min(count - done);
+        let plain = &from[done * size..(done + many) * size];
+        write_batch(ring, disk, sector + done as u64, size, plain, buffer)?;
+        done += many;
     }
     Ok(())
 }

@@ -1,12 +1,15 @@
 // Logical sectors that are sealed and opened in memory, with authentication and without.
-ghost use Rattle.std.specs.Prelude.{◌≡◌, ◌≢◌, ℕ, ◌+◌, ◌*◌, ◌^◌, ◌<◌, ◌≤◌, Ok, Err, MatchResult, length, take};
+ghost use Rattle.std.specs.Prelude.{◌≡◌, ◌≢◌, ℕ, ◌+◌, ◌*◌, ◌/◌, ◌%◌, ◌^◌, ◌<◌, ◌≤◌, Ok, Err, MatchResult, length, take};
+ghost use Rattle.block_traits.specs.Disk.{write_events};
 ghost use Rattle.block_traits.specs.Parts.{parts};
 ghost use Rattle.eli_base.specs.declared.algorithms.Auth.TheVariants.{Off};
 ghost use Rattle.eli_base.specs.Units.{unit_bytes_of};
 ghost use Rattle.sealing.specs.Sectors.{device_sectors, reading, seal, units};
+ghost use Rattle.provider.specs.Writing.{data_writes};
 
 use crate::BadUnit;
 use crate::pieces::unit_end;
+use crate::units::unit_count;
 use auth_sectors::{open_piece, seal_four, seal_piece};
 use block_traits::{Sector, sector_of};
 use eli_base::Auth;
@@ -107,6 +110,25 @@ pub fn seal_sector(ring: &mut KeyRing, sector: u64, plain: &[u8], out: &mut [u8]
         return seal_pieces(ring, sector, plain, out);
     }
     seal_whole(ring, sector, plain, out)
+}
+
+/// Seals logical sectors of `size` bytes one after the other, the first of number `sector`, each into as many device sectors as it
+/// takes.
+pub fn seal_sectors(ring: &mut KeyRing, sector: u64, size: usize, plain: &[u8], out: &mut [u8])
+    requires size { size ≡ ring.old.keying.sectorsize }
+    requires whole { length plain.now % size ≡ 0 }
+    requires out { length out.old ≡ length plain.now / size * (512 * units ring.old.keying) }
+    requires place { (sector + length plain.now / size) * units ring.old.keying < 2 ^ 44 }
+    ensures sealed { write_events (sector * units ring.old.keying) out.new ≡ data_writes ring.old.keying sector (length plain.now / size) plain.now }
+    ensures keying { ring.new.keying ≡ ring.old.keying }
+{
+    ring.is_of_a_keying();
+    let width = 512 * unit_count(ring.auth(), size);
+    for i in 0..plain.len() / size {
+        let block = &plain[i * size..i * size + size];
+        let sealed = &mut out[i * width..i * width + width];
+        seal_sector(ring, sector + i as u64, block, sealed);
+    }
 }
 
 // Opens one logical sector with authentication.

@@ -1,7 +1,7 @@
 -- What is logged logical sector by logical sector.
-use Rattle.std.proofs.Common.{◌≡◌, ℕ, zero, suc, ◌+◌, ◌-◌, ◌*◌, ◌/◌, ◌<◌, ◌≤◌, List, [], ◌∷◌, ◌++◌, length, take, drop, refl, sym, ap, ◌∙◌, arith, add-one, append-nil, append_assoc}
-use Rattle.std.proofs.Math.Nat.{div-mul-le_self, mul-div_cancel, mul-le-mul_right}
-use Rattle.std.proofs.lemmas.List.{drop-drop, length-drop, length-take-le, take-append-drop}
+use Rattle.std.proofs.Common.{◌≡◌, ℕ, zero, suc, ◌+◌, ◌-◌, ◌*◌, ◌/◌, ◌<◌, ◌≤◌, List, [], ◌∷◌, ◌++◌, length, take, drop, sym, ap, ◌∙◌, arith, add-one, append-nil, append_assoc}
+use Rattle.std.proofs.Math.Nat.{mul-div_cancel}
+use Rattle.std.proofs.lemmas.List.{drop-drop, take-append-drop}
 use borrow.Rule.Slice.PartMut.{put_mid}
 use Rattle.block_traits.specs.declared.disk.Event.{Event}
 use Rattle.block_traits.specs.declared.disk.Event.TheVariants.{Write}
@@ -12,6 +12,7 @@ use Rattle.eli_base.specs.Keying.{Keying}
 use Rattle.sealing.specs.Sectors.{device_sectors, seal, units}
 use Rattle.provider.specs.Writing.{sector_writes, data_writes}
 use Rattle.provider.proofs.Adjoining.{data_writes-more}
+use Rattle.provider.proofs.Batches.{batch_count, batch_length}
 use Rattle.provider.proofs.Cuts.{parts-put-some}
 
 -- ---- sectors that are sealed one after the other
@@ -81,23 +82,6 @@ run_writes-start k sector count size bytes =
     let left : count - 0 ≡ count = omega arith in
     let none : 0 * size ≡ 0 = omega arith in
     λ i. data_writes k (at i) (left i) (drop (none i) bytes)
-
--- how many they are
-batch_length : (size many wide i : ℕ) (bytes : List ℕ) → wide ≡ many * size → (i + many) * size ≤ length bytes → length (take wide (drop (i * size) bytes)) ≡ many * size
-batch_length size many wide i bytes broad room =
-    length-take-le wide (drop (i * size) bytes) (omega (arith, length-drop (i * size) bytes, room, broad)) ∙ broad
-
-batch_count : (size many wide i : ℕ) (bytes : List ℕ) → 0 < size → wide ≡ many * size → (i + many) * size ≤ length bytes → length (take wide (drop (i * size) bytes)) / size ≡ many
-batch_count size many wide i bytes some broad room = ap (λ (n : ℕ). n / size) (batch_length size many wide i bytes broad room) ∙ mul-div_cancel many some
-
--- those that are written at once have room in the buffer
-pub batch_fits : (k now : Keying) (size many most wide i width buffer : ℕ) (bytes : List ℕ) → now ≡ k → 0 < size → wide ≡ many * size → (i + many) * size ≤ length bytes
-    → width ≡ 512 * units k → most ≡ buffer / width → many ≤ most → length (take wide (drop (i * size) bytes)) / size * (512 * units now) ≤ buffer
-batch_fits k now size many most wide i width buffer bytes kept some broad room wid is few =
-    let whole : most * width ≤ buffer = rw is (div-mul-le_self buffer width) in
-    let fits : many * width ≤ most * width = mul-le-mul_right width few in
-    let same : length (take wide (drop (i * size) bytes)) / size * (512 * units now) ≡ many * width = λ j. batch_count size many wide i bytes some broad room j * ((ap (λ (h : Keying). 512 * units h) kept ∙ sym wid) j) in
-    omega (arith, same, whole, fits)
 
 -- the writes of some of them, and those behind
 pub run_writes-some : (k now : Keying) (sector count size many wide : ℕ) (bytes : List ℕ) (i : ℕ) → now ≡ k → size ≡ k.sectorsize → 0 < size → wide ≡ many * size → i + many ≤ count

@@ -1,13 +1,11 @@
 -- Whole units of a logical sector, four at a time.
 use Rattle.std.proofs.Common.{◌≡◌, ◌≢◌, ℕ, zero, suc, ◌+◌, ◌-◌, ◌*◌, ◌/◌, ◌<◌, ◌≤◌, min, List, [], ◌∷◌, ◌++◌, length, get_or, take, take-add, drop, Result, Ok, Err, refl, sym, ap, ◌∙◌, arith, add-one}
 use Rattle.std.proofs.Math.Nat.{mul-le-mul_right}
-use Rattle.std.proofs.Math.Seq.{take-append-add, drop-cons}
+use Rattle.std.proofs.Math.Seq.{drop-cons}
 use Rattle.std.proofs.lemmas.List.{take-append-drop, take-take, drop-take, drop-drop}
 use Rattle.std.proofs.lemmas.Slice.{take-put_mid}
 use borrow.Rule.Slice.PartMut.{put_mid}
 use Rattle.auth_sectors.specs.Wholes.{opened_pieces, sealed_pieces}
-use Rattle.block_traits.specs.Disk.{writes_from}
-use Rattle.block_traits.specs.declared.disk.Event.{Event}
 use Rattle.block_traits.specs.Parts.{parts}
 use Rattle.block_traits.proofs.PartLists.{get_or-parts, length-parts}
 use Rattle.eli_base.specs.declared.algorithms.Auth.{Auth}

@@ -1,14 +1,12 @@
 -- One logical sector without authentication, at its place on the disk.
-use Rattle.std.proofs.Common.{◌≡◌, ℕ, ◌*◌, ◌/◌, ◌%◌, ◌<◌, List, length, sym, ap, ◌∙◌, arith, Option, Some, None, Ok, IfSome}
+use Rattle.std.proofs.Common.{◌≡◌, ℕ, ◌*◌, ◌/◌, ◌%◌, ◌<◌, List, sym, ap, ◌∙◌, Option, Some, None, Ok, IfSome}
 use Rattle.std.proofs.Math.Nat.{mul-div_cancel}
 use Rattle.block_traits.specs.Content.{Content}
 use Rattle.block_traits.specs.Parts.{parts}
-use Rattle.block_traits.specs.Disk.{writes_from}
 use Rattle.eli_base.specs.declared.algorithms.Auth.TheVariants.{Off}
 use Rattle.eli_base.specs.Keying.{Keying}
-use Rattle.sealing.specs.Sectors.{device_sectors, reading, seal, units}
+use Rattle.sealing.specs.Sectors.{device_sectors, reading, units}
 use Rattle.provider.specs.Reading.{standing, StandFrom, sector_reading}
-use Rattle.provider.specs.Writing.{sector_writes}
 use Rattle.provider.proofs.Ranges.{units-off}
 
 -- a sector at a multiple of its size is the one of that number

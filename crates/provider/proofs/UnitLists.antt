@@ -2,28 +2,24 @@
 use Rattle.std.proofs.Common.{◌≡◌, ◌≢◌, ℕ, zero, suc, ◌+◌, ◌-◌, ◌*◌, ◌%◌, ◌<◌, ◌≤◌, min, true, false, List, [], ◌∷◌, ◌++◌, length, get_or, take, drop, Option, Some, None, IfSome, Result, Ok, Err, IsOk, is_ok, OnErr, map, subst, refl, sym, ap, ◌∙◌, arith, add-one}
 use Rattle.std.specs.List.{concat}
 use Rattle.std.proofs.Math.Seq.{take-suc, drop-cons}
-use Rattle.std.proofs.lemmas.List.{take_all, take_min, drop_all, length-take-le, length-drop, take-append-drop}
+use Rattle.std.proofs.lemmas.List.{take_all, length-take-le, length-drop, take-append-drop}
 use Rattle.std.proofs.lemmas.Slice.{take-put_mid}
 use borrow.Rule.Slice.PartMut.{put_mid}
 use Rattle.block_traits.specs.Causes.{Counted}
 use Rattle.block_traits.specs.Content.{Content, present}
-use Rattle.block_traits.specs.Disk.{DiskState, Logs, writes_from}
+use Rattle.block_traits.specs.Disk.{DiskState, Logs}
 use Rattle.block_traits.proofs.Causes.{Counted-then}
 use Rattle.block_traits.proofs.Logs.{FailsIn-then, Logs-then, logged-none}
-use Rattle.block_traits.specs.declared.disk.Event.{Event}
-use Rattle.block_traits.specs.declared.disk.Event.TheVariants.{Write}
 use Rattle.block_traits.specs.Parts.{parts}
-use Rattle.block_traits.proofs.PartLists.{part}
 use Rattle.eli_base.specs.declared.algorithms.Auth.{Auth}
 use Rattle.eli_base.specs.declared.algorithms.Auth.TheVariants.{Off, Sha256, Sha384, Sha512}
 use Rattle.eli_base.specs.Keying.{Keying}
 use Rattle.eli_base.specs.Units.{unit_bytes_of, units_per_sector}
 use Rattle.eli_base.proofs.Units.{units_reach}
-use Rattle.sealing.specs.Pieces.{opened_piece, sealed_piece}
+use Rattle.sealing.specs.Pieces.{opened_piece}
 use Rattle.sealing.specs.Runs.{opened_run}
-use Rattle.sealing.specs.Sectors.{before, joined, opened_with, piece_reading, piece_size, seal, units}
-use Rattle.sealing.proofs.Pieces.{sealed_unit-tagged, unit_reading-tagged, length-unit_readings-tagged}
-use Rattle.sealing.proofs.Sectors.{length-seal}
+use Rattle.sealing.specs.Sectors.{before, joined, opened_with, piece_reading, piece_size, units}
+use Rattle.sealing.proofs.Pieces.{unit_reading-tagged, length-unit_readings-tagged}
 use Rattle.provider.specs.Reading.{standing, sector_reading, units_read}
 use Rattle.provider.specs.Reads.{AreAccepted, PieceAnswers, SectorAnswers}
 use Rattle.provider.specs.declared.faults.ReadFault.{ReadFault}

@@ -224,7 +224,8 @@ impl<D: Disk> Provider<D> {
                 media,
             });
         }
-        read_run(&mut self.ring, &mut self.disk, sector, size, into)
+        let buffer = &mut self.buffer;
+        read_run(&mut self.ring, &mut self.disk, sector, size, into, buffer)
     }
 
     /// Counts so many reads of the disk, which a look has served. None of them is made.

@@ -1,10 +1,12 @@
 // Logical sectors that are sealed and opened in memory, with authentication and without.
-ghost use Rattle.std.specs.Prelude.{◌≡◌, ◌≢◌, ℕ, ◌+◌, ◌*◌, ◌/◌, ◌%◌, ◌^◌, ◌<◌, ◌≤◌, Ok, Err, MatchResult, length, take};
-ghost use Rattle.block_traits.specs.Disk.{write_events};
+ghost use Rattle.std.specs.Prelude.{◌≡◌, ◌≢◌, ℕ, ◌+◌, ◌*◌, ◌/◌, ◌%◌, ◌^◌, ◌<◌, ◌≤◌, Ok, Err, MatchResult, Option, length, take};
+ghost use Rattle.block_traits.specs.Content.{Content};
+ghost use Rattle.block_traits.specs.Disk.{GivesEachFrom, write_events};
 ghost use Rattle.block_traits.specs.Parts.{parts};
 ghost use Rattle.eli_base.specs.declared.algorithms.Auth.TheVariants.{Off};
 ghost use Rattle.eli_base.specs.Units.{unit_bytes_of};
 ghost use Rattle.sealing.specs.Sectors.{device_sectors, joined, reading, seal, unit_readings, units};
+ghost use Rattle.provider.specs.Reading.{ReadsFrom};
 ghost use Rattle.provider.specs.Writing.{data_writes};
 
 use crate::BadUnit;
@@ -146,8 +148,8 @@ fn open_fours(
     requires place { sector * units ring.old.keying + units ring.old.keying < 2 ^ 44 }
     ensures opened { let readings = unit_readings ring.old.keying sector (device_sectors ring.old.keying device.now) in
         MatchResult result
-            (λ _. joined (take (4 * fours) readings) ≡ Ok (take (fours * (4 * unit_bytes_of ring.old.keying.auth)) out.new))
-            (λ bad. joined readings ≡ Err bad.offset) }
+        (λ _. joined (take (4 * fours) readings) ≡ Ok (take (fours * (4 * unit_bytes_of ring.old.keying.auth)) out.new))
+        (λ bad. joined readings ≡ Err bad.offset) }
     ensures keying { ring.new.keying ≡ ring.old.keying }
 {
     ring.is_of_a_keying();
@@ -159,7 +161,12 @@ fn open_fours(
         let offset = 512 * (first + 4 * i as u64);
         let mut sealed = [0; 2048];
         sealed.copy_from_slice(&device[2048 * i..2048 * i + 2048]);
-        match open_four(ring, offset, &sealed, &mut out[i * group..i * group + group]) {
+        match open_four(
+            ring,
+            offset,
+            &sealed,
+            &mut out[i * group..i * group + group],
+        ) {
             Ok(()) => {}
             Err(offset) => return Err(BadUnit { offset }),
         }
@@ -257,5 +264,36 @@ pub fn open_sector(
         return open_pieces(ring, sector, device, out);
     }
     open_whole(ring, sector, device, out);
+    Ok(())
+}
+
+/// Opens logical sectors of `size` bytes from their device sectors, which stand one after the other, the first sector of number
+/// `sector`. After a refusal `out` may hold any bytes.
+pub fn open_sectors(
+    ring: &mut KeyRing,
+    sector: u64,
+    size: usize,
+    device: &[u8],
+    out: &mut [u8],
+) -> Result<(), BadUnit>
+    requires size { size ≡ ring.old.keying.sectorsize }
+    requires whole { length out.old % size ≡ 0 }
+    requires device { length device.now ≡ length out.old / size * (512 * units ring.old.keying) }
+    requires place { (sector + length out.old / size) * units ring.old.keying < 2 ^ 44 }
+    ensures opened { MatchResult result
+        (λ _. (told : Option Content) → GivesEachFrom told (sector * units ring.old.keying) device.now → ReadsFrom told ring.old.keying sector (length out.old / size) (Ok out.new))
+        (λ bad. (told : Option Content) → GivesEachFrom told (sector * units ring.old.keying) device.now → ReadsFrom told ring.old.keying sector (length out.old / size) (Err bad.offset)) }
+    ensures keying { ring.new.keying ≡ ring.old.keying }
+{
+    ring.is_of_a_keying();
+    let width = 512 * unit_count(ring.auth(), size);
+    for i in 0..out.len() / size {
+        let sealed = &device[i * width..i * width + width];
+        let block = &mut out[i * size..i * size + size];
+        match open_sector(ring, sector + i as u64, sealed, block) {
+            Ok(()) => {}
+            Err(bad) => return Err(bad),
+        }
+    }
     Ok(())
 }

@@ -5,7 +5,8 @@ use Rattle.block_traits.specs.Disk.{Continues}
 use Rattle.block_traits.proofs.Logs.{Continues-then, FailsIn-part, Continues-start, Continues-end}
 use Rattle.sealing.specs.Sectors.{units}
 use Rattle.provider.specs.Writing.{data_writes}
-use Rattle.provider.proofs.Events.{batch_fits, run_writes, run_writes-start, run_writes-some, run_writes-end}
+use Rattle.provider.proofs.Batches.{batch_fits}
+use Rattle.provider.proofs.Events.{run_writes, run_writes-start, run_writes-some, run_writes-end}
 use Rattle.provider.proofs.Ranges.{units-as}
 use Rattle.provider.proofs.runs.write_run.Goals as goal
 

@@ -1,4 +1,4 @@
-use Rattle.std.proofs.Common.{◌≡◌, ◌-◌, ◌/◌, ◌≤◌, length}
+use Rattle.std.proofs.Common.{◌≡◌, ◌-◌, ◌≤◌}
 use Rattle.block_traits.specs.Disk.{Continues}
 use Rattle.provider.specs.Writing.{data_writes}
 use Rattle.provider.proofs.Events.{run_writes}

@@ -1,7 +1,7 @@
-use Rattle.std.proofs.Common.{◌≡◌, ◌+◌, ◌-◌, ◌*◌, ◌/◌, ◌≤◌, length, ap, sym, ◌∙◌, arith, ℕ}
+use Rattle.std.proofs.Common.{◌≡◌, ◌+◌, ◌*◌, ◌/◌, ◌≤◌, length, ap, sym, ◌∙◌, arith, ℕ}
 use Rattle.std.proofs.Math.Nat.{mul-le-mul_right}
 use Rattle.sealing.specs.Sectors.{units}
-use Rattle.provider.proofs.Events.{sealed_end, sealed_more}
+use Rattle.provider.proofs.Events.{sealed_more}
 use Rattle.provider.proofs.Ranges.{units-as}
 use Rattle.provider.proofs.sectors.seal_sectors.Goals as goal
 

@@ -5,7 +5,8 @@ pub mod UnitLists
 pub mod FirstFaults
 pub mod Fours
 pub mod Events
-pub mod Checked
+pub mod Batches
+mod Checked
 pub mod Sealed
 pub mod Told
 pub mod Adjoining

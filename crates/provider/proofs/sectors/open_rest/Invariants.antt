@@ -1,7 +1,7 @@
 use Rattle.std.proofs.Common.{◌≡◌, ◌*◌, length, min, take, Ok}
 use Rattle.eli_base.specs.Units.{unit_bytes_of}
 use Rattle.sealing.specs.Sectors.{device_sectors, joined, unit_readings}
-use Rattle.provider.proofs.sectors.open_pieces.Given as goal
+use Rattle.provider.proofs.sectors.open_rest.Given as goal
 
 abbrev pub invariant-loop-j : goal.invariant-loop-j
 invariant-loop-j l =

@@ -3,7 +3,7 @@ use Rattle.eli_base.specs.Units.{unit_bytes_of}
 use Rattle.sealing.specs.Sectors.{units}
 use Rattle.provider.proofs.InMemory.{counted, opened_all, opened_fault, opened_next, stands}
 use Rattle.provider.proofs.UnitLists.{length-between}
-use Rattle.provider.proofs.sectors.open_pieces.Goals as goal
+use Rattle.provider.proofs.sectors.open_rest.Goals as goal
 
 pub loop-j-preserved : goal.loop-j-preserved
 loop-j-preserved c =

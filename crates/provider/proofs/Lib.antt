@@ -6,7 +6,7 @@ pub mod FirstFaults
 pub mod Fours
 pub mod Events
 pub mod Batches
-mod Checked
+pub mod Checked
 pub mod Sealed
 pub mod Told
 pub mod Adjoining

@@ -13,4 +13,6 @@ mod failures;
 #[cfg(test)]
 mod metadata;
 #[cfg(test)]
+mod order;
+#[cfg(test)]
 mod replies;

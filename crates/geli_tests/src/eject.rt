@@ -16,8 +16,8 @@ fn calls_of(alloc: Global, script: &str, printed: &str) -> Result<u64, Fail> {
     Ok(world.calls())
 }
 
-// The closing flushes an attached disk. One that was ejected before gets no call any more, attached or not, also where a
-// write wasn't flushed.
+// The closing flushes an attached disk. One that was ejected before gets no call any more, attached or not, also where
+// a write wasn't flushed.
 #[test]
 fn an_ejected_disk_gets_no_call(rt: HostRuntime) -> Result<(), Fail> {
     let alloc = rt.alloc();

@@ -69,8 +69,8 @@ pub record FailsToDo {A : Type 0} (a : A → DiskState) (events : List Event) (o
   pub fails : FailsIn events (a old) (a new)
   pub unasked : (a new).reads ≡ (a old).reads
 
--- each disk did those of the events that are its own; or the first failed in its own and the second is as it was; or the first
--- did its own and the second failed in its own
+-- each disk did those of the events that are its own; or the first failed in its own and the second is as it was; or
+-- the first did its own and the second failed in its own
 abbrev pub BothDo : {A B : Type 0} → (A → DiskState) → (B → DiskState) → List Event → A → A → B → B → Result (Unit {0}) DiskFailed → Type 0
 BothDo a b events old new old_second new_second (Ok done) =
     Does a (first_events (a old).size events) old new × Does b (second_events (a old).size events) old_second new_second

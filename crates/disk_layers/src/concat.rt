@@ -100,8 +100,8 @@ fn write_some<D: Disk>(disk: &mut D, first: u64, from: &[u8]) -> Result<(), Disk
     disk.write_sectors(first, from)
 }
 
-/// It tells its size, and the faults and reads of both disks. Its calls are `read_at`, `write_at`, `flush_all`, and a run of
-/// sectors goes by one call of each disk that it reaches.
+/// It tells its size, and the faults and reads of both disks. Its calls are `read_at`, `write_at` and `flush_all`; a run
+/// of sectors goes by one call of each disk that it reaches.
 impl<A: Disk, B: Disk> Disk for Concat<A, B> {
     ghost use Rattle.disk_layers.specs.ConcatDisk.{disk_of};
     ghost use Rattle.block_traits.specs.Causes.{Counted};

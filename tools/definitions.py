@@ -19,8 +19,8 @@ PARTS = "-- ----"
 
 INTRODUCTION = """# The definitions
 
-What contracts say, they say in definitions. Each crate has its own in `specs/`, and each of the pages below prints those
-of one crate: name, comment and file.
+Contracts are stated in definitions, which each crate has in `specs/`.
+Each page below prints those of one crate: name, comment and file.
 `tools/definitions.py` makes the pages; with `--check` it tells where one isn't what `specs/` say.
 To change a page, change the comment over the definition and run the tool.
 

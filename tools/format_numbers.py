@@ -54,7 +54,7 @@ def field_places():
     for field, kind, rest in re.findall(r"^  (\w+) = (\w+) bytes ([\d ]+);", specs("eli_metadata", "Format"), re.M):
         place, *size = map(int, rest.split())
         found[field] = (place, size[0] if size else kinds[kind])
-    slot, = {int(number) for number in re.findall(r"take (\d+) \(drop", specs("key_slots", "Slots")) if number == "192"}
+    slot = int(re.search(r"slot_bytes m s = take (\d+) \(drop", specs("key_slots", "Slots")).group(1))
     mkeys, size = found["mkeys"]
     of = [("md_magic", (0, 16))] + [(name, found[field]) for name, field in FIELDS.items() if field != "mkeys"]
     of += [("md_mkeys", (mkeys + slot * s, slot)) for s in range(size // slot)]
@@ -97,8 +97,8 @@ def numbers_of_algorithms():
     page, algorithms = text_of(PAGE), specs("eli_base", "Algorithms")
     shown = dict(re.findall(r"(\d+) is (AES-\w+)", page)), dict(re.findall(r"(\d+) (?:is )?(HMAC/SHA\d+)", page))
     ciphers, codes = equations(algorithms, "cipher_number"), equations(algorithms, "auth_number")
-    made = {ciphers["AesCbc"]: "AES-CBC", ciphers["AesXts"]: "AES-XTS"}, {codes[kind]: name for name, kind in CODES.items()}
-    return shown, made
+    made = {ciphers["AesCbc"]: "AES-CBC", ciphers["AesXts"]: "AES-XTS"}
+    return shown, (made, {codes[kind]: name for name, kind in CODES.items()})
 
 
 def main():

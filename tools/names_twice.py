@@ -3,10 +3,10 @@
 
     tools/names_twice.py [--check | --write]
 
-A name should stand for one thing. tools/names_twice.txt has the names that stand for several today, each with the files
-of its definitions; the list should only become shorter.
-Without a word the tool prints all names that are defined more than once. With --check it prints those that aren't on the
-list with just these files, and ends with status 1 where there is one. --write makes the list anew.
+A name should stand for one thing. tools/names_twice.txt has the names that stand for several today, each with the
+files of its definitions; the list should only become shorter.
+Without a word the tool prints all names that are defined more than once. With --check it prints those that aren't on
+the list with just these files, and ends with status 1 where there is one. --write makes the list anew.
 """
 import re
 import sys
@@ -45,7 +45,7 @@ def words_explained():
 
 
 def faults(found, known):
-    """What --check prints: names that are new on the list, or stand on it in vain, and words that are explained twice."""
+    """What --check prints: names that are new, or on the list in vain, and words that are explained twice."""
     for name in sorted({*found, *known}):
         new = sorted(set(found.get(name, [])) - set(known.get(name, [])))
         gone = sorted(set(known.get(name, [])) - set(found.get(name, [])))

@@ -43,9 +43,21 @@ def comment_of(line):
     return re.sub(r"^--+ ?", "", line).strip()
 
 
+def outward(lines):
+    """The lines, with those of a `module _` as if they stood outside of it."""
+    depth = 0
+    for line in lines:
+        indent = len(line) - len(line.lstrip())
+        depth = min(depth, indent // 2) if line else depth
+        if line[2 * depth:].startswith("module _"):
+            depth += 1
+        else:
+            yield line[2 * depth:]
+
+
 def read(file):
     """The comment at the head of a file, and its items: a heading of a part, or a name with its comment and type."""
-    lines = file.read_text(encoding="utf-8").split("\n")
+    lines = list(outward(file.read_text(encoding="utf-8").split("\n")))
     end = next((at for at, line in enumerate(lines) if not line.startswith("--")), len(lines))
     head, comment, items = [comment_of(line) for line in lines[:end]], [], []
     for line in lines[end:]:

@@ -12,23 +12,20 @@ import re
 import sys
 from pathlib import Path
 
+from definitions import files_of, read
+
 ROOT = Path(__file__).resolve().parent.parent
 LIST, GLOSSARY = ROOT / "tools/names_twice.txt", ROOT / "docs/GLOSSARY.md"
-HEAD = re.compile(r"(?:abbrev |unfoldable )*pub (?:abbrev |unfoldable |record |data )*([^\s({:]+)")
 NOTE = "# Names that more than one definition of specs/ has: NAME: CRATE/FILE... (tools/names_twice.py)\n"
 
 
 def places():
     """Where each name is defined: crate and file."""
     found = {}
-    for file in sorted(ROOT.glob("crates/*/specs/*.antt")):
-        if file.name == "Lib.antt":
-            continue
-        place = "%s/%s" % (file.parts[-3], file.stem)
-        for line in file.read_text(encoding="utf-8").split("\n"):
-            name = HEAD.match(line)
-            if name:
-                found.setdefault(name.group(1), []).append(place)
+    for crate in sorted(folder.name for folder in (ROOT / "crates").iterdir()):
+        for file in files_of(crate):
+            for name in [name for name, _, _ in read(file)[1] if name]:
+                found.setdefault(name, []).append("%s/%s" % (crate, file.stem))
     return {name: files for name, files in sorted(found.items()) if len(files) > 1}
 
 

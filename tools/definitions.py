@@ -97,7 +97,7 @@ def page(crate):
             "What the crate is for: [its page](../../crates/%s/README.md)." % crate]
     for file in files_of(crate):
         head, items = read(file)
-        text += ["", "## %s" % file.name, ""]
+        text += ["", "## [%s](../../crates/%s/specs/%s)" % (file.name, crate, file.name), ""]
         text += [wrapped(shown(head)), ""] if head else []
         for name, comment, kind in items:
             if not name:

@@ -121,7 +121,7 @@ def sealed(code, tag, top):
 def sectors():
     tags = re.findall(r"^tag_bytes (\w+) = (\d+)$", text_of("crates/eli_base/specs/Units.antt"), re.M)
     parts = [label(EDGE, 32, "A logical sector of 4,096 bytes, and the device sectors that it is sealed to", "title")]
-    parts += legend([("law", "plain bytes of a unit"), ("mark", "tag"), ("code", "cipher text"), ("test", "zeros")], 46)
+    parts += legend([("law", "plain bytes of a unit"), ("mark", "tag"), ("code", "ciphertext"), ("test", "zeros")], 46)
     for number, (code, tag) in enumerate(tags):
         parts += sealed(code, int(tag), 104 + number * 122)
     return picture(int(EDGE * 2 + 5120 * SCALE), 104 + len(tags) * 122 - 12, "Sealed sectors, to scale", parts)

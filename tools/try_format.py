@@ -66,7 +66,7 @@ class Provider:
         self.auth_key = hmac512(data_key, b"\x11")
 
     def run(self, offset, text):
-        """The plain bytes of a run of cipher text."""
+        """The plain bytes of a run of ciphertext."""
         number = offset // 2**20 // (512 if self.code else self.sectorsize)
         key = hmac512(self.range_base, b"ekey" + le64(number))
         if self.is_xts:

@@ -10,6 +10,7 @@ It prints, each with its file and line:
   the tree beside the pages;
 - paths that lead to no file, from the root or from the page's own folder;
 - in a list under a file of specs/ each definition that this file hasn't;
+- a README of more than 7 KB, which nobody reads in three minutes;
 - wrong bodies that must stay (STAY) and have no row in docs/WRONG_BODIES.md or no file, and each wrong body whose old
   text doesn't stand exactly once in the file that it names.
 It ends with status 1 where it found something.
@@ -20,7 +21,7 @@ import sys
 from pathlib import Path
 
 ROOT = Path(__file__).resolve().parent.parent
-COLUMNS, WORDS = 120, 40
+COLUMNS, WORDS, README_BYTES = 120, 40, 7168
 
 PAGE = re.compile(r"README\.md|docs/[^/]*\.md|crates/[^/]*/README\.md")
 NAME = re.compile(r"[A-Za-z_]\w*(?:(?:::|/)[A-Za-z_]\w*)*(?:\(\))?")
@@ -139,6 +140,12 @@ def strayed_definitions(page, lines):
                     yield at, "no `%s` in %s" % (code, ", ".join(file.name for file in specs))
 
 
+def long_readme():
+    size = len((ROOT / "README.md").read_bytes())
+    if size > README_BYTES:
+        yield "README.md: %d bytes, more than %d" % (size, README_BYTES)
+
+
 def missing_bodies():
     """The wrong bodies that must stay, and that have no file or no row."""
     page = ROOT / BODIES
@@ -178,9 +185,9 @@ def main():
             print("%s:%d: %s" % (name, at, what))
         count += len(found)
     if not sys.argv[1:]:
-        bodies = [*missing_bodies(), *bad_edits(names)]
-        print("".join(line + "\n" for line in bodies), end="")
-        count += len(bodies)
+        others = [*long_readme(), *missing_bodies(), *bad_edits(names)]
+        print("".join(line + "\n" for line in others), end="")
+        count += len(others)
     print("%d found in %d pages" % (count, len(asked)))
     return 1 if count else 0
 

@@ -21,6 +21,7 @@ INTRODUCTION = """# The definitions
 
 Contracts are stated in definitions, which each crate has in `specs/`.
 Each page below prints those of one crate: name, comment and file.
+Where neither the comment nor the head of its file names a source, a definition is this project's own.
 `tools/definitions.py` makes the pages; with `--check` it tells where one isn't what `specs/` say.
 To change a page, change the comment over the definition and run the tool.
 
@@ -97,7 +98,7 @@ def page(crate):
             "What the crate is for: [its page](../../crates/%s/README.md)." % crate]
     for file in files_of(crate):
         head, items = read(file)
-        text += ["", "## %s" % file.name, ""]
+        text += ["", "## [%s](../../crates/%s/specs/%s)" % (file.name, crate, file.name), ""]
         text += [wrapped(shown(head)), ""] if head else []
         for name, comment, kind in items:
             if not name:

@@ -1,9 +1,9 @@
 #!/usr/bin/env python3
-"""Compares the tables of docs/FORMAT.md with the definitions from which their numbers are.
+"""Compares the tables of docs/FORMAT.md, and its drawings of units, with the definitions from which they are.
 
     tools/format_numbers.py --check
 
-It reads the tables of the page, and the numbers in specs/: the places of fields and the versions of eli_metadata, its
+It reads the tables of the page, and the numbers in specs/: the places of the fields of eli_metadata, its
 flags, the slots of key_slots, and of eli_base the numbers of algorithms, the bytes of tags and the sizes of sectors.
 It prints what differs, and ends with status 1 where something does.
 """
@@ -81,6 +81,39 @@ def table_of_units():
     return [numbers(" ".join(cells)) for cells in rows("| S | HMAC/SHA256")], made
 
 
+def bar(parts):
+    """A bar of 64 columns for 512 bytes: its edge, and its text."""
+    edge, text = "+", "|"
+    for name, size in parts:
+        room = size // 8 - 1
+        edge, text = edge + "-" * room + "+", text + name.center(room) + "|"
+    return edge, text
+
+
+def drawing(name, tag):
+    """The device sectors of a logical sector of 4,096 bytes under a code, as the page draws them."""
+    room = 512 - tag
+    units = (4096 - 1) // room + 1
+    rest = 4096 - (units - 1) * room
+    edge, whole = bar([("tag", tag), ("%d bytes of ciphertext" % room, room)])
+    last = "%d bytes of ciphertext" % rest if rest > 200 else "%d" % rest
+    under, shorter = bar([("tag", tag), (last, rest), ("zeros", room - rest)])
+    middle = "".join("+" if "+" in pair else "-" for pair in zip(edge, under))
+    ruler = "0".ljust(tag // 8) + str(tag)
+    lines = ["%s: %d units" % (name, units)]
+    for left, text in (("", ruler.ljust(62) + "512"), ("", edge), ("0 to %d" % (units - 2), whole), ("", middle),
+                       ("%d" % (units - 1), shorter), ("", under)):
+        lines.append(left.ljust(9) + text)
+    return "\n".join("    " + line for line in lines) + "\n"
+
+
+def drawings_of_units():
+    tags, page = equations(specs("eli_base", "Units"), "tag_bytes"), text_of(PAGE)
+    made = [drawing(name, int(tags[code])) for name, code in CODES.items()]
+    starts = [page.find("    %s: " % name) for name in CODES]
+    return [page[start:page.find("\n\n", start) + 1] for start in starts], made
+
+
 def table_of_flags():
     """The refused flags together, and the bits of AUTH, RO and AUTORESIZE."""
     checks, new = specs("eli_metadata", "Checks"), specs("key_commands", "NewMetadata")
@@ -103,7 +136,7 @@ def numbers_of_algorithms():
 
 def main():
     status = 0
-    for table in (table_of_fields, table_of_units, table_of_flags, numbers_of_algorithms):
+    for table in (table_of_fields, table_of_units, drawings_of_units, table_of_flags, numbers_of_algorithms):
         shown, made = table()
         if shown != made:
             print("%s, %s:\n  the page:        %s\n  the definitions: %s" % (PAGE, table.__name__, shown, made))

@@ -11,6 +11,7 @@ It prints, each with its file and line:
 - paths that lead to no file, from the root or from the page's own folder;
 - in a list under a file of specs/ each definition that this file hasn't;
 - a README of more than 7 KB, which nobody reads in three minutes;
+- crates that docs/ARCHITECTURE.md or docs/PROOFS.md doesn't name;
 - wrong bodies that must stay (STAY) and have no row in docs/WRONG_BODIES.md or no file, and each wrong body whose old
   text doesn't stand exactly once in the file that it names.
 It ends with status 1 where it found something.
@@ -146,6 +147,14 @@ def long_readme():
         yield "README.md: %d bytes, more than %d" % (size, README_BYTES)
 
 
+def missing_crates():
+    lines = (ROOT / "crates.txt").read_text(encoding="utf-8").split("\n")
+    crates = [line.split(":")[0] for line in lines if ":" in line and not line.startswith("#")]
+    for page in "docs/ARCHITECTURE.md", "docs/PROOFS.md":
+        text = (ROOT / page).read_text(encoding="utf-8")
+        yield from ("%s: nothing of the crate %s" % (page, crate) for crate in crates if "`%s`" % crate not in text)
+
+
 def missing_bodies():
     """The wrong bodies that must stay, and that have no file or no row."""
     page = ROOT / BODIES
@@ -185,7 +194,7 @@ def main():
             print("%s:%d: %s" % (name, at, what))
         count += len(found)
     if not sys.argv[1:]:
-        others = [*long_readme(), *missing_bodies(), *bad_edits(names)]
+        others = [*long_readme(), *missing_crates(), *missing_bodies(), *bad_edits(names)]
         print("".join(line + "\n" for line in others), end="")
         count += len(others)
     print("%d found in %d pages" % (count, len(asked)))

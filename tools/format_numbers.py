@@ -126,6 +126,15 @@ def table_of_flags():
     return shown, [int(place.group(1), 0) for place in places]
 
 
+def example_of_fields():
+    """The lines of the example, and the fields in front of the salt with the values that the example names."""
+    lines = re.findall(r"^    ((?:[0-9a-f]{2})+)  +\S.*$", text_of(PAGE), re.M)
+    sizes = [size for _, (place, size) in field_places() if place < 47]
+    values = (7, 0x210, 22, 256, 18, 1048576, 4096, 1, 1000)
+    made = [number.to_bytes(size, "little").hex() for number, size in zip(values, sizes[1:])]
+    return lines, [b"GEOM::ELI".ljust(16, b"\0").hex()] + made
+
+
 def numbers_of_algorithms():
     page, algorithms = text_of(PAGE), specs("eli_base", "Algorithms")
     shown = dict(re.findall(r"(\d+) is (AES-\w+)", page)), dict(re.findall(r"(\d+) (?:is )?(HMAC/SHA\d+)", page))
@@ -136,7 +145,8 @@ def numbers_of_algorithms():
 
 def main():
     status = 0
-    for table in (table_of_fields, table_of_units, drawings_of_units, table_of_flags, numbers_of_algorithms):
+    for table in (table_of_fields, example_of_fields, table_of_units, drawings_of_units, table_of_flags,
+                  numbers_of_algorithms):
         shown, made = table()
         if shown != made:
             print("%s, %s:\n  the page:        %s\n  the definitions: %s" % (PAGE, table.__name__, shown, made))

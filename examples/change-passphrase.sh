@@ -25,8 +25,11 @@ while getopts pj:k:PJ:K: option; do
         p | j | k) key_option "$option" "${OPTARG:-}" ;;
         P) new_pass=none ;;
         J | K)
-            [ -r "$OPTARG" ] || fail "the file '$OPTARG' can't be read"
-            if [ "$option" = K ]; then new_files+=("$(plain "$OPTARG")"); else new_pass=$(plain "$OPTARG"); fi ;;
+            stays "$OPTARG"
+            if [ "$option" = K ]; then new_files+=("$(plain "$stays")"); else
+                new_passphrase "$stays"
+                new_pass=$(plain "$stays")
+            fi ;;
         *) usage ;;
     esac
 done

@@ -26,7 +26,7 @@ done
 shift $((OPTIND - 1))
 [ $# -eq 3 ] || usage
 image=$(one_word "$2") backup=$(plain "$3")
-need truncate stat
+need truncate stat flock
 if [ -n "$oldsize" ]; then size_of "$oldsize" && oldsize=$size; fi
 size_of "$1"
 ((size % 4096 == 0)) || fail 'the size must be a multiple of 4096'
@@ -42,6 +42,8 @@ if [ -z "$oldsize" ]; then
     oldsize=$length
     ((length < size)) || fail "the image has $size bytes already"
 fi
+# A `resize` of an image that another run holds would be refused once the image is longer.
+flock -n "$image" true || fail "nothing was changed: another program holds '$image' (end it, as by serve-nbd.sh -e)"
 truncate -s "$size" "$image" || fail "there is no room for '$image'"
 sync "$image"
 reply=$("$GELI" resize -s "$oldsize" "$image") ||

@@ -31,7 +31,7 @@ size=$(sed -n 's/^provsize: //p' <<<"$fields")
 keys=$(sed -n 's/^keys: //p' <<<"$fields")
 note "$image: a provider of $size bytes, keys $keys, will be lost for good where no backup of its metadata is elsewhere"
 if [ -z "$sure" ]; then
-    [ -r /dev/tty ] || fail 'nothing was changed: no terminal to ask at (-y does it without)'
+    has_terminal || fail 'nothing was changed: no terminal to ask at (-y does it without)'
     IFS= read -r -p "type the name of the image to destroy it: " typed </dev/tty || fail 'nothing was changed'
     [ "$typed" = "$1" ] || fail 'nothing was changed: the names differ'
 fi

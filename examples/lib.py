@@ -2,10 +2,12 @@
 
 Nothing happens when it is imported. What can't be done is told by an exception, `Failed`.
 """
+import binascii
 import collections
 import contextlib
 import os
 import signal
+import stat
 import subprocess
 import sys
 import time
@@ -58,13 +60,49 @@ def run(work):
     name, geli, *words = sys.argv[1:]
     try:
         work(geli, *words)
-    except Failed as failed:
+    except (Failed, OSError, UnicodeError) as failed:
         sys.exit(f"{name}: {failed}")
 
 
-def told(reply):
+def told(reply, image=None, own=None):
     """A refusal with its usual cause. geli(8) has all of them."""
-    return f"{reply}: {CAUSES.get(reply.split(' ')[1], 'see DIAGNOSTICS in geli(8)')}"
+    number = reply.split(" ")[1]
+    found = seen(image, own) if image and number in ("26", "35") else None
+    return f"{reply}: {found or CAUSES.get(number, 'see DIAGNOSTICS in geli(8)')}"
+
+
+def seen(path, own=None):
+    """What can be seen of an image that failed: why it can't be opened, locked or written. `own` is a process to pass over."""
+    try:
+        state = os.stat(path)
+    except OSError as failed:
+        return failed.strerror
+    if stat.S_ISDIR(state.st_mode):
+        return "it is a folder"
+    with contextlib.suppress(OSError, ValueError), open("/proc/locks", encoding="ascii") as locks:
+        for line in locks:
+            words = line.split()
+            major, minor, inode = words[-3].split(":")
+            if (int(inode), os.makedev(int(major, 16), int(minor, 16))) == (state.st_ino, state.st_dev):
+                holder = int(words[-4])
+                if holder not in (own, os.getpid()):
+                    return f"process {holder} holds it ({name_of(holder)})"
+    if not os.access(path, os.R_OK | os.W_OK):
+        return "it can't be written" if os.access(path, os.R_OK) else "it can't be read"
+    if stat.S_ISREG(state.st_mode):
+        disk = os.statvfs(path)
+        if disk.f_bavail * disk.f_frsize < 1 << 20:
+            return "its file system is full"
+    return None
+
+
+def name_of(process):
+    """How a process was called."""
+    try:
+        with open(f"/proc/{process}/cmdline", "rb") as file:
+            return file.read().replace(b"\0", b" ").decode(errors="replace").strip()
+    except OSError:
+        return "of another user"
 
 
 def length_of(path):
@@ -111,7 +149,8 @@ class Session:
     def __init__(self, geli, image):
         self.image = image
         self.script = subprocess.Popen(
-            [geli, "script", image], stdin=subprocess.PIPE, stdout=subprocess.PIPE, bufsize=1 << 20)
+            [geli, "script", image], stdin=subprocess.PIPE, stdout=subprocess.PIPE, bufsize=1 << 20,
+            **({"pipesize": 1 << 20} if sys.version_info >= (3, 10) else {}))
         self.width = self.sectors = 0  # the bytes of a sector, and how many there are, once the provider is attached
 
     def say(self, *words):
@@ -136,7 +175,7 @@ class Session:
         """The reply to a line that must be served."""
         rows, line = self.reply()
         if line.startswith("error "):
-            raise Failed(f"{what}: {told(line)}")
+            raise Failed(f"{what}: {told(line, self.image, self.script.pid)}")
         return rows, line[3:]
 
     def must(self, verb, *words):
@@ -209,7 +248,7 @@ class Session:
         step, end = REQUEST // self.width, first + count
         runs = ((at, min(step, end - at)) for at in range(first, end, step))
         lines = ((f"read of {some} sectors from {at} on", ("read", self.image, at, some)) for at, some in runs)
-        return map(bytes.fromhex, self.ahead(lines))
+        return map(binascii.unhexlify, self.ahead(lines))
 
     def sweep(self, fields, place, first=0, anew=True):
         """Verifies an authenticated provider with these metadata to its end, anew or from the place that the file has.

@@ -9,6 +9,13 @@ library=$(cd -- "$(dirname -- "${BASH_SOURCE[0]}")" && pwd)
 umask 077 # every file that is made here is the caller's alone
 
 note() { printf '%s\n' "$*" >&2; }
+
+# -h or --help: the head of the script, which says what it does and takes.
+case ${1:-} in
+    -h | --help)
+        sed -n '2,/^[^#]/s/^# \{0,1\}//p' "$0"
+        exit 0 ;;
+esac
 fail() {
     note "${0##*/}: $*"
     exit 1
@@ -61,6 +68,7 @@ readable() {
 # A folder for passphrases, in memory where the system has such a place. It goes away when the script ends.
 private_folder() {
     local top
+    [ -z "${private:-}" ] || return 0
     for top in "${XDG_RUNTIME_DIR:-}" /dev/shm "${TMPDIR:-/tmp}"; do
         if [ -n "$top" ] && [ -d "$top" ] && [ -w "$top" ]; then
             private=$(mktemp -d "$top/geli.XXXXXXXX") || fail "no private folder in $top"
@@ -73,10 +81,35 @@ private_folder() {
     fail 'there is no folder for a passphrase'
 }
 
+has_terminal() { { : </dev/tty; } 2>/dev/null; }
+
+# stays NAME: sets `stays` to a name under which the file can be read again and again, by other processes too. A pipe, as of
+# `-j <(pass show disk)`, is copied into the private folder.
+copies=0
+stays() {
+    [ -r "$1" ] || fail "the file '$1' can't be read"
+    stays=$1
+    if [ ! -f "$1" ] || [[ $1 == /dev/* || $1 == /proc/* ]]; then
+        private_folder
+        stays=$private/copy$((copies += 1))
+        cat -- "$1" >"$stays" || fail "the file '$1' can't be read"
+    fi
+}
+
+# new_passphrase NAME: a passphrase file that a new key is to be made of. One that was made by a slip is refused.
+new_passphrase() {
+    local line
+    IFS= read -r line <"$1" || [ -n "$line" ] || fail "the passphrase file '$1' is empty"
+    case $line in
+        '') fail "the first line of the passphrase file '$1' is empty" ;;
+        *$'\r') note "note: the passphrase in '$1' ends with a carriage return, which counts" ;;
+    esac
+}
+
 # ask_passphrase FILE WHAT [twice]: asks at the terminal and writes the answer to FILE as its first line.
 ask_passphrase() {
     local first second
-    [ -r /dev/tty ] || fail "no terminal to ask for the $2: name a file of it (see the head of this script)"
+    has_terminal || fail "no terminal to ask for the $2: name a file whose first line it is, by -j (a new one: -J)"
     IFS= read -r -s -p "$2: " first </dev/tty || fail 'nothing was typed'
     printf '\n' >/dev/tty
     [ -n "$first" ] || fail "the $2 is empty"
@@ -95,8 +128,8 @@ key_option() {
     local name
     case $1 in
         k | j)
-            [ -r "$2" ] || fail "the file '$2' can't be read"
-            name=$(one_word "$2")
+            stays "$2"
+            name=$(one_word "$stays")
             key+=("-$1" "$name") ;;
         p) key+=(-p) ;;
     esac

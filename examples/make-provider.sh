@@ -43,8 +43,9 @@ for name in "$image" "$backup"; do
     [ ! -e "$name" ] || fail "'$name' is there already: it is left alone"
 done
 if [ -n "$passfile" ]; then
-    [ -r "$passfile" ] || fail "the passphrase file '$passfile' can't be read"
-    passfile=$(plain "$passfile")
+    stays "$passfile"
+    new_passphrase "$stays"
+    passfile=$(plain "$stays")
 else
     private_folder
     passfile=$private/new

@@ -78,6 +78,7 @@ fi
 image=$(one_word "$1") socket=$(realpath -m -- "$(one_word "$2")")
 need nbdkit realpath setsid
 readable "$image"
+[ ${#readonly[@]} -gt 0 ] || [ -w "$image" ] || fail "'$image' can't be written: give -r"
 for name in "$socket" "$socket.pid" "$socket.ended"; do
     [ ! -e "$name" ] || fail "'$name' is there already: is a server running?"
 done

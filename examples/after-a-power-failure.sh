@@ -60,7 +60,7 @@ def metadata(session, length, name):
             "26": ["Look whether another geli has the image."
                    " Else copy the image to a sound disk first, and look at the copy."],
         }
-        cause = told(reply, session.image, session.script.pid)
+        cause = told(reply, session.files, session.script.pid)
         stop(session, f"metadata: {cause}", *helps.get(reply.split(" ")[1], []))
     return fields_of(rows)
 

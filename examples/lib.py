@@ -85,14 +85,14 @@ def files_of(image):
     return [name for name in layers.groups() if name] if layers else [image]
 
 
-def told(reply, image=None, own=None):
-    """A refusal with its usual cause, or that which is seen at the image. geli(8) has all of them."""
+def told(reply, files=(), own=None):
+    """A refusal with its usual cause, or that which is seen at the image's files. geli(8) has all of them."""
     if not reply.startswith("error "):
         return f"geli says no more than '{reply}'" if reply else "geli ended without a reply"
     number = reply.split(" ")[1]
     found = None
-    if image and number in ("26", "35"):
-        found = next(filter(None, (seen(path, own) for path in files_of(image))), None)
+    if number in ("26", "35"):
+        found = next(filter(None, (seen(path, own) for path in files)), None)
     return f"{reply}: {found or CAUSES.get(number, 'see DIAGNOSTICS in geli(8)')}"
 
 
@@ -194,6 +194,7 @@ class Session:
 
     def __init__(self, geli, image):
         self.image = image
+        self.files = list(map(os.path.realpath, files_of(image)))  # a server's folder is another later
         self.script = subprocess.Popen(
             [geli, "script", image], stdin=subprocess.PIPE, stdout=subprocess.PIPE, bufsize=1 << 20)
         for pipe in self.script.stdin, self.script.stdout:
@@ -230,7 +231,7 @@ class Session:
         """The reply to a line that must be served."""
         rows, line = self.reply()
         if line.startswith("error "):
-            raise Failed(f"{what}: {told(line, self.image, self.script.pid)}")
+            raise Failed(f"{what}: {told(line, self.files, self.script.pid)}")
         return rows, line[3:]
 
     def taken(self, what, size):
@@ -243,7 +244,7 @@ class Session:
             line = (start + script.readline()).decode().rstrip()
             ended = not line.startswith("error ")
             raise Failed("geli ended without a reply" if ended else
-                         f"{what}: {told(line, self.image, self.script.pid)}")
+                         f"{what}: {told(line, self.files, self.script.pid)}")
         digits = memoryview(self.digits)[:2 * size + 1]
         if script.readinto(digits) < len(digits):
             raise Failed("geli ended within a reply")
@@ -332,7 +333,7 @@ class Session:
         """Whether these sectors can be read; what else may be refused ends the work."""
         _, line = self.ask("read", self.image, first, count)
         if line.startswith("error ") and not line.startswith("error 25 "):
-            raise Failed(f"read of sector {first}: {told(line, self.image, self.script.pid)}")
+            raise Failed(f"read of sector {first}: {told(line, self.files, self.script.pid)}")
         return line.startswith("ok ")
 
     def read_pieces(self, first, count):
@@ -396,4 +397,4 @@ class Progress:
 
 
 if __name__ == "__main__":
-    print(told(*sys.argv[1:]))
+    print(told(sys.argv[1], files_of(sys.argv[2])))

@@ -6,7 +6,8 @@
 
 GELI=${GELI:-geli}
 library=$(dirname -- "$(readlink -f -- "${BASH_SOURCE[0]}")")
-program=${0##*/}
+program=${GELI_CALLED_AS:-${0##*/}} # as another name starts it
+unset GELI_CALLED_AS
 umask 077 # every file that is made here is the caller's alone
 
 note() { printf '%s\n' "$*" >&2; }

@@ -49,7 +49,7 @@ def below(uses, name):
 
 
 def seconds_of(folder):
-    """Returns about how many seconds one processor works at a crate: code decides it more than definitions and proofs."""
+    """Returns about how many seconds one processor works at a crate: its code tells it better than its proofs."""
     lines = 0
     for at, _, names in os.walk(f"{folder}/src"):
         for name in names:
@@ -62,9 +62,15 @@ def processors():
     given = os.environ.get("GELI_JOBS", "")
     if given.isdigit() and int(given):
         return int(given)
-    with open("/proc/meminfo", encoding="utf-8") as it:
-        free = 1024 * int(re.search(r"MemAvailable:\s+(\d+)", it.read())[1])
+    free = 1024 * int(re.search(r"MemAvailable:\s+(\d+)", text_of("/proc/meminfo"))[1])
     return max(1, min(len(os.sched_getaffinity(0)), free // BYTES_OF_JOB))
+
+
+def text_of(file):
+    """Returns what stands in a file, or nothing where there is none."""
+    with contextlib.suppress(OSError), open(file, encoding="utf-8") as it:
+        return it.read()
+    return ""
 
 
 def link_or_copy(source, to):
@@ -116,8 +122,9 @@ class Build:
         """Puts a library that was built into the tree, for the next build."""
         source, to = f"{self.room}/built/{name}/out/rlib", f"{self.tree}/crates/{name}"
         with contextlib.suppress(OSError), held(to) as is_held:
-            if is_held and not os.path.exists(f"{to}/out/rlib/stamp"):
-                shutil.rmtree(f"{to}/out/rlib", ignore_errors=True)
+            if is_held and text_of(f"{to}/out/rlib/stamp") != text_of(f"{source}/stamp"):
+                for old in (f"{to}/out/rlib.new", f"{to}/out/rlib"):
+                    shutil.rmtree(old, ignore_errors=True)
                 shutil.copytree(source, f"{to}/out/rlib.new", copy_function=link_or_copy)
                 os.rename(f"{to}/out/rlib.new", f"{to}/out/rlib")
 
@@ -145,25 +152,31 @@ class Build:
 
     def prove(self, name, jobs):
         """Builds a library, or the program for each level, and returns whether it could."""
+        is_built, words = False, ["--jobs", str(jobs)]
         with open(f"{self.room}/{name}.log", "w", encoding="utf-8") as log:
-            folder, jobs = self.tree_of(name), ["--jobs", str(jobs)]
-            if name != TOP:
-                is_built = self.rt(folder, log, "lib", *jobs)
-            else:
-                is_built = all(self.link(folder, log, jobs, level) for level in self.levels)
-        if is_built and name != TOP:
-            shutil.rmtree(f"{self.room}/built/{name}")
-            shutil.rmtree(f"{folder}/out/incremental", ignore_errors=True)
-            os.rename(folder, f"{self.room}/built/{name}")
-            self.give(name)
+            try:
+                folder = self.tree_of(name)
+                is_built = self.link(folder, log, words) if name == TOP else self.library(name, folder, log, words)
+            except OSError as error:
+                print(error, file=log)
         shutil.rmtree(f"{self.room}/{name}", ignore_errors=True)
         return is_built
 
-    def link(self, folder, log, jobs, level):
-        shutil.copytree(f"{self.tree}/crates/{TOP}/data", f"{folder}/data", dirs_exist_ok=True)
-        if not self.rt(folder, log, "run", *jobs, f"--cpu={level}", "--", "dump", "data/a.img"):
+    def library(self, name, folder, log, words):
+        if not self.rt(folder, log, "lib", *words):
             return False
-        shutil.copy(f"{folder}/out/{TOP}", f"{self.program}-{level}")
+        shutil.rmtree(f"{folder}/out/incremental", ignore_errors=True)
+        shutil.rmtree(f"{self.room}/built/{name}")
+        os.rename(folder, f"{self.room}/built/{name}")
+        self.give(name)
+        return True
+
+    def link(self, folder, log, words):
+        shutil.copytree(f"{self.tree}/crates/{TOP}/data", f"{folder}/data")
+        for level in self.levels:
+            if not self.rt(folder, log, "run", *words, f"--cpu={level}", "--", "dump", "data/a.img"):
+                return False
+            shutil.copy(f"{folder}/out/{TOP}", f"{self.program}-{level}")
         return True
 
     def tell(self, name):
@@ -214,14 +227,18 @@ class Build:
 
 
 def main(tree, program, *levels):
-    with tempfile.TemporaryDirectory(prefix="geli-build-", dir=os.environ.get("TMPDIR", "/var/tmp")) as room:
-        build = Build(tree, program, levels, room)
+    # (some gigabytes, which /tmp may hold in memory)
+    place = os.environ.get("TMPDIR") or ("/var/tmp" if os.path.isdir("/var/tmp") else None)
+    with tempfile.TemporaryDirectory(prefix="geli-build-", dir=place) as room:
+        build, signals = Build(tree, program, levels, room), (signal.SIGINT, signal.SIGTERM, signal.SIGHUP)
 
         def stop(number, _):
+            for it in signals:
+                signal.signal(it, signal.SIG_IGN)
             build.end()
             raise SystemExit(128 + number)
 
-        for it in (signal.SIGINT, signal.SIGTERM, signal.SIGHUP):
+        for it in signals:
             signal.signal(it, stop)
         say(f"{len(build.crates)} crates are proved, up to {build.lanes} at a time")
         failed = build.all()

@@ -8,7 +8,7 @@ over what was built of the others. What is proved of a library goes to its out/ 
 goes on there. The crate with the longest chain of others behind it comes first.
 
 Standard error says how far it is, standard output what rt says. GELI_JOBS is how many processors are used; without it,
-as many as there are, as far as there are 5 GB of free memory for each. The status is 0 where all was built.
+as many as there are, as far as there are 4 GB of free memory for each. The status is 0 where all was built.
 """
 import concurrent.futures
 import contextlib
@@ -24,7 +24,7 @@ import time
 
 TOP = "geli_cli"
 PARTS = ("src", "specs", "proofs")
-BYTES_OF_JOB = 5_000_000_000
+BYTES_OF_JOB = 4_000_000_000
 MOST_JOBS_OF_CRATE = 4
 
 

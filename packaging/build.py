@@ -13,6 +13,7 @@ as many as there are, as far as there are 4 GB of free memory for each. The stat
 import concurrent.futures
 import contextlib
 import fcntl
+import hashlib
 import os
 import re
 import shutil
@@ -226,10 +227,28 @@ class Build:
             it.terminate()
 
 
-def main(tree, program, *levels):
+@contextlib.contextmanager
+def room_of(tree):
+    """Makes the folder that a build works in, and removes it again. It has one name for each tree, so what a build that
+    was killed left goes away with the next, and rt has no more folders to remember than before."""
     # (some gigabytes, which /tmp may hold in memory)
-    place = os.environ.get("TMPDIR") or ("/var/tmp" if os.path.isdir("/var/tmp") else None)
-    with tempfile.TemporaryDirectory(prefix="geli-build-", dir=place) as room:
+    place = os.environ.get("TMPDIR") or ("/var/tmp" if os.path.isdir("/var/tmp") else tempfile.gettempdir())
+    room = f"{place}/geli-build-{hashlib.sha256(os.path.realpath(tree).encode()).hexdigest()[:16]}"
+    with contextlib.suppress(OSError):
+        if os.lstat(room).st_uid == os.geteuid():
+            shutil.rmtree(room)
+    try:
+        os.mkdir(room, 0o700)
+    except OSError:
+        room = tempfile.mkdtemp(prefix="geli-build-", dir=place)
+    try:
+        yield room
+    finally:
+        shutil.rmtree(room, ignore_errors=True)
+
+
+def main(tree, program, *levels):
+    with room_of(tree) as room:
         build, signals = Build(tree, program, levels, room), (signal.SIGINT, signal.SIGTERM, signal.SIGHUP)
 
         def stop(number, _):

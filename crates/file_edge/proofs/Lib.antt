@@ -1,6 +1,9 @@
 mod Beside
 mod Kept
+pub mod Left
 mod Logs
-mod Steps
-mod Turns
 mod Same
+mod Steps
+mod Telling
+mod Turns
+pub mod Untold

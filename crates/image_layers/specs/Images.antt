@@ -8,7 +8,8 @@ use Rattle.disk_layers.specs.ConcatDisk as concat
 use Rattle.disk_layers.specs.Names.{IsBehind, IsJoin}
 use Rattle.disk_layers.specs.WriteBehind as write_behind
 use Rattle.file_edge.specs.Asked.{Asked}
-use Rattle.file_edge.specs.FileDisk.{AsksDisk, IsUnopened, OpensDisk}
+use Rattle.file_edge.specs.FileDisk.{AsksDisk, IsUnopened, OpensDisk, TellsFile}
+use Rattle.file_edge.specs.Told.{Told}
 use Rattle.file_edge.specs.declared.file_disk.FileDisk.{FileDisk}
 use Rattle.file_edge.specs.declared.found.FileId.{FileId}
 use Rattle.file_edge.specs.declared.found.Found.{Found}
@@ -61,6 +62,12 @@ module _ {F : Type 0} {g : Ghosts (FileDisk F)} where
   JoinsOrIsNone first second (Join both) = (both.first ≡ first) × (both.second ≡ second)
   JoinsOrIsNone first second (Plain disk) = (2 ^ 44 ≤ (g.state first).size + (g.state second).size) × IsUnopened None disk
   JoinsOrIsNone first second (Behind behind) = ⊥
+
+  -- the disk of a file alone tells all that its file tells
+  abbrev pub TellsImage : (F → Option Told) → ImageDisk F g → Type 0
+  TellsImage told (Plain disk) = TellsFile told disk
+  TellsImage told (Behind behind) = Unit {0}
+  TellsImage told (Join both) = Unit {0}
 
 -- ---- openings
 

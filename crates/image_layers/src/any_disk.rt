@@ -25,6 +25,22 @@ impl<F: ImageFile + Drop> Disk for ImageDisk<F> {
         }
     }
 
+    fn peek(&mut self, first: u64, into: &mut [u8]) -> bool {
+        match self {
+            ImageDisk::Plain(disk) => disk.peek(first, into),
+            ImageDisk::Behind(disk) => disk.peek(first, into),
+            ImageDisk::Join(disk) => disk.peek(first, into),
+        }
+    }
+
+    fn count_reads(&mut self, many: u64) {
+        match self {
+            ImageDisk::Plain(disk) => disk.count_reads(many),
+            ImageDisk::Behind(disk) => disk.count_reads(many),
+            ImageDisk::Join(disk) => disk.count_reads(many),
+        }
+    }
+
     fn write(&mut self, n: u64, from: &Sector) -> Result<(), DiskFailed> {
         match self {
             ImageDisk::Plain(disk) => disk.write(n, from),

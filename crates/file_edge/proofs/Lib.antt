@@ -1,4 +1,5 @@
 mod Beside
+mod Folder
 mod Kept
 pub mod Left
 mod Logs

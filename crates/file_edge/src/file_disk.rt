@@ -210,11 +210,7 @@ fn is_held<F: ImageFile>(file: &F, changes: bool) -> bool
 }
 
 // Reads whole sectors all in one at a byte offset of a file, if one is open.
-fn read_open<F: ImageFile>(
-    file: &mut Option<F>,
-    at: u64,
-    into: &mut [u8],
-) -> Result<(), DiskFailed>
+fn read_open<F: ImageFile>(file: &mut Option<F>, at: u64, into: &mut [u8]) -> Result<(), DiskFailed>
     requires at { at % 512 ≡ 0 }
     requires whole { length into.old % 512 ≡ 0 }
     ensures placed { MatchOption file.old (IsErr result) (λ file. F.reads file at (read_bytes result into.new)) }

@@ -1,8 +1,8 @@
 use Rattle.std.proofs.Common.{map, refl, rules, string_bytes}
 use Rattle.command_words.specs.Images.{image_names}
-use Rattle.geli_cli.specs.Program.{changes_images}
+use Rattle.image_run.specs.Program.{changes_images}
 use Rattle.image_layers.proofs.Opened.{nothing_asked}
-use Rattle.geli_cli.proofs.program.make_ready.Goals as goal
+use Rattle.image_run.proofs.opening.make_ready.Goals as goal
 
 pub returns-in_err-names-clause-asked_part : goal.returns-in_err-names-clause-asked_part
 returns-in_err-names-clause-asked_part g c =

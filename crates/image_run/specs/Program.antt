@@ -1,5 +1,5 @@
 -- The words of the command line, and what a run of the program begins with.
-use Rattle.std.specs.Prelude.{◌≡◌, ◌≢◌, ℕ, List, [], map, not, Bool, true, false, Option, None, Some, Result, Ok, Err, drop}
+use Rattle.std.specs.Prelude.{◌≡◌, ◌≢◌, ℕ, All, List, [], map, not, Bool, true, false, Option, None, Some, Result, Ok, Err, drop}
 use Rattle.std.specs.IoError.{error_kind}
 use Rattle.std.specs.Vec.Iter.{into_iter_items}
 use Rattle.std.specs.declared.fs.options.OpenOptions.{OpenOptions}
@@ -9,21 +9,23 @@ use Rattle.std.specs.declared.vec.IntoIter.{IntoIter}
 use Rattle.block_traits.specs.Cabinet.{CabinetState}
 use Rattle.block_traits.specs.Streams.{EntropyState, SinkState, SourceState}
 use Rattle.block_traits.specs.declared.disk.Disk.{Ghosts}
-use Rattle.command_rows.specs.World.{DrawerState}
+use Rattle.command_rows.specs.World.{DrawerState, IsAmong}
 use Rattle.command_words.specs.Images.{image_names, line_of}
 use Rattle.command_words.specs.Reading.{command_in}
 use Rattle.command_words.specs.declared.commands.Command.{Command}
 use Rattle.command_words.specs.declared.commands.Command.TheVariants as commands
 use Rattle.file_edge.specs.Asked.{Asked}
 use Rattle.file_edge.specs.RandomFile.{AsksDevice, OpensDevice}
+use Rattle.file_edge.specs.Told.{Told}
 use Rattle.file_edge.specs.declared.file_disk.FileDisk.{FileDisk}
 use Rattle.file_edge.specs.declared.found.FileId.{FileId}
 use Rattle.file_edge.specs.declared.found.Found.{Found}
 use Rattle.file_edge.specs.declared.random_file.RandomFile.{RandomFile}
 use Rattle.geli_core.specs.Images.{RunsOver, outside_of}
 use Rattle.geli_core.specs.declared.status.Status.{Status}
-use Rattle.image_layers.specs.Images.{AsksFirst, OpensImages, opening, state_of}
+use Rattle.image_layers.specs.Images.{AsksFirst, OpensImages, TellsImage, opening, state_of}
 use Rattle.image_layers.specs.declared.image_disks.ImageDisk.{ImageDisk}
+use Rattle.image_run.specs.Surviving.{SurvivesInFile}
 
 -- all arguments but the first, which is the program's name; arguments that can't be read are no words, but want of memory is
 abbrev pub HasWords : {X Z : Type 0} → Result (IntoIter X Z) Error → List X → Type 0
@@ -62,15 +64,31 @@ module _ {O F : Type 0} {g : Ghosts (FileDisk F)} (leads : O → List ℕ → Re
     pub asked : AsksDevice log_of between new
 
 module _ {O F : Type 0} (g : Ghosts (FileDisk F)) (leads : O → List ℕ → Result Found Error → Type 0) (answers : O → OpenOptions → List ℕ → Result F Error → Type 0) (tells : F → Result Found Error → Type 0) (locks : F → Bool → Type 0) (ends : F → Option ℕ → Type 0) (log_of : O → Option (List Asked)) where
-  -- The words were run over the images that they name: what opens files opened just these and the random bytes, and of the run of the words over drawers
-  -- with those names, in which just the disks of these images lay, holds all that is said of runs.
-  pub record RunsOverFiles (words : List (List ℕ)) (opener : O) (source : SourceState) (sink : SinkState) (status : Status) (source_after : SourceState) (sink_after : SinkState) : Type 0 where
+  -- all that a run begins with was opened, and nothing else was asked
+  pub record HasOpened (words : List (List ℕ)) (old new : O) : Type 0 where
     pub disks : List (ImageDisk F g)
     pub files : List FileId
     pub random : RandomFile F
-    pub opened : O
-    pub opens : OpensAll leads answers tells locks ends log_of words disks files random opener opened
-    pub left : List DrawerState
-    pub cabinet : CabinetState
-    pub entropy : EntropyState
-    pub runs : RunsOver words (image_names words) (map state_of disks) (outside_of new_cabinet new_entropy source sink) status left (outside_of cabinet entropy source_after sink_after)
+    pub opens : OpensAll leads answers tells locks ends log_of words disks files random old new
+
+  module _ (told : F → Option Told) where
+    -- The words were run over the images that they name: what opens files opened just these and the random bytes, and of the run of the words over
+    -- drawers with those names, in which just the disks of these images lay, to the drawers that are left, holds all that is said of runs. The disk
+    -- of a file alone tells what its file tells. Before the run nothing was asked of the cabinet. `survives`: whatever a power failure leaves in the
+    -- file of an image alone that tells its sectors, at any moment of the run, reads as promised, from the content that the file had when it was opened.
+    pub record RunsOverFiles (words : List (List ℕ)) (opener : O) (source : SourceState) (sink : SinkState) (status : Status) (left : List DrawerState) (cabinet : CabinetState) (source_after : SourceState) (sink_after : SinkState) : Type 0 where
+      pub disks : List (ImageDisk F g)
+      pub files : List FileId
+      pub random : RandomFile F
+      pub opened : O
+      pub opens : OpensAll leads answers tells locks ends log_of words disks files random opener opened
+      pub telling : All (TellsImage told) disks
+      pub entropy : EntropyState
+      pub runs : RunsOver words (image_names words) (map state_of disks) (outside_of new_cabinet new_entropy source sink) status left (outside_of cabinet entropy source_after sink_after)
+      pub survives : (drawer : DrawerState) (among : IsAmong left drawer) → SurvivesInFile told (image_names words) disks drawer (runs.lawful.exit drawer among).play.steps
+
+    -- they were, and these drawers and this cabinet were left
+    pub record RunsToAnEnd (words : List (List ℕ)) (opener : O) (source : SourceState) (sink : SinkState) (status : Status) (source_after : SourceState) (sink_after : SinkState) : Type 0 where
+      pub left : List DrawerState
+      pub cabinet : CabinetState
+      pub over : RunsOverFiles words opener source sink status left cabinet source_after sink_after

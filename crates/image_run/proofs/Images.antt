@@ -1,4 +1,4 @@
--- The names up to a place, and those behind it; boxes, one more at a time; and what a run begins with.
+-- The names up to a place, and those behind it; and what a run begins with.
 use Rattle.std.proofs.Common.{◌≡◌, ◌∙◌, ap, sym, subst, ℕ, ◌+◌, ◌<◌, List, [], ◌∷◌, ◌++◌, None, Result, Ok, Err, IfOk, drop, get_or, length, map, take}
 use Rattle.std.proofs.lemmas.List.{map-append, map_more, take-append-drop}
 use Rattle.block_traits.specs.Cabinet.{CabinetState}
@@ -6,7 +6,7 @@ use Rattle.block_traits.specs.Disk.{DiskState}
 use Rattle.block_traits.specs.Streams.{EntropyState, SinkState, SourceState}
 use Rattle.command_rows.specs.World.{DrawerState}
 use Rattle.command_words.specs.Images.{image_names}
-use Rattle.geli_cli.specs.Program.{new_cabinet, new_entropy}
+use Rattle.image_run.specs.Program.{new_cabinet, new_entropy}
 use Rattle.geli_core.specs.Images.{Outside, RunsOver, outside_of}
 use Rattle.geli_core.specs.declared.status.Status.{Status}
 
@@ -15,12 +15,6 @@ pub names_at : {S : Type 0} (bytes : S → List ℕ) (names : List S) (i : ℕ) 
 names_at bytes names i name inside here =
     ap (map bytes) (sym (take-append-drop (i + 1) names)) ∙ map-append bytes (take (i + 1) names) (drop (i + 1) names)
     ∙ ap (λ (l : List (List ℕ)). l ++ map bytes (drop (i + 1) names)) (map_more bytes names i name inside ∙ ap (λ n. map bytes (take i names) ++ bytes n ∷ []) here)
-
--- one more disk is in its box
-pub boxed_more : {B D S : Type 0} (state : B → S) (of : D → S) (old new : List B) (box : B) (before : List D) (disk other : D) → map state new ≡ map state old ++ state box ∷ [] → map state old ≡ map of before
-    → state box ≡ of other → other ≡ disk → map state new ≡ map of (before ++ disk ∷ [])
-boxed_more state of old new box before disk other added was made same =
-    added ∙ rw (was, made, same) (sym (map-append of before (disk ∷ [])))
 
 -- ---- what a run begins with
 

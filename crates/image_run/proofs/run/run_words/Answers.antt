@@ -1,6 +1,6 @@
 use Rattle.geli_core.proofs.Lawful.{run_ends}
-use Rattle.geli_cli.proofs.Ended.{read_failed, write_failed}
-use Rattle.geli_cli.proofs.program.run_words.Goals as goal
+use Rattle.image_run.proofs.Ended.{read_failed, write_failed}
+use Rattle.image_run.proofs.run.run_words.Goals as goal
 
 pub returns-in-Ok-clause-ends : goal.returns-in-Ok-clause-ends
 returns-in-Ok-clause-ends g c = run_ends _ _ _ c.in-Ok.status c.in-Ok.ensures.runs.runs.lawful

@@ -1,12 +1,12 @@
 -- The drawers of a run, by the disks that were opened for it.
-use Rattle.std.proofs.Common.{◌≡◌, ◌∙◌, ℕ, zero, suc, ◌<◌, List, [], ◌∷◌, length, map, Option, Some, None, refl, sym, ap, subst, arith, slice_get, get_or}
+use Rattle.std.proofs.Common.{◌≡◌, ◌∙◌, ℕ, zero, suc, List, [], ◌∷◌, map, Option, Some, None, refl, sym, ap, subst, arith, slice_get}
 use Rattle.std.specs.Prelude.{All, IfSome}
 use Rattle.std.specs.Option.{option_map}
 use Rattle.block_traits.specs.Content.{Content}
 use Rattle.block_traits.specs.declared.disk.Disk.{Ghosts}
 use Rattle.command_rows.specs.World.{DrawerState, IsAmong}
 use Rattle.file_edge.specs.FileDisk as file
-use Rattle.file_edge.specs.Told.{Told, contents, told_in}
+use Rattle.file_edge.specs.Told.{Told}
 use Rattle.file_edge.specs.declared.file_disk.FileDisk.{FileDisk}
 use Rattle.geli_core.proofs.Drawn.{same_some}
 use Rattle.geli_core.specs.Images.{Outside, RunsOver, idle_drawers}

@@ -126,12 +126,14 @@ pub(crate) fn open_all<O: Opener + Drop>(
 {
     let mut opener = opener;
     match make_ready(alloc, &mut opener, words) {
-        Ok(Ready {
-            names,
-            disks,
-            files,
-            entropy,
-        }) => Ok(Opened {
+        Ok(
+            Ready {
+                names,
+                disks,
+                files,
+                entropy,
+            },
+        ) => Ok(Opened {
             names,
             disks,
             files: FileCabinet::new(opener, files),

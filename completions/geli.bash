@@ -19,10 +19,33 @@ _geli_letters() {
     esac
 }
 
+# File names. Of a word with colons readline puts in only what is behind the last one, so that alone is offered.
 _geli_files() {
+    local at head=
     compopt -o filenames 2>/dev/null
-    local IFS=$'\n'
-    COMPREPLY=($(compgen -f -- "$1"))
+    case $1 in
+        behind:* | join:*) mapfile -t COMPREPLY < <(compgen -f -- "${1##*:}") ;;
+        *)
+            mapfile -t COMPREPLY < <(compgen -f -- "$1")
+            [[ $1 != *:* ]] || head=${1%:*}:
+            for at in "${!COMPREPLY[@]}"; do COMPREPLY[at]=${COMPREPLY[at]#"$head"}; done ;;
+    esac
+}
+
+# Sets `words` and `place` to the words of the line and the cursor's among them: readline breaks words at colons.
+_geli_words() {
+    local at word joins=
+    words=() place=0
+    for ((at = 0; at < ${#COMP_WORDS[@]}; at++)); do
+        word=${COMP_WORDS[at]}
+        if [ -n "$joins" ] || { [[ $word == :* ]] && ((${#words[@]} > 1)); }; then
+            words[-1]+=$word
+        else
+            words+=("$word")
+        fi
+        case $word in *:) joins=yes ;; *) joins= ;; esac
+        ((at != COMP_CWORD)) || place=$((${#words[@]} - 1))
+    done
 }
 
 # What may stand behind an option with a value, of this verb.
@@ -39,10 +62,12 @@ _geli_value() {
 }
 
 _geli() {
-    local cur=${COMP_WORDS[COMP_CWORD]} verb=${COMP_WORDS[1]} alone valued word letter
+    local words place cur verb alone valued word letter
     local -i at operands=0 waits=0 ended=0
+    _geli_words
+    cur=${words[place]} verb=${words[1]}
     COMPREPLY=()
-    if ((COMP_CWORD == 1)); then
+    if ((place == 1)); then
         COMPREPLY=($(compgen -W "$_geli_verbs" -- "$cur"))
         return
     fi
@@ -53,8 +78,8 @@ _geli() {
     read -r alone valued <<<"$(_geli_letters "$verb")"
 
     # What the words before the cursor's say: whether an option waits for its value, and how many operands there are.
-    for ((at = 2; at < COMP_CWORD; at++)); do
-        word=${COMP_WORDS[at]}
+    for ((at = 2; at < place; at++)); do
+        word=${words[at]}
         if ((waits)); then
             waits=0
         elif ((ended == 0)) && [ "$word" = -- ]; then

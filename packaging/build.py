@@ -1,0 +1,273 @@
+#!/usr/bin/env python3
+"""Proves and builds the program by several runs of rt side by side.
+
+    packaging/build.py TREE PROGRAM LEVEL...      PROGRAM-LEVEL is made for each level, as x86-64-v3
+
+A run of rt holds the folders of its crate and of all crates below, so each crate is built in a small tree of its own,
+over what was built of the others. What is proved of a library goes to its out/ in TREE, so a build that was broken off
+goes on there. The crate with the longest chain of others behind it comes first.
+
+Standard error says how far it is, standard output what rt says. GELI_JOBS is how many processors are used; without it,
+as many as there are, as far as there are 4 GB of free memory for each. The status is 0 where all was built.
+"""
+import concurrent.futures
+import contextlib
+import fcntl
+import hashlib
+import os
+import re
+import shutil
+import signal
+import subprocess
+import sys
+import tempfile
+import time
+
+TOP = "geli_cli"
+PARTS = ("src", "specs", "proofs")
+BYTES_OF_JOB = 4_000_000_000
+MOST_JOBS_OF_CRATE = 4
+
+
+def say(text):
+    print(f"geli: {text}", file=sys.stderr, flush=True)
+
+
+def libraries_of(file):
+    """Returns the crates that crates.txt lists, each with those of them that it uses."""
+    with open(file, encoding="utf-8") as lines:
+        rows = [line.partition("#")[0].partition(":") for line in lines]
+    uses = {name.strip(): words.split() for name, _, words in rows if name.strip()}
+    return {name: [it for it in words if it in uses] for name, words in uses.items()}
+
+
+def below(uses, name):
+    """Returns the crates below this one, each behind those that it uses."""
+    found = []
+    for dep in uses[name]:
+        found += [it for it in [*below(uses, dep), dep] if it not in found]
+    return found
+
+
+def seconds_of(folder):
+    """Returns about how many seconds one processor works at a crate: its code tells it better than its proofs."""
+    lines = 0
+    for at, _, names in os.walk(f"{folder}/src"):
+        for name in names:
+            with open(f"{at}/{name}", "rb") as it:
+                lines += it.read().count(b"\n")
+    return 15 + lines / 10
+
+
+def processors():
+    given = os.environ.get("GELI_JOBS", "")
+    if given.isdigit() and int(given):
+        return int(given)
+    free = 1024 * int(re.search(r"MemAvailable:\s+(\d+)", text_of("/proc/meminfo"))[1])
+    return max(1, min(len(os.sched_getaffinity(0)), free // BYTES_OF_JOB))
+
+
+def text_of(file):
+    """Returns what stands in a file, or nothing where there is none."""
+    with contextlib.suppress(OSError), open(file, encoding="utf-8") as it:
+        return it.read()
+    return ""
+
+
+def link_or_copy(source, to):
+    """Gives a file that nobody writes into a second name."""
+    try:
+        os.link(source, to)
+    except OSError:
+        shutil.copyfile(source, to)
+
+
+@contextlib.contextmanager
+def held(folder):
+    """Gives whether this process holds the crate's folder, so that no rt works in it."""
+    handle = os.open(folder, os.O_RDONLY)
+    try:
+        fcntl.flock(handle, fcntl.LOCK_EX | fcntl.LOCK_NB)
+        yield True
+    except BlockingIOError:
+        yield False
+    finally:
+        os.close(handle)
+
+
+class Build:
+    def __init__(self, tree, program, levels, room):
+        self.tree, self.program, self.levels, self.room = tree, program, levels, room
+        self.uses = libraries_of(f"{tree}/crates.txt")
+        self.crates = [*below(self.uses, TOP), TOP]
+        self.seconds = {it: seconds_of(f"{tree}/crates/{it}") for it in self.crates}
+        self.behind = dict(self.seconds)
+        for name in reversed(self.crates):
+            for dep in self.uses[name]:
+                self.behind[dep] = max(self.behind[dep], self.seconds[dep] + self.behind[name])
+        self.lanes, self.began, self.took = processors(), time.monotonic(), {}
+        self.is_ending, self.started = False, set()
+
+    def take(self, name):
+        """Copies a crate's files into the room, with the library that an earlier build left."""
+        source, to = f"{self.tree}/crates/{name}", f"{self.room}/built/{name}"
+        for part in PARTS:
+            if os.path.isdir(f"{source}/{part}"):
+                shutil.copytree(f"{source}/{part}", f"{to}/{part}")
+        if os.path.isfile(f"{source}/out/rlib/stamp"):
+            with held(source) as is_held:
+                if is_held:
+                    shutil.copytree(f"{source}/out/rlib", f"{to}/out/rlib", copy_function=link_or_copy)
+
+    def give(self, name):
+        """Puts a library that was built into the tree, for the next build."""
+        source, to = f"{self.room}/built/{name}/out/rlib", f"{self.tree}/crates/{name}"
+        with contextlib.suppress(OSError), held(to) as is_held:
+            if is_held and text_of(f"{to}/out/rlib/stamp") != text_of(f"{source}/stamp"):
+                for old in (f"{to}/out/rlib.new", f"{to}/out/rlib"):
+                    shutil.rmtree(old, ignore_errors=True)
+                shutil.copytree(source, f"{to}/out/rlib.new", copy_function=link_or_copy)
+                os.rename(f"{to}/out/rlib.new", f"{to}/out/rlib")
+
+    def tree_of(self, name):
+        """Makes a tree of this crate and those below it, and returns the crate's folder in it."""
+        tree, names = f"{self.room}/{name}", [*below(self.uses, name), name]
+        for it in names:
+            shutil.copytree(f"{self.room}/built/{it}", f"{tree}/crates/{it}", copy_function=link_or_copy)
+        with open(f"{self.tree}/crates.txt", encoding="utf-8") as lines:
+            kept = [line for line in lines if line.partition(":")[0].strip() in names]
+        with open(f"{tree}/crates.txt", "w", encoding="utf-8") as it:
+            it.writelines(kept)
+        shutil.copyfile(f"{self.tree}/HANDLES", f"{tree}/HANDLES")
+        return f"{tree}/crates/{name}"
+
+    def rt(self, folder, log, *words):
+        """Runs rt and returns whether it ended well."""
+        if self.is_ending:
+            return False
+        with subprocess.Popen(["rt", *words], cwd=folder, stdin=subprocess.DEVNULL, stdout=log, stderr=log) as ran:
+            self.started.add(ran)
+            status = ran.wait()
+            self.started.discard(ran)
+        return status == 0
+
+    def prove(self, name, jobs):
+        """Builds a library, or the program for each level, and returns whether it could."""
+        is_built, words = False, ["--jobs", str(jobs)]
+        with open(f"{self.room}/{name}.log", "w", encoding="utf-8") as log:
+            try:
+                folder = self.tree_of(name)
+                is_built = self.link(folder, log, words) if name == TOP else self.library(name, folder, log, words)
+            except OSError as error:
+                print(error, file=log)
+        shutil.rmtree(f"{self.room}/{name}", ignore_errors=True)
+        return is_built
+
+    def library(self, name, folder, log, words):
+        if not self.rt(folder, log, "lib", *words):
+            return False
+        shutil.rmtree(f"{folder}/out/incremental", ignore_errors=True)
+        shutil.rmtree(f"{self.room}/built/{name}")
+        os.rename(folder, f"{self.room}/built/{name}")
+        self.give(name)
+        return True
+
+    def link(self, folder, log, words):
+        shutil.copytree(f"{self.tree}/crates/{TOP}/data", f"{folder}/data")
+        for level in self.levels:
+            if not self.rt(folder, log, "run", *words, f"--cpu={level}", "--", "dump", "data/a.img"):
+                return False
+            shutil.copy(f"{folder}/out/{TOP}", f"{self.program}-{level}")
+        return True
+
+    def tell(self, name):
+        """Says how far the build is, and about how long the rest takes by what was built so far."""
+        gone, left = time.monotonic() - self.began, [it for it in self.crates if it not in self.took]
+        text = f"crate {len(self.took)} of {len(self.crates)} is proved ({name}), {gone / 60:.0f} minutes gone"
+        of_done = sum(self.seconds[it] for it in self.took)
+        if left and 10 * of_done > sum(self.seconds.values()):
+            work = sum(self.seconds[it] for it in left) / self.lanes
+            rate = sum(self.took.values()) / of_done
+            text += f", about {max(work, max(self.behind[it] for it in left)) * rate / 60:.0f} to go"
+        say(text)
+
+    def next_of(self, waiting, idle):
+        """Returns the crate that is to begin, and how many processors it gets, or None."""
+        ready = [it for it in waiting if all(dep in self.took for dep in self.uses[it])]
+        if not ready or idle < 1:
+            return None
+        return max(ready, key=self.behind.get), max(1, min(MOST_JOBS_OF_CRATE, idle - len(ready) + 1))
+
+    def all(self):
+        """Builds all, and returns the name of the crate that failed, or None."""
+        waiting, running, parent = set(self.crates), {}, os.getppid()
+        for name in self.crates:
+            self.take(name)
+        with concurrent.futures.ThreadPoolExecutor(self.lanes) as pool:
+            while waiting or running:
+                while found := self.next_of(waiting, self.lanes - sum(jobs for _, jobs, _ in running.values())):
+                    waiting.discard(found[0])
+                    running[pool.submit(self.prove, *found)] = *found, time.monotonic()
+                ended = concurrent.futures.wait(running, 1, concurrent.futures.FIRST_COMPLETED).done
+                for it in ended:
+                    name, jobs, since = running.pop(it)
+                    if not it.result():
+                        self.end()
+                        return name
+                    self.took[name] = (time.monotonic() - since) * jobs
+                    self.tell(name)
+                if os.getppid() != parent:
+                    self.end()
+                    return next(iter(waiting), TOP)
+        return None
+
+    def end(self):
+        self.is_ending = True
+        for it in [*self.started]:
+            it.terminate()
+
+
+@contextlib.contextmanager
+def room_of(tree):
+    """Makes the folder that a build works in, and removes it again. It has one name for each tree, so what a build that
+    was killed left goes away with the next, and rt has no more folders to remember than before."""
+    # (some gigabytes, which /tmp may hold in memory)
+    place = os.environ.get("TMPDIR") or ("/var/tmp" if os.path.isdir("/var/tmp") else tempfile.gettempdir())
+    room = f"{place}/geli-build-{hashlib.sha256(os.path.realpath(tree).encode()).hexdigest()[:16]}"
+    with contextlib.suppress(OSError):
+        if os.lstat(room).st_uid == os.geteuid():
+            shutil.rmtree(room)
+    try:
+        os.mkdir(room, 0o700)
+    except OSError:
+        room = tempfile.mkdtemp(prefix="geli-build-", dir=place)
+    try:
+        yield room
+    finally:
+        shutil.rmtree(room, ignore_errors=True)
+
+
+def main(tree, program, *levels):
+    with room_of(tree) as room:
+        build, signals = Build(tree, program, levels, room), (signal.SIGINT, signal.SIGTERM, signal.SIGHUP)
+
+        def stop(number, _):
+            for it in signals:
+                signal.signal(it, signal.SIG_IGN)
+            build.end()
+            raise SystemExit(128 + number)
+
+        for it in signals:
+            signal.signal(it, stop)
+        say(f"{len(build.crates)} crates are proved, up to {build.lanes} at a time")
+        failed = build.all()
+        for name in [failed] if failed else build.crates:
+            with contextlib.suppress(OSError), open(f"{room}/{name}.log", encoding="utf-8", errors="replace") as log:
+                print(f"== {name}", log.read(), sep="\n", end="")
+        if failed:
+            say(f"the crate {failed} was not proved")
+    return 1 if failed else 0
+
+
+if __name__ == "__main__":
+    sys.exit(main(*sys.argv[1:]))

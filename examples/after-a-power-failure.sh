@@ -12,7 +12,8 @@
 # crash may leave of sectors that were written after the last flush. Look at the filesystem inside with its
 # own tools, on a copy by copy-out.sh. Without authentication it doesn't see damaged sectors either.
 set -euo pipefail
-. "$(dirname -- "${BASH_SOURCE[0]}")/lib.sh"
+# shellcheck source=lib.sh
+. "$(dirname -- "$(readlink -f -- "${BASH_SOURCE[0]}")")/lib.sh"
 
 usage() { note 'usage: after-a-power-failure.sh [-p] [-j PASSFILE] [-k KEYFILE]... IMAGE'; exit 2; }
 while getopts pj:k: option; do
@@ -23,16 +24,16 @@ while getopts pj:k: option; do
 done
 shift $((OPTIND - 1))
 [ $# -eq 1 ] || usage
-image=$(one_word "$1")
+image_of "$1"
 need
-readable "$image"
+image_is_there
 key_ready
+private_folder
 
-[ -n "${private:-}" ] || private_folder
-
-python_part "$image" "${key[*]}" "$private/place" <<'PY'
+python_part "$image" "${key[*]}" "$private/place" "$1" <<'PY'
+import shlex
 import sys
-from lib import (REQUEST, WHY_UNREADABLE, Failed, Progress, Session, fields_of, is_tagged, length_of, ranges, run,
+from lib import (REQUEST, WHY_UNREADABLE, Failed, Progress, Session, fields_of, is_tagged, length_of_image, ranges, run,
                  tell_unreadable, told)
 
 
@@ -42,9 +43,9 @@ def stop(session, *lines):
     sys.exit(1)
 
 
-def metadata(session, length):
+def metadata(session, length, name):
     """The fields of the metadata, where they are sound."""
-    back = f"geli restore BACKUP {session.image}"
+    back = f"geli restore BACKUP {shlex.quote(name)}"
     rows, reply = session.ask("dump", session.image)
     if reply != "ok":
         helps = {
@@ -59,7 +60,8 @@ def metadata(session, length):
             "26": ["Look whether another geli has the image."
                    " Else copy the image to a sound disk first, and look at the copy."],
         }
-        stop(session, f"metadata: {told(reply)}", *helps.get(reply.split(" ")[1], []))
+        cause = told(reply, session.files, session.script.pid)
+        stop(session, f"metadata: {cause}", *helps.get(reply.split(" ")[1], []))
     return fields_of(rows)
 
 
@@ -100,10 +102,10 @@ def unreadable(session, fields, place):
     return ranges(bad)
 
 
-def look(geli, image, key, place):
-    length = length_of(image)
+def look(geli, image, key, place, name):
+    length = length_of_image(image)
     session = Session(geli, image)
-    fields = metadata(session, length)
+    fields = metadata(session, length, name)
     size = fields["provsize"]
     print(f"metadata: sound, version {fields['version']}, provider of {size} bytes in an image of {length}")
     open_by(session, key)

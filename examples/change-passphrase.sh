@@ -12,7 +12,8 @@
 #
 # Older backups still open with the old passphrase, and give the same master key: destroy them.
 set -euo pipefail
-. "$(dirname -- "${BASH_SOURCE[0]}")/lib.sh"
+# shellcheck source=lib.sh
+. "$(dirname -- "$(readlink -f -- "${BASH_SOURCE[0]}")")/lib.sh"
 
 usage() {
     note 'usage: change-passphrase.sh [-p | -j PASSFILE] [-k KEYFILE]... [-P | -J PASSFILE] [-K KEYFILE]...' \
@@ -25,18 +26,19 @@ while getopts pj:k:PJ:K: option; do
         p | j | k) key_option "$option" "${OPTARG:-}" ;;
         P) new_pass=none ;;
         J | K)
-            [ -r "$OPTARG" ] || fail "the file '$OPTARG' can't be read"
-            if [ "$option" = K ]; then new_files+=("$(plain "$OPTARG")"); else new_pass=$(plain "$OPTARG"); fi ;;
+            if [ "$option" = K ]; then stays "$OPTARG"; else new_passphrase "$OPTARG"; fi
+            one_word "$stays"
+            if [ "$option" = K ]; then new_files+=("$word"); else new_pass=$word; fi ;;
         *) usage ;;
     esac
 done
 shift $((OPTIND - 1))
 [ $# -eq 2 ] || usage
-image=$(plain "$1") backup=$(plain "$2")
-need
-readable "$image"
-[ -w "$image" ] || fail "'$image' can't be written"
-[ ! -e "$backup" ] || fail "'$backup' is there already: it is left alone"
+image_of "$1"
+backup=$(plain "$2")
+need sed
+image_is_there written
+absent "$backup"
 key_ready
 
 # The new key, as setkey takes it (-K, -J, -P) and as attach does (-k, -j, -p).
@@ -54,7 +56,7 @@ for at in 0 1; do
     if "$GELI" attach -C -n $at "${key[@]}" "$image" >/dev/null; then slot=$at && break; fi
 done
 if [ -z "$slot" ]; then
-    reply=$("$GELI" attach -C "${key[@]}" "$image") || fail "the old key: $reply"
+    reply=$("$GELI" attach -C "${key[@]}" "$image") || fail "the old key: $(told)"
 fi
 keys=$("$GELI" dump "$image" | sed -n 's/^keys: //p')
 target=$((1 - slot))
@@ -64,18 +66,18 @@ if [ "$new_pass" = none ]; then
     fresh+=(-P) trial+=(-p)
 else
     if [ -z "$new_pass" ]; then
-        [ -n "${private:-}" ] || private_folder
+        private_folder
         new_pass=$private/new
         ask_passphrase "$new_pass" 'new passphrase' twice
     fi
     fresh+=(-J "$new_pass") trial+=(-j "$new_pass")
 fi
-reply=$("$GELI" setkey -n "$target" "${key[@]}" "${fresh[@]}" "$image") || fail "the new key: $reply"
-reply=$("$GELI" attach -C -n "$target" "${trial[@]}" "$image") || fail "the new key doesn't open it: $reply"
+reply=$("$GELI" setkey -n "$target" "${key[@]}" "${fresh[@]}" "$image") || fail "the new key: $(told)"
+reply=$("$GELI" attach -C -n "$target" "${trial[@]}" "$image") || fail "the new key doesn't open it: $(told)"
 if [ "$target" != "$slot" ]; then
-    reply=$("$GELI" delkey -n "$slot" "$image") || fail "the old key is still there: $reply"
+    reply=$("$GELI" delkey -n "$slot" "$image") || fail "the old key is still there: $(told)"
 fi
-reply=$("$GELI" backup "$image" "$backup") || fail "the key is changed, its backup wasn't stored: $reply"
+reply=$("$GELI" backup "$image" "$backup") || fail "the key is changed, its backup wasn't stored: $(told)"
 sync
-note "$image: the new key is in slot $target, the old one is gone"
-note "keep $backup apart from $image, and destroy older backups: they open with the old key"
+note "$1: the new key is in slot $target, the old one is gone"
+note "keep $backup apart from $1, and destroy older backups: they open with the old key"

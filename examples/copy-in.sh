@@ -11,7 +11,8 @@
 # it is on standard error. It answers 0 only where all was written and flushed. If it is broken off, some sectors
 # are new and some old: give it again.
 set -euo pipefail
-. "$(dirname -- "${BASH_SOURCE[0]}")/lib.sh"
+# shellcheck source=lib.sh
+. "$(dirname -- "$(readlink -f -- "${BASH_SOURCE[0]}")")/lib.sh"
 
 usage() { note 'usage: copy-in.sh [-c] [-p] [-j PASSFILE] [-k KEYFILE]... SOURCE IMAGE'; exit 2; }
 check=
@@ -25,20 +26,19 @@ done
 shift $((OPTIND - 1))
 [ $# -eq 2 ] || usage
 source=$1
-image=$(one_word "$2")
+image_of "$2"
 need
 readable "$source"
-readable "$image"
-[ -w "$image" ] || fail "'$image' can't be written"
-[ ! "$source" -ef "$image" ] || fail 'the two are one file'
+image_is_there written
+for file in "${files[@]}"; do [ ! "$source" -ef "$file" ] || fail "'$source' and '$file' are one file"; done
 key_ready
 
-python_part "$source" "$image" "$check" "${key[*]}" <<'PY'
+python_part "$source" "$image" "$check" "${key[*]}" "$2" <<'PY'
 import hashlib
-from lib import REQUEST, Failed, Progress, Session, length_of, run
+from lib import REQUEST, Failed, Progress, Session, length_of, note, run
 
 
-def copy_in(geli, source, image, check, key):
+def copy_in(geli, source, image, check, key, name):
     size = length_of(source)
     session = Session(geli, image)
     session.attach(key)
@@ -47,7 +47,7 @@ def copy_in(geli, source, image, check, key):
     if count > session.sectors:
         room = session.sectors * width
         raise Failed(f"{source} has {size} bytes, the provider has room for {room}: nothing was written")
-    progress = Progress(size)
+    progress = Progress(2 * size if check else size)
     whole = hashlib.sha256()
 
     def pieces(file):
@@ -62,19 +62,26 @@ def copy_in(geli, source, image, check, key):
             yield at, piece
             progress.at((at + some) * width)
 
-    with open(source, "rb") as file:
-        session.write_pieces(pieces(file))
-    session.must("flush", image)
+    try:
+        with open(source, "rb") as file:
+            session.write_pieces(pieces(file))
+        session.must("flush", image)
+    except (Failed, OSError, KeyboardInterrupt):
+        note(f"{name}: some sectors are as before and some as in {source}: give this again")
+        raise
     if check:
-        back = hashlib.sha256()
+        back, got = hashlib.sha256(), size
         for piece in session.read_pieces(0, count):
             back.update(piece)
+            got += len(piece)
+            progress.at(got)
         if back.digest() != whole.digest():
             raise Failed("what is read differs from what was written")
     session.must("detach", image)
     if session.end() != 0:
         raise Failed("geli ended with another status than 0")
     progress.end(f"{size} bytes in {count} sectors of {width} bytes" + (", read again" if check else ""))
+    note(f"copy-out.sh -b {size} gives them back")
 
 
 run(copy_in)

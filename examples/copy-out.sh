@@ -9,9 +9,10 @@
 #
 # It works in pieces of up to 131,072 bytes over one `geli script`, some lines ahead of the replies, and says how far
 # it is on standard error. Until all is read and synced the file is called TARGET.part, and it stays so where a
-# sector can't be read.
+# sector can't be read, or the copy is broken off.
 set -euo pipefail
-. "$(dirname -- "${BASH_SOURCE[0]}")/lib.sh"
+# shellcheck source=lib.sh
+. "$(dirname -- "$(readlink -f -- "${BASH_SOURCE[0]}")")/lib.sh"
 
 usage() { note 'usage: copy-out.sh [-b BYTES] [-p] [-j PASSFILE] [-k KEYFILE]... IMAGE TARGET'; exit 2; }
 bytes=
@@ -24,14 +25,12 @@ while getopts b:pj:k: option; do
 done
 shift $((OPTIND - 1))
 [ $# -eq 2 ] || usage
-image=$(one_word "$1")
-target=$2
+image_of "$1"
+target=$(plain "$2")
 need
 if [ -n "$bytes" ]; then size_of "$bytes" && bytes=$size; fi
-readable "$image"
-for name in "$target" "$target.part"; do
-    [ ! -e "$name" ] || fail "'$name' is there already: it is left alone"
-done
+image_is_there
+absent "$target" "$target.part"
 key_ready
 
 python_part "$image" "$target" "$bytes" "${key[*]}" <<'PY'
@@ -43,9 +42,15 @@ def copy_out(geli, image, target, size, key):
     session = Session(geli, image)
     session.attach("-r", key)
     room = session.sectors * session.width
+    if not size:
+        note(f"all {room} bytes of the provider are copied (-b: only the first ones)")
     size = int(size) if size else room
     if size > room:
         raise Failed(f"the provider has {room} bytes, fewer than {size}")
+    disk = os.statvfs(os.path.dirname(target))
+    if size > disk.f_bavail * disk.f_frsize:
+        raise Failed(f"{size} bytes are to be copied, and the disk of {target} has room for"
+                     f" {disk.f_bavail * disk.f_frsize} (-b: only the first ones)")
     progress = Progress(size)
     got = 0
     with open(target + ".part", "xb") as file:
@@ -55,11 +60,11 @@ def copy_out(geli, image, target, size, key):
                 file.write(piece)
                 got += len(piece)
                 progress.at(got)
-        except Failed:
-            note(f"{target}.part has the {got} bytes before")
+            file.flush()
+            os.fsync(file.fileno())
+        except (Failed, OSError, KeyboardInterrupt):
+            note(f"{target}.part has the {got} bytes before, in the clear: remove it, and give this again")
             raise
-        file.flush()
-        os.fsync(file.fileno())
     session.must("detach", image)
     if session.end() != 0:
         raise Failed("geli ended with another status than 0")

@@ -1,67 +1,92 @@
 #!/usr/bin/env bash
 # grow-provider.sh: makes an image longer, and the provider in it, and backs its new metadata up.
 #
-#   grow-provider.sh [-s OLDSIZE] [-p] [-j PASSFILE] [-k KEYFILE]... SIZE IMAGE BACKUP
+#   grow-provider.sh [-f] [-s OLDSIZE] [-p] [-j PASSFILE] [-k KEYFILE]... SIZE IMAGE BACKUP
 #
 # SIZE is the new length in bytes, or such as 80M or 2G, a multiple of 4096. BACKUP must not exist. The passphrase is
-# asked for; -j names a file whose first line it is, -p says that there is none. The data stay where they are.
+# asked for; -j names a file whose first line it is, -p says that there is none. The data stay where they are. The new
+# part of the file takes no space on the disk until it is written; with -f it takes all of it now. Of
+# `join:FIRST:SECOND` the second file grows.
 #
 # If power fails on the way, the metadata are at their old place or at the new one. Where the image opens, all is well.
 # Where it doesn't (error 5), give this again with -s and the length that the image had before.
 #
-# The new sectors of an authenticated provider are written once, with zeros, since they couldn't be read else.
+# The new sectors of an authenticated provider are written once, with zeros, since they couldn't be read else. If that
+# is broken off, -s goes on with it: it writes those that can't be read.
 # Older backups don't fit any more: `geli restore -f` takes them all the same.
 set -euo pipefail
-. "$(dirname -- "${BASH_SOURCE[0]}")/lib.sh"
+# shellcheck source=lib.sh
+. "$(dirname -- "$(readlink -f -- "${BASH_SOURCE[0]}")")/lib.sh"
 
-usage() { note 'usage: grow-provider.sh [-s OLDSIZE] [-p] [-j PASSFILE] [-k KEYFILE]... SIZE IMAGE BACKUP'; exit 2; }
-oldsize=
-while getopts s:pj:k: option; do
+usage() {
+    note 'usage: grow-provider.sh [-f] [-s OLDSIZE] [-p] [-j PASSFILE] [-k KEYFILE]... SIZE IMAGE BACKUP'
+    exit 2
+}
+oldsize='' allocated='' resumed=''
+while getopts fs:pj:k: option; do
     case $option in
-        s) oldsize=$OPTARG ;;
+        f) allocated=allocated ;;
+        s) oldsize=$OPTARG resumed=resumed ;;
         p | j | k) key_option "$option" "${OPTARG:-}" ;;
         *) usage ;;
     esac
 done
 shift $((OPTIND - 1))
 [ $# -eq 3 ] || usage
-image=$(one_word "$2") backup=$(plain "$3")
-need truncate stat
+image_of "$2"
+backup=$(plain "$3")
+need truncate fallocate df stat flock
 if [ -n "$oldsize" ]; then size_of "$oldsize" && oldsize=$size; fi
 size_of "$1"
 ((size % 4096 == 0)) || fail 'the size must be a multiple of 4096'
-[ -f "$image" ] && [ -w "$image" ] || fail "'$image' is no file that can be written"
-[ ! -e "$backup" ] || fail "'$backup' is there already: it is left alone"
-length=$(stat -c %s -- "$image")
+for file in "${files[@]}"; do
+    if [ ! -f "$file" ] || [ ! -w "$file" ]; then fail "'$file' is no file that can be written"; fi
+done
+absent "$backup"
+
+# The file that grows, and how long those before it are.
+grown=$(plain "${files[-1]}") before=0
+if [ ${#files[@]} = 2 ]; then before=$(($(stat -Lc %s -- "${files[0]}") / 512 * 512)); fi
+length=$((before + $(stat -Lc %s -- "$grown")))
 ((length <= size)) || fail "the image has $length bytes, more than $size"
 key_ready
 
+opens() { reply=$("$GELI" attach -C "${key[@]}" "$image"); }
 if [ -z "$oldsize" ]; then
     # The key must open it before anything is changed.
-    reply=$("$GELI" attach -C "${key[@]}" "$image") || fail "nothing was changed: $reply"
+    opens || fail "nothing was changed: $(told)"
     oldsize=$length
     ((length < size)) || fail "the image has $size bytes already"
 fi
-truncate -s "$size" "$image" || fail "there is no room for '$image'"
-sync "$image"
-reply=$("$GELI" resize -s "$oldsize" "$image") ||
-    fail "$reply: where nothing else changed the image, 'truncate -s $oldsize $image' makes it as it was"
-reply=$("$GELI" attach -C "${key[@]}" "$image") || fail "the key doesn't open it: $reply"
+if [ -z "$resumed" ] || ((length < size)) || ! opens; then
+    # Once the image is longer, `resize` must not be refused because another program holds it.
+    exec {lock}<>"$grown"
+    flock -n "$lock" || fail "nothing was changed: another program holds '$grown' (end it, as by serve-nbd.sh -e)"
+    lengthen "$grown" $((size - before)) "$allocated"
+    sync "$grown"
+    exec {lock}>&-
+    reply=$("$GELI" resize -s "$oldsize" "$image") || fail "$(told)
+where nothing else changed the image, 'truncate -s $((oldsize - before)) $(printf %q "$grown")' makes it as it was"
+    opens || fail "the key doesn't open it: $(told)"
+fi
 
-python_part "$image" "$oldsize" "${key[*]}" <<'PY'
-from lib import Progress, Session, run
+name=$2
+left() { note "'$name' has grown. Give this again, with -s $oldsize, to write the new sectors and the backup"; }
+python_part "$image" "$oldsize" "$resumed" "${key[*]}" <<'PY'
+from lib import TAGGED, Progress, Session, fields_of, is_tagged, run
 
 
-def write_new_sectors(geli, image, oldsize, key):
+def write_new_sectors(geli, image, oldsize, resumed, key):
     session = Session(geli, image)
     rows, _ = session.must("dump", image)
-    fields = dict(row.split(": ") for row in rows)
+    fields = fields_of(rows)
     session.attach(key)
-    if int(fields["flags"], 16) & 0x10:
-        units = (session.width - 1) // {"18": 480, "19": 464, "20": 448}[fields["aalgo"]] + 1
+    if is_tagged(fields):
+        units = (session.width - 1) // TAGGED[fields["aalgo"]] + 1
         first = (int(oldsize) - 512) // (512 * units)
         progress = Progress((session.sectors - first) * session.width)
-        session.zeros(first, progress)
+        write = session.zeros_where_unreadable if resumed else session.zeros
+        write(first, progress)
         progress.end(f"{session.sectors - first} new sectors written once")
     session.must("detach", image)
     session.end()
@@ -69,7 +94,8 @@ def write_new_sectors(geli, image, oldsize, key):
 
 run(write_new_sectors)
 PY
-reply=$("$GELI" backup "$image" "$backup") || fail "the provider has grown, its backup wasn't stored: $reply"
+reply=$("$GELI" backup "$image" "$backup") || fail "the provider has grown, its backup wasn't stored: $(told)"
 sync
-note "$image: a provider in $size bytes"
-note "keep $backup apart from $image"
+left() { :; }
+note "$2: a provider in $size bytes"
+note "keep $backup apart from $2"

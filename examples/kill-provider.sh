@@ -9,7 +9,8 @@
 # The keys in the metadata are destroyed, and so the data can't be read any more. Whoever has a backup of the metadata,
 # and its key, can bring them back (`geli restore`): destroy the backups too.
 set -euo pipefail
-. "$(dirname -- "${BASH_SOURCE[0]}")/lib.sh"
+# shellcheck source=lib.sh
+. "$(dirname -- "$(readlink -f -- "${BASH_SOURCE[0]}")")/lib.sh"
 
 usage() { note 'usage: kill-provider.sh [-y] IMAGE'; exit 2; }
 sure=
@@ -21,19 +22,18 @@ while getopts y option; do
 done
 shift $((OPTIND - 1))
 [ $# -eq 1 ] || usage
-image=$(plain "$1")
+image_of "$1"
 need sed
-readable "$image"
-[ -w "$image" ] || fail "'$image' can't be written"
+image_is_there written
 
-fields=$("$GELI" dump "$image") || fail "nothing was changed: ${fields##*$'\n'}: '$image' holds no provider"
-size=$(sed -n 's/^provsize: //p' <<<"$fields")
-keys=$(sed -n 's/^keys: //p' <<<"$fields")
-note "$image: a provider of $size bytes, keys $keys, will be lost for good where no backup of its metadata is elsewhere"
+reply=$("$GELI" dump "$image") || fail "nothing was changed, '$1' holds no provider: $(told)"
+size=$(sed -n 's/^provsize: //p' <<<"$reply")
+keys=$(sed -n 's/^keys: //p' <<<"$reply")
+note "$1: a provider of $size bytes, keys $keys, will be lost for good where no backup of its metadata is elsewhere"
 if [ -z "$sure" ]; then
-    [ -r /dev/tty ] || fail 'nothing was changed: no terminal to ask at (-y does it without)'
+    has_terminal || fail 'nothing was changed: no terminal to ask at (-y does it without)'
     IFS= read -r -p "type the name of the image to destroy it: " typed </dev/tty || fail 'nothing was changed'
     [ "$typed" = "$1" ] || fail 'nothing was changed: the names differ'
 fi
-reply=$("$GELI" kill "$image") || fail "$reply"
-note "$image: its metadata are destroyed"
+reply=$("$GELI" kill "$image") || fail "$(told)"
+note "$1: its metadata are destroyed"

@@ -2,10 +2,14 @@
 
 Nothing happens when it is imported. What can't be done is told by an exception, `Failed`.
 """
+import binascii
 import collections
 import contextlib
+import fcntl
 import os
+import re
 import signal
+import stat
 import subprocess
 import sys
 import time
@@ -52,25 +56,105 @@ def note(text):
     print(text, file=sys.stderr)
 
 
-def run(work):
-    """Does the work of a script: its words are the script's name, the program `geli`, and what the work takes."""
-    signal.signal(signal.SIGINT, signal.SIG_DFL)
+def run(work, status=1):
+    """Does the work of a script: its words are the script's name, the program `geli`, and what the work takes.
+
+    Returns what the work returns. Where it can't be done the program ends with this status.
+    """
+    for number in (signal.SIGINT, signal.SIGTERM, signal.SIGHUP):
+        signal.signal(number, broken_off)
+    sys.stdout.reconfigure(errors="backslashreplace")
     name, geli, *words = sys.argv[1:]
     try:
-        work(geli, *words)
-    except Failed as failed:
-        sys.exit(f"{name}: {failed}")
+        return work(geli, *words)
+    except KeyboardInterrupt:
+        note(f"{name}: broken off")
+        sys.exit(130)
+    except (Failed, OSError, UnicodeError) as failed:
+        note(f"{name}: {failed}")
+        sys.exit(status)
 
 
-def told(reply):
-    """A refusal with its usual cause. geli(8) has all of them."""
-    return f"{reply}: {CAUSES.get(reply.split(' ')[1], 'see DIAGNOSTICS in geli(8)')}"
+def broken_off(number, frame):
+    raise KeyboardInterrupt
+
+
+def files_of(image):
+    """The files of the word for an image: of layers those that they lie over."""
+    layers = re.fullmatch("behind:(.+)|join:([^:]+):(.+)", image, re.DOTALL)
+    return [name for name in layers.groups() if name] if layers else [image]
+
+
+def told(reply, files=(), own=None):
+    """A refusal with its usual cause, or that which is seen at the image's files. geli(8) has all of them."""
+    if not reply.startswith("error "):
+        return f"geli says no more than '{reply}'" if reply else "geli ended without a reply"
+    number = reply.split(" ")[1]
+    found = None
+    if number in ("26", "35"):
+        found = next(filter(None, (seen(path, own) for path in files)), None)
+    return f"{reply}: {found or CAUSES.get(number, 'see DIAGNOSTICS in geli(8)')}"
+
+
+def seen(path, own=None):
+    """Why an image can't be opened, locked or written, if that can be seen. The process `own` may hold it."""
+    try:
+        state = os.stat(path)
+        disk = os.statvfs(path)
+    except OSError as failed:
+        return failed.strerror
+    if stat.S_ISDIR(state.st_mode):
+        return "it is a folder"
+    holder = holder_of(state, own)
+    if holder:
+        return f"process {holder} holds it ({name_of(holder)})"
+    if not os.access(path, os.R_OK):
+        return "it can't be read: look at its permissions"
+    if disk.f_flag & os.ST_RDONLY:
+        return "its file system is read-only"
+    if not os.access(path, os.W_OK):
+        return "it can't be written: look at its permissions"
+    if stat.S_ISREG(state.st_mode) and disk.f_bavail * disk.f_frsize < 1 << 20:
+        return "its file system is full"
+    return None
+
+
+def holder_of(state, own=None):
+    """The process, other than `own`, that has a lock on the file with this state."""
+    with contextlib.suppress(OSError, ValueError), open("/proc/locks", encoding="ascii") as locks:
+        for line in locks:
+            words = line.split()
+            major, minor, inode = words[-3].split(":")
+            here = int(inode) == state.st_ino and os.makedev(int(major, 16), int(minor, 16)) == state.st_dev
+            if here and "FLOCK" in words and int(words[-4]) not in (own, os.getpid()):
+                return int(words[-4])
+    return None
+
+
+def name_of(process):
+    """How a process was called."""
+    try:
+        with open(f"/proc/{process}/cmdline", "rb") as file:
+            return file.read().replace(b"\0", b" ").decode(errors="replace").strip()
+    except OSError:
+        return "of another user"
 
 
 def length_of(path):
     """The bytes of a file or a block device."""
     with open(path, "rb") as file:
         return file.seek(0, os.SEEK_END)
+
+
+def length_of_image(image):
+    """The bytes of an image: of two files that are joined, the whole device sectors."""
+    files = files_of(image)
+    return length_of(image) if files == [image] else sum(length_of(file) // 512 * 512 for file in files)
+
+
+def clock(seconds):
+    """A time, as 0:07 or 12:34."""
+    return f"{int(seconds) // 60}:{int(seconds) % 60:02}"
 
 
 def fields_of(rows):
@@ -110,14 +194,25 @@ class Session:
 
     def __init__(self, geli, image):
         self.image = image
+        self.files = list(map(os.path.realpath, files_of(image)))  # a server's folder is another later
         self.script = subprocess.Popen(
             [geli, "script", image], stdin=subprocess.PIPE, stdout=subprocess.PIPE, bufsize=1 << 20)
+        for pipe in self.script.stdin, self.script.stdout:
+            with contextlib.suppress(OSError, AttributeError):  # python3 has its name from 3.10 on
+                fcntl.fcntl(pipe, fcntl.F_SETPIPE_SZ, 1 << 20)  # a whole line and more
+        self.digits = bytearray(2 * REQUEST + 1)  # of a reply
         self.width = self.sectors = 0  # the bytes of a sector, and how many there are, once the provider is attached
 
-    def say(self, *words):
+    def say(self, *words, data=None):
+        """Says a line of words, and bytes behind them as digits."""
+        line = self.script.stdin
         try:
-            self.script.stdin.write(" ".join(map(str, words)).encode() + b"\n")
-            self.script.stdin.flush()
+            line.write(" ".join(map(str, words)).encode())
+            if data is not None:
+                line.write(b" ")
+                line.write(binascii.hexlify(data))
+            line.write(b"\n")
+            line.flush()
         except OSError:
             raise Failed("geli has ended before its time") from None
 
@@ -136,8 +231,24 @@ class Session:
         """The reply to a line that must be served."""
         rows, line = self.reply()
         if line.startswith("error "):
-            raise Failed(f"{what}: {told(line)}")
+            raise Failed(f"{what}: {told(line, self.files, self.script.pid)}")
         return rows, line[3:]
+
+    def taken(self, what, size):
+        """The bytes, so many, of the reply to a `read` that must be served; of that to a `write`, none."""
+        script = self.script.stdout
+        start = script.read(3)
+        if start == b"ok\n":
+            return b""
+        if start != b"ok ":
+            line = (start + script.readline()).decode().rstrip()
+            ended = not line.startswith("error ")
+            raise Failed("geli ended without a reply" if ended else
+                         f"{what}: {told(line, self.files, self.script.pid)}")
+        digits = memoryview(self.digits)[:2 * size + 1]
+        if script.readinto(digits) < len(digits):
+            raise Failed("geli ended within a reply")
+        return binascii.unhexlify(digits[:-1])
 
     def must(self, verb, *words):
         self.say(verb, *words)
@@ -157,7 +268,8 @@ class Session:
         self.width, self.sectors = map(int, rows[0].split(" ")[2:])
 
     def ahead(self, lines):
-        """Says lines, each of (what it does, its words), and gives what stands behind the `ok` of each.
+        """Says lines, each of (what it does, its words, the bytes to write or how many to read), and gives the bytes of
+        each reply.
 
         Some are said ahead of the replies. Once one is refused no more are; that is told when the replies to all that
         were said are taken.
@@ -165,51 +277,71 @@ class Session:
         lines, waiting, refused = iter(lines), collections.deque(), None
         while True:
             while refused is None and len(waiting) < AHEAD:
-                what, words = next(lines, (None, None))
+                what, words, data = next(lines, (None, None, None))
                 if what is None:
                     break
-                self.say(*words)
-                waiting.append(what)
+                reads = isinstance(data, int)
+                self.say(*words, data=None if reads else data)
+                waiting.append((what, data if reads else 0))
             if not waiting:
                 break
             try:
-                _, digits = self.served(waiting.popleft())
+                got = self.taken(*waiting.popleft())
             except Failed as failed:
                 refused = refused or failed
             if refused is None:
-                yield digits
+                yield got
         if refused:
             raise refused
 
     def write_pieces(self, pieces):
         """Writes pieces, each of (first sector, bytes)."""
-        lines = ((f"write of sector {at}", ("write", self.image, at, piece.hex())) for at, piece in pieces)
+        lines = ((f"write of sector {at}", ("write", self.image, at), piece) for at, piece in pieces)
         for _ in self.ahead(lines):
             pass
 
     def write(self, first, data):
         """Writes whole sectors from the first on."""
-        step = REQUEST // self.width * self.width
+        step, data = REQUEST // self.width * self.width, memoryview(data)
         self.write_pieces((first + at // self.width, data[at:at + step]) for at in range(0, len(data), step))
 
     def zeros(self, first, progress):
         """Writes zeros from a sector to the end."""
-        step = REQUEST // self.width
 
         def pieces():
-            for at in range(first, self.sectors, step):
-                some = min(step, self.sectors - at)
+            for at, some in self.steps(first):
                 yield at, bytes(some * self.width)
                 progress.at((at + some - first) * self.width)
 
         self.write_pieces(pieces())
 
+    def zeros_where_unreadable(self, first, progress):
+        """Writes zeros to the sectors from this one to the end that can't be read, and leaves the others."""
+        for start, count in self.steps(first):
+            if not self.can_read(start, count):
+                for at in range(start, start + count):
+                    if not self.can_read(at, 1):
+                        self.write(at, bytes(self.width))
+            progress.at((start + count - first) * self.width)
+
+    def steps(self, first):
+        """The sectors from this one to the end as pieces that a line can write: where each begins, and how many."""
+        step = REQUEST // self.width
+        return ((at, min(step, self.sectors - at)) for at in range(first, self.sectors, step))
+
+    def can_read(self, first, count):
+        """Whether these sectors can be read; what else may be refused ends the work."""
+        _, line = self.ask("read", self.image, first, count)
+        if line.startswith("error ") and not line.startswith("error 25 "):
+            raise Failed(f"read of sector {first}: {told(line, self.files, self.script.pid)}")
+        return line.startswith("ok ")
+
     def read_pieces(self, first, count):
         """The bytes of so many sectors from the first on, piece by piece."""
         step, end = REQUEST // self.width, first + count
         runs = ((at, min(step, end - at)) for at in range(first, end, step))
-        lines = ((f"read of {some} sectors from {at} on", ("read", self.image, at, some)) for at, some in runs)
-        return map(bytes.fromhex, self.ahead(lines))
+        return self.ahead((f"read of {some} sectors from {at} on", ("read", self.image, at, some), some * self.width)
+                          for at, some in runs)
 
     def sweep(self, fields, place, first=0, anew=True):
         """Verifies an authenticated provider with these metadata to its end, anew or from the place that the file has.
@@ -239,21 +371,30 @@ class Session:
 
 
 class Progress:
-    """Says how far it is, once a second."""
+    """Says once a second how far it is, where standard error is a terminal."""
 
     def __init__(self, whole):
         self.whole = whole
         self.begun = self.shown = time.monotonic()
-        self.before, self.after = ("\r", "") if sys.stderr.isatty() else ("", "\n")
+        self.is_seen = sys.stderr.isatty()
 
     def at(self, done):
         now = time.monotonic()
-        if now - self.shown > 1:
-            self.shown = now
-            speed = done / (now - self.begun) / 2**20
-            print(f"{self.before}{done >> 20} of {self.whole >> 20} MB, {speed:.1f} MB/s ", end=self.after,
-                  file=sys.stderr, flush=True)
+        if not self.is_seen or now - self.shown < 1:
+            return
+        self.shown = now
+        speed = max(done, 1) / (now - self.begun)
+        self.line(f"{done * 100 // self.whole} %, {done >> 20} of {self.whole >> 20} MiB, {speed / 2**20:.1f} MiB/s, "
+                  f"{clock((self.whole - done) / speed)} left")
+
+    def line(self, text, end=""):
+        """Puts a line in place of the one before."""
+        print(f"\r{text:<70}" if self.is_seen else text, end=end, file=sys.stderr, flush=True)
 
     def end(self, text):
         spent = max(time.monotonic() - self.begun, 0.001)
-        note(f"{self.before}{text}, {spent:.1f} s, {self.whole / spent / 2**20:.1f} MB/s")
+        self.line(f"{text}, {spent:.1f} s, {self.whole / spent / 2**20:.1f} MiB/s", end="\n")
+
+
+if __name__ == "__main__":
+    print(told(sys.argv[1], files_of(sys.argv[2])))

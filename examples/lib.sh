@@ -5,16 +5,50 @@
 # shellcheck shell=bash
 
 GELI=${GELI:-geli}
-library=$(cd -- "$(dirname -- "${BASH_SOURCE[0]}")" && pwd)
+library=$(dirname -- "$(readlink -f -- "${BASH_SOURCE[0]}")")
+program=${GELI_CALLED_AS:-${0##*/}} # as another name starts it
+unset GELI_CALLED_AS
 umask 077 # every file that is made here is the caller's alone
 
 note() { printf '%s\n' "$*" >&2; }
 fail() {
-    note "${0##*/}: $*"
+    note "$program: $*"
     exit 1
 }
 
-# The name of a file, so that it is no option.
+# -h or --help: the head of the script, which says what it does and takes.
+case ${1:-} in
+    -h | --help)
+        sed -n '2,/^[^#]/s/^# \{0,1\}//p' "$0"
+        exit 0 ;;
+esac
+
+# A script that may stop halfway says here what it leaves then, and how to go on.
+left() { :; }
+private=''
+at_end() {
+    local status=$?
+    if [ "$status" != 0 ]; then left; fi
+    if [ -n "$private" ]; then rm -rf -- "$private"; fi
+}
+trap at_end EXIT
+trap 'exit 130' INT TERM HUP
+
+# A folder for passphrases, in memory where the system has such a place. It goes away when the script ends.
+private_folder() {
+    local top
+    [ -z "$private" ] || return 0
+    for top in "${XDG_RUNTIME_DIR:-}" /dev/shm "${TMPDIR:-/tmp}"; do
+        # Its name is part of words of a script.
+        if [ -n "$top" ] && [ -d "$top" ] && [ -w "$top" ] && [[ $top != *[[:space:]:]* ]]; then
+            private=$(mktemp -d "$top/geli.XXXXXXXX") || fail "no private folder in $top"
+            return
+        fi
+    done
+    fail 'there is no folder for a passphrase: TMPDIR names another, without blanks'
+}
+
+# The name of a file, so that it is no option, and no layer.
 plain() {
     case $1 in
         '') fail 'a file name is empty' ;;
@@ -23,15 +57,67 @@ plain() {
     esac
 }
 
-# The same as a line of a script can hold it: one word.
+# one_word NAME: sets `word` to a name of the file that a line of a script can hold. Where the name itself can't, as
+# with blanks, that is a link in the private folder.
+links=0
 one_word() {
+    local LC_ALL=C
     case $1 in
-        *[[:space:]]*)
-            fail "the name '$1' has blanks, which divide the words of a geli script: use another name or a link" ;;
-        *) plain "$1" ;;
+        '') fail 'a file name is empty' ;;
+        *[!A-Za-z0-9._/:,+=@%~^-]*)
+            private_folder
+            word=$private/name$((links += 1))
+            ln -s -- "$(realpath -ms -- "$1")" "$word" ;;
+        *) word=$(plain "$1") ;;
     esac
 }
 
+# image_of NAME: sets `image` to the word for the image, and `files` to the files that it lies in. As for geli itself,
+# `behind:FILE` and `join:FILE:FILE` are layers over files; ./behind:FILE is a file of that name.
+image_of() {
+    if [[ $1 =~ ^behind:(.+)$ ]]; then
+        files=("${BASH_REMATCH[1]}")
+        image=behind:
+    elif [[ $1 =~ ^join:([^:]+):(.+)$ ]]; then
+        files=("${BASH_REMATCH[1]}" "${BASH_REMATCH[2]}")
+        image=join:
+    else
+        files=("$1")
+        image=''
+    fi
+    one_word "${files[0]}"
+    image+=$word
+    if [ ${#files[@]} = 2 ]; then
+        one_word "${files[1]}"
+        image+=:$word
+    fi
+}
+
+# A file, or a block device, that can be read.
+readable() {
+    if [ ! -r "$1" ] || { [ ! -f "$1" ] && [ ! -b "$1" ]; }; then
+        fail "'$1' is no file that can be read"
+    fi
+}
+
+# The files of the image can be read; with `written`, and written.
+image_is_there() {
+    local file
+    for file in "${files[@]}"; do
+        readable "$file"
+        [ "${1:-}" != written ] || [ -w "$file" ] || fail "'$file' can't be written"
+    done
+}
+
+# absent NAME...: nothing is overwritten.
+absent() {
+    local name
+    for name in "$@"; do
+        if [ -e "$name" ] || [ -L "$name" ]; then fail "'$name' is there already: it is left alone"; fi
+    done
+}
+
+# shellcheck disable=SC2034 # what sets a name for the scripts
 # size_of WORD: sets `size` to the number of bytes that the word says, as 83886080, 80M or 2G (powers of 1024). It ends
 # below 2^53, as geli's own sizes do.
 size_of() {
@@ -43,40 +129,73 @@ size_of() {
     size=$((BASH_REMATCH[1] << shift))
 }
 
+# lengthen FILE SIZE [allocated]: makes the file so long; its new part takes no space on the disk before it is written,
+# unless it is to be allocated.
+lengthen() {
+    if [ "${3:-}" = allocated ]; then
+        fallocate -l "$2" -- "$1" || fail "there is no room for '$1'"
+        return
+    fi
+    truncate -s "$2" -- "$1" || fail "there is no room for '$1'"
+    local -i room
+    room=$(df --output=avail -B1 -- "$1" | tail -n 1)
+    ((room >= $2)) || note "note: '$1' may come to take $2 bytes, and its disk has room for $room (-f takes all now)"
+}
+
 # The programs that are used here: geli, python3 and these.
 need() {
-    local program
-    for program in "$GELI" python3 "$@"; do
-        command -v "$program" >/dev/null || fail "the program '$program' isn't there (GELI names the geli to use)"
+    local name package
+    for name in "$GELI" python3 "$@"; do
+        command -v "$name" >/dev/null && continue
+        case $name in
+            nbdkit) package='Debian: nbdkit and nbdkit-plugin-python' ;;
+            nbdfuse) package='Debian: libnbd-bin' ;;
+            fusermount3) package='Debian: fuse3' ;;
+            fuse2fs) package='Debian: fuse2fs' ;;
+            mke2fs) package='Debian: e2fsprogs, in /sbin' ;;
+            grub-mount) package='Debian: grub-common' ;;
+            "$GELI") package='GELI names the geli to use' ;;
+            *) package='' ;;
+        esac
+        fail "the program '$name' isn't there${package:+ ($package)}"
     done
 }
 
-# A file, or a block device, that can be read.
-readable() {
-    if [ ! -r "$1" ] || { [ ! -f "$1" ] && [ ! -b "$1" ]; }; then
-        fail "'$1' is no file that can be read"
+# The refusal in `reply`, and its cause as far as it can be seen at the image.
+reply=''
+told() { python3 -B "$library/lib.py" "${reply##*$'\n'}" "$image"; }
+
+has_terminal() { { : </dev/tty; } 2>/dev/null; }
+
+# stays NAME: sets `stays` to a name under which the file can be read again and again, by other processes too. A pipe,
+# as of `-j <(pass show disk)`, is copied into the private folder.
+copies=0
+stays() {
+    if [ ! -r "$1" ] || [ -d "$1" ]; then fail "the file '$1' can't be read"; fi
+    stays=$1
+    if [ ! -f "$1" ] || [[ $1 == /dev/* || $1 == /proc/* ]]; then
+        private_folder
+        stays=$private/copy$((copies += 1))
+        cat -- "$1" >"$stays" || fail "the file '$1' can't be read"
     fi
 }
 
-# A folder for passphrases, in memory where the system has such a place. It goes away when the script ends.
-private_folder() {
-    local top
-    for top in "${XDG_RUNTIME_DIR:-}" /dev/shm "${TMPDIR:-/tmp}"; do
-        if [ -n "$top" ] && [ -d "$top" ] && [ -w "$top" ]; then
-            private=$(mktemp -d "$top/geli.XXXXXXXX") || fail "no private folder in $top"
-            trap 'rm -rf "$private"' EXIT
-            trap 'exit 130' INT TERM HUP
-            one_word "$private" >/dev/null
-            return
-        fi
-    done
-    fail 'there is no folder for a passphrase'
+# new_passphrase NAME: sets `stays` to a passphrase file that a new key is to be made of. An empty passphrase is
+# refused.
+new_passphrase() {
+    local line
+    stays "$1"
+    IFS= read -r line <"$stays" || [ -n "$line" ] || fail "the passphrase file '$1' is empty"
+    case $line in
+        '') fail "the first line of the passphrase file '$1' is empty" ;;
+        *$'\r') note "note: the passphrase in '$1' ends with a carriage return, which counts" ;;
+    esac
 }
 
 # ask_passphrase FILE WHAT [twice]: asks at the terminal and writes the answer to FILE as its first line.
 ask_passphrase() {
     local first second
-    [ -r /dev/tty ] || fail "no terminal to ask for the $2: name a file of it (see the head of this script)"
+    has_terminal || fail "no terminal to ask for the $2: name a file whose first line it is, by -j (a new one: -J)"
     IFS= read -r -s -p "$2: " first </dev/tty || fail 'nothing was typed'
     printf '\n' >/dev/tty
     [ -n "$first" ] || fail "the $2 is empty"
@@ -92,12 +211,11 @@ ask_passphrase() {
 key=()
 has_passphrase=
 key_option() {
-    local name
     case $1 in
         k | j)
-            [ -r "$2" ] || fail "the file '$2' can't be read"
-            name=$(one_word "$2")
-            key+=("-$1" "$name") ;;
+            stays "$2"
+            one_word "$stays"
+            key+=("-$1" "$word") ;;
         p) key+=(-p) ;;
     esac
     case $1 in p | j) has_passphrase=$1 ;; esac
@@ -110,5 +228,6 @@ key_ready() {
     fi
 }
 
-# The python3 program on standard input, with these words and lib.py.
-python_part() { PYTHONPATH=$library python3 -B - "${0##*/}" "$GELI" "$@"; }
+# The python3 program on standard input, with these words and lib.py. It has no name in a folder, so that python3 looks
+# for no module in the caller's folder.
+python_part() { PYTHONPATH=$library python3 -B /dev/stdin "$program" "$GELI" "$@"; }

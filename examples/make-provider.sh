@@ -1,27 +1,32 @@
 #!/usr/bin/env bash
 # make-provider.sh: makes a new image with an encrypted provider in it, and backs its keys up.
 #
-#   make-provider.sh [-a] [-i ITERATIONS] [-J PASSFILE] SIZE IMAGE KEYFILE BACKUP
+#   make-provider.sh [-af] [-i ITERATIONS] [-J PASSFILE] SIZE IMAGE KEYFILE BACKUP
 #
 # SIZE is in bytes, or such as 80M or 2G, a multiple of 4096. IMAGE and BACKUP must not exist: nothing is overwritten.
 # (`geli init` alone makes a provider over whatever file it is given, and says nothing of what was there.) KEYFILE is
 # used where it exists; else it is made, of 64 random bytes. The passphrase is asked for twice; -J names a file
 # whose first line is the passphrase. Opening the provider takes the key file and the passphrase, both.
 #
+# IMAGE is a sparse file: it takes space on the disk as sectors are written, so a disk that is full later makes writes
+# fail. With -f it takes all of its space now.
+#
 # The provider has AES-XTS with keys of 256 bits, sectors of 4096 bytes and 1,000,000 iterations. With -a its
 # sectors are authenticated by HMAC/SHA256 and each of them is written once, with zeros, since a sector of such a
-# provider that was never written can't be read. Names must then be without blanks.
+# provider that was never written can't be read.
 #
 # BACKUP gets a copy of the metadata. Keep it apart from the image: without metadata the data are lost. Keep it as
 # safe as the image: it opens with the passphrase and key file of today, whatever is changed later.
 set -euo pipefail
-. "$(dirname -- "${BASH_SOURCE[0]}")/lib.sh"
+# shellcheck source=lib.sh
+. "$(dirname -- "$(readlink -f -- "${BASH_SOURCE[0]}")")/lib.sh"
 
-usage() { note 'usage: make-provider.sh [-a] [-i ITERATIONS] [-J PASSFILE] SIZE IMAGE KEYFILE BACKUP'; exit 2; }
-auth=() iterations=1000000 passfile=
-while getopts ai:J: option; do
+usage() { note 'usage: make-provider.sh [-af] [-i ITERATIONS] [-J PASSFILE] SIZE IMAGE KEYFILE BACKUP'; exit 2; }
+auth=() iterations=1000000 passfile='' allocated=''
+while getopts afi:J: option; do
     case $option in
         a) auth=(-a HMAC/SHA256) ;;
+        f) allocated=allocated ;;
         i) iterations=$OPTARG ;;
         J) passfile=$OPTARG ;;
         *) usage ;;
@@ -29,22 +34,20 @@ while getopts ai:J: option; do
 done
 shift $((OPTIND - 1))
 [ $# -eq 4 ] || usage
-image=$(plain "$2") keyfile=$(plain "$3") backup=$(plain "$4")
+keyfile=$(plain "$3") backup=$(plain "$4")
 
-if [ ${#auth[@]} -gt 0 ]; then
-    # Each is a word of a script then.
-    for name in "$image" "$keyfile" ${passfile:+"$passfile"}; do one_word "$name" >/dev/null; done
-fi
+image_of "$2"
+[ "${files[*]}" = "$2" ] || fail "'$2' asks for a layer over a file: make the file, or name it ./$2"
 size_of "$1"
 ((size % 4096 == 0 && size >= 65536)) || fail 'the size must be a multiple of 4096, and 65536 at least'
 [[ $iterations =~ ^[1-9][0-9]{0,9}$ ]] || fail "'$iterations' is no number of iterations"
-need truncate head
-for name in "$image" "$backup"; do
-    [ ! -e "$name" ] || fail "'$name' is there already: it is left alone"
-done
+need truncate fallocate df head
+name=$(plain "$2")
+absent "$name" "$backup"
 if [ -n "$passfile" ]; then
-    [ -r "$passfile" ] || fail "the passphrase file '$passfile' can't be read"
-    passfile=$(plain "$passfile")
+    new_passphrase "$passfile"
+    one_word "$stays"
+    passfile=$word
 else
     private_folder
     passfile=$private/new
@@ -52,30 +55,35 @@ else
 fi
 
 if [ -e "$keyfile" ]; then
-    [ -s "$keyfile" ] || fail "the key file '$keyfile' is empty"
+    [ -s "$keyfile" ] || [ ! -f "$keyfile" ] || fail "the key file '$keyfile' is empty"
     note "key file: $keyfile, as it stands"
 else
     head -c 64 /dev/urandom >"$keyfile"
     note "key file: $keyfile, new, of 64 random bytes"
 fi
+stays "$keyfile"
+one_word "$stays"
+newkey=$word
 sync # the key file must be on the disk before anything is locked by it
 
 set -C # `>` doesn't overwrite
-: >"$image" || fail "'$image' can't be made"
+: >"$name" || fail "'$name' can't be made"
 set +C
-truncate -s "$size" "$image" || fail "there is no room for '$image'"
-
-if ! reply=$("$GELI" init "${auth[@]}" -e AES-XTS -l 256 -s 4096 -i "$iterations" -K "$keyfile" -J "$passfile" \
+left() {
+    note "'$name' is only half made. Remove it, and '$backup' if it is there, and give this again: '$keyfile' can stay"
+}
+lengthen "$name" "$size" "$allocated"
+if ! reply=$("$GELI" init "${auth[@]}" -e AES-XTS -l 256 -s 4096 -i "$iterations" -K "$newkey" -J "$passfile" \
     -B "$backup" "$image"); then
     # 28 at the word of the backup means that the provider was made; the metadata are the last 512 bytes of the image.
     case $reply in
         'error 28 '*) fail "$reply: where the provider was made, its backup wasn't stored" ;;
-        *) fail "$reply" ;;
+        *) fail "$(told)" ;;
     esac
 fi
-reply=$("$GELI" attach -C -k "$keyfile" -j "$passfile" "$image") || fail "the new key doesn't open it: $reply"
+reply=$("$GELI" attach -C -k "$newkey" -j "$passfile" "$image") || fail "the new key doesn't open it: $(told)"
 if [ ${#auth[@]} -gt 0 ]; then
-    python_part "$image" -k "$keyfile" -j "$passfile" <<'PY'
+    python_part "$image" -k "$newkey" -j "$passfile" <<'PY'
 from lib import Progress, Session, run
 
 
@@ -93,5 +101,6 @@ run(write_sectors)
 PY
 fi
 sync
-note "$image: a provider with the key of $keyfile and the passphrase"
-note "keep $keyfile and $backup apart from $image; nobody can open it without $keyfile and the passphrase"
+left() { :; }
+note "$name: a provider with the key of $keyfile and the passphrase"
+note "keep $keyfile and $backup apart from $name; nobody can open it without $keyfile and the passphrase"

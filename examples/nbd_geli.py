@@ -3,22 +3,165 @@
     nbdkit -U SOCKET python nbd_geli.py geli=GELI image=IMAGE key=WORDS [readonly=yes] [ended=FILE]
 
 One `geli script` runs behind the server and holds the lock of the image. A request becomes lines of `read` or `write`,
-and of a sector that a write covers in part the rest is read first. A client's flush is the line `flush`. When the server
-ends, the provider is flushed and detached, and FILE gets `ok` or what went wrong. It needs lib.py in PYTHONPATH.
+and of a sector that a write covers in part the rest is read first.
+
+Writes that stand side by side are gathered in memory, up to one line's worth: to the end of a gathering, a client's
+flush or a request elsewhere. A client's flush first writes what is gathered and then is the line `flush`. Where a
+gathered write is refused, what was gathered is kept, and the request that made it be written fails. The next request
+that needs it to be written tries again, and so does a flush: it is answered well only once all that clients wrote
+before is written and synced.
+
+Where a client reads on and on, the next lines are said before it asks. When the server ends, what is gathered is
+written, the provider is flushed and detached, and FILE gets `ok` or what went wrong. It needs lib.py in PYTHONPATH.
 """
+import collections
 import errno
 import os
 import pathlib
 
 import nbdkit
-from lib import Failed, Session, note
+from lib import AHEAD, REQUEST, Failed, Session, note
 
 API_VERSION = 2
 NAMES = ("geli", "image", "key", "readonly", "ended")
 LARGEST = 32 << 20  # bytes of a request, the most that nbdkit lets through
 
 settings = {}
-session = None
+data = None
+
+
+class Ahead:
+    """Reads of a client that goes on and on: lines that were said, and the piece that the last one gave."""
+
+    def __init__(self, session):
+        self.session = session
+        self.step = REQUEST // session.width
+        self.said = collections.deque()  # the first sector, and how many, of lines without their replies
+        self.lines = 0  # so many lines are said ahead, more while the client goes on
+        self.first, self.piece = 0, b""  # the piece that the last reply gave, and its first sector
+        self.goes_on_at = -1  # where the last read ended
+
+    def read(self, offset, size):
+        """The bytes from this one on, of a client that may go on; None where it doesn't seem to."""
+        went_on = offset == self.goes_on_at
+        self.goes_on_at = offset + size
+        if not went_on and not self.has(offset):
+            return None
+        got = bytearray()
+        while len(got) < size:
+            part = self.part(offset + len(got), size - len(got))
+            if not part:
+                return None
+            got += part
+        return got
+
+    def has(self, offset):
+        begin = self.first * self.session.width
+        return begin <= offset < begin + len(self.piece)
+
+    def part(self, offset, size):
+        """Some bytes from this one on, of the piece that has it; none where it can't be read."""
+        if not self.has(offset):
+            self.take(offset // self.session.width)
+        at = offset - self.first * self.session.width
+        return self.piece[at:at + size] if self.has(offset) else b""
+
+    def take(self, sector):
+        """Takes the piece that begins with this sector, and says the lines behind it."""
+        if not self.said or self.said[0][0] != sector:
+            self.drop()
+        last = self.said[-1] if self.said else (sector, 0)
+        at = last[0] + last[1]
+        self.lines = min(self.lines + 1, AHEAD)
+        while len(self.said) < self.lines and at < self.session.sectors:
+            some = min(self.step, self.session.sectors - at)
+            self.session.say("read", self.session.image, at, some)
+            self.said.append((at, some))
+            at += some
+        if self.said:
+            self.take_reply()
+
+    def take_reply(self):
+        first, some = self.said.popleft()
+        self.first, self.piece = first, b""
+        try:
+            self.piece = self.session.taken(f"read of {some} sectors from {first} on", some * self.session.width)
+        except Failed:
+            self.drop()  # the request itself says whether it can be read
+
+    def drop(self):
+        """Takes all replies, and keeps nothing: the next line may be another, or these bytes may change."""
+        while self.said:
+            _, some = self.said.popleft()
+            try:
+                self.session.taken("read", some * self.session.width)
+            except Failed:
+                pass
+        self.piece, self.lines = b"", 0
+
+
+class Data:
+    """The bytes of an attached provider, as they are with what is gathered."""
+
+    def __init__(self, session):
+        self.session = session
+        self.ahead = Ahead(session)
+        self.start, self.gathered = 0, bytearray()
+        self.most = REQUEST // session.width * session.width
+
+    def read(self, buffer, offset):
+        end = offset + len(buffer)
+        if self.gathered and offset < self.start + len(self.gathered) and self.start < end:
+            self.write_gathered()
+        got = self.ahead.read(offset, len(buffer))
+        buffer[:] = got if got is not None else self.read_now(offset, len(buffer))
+
+    def read_now(self, offset, size):
+        self.ahead.drop()
+        width = self.session.width
+        first, skip = divmod(offset, width)
+        last = -(-(offset + size) // width)
+        return b"".join(self.session.read_pieces(first, last - first))[skip:skip + size]
+
+    def write(self, buffer, offset):
+        """Gathers what stands beside the rest, else writes the rest first."""
+        at = offset - self.start
+        if self.gathered and (not 0 <= at <= len(self.gathered) or len(self.gathered) >= self.most):
+            self.write_gathered()
+        if not self.gathered:
+            self.start, at = offset, 0
+        self.gathered[at:at + len(buffer)] = buffer
+        if len(self.gathered) >= self.most:
+            self.write_gathered()
+
+    def write_gathered(self):
+        """Writes what is gathered; where that is refused it stays."""
+        if not self.gathered:
+            return
+        self.ahead.drop()
+        first, skip = divmod(self.start, self.session.width)
+        last, rest = divmod(self.start + len(self.gathered), self.session.width)
+        head = self.sector(first)[:skip] if skip else b""
+        tail = self.sector(last)[rest:] if rest else b""
+        self.session.write(first, b"".join((head, self.gathered, tail)))
+        self.gathered = bytearray()
+
+    def sector(self, number):
+        return b"".join(self.session.read_pieces(number, 1))
+
+    def flush(self):
+        self.write_gathered()
+        self.ahead.drop()
+        self.session.must("flush", self.session.image)
+
+    def detach(self):
+        """Detaches the provider, which flushes it."""
+        try:
+            self.write_gathered()
+        finally:
+            self.ahead.drop()
+            self.session.must("detach", self.session.image)
+            self.session.end()
 
 
 def config(name, value):
@@ -35,23 +178,22 @@ def config_complete():
 
 def get_ready():
     """Attaches the provider, while nbdkit still stands in the foreground and a refusal can be read."""
-    global session
-    opened = Session(settings["geli"], settings["image"])
+    global data
     try:
-        opened.attach(settings["key"], *["-r"] * ("readonly" in settings))
-    except Failed as failed:
+        session = Session(settings["geli"], settings["image"])
+        session.attach(settings["key"], *["-r"] * ("readonly" in settings))
+    except (Failed, OSError) as failed:
         note(f"nbd_geli.py: {failed}")
         os._exit(1)  # nbdkit would print a traceback about it
-    session = opened
+    data = Data(session)
 
 
 def cleanup():
-    """Detaches the provider, which flushes it, and tells how that went."""
-    if session is None:
+    """Ends the provider, and tells how that went."""
+    if data is None:
         return
     try:
-        session.must("detach", session.image)
-        session.end()
+        data.detach()
         said = "ok"
     except Failed as failed:
         said = str(failed)
@@ -65,16 +207,16 @@ def thread_model():
 
 def open(readonly):
     """A connection; all of them share the one session."""
-    return session
+    return data
 
 
 def get_size(_):
-    return session.width * session.sectors
+    return data.session.width * data.session.sectors
 
 
 def block_size(_):
     """The least, the best and the most bytes of a request. Some clients know nothing of a least one, so it is 1."""
-    return 1, max(session.width, 4096), LARGEST
+    return 1, max(data.session.width, 4096), LARGEST
 
 
 def can_write(_):
@@ -90,45 +232,22 @@ def can_multi_conn(_):
     return True
 
 
-def answered(work):
+def answered(work, *words):
     """Does the work of a request; a refusal is an error of input or output, and nbdkit's log has its words."""
     try:
-        return work()
+        work(*words)
     except Failed as failed:
         nbdkit.set_error(errno.EIO)
         raise RuntimeError(str(failed)) from None
 
 
 def pread(_, buffer, offset, flags):
-    first, skip = divmod(offset, session.width)
-    last = -(-(offset + len(buffer)) // session.width)
-
-    def work():
-        done, behind = 0, skip
-        for piece in session.read_pieces(first, last - first):
-            part = piece[behind:behind + len(buffer) - done]
-            buffer[done:done + len(part)] = part
-            done, behind = done + len(part), 0
-
-    answered(work)
-
-
-def sector(number):
-    return b"".join(session.read_pieces(number, 1))
+    answered(data.read, buffer, offset)
 
 
 def pwrite(_, buffer, offset, flags):
-    first, skip = divmod(offset, session.width)
-    last, rest = divmod(offset + len(buffer), session.width)
-
-    def work():
-        head = sector(first)[:skip] if skip else b""
-        tail = sector(last)[rest:] if rest else b""
-        session.write(first, head + bytes(buffer) + tail)
-
-    answered(work)
+    answered(data.write, buffer, offset)
 
 
 def flush(_, flags):
-    answered(lambda: session.must("flush", session.image))
-
+    answered(data.flush)

@@ -17,7 +17,8 @@
 # Status 0: all sectors that were looked at can be read. Status 1: some can't, and standard output says which.
 # Status 2: the words aren't understood. Status 3: it could not be done, or only in part, and standard error says why.
 set -euo pipefail
-. "$(dirname -- "${BASH_SOURCE[0]}")/lib.sh"
+# shellcheck source=lib.sh
+. "$(dirname -- "$(readlink -f -- "${BASH_SOURCE[0]}")")/lib.sh"
 fail() { # as in lib.sh, with the status of this script
     note "${0##*/}: $*"
     exit 3
@@ -36,17 +37,22 @@ done
 shift $((OPTIND - 1))
 [ $# -eq 2 ] || usage
 [[ $minutes =~ ^([1-9][0-9]{0,5})?$ ]] || fail "'$minutes' is no number of minutes"
-image=$(one_word "$1") place=$(one_word "$2")
+image_of "$1"
 need
-readable "$image"
-[ ! -e "$place" ] || [ -f "$place" ] || fail "'$place' is no file"
+image_is_there
+place=$(plain "$2")
+[ ! -e "$place" ] || [ -f "$place" ] || fail "'$2' is no file"
+# It is replaced when it changes, so it can't be a link; its folder can.
+[[ ${place##*/} =~ ^[A-Za-z0-9._,+=@%~:-]+$ ]] || fail "'$2' has other letters in its name than a geli script can hold"
+one_word "${place%/*}/"
+place=${word%/}/${place##*/}
 key_ready
 
-python_part "$image" "$place" "${key[*]}" "$restart" "$minutes" <<'PY'
+python_part "$image" "$place" "${key[*]}" "$restart" "$minutes" "$1" <<'PY'
 import os
 import sys
 import time
-from lib import Failed, Progress, Session, WHY_UNREADABLE, fields_of, note, ranges, tell_unreadable
+from lib import Failed, Progress, Session, WHY_UNREADABLE, fields_of, ranges, run, tell_unreadable
 
 
 def beginning(place, restart, sectors):
@@ -67,7 +73,7 @@ def report(image, first, at, sectors, bad):
         print(WHY_UNREADABLE)
 
 
-def scrub(geli, image, place, key, restart, minutes):
+def scrub(geli, image, place, key, restart, minutes, name):
     session = Session(geli, image)
     rows, _ = session.must("dump", image)
     session.attach("-r", key)
@@ -78,13 +84,12 @@ def scrub(geli, image, place, key, restart, minutes):
     try:
         for at, found in session.sweep(fields_of(rows), place, first, anew):
             bad += found
-            if sys.stderr.isatty():
-                progress.at((at - first) * session.width)
+            progress.at((at - first) * session.width)
             if time.monotonic() >= until:
                 break
     finally:
         if at > first:
-            report(image, first, at, session.sectors, ranges(bad))
+            report(name, first, at, session.sectors, ranges(bad))
     session.must("detach", image)
     session.end()
     if at == session.sectors:
@@ -94,10 +99,5 @@ def scrub(geli, image, place, key, restart, minutes):
     return 1 if bad else 0
 
 
-try:
-    status = scrub(*sys.argv[2:])
-except Failed as failed:
-    note(f"{sys.argv[1]}: {failed}")
-    status = 3
-sys.exit(status)
+sys.exit(run(scrub, 3))
 PY

@@ -5,7 +5,7 @@
 #   serve-nbd.sh -e SOCKET
 #
 # SOCKET must not exist. The server runs on behind it until `serve-nbd.sh -e SOCKET` ends it: that waits for the clients
-# to disconnect, flushes and detaches the provider, and answers 0 only where it went well.
+# to disconnect, writes what is gathered, flushes and detaches the provider, and answers 0 only where it went well.
 # -r: to be read alone. -n: only this partition of the data, counted from 1. The passphrase is asked for; -j names a
 # file whose first line it is, -p says that there is none.
 # It needs nbdkit with its python plugin. Some clients, with URI=nbd+unix:///?socket=SOCKET (the whole path of it):
@@ -20,11 +20,13 @@
 #
 #   losetup --find --show --offset BYTES --sizelimit BYTES disk.img
 #
-# What a client wrote is safe once the client has flushed: by `sync`, or when it unmounts. After a crash see
-# after-a-power-failure.sh. A sector of an authenticated provider that was never written answers an I/O error: make
+# What a client wrote is safe once the client has flushed: by `sync`, or when it unmounts. Until then the server holds
+# up to 128 KiB of it in memory, where small writes stand side by side; a write of these that fails is told by the
+# client's next flush at the latest. After a crash see after-a-power-failure.sh. A sector of an authenticated provider that was never written answers an I/O error: make
 # such a provider by make-provider.sh -a.
 set -euo pipefail
-. "$(dirname -- "${BASH_SOURCE[0]}")/lib.sh"
+# shellcheck source=lib.sh
+. "$(dirname -- "$(readlink -f -- "${BASH_SOURCE[0]}")")/lib.sh"
 
 usage() {
     note 'usage: serve-nbd.sh [-r] [-n PARTITION] [-p] [-j PASSFILE] [-k KEYFILE]... IMAGE SOCKET' \
@@ -46,20 +48,20 @@ end_server() {
     pid=$(<"$socket.pid")
     ! is_server "$pid" || kill "$pid"
     while is_server "$pid"; do
-        if ((++turns == 30)); then note "$socket: a client is connected, and is waited for: unmount, or end it"; fi
+        if ((++turns == 30)); then note "$1: a client is connected, and is waited for: unmount, or end it"; fi
         sleep 0.1
     done
     if [ -r "$socket.ended" ]; then said=$(<"$socket.ended"); fi
     rm -f -- "$socket" "$socket.pid" "$socket.ended"
     case $said in
-        ok) note "$socket: ended, all is flushed" ;;
+        ok) note "$1: ended, all is flushed" ;;
         '') fail 'the server had ended by itself: what was written since the last flush may be lost' ;;
         *) fail "what was written since the last flush may be lost: $said" ;;
     esac
     exit 0
 }
 
-readonly=() partition=() filter=() ends=
+readonly=() partition=() filter=() ends=''
 while getopts ern:pj:k: option; do
     case $option in
         e) ends=yes ;;
@@ -75,12 +77,18 @@ if [ -n "$ends" ]; then
     end_server "$1"
 fi
 [ $# -eq 2 ] || usage
-image=$(one_word "$1") socket=$(realpath -m -- "$(one_word "$2")")
-need nbdkit realpath setsid
-readable "$image"
+image_of "$1"
+socket=$(realpath -m -- "$2")
+need nbdkit setsid
+image_is_there
+for file in "${files[@]}"; do
+    [ ${#readonly[@]} -gt 0 ] || [ -w "$file" ] || fail "'$file' can't be written: give -r"
+done
 for name in "$socket" "$socket.pid" "$socket.ended"; do
     [ ! -e "$name" ] || fail "'$name' is there already: is a server running?"
 done
+[ -d "${socket%/*}/" ] || fail "there is no folder '${socket%/*}'"
+((${#socket} < 100)) || fail "'$socket' is too long for a socket: use a shorter path"
 key_ready
 
 # nbdkit goes to the background once the provider is attached; no key file is needed any more then. A session of its own
@@ -93,4 +101,5 @@ PYTHONPATH=$library PYTHONDONTWRITEBYTECODE=1 setsid -w nbdkit "${filter[@]}" -U
 }
 # nbdkit writes its number once it is in the background.
 for ((at = 0; at < 100; at++)); do [ ! -s "$socket.pid" ] || break; sleep 0.1; done
-note "$image: served at nbd+unix:///?socket=$socket until serve-nbd.sh -e $socket"
+path=$(python3 -c 'import sys, urllib.parse; print(urllib.parse.quote(sys.argv[1]))' "$socket")
+note "$1: served at nbd+unix:///?socket=$path until $program -e $(printf %q "$2")"

@@ -1,5 +1,5 @@
 #!/usr/bin/env python3
-"""Looks for dead names and long lines in the pages: README.md, docs/*.md and crates/*/README.md.
+"""Looks for dead names and long lines in the pages: README.md, docs/*.md and crates/*/README.md; and for wrong bodies.
 
     tools/check_pages.py [PAGE...]
 
@@ -9,7 +9,11 @@ It prints, each with its file and line:
 - names in backquotes that look like those of definitions, clauses, functions or crates, and that stand in no file of
   the tree beside the pages;
 - paths that lead to no file, from the root or from the page's own folder;
-- in a list under a file of specs/ each definition that this file hasn't.
+- in a list under a file of specs/ each definition that this file hasn't;
+- a README of more than 7 KB, which nobody reads in three minutes;
+- crates that docs/ARCHITECTURE.md or docs/PROOFS.md doesn't name;
+- wrong bodies that must stay (STAY) and have no row in docs/WRONG_BODIES.md or no file, and each wrong body whose old
+  text doesn't stand exactly once in the file that it names.
 It ends with status 1 where it found something.
 """
 import re
@@ -18,7 +22,7 @@ import sys
 from pathlib import Path
 
 ROOT = Path(__file__).resolve().parent.parent
-COLUMNS, WORDS = 120, 40
+COLUMNS, WORDS, README_BYTES = 120, 40, 7168
 
 PAGE = re.compile(r"README\.md|docs/[^/]*\.md|crates/[^/]*/README\.md")
 NAME = re.compile(r"[A-Za-z_]\w*(?:(?:::|/)[A-Za-z_]\w*)*(?:\(\))?")
@@ -27,6 +31,24 @@ PATH = re.compile(r"(?<![\w./-])(?:crates|docs|tools|specs|src|proofs|must-fail|
 CODE = re.compile(r"`([^`]+)`")
 ITEM = re.compile(r"\s*(?:[-*]|\d+\.) ")
 SENTENCE = re.compile(r"(?<=[.?!])[)\"*]* +(?=[\"(*]*[A-Z0-9`~])")
+
+BODIES = "docs/WRONG_BODIES.md"
+EDIT = "crates/%s/must-fail/%s.edit"
+FIELD = re.compile(r"^(file|old): (.*)$", re.M)
+
+# The wrong bodies that must stay, by crate.
+STAY = {
+    "auth_sectors": ["tag_skipped", "one_tag_key_for_all_offsets"],
+    "eli_metadata": ["hash_ignored", "bytes_behind_the_magic_accepted"],
+    "geli_core": ["always_a_read_fault", "always_a_write_fault", "always_a_device_fault"],
+    "key_commands": ["fresh_master_key_wrapped", "slot_cleared_before_the_new_key", "wrapped_bytes_left_in_a_slot"],
+    "key_slots": ["sealed_by_xts"],
+    "provider": ["flush_without_a_device_flush", "device_fault_for_good", "always_a_wrong_key"],
+    "range_keys": ["range_key_0_everywhere", "one_tag_key_for_all_offsets", "key_of_another_number_lent"],
+    "resize_kill": ["old_place_destroyed_before_the_new_is_flushed"],
+    "sealing": ["tweak_is_the_sector_number", "opened_with_the_sector_number"],
+    "user_key": ["key_files_behind_the_passphrase", "passphrase_before_the_key_files"],
+}
 
 # Names that stand in no file of this tree: of the kit, of the toolchain, and instructions of the processor.
 OUTSIDE = {"Lts", "Rng", "fill_bytes", "pextrd", "pinsrd", "pxor"}
@@ -119,6 +141,45 @@ def strayed_definitions(page, lines):
                     yield at, "no `%s` in %s" % (code, ", ".join(file.name for file in specs))
 
 
+def long_readme():
+    size = len((ROOT / "README.md").read_bytes())
+    if size > README_BYTES:
+        yield "README.md: %d bytes, more than %d" % (size, README_BYTES)
+
+
+def missing_crates():
+    lines = (ROOT / "crates.txt").read_text(encoding="utf-8").split("\n")
+    crates = [line.split(":")[0] for line in lines if ":" in line and not line.startswith("#")]
+    for page in "docs/ARCHITECTURE.md", "docs/PROOFS.md":
+        text = (ROOT / page).read_text(encoding="utf-8")
+        yield from ("%s: nothing of the crate %s" % (page, crate) for crate in crates if "`%s`" % crate not in text)
+
+
+def missing_bodies():
+    """The wrong bodies that must stay, and that have no file or no row."""
+    page = ROOT / BODIES
+    rows = page.read_text(encoding="utf-8") if page.exists() else ""
+    for crate, bodies in STAY.items():
+        for name in (EDIT % (crate, body) for body in bodies):
+            if not (ROOT / name).exists():
+                yield "%s: a wrong body that must stay has no file" % name
+            if name not in rows:
+                yield "%s: a wrong body that must stay has no row in %s" % (name, BODIES)
+
+
+def bad_edits(names):
+    """The wrong bodies that can't be made: some old text doesn't stand exactly once in the file named before it."""
+    for name in names:
+        if name.endswith(".edit"):
+            crate, text = (ROOT / name).parent.parent, ""
+            for key, value in FIELD.findall((ROOT / name).read_text(encoding="utf-8")):
+                if key == "file":
+                    file = crate / value
+                    text = file.read_text(encoding="utf-8") if file.exists() else ""
+                elif text.count(value) != 1:
+                    yield "%s: its old text stands %d times in %s" % (name, text.count(value), file.name)
+
+
 def main():
     names = files()
     words = words_of_the_tree(names)
@@ -132,6 +193,10 @@ def main():
         for at, what in sorted(found):
             print("%s:%d: %s" % (name, at, what))
         count += len(found)
+    if not sys.argv[1:]:
+        others = [*long_readme(), *missing_crates(), *missing_bodies(), *bad_edits(names)]
+        print("".join(line + "\n" for line in others), end="")
+        count += len(others)
     print("%d found in %d pages" % (count, len(asked)))
     return 1 if count else 0
 

@@ -10,6 +10,8 @@ import os
 import re
 import sys
 
+from definitions import outward
+
 CRATES = os.path.join(os.path.dirname(os.path.abspath(__file__)), "..", "crates")
 USE = re.compile(r"(?:pub )?use Rattle\.(\w+)\.specs\.([\w.]+?)(?:\.\{(.*)\})?(?: as (\w+))?$")
 HEAD = re.compile(r"(?:abbrev |unfoldable |pub |record |data )*([^\s({:]+)")
@@ -25,8 +27,7 @@ def load(crate, module):
         files[crate, module] = None
         return None
     imports, definitions, current = {}, {}, None
-    for line in open(path, encoding="utf-8"):
-        line = line.rstrip("\n")
+    for line in outward(open(path, encoding="utf-8").read().split("\n")):
         found = USE.match(line)
         if found:
             source, part, names, other = found.groups()

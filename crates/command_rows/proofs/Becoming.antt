@@ -15,7 +15,7 @@ use Rattle.key_commands.specs.declared.options.InitOptions.{InitOptions}
 use Rattle.key_components.specs.Files.{file_limit}
 use Rattle.sha2.specs.Sha256.{sha256}
 use Rattle.command_rows.specs.Answer.{Answer}
-use Rattle.command_rows.specs.Becoming.{Becomes, BecomesAt, BecomesBy, BecomesSo, BecomesUnless, opens_requests}
+use Rattle.command_rows.specs.Becoming.{Becomes, BecomesAt, BecomesBy, BecomesSo, BecomesUnless, changes_requests}
 use Rattle.command_rows.specs.DeleteKeys.{DeletesRow, NamesSlots, slot_of}
 use Rattle.command_rows.specs.Digits.{bytes_spelled}
 use Rattle.command_rows.specs.Gate.{ASuspended, AnAttached, AnIdle, AnyOne, Needs, NoIdle, NoSuspended, needs, refused_by}
@@ -290,8 +290,8 @@ suspended_by line prov a old answer said new was h = suspended_so line prov a h.
 
 -- ---- requests in flight
 
-holds_same : (line : List ℕ) (command : Command) → opens_requests command ≡ true → (a : Attachment) (old : Reach) (said : Answer) (new : Reach) → old.holding ≡ IsAttached a → HoldsSame a new.holding → Becomes line command old said new
-holds_same line command opens a old said new was h = becomes_as line command old said new (IsAttached h.now) h.is (inl (record { before = a; was = was; slot = h.slot; keying = h.keying; readonly = h.readonly; queue = λ same. absurd (false_is_true (sym opens ∙ same)) }))
+holds_same : (line : List ℕ) (command : Command) → changes_requests command ≡ true → (a : Attachment) (old : Reach) (said : Answer) (new : Reach) → old.holding ≡ IsAttached a → HoldsSame a new.holding → Becomes line command old said new
+holds_same line command changes a old said new was h = becomes_as line command old said new (IsAttached h.now) h.is (inl (record { before = a; was = was; slot = h.slot; keying = h.keying; readonly = h.readonly; queue = λ same. absurd (false_is_true (sym changes ∙ same)) }))
 
 -- ---- the lines
 

@@ -35,5 +35,6 @@ pub mod QueueingSound
 pub mod Sound
 pub mod Stopping
 pub mod Stopped
+pub mod Storing
 pub mod Becoming
 pub mod Naming

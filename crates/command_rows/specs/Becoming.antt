@@ -25,8 +25,8 @@ lets_go command = (traits_of command).lets_go
 -- ---- attached
 
 -- whether a verb changes the requests that are open on its drawer
-abbrev pub opens_requests : Command → Bool
-opens_requests command = (traits_of command).opens_requests
+abbrev pub changes_requests : Command → Bool
+changes_requests command = (traits_of command).changes_requests
 
 -- it was attached before, with the same slot, keying and read-only state; and but for `submit`, `step` and `reap` the same requests are open
 pub record StaysAttached (command : Command) (a : Attachment) (old : Holding) : Type 0 where
@@ -35,7 +35,7 @@ pub record StaysAttached (command : Command) (a : Attachment) (old : Holding) : 
   pub slot : a.slot ≡ before.slot
   pub keying : a.keying ≡ before.keying
   pub readonly : a.readonly ≡ before.readonly
-  pub queue : opens_requests command ≡ false → a.queue ≡ before.queue
+  pub queue : changes_requests command ≡ false → a.queue ≡ before.queue
 
 -- it was idle, and `attach` was done, with a key that opens
 pub record IsOpened (line : List ℕ) (command : Command) (a : Attachment) (old : Reach) (answer : Answer) : Type 0 where

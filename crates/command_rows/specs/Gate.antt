@@ -28,13 +28,13 @@ pub record Traits : Type 0 where
   pub needs_tags : Bool
   pub stores_last : Bool
   pub lets_go : Bool
-  pub opens_requests : Bool
+  pub changes_requests : Bool
   pub takes_out : Bool
 
 -- one that needs such a drawer, and none of the rest
 abbrev pub plain : Needs → Traits
 plain wanted =
-    record { drawer = wanted; lacks_memory = false; writes_data = false; needs_tags = false; stores_last = false; lets_go = false; opens_requests = false; takes_out = false }
+    record { drawer = wanted; lacks_memory = false; writes_data = false; needs_tags = false; stores_last = false; lets_go = false; changes_requests = false; takes_out = false }
 
 -- whether a request is refused by a provider that is only read
 abbrev pub job_writes : JobWords → Bool
@@ -60,9 +60,9 @@ traits_of (commands.Resize prov oldsize) = plain AnIdle
 traits_of (commands.Fill prov seed start count) = record (plain AnAttached) { writes_data = true }
 traits_of (commands.Sum prov start count) = plain AnAttached
 traits_of (commands.Eject prov) = record (plain AnyOne) { takes_out = true }
-traits_of (commands.Submit prov job) = record (plain AnAttached) { lacks_memory = true; writes_data = job_writes job; opens_requests = true }
-traits_of (commands.Step prov tag) = record (plain AnAttached) { opens_requests = true }
-traits_of (commands.Reap prov tag) = record (plain AnAttached) { opens_requests = true }
+traits_of (commands.Submit prov job) = record (plain AnAttached) { lacks_memory = true; writes_data = job_writes job; changes_requests = true }
+traits_of (commands.Step prov tag) = record (plain AnAttached) { changes_requests = true }
+traits_of (commands.Reap prov tag) = record (plain AnAttached) { changes_requests = true }
 traits_of (commands.Suspend prov) = plain AnAttached
 traits_of (commands.Resume prov words) = record (plain ASuspended) { lacks_memory = true }
 traits_of (commands.Verify prov file count restart) = record (plain AnAttached) { lacks_memory = true; needs_tags = true }

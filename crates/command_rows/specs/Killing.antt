@@ -5,7 +5,7 @@ use Rattle.resize_kill.specs.Killing.{Kills}
 use Rattle.command_rows.specs.Steps.{Then}
 use Rattle.command_rows.specs.World.{Idle, Reach}
 
--- the drawer is idle from now on, also where it was attached, and no call of the disk is made
+-- the drawer is idle from now on, also where it was attached, and its disk tells what it told
 abbrev pub Withdraws : Reach → Result (Unit {0}) Refusal → Reach → Type 0
 Withdraws old answer new =
     (answer ≡ Ok tt) × (new ≡ record { disk = old.disk; holding = Idle; cabinet = old.cabinet; entropy = old.entropy })

@@ -19,6 +19,7 @@ pub mod Saving
 pub mod SetKey
 pub mod Steps
 pub mod Stops
+pub mod Storing
 pub mod Suspending
 pub mod Trying
 pub mod Turn

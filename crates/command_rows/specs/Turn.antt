@@ -200,7 +200,7 @@ pub record IsUnknown (old : World) (reply : Answer) (new : World) : Type 0 where
 abbrev pub takes_out : Command → Bool
 takes_out command = (traits_of command).takes_out
 
--- the drawer at a place is taken out with its disk, attached or not, and no call of the disk is made; those behind it move up
+-- the drawer at a place is taken out with its disk, attached or not, and those behind it move up; of a disk that is gone nothing is said
 pub record TakesOut (old : World) (reply : Answer) (new : World) (place : ℕ) : Type 0 where
   pub before : DrawerState
   pub found : slice_get old.drawers place ≡ Some before

@@ -17,6 +17,7 @@ ghost use Rattle.command_rows.specs.Histories.{OnlySteps};
 ghost use Rattle.command_rows.specs.Opening.{NamesSameKey, OpensOrFails};
 ghost use Rattle.command_rows.specs.Steps.{LoadsComponents, MakesProvider};
 ghost use Rattle.command_rows.specs.Stops.{LeavesOldOrNew};
+ghost use Rattle.command_rows.specs.Storing.{StoresItsFile};
 ghost use Rattle.command_rows.specs.Trying.{TryRow};
 ghost use Rattle.command_rows.specs.Turn.{Turn};
 ghost use Rattle.command_rows.specs.Verifying.{ListsEachOnce, ListsUnits};
@@ -122,12 +123,19 @@ pub fn a_line_leaves_old_or_new()
 {}
 
 /// What a drawer does with its disk changes by few verbs, and only as they say. After a line that leaves it in the list it is idle only where it was so before, or
-/// by `detach` or `kill`. It is attached only where it was so, with the same slot, keying and read-only state, or by `attach` or `resume` that are
-/// done, with a key that opens the metadata of the disk. After `resume` the master key has the digest that was kept. It is suspended only where it was so, and then
+/// by `detach` or `kill`. It is attached only where it was so, with the same slot, keying and read-only state and, but for `submit`, `step` and `reap`,
+/// with the same open requests, or by `attach` or `resume` that are done, with a key that opens the metadata of the disk. After `resume` the master key has the digest that was kept. It is suspended only where it was so, and then
 /// exactly the same is kept, or by `suspend`, and then what is kept is that of the provider as it was, also where the flush failed.
 ///
 /// A drawer that a line finds suspended and leaves suspended or attached has logged nothing, so no line writes it: `kill` and `detach` leave it idle.
 pub fn a_line_says_what_its_drawer_becomes()
     ensures { (line : List ℕ) (command : Command) (old : World) (answer : Answer) (new : World) →
         Turn line command old answer new → BecomesSo line command answer old new }
+{}
+
+/// The files stay but for the one that `backup`, `init -B` or `verify` names, and of that one no more than one store is made. No other verb makes a
+/// store. Where a store fails all files stay.
+pub fn a_line_stores_its_file_alone()
+    ensures { (line : List ℕ) (command : Command) (old : World) (answer : Answer) (new : World) →
+        Turn line command old answer new → StoresItsFile line command old new }
 {}

@@ -7,7 +7,7 @@ mod laws;
 
 pub use laws::{
     a_line_changes_only_its_drawer, a_line_counts_failures, a_line_leaves_old_or_new,
-    a_line_says_what_its_drawer_becomes, a_refusal_has_its_cause,
+    a_line_says_what_its_drawer_becomes, a_line_stores_its_file_alone, a_refusal_has_its_cause,
     a_sweep_lists_each_failing_unit_once, no_cause_is_left_where_all_is_found,
     what_init_makes_can_be_attached,
 };

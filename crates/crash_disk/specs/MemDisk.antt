@@ -1,10 +1,13 @@
 -- What a disk in memory is, and what its calls make of it.
-use Rattle.std.specs.Prelude.{ℕ, ◌==◌, ◌&&◌, ◌||◌, not, Bool, true, List, [], ◌∷◌, length, map, slice_set, is_some, unwrap_or, if◌then◌else◌}
+use Rattle.std.specs.Prelude.{◌≡◌, ℕ, ◌==◌, ◌&&◌, ◌||◌, not, Bool, true, List, [], ◌∷◌, length, map, slice_set, is_some, is_err, unwrap_or, if◌then◌else◌, Result}
+use Rattle.block_traits.specs.declared.disk.DiskFailed.{DiskFailed}
 use Rattle.block_traits.specs.declared.disk.Event.{Event}
+use Rattle.block_traits.specs.declared.disk.Event.TheVariants.{Write}
 use Rattle.block_traits.specs.Content.{Content, present, with_events}
 use Rattle.block_traits.specs.Disk.{DiskState, showing}
 use Rattle.crash_disk.specs.declared.plan.CallKind.{CallKind}
 use Rattle.crash_disk.specs.declared.plan.CallKind.TheVariants.{Read}
+use Rattle.crash_disk.specs.declared.plan.CallKind.TheVariants as call
 use Rattle.crash_disk.specs.declared.mem_disk.MemDisk.{MemDisk}
 use Rattle.crash_disk.specs.Count.{one_more}
 use Rattle.crash_disk.specs.Image.{numbers_below}
@@ -76,6 +79,11 @@ after_change kind event state = record state {
   faults = if change_fails kind state then one_more state.faults else state.faults;
   plan = counted kind state.plan;
 }
+
+-- one sector was written, or the write failed as the plan and the room say
+pub record WritesSector (n : ℕ) (bytes : List ℕ) (old new : MemState) (result : Result (Unit {0}) DiskFailed) : Type 0 where
+  pub answer : is_err result ≡ change_fails call.Write old
+  pub after : new ≡ after_change call.Write (Write n bytes) old
 
 -- what stands in each sector now
 abbrev pub present_sectors : Content → List (List ℕ)

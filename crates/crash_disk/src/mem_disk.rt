@@ -6,7 +6,7 @@ ghost use Rattle.crash_disk.specs.Replay.{replayed};
 use crate::image::{image_sectors, zero_sectors};
 use crate::plan::{CallKind, FailAt, Plan};
 use crate::sector_log::SectorLog;
-use block_traits::{Disk, DiskFailed, Event, NoMemory, Sector};
+use block_traits::{Disk, DiskFailed, Event, NoMemory, Sector, sector_of};
 use std::alloc::{AllocError, Global};
 
 /// A disk in memory. It tells its content and shows its events.
@@ -148,9 +148,12 @@ impl MemDisk {
 }
 
 impl Disk for MemDisk {
+    ghost use Rattle.std.specs.Prelude.{◌+◌, ◌%◌};
     ghost use Rattle.block_traits.specs.Causes.{Counted};
-    ghost use Rattle.block_traits.specs.Disk.{FailsIn, Gives, Logs};
-    ghost use Rattle.crash_disk.specs.MemDisk.{after_change, after_look, after_read, change_fails, disk_of, read_fails, state_of};
+    ghost use Rattle.block_traits.specs.Disk.{FailsIn, Gives, Logs, write_events};
+    ghost use Rattle.block_traits.specs.EachWritten.{EachWritten};
+    ghost use Rattle.block_traits.specs.Parts.{parts};
+    ghost use Rattle.crash_disk.specs.MemDisk.{WritesSector, after_change, after_look, after_read, change_fails, disk_of, read_fails, state_of};
 
     ghost state = { disk_of };
 
@@ -191,6 +194,21 @@ impl Disk for MemDisk {
         ensures after { state_of self.new ≡ after_change CallKind.Write (Event.Write n from.now) (state_of self.old) }
     {
         self.change(CallKind::Write, Event::Write { n, bytes: *from })
+    }
+
+    /// Each sector is a write of its own, in ascending order, up to the first that fails.
+    fn write_sectors(&mut self, first: u64, from: &[u8]) -> Result<(), DiskFailed>
+        requires whole { length from.now % 512 ≡ 0 }
+        requires inside { first + length from.now / 512 ≤ (disk_of self.old).size }
+        ensures ok { OnOk result (Logs (write_events first from.now) (disk_of self.old) (disk_of self.new)) }
+        ensures err { OnErr result (FailsIn (write_events first from.now) (disk_of self.old) (disk_of self.new)) }
+        ensures unasked { (disk_of self.new).reads ≡ (disk_of self.old).reads }
+        ensures answer { EachWritten WritesSector first (parts 512 (length from.now / 512) from.now) (state_of self.old) (state_of self.new) result }
+    {
+        for j in 0..from.len() / 512 {
+            self.write(first + j as u64, &sector_of(from, j))?;
+        }
+        Ok(())
     }
 
     fn flush(&mut self) -> Result<(), DiskFailed>

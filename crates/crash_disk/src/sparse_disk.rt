@@ -7,7 +7,7 @@ ghost use Rattle.crash_disk.specs.Writes.{written};
 
 use crate::plan::{CallKind, FailAt, Plan};
 use crate::write_log::WriteLog;
-use block_traits::{Disk, DiskFailed, Event, NoMemory, Sector};
+use block_traits::{Disk, DiskFailed, Event, NoMemory, Sector, sector_of};
 use std::alloc::Global;
 
 /// A disk in memory of any size, which keeps written sectors alone: the others hold zeros. It tells
@@ -141,9 +141,12 @@ impl SparseDisk {
 }
 
 impl Disk for SparseDisk {
+    ghost use Rattle.std.specs.Prelude.{◌+◌, ◌%◌, ◌/◌};
     ghost use Rattle.block_traits.specs.Causes.{Counted};
-    ghost use Rattle.block_traits.specs.Disk.{FailsIn, Gives, Logs};
-    ghost use Rattle.crash_disk.specs.MemDisk.{after_change, after_look, after_read, change_fails, read_fails};
+    ghost use Rattle.block_traits.specs.Disk.{FailsIn, Gives, Logs, write_events};
+    ghost use Rattle.block_traits.specs.EachWritten.{EachWritten};
+    ghost use Rattle.block_traits.specs.Parts.{parts};
+    ghost use Rattle.crash_disk.specs.MemDisk.{WritesSector, after_change, after_look, after_read, change_fails, read_fails};
     ghost use Rattle.crash_disk.specs.SparseDisk.{disk_of, state_of};
 
     ghost state = { disk_of };
@@ -185,6 +188,21 @@ impl Disk for SparseDisk {
         ensures after { state_of self.new ≡ after_change CallKind.Write (Event.Write n from.now) (state_of self.old) }
     {
         self.change(CallKind::Write, Event::Write { n, bytes: *from })
+    }
+
+    /// Each sector is a write of its own, in ascending order, up to the first that fails.
+    fn write_sectors(&mut self, first: u64, from: &[u8]) -> Result<(), DiskFailed>
+        requires whole { length from.now % 512 ≡ 0 }
+        requires inside { first + length from.now / 512 ≤ (disk_of self.old).size }
+        ensures ok { OnOk result (Logs (write_events first from.now) (disk_of self.old) (disk_of self.new)) }
+        ensures err { OnErr result (FailsIn (write_events first from.now) (disk_of self.old) (disk_of self.new)) }
+        ensures unasked { (disk_of self.new).reads ≡ (disk_of self.old).reads }
+        ensures answer { EachWritten WritesSector first (parts 512 (length from.now / 512) from.now) (state_of self.old) (state_of self.new) result }
+    {
+        for j in 0..from.len() / 512 {
+            self.write(first + j as u64, &sector_of(from, j))?;
+        }
+        Ok(())
     }
 
     fn flush(&mut self) -> Result<(), DiskFailed>

@@ -8,3 +8,4 @@ pub mod ConcatLemmas
 pub mod Above
 pub mod Cuts
 pub mod ReadsAbove
+pub mod Runs

@@ -37,7 +37,7 @@ FlushesBoth a b old new old_second new_second (Err failed) =
     (RefusesFlush (a old) (a new) × (new_second ≡ old_second))
     ⊎ (IsFlushed (a old) (a new) × RefusesFlush (b old_second) (b new_second))
 
--- ---- what calls log, each of which is Ok
+-- ---- what is logged
 
 -- the writes of the first sectors, so many, and the flushes
 abbrev pub first_events : ℕ → List Event → List Event
@@ -55,3 +55,25 @@ second_events size (Flush ∷ events) = Flush ∷ second_events size events
 pub record BothLog (events : List Event) (a new_a b new_b : DiskState) : Type 0 where
   pub first : Logs (first_events a.size events) a new_a
   pub second : Logs (second_events a.size events) b new_b
+
+-- ---- writing whole sectors
+
+-- these events were logged, and no read was asked for; where there are none, the disk is as it was
+pub record Does {A : Type 0} (a : A → DiskState) (events : List Event) (old new : A) : Type 0 where
+  pub logs : Logs events (a old) (a new)
+  pub unasked : (a new).reads ≡ (a old).reads
+  pub untouched : events ≡ [] → new ≡ old
+
+-- the disk failed, the first of these events were logged, and no read was asked for
+pub record FailsToDo {A : Type 0} (a : A → DiskState) (events : List Event) (old new : A) : Type 0 where
+  pub fails : FailsIn events (a old) (a new)
+  pub unasked : (a new).reads ≡ (a old).reads
+
+-- each disk did those of the events that are its own; or the first failed in its own and the second is as it was; or
+-- the first did its own and the second failed in its own
+abbrev pub BothDo : {A B : Type 0} → (A → DiskState) → (B → DiskState) → List Event → A → A → B → B → Result (Unit {0}) DiskFailed → Type 0
+BothDo a b events old new old_second new_second (Ok done) =
+    Does a (first_events (a old).size events) old new × Does b (second_events (a old).size events) old_second new_second
+BothDo a b events old new old_second new_second (Err failed) =
+    (FailsToDo a (first_events (a old).size events) old new × (new_second ≡ old_second))
+    ⊎ (Does a (first_events (a old).size events) old new × FailsToDo b (second_events (a old).size events) old_second new_second)

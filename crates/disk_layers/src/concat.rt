@@ -1,8 +1,9 @@
 // Two disks as one, the second behind the first.
-ghost use Rattle.std.specs.Prelude.{◌≡◌, ◌+◌, ◌-◌, ◌<◌, ◌^◌, ◌∷◌, [], OnOk};
-ghost use Rattle.disk_layers.specs.Concat.{AsksOne, BothLog, FlushesBoth, WritesOne};
+ghost use Rattle.std.specs.Prelude.{◌≡◌, ◌+◌, ◌-◌, ◌/◌, ◌%◌, ◌<◌, ◌≤◌, ◌^◌, ◌∷◌, [], OnOk, OnErr, length};
+ghost use Rattle.block_traits.specs.Disk.{write_events};
+ghost use Rattle.disk_layers.specs.Concat.{AsksOne, BothDo, BothLog, Does, FailsToDo, FlushesBoth, WritesOne};
 
-use block_traits::{Disk, DiskFailed, Event, Sector, sector_of};
+use block_traits::{Disk, DiskFailed, Event, Sector};
 
 /// Two disks as one: the sectors of the first, and behind them those of the second. As a disk it
 /// tells no content and shows no events.
@@ -53,6 +54,19 @@ impl<A: Disk, B: Disk> Concat<A, B> {
         }
     }
 
+    // Writes whole sectors: those of the first by one call of it, and then those of the second by one call of it.
+    fn write_run(&mut self, first: u64, from: &[u8]) -> Result<(), DiskFailed>
+        requires whole { length from.now % 512 ≡ 0 }
+        requires inside { first + length from.now / 512 ≤ (A.state self.old.first).size + (B.state self.old.second).size }
+        ensures { BothDo A.state B.state (write_events first from.now) self.old.first self.new.first self.old.second self.new.second result }
+    {
+        let size = self.first.sectors();
+        let inside = size.saturating_sub(first).min(from.len() as u64 / 512);
+        let (before, behind) = from.split_at(512 * inside as usize);
+        write_some(&mut self.first, first, before)?;
+        write_some(&mut self.second, first.saturating_sub(size), behind)
+    }
+
     /// Flushes the first, and then the second. Where the first refuses, the second isn't called. `DiskFailed` comes only
     /// where one of them failed.
     pub fn flush_all(&mut self) -> Result<(), DiskFailed>
@@ -73,14 +87,25 @@ impl<A: Disk, B: Disk> Concat<A, B> {
     }
 }
 
-/// It tells its size, and the faults and reads of both disks. Its calls are `read_at`, `write_at` and `flush_all`.
+// Writes whole sectors. Where there are none, the disk isn't called.
+fn write_some<D: Disk>(disk: &mut D, first: u64, from: &[u8]) -> Result<(), DiskFailed>
+    requires whole { length from.now % 512 ≡ 0 }
+    requires inside { 512 ≤ length from.now → first + length from.now / 512 ≤ (D.state disk.old).size }
+    ensures ok { OnOk result (Does D.state (write_events first from.now) disk.old disk.new) }
+    ensures err { OnErr result (FailsToDo D.state (write_events first from.now) disk.old disk.new) }
+{
+    if from.is_empty() {
+        return Ok(());
+    }
+    disk.write_sectors(first, from)
+}
+
+/// It tells its size, and the faults and reads of both disks. Its calls are `read_at`, `write_at` and `flush_all`; a run
+/// of sectors goes by one call of each disk that it reaches.
 impl<A: Disk, B: Disk> Disk for Concat<A, B> {
-    ghost use Rattle.std.specs.Prelude.{◌/◌, ◌%◌, ◌≤◌, OnErr, length};
-    ghost use Rattle.block_traits.specs.EachWritten.{EachWritten};
-    ghost use Rattle.disk_layers.specs.ConcatDisk.{WritesSector, disk_of};
+    ghost use Rattle.disk_layers.specs.ConcatDisk.{disk_of};
     ghost use Rattle.block_traits.specs.Causes.{Counted};
-    ghost use Rattle.block_traits.specs.Disk.{FailsIn, Gives, Logs, write_events};
-    ghost use Rattle.block_traits.specs.Parts.{parts};
+    ghost use Rattle.block_traits.specs.Disk.{FailsIn, Gives, Logs};
 
     ghost state = { disk_of };
 
@@ -118,19 +143,15 @@ impl<A: Disk, B: Disk> Disk for Concat<A, B> {
         self.write_at(n, from)
     }
 
-    /// Each sector is written as by `write`, in ascending order, up to the first that fails.
     fn write_sectors(&mut self, first: u64, from: &[u8]) -> Result<(), DiskFailed>
         requires whole { length from.now % 512 ≡ 0 }
         requires inside { first + length from.now / 512 ≤ (disk_of self.old).size }
         ensures ok { OnOk result (Logs (write_events first from.now) (disk_of self.old) (disk_of self.new)) }
         ensures err { OnErr result (FailsIn (write_events first from.now) (disk_of self.old) (disk_of self.new)) }
         ensures unasked { (disk_of self.new).reads ≡ (disk_of self.old).reads }
-        ensures answer { EachWritten (WritesSector A.state B.state) first (parts 512 (length from.now / 512) from.now) (self.old.first, self.old.second) (self.new.first, self.new.second) result }
+        ensures answer { BothDo A.state B.state (write_events first from.now) self.old.first self.new.first self.old.second self.new.second result }
     {
-        for j in 0..from.len() / 512 {
-            self.write(first + j as u64, &sector_of(from, j))?;
-        }
-        Ok(())
+        self.write_run(first, from)
     }
 
     fn flush(&mut self) -> Result<(), DiskFailed>

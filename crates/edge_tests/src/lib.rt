@@ -1,11 +1,18 @@
-//! The edge over the system's own files and streams, and a store over files that fail.
+//! The edge over the system's own files and streams, a store over files that fail, and a file that tells what it holds.
 #![tactic(auto)]
 
+mod disk_file;
 #[cfg(test)]
 mod disks;
 #[cfg(test)]
 mod files;
 #[cfg(test)]
+mod seen_disk;
+#[cfg(test)]
 mod stores;
 #[cfg(test)]
 mod streams;
+#[cfg(test)]
+mod told;
+
+pub use disk_file::DiskFile;

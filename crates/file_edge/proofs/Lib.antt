@@ -1,6 +1,10 @@
 mod Beside
+mod Folder
 mod Kept
+pub mod Left
 mod Logs
-mod Steps
-mod Turns
 mod Same
+mod Steps
+mod Telling
+mod Turns
+pub mod Untold

@@ -1,11 +1,32 @@
 -- Disks that tell the same.
-use Rattle.std.proofs.Common.{◌≡◌, ℕ, ◌<◌, ◌^◌, ap}
+use Rattle.std.specs.Coded.{Unit-prop}
+use Rattle.std.proofs.Common.{◌≡◌, ℕ, false, Option, Some, None, ap, subst, sym}
 use Rattle.std.proofs.Props.{props}
-use Rattle.block_traits.specs.Disk.{untold}
+use Rattle.block_traits.specs.Content.{Content}
+use Rattle.block_traits.specs.Disk.{DiskState, FitsSize, IsWellFormed}
+use Rattle.block_traits.proofs.Props.{IsContentOf-prop}
 
--- that a size is small is so in one way at most
-small-prop : (size : ℕ) → IsProp (size < 2 ^ 44)
-small-prop size = hlevel props
+FitsSize-prop : (size : ℕ) (told : Option Content) → IsProp (FitsSize size told)
+FitsSize-prop size None = Unit-prop
+FitsSize-prop size (Some c) = IsContentOf-prop size c
 
-pub untold-same : (size faults reads : ℕ) (a b : size < 2 ^ 44) → untold size faults reads a ≡ untold size faults reads b
-untold-same size faults reads a b = ap (untold size faults reads) (small-prop size a b)
+-- what a disk tells is well formed in one way at most
+IsWellFormed-prop : (size : ℕ) (told : Option Content) → IsProp (IsWellFormed size false told)
+IsWellFormed-prop size told = hlevel (props, FitsSize-prop)
+
+-- a disk that shows no events
+abbrev pub state_with : (size faults reads : ℕ) (told : Option Content) → IsWellFormed size false told → DiskState
+state_with size faults reads told fits = record {
+  size = size;
+  shows = false;
+  content = told;
+  faults = faults;
+  reads = reads;
+  well_formed = fits;
+}
+
+pub state-same : (size faults reads : ℕ) (old new : Option Content) (fits : IsWellFormed size false old) (fits_new : IsWellFormed size false new)
+    → new ≡ old → state_with size faults reads new fits_new ≡ state_with size faults reads old fits
+state-same size faults reads old new fits fits_new same =
+    let P : Option Content → Type 0 = λ c. (w : IsWellFormed size false c) → state_with size faults reads c w ≡ state_with size faults reads old fits in
+    subst P (sym same) (λ w. ap (state_with size faults reads old) (IsWellFormed-prop size old w fits)) fits_new

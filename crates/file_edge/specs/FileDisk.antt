@@ -2,7 +2,7 @@
 use Rattle.std.specs.Prelude.{◌≡◌, ◌≤◌, ◌<◌, ◌^◌, ◌/◌, ℕ, List, ◌++◌, Bool, true, false, Option, None, Some, Result, Ok, Err, MatchBool}
 use Rattle.std.specs.declared.fs.options.OpenOptions.{OpenOptions}
 use Rattle.std.specs.declared.io.Error.{Error}
-use Rattle.block_traits.specs.Disk.{DiskState, untold}
+use Rattle.block_traits.specs.Disk.{DiskState}
 use Rattle.file_edge.specs.Asked.{Asked, Find, asking, more}
 use Rattle.file_edge.specs.declared.file_disk.FileDisk.{FileDisk}
 use Rattle.file_edge.specs.Found.{IsFree}
@@ -10,10 +10,23 @@ use Rattle.file_edge.specs.declared.found.FileId.{FileId}
 use Rattle.file_edge.specs.declared.found.Found.{Found}
 use Rattle.file_edge.specs.ImageFile.{IsHeld}
 use Rattle.file_edge.specs.Opening.{OpensImage, image_asked}
+use Rattle.file_edge.specs.Told.{Told, contents, of_size, told_in}
+use Rattle.file_edge.specs.ToldFits.{IsWellFormed-told}
 
--- it tells no content
-abbrev pub state_of : {F : Type 0} → FileDisk F → DiskState
-state_of d = untold d.sectors d.faults d.reads d.small
+-- it tells what its file tells, where that has just its sectors, and shows no events
+abbrev pub state_of : {F : Type 0} → (F → Option Told) → FileDisk F → DiskState
+state_of told d = record {
+  size = d.sectors;
+  shows = false;
+  content = of_size d.sectors (contents (told_in told d.file));
+  faults = d.faults;
+  reads = d.reads;
+  well_formed = IsWellFormed-told d.sectors (told_in told d.file) d.small;
+}
+
+-- it tells all that its file tells
+abbrev pub TellsFile : {F : Type 0} → (F → Option Told) → FileDisk F → Type 0
+TellsFile told d = (state_of told d).content ≡ contents (told_in told d.file)
 
 -- no file is opened, the disk has two sectors, and it is known which file it would have been, or not
 pub record IsUnopened {F : Type 0} (id : Option FileId) (disk : FileDisk F) : Type 0 where

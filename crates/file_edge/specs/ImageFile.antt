@@ -1,4 +1,4 @@
--- What a read of a file answers, how it is held, and what is written to it.
+-- What a read of a file answers, how it is held, and which calls are made of it.
 use Rattle.std.specs.Prelude.{◌≡◌, ◌≤◌, ◌+◌, List, [], ◌∷◌, length, ℕ, Bool, true, false, Option, None, Some, Result, Ok, Err}
 use Rattle.file_edge.specs.Asked.{more}
 
@@ -17,35 +17,41 @@ abbrev pub IsHeld : {F : Type 0} → (F → Bool → Type 0) → Bool → F → 
 IsHeld locks false file held = held ≡ true
 IsHeld locks true file held = locks file held
 
--- bytes that were to be written at a byte offset
-pub record Written : Type 0 where
-  pub at : ℕ
-  pub bytes : List ℕ
+-- One call of a file: so many bytes are read at a byte offset (pread(2)), bytes are written at one (pwrite(2)), what was
+-- written is brought to the disk (fdatasync(2)).
+pub data Call : Type 0 where
+  ReadAt : (at count : ℕ) → Call
+  WriteAt : (at : ℕ) → (bytes : List ℕ) → Call
+  SyncData : Call
 
-abbrev pub writing : ℕ → List ℕ → List Written
-writing at bytes = record { at = at; bytes = bytes } ∷ []
+module _ {F : Type 0} (calls : F → Option (List Call)) where
+  -- a file that is open stays open, and nothing was asked of it
+  abbrev pub LeavesFile : Option F → Option F → Type 0
+  LeavesFile None None = Unit {0}
+  LeavesFile (Some old) (Some new) = calls new ≡ calls old
+  LeavesFile old new = ⊥
 
--- a file that is open stays open, and nothing was written to it
-abbrev pub LeavesFile : {F : Type 0} → (F → Option (List Written)) → Option F → Option F → Type 0
-LeavesFile written None None = Unit {0}
-LeavesFile written (Some old) (Some new) = written new ≡ written old
-LeavesFile written old new = ⊥
+  -- the same, but for this one call
+  abbrev pub AsksFile : Call → Option F → Option F → Type 0
+  AsksFile call None None = Unit {0}
+  AsksFile call (Some old) (Some new) = calls new ≡ more (call ∷ []) (calls old)
+  AsksFile call old new = ⊥
 
 -- so many bytes at a byte offset stand before the end that was found
 abbrev pub IsWithin : Option ℕ → ℕ → ℕ → Type 0
 IsWithin None at count = ⊥
 IsWithin (Some end) at count = at + count ≤ end
 
-module _ {F : Type 0} (ends : F → Option ℕ → Type 0) (writes : F → ℕ → List ℕ → Bool → Type 0) (written : F → Option (List Written)) (at : ℕ) (bytes : List ℕ) (done : Bool) where
+module _ {F : Type 0} (ends : F → Option ℕ → Type 0) (writes : F → ℕ → List ℕ → Bool → Type 0) (calls : F → Option (List Call)) (at : ℕ) (bytes : List ℕ) (done : Bool) where
   -- the bytes were to be written there, all in one, and nothing else
   pub record Puts (old new : F) : Type 0 where
     pub answered : writes old at bytes done
-    pub log : written new ≡ more (writing at bytes) (written old)
+    pub log : calls new ≡ more (WriteAt at bytes ∷ []) (calls old)
 
   -- nothing was to be written
   pub record PutsNone (old new : F) : Type 0 where
     pub failed : done ≡ false
-    pub log : written new ≡ written old
+    pub log : calls new ≡ calls old
 
   -- the bytes were to be written where the file still reaches so far
   pub record WritesWithin (old new : F) : Type 0 where

@@ -8,3 +8,5 @@ pub mod Opening
 pub mod RandomFile
 pub mod Storing
 pub mod Streams
+pub mod Told
+pub mod ToldFits

@@ -1,5 +1,5 @@
 -- What a store asks of an opener.
-use Rattle.std.specs.Prelude.{◌≡◌, ◌-◌, ◌^◌, ℕ, zero, suc, List, [], ◌++◌, true, false, Option, Result, Ok, Err, codes, decimal}
+use Rattle.std.specs.Prelude.{◌≡◌, ◌≢◌, ◌⊎◌, ◌<◌, ◌-◌, ◌^◌, ◌==◌, ℕ, zero, suc, List, [], ◌∷◌, ◌++◌, length, get_or, true, false, if◌then◌else◌, Option, Result, Ok, Err, codes, decimal}
 use Rattle.std.specs.Str.{IsUtf8}
 use Rattle.std.specs.declared.io.Error.{Error}
 use Rattle.block_traits.specs.declared.cabinet.StoreFault.{StoreFault}
@@ -14,6 +14,22 @@ use Rattle.file_edge.specs.declared.store.Stop.TheVariants as stops
 -- the names beside a name, in the same folder, by their numbers
 abbrev pub beside_name : List ℕ → ℕ → List ℕ
 beside_name name number = name ++ codes ".new" ++ decimal number
+
+-- no slash is among these bytes
+abbrev pub HasNoSlash : List ℕ → Type 0
+HasNoSlash bytes = (i : ℕ) → i < length bytes → get_or bytes i 0 ≢ 47
+
+-- the folder is what comes before the last slash of a name, or the root where that is nothing
+pub record IsBeforeSlash (name folder : List ℕ) : Type 0 where
+  pub front : List ℕ
+  pub last : List ℕ
+  pub cut : name ≡ front ++ 47 ∷ last
+  pub is_last : HasNoSlash last
+  pub is_front : folder ≡ (if length front == 0 then codes "/" else front)
+
+-- the folder of a name: the current one where it has no slash (path_resolution(7))
+abbrev pub IsFolderOf : List ℕ → List ℕ → Type 0
+IsFolderOf name folder = (HasNoSlash name × (folder ≡ codes ".")) ⊎ IsBeforeSlash name folder
 
 -- the first names beside, in order, which something has already
 abbrev pub met : List ℕ → ℕ → List Asked

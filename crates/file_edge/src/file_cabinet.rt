@@ -46,6 +46,13 @@ impl<O: Opener + Drop> FileCabinet<O> {
             stores: 0,
         }
     }
+
+    /// What opens the files, as the calls left it.
+    pub fn into_opener(self) -> O
+        ensures { result ≡ self.opener }
+    {
+        self.opener
+    }
 }
 
 // Without the bound the clause would take the relation of any reader, which says nothing.

@@ -2,16 +2,17 @@
 ghost use Rattle.std.specs.Prelude.{◌≡◌, ◌<◌, ◌≤◌, ◌^◌, ◌+◌, ◌*◌, ◌/◌, ◌%◌, ◌∷◌, [], IsErr, IsNone, MatchOption, OnErr, OnOk, false, is_err, is_ok, length, true};
 ghost use Rattle.block_traits.specs.Causes.{Counted, Rose};
 ghost use Rattle.block_traits.specs.Disk.{FailsIn, Gives, GivesEach, Logs, write_events};
-ghost use Rattle.file_edge.specs.ImageFile.{IsHeld, LeavesFile, WritesFile, WritesWithin, looked, read_bytes};
+ghost use Rattle.file_edge.specs.ImageFile.{AsksFile, IsHeld, LeavesFile, ReadAt, SyncData, WritesFile, WritesWithin, looked, read_bytes};
 ghost use Rattle.file_edge.specs.Opening.{AsksImage};
+ghost use Rattle.file_edge.specs.Told.{EndsTold, Leaves, ReadsTold, contents, told_in};
 
 use crate::found::{FileId, is_free};
 use crate::image_file::ImageFile;
 use crate::opener::{Opener, open_image};
 use block_traits::{Disk, DiskFailed, Event, Sector};
 
-/// The whole 512-byte pieces of a file, read and written where they stand. It tells no content, shows
-/// no events, and counts each failure and each read.
+/// The whole 512-byte pieces of a file, read and written where they stand. It tells what its file tells, shows no events,
+/// and counts each failure and each read.
 #[derive(Drop)]
 pub struct FileDisk<F: Drop> {
     file: Option<F>,
@@ -24,7 +25,7 @@ pub struct FileDisk<F: Drop> {
 }
 
 impl<F: Drop> FileDisk<F> {
-    ghost use Rattle.file_edge.specs.FileDisk.{AsksDisk, IsDiskHeld, IsDiskOf, IsDiskOfEnd, IsDiskOfFile, IsUnopened, OpensDisk, OpensFile};
+    ghost use Rattle.file_edge.specs.FileDisk.{AsksDisk, IsDiskHeld, IsDiskOf, IsDiskOfEnd, IsDiskOfFile, IsUnopened, OpensDisk, OpensFile, TellsFile};
 
     /// The disk of a file. A file that can't be opened, that is no regular file and no block device, that is one of these
     /// images, or of 2^53 bytes or more, is a disk of two sectors whose every call fails; so is one that is to be changed
@@ -41,7 +42,9 @@ impl<F: Drop> FileDisk<F> {
         ensures opens { OpensDisk F.tells F.locks F.ends images.now changes O.leads O.answers opener.old name.now result }
         ensures asked { AsksDisk O.asked opener.old changes name.now opener.new }
         ensures faults { result.faults ≡ 0 }
+        ensures reads { result.reads ≡ 0 }
         ensures unsynced { result.unsynced ≡ false }
+        ensures tells { TellsFile F.told result }
         ensures unopened { IsNone result.file → result.sectors ≡ 2 }
     {
         // A pipe isn't opened, since that would wait for its writer.
@@ -67,7 +70,9 @@ impl<F: Drop> FileDisk<F> {
         ensures opens { OpensFile F.tells F.locks F.ends images.now changes O.leads O.answers name.now id result }
         ensures asked { AsksImage O.asked opener.old changes name.now opener.new }
         ensures faults { result.faults ≡ 0 }
+        ensures reads { result.reads ≡ 0 }
         ensures unsynced { result.unsynced ≡ false }
+        ensures tells { TellsFile F.told result }
         ensures unopened { IsNone result.file → result.sectors ≡ 2 }
     {
         match open_image(opener, changes, name) {
@@ -82,7 +87,9 @@ impl<F: Drop> FileDisk<F> {
         F: ImageFile,
         ensures disk { IsDiskOfFile F.tells F.locks F.ends images.now changes file id result }
         ensures faults { result.faults ≡ 0 }
+        ensures reads { result.reads ≡ 0 }
         ensures unsynced { result.unsynced ≡ false }
+        ensures tells { TellsFile F.told result }
         ensures unopened { IsNone result.file → result.sectors ≡ 2 }
     {
         match file.found() {
@@ -102,7 +109,9 @@ impl<F: Drop> FileDisk<F> {
         F: ImageFile,
         ensures disk { IsDiskHeld F.locks F.ends changes file id result }
         ensures faults { result.faults ≡ 0 }
+        ensures reads { result.reads ≡ 0 }
         ensures unsynced { result.unsynced ≡ false }
+        ensures tells { TellsFile F.told result }
         ensures unopened { IsNone result.file → result.sectors ≡ 2 }
     {
         if !is_held(&file, changes) {
@@ -117,7 +126,9 @@ impl<F: Drop> FileDisk<F> {
         F: ImageFile,
         ensures disk { IsDiskOfEnd F.ends file id result }
         ensures faults { result.faults ≡ 0 }
+        ensures reads { result.reads ≡ 0 }
         ensures unsynced { result.unsynced ≡ false }
+        ensures tells { TellsFile F.told result }
         ensures unopened { IsNone result.file → result.sectors ≡ 2 }
     {
         match file.end() {
@@ -128,8 +139,12 @@ impl<F: Drop> FileDisk<F> {
 
     /// The disk of an open file of so many bytes.
     pub fn of_file(file: F, id: FileId, length: u64) -> FileDisk<F>
+    where
+        F: ImageFile,
         ensures disk { IsDiskOf file id length result }
+        ensures tells { EndsTold (F.told file) length → TellsFile F.told result }
         ensures faults { result.faults ≡ 0 }
+        ensures reads { result.reads ≡ 0 }
         ensures unsynced { result.unsynced ≡ false }
         ensures unopened { IsNone result.file → result.sectors ≡ 2 }
     {
@@ -150,6 +165,7 @@ impl<F: Drop> FileDisk<F> {
     pub fn unopened(id: Option<FileId>) -> FileDisk<F>
         ensures unopened { IsUnopened id result }
         ensures faults { result.faults ≡ 0 }
+        ensures reads { result.reads ≡ 0 }
         ensures unsynced { result.unsynced ≡ false }
     {
         FileDisk {
@@ -193,10 +209,33 @@ fn is_held<F: ImageFile>(file: &F, changes: bool) -> bool
     true
 }
 
-// Writes bytes all in one, where the file still reaches so far: it may have become shorter, and isn't made longer.
+// Reads whole sectors all in one at a byte offset of a file, if one is open.
+fn read_open<F: ImageFile>(file: &mut Option<F>, at: u64, into: &mut [u8]) -> Result<(), DiskFailed>
+    requires at { at % 512 ≡ 0 }
+    requires whole { length into.old % 512 ≡ 0 }
+    ensures placed { MatchOption file.old (IsErr result) (λ file. F.reads file at (read_bytes result into.new)) }
+    ensures asks { AsksFile F.calls (ReadAt at (length into.old)) file.old file.new }
+    ensures bytes { OnOk result (ReadsTold (told_in F.told file.old) at into.new) }
+    ensures told { contents (told_in F.told file.new) ≡ contents (told_in F.told file.old) }
+{
+    match file {
+        Some(file) => match file.read_bytes(at, into) {
+            Ok(()) => Ok(()),
+            Err(_) => Err(DiskFailed),
+        },
+        None => Err(DiskFailed),
+    }
+}
+
+// Writes whole sectors all in one, where the file still reaches so far: it may have become shorter, and isn't made longer.
+#[tactic(auto, using(crate::proofs::Left::leaves_nothing))]
 fn write_within<F: ImageFile>(file: &mut F, at: u64, from: &[u8]) -> bool
-    requires { at + length from.now ≤ 2 ^ 53 }
-    ensures { WritesWithin F.ends F.writes F.written at from.now result file.old file.new }
+    requires fits { at + length from.now ≤ 2 ^ 53 }
+    requires at { at % 512 ≡ 0 }
+    requires whole { length from.now % 512 ≡ 0 }
+    ensures placed { WritesWithin F.ends F.writes F.calls at from.now result file.old file.new }
+    ensures told { Leaves (write_events (at / 512) from.now) (at / 512 + length from.now / 512) result
+        (contents (F.told file.old)) (contents (F.told file.new)) }
 {
     match file.end() {
         Ok(end) => at + from.len() as u64 <= end && file.write_bytes(at, from).is_ok(),
@@ -204,54 +243,91 @@ fn write_within<F: ImageFile>(file: &mut F, at: u64, from: &[u8]) -> bool
     }
 }
 
+// The same of a file, if one is open.
+#[tactic(auto, using(crate::proofs::Left::leaves_nothing))]
+fn write_open<F: ImageFile>(file: &mut Option<F>, at: u64, from: &[u8]) -> Result<(), DiskFailed>
+    requires fits { at + length from.now ≤ 2 ^ 53 }
+    requires at { at % 512 ≡ 0 }
+    requires whole { length from.now % 512 ≡ 0 }
+    ensures placed { WritesFile F.ends F.writes F.calls at from.now (is_ok result) file.old file.new }
+    ensures told { Leaves (write_events (at / 512) from.now) (at / 512 + length from.now / 512) (is_ok result)
+        (contents (told_in F.told file.old)) (contents (told_in F.told file.new)) }
+{
+    match file {
+        Some(file) => {
+            if write_within(file, at, from) {
+                Ok(())
+            } else {
+                Err(DiskFailed)
+            }
+        }
+        None => Err(DiskFailed),
+    }
+}
+
+// Brings what was written to a file to the disk, if one is open.
+#[tactic(auto, using(crate::proofs::Left::leaves_nothing))]
+fn sync_open<F: ImageFile>(file: &mut Option<F>) -> Result<(), DiskFailed>
+    ensures synced { MatchOption file.old (IsErr result) (λ file. F.syncs file (is_ok result)) }
+    ensures asks { AsksFile F.calls SyncData file.old file.new }
+    ensures told { Leaves (Event.Flush ∷ []) 0 (is_ok result)
+        (contents (told_in F.told file.old)) (contents (told_in F.told file.new)) }
+{
+    match file {
+        Some(file) => match file.sync() {
+            Ok(()) => Ok(()),
+            Err(_) => Err(DiskFailed),
+        },
+        None => Err(DiskFailed),
+    }
+}
+
 /// Sector n stands at byte 512 * n of the file. A file that isn't opened is a disk whose every call fails.
 impl<F: ImageFile + Drop> Disk for FileDisk<F> {
     ghost use Rattle.file_edge.specs.FileDisk.{state_of};
 
-    ghost state = { state_of };
+    ghost state = { state_of F.told };
 
     fn sectors(&self) -> u64 {
         self.sectors
     }
 
     fn read(&mut self, n: u64, into: &mut Sector) -> Result<(), DiskFailed>
-        requires { n < (state_of self.old).size }
-        ensures bytes { OnOk result (Gives (state_of self.old) n into.new) }
-        ensures ok { OnOk result (Logs [] (state_of self.old) (state_of self.new)) }
-        ensures err { OnErr result (FailsIn [] (state_of self.old) (state_of self.new)) }
+        requires { n < (state_of F.told self.old).size }
+        ensures bytes { OnOk result (Gives (state_of F.told self.old) n into.new) }
+        ensures ok { OnOk result (Logs [] (state_of F.told self.old) (state_of F.told self.new)) }
+        ensures err { OnErr result (FailsIn [] (state_of F.told self.old) (state_of F.told self.new)) }
         ensures asked { Counted 1 self.old.reads self.new.reads }
         ensures placed { MatchOption self.old.file (IsErr result) (λ file. F.reads file (512 * n) (read_bytes result into.new)) }
-        ensures kept { LeavesFile F.written self.old.file self.new.file }
+        ensures asks { AsksFile F.calls (ReadAt (512 * n) 512) self.old.file self.new.file }
         ensures unsynced { self.new.unsynced ≡ self.old.unsynced }
     {
         self.reads = self.reads.saturating_add(1);
-        if let Some(file) = &mut self.file
-            && file.read_bytes(512 * n, into).is_ok()
-        {
-            return Ok(());
+        match read_open(&mut self.file, 512 * n, into) {
+            Ok(()) => Ok(()),
+            Err(_) => Err(self.fail()),
         }
-        Err(self.fail())
     }
 
     /// Besides what a disk does: a look is one read of the file, of all the bytes.
     fn peek(&mut self, first: u64, into: &mut [u8]) -> bool
         requires whole { length into.old % 512 ≡ 0 }
-        requires inside { first + length into.old / 512 ≤ (state_of self.old).size }
-        ensures stand { result ≡ true → GivesEach (state_of self.old) first into.new }
-        ensures stays { state_of self.new ≡ state_of self.old }
+        requires inside { first + length into.old / 512 ≤ (state_of F.told self.old).size }
+        ensures stand { result ≡ true → GivesEach (state_of F.told self.old) first into.new }
+        ensures stays { state_of F.told self.new ≡ state_of F.told self.old }
         ensures placed { MatchOption self.old.file (result ≡ false) (λ file. F.reads file (512 * first) (looked result into.new)) }
-        ensures kept { LeavesFile F.written self.old.file self.new.file }
+        ensures asks { AsksFile F.calls (ReadAt (512 * first) (length into.old)) self.old.file self.new.file }
         ensures unsynced { self.new.unsynced ≡ self.old.unsynced }
     {
-        match &mut self.file {
-            Some(file) => file.read_bytes(512 * first, into).is_ok(),
-            None => false,
+        match read_open(&mut self.file, 512 * first, into) {
+            Ok(()) => true,
+            Err(_) => false,
         }
     }
 
     fn count_reads(&mut self, many: u64)
         ensures asked { Counted many self.old.reads self.new.reads }
-        ensures logs { Logs [] (state_of self.old) (state_of self.new) }
+        ensures logs { Logs [] (state_of F.told self.old) (state_of F.told self.new) }
         ensures file { self.new.file ≡ self.old.file }
         ensures unsynced { self.new.unsynced ≡ self.old.unsynced }
     {
@@ -260,58 +336,57 @@ impl<F: ImageFile + Drop> Disk for FileDisk<F> {
 
     /// Besides what a disk does: where the file became shorter, what stands behind its end isn't written.
     fn write(&mut self, n: u64, from: &Sector) -> Result<(), DiskFailed>
-        requires { n < (state_of self.old).size }
-        ensures ok { OnOk result (Logs (Event.Write n from.now ∷ []) (state_of self.old) (state_of self.new)) }
-        ensures err { OnErr result (FailsIn (Event.Write n from.now ∷ []) (state_of self.old) (state_of self.new)) }
+        requires { n < (state_of F.told self.old).size }
+        ensures ok { OnOk result (Logs (Event.Write n from.now ∷ []) (state_of F.told self.old) (state_of F.told self.new)) }
+        ensures err { OnErr result (FailsIn (Event.Write n from.now ∷ []) (state_of F.told self.old) (state_of F.told self.new)) }
         ensures unasked { self.new.reads ≡ self.old.reads }
-        ensures placed { WritesFile F.ends F.writes F.written (512 * n) from.now (is_ok result) self.old.file self.new.file }
+        ensures placed { WritesFile F.ends F.writes F.calls (512 * n) from.now (is_ok result) self.old.file self.new.file }
         ensures unsynced { self.new.unsynced ≡ self.old.unsynced }
     {
-        if let Some(file) = &mut self.file
-            && write_within(file, 512 * n, from)
-        {
-            return Ok(());
+        match write_open(&mut self.file, 512 * n, from) {
+            Ok(()) => Ok(()),
+            Err(_) => Err(self.fail()),
         }
-        Err(self.fail())
     }
 
     /// Besides what a disk does: the sectors are one write of the file. Where it became shorter, so that one of them stands
     /// behind its end, none is written.
     fn write_sectors(&mut self, first: u64, from: &[u8]) -> Result<(), DiskFailed>
         requires whole { length from.now % 512 ≡ 0 }
-        requires inside { first + length from.now / 512 ≤ (state_of self.old).size }
-        ensures ok { OnOk result (Logs (write_events first from.now) (state_of self.old) (state_of self.new)) }
-        ensures err { OnErr result (FailsIn (write_events first from.now) (state_of self.old) (state_of self.new)) }
+        requires inside { first + length from.now / 512 ≤ (state_of F.told self.old).size }
+        ensures ok { OnOk result (Logs (write_events first from.now) (state_of F.told self.old) (state_of F.told self.new)) }
+        ensures err { OnErr result (FailsIn (write_events first from.now) (state_of F.told self.old) (state_of F.told self.new)) }
         ensures unasked { self.new.reads ≡ self.old.reads }
-        ensures placed { WritesFile F.ends F.writes F.written (512 * first) from.now (is_ok result) self.old.file self.new.file }
+        ensures placed { WritesFile F.ends F.writes F.calls (512 * first) from.now (is_ok result) self.old.file self.new.file }
         ensures unsynced { self.new.unsynced ≡ self.old.unsynced }
     {
-        if let Some(file) = &mut self.file
-            && write_within(file, 512 * first, from)
-        {
-            return Ok(());
+        match write_open(&mut self.file, 512 * first, from) {
+            Ok(()) => Ok(()),
+            Err(_) => Err(self.fail()),
         }
-        Err(self.fail())
     }
 
     /// Besides what a disk does: after a failed flush each one fails, since the system may have dropped what was written.
     fn flush(&mut self) -> Result<(), DiskFailed>
-        ensures ok { OnOk result (Logs (Event.Flush ∷ []) (state_of self.old) (state_of self.new)) }
-        ensures err { OnErr result (FailsIn (Event.Flush ∷ []) (state_of self.old) (state_of self.new)) }
+        ensures ok { OnOk result (Logs (Event.Flush ∷ []) (state_of F.told self.old) (state_of F.told self.new)) }
+        ensures err { OnErr result (FailsIn (Event.Flush ∷ []) (state_of F.told self.old) (state_of F.told self.new)) }
         ensures unasked { self.new.reads ≡ self.old.reads }
         ensures synced { self.old.unsynced ≡ false → MatchOption self.old.file (IsErr result) (λ file. F.syncs file (is_ok result)) }
         ensures stays { self.old.unsynced ≡ true → IsErr result }
         ensures unsynced { self.new.unsynced ≡ is_err result }
-        ensures kept { LeavesFile F.written self.old.file self.new.file }
+        ensures asks { self.old.unsynced ≡ false → AsksFile F.calls SyncData self.old.file self.new.file }
+        ensures kept { self.old.unsynced ≡ true → LeavesFile F.calls self.old.file self.new.file }
     {
-        if !self.unsynced
-            && let Some(file) = &mut self.file
-            && file.sync().is_ok()
-        {
-            return Ok(());
+        if self.unsynced {
+            return Err(self.fail());
         }
-        self.unsynced = true;
-        Err(self.fail())
+        match sync_open(&mut self.file) {
+            Ok(()) => Ok(()),
+            Err(_) => {
+                self.unsynced = true;
+                Err(self.fail())
+            }
+        }
     }
 
     fn events(&self) -> Option<&[Event]> {

@@ -1,9 +1,12 @@
 // The file of an image, by byte offsets.
-ghost use Rattle.std.specs.Prelude.{◌≡◌, ℕ, List, None, Option, Bool, Result, is_ok};
+ghost use Rattle.std.specs.Prelude.{◌≡◌, ◌+◌, ◌/◌, ◌%◌, ◌∷◌, [], ℕ, List, None, Option, Bool, IfOk, OnOk, Result, is_ok, length};
 ghost use Rattle.std.specs.Result.{result_ok};
 ghost use Rattle.std.specs.declared.io.Error.{Error};
+ghost use Rattle.block_traits.specs.Disk.{write_events};
+ghost use Rattle.block_traits.specs.declared.disk.Event.TheVariants.{Flush};
 ghost use Rattle.file_edge.specs.Asked.{more};
-ghost use Rattle.file_edge.specs.ImageFile.{Written, read_bytes, writing};
+ghost use Rattle.file_edge.specs.ImageFile.{Call, ReadAt, SyncData, WriteAt, read_bytes};
+ghost use Rattle.file_edge.specs.Told.{EndsTold, Leaves, ReadsTold, Told, contents};
 ghost use Rattle.file_edge.specs.declared.found.Found.{Found};
 
 use crate::found::Found;
@@ -14,6 +17,9 @@ use std::os::unix::fs::FileExt;
 
 /// An open file that has an image. What is asked of it is proved for every such file, so that a contract can say
 /// where a sector stands and what is brought to the disk, although nothing tells what the system answers.
+///
+/// A file may tell its sectors, its whole 512-byte pieces: what they held at first, and each write and sync since. It then
+/// always does, keeps their number, is changed by nobody else, and writes each sector whole or not at all.
 pub trait ImageFile {
     /// Whether this may be found of it.
     ghost tells: { Self → Result Found Error → Type 0 };
@@ -33,8 +39,11 @@ pub trait ImageFile {
     /// Whether a sync may be answered so; true: what was written is on the disk.
     ghost syncs: { Self → Bool → Type 0 };
 
-    /// All that was to be written to it, in order, where that is told.
-    ghost written: { Self → Option (List Written) };
+    /// All that it was asked to read, to write and to sync, in order, where that is told.
+    ghost calls: { Self → Option (List Call) };
+
+    /// What its sectors held at first and what was done to them since, where that is told.
+    ghost told: { Self → Option Told };
 
     /// What is found of it.
     fn found(&self) -> io::Result<Found>
@@ -46,25 +55,35 @@ pub trait ImageFile {
 
     /// The byte offset of the end.
     fn end(&self) -> io::Result<u64>
-        ensures { ends self.now (result_ok result) };
+        ensures ends { ends self.now (result_ok result) }
+        ensures told { IfOk result (EndsTold (told self.now)) };
 
-    /// Reads bytes at a byte offset, all or none.
+    /// Reads whole sectors at a byte offset, all or none.
     fn read_bytes(&mut self, at: u64, into: &mut [u8]) -> io::Result<()>
+        requires at { at % 512 ≡ 0 }
+        requires whole { length into.old % 512 ≡ 0 }
         ensures reads { reads self.old at (read_bytes result into.new) }
-        ensures written { written self.new ≡ written self.old };
+        ensures calls { calls self.new ≡ more (ReadAt at (length into.old) ∷ []) (calls self.old) }
+        ensures bytes { OnOk result (ReadsTold (told self.old) at into.new) }
+        ensures told { contents (told self.new) ≡ contents (told self.old) };
 
-    /// Writes bytes at a byte offset.
+    /// Writes whole sectors at a byte offset. Where that failed, some of the first were written and nothing else.
     fn write_bytes(&mut self, at: u64, from: &[u8]) -> io::Result<()>
+        requires at { at % 512 ≡ 0 }
+        requires whole { length from.now % 512 ≡ 0 }
         ensures writes { writes self.old at from.now (is_ok result) }
-        ensures written { written self.new ≡ more (writing at from.now) (written self.old) };
+        ensures calls { calls self.new ≡ more (WriteAt at from.now ∷ []) (calls self.old) }
+        ensures told { Leaves (write_events (at / 512) from.now) (at / 512 + length from.now / 512) (is_ok result)
+            (contents (told self.old)) (contents (told self.new)) };
 
-    /// Brings what was written to the disk.
+    /// Brings what was written to the disk. A failed sync was done or wasn't.
     fn sync(&mut self) -> io::Result<()>
         ensures syncs { syncs self.old (is_ok result) }
-        ensures written { written self.new ≡ written self.old };
+        ensures calls { calls self.new ≡ more (SyncData ∷ []) (calls self.old) }
+        ensures told { Leaves (Flush ∷ []) 0 (is_ok result) (contents (told self.old)) (contents (told self.new)) };
 }
 
-/// A file of the system. It tells nothing of its answers.
+/// A file of the system. It tells nothing of its answers, and not what it holds.
 impl ImageFile for File {
     ghost tells = { λ _ _. Unit {0} };
 
@@ -78,7 +97,9 @@ impl ImageFile for File {
 
     ghost syncs = { λ _ _. Unit {0} };
 
-    ghost written = { λ _. None };
+    ghost calls = { λ _. None };
+
+    ghost told = { λ _. None };
 
     fn found(&self) -> io::Result<Found> {
         Ok(found_of(&self.metadata()?))
@@ -101,6 +122,7 @@ impl ImageFile for File {
         self.read_exact_at(into, at)
     }
 
+    #[tactic(auto, using(crate::proofs::Left::leaves_untold))]
     fn write_bytes(&mut self, at: u64, from: &[u8]) -> io::Result<()> {
         self.write_all_at(from, at)
     }

@@ -6,6 +6,7 @@ ghost use Rattle.std.specs.declared.io.Error.{Error};
 ghost use Rattle.block_traits.specs.Causes.{HasCause};
 ghost use Rattle.file_edge.specs.Asked.{Asked, Find, Look, Open, Remove, Rename, Sync, SyncFolder, Write, asking, making, more};
 ghost use Rattle.file_edge.specs.Opening.{AsksImage, OpensImage};
+ghost use Rattle.file_edge.specs.Storing.{IsFolderOf};
 ghost use Rattle.file_edge.specs.declared.found.Found.{Found};
 
 use crate::found::{FileId, FileKind, Found};
@@ -200,9 +201,11 @@ pub(crate) fn found_of(metadata: &Metadata) -> Found {
 }
 
 // The folder in which a name stands.
-fn folder_of(name: &str) -> &str {
+fn folder_of(name: &str) -> &str
+    ensures { IsFolderOf name.now result.now }
+{
     match name.rsplit_once('/') {
-        Some(("", _)) => "/",
+        Some((folder, _)) if folder.is_empty() => "/",
         Some((folder, _)) => folder,
         None => ".",
     }

@@ -40,6 +40,15 @@ impl Disk for RunDisk {
         }
     }
 
+    fn peek(&mut self, first: u64, into: &mut [u8]) -> bool {
+        match self {
+            RunDisk::Plain(disk) => disk.peek(first, into),
+            RunDisk::Behind(disk) => disk.peek(first, into),
+            RunDisk::Join(disk) => disk.peek(first, into),
+            RunDisk::Provider(disk) => disk.peek(first, into),
+        }
+    }
+
     fn count_reads(&mut self, many: u64) {
         match self {
             RunDisk::Plain(disk) => disk.count_reads(many),
@@ -55,6 +64,15 @@ impl Disk for RunDisk {
             RunDisk::Behind(disk) => disk.write(n, from),
             RunDisk::Join(disk) => disk.write(n, from),
             RunDisk::Provider(disk) => disk.write(n, from),
+        }
+    }
+
+    fn write_sectors(&mut self, first: u64, from: &[u8]) -> Result<(), DiskFailed> {
+        match self {
+            RunDisk::Plain(disk) => disk.write_sectors(first, from),
+            RunDisk::Behind(disk) => disk.write_sectors(first, from),
+            RunDisk::Join(disk) => disk.write_sectors(first, from),
+            RunDisk::Provider(disk) => disk.write_sectors(first, from),
         }
     }
 

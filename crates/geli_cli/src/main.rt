@@ -1,11 +1,9 @@
 //! The program `geli`: the disks, streams, files and random bytes of the system are handed to the run.
 #![tactic(auto)]
 
-mod program;
-
 use file_edge::{InputSource, OutputSink, SystemFiles};
 use geli_core::Status;
-use program::{exit_code, run_words, words_of};
+use image_run::{exit_code, run_words, words_of};
 use std::fs::File;
 use std::process::ExitCode;
 use std::{env, io};

@@ -18,6 +18,7 @@ use Rattle.command_rows.specs.Turn.{Turn}
 use Rattle.command_rows.specs.World.{World, place_of}
 use Rattle.command_rows.proofs.Becoming.{turn_becomes}
 use Rattle.command_rows.proofs.Sound.{turn_counts}
+use Rattle.command_rows.proofs.Storing.{turn_stores}
 use Rattle.command_rows.proofs.Fitting.{fits_refused}
 use Rattle.command_rows.proofs.LineCauses.{refusal_caused}
 use Rattle.command_rows.proofs.Stopped.{turn_leaves}
@@ -76,6 +77,7 @@ turn_laws line command old answer new h =
       leaves = turn_leaves line command old answer new h;
       becomes = turn_becomes line command old answer new h;
       counts = turn_counts line command old answer new h;
+      files = turn_stores line command old answer new h;
     }
 
 reading_laws : (read : Result (Option Command) Usage) (line : List ℕ) (old : World) (answer : Option Answer) (new : World) → ServesReading read line old answer new → LineKeepsLaws read line old answer new

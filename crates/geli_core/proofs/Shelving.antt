@@ -1,6 +1,6 @@
 -- Disks under their names on a shelf: all of them, one after another, or why not.
 use Rattle.std.proofs.Common.{◌≡◌, ◌∙◌, ap, arith, cond, drop, false, true, Bool, get_or, length, map, refl, sym, subst, append_assoc, ℕ, ◌+◌, ◌<◌, ◌≤◌, List, [], ◌∷◌, ◌++◌, None, Some, Option, slice_index_or}
-use Rattle.std.proofs.lemmas.List.{append-nil, drop_all, drop_more, length-append}
+use Rattle.std.proofs.lemmas.List.{append-nil, drop_all, drop_more, length-append, map-append}
 use Rattle.std.specs.List.{remove}
 use Rattle.std.specs.Prelude.{IsNone, IsSome}
 use Rattle.std.specs.Option.{option_map}
@@ -8,7 +8,7 @@ use Rattle.std.specs.Str.{bytes_eq}
 use Rattle.std.proofs.lemmas.Slice.Eq.{bytes_eq-Decides}
 use Rattle.block_traits.specs.Disk.{DiskState}
 use Rattle.command_rows.specs.World.{DrawerState, Idle, NamesDiffer, place_of}
-use Rattle.geli_core.specs.Images.{IsNotShelved, Outside, RunsOver, idle_drawers, whole_with}
+use Rattle.geli_core.specs.Images.{IsNotShelved, Outside, RunsOver, disks_of, idle_drawers, whole_with}
 use Rattle.geli_core.specs.Lawful.{RunsLawfully}
 use Rattle.geli_core.specs.declared.status.Status.{Status}
 use Rattle.shelf.specs.Adding.{RefusesToAdd}
@@ -27,6 +27,19 @@ pub idle_next : {D S : Type 0} (state : D → DiskState) (bytes : S → List ℕ
 idle_next state bytes added names i name items rest disk inside is some first left =
     rw (drop_more names i name inside, is, first_disk state items rest disk some first left)
     (append_assoc added (record { name = bytes name; disk = state disk; holding = Idle } ∷ []) (idle_drawers (map bytes (drop (i + 1) names)) (map state rest)))
+
+-- no disk is lost on the way to the shelf
+pub taken_next : {D : Type 0} (state : D → DiskState) (before : List DrawerState) (name : List ℕ) (items rest : List D) (disk : D) (all : List DiskState) → 0 < length items → disk ≡ slice_index_or items 0 disk → rest ≡ remove items 0
+    → disks_of before ++ map state items ≡ all → disks_of (before ++ record { name = name; disk = state disk; holding = Idle } ∷ []) ++ map state rest ≡ all
+taken_next state before name items rest disk all some first left is =
+    ap (λ (l : List DiskState). l ++ map state rest) (map-append (λ (drawer : DrawerState). drawer.disk) before (record { name = name; disk = state disk; holding = Idle } ∷ []))
+    ∙ append_assoc (disks_of before) (state disk ∷ []) (map state rest)
+    ∙ ap (λ (l : List DiskState). disks_of before ++ l) (sym (first_disk state items rest disk some first left)) ∙ is
+
+-- nor is the one that is refused
+pub refused_next : {D : Type 0} (state : D → DiskState) (before : List DrawerState) (items rest : List D) (disk : D) (all : List DiskState) → 0 < length items → disk ≡ slice_index_or items 0 disk → rest ≡ remove items 0
+    → disks_of before ++ map state items ≡ all → disks_of before ++ state disk ∷ map state rest ≡ all
+refused_next state before items rest disk all some first left is = ap (λ (l : List DiskState). disks_of before ++ l) (sym (first_disk state items rest disk some first left)) ∙ is
 
 -- all names have their disks
 pub all_named : {D S : Type 0} (state : D → DiskState) (bytes : S → List ℕ) (added : List DrawerState) (names : List S) (i : ℕ) (items : List D) (all : List DrawerState) → length names ≤ i

@@ -1,13 +1,15 @@
 -- A run over disks, each under its name.
-use Rattle.std.specs.Prelude.{ℕ, ◌<◌, List, [], ◌∷◌, length}
+use Rattle.std.specs.Prelude.{ℕ, ◌<◌, List, [], ◌∷◌, ◌++◌, length, map, Option, None, Some}
 use Rattle.block_traits.specs.Cabinet.{CabinetState}
 use Rattle.block_traits.specs.Disk.{DiskState}
 use Rattle.block_traits.specs.Streams.{EntropyState, SinkState, SourceState}
 use Rattle.command_rows.specs.World.{DrawerState, Idle, NamesDiffer}
 use Rattle.geli_core.specs.Lawful.{RunsLawfully}
 use Rattle.geli_core.specs.Script.{Whole}
+use Rattle.geli_core.specs.declared.images.NotShelved.{NotShelved}
 use Rattle.geli_core.specs.declared.status.Status.{Status}
 use Rattle.shelf.specs.Adding.{most_drawers}
+use Rattle.shelf.specs.Shelved.{Shelved, drawers_of}
 use Rattle.shelf.specs.declared.drawers.AddFault.{AddFault}
 use Rattle.shelf.specs.declared.drawers.AddFault.TheVariants.{Full, Taken, NoMemory}
 
@@ -39,6 +41,24 @@ abbrev pub IsNotShelved : AddFault → List DrawerState → Type 0
 IsNotShelved Full drawers = most_drawers < length drawers
 IsNotShelved Taken drawers = NamesDiffer drawers → ⊥
 IsNotShelved NoMemory drawers = Unit {0}
+
+-- the disks of drawers, in order
+abbrev pub disks_of : List DrawerState → List DiskState
+disks_of drawers = map (λ drawer. drawer.disk) drawers
+
+-- those on a shelf, if there is one
+abbrev pub disks_on : {D : Type 0} → (D → DiskState) → Option (Shelved D) → List DiskState
+disks_on state None = []
+disks_on state (Some shelf) = disks_of (drawers_of state shelf.drawers)
+
+-- one disk, or none
+abbrev pub one_or_none : {D : Type 0} → (D → DiskState) → Option D → List DiskState
+one_or_none state None = []
+one_or_none state (Some disk) = state disk ∷ []
+
+-- the disks that are handed back where no shelf takes all of them: those that one took, the one that it refused, and those behind it
+abbrev pub disks_back : {D : Type 0} → (D → DiskState) → NotShelved D → List DiskState
+disks_back state refused = disks_on state refused.shelf ++ (one_or_none state refused.disk ++ map state refused.rest.items)
 
 -- A run of the words over disks under names: at first there is a drawer for each name, in order, in which the disk of that place lies idle, and
 -- there is no other, nor one with the same name; of the run from these drawers to those that are left at last holds all that is said of runs.

@@ -27,8 +27,8 @@ pub record DrawersSince (sep : Sep) (entry : World) (served : List ServedLine) (
 -- disk logs events of the line; and a line that changes metadata leaves the old or the new whenever power fails, `setkey` the old slot or the new, `delkey` the old
 -- slots or some without a key, and `kill` no metadata once a flush landed. `reads`: what you write is what you read. Where the disk of the drawer told its content at
 -- entry, the bytes that a `read` is answered by are what the writings say that stand there last, of those that the lines before it placed and of what was there; a `sum`
--- is answered by their SHA-256, and a refusal for a tag names the offset that they say. `resumes`: after a `resume` that is done the master key opens with the given
--- key, and it is the one that was let go, or the two collide under SHA-256.
+-- is answered by their SHA-256, and a refusal for a tag names the offset that they say. `resumes`: after a `resume` that is done the given key opens the master
+-- key, whose digest is the one that was kept; where a line suspended the drawer, it is the one that was let go, or the two collide under SHA-256.
 pub record LineHolds (sep : Sep) (entry : World) (served : List ServedLine) (start : World) (l : ServedLine) : Type 0 where
   pub laws : LineKeepsLaws (reading sep l.line) l.line start l.answer l.next
   pub reads : LineReads sep entry served start (kind_read (reading sep l.line)) l.line l.answer

@@ -15,6 +15,7 @@ use Rattle.command_rows.specs.Counts.{CountsFailures}
 use Rattle.command_rows.specs.Fits.{FindsAt, Fits}
 use Rattle.command_rows.specs.Histories.{OnlySteps}
 use Rattle.command_rows.specs.Stops.{LeavesOldOrNew}
+use Rattle.command_rows.specs.Storing.{StoresItsFile}
 use Rattle.command_rows.specs.World.{World}
 use Rattle.block_traits.specs.Streams.{SinkState}
 use Rattle.command_words.specs.declared.spans.Sep.{Sep}
@@ -30,7 +31,8 @@ IfRefused answer Holds = Unit {0}
 -- Of a command: a refusal has its cause. Want of memory is answered only to verbs that may lack it. Where the drawer that it names has
 -- what its verb needs, and nothing fails, it is served, or there was no memory and its verb may lack it. It changes only the drawer that it names, whose disk logs
 -- events of the line. Where it changes metadata, the disk holds the old or the new at each moment of it. What the drawer does with its disk changes by the verbs that
--- do that alone. No count of the cabinet or the entropy falls, and a failure of theirs is answered only where its count rose.
+-- do that alone. No count of the cabinet or the entropy falls, and a failure of theirs is answered only where its count rose. The files stay but for the one that
+-- `backup`, `init -B` or `verify` names, of which no more than one store is made; no other verb makes a store.
 pub record KeepsLaws (line : List ℕ) (command : Command) (old : World) (answer : Answer) (new : World) : Type 0 where
   pub caused : IfRefused answer (λ refusal. Caused line command refusal old new)
   pub memory : IfRefused answer (λ refusal. refusal ≡ refusals.NoMemory → IsTrue (may_lack_memory command))
@@ -40,6 +42,7 @@ pub record KeepsLaws (line : List ℕ) (command : Command) (old : World) (answer
   pub leaves : LeavesOldOrNew line command answer old new
   pub becomes : BecomesSo line command answer old new
   pub counts : CountsFailures old answer new
+  pub files : StoresItsFile line command old new
 
 -- the same of a line that says a command
 abbrev pub LineKeepsLaws : Result (Option Command) Usage → List ℕ → World → Option Answer → World → Type 0

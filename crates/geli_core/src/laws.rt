@@ -28,7 +28,7 @@ pub fn a_run_logs_the_events_of_its_lines()
 /// taken out, and its disk logs events of the line: none where there was no memory, but for a backup that `init` stores last. What the drawer does
 /// with its disk changes as `a_line_says_what_its_drawer_becomes` of the rows says. A line that changes metadata
 /// leaves the old or the new whenever power fails, as `a_line_leaves_old_or_new` of the shelf says. The counts of the cabinet and the entropy
-/// do what `a_line_counts_failures` of the shelf says.
+/// do what `a_line_counts_failures` of the shelf says, and the files what `a_line_stores_its_file_alone` of the rows says.
 pub fn a_line_keeps_the_laws()
     ensures { (sep : Sep) (line : List ℕ) (old : World) (answer : Option Answer) (new : World) →
         ServesLine sep line old answer new → LineKeepsLaws (reading sep line) line old answer new }

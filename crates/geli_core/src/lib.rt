@@ -17,7 +17,7 @@ pub use bounds::{
     a_closing_refusal_has_its_drawer, device_faults_are_counted,
     device_faults_are_counted_until_eject, outside_failures_are_counted,
 };
-pub use images::run_images;
+pub use images::{NotShelved, run_images, run_over};
 pub use laws::{
     a_line_keeps_the_laws, a_run_breaks_off_for_a_cause, a_run_ends_by_its_words,
     a_run_keeps_its_drawers, a_run_logs_the_events_of_its_lines,

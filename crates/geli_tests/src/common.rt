@@ -15,6 +15,10 @@ pub(crate) struct CountingDisk {
 }
 
 impl CountingDisk {
+    pub(crate) fn new(disk: MemDisk, calls: Rc<Cell<u64>>) -> CountingDisk {
+        CountingDisk { disk, calls }
+    }
+
     fn count(&self) {
         self.calls.set(self.calls.get().saturating_add(1));
     }
@@ -66,10 +70,7 @@ impl World {
     // An image of 64 sectors of zeros under the name `a.img`, a cabinet, and random bytes for ten providers.
     pub(crate) fn new(alloc: Global) -> Result<World, Fail> {
         let calls = Rc::new(alloc, Cell::new(0))?;
-        let disk = CountingDisk {
-            disk: MemDisk::new(alloc, 64, 64)?,
-            calls: calls.clone()?,
-        };
+        let disk = CountingDisk::new(MemDisk::new(alloc, 64, 64)?, calls.clone()?);
         let mut shelf = Drawers::new(alloc)?;
         if shelf.add("a.img", disk).is_err() {
             return Err(Fail::from("the shelf has no room"));
@@ -110,7 +111,7 @@ impl World {
 }
 
 // A cabinet with a key file and a passphrase.
-fn stock(alloc: Global) -> Result<MemCabinet, Fail> {
+pub(crate) fn stock(alloc: Global) -> Result<MemCabinet, Fail> {
     let mut files = MemCabinet::new(alloc);
     files.put("k", b"key")?;
     files.put("p", b"abc\n")?;

@@ -16,19 +16,20 @@ fn calls_of(alloc: Global, script: &str, printed: &str) -> Result<u64, Fail> {
     Ok(world.calls())
 }
 
-// The closing flushes an attached disk. One that was ejected before gets no call any more, attached or not.
+// The closing flushes an attached disk. One that was ejected before gets no call any more, attached or not, also where
+// a write wasn't flushed.
 #[test]
 fn an_ejected_disk_gets_no_call(rt: HostRuntime) -> Result<(), Fail> {
     let alloc = rt.alloc();
     let made = calls_of(alloc, "init -P -K k a.img\n", "ok\n")?;
     let ejected = calls_of(alloc, "init -P -K k a.img\neject a.img\n", "ok\nok\n")?;
     assert_eq!(rt; ejected, made);
-    let attached = "init -P -K k a.img\nattach -p -k k a.img\n";
-    let closed = calls_of(alloc, attached, "ok\nok\n")?;
+    let written = "init -P -K k a.img\nattach -p -k k a.img\nfill a.img 7 0 1\n";
+    let closed = calls_of(alloc, written, "ok\nok\nok\n")?;
     let ejected = calls_of(
         alloc,
-        "init -P -K k a.img\nattach -p -k k a.img\neject a.img\n",
-        "ok\nok\nok\n",
+        "init -P -K k a.img\nattach -p -k k a.img\nfill a.img 7 0 1\neject a.img\nread a.img 0 1\n",
+        "ok\nok\nok\nok\nerror 2 UnknownProvider\n",
     )?;
     assert_eq!(rt; closed.checked_sub(1), Some(ejected));
     Ok(())

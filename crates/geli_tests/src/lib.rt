@@ -11,6 +11,10 @@ mod eject;
 #[cfg(test)]
 mod failures;
 #[cfg(test)]
+mod kinds;
+#[cfg(test)]
 mod metadata;
+#[cfg(test)]
+mod order;
 #[cfg(test)]
 mod replies;

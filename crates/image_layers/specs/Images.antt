@@ -1,5 +1,5 @@
 -- The disks of images, each by what its name asks for, and how they are opened.
-use Rattle.std.specs.Prelude.{◌≡◌, ◌⊎◌, ℕ, ◌+◌, ◌≤◌, ◌^◌, List, [], ◌∷◌, ◌++◌, length, codes, take, Bool, Option, None, Some, Result}
+use Rattle.std.specs.Prelude.{◌≡◌, ◌⊎◌, ℕ, ◌+◌, ◌≤◌, ◌^◌, List, [], ◌∷◌, ◌++◌, length, codes, take, Bool, true, false, Option, None, Some, Result}
 use Rattle.std.specs.declared.fs.options.OpenOptions.{OpenOptions}
 use Rattle.std.specs.declared.io.Error.{Error}
 use Rattle.block_traits.specs.Disk.{DiskState}
@@ -8,7 +8,8 @@ use Rattle.disk_layers.specs.ConcatDisk as concat
 use Rattle.disk_layers.specs.Names.{IsBehind, IsJoin}
 use Rattle.disk_layers.specs.WriteBehind as write_behind
 use Rattle.file_edge.specs.Asked.{Asked}
-use Rattle.file_edge.specs.FileDisk.{AsksDisk, IsUnopened, OpensDisk}
+use Rattle.file_edge.specs.FileDisk.{AsksDisk, IsUnopened, OpensDisk, TellsFile}
+use Rattle.file_edge.specs.Told.{Told}
 use Rattle.file_edge.specs.declared.file_disk.FileDisk.{FileDisk}
 use Rattle.file_edge.specs.declared.found.FileId.{FileId}
 use Rattle.file_edge.specs.declared.found.Found.{Found}
@@ -50,9 +51,9 @@ module _ {F : Type 0} {g : Ghosts (FileDisk F)} where
   state_of (Behind behind) = write_behind.disk_of g.state behind
   state_of (Join both) = concat.disk_of both
 
-  -- a disk for which 256 writes may wait, and none does
+  -- a disk for which 256 writes may wait, and none does; no call below was refused
   abbrev pub WaitsFor : FileDisk F → ImageDisk F g → Type 0
-  WaitsFor disk (Behind behind) = (behind.under ≡ disk) × (length behind.waiting.items ≡ 0) × (behind.room ≡ 256)
+  WaitsFor disk (Behind behind) = (behind.under ≡ disk) × (length behind.waiting.items ≡ 0) × (behind.room ≡ 256) × (behind.clean ≡ true)
   WaitsFor disk (Plain other) = ⊥
   WaitsFor disk (Join both) = ⊥
 
@@ -61,6 +62,12 @@ module _ {F : Type 0} {g : Ghosts (FileDisk F)} where
   JoinsOrIsNone first second (Join both) = (both.first ≡ first) × (both.second ≡ second)
   JoinsOrIsNone first second (Plain disk) = (2 ^ 44 ≤ (g.state first).size + (g.state second).size) × IsUnopened None disk
   JoinsOrIsNone first second (Behind behind) = ⊥
+
+  -- the disk of a file alone tells all that its file tells
+  abbrev pub TellsImage : (F → Option Told) → ImageDisk F g → Type 0
+  TellsImage told (Plain disk) = TellsFile told disk
+  TellsImage told (Behind behind) = Unit {0}
+  TellsImage told (Join both) = Unit {0}
 
 -- ---- openings
 
@@ -73,11 +80,15 @@ abbrev pub opening : {O : Type 0} → O → List FileId → Opening O
 opening opener files = record { opener = opener; files = files }
 
 module _ {O F : Type 0} (leads : O → List ℕ → Result Found Error → Type 0) (answers : O → OpenOptions → List ℕ → Result F Error → Type 0) (tells : F → Result Found Error → Type 0) (locks : F → Bool → Type 0) (ends : F → Option ℕ → Type 0) (log_of : O → Option (List Asked)) (changes : Bool) where
-  -- the disk of the file of this name, opened beside the files so far: nothing else is asked of the opener, and the file is one of them from then on
+  -- the disk of the file of this name, opened beside the files so far: nothing else is asked of the opener, the file is one of
+  -- them from then on, and no call of the disk was made
   pub record OpensOne (name : List ℕ) (disk : FileDisk F) (old new : Opening O) : Type 0 where
     pub opens : OpensDisk tells locks ends old.files changes leads answers old.opener name disk
     pub asked : AsksDisk log_of old.opener changes name new.opener
     pub others : new.files ≡ old.files ++ file_in disk.id
+    pub faults : disk.faults ≡ 0
+    pub reads : disk.reads ≡ 0
+    pub unsynced : disk.unsynced ≡ false
 
   -- the disks of two files, one after the other
   pub record OpensBoth (left right : List ℕ) (first second : FileDisk F) (old new : Opening O) : Type 0 where
@@ -85,13 +96,15 @@ module _ {O F : Type 0} (leads : O → List ℕ → Result Found Error → Type 
     pub one : OpensOne left first old between
     pub other : OpensOne right second between new
 
-  -- `behind:` and more: the disk of the file of what follows, for which 256 writes may wait and none does
-  pub record OpensBehind (name : List ℕ) (disk : FileDisk F) (waits room : ℕ) (old new : Opening O) : Type 0 where
+  -- `behind:` and more: the disk of the file of what follows, for which 256 writes may wait and none does; no call below was
+  -- refused
+  pub record OpensBehind (name : List ℕ) (disk : FileDisk F) (waits room : ℕ) (clean : Bool) (old new : Opening O) : Type 0 where
     pub rest : List ℕ
     pub behind : IsBehindOf name rest
     pub opens : OpensOne rest disk old new
     pub none : waits ≡ 0
     pub most : room ≡ 256
+    pub unrefused : clean ≡ true
 
   -- `join:` and two names: the disks of both files
   pub record OpensJoin (name : List ℕ) (first second : FileDisk F) (old new : Opening O) : Type 0 where
@@ -118,7 +131,7 @@ module _ {O F : Type 0} (leads : O → List ℕ → Result Found Error → Type 
     -- the disk of an image of this name
     abbrev pub OpensImage : List ℕ → ImageDisk F g → Opening O → Opening O → Type 0
     OpensImage name (Plain disk) old new = (IsPlain name × OpensOne name disk old new) ⊎ OpensTooMuch (λ d. (g.state d).size) name disk old new
-    OpensImage name (Behind behind) old new = OpensBehind name behind.under (length behind.waiting.items) behind.room old new
+    OpensImage name (Behind behind) old new = OpensBehind name behind.under (length behind.waiting.items) behind.room behind.clean old new
     OpensImage name (Join both) old new = OpensJoin name both.first both.second old new
 
     -- the disks of images of these names, opened one after another

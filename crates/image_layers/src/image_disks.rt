@@ -1,7 +1,7 @@
 // The disks of images, each by what its name asks for.
 ghost use Rattle.std.specs.Prelude.{◌⊎◌, ◌∷◌, [], IfOk, OnErr};
-ghost use Rattle.file_edge.specs.FileDisk.{AsksDisk};
-ghost use Rattle.image_layers.specs.Images.{AsksFiles, AsksPart, JoinsOrIsNone, OpensBoth, OpensImage, OpensOne, WaitsFor, opening};
+ghost use Rattle.file_edge.specs.FileDisk.{AsksDisk, TellsFile};
+ghost use Rattle.image_layers.specs.Images.{AsksFiles, AsksPart, JoinsOrIsNone, OpensBoth, OpensImage, OpensOne, TellsImage, WaitsFor, opening};
 
 use block_traits::{Disk, NoMemory};
 use disk_layers::{Concat, Parts, WriteBehind, parts_of};
@@ -39,6 +39,7 @@ where
     FileDisk<O::File>: Disk,
     ensures opens { IfOk result (λ disk. OpensImage O.leads O.answers O.File.tells O.File.locks O.File.ends O.asked changes name.now disk
         (opening opener.old files.old.items) (opening opener.new files.new.items)) }
+    ensures tells { IfOk result (TellsImage O.File.told) }
     ensures asked_part { OnErr result (AsksPart O.asked changes name.now opener.old opener.new) }
 {
     match parts_of(name) {
@@ -109,6 +110,7 @@ fn open_named<O: Opener>(
 ) -> Result<FileDisk<O::File>, NoMemory>
     ensures opens { IfOk result (λ disk. OpensOne O.leads O.answers O.File.tells O.File.locks O.File.ends O.asked changes name.now disk
         (opening opener.old files.old.items) (opening opener.new files.new.items)) }
+    ensures tells { IfOk result (TellsFile O.File.told) }
     ensures asked { AsksDisk O.asked opener.old changes name.now opener.new }
 {
     let disk = FileDisk::open(opener, files.as_slice(), changes, name);

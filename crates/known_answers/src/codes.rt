@@ -176,3 +176,13 @@ fn published_keys(rt: HostRuntime) -> Result<(), Fail> {
     }
     Ok(())
 }
+
+// An empty key is as one of 64 zero bytes, and one round of PBKDF2 is the code of the salt and the number of its block.
+#[test]
+fn equal_codes(rt: HostRuntime) {
+    let message = b"what do ya want for nothing?";
+    assert!(rt; Hmac512::code_of(&[], message) == Hmac512::code_of(&[0; 64], message));
+    let mut out = [0u8; 64];
+    pbkdf2_sha512(b"password", b"salt", 1, &mut out);
+    assert!(rt; out == Hmac512::code_of(b"password", b"salt\0\0\0\x01"));
+}

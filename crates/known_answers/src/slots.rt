@@ -1,6 +1,10 @@
-// Slots of another implementation.
+// Slots of another implementation, and slots that are opened.
+ghost use Rattle.std.specs.Prelude.{◌≡◌};
+ghost use Rattle.key_slots.specs.Slots.{IsKeyBits};
+
 use crate::common::{is_hex, master};
-use key_slots::wrap;
+use eli_metadata::Metadata;
+use key_slots::{put_slot, unwrap, unwrap_any, wrap};
 use std::test::Fail;
 use user_key::UserKey;
 
@@ -56,4 +60,54 @@ fn wrapped_slots(rt: HostRuntime) -> Result<(), Fail> {
         assert!(&rt; is_hex(rt.alloc(), &slot, case.slot)?, "{keylen}");
     }
     Ok(())
+}
+
+// Metadata of AES-XTS without a key in either slot.
+fn metadata(keylen: u16) -> Metadata
+    ensures { result.keylen ≡ keylen }
+{
+    Metadata {
+        version: 7,
+        flags: 0x200,
+        ealgo: 22,
+        keylen,
+        aalgo: 0,
+        provsize: 1 << 20,
+        sectorsize: 4096,
+        keys: 0,
+        iterations: 1000,
+        salt: [0; 64],
+        mkeys: [0; 384],
+    }
+}
+
+// Whether slot 1 opens to the master key, asked for by its number and as the first that opens.
+fn opens(meta: &Metadata) -> bool
+    requires { IsKeyBits meta.now.keylen }
+{
+    unwrap(meta, &USER_KEY, 1) == Some(master())
+        && unwrap_any(meta, &USER_KEY) == Some((master(), 1))
+}
+
+// Whether nothing opens.
+fn is_shut(meta: &Metadata) -> bool
+    requires { IsKeyBits meta.now.keylen }
+{
+    unwrap(meta, &USER_KEY, 1).is_none() && unwrap_any(meta, &USER_KEY).is_none()
+}
+
+// A slot opens again, unless its bit is cleared or a bit of byte 100 is turned.
+#[test]
+fn slots_open_again(rt: HostRuntime) {
+    for keylen in [128u16, 192, 256] {
+        assert!(rt; keylen == 128 || keylen == 192 || keylen == 256, "{keylen}");
+        let mut meta = metadata(keylen);
+        put_slot(&mut meta, 1, &wrap(&master(), &USER_KEY, keylen));
+        assert!(rt; opens(&meta), "{keylen}");
+        let mut unset = meta;
+        unset.keys &= !2;
+        assert!(rt; is_shut(&unset), "{keylen}, the bit cleared");
+        meta.mkeys[192 + 100] ^= 1;
+        assert!(rt; is_shut(&meta), "{keylen}, a bit turned");
+    }
 }

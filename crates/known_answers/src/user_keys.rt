@@ -1,9 +1,9 @@
-// User keys of other implementations.
+// User keys of other implementations, what is refused, and passphrases.
 use crate::common::is_hex;
 use block_traits::ByteList;
 use std::alloc::{AllocError, Global};
 use std::test::Fail;
-use user_key::{Components, PassPart, derive};
+use user_key::{Components, KeyFault, PassPart, derive, first_line};
 
 // Key files, a passphrase and iterations, and their user key as hexadecimal text.
 struct KeyCase {
@@ -120,4 +120,39 @@ fn published_keys(rt: HostRuntime) -> Result<(), Fail> {
         assert!(&rt; is_hex(rt.alloc(), &key.bytes, case.key)?, "row {row}");
     }
     Ok(())
+}
+
+// Iterations, whether the passphrase is given, and why there is no key: where it isn't given it is missing.
+const REFUSALS: [(i32, bool, KeyFault); 3] = [
+    (-1, true, KeyFault::PassphraseNotSet),
+    (-1, false, KeyFault::PassphraseNotSet),
+    (0, false, KeyFault::PassphraseNeeded),
+];
+
+#[test]
+fn refused_components(rt: HostRuntime) -> Result<(), Fail> {
+    let alloc = rt.alloc();
+    let mut parts = Components {
+        keyfile_count: 0,
+        keyfiles: list_of(alloc, b"")?,
+        passphrase: PassPart::Without,
+    };
+    assert_eq!(rt; derive(&parts, &SALT, -1), Err(KeyFault::NoKeyComponents));
+    for (iterations, is_given, fault) in REFUSALS {
+        parts.passphrase = if is_given {
+            PassPart::Given(list_of(alloc, b"abc")?)
+        } else {
+            PassPart::Missing
+        };
+        assert_eq!(rt; derive(&parts, &SALT, iterations), Err(fault));
+    }
+    Ok(())
+}
+
+#[test]
+fn first_lines(rt: HostRuntime) {
+    assert!(rt; first_line(b"abc\ndef") == b"abc".as_slice());
+    assert!(rt; first_line(b"abc") == b"abc".as_slice());
+    assert!(rt; first_line(b"").is_empty());
+    assert!(rt; first_line(b"\nabc").is_empty());
 }

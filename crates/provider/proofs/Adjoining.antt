@@ -57,7 +57,7 @@ sector_readings-more k c sector (suc m) n =
     ∙ ap (λ (l : List (Result (List ℕ) ℕ)). sector_reading k c sector ∷ l) (sector_readings-more k c (sector + 1) m n
     ∙ ap (λ (s : ℕ). sector_readings k c (sector + 1) m ++ sector_readings k c s n) at)
 
-joined-both : (front behind : List (Result (List ℕ) ℕ)) (a b : List ℕ) → joined front ≡ Ok a → joined behind ≡ Ok b → joined (front ++ behind) ≡ Ok (a ++ b)
+pub joined-both : (front behind : List (Result (List ℕ) ℕ)) (a b : List ℕ) → joined front ≡ Ok a → joined behind ≡ Ok b → joined (front ++ behind) ≡ Ok (a ++ b)
 joined-both [] behind a b h g = let none : [] ≡ a = cc in g ∙ ap (λ (l : List ℕ). Ok (l ++ b)) none
 joined-both (Ok bytes ∷ front) behind a b h g =
     let parts = before-ok bytes (joined front) a h in
@@ -65,7 +65,7 @@ joined-both (Ok bytes ∷ front) behind a b h g =
     ∙ ap Ok (sym (append_assoc bytes parts.0 b) ∙ ap (λ (l : List ℕ). l ++ b) parts.2)
 joined-both (Err offset ∷ front) behind a b h g = absurd cc
 
-joined-behind : (front behind : List (Result (List ℕ) ℕ)) (a : List ℕ) (offset : ℕ) → joined front ≡ Ok a → joined behind ≡ Err offset → joined (front ++ behind) ≡ Err offset
+pub joined-behind : (front behind : List (Result (List ℕ) ℕ)) (a : List ℕ) (offset : ℕ) → joined front ≡ Ok a → joined behind ≡ Err offset → joined (front ++ behind) ≡ Err offset
 joined-behind [] behind a offset h g = g
 joined-behind (Ok bytes ∷ front) behind a offset h g =
     let parts = before-ok bytes (joined front) a h in ap (before bytes) (joined-behind front behind parts.0 offset parts.1 g)
@@ -75,7 +75,7 @@ before-err : (bytes : List ℕ) (r : Result (List ℕ) ℕ) (offset : ℕ) → b
 before-err bytes (Ok rest) offset h = absurd cc
 before-err bytes (Err other) offset h = h
 
-joined-front : (front behind : List (Result (List ℕ) ℕ)) (offset : ℕ) → joined front ≡ Err offset → joined (front ++ behind) ≡ Err offset
+pub joined-front : (front behind : List (Result (List ℕ) ℕ)) (offset : ℕ) → joined front ≡ Err offset → joined (front ++ behind) ≡ Err offset
 joined-front [] behind offset h = absurd cc
 joined-front (Ok bytes ∷ front) behind offset h = ap (before bytes) (joined-front front behind offset (before-err bytes (joined front) offset h))
 joined-front (Err other ∷ front) behind offset h = h

@@ -1,9 +1,75 @@
--- What is logged sector by sector.
-use Rattle.std.proofs.Common.{◌≡◌, ℕ, suc, ◌+◌, ◌-◌, ◌*◌, ◌<◌, ◌≤◌, List, [], ◌++◌, take, drop, sym, ap, ◌∙◌, arith}
-use Rattle.std.proofs.lemmas.List.{drop-drop}
+-- What is logged logical sector by logical sector.
+use Rattle.std.proofs.Common.{◌≡◌, ℕ, zero, suc, ◌+◌, ◌-◌, ◌*◌, ◌/◌, ◌<◌, ◌≤◌, List, [], ◌∷◌, ◌++◌, length, take, drop, sym, ap, ◌∙◌, arith, add-one, append-nil, append_assoc}
+use Rattle.std.proofs.Math.Nat.{mul-div_cancel}
+use Rattle.std.proofs.lemmas.List.{drop-drop, take-append-drop}
+use borrow.Rule.Slice.PartMut.{put_mid}
 use Rattle.block_traits.specs.declared.disk.Event.{Event}
+use Rattle.block_traits.specs.declared.disk.Event.TheVariants.{Write}
+use Rattle.block_traits.specs.Disk.{write_events, writes_from}
+use Rattle.block_traits.specs.Parts.{parts}
+use Rattle.block_traits.proofs.PartLists.{length-parts}
 use Rattle.eli_base.specs.Keying.{Keying}
+use Rattle.sealing.specs.Sectors.{device_sectors, seal, units}
 use Rattle.provider.specs.Writing.{sector_writes, data_writes}
+use Rattle.provider.proofs.Adjoining.{data_writes-more}
+use Rattle.provider.proofs.Batches.{batch_count, batch_length}
+use Rattle.provider.proofs.Cuts.{parts-put-some}
+
+-- ---- sectors that are sealed one after the other
+
+writes_from-append : (n : ℕ) (xs ys : List (List ℕ)) → writes_from n (xs ++ ys) ≡ writes_from n xs ++ writes_from (n + length xs) ys
+writes_from-append n [] ys = let at : n ≡ n + 0 = omega arith in ap (λ (m : ℕ). writes_from m ys) at
+writes_from-append n (x ∷ xs) ys =
+    let at : n + 1 + length xs ≡ n + suc (length xs) = omega arith in
+    ap (λ (l : List Event). Write n x ∷ l) (writes_from-append (n + 1) xs ys ∙ ap (λ (m : ℕ). writes_from (n + 1) xs ++ writes_from m ys) at)
+
+data_writes-suc : (k : Keying) (sector n : ℕ) (bytes : List ℕ)
+    → data_writes k sector (suc n) bytes ≡ data_writes k sector n bytes ++ sector_writes k (sector + n) (take k.sectorsize (drop (n * k.sectorsize) bytes))
+data_writes-suc k sector zero bytes =
+    let at : sector ≡ sector + zero = omega arith in
+    let none : 0 ≡ zero * k.sectorsize = omega arith in
+    append-nil (sector_writes k sector (take k.sectorsize bytes)) ∙ (λ i. sector_writes k (at i) (take k.sectorsize (drop (none i) bytes)))
+data_writes-suc k sector (suc n) bytes =
+    let size = k.sectorsize in
+    let at : sector + 1 + n ≡ sector + suc n = omega arith in
+    let place : size + n * size ≡ suc n * size = omega arith in
+    let behind : drop (n * size) (drop size bytes) ≡ drop (suc n * size) bytes = drop-drop (n * size) size bytes ∙ ap (λ (m : ℕ). drop m bytes) place in
+    let first : List Event = sector_writes k sector (take size bytes) in
+    let middle : List Event = data_writes k (sector + 1) n (drop size bytes) in
+    ap (λ (l : List Event). first ++ l) (data_writes-suc k (sector + 1) n (drop size bytes) ∙ (λ i. middle ++ sector_writes k (at i) (take size (behind i))))
+    ∙ sym (append_assoc first middle (sector_writes k (sector + suc n) (take size (drop (suc n * size) bytes))))
+
+-- one more is put behind those before it
+pub sealed_more : (k now : Keying) (sector i size width wide room : ℕ) (bytes out block : List ℕ) → now ≡ k → size ≡ k.sectorsize → wide ≡ size → width ≡ 512 * units k
+    → length block ≡ width → i * width ≤ length out → device_sectors now block ≡ seal now (sector + i) (take wide (drop (i * size) bytes))
+    → writes_from (sector * units k) (parts 512 (i * units k) out) ≡ data_writes k sector i bytes
+    → writes_from (sector * units k) (parts 512 ((i + 1) * units k) (put_mid (i * width) room out block)) ≡ data_writes k sector (i + 1) bytes
+sealed_more k now sector i size width wide room bytes out block same long cut broad len fit sealed so =
+    let u : ℕ = units k in
+    let done : ℕ = i * u in
+    let more : (i + 1) * u ≡ done + u = omega arith in
+    let place : i * width ≡ 512 * done = ap (λ (w : ℕ). i * w) broad ∙ (let turned : i * (512 * u) ≡ 512 * (i * u) = omega arith in turned) in
+    let front : List (List ℕ) = parts 512 done out in
+    let at : sector * u + length front ≡ (sector + i) * u = omega (arith, length-parts 512 done out) in
+    let here : parts 512 u block ≡ seal k (sector + i) (take k.sectorsize (drop (i * k.sectorsize) bytes)) =
+    (λ j. device_sectors (sym same j) block) ∙ sealed ∙ (λ j. seal (same j) (sector + i) (take ((cut ∙ long) j) (drop (i * long j) bytes))) in
+    (λ j. writes_from (sector * u) (parts 512 (more j) (put_mid (place j) room out block)))
+    ∙ ap (writes_from (sector * u)) (parts-put-some done u room out block (len ∙ broad) (omega (arith, place, fit)))
+    ∙ writes_from-append (sector * u) front (parts 512 u block)
+    ∙ (λ j. so j ++ writes_from (at j) (here j))
+    ∙ sym (data_writes-suc k sector i bytes)
+    ∙ ap (λ (m : ℕ). data_writes k sector m bytes) (sym (add-one i))
+
+pub sealed_end : (k : Keying) (sector i count width : ℕ) (bytes out : List ℕ) → i ≡ count → length out ≡ count * (512 * units k)
+    → writes_from (sector * units k) (parts 512 (i * units k) out) ≡ data_writes k sector i bytes → write_events (sector * units k) out ≡ data_writes k sector count bytes
+sealed_end k sector i count width bytes out end long so =
+    let turned : count * (512 * units k) ≡ count * units k * 512 = omega arith in
+    let some : 0 < 512 = omega arith in
+    let all : length out / 512 ≡ count * units k = ap (λ (n : ℕ). n / 512) (long ∙ turned) ∙ mul-div_cancel (count * units k) some in
+    (λ j. writes_from (sector * units k) (parts 512 (all j) out)) ∙ (λ j. writes_from (sector * units k) (parts 512 (sym end j * units k) out)) ∙ so
+    ∙ ap (λ (m : ℕ). data_writes k sector m bytes) end
+
+-- ---- sectors that are written some at a time
 
 -- the writes of the logical sectors from the i-th of so many on
 pub run_writes : Keying → ℕ → ℕ → ℕ → List ℕ → ℕ → List Event
@@ -17,25 +83,23 @@ run_writes-start k sector count size bytes =
     let none : 0 * size ≡ 0 = omega arith in
     λ i. data_writes k (at i) (left i) (drop (none i) bytes)
 
-pub run_writes-next : (k : Keying) (sector count size : ℕ) (bytes : List ℕ) (i : ℕ) → size ≡ k.sectorsize → i < count
-    → run_writes k sector count size bytes i ≡ sector_writes k (sector + i) (take size (drop (i * size) bytes)) ++ run_writes k sector count size bytes (i + 1)
+-- the writes of some of them, and those behind
+pub run_writes-some : (k now : Keying) (sector count size many wide : ℕ) (bytes : List ℕ) (i : ℕ) → now ≡ k → size ≡ k.sectorsize → 0 < size → wide ≡ many * size → i + many ≤ count
+    → (i + many) * size ≤ length bytes
+    → run_writes k sector count size bytes i ≡ data_writes now (sector + i) (length (take wide (drop (i * size) bytes)) / size) (take wide (drop (i * size) bytes)) ++ run_writes k sector count size bytes (i + many)
 unfolding run_writes
-run_writes-next k sector count size bytes i same more =
-    let left : count - i ≡ suc (count - (i + 1)) = omega arith in
-    let at : sector + i + 1 ≡ sector + (i + 1) = omega arith in
-    let place : i * size + size ≡ (i + 1) * size = omega arith in
+run_writes-some k now sector count size many wide bytes i kept same some broad more room =
     let here : List ℕ = drop (i * size) bytes in
-    let behind : drop k.sectorsize here ≡ drop ((i + 1) * size) bytes =
-    ap (λ (m : ℕ). drop m here) (sym same) ∙ drop-drop size (i * size) bytes ∙ ap (λ (m : ℕ). drop m bytes) place in
-    ap (λ (m : ℕ). data_writes k (sector + i) m here) left
-    ∙ (λ j. sector_writes k (sector + i) (take (sym same j) here) ++ data_writes k (at j) (count - (i + 1)) (behind j))
-
--- the same where the keying and the size are written otherwise
-pub run_writes-at : (k now : Keying) (sector count size width : ℕ) (bytes : List ℕ) (i : ℕ) → now ≡ k → width ≡ size → size ≡ k.sectorsize → i < count
-    → run_writes k sector count size bytes i ≡ sector_writes now (sector + i) (take width (drop (i * size) bytes)) ++ run_writes k sector count size bytes (i + 1)
-run_writes-at k now sector count size width bytes i kept wide same more =
-    run_writes-next k sector count size bytes i same more
-    ∙ (λ j. sector_writes (sym kept j) (sector + i) (take (sym wide j) (drop (i * size) bytes)) ++ run_writes k sector count size bytes (i + 1))
+    let front : List ℕ = take wide here in
+    let counted : length front / size ≡ many = batch_count size many wide i bytes some broad room in
+    let left : count - i ≡ many + (count - (i + many)) = omega arith in
+    let at : sector + i + many ≡ sector + (i + many) = omega arith in
+    let place : i * size + wide ≡ (i + many) * size = omega (arith, broad) in
+    let behind : drop wide here ≡ drop ((i + many) * size) bytes = drop-drop wide (i * size) bytes ∙ ap (λ (m : ℕ). drop m bytes) place in
+    let sized : length front ≡ many * k.sectorsize = batch_length size many wide i bytes broad room ∙ ap (λ (s : ℕ). many * s) same in
+    (λ j. data_writes k (sector + i) (left j) (sym (take-append-drop wide here) j))
+    ∙ data_writes-more k (sector + i) many (count - (i + many)) front (drop wide here) sized
+    ∙ (λ j. data_writes (sym kept j) (sector + i) (sym counted j) front ++ data_writes k (at j) (count - (i + many)) (behind j))
 
 pub run_writes-end : (k : Keying) (sector count size : ℕ) (bytes : List ℕ) (i : ℕ) → count ≤ i → run_writes k sector count size bytes i ≡ []
 unfolding run_writes

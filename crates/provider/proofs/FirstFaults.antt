@@ -30,7 +30,7 @@ take-sector_readings k c sector zero (suc i) lt = absurd (omega arith)
 take-sector_readings k c sector (suc count) (suc i) lt =
     ap (λ (l : List (Result (List ℕ) ℕ)). sector_reading k c sector ∷ l) (take-sector_readings k c (sector + 1) count i (omega arith))
 
-reads_fault : (told now_told : Option Content) (k now : Keying) (sector count i offset : ℕ) (front : List ℕ) → now ≡ k → now_told ≡ told → i < count
+pub reads_fault : (told now_told : Option Content) (k now : Keying) (sector count i offset : ℕ) (front : List ℕ) → now ≡ k → now_told ≡ told → i < count
     → ReadsFrom told k sector i (Ok front) → IfSome now_told (λ (c : Content). sector_reading now c (sector + i) ≡ Err offset) → ReadsFrom told k sector count (Err offset)
 reads_fault None now_told k now sector count i offset front same there lt so gives = tt
 reads_fault (Some c) now_told k now sector count i offset front same there lt so gives =

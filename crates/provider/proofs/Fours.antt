@@ -1,24 +1,24 @@
 -- Whole units of a logical sector, four at a time.
-use Rattle.std.proofs.Common.{◌≡◌, ◌≢◌, ℕ, zero, suc, ◌+◌, ◌-◌, ◌*◌, ◌/◌, ◌<◌, ◌≤◌, List, [], ◌∷◌, ◌++◌, length, get_or, take, take-add, drop, refl, sym, ap, ◌∙◌, arith, add-one}
+use Rattle.std.proofs.Common.{◌≡◌, ◌≢◌, ℕ, zero, suc, ◌+◌, ◌-◌, ◌*◌, ◌/◌, ◌<◌, ◌≤◌, min, List, [], ◌∷◌, ◌++◌, length, get_or, take, take-add, drop, Result, Ok, Err, refl, sym, ap, ◌∙◌, arith, add-one}
 use Rattle.std.proofs.Math.Nat.{mul-le-mul_right}
-use Rattle.std.proofs.Math.Seq.{take-append-add, drop-cons}
-use Rattle.std.proofs.lemmas.List.{take-take, drop-take, drop-drop}
+use Rattle.std.proofs.Math.Seq.{drop-cons}
+use Rattle.std.proofs.lemmas.List.{take-append-drop, take-take, drop-take, drop-drop}
+use Rattle.std.proofs.lemmas.Slice.{take-put_mid}
 use borrow.Rule.Slice.PartMut.{put_mid}
-use Rattle.auth_sectors.specs.Wholes.{sealed_pieces}
-use Rattle.block_traits.specs.Disk.{writes_from}
-use Rattle.block_traits.specs.declared.disk.Event.{Event}
+use Rattle.auth_sectors.specs.Wholes.{opened_pieces, sealed_pieces}
 use Rattle.block_traits.specs.Parts.{parts}
+use Rattle.block_traits.proofs.PartLists.{get_or-parts, length-parts}
 use Rattle.eli_base.specs.declared.algorithms.Auth.{Auth}
 use Rattle.eli_base.specs.declared.algorithms.Auth.TheVariants.{Off, Sha256, Sha384, Sha512}
 use Rattle.eli_base.specs.Keying.{Keying}
 use Rattle.eli_base.specs.Units.{unit_bytes_of, units_per_sector}
-use Rattle.sealing.specs.Pieces.{sealed_piece}
-use Rattle.sealing.specs.Sectors.{seal, units}
-use Rattle.sealing.proofs.Pieces.{sealed_unit-tagged}
+use Rattle.sealing.specs.Pieces.{opened_piece, sealed_piece}
+use Rattle.sealing.specs.Sectors.{device_sectors, joined, seal, unit_readings, units}
+use Rattle.sealing.proofs.Pieces.{length-unit_readings-tagged, sealed_unit-tagged, unit_reading-tagged}
 use Rattle.sealing.proofs.Sectors.{length-seal}
-use Rattle.provider.proofs.Cuts.{parts-put-some}
+use Rattle.provider.proofs.Adjoining.{joined-behind, joined-both, joined-front}
+use Rattle.provider.proofs.Cuts.{parts-front, parts-put-some}
 use Rattle.provider.proofs.InMemory.{counted}
-use Rattle.provider.proofs.UnitLists.{piece_writes, piece_writes-start, piece_writes-at}
 
 -- ---- whole units
 
@@ -121,44 +121,76 @@ group_put k now sector i n group width room bytes out sealed on same four wide f
     ∙ sym (take-add (4 * i) 4 every)
     ∙ ap (λ (m : ℕ). take m every) (sym more)
 
--- ---- what is written
+-- ---- what they are opened to
 
--- the writes from unit 4 i on are those of a group, and those behind it
-group_writes : (k now : Keying) (sector i n group width : ℕ) (bytes : List ℕ) → k.auth ≢ Off → now ≡ k → group ≡ 4 * unit_bytes_of k.auth → width ≡ group
-    → unit_bytes_of k.auth * (4 * i + 4) ≤ k.sectorsize → n ≡ sector * units k + 4 * i
-    → piece_writes k sector bytes (4 * i) ≡ writes_from n (sealed_pieces now (512 * n) 4 (take width (drop (i * group) bytes))) ++ piece_writes k sector bytes (4 * (i + 1))
-group_writes k now sector i n group width bytes on same four wide fits at =
-    let here : List Event = writes_from n (sealed_pieces now (512 * n) 4 (take width (drop (i * group) bytes))) in
-    let after : n + 1 + 1 + 1 + 1 ≡ sector * units k + 4 * (i + 1) = omega (arith, at) in
-    piece_writes-at k sector bytes (4 * i)
-    ∙ (λ j. writes_from (sym at j) (group_sealed k now sector i n group width bytes on same four wide fits at j))
-    ∙ ap (λ (m : ℕ). here ++ writes_from m (drop (4 * (i + 1)) (seal k sector bytes))) after
-    ∙ ap (λ (l : List Event). here ++ l) (sym (piece_writes-at k sector bytes (4 * (i + 1))))
+-- what the units from unit j on read as is what so many whole pieces do, and those behind them
+some_opened : (m : ℕ) (k : Keying) (sector j n : ℕ) (device group : List ℕ) → k.auth ≢ Off → unit_bytes_of k.auth * (j + m) ≤ k.sectorsize → n ≡ sector * units k + j
+    → group ≡ drop (512 * j) device
+    → drop j (unit_readings k sector (device_sectors k device)) ≡ opened_pieces k (512 * n) (parts 512 m group) ++ drop (j + m) (unit_readings k sector (device_sectors k device))
+some_opened zero k sector j n device group on fits at is =
+    let same : j ≡ j + 0 = omega arith in ap (λ (p : ℕ). drop p (unit_readings k sector (device_sectors k device))) same
+some_opened (suc m) k sector j n device group on fits at is =
+    let u : ℕ = unit_bytes_of k.auth in
+    let readings : List (Result (List ℕ) ℕ) = unit_readings k sector (device_sectors k device) in
+    let all : length readings ≡ units k = length-unit_readings-tagged k sector (device_sectors k device) on ∙ length-parts 512 (units k) device in
+    let within = wholes_within k.auth k.sectorsize (j + suc m) fits in
+    let lt : j < units k = omega (arith, within) in
+    let offset : 512 * (sector * units k) + 512 * j ≡ 512 * n = omega (arith, at) in
+    let wide : min u (k.sectorsize - u * j) ≡ u = omega (arith, fits) in
+    let piece : get_or (device_sectors k device) j [] ≡ take 512 group = get_or-parts 512 (units k) j device lt ∙ ap (take 512) (sym is) in
+    let here : get_or readings j (Ok []) ≡ opened_piece k (512 * n) u (take 512 group) =
+    unit_reading-tagged k sector j (device_sectors k device) on (rw (length-parts 512 (units k) device) lt) ∙ (λ i. opened_piece k (offset i) (wide i) (piece i)) in
+    let next : u * (j + 1 + m) ≤ k.sectorsize = omega (arith, fits) in
+    let place : 512 * j + 512 ≡ 512 * (j + 1) = omega arith in
+    let behind : drop 512 group ≡ drop (512 * (j + 1)) device = ap (drop 512) is ∙ drop-drop 512 (512 * j) device ∙ ap (λ (p : ℕ). drop p device) place in
+    let number : n + 1 ≡ sector * units k + (j + 1) = omega (arith, at) in
+    let after : 512 * (n + 1) ≡ 512 * n + 512 = omega arith in
+    let count : j + 1 + m ≡ j + suc m = omega arith in
+    drop-cons readings j (Ok []) (rw all lt)
+    ∙ (λ i. here i ∷ drop (sym (add-one j) i) readings)
+    ∙ ap (λ (l : List (Result (List ℕ) ℕ)). opened_piece k (512 * n) u (take 512 group) ∷ l) (some_opened m k sector (j + 1) (n + 1) device (drop 512 group) on next number behind
+    ∙ (λ i. opened_pieces k (after i) (parts 512 m (drop 512 group)) ++ drop (count i) readings))
 
--- the writes of so many groups from the i-th on
-pub fours_left : Keying → ℕ → List ℕ → ℕ → ℕ → List Event
-fours_left k sector bytes fours i = take (4 * (fours - i)) (piece_writes k sector bytes (4 * i))
+-- what the units from unit 4 i on read as is what a group does, and those behind it
+group_opened : (k now : Keying) (sector i n width : ℕ) (device sealed : List ℕ) → k.auth ≢ Off → now ≡ k → unit_bytes_of k.auth * (4 * i + 4) ≤ k.sectorsize
+    → n ≡ sector * units k + 4 * i → width ≡ 2048 → sealed ≡ take width (drop (2048 * i) device)
+    → drop (4 * i) (unit_readings k sector (device_sectors k device)) ≡ opened_pieces now (512 * n) (parts 512 4 sealed) ++ drop (4 * (i + 1)) (unit_readings k sector (device_sectors k device))
+group_opened k now sector i n width device sealed on same fits at wide is =
+    let group : List ℕ = drop (2048 * i) device in
+    let place : 2048 * i ≡ 512 * (4 * i) = omega arith in
+    let more : 4 * i + 4 ≡ 4 * (i + 1) = omega arith in
+    let cut : sealed ≡ take 2048 group = is ∙ ap (λ (w : ℕ). take w group) wide in
+    let fit : 2048 ≤ 2048 = omega arith in
+    let front : parts 512 4 group ≡ parts 512 4 sealed = parts-front 4 group sealed (sym (ap (take 2048) cut ∙ take-take 2048 2048 group fit)) in
+    some_opened 4 k sector (4 * i) n device group on fits at (ap (λ (p : ℕ). drop p device) place)
+    ∙ (λ j. opened_pieces (sym same j) (512 * n) (front j) ++ drop (more j) (unit_readings k sector (device_sectors k device)))
 
-pub fours_left-start : (k : Keying) (sector : ℕ) (bytes : List ℕ) (fours : ℕ) → fours_left k sector bytes fours 0 ≡ take (4 * fours) (writes_from (sector * units k) (seal k sector bytes))
-unfolding fours_left
-fours_left-start k sector bytes fours =
-    let all : 4 * (fours - 0) ≡ 4 * fours = omega arith in
-    let none : 4 * 0 ≡ 0 = omega arith in
-    (λ i. take (all i) (piece_writes k sector bytes (none i))) ∙ ap (take (4 * fours)) (piece_writes-start k sector bytes)
+-- a group that is opened behind those before it
+pub group_reads : (k now : Keying) (sector i n group room width : ℕ) (device out sealed block : List ℕ) → k.auth ≢ Off → now ≡ k → group ≡ 4 * unit_bytes_of k.auth
+    → unit_bytes_of k.auth * (4 * i + 4) ≤ k.sectorsize → n ≡ sector * units k + 4 * i → width ≡ 2048 → sealed ≡ take width (drop (2048 * i) device)
+    → length block ≡ group → i * group ≤ length out → joined (opened_pieces now (512 * n) (parts 512 4 sealed)) ≡ Ok block
+    → joined (take (4 * i) (unit_readings k sector (device_sectors k device))) ≡ Ok (take (i * (4 * unit_bytes_of k.auth)) out)
+    → joined (take (4 * (i + 1)) (unit_readings k sector (device_sectors k device))) ≡ Ok (take ((i + 1) * (4 * unit_bytes_of k.auth)) (put_mid (i * group) room out block))
+group_reads k now sector i n group room width device out sealed block on same four fits at wide is long fit opened so =
+    let readings : List (Result (List ℕ) ℕ) = unit_readings k sector (device_sectors k device) in
+    let pieces : List (Result (List ℕ) ℕ) = opened_pieces now (512 * n) (parts 512 4 sealed) in
+    let more : 4 * (i + 1) ≡ 4 * i + 4 = omega arith in
+    let here : take 4 (drop (4 * i) readings) ≡ pieces = ap (take 4) (group_opened k now sector i n width device sealed on same fits at wide is) in
+    let before : take (i * (4 * unit_bytes_of k.auth)) out ≡ take (i * group) out = ap (λ (g : ℕ). take (i * g) out) (sym four) in
+    let next : (i + 1) * group ≡ i * group + length block = omega (arith, long) in
+    ap (λ (m : ℕ). joined (take m readings)) more
+    ∙ ap joined (take-add (4 * i) 4 readings ∙ ap (λ (l : List (Result (List ℕ) ℕ)). take (4 * i) readings ++ l) here)
+    ∙ joined-both (take (4 * i) readings) pieces (take (i * group) out) block (so ∙ ap Ok before) opened
+    ∙ ap Ok (sym (take-put_mid (i * group) room out block ((i + 1) * group) next fit) ∙ ap (λ (g : ℕ). take ((i + 1) * g) (put_mid (i * group) room out block)) four)
 
-pub fours_left-next : (k now : Keying) (sector fours i n group width : ℕ) (bytes : List ℕ) → k.auth ≢ Off → now ≡ k → length bytes ≡ k.sectorsize → group ≡ 4 * unit_bytes_of k.auth → width ≡ group
-    → i < fours → fours * (4 * unit_bytes_of k.auth) ≤ length bytes → n ≡ sector * units k + 4 * i
-    → fours_left k sector bytes fours i ≡ writes_from n (sealed_pieces now (512 * n) 4 (take width (drop (i * group) bytes))) ++ fours_left k sector bytes fours (i + 1)
-unfolding fours_left
-fours_left-next k now sector fours i n group width bytes on same long four wide more fits at =
-    let here : List Event = writes_from n (sealed_pieces now (512 * n) 4 (take width (drop (i * group) bytes))) in
-    let left : 4 * (fours - i) ≡ 4 + 4 * (fours - (i + 1)) = omega arith in
-    let inside = four_fit (unit_bytes_of k.auth) fours i (length bytes) more fits in
-    ap (λ (m : ℕ). take m (piece_writes k sector bytes (4 * i))) left
-    ∙ ap (take (4 + 4 * (fours - (i + 1)))) (group_writes k now sector i n group width bytes on same four wide (omega (arith, inside, long)) at)
-    ∙ take-append-add here (piece_writes k sector bytes (4 * (i + 1))) (4 * (fours - (i + 1)))
-
-pub fours_left-end : (k : Keying) (sector : ℕ) (bytes : List ℕ) (fours i : ℕ) → fours ≤ i → fours_left k sector bytes fours i ≡ []
-unfolding fours_left
-fours_left-end k sector bytes fours i done =
-    let none : 4 * (fours - i) ≡ 0 = omega arith in ap (λ (m : ℕ). take m (piece_writes k sector bytes (4 * i))) none
+-- a group with a fault
+pub group_faulty : (k now : Keying) (sector i n width offset : ℕ) (device out sealed front : List ℕ) → k.auth ≢ Off → now ≡ k
+    → unit_bytes_of k.auth * (4 * i + 4) ≤ k.sectorsize → n ≡ sector * units k + 4 * i → width ≡ 2048 → sealed ≡ take width (drop (2048 * i) device)
+    → joined (opened_pieces now (512 * n) (parts 512 4 sealed)) ≡ Err offset → joined (take (4 * i) (unit_readings k sector (device_sectors k device))) ≡ Ok front
+    → joined (unit_readings k sector (device_sectors k device)) ≡ Err offset
+group_faulty k now sector i n width offset device out sealed front on same fits at wide is opened so =
+    let readings : List (Result (List ℕ) ℕ) = unit_readings k sector (device_sectors k device) in
+    let pieces : List (Result (List ℕ) ℕ) = opened_pieces now (512 * n) (parts 512 4 sealed) in
+    ap joined (sym (take-append-drop (4 * i) readings)
+    ∙ ap (λ (l : List (Result (List ℕ) ℕ)). take (4 * i) readings ++ l) (group_opened k now sector i n width device sealed on same fits at wide is))
+    ∙ joined-behind (take (4 * i) readings) (pieces ++ drop (4 * (i + 1)) readings) front offset so (joined-front pieces (drop (4 * (i + 1)) readings) offset opened)

@@ -31,15 +31,6 @@ sector_inside k sector size below =
     let whole : media * bytes ≤ all = div-mul-le_self all bytes in
     omega (arith, within, whole)
 
--- a device sector of a logical sector is before the last one
-pub unit_inside : (k : Keying) (n size : ℕ) → n < media_sectors k.auth k.sectorsize (512 * size) * units k → n < size
-unit_inside k n size below =
-    let all : ℕ = 512 * size - 512 in
-    let bytes : ℕ = 512 * units k in
-    let media : ℕ = all / bytes in
-    let whole : media * bytes ≤ all = div-mul-le_self all bytes in
-    omega (arith, below, whole)
-
 -- ---- with authentication
 
 -- the unit at which a loop over the bytes of a logical sector stands
@@ -149,8 +140,3 @@ opened_all k sector j start device out on all end long so =
 pub sealed_whole : (k : Keying) (sector size : ℕ) (bytes plain block : List ℕ) → size ≡ k.sectorsize → 0 < size → plain ≡ bytes → seal k (sector * size / k.sectorsize) plain ≡ device_sectors k block
     → device_sectors k block ≡ seal k sector bytes
 sealed_whole k sector size bytes plain block same some is sealed = sym sealed ∙ (λ i. seal k (number_at sector size k same some i) (is i))
-
-pub opened_whole : (k : Keying) (sector size : ℕ) (device before block : List ℕ) → size ≡ k.sectorsize → 0 < size → before ≡ device → reading k (sector * size / k.sectorsize) (device_sectors k before) ≡ Ok block
-    → reading k sector (device_sectors k device) ≡ Ok block
-opened_whole k sector size device before block same some is opened =
-    (λ i. reading k (sym (number_at sector size k same some) i) (device_sectors k (sym is i))) ∙ opened

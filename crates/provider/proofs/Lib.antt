@@ -5,6 +5,7 @@ pub mod UnitLists
 pub mod FirstFaults
 pub mod Fours
 pub mod Events
+pub mod Batches
 pub mod Checked
 pub mod Sealed
 pub mod Told

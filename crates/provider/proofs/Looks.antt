@@ -1,5 +1,5 @@
 -- Logical sectors that are opened from what a look gave.
-use Rattle.std.proofs.Common.{◌≡◌, ℕ, zero, suc, ◌+◌, ◌*◌, ◌/◌, ◌%◌, ◌<◌, ◌≤◌, List, ◌∷◌, length, take, drop, refl, sym, ap, subst, ◌∙◌, arith, Option, Some, None, Ok, IfSome}
+use Rattle.std.proofs.Common.{◌≡◌, ℕ, zero, suc, ◌+◌, ◌*◌, ◌/◌, ◌%◌, ◌<◌, ◌≤◌, List, ◌∷◌, length, take, drop, refl, sym, ap, subst, ◌∙◌, arith, Option, Some, None, Result, Ok, IfSome}
 use Rattle.std.proofs.Math.Nat.{div-add-mod}
 use Rattle.std.proofs.lemmas.List.{take-take, take_all, drop-drop}
 use Rattle.std.proofs.lemmas.Slice.{drop-put_mid}
@@ -30,6 +30,24 @@ StandFrom-each (Some c) first m (suc count) bytes each fits =
     let all : parts 512 count (drop 512 (drop (512 * m) bytes)) ≡ standing c (first + m + 1) count =
     ap (parts 512 count) behind ∙ rest ∙ ap (λ (n : ℕ). standing c n count) at in
     λ i. here i ∷ all i
+
+-- what a logical sector reads as that is opened from its device sectors among those that were looked at
+pub looked_reading : (told : Option Content) (k now : Keying) (sector i width wide : ℕ) (device : List ℕ) (answer : Result (List ℕ) ℕ) → now ≡ k → width ≡ 512 * units k → wide ≡ width
+    → i * width + width ≤ length device → GivesEachFrom told (sector * units k) device → reading now (sector + i) (device_sectors now (take wide (drop (i * width) device))) ≡ answer
+    → IfSome told (λ (c : Content). sector_reading k c (sector + i) ≡ answer)
+looked_reading None k now sector i width wide device answer same broad cut inside each opened = tt
+looked_reading (Some c) k now sector i width wide device answer same broad cut inside each opened =
+    let u : ℕ = units k in
+    let here : List ℕ = drop (i * width) device in
+    let there : 512 * (i * u) ≡ i * width = (let turned : 512 * (i * u) ≡ i * (512 * u) = omega arith in turned) ∙ ap (λ (w : ℕ). i * w) (sym broad) in
+    let fits : i * u + u ≤ length device / 512 = omega (arith, there, broad, inside) in
+    let stand : parts 512 u (drop (512 * (i * u)) device) ≡ standing c (sector * u + i * u) u = StandFrom-each (Some c) (sector * u) (i * u) u device each fits in
+    let room : 512 * u ≤ wide = omega (arith, cut, broad) in
+    let front : parts 512 u (take wide here) ≡ parts 512 u here = parts-front u (take wide here) here (take-take (512 * u) wide here room) in
+    let place : sector * u + i * u ≡ (sector + i) * u = omega arith in
+    let all : parts 512 u (take wide here) ≡ standing c ((sector + i) * u) u =
+    front ∙ ap (λ (p : ℕ). parts 512 u (drop p device)) (sym there) ∙ stand ∙ ap (λ (n : ℕ). standing c n u) place in
+    ap (reading k (sector + i)) (sym all) ∙ (λ j. reading (sym same j) (sector + i) (device_sectors (sym same j) (take wide here))) ∙ opened
 
 -- the logical sector that is opened next
 pub block_reads : (told : Option Content) (k now : Keying) (sector i size width : ℕ) (all bytes block : List ℕ) → now ≡ k → width ≡ size → k.auth ≡ Off → size ≡ k.sectorsize → 0 < size → k.sectorsize % 512 ≡ 0

@@ -1,30 +1,17 @@
 -- One logical sector without authentication, at its place on the disk.
-use Rattle.std.proofs.Common.{◌≡◌, ℕ, ◌*◌, ◌/◌, ◌%◌, ◌<◌, List, length, sym, ap, ◌∙◌, Option, Some, None, Ok, IfSome}
+use Rattle.std.proofs.Common.{◌≡◌, ℕ, ◌*◌, ◌/◌, ◌%◌, ◌<◌, List, sym, ap, ◌∙◌, Option, Some, None, Ok, IfSome}
 use Rattle.std.proofs.Math.Nat.{mul-div_cancel}
 use Rattle.block_traits.specs.Content.{Content}
 use Rattle.block_traits.specs.Parts.{parts}
-use Rattle.block_traits.specs.Disk.{writes_from}
 use Rattle.eli_base.specs.declared.algorithms.Auth.TheVariants.{Off}
 use Rattle.eli_base.specs.Keying.{Keying}
-use Rattle.sealing.specs.Sectors.{device_sectors, reading, seal, units}
+use Rattle.sealing.specs.Sectors.{device_sectors, reading, units}
 use Rattle.provider.specs.Reading.{standing, StandFrom, sector_reading}
-use Rattle.provider.specs.Writing.{sector_writes}
 use Rattle.provider.proofs.Ranges.{units-off}
 
 -- a sector at a multiple of its size is the one of that number
 pub number_at : (sector size : ℕ) (k : Keying) → size ≡ k.sectorsize → 0 < size → sector * size / k.sectorsize ≡ sector
 number_at sector size k same some = ap (λ (s : ℕ). sector * size / s) (sym same) ∙ mul-div_cancel sector some
-
--- what is written are the writes of the sector
-pub sector_writes-is : (k : Keying) (sector size : ℕ) (bytes plain block : List ℕ) → k.auth ≡ Off → size ≡ k.sectorsize → 0 < size → k.sectorsize % 512 ≡ 0 → plain ≡ bytes
-    → seal k (sector * size / k.sectorsize) plain ≡ device_sectors k block → length block ≡ size
-    → writes_from (sector * (size / 512)) (parts 512 (length block / 512) block) ≡ sector_writes k sector bytes
-sector_writes-is k sector size bytes plain block off same some whole is sealed long =
-    let count : size / 512 ≡ units k = units-off k size off same some whole in
-    let all : length block / 512 ≡ units k = ap (λ (n : ℕ). n / 512) long ∙ count in
-    let out : parts 512 (length block / 512) block ≡ seal k sector bytes =
-    ap (λ (n : ℕ). parts 512 n block) all ∙ sym sealed ∙ (λ i. seal k (number_at sector size k same some i) (is i)) in
-    λ i. writes_from (sector * count i) (out i)
 
 -- what is read is the reading of the sector
 pub sector_reading-is : (told : Option Content) (k : Keying) (sector size : ℕ) (sealed block : List ℕ) → k.auth ≡ Off → size ≡ k.sectorsize → 0 < size → k.sectorsize % 512 ≡ 0

@@ -2,28 +2,24 @@
 use Rattle.std.proofs.Common.{◌≡◌, ◌≢◌, ℕ, zero, suc, ◌+◌, ◌-◌, ◌*◌, ◌%◌, ◌<◌, ◌≤◌, min, true, false, List, [], ◌∷◌, ◌++◌, length, get_or, take, drop, Option, Some, None, IfSome, Result, Ok, Err, IsOk, is_ok, OnErr, map, subst, refl, sym, ap, ◌∙◌, arith, add-one}
 use Rattle.std.specs.List.{concat}
 use Rattle.std.proofs.Math.Seq.{take-suc, drop-cons}
-use Rattle.std.proofs.lemmas.List.{take_all, take_min, drop_all, length-take-le, length-drop, take-append-drop}
+use Rattle.std.proofs.lemmas.List.{take_all, length-take-le, length-drop, take-append-drop}
 use Rattle.std.proofs.lemmas.Slice.{take-put_mid}
 use borrow.Rule.Slice.PartMut.{put_mid}
 use Rattle.block_traits.specs.Causes.{Counted}
 use Rattle.block_traits.specs.Content.{Content, present}
-use Rattle.block_traits.specs.Disk.{DiskState, Logs, writes_from}
+use Rattle.block_traits.specs.Disk.{DiskState, Logs}
 use Rattle.block_traits.proofs.Causes.{Counted-then}
 use Rattle.block_traits.proofs.Logs.{FailsIn-then, Logs-then, logged-none}
-use Rattle.block_traits.specs.declared.disk.Event.{Event}
-use Rattle.block_traits.specs.declared.disk.Event.TheVariants.{Write}
 use Rattle.block_traits.specs.Parts.{parts}
-use Rattle.block_traits.proofs.PartLists.{part}
 use Rattle.eli_base.specs.declared.algorithms.Auth.{Auth}
 use Rattle.eli_base.specs.declared.algorithms.Auth.TheVariants.{Off, Sha256, Sha384, Sha512}
 use Rattle.eli_base.specs.Keying.{Keying}
 use Rattle.eli_base.specs.Units.{unit_bytes_of, units_per_sector}
 use Rattle.eli_base.proofs.Units.{units_reach}
-use Rattle.sealing.specs.Pieces.{opened_piece, sealed_piece}
+use Rattle.sealing.specs.Pieces.{opened_piece}
 use Rattle.sealing.specs.Runs.{opened_run}
-use Rattle.sealing.specs.Sectors.{before, joined, opened_with, piece_reading, piece_size, seal, units}
-use Rattle.sealing.proofs.Pieces.{sealed_unit-tagged, unit_reading-tagged, length-unit_readings-tagged}
-use Rattle.sealing.proofs.Sectors.{length-seal}
+use Rattle.sealing.specs.Sectors.{before, joined, opened_with, piece_reading, piece_size, units}
+use Rattle.sealing.proofs.Pieces.{unit_reading-tagged, length-unit_readings-tagged}
 use Rattle.provider.specs.Reading.{standing, sector_reading, units_read}
 use Rattle.provider.specs.Reads.{AreAccepted, PieceAnswers, SectorAnswers}
 use Rattle.provider.specs.declared.faults.ReadFault.{ReadFault}
@@ -225,48 +221,3 @@ read_all (Some c) k sector j start block on all end long so =
 pub on_err_so : {A E : Type 0} (P : Type 0) (r : Result A E) → P → OnErr r P
 on_err_so P (Ok x) p = tt
 on_err_so P (Err e) p = p
-
--- the writes of the device sectors from unit j on
-pub piece_writes : Keying → ℕ → List ℕ → ℕ → List Event
-piece_writes k sector bytes j = writes_from (sector * units k + j) (drop j (seal k sector bytes))
-
-pub piece_writes-start : (k : Keying) (sector : ℕ) (bytes : List ℕ) → piece_writes k sector bytes 0 ≡ writes_from (sector * units k) (seal k sector bytes)
-unfolding piece_writes
-piece_writes-start k sector bytes = let at : sector * units k + 0 ≡ sector * units k = omega arith in ap (λ (n : ℕ). writes_from n (seal k sector bytes)) at
-
-pub piece_writes-next : (k : Keying) (sector : ℕ) (bytes : List ℕ) (j n start size : ℕ) → k.auth ≢ Off → length bytes ≡ k.sectorsize → j < units k → n ≡ sector * units k + j
-    → start ≡ unit_bytes_of k.auth * j → size ≡ min (unit_bytes_of k.auth) (k.sectorsize - unit_bytes_of k.auth * j)
-    → piece_writes k sector bytes j ≡ Write n (sealed_piece k (512 * n) (take size (drop start bytes))) ∷ piece_writes k sector bytes (j + 1)
-unfolding piece_writes
-piece_writes-next k sector bytes j n start size on long lt at starts count =
-    let d : ℕ = unit_bytes_of k.auth in
-    let offset : 512 * (sector * units k) + 512 * j ≡ 512 * n = omega arith in
-    let after : sector * units k + j + 1 ≡ sector * units k + (j + 1) = omega arith in
-    let cut : part d j bytes ≡ take size (drop start bytes) =
-    sym (take_min d (drop (d * j) bytes))
-    ∙ ap (λ (m : ℕ). take (min d m) (drop (d * j) bytes)) (length-drop (d * j) bytes ∙ ap (λ (m : ℕ). m - d * j) long)
-    ∙ (λ i. take (sym count i) (drop (sym starts i) bytes)) in
-    let here : get_or (seal k sector bytes) j [] ≡ sealed_piece k (512 * n) (take size (drop start bytes)) =
-    sealed_unit-tagged k sector j bytes on lt ∙ (λ i. sealed_piece k (offset i) (cut i)) in
-    ap (writes_from (sector * units k + j)) (drop-cons (seal k sector bytes) j [] (rw (length-seal k sector bytes) lt))
-    ∙ (λ i. Write (sym at i) (here i) ∷ writes_from (after i) (drop (sym (add-one j) i) (seal k sector bytes)))
-
-pub piece_writes-end : (k : Keying) (sector : ℕ) (bytes : List ℕ) (j : ℕ) → units k ≤ j → piece_writes k sector bytes j ≡ []
-unfolding piece_writes
-piece_writes-end k sector bytes j none =
-    let long = length-seal k sector bytes in
-    ap (writes_from (sector * units k + j)) (drop_all j (seal k sector bytes) (omega arith))
-
-pub piece_writes-at : (k : Keying) (sector : ℕ) (bytes : List ℕ) (j : ℕ) → piece_writes k sector bytes j ≡ writes_from (sector * units k + j) (drop j (seal k sector bytes))
-unfolding piece_writes
-piece_writes-at k sector bytes j = refl
-
-writes_from-drop : (n j : ℕ) (sectors : List (List ℕ)) → writes_from (n + j) (drop j sectors) ≡ drop j (writes_from n sectors)
-writes_from-drop n zero sectors = let at : n + 0 ≡ n = omega arith in ap (λ (m : ℕ). writes_from m sectors) at
-writes_from-drop n (suc j) [] = refl
-writes_from-drop n (suc j) (sector ∷ sectors) =
-    let at : n + suc j ≡ n + 1 + j = omega arith in ap (λ (m : ℕ). writes_from m (drop j sectors)) at ∙ writes_from-drop (n + 1) j sectors
-
-pub piece_writes-drop : (k : Keying) (sector : ℕ) (bytes : List ℕ) (j : ℕ) → piece_writes k sector bytes j ≡ drop j (writes_from (sector * units k) (seal k sector bytes))
-unfolding piece_writes
-piece_writes-drop k sector bytes j = writes_from-drop (sector * units k) j (seal k sector bytes)

@@ -1,11 +1,11 @@
 -- An attached provider: a disk whose data are read and written under a keying (geli(8), "attach").
-use Rattle.std.specs.Prelude.{◌≡◌, ℕ, ◌*◌, Bool, true, false, List, Option, Some, None}
+use Rattle.std.specs.Prelude.{◌≡◌, ℕ, ◌*◌, ◌/◌, max, Bool, true, false, List, Option, Some, None}
 use Rattle.block_traits.specs.Disk.{DiskState}
 use Rattle.eli_base.specs.declared.algorithms.Auth.{Auth}
 use Rattle.eli_base.specs.declared.algorithms.Auth.TheVariants.{Off, Sha256, Sha384, Sha512}
 use Rattle.eli_base.specs.declared.parameters.MasterKey.{MasterKey}
 use Rattle.eli_base.specs.Keying.{Keying}
-use Rattle.eli_base.specs.Units.{media_sectors}
+use Rattle.eli_base.specs.Units.{media_sectors, units_per_sector}
 use Rattle.eli_metadata.specs.declared.metadata.Metadata.{Metadata}
 use Rattle.key_slots.specs.Slots.{IsFirstToOpen, Opens, numbered, unwrapped, unwrapped_any}
 
@@ -33,11 +33,10 @@ has_tags Sha256 = true
 has_tags Sha384 = true
 has_tags Sha512 = true
 
--- the bytes of the buffer that a provider keeps: a logical sector without authentication, where a whole one is sealed in place,
--- and none with it, where four device sectors at most are sealed at a time
+-- the bytes of the buffer that a provider keeps, in which logical sectors are sealed: those of the device sectors of as many as
+-- 32 KiB have room for, and of one at least
 abbrev pub buffer_bytes : Auth → ℕ → ℕ
-buffer_bytes Off sectorsize = sectorsize
-buffer_bytes _ sectorsize = 0
+buffer_bytes auth sectorsize = let units = units_per_sector auth sectorsize in max 1 (64 / units) * (512 * units)
 
 -- the master key, and the number of its slot, that the user key u opens: of the named slot, or else of the first that opens
 abbrev pub opened : Metadata → List ℕ → Option ℕ → Option (MasterKey × ℕ)

@@ -1,10 +1,11 @@
 // What is opened and reserved before a provider is attached.
-ghost use Rattle.std.specs.Prelude.{◌≡◌, ℕ, ◌<◌, ◌↔◌, List, IfOk, Some, vec_len};
+ghost use Rattle.std.specs.Prelude.{◌≡◌, ℕ, ◌<◌, ◌≤◌, ◌↔◌, List, IfOk, Some, vec_len};
 ghost use Rattle.std.specs.Option.{ForSome};
 ghost use Rattle.eli_base.specs.Keying.{keying_of};
 ghost use Rattle.key_slots.specs.Slots.{IsKeyBits};
 ghost use Rattle.provider.specs.Attached.{OpensAsNamed, buffer_bytes, opened};
 
+use crate::units::unit_count;
 use block_traits::NoMemory;
 use eli_base::{Auth, MasterKey, Params};
 use eli_metadata::Metadata;
@@ -28,17 +29,16 @@ pub fn opened(meta: &Metadata, key: &UserKey, named: Option<u8>) -> Option<(Mast
     Some((master, slot))
 }
 
-// The bytes of the buffer that a provider keeps.
+// The bytes of the buffer that a provider keeps: those of the device sectors of some logical sectors.
 fn buffer_bytes(auth: Auth, sectorsize: u32) -> usize
+    requires { 512 ≤ sectorsize }
     ensures { result ≡ buffer_bytes auth sectorsize }
 {
-    match auth {
-        Auth::Off => sectorsize as usize,
-        Auth::Sha256 | Auth::Sha384 | Auth::Sha512 => 0,
-    }
+    let units = unit_count(auth, sectorsize as usize);
+    (64 / units).max(1) * (512 * units)
 }
 
-/// The memory that a provider keeps: its keys, and without authentication a buffer for one logical sector.
+/// The memory that a provider keeps: its keys, and a buffer for the device sectors of some logical sectors.
 pub fn reserve(
     alloc: Global,
     master: &MasterKey,

@@ -1,18 +1,13 @@
-// Logical sectors with authentication, unit by unit and in groups of four.
-ghost use Rattle.std.specs.Prelude.{◌≡◌, ◌≢◌, ◌+◌, ◌*◌, ◌^◌, ◌<◌, ◌≤◌, ◌%◌, [], ◌∷◌, min, OnOk, OnErr, is_ok, length, take, drop};
-ghost use Rattle.auth_sectors.specs.Wholes.{sealed_pieces};
-ghost use Rattle.block_traits.specs.declared.disk.Event.TheVariants.{Write};
-ghost use Rattle.block_traits.specs.Disk.{FailsIn, Logs, writes_from};
+// Logical sectors with authentication that are read unit by unit.
+ghost use Rattle.std.specs.Prelude.{◌≡◌, ◌≢◌, ◌+◌, ◌*◌, ◌^◌, ◌<◌, ◌≤◌, ◌%◌, min, is_ok, length};
 ghost use Rattle.eli_base.specs.declared.algorithms.Auth.TheVariants.{Off};
 ghost use Rattle.eli_base.specs.Units.{unit_bytes_of};
-ghost use Rattle.sealing.specs.Pieces.{sealed_piece};
 ghost use Rattle.sealing.specs.Sectors.{piece_reading, units};
 ghost use Rattle.provider.specs.Reads.{PieceAnswers, SectorAnswers};
-ghost use Rattle.provider.specs.Writing.{sector_writes};
 
 use crate::ReadFault;
-use auth_sectors::{open_piece, seal_four, seal_piece};
-use block_traits::{Disk, DiskFailed, Sector};
+use auth_sectors::open_piece;
+use block_traits::{Disk, Sector};
 use range_keys::KeyRing;
 
 // Where the unit ends that begins at `start`, in a logical sector of so many bytes.
@@ -99,123 +94,4 @@ pub fn read_pieces<D: Disk>(
         }
     }
     Ok(())
-}
-
-// Writes four whole units, each to the device sector behind that of the one before it, the first to number `n`.
-fn write_four<D: Disk>(
-    ring: &mut KeyRing,
-    disk: &mut D,
-    n: u64,
-    from: &[u8],
-) -> Result<(), DiskFailed>
-    requires on { ring.old.keying.auth ≢ Off }
-    requires plain { length from.now ≡ 4 * unit_bytes_of ring.old.keying.auth }
-    requires inside { n + 4 ≤ (D.state disk.old).size }
-    ensures ok { OnOk result (Logs (writes_from n (sealed_pieces ring.old.keying (512 * n) 4 from.now)) (D.state disk.old) (D.state disk.new)) }
-    ensures err { OnErr result (FailsIn (writes_from n (sealed_pieces ring.old.keying (512 * n) 4 from.now)) (D.state disk.old) (D.state disk.new)) }
-    ensures unasked { (D.state disk.new).reads ≡ (D.state disk.old).reads }
-    ensures keying { ring.new.keying ≡ ring.old.keying }
-{
-    let mut group = [0; 2048];
-    seal_four(ring, 512 * n, from, &mut group);
-    disk.write_sectors(n, &group)
-}
-
-// Writes the first units of one logical sector, so many times four, which are whole.
-fn write_fours<D: Disk>(
-    ring: &mut KeyRing,
-    disk: &mut D,
-    sector: u64,
-    fours: usize,
-    from: &[u8],
-) -> Result<(), DiskFailed>
-    requires on { ring.old.keying.auth ≢ Off }
-    requires size { length from.now ≡ ring.old.keying.sectorsize }
-    requires fours { fours * (4 * unit_bytes_of ring.old.keying.auth) ≤ length from.now }
-    requires inside { sector * units ring.old.keying + units ring.old.keying ≤ (D.state disk.old).size }
-    ensures ok { OnOk result (Logs (take (4 * fours) (sector_writes ring.old.keying sector from.now)) (D.state disk.old) (D.state disk.new)) }
-    ensures err { OnErr result (FailsIn (take (4 * fours) (sector_writes ring.old.keying sector from.now)) (D.state disk.old) (D.state disk.new)) }
-    ensures unasked { (D.state disk.new).reads ≡ (D.state disk.old).reads }
-    ensures keying { ring.new.keying ≡ ring.old.keying }
-{
-    ring.is_of_a_keying();
-    let width = ring.auth().data_bytes();
-    let count = (from.len() - 1) / width + 1;
-    let first = sector * count as u64;
-    let group = 4 * width;
-    for i in 0..fours {
-        let n = first + 4 * i as u64;
-        write_four(ring, disk, n, &from[i * group..i * group + group])?;
-    }
-    Ok(())
-}
-
-// Writes the piece in device sector `n`.
-fn write_piece<D: Disk>(
-    ring: &mut KeyRing,
-    disk: &mut D,
-    n: u64,
-    from: &[u8],
-) -> Result<(), DiskFailed>
-    requires on { ring.old.keying.auth ≢ Off }
-    requires at_least { 16 ≤ length from.now }
-    requires at_most { length from.now ≤ unit_bytes_of ring.old.keying.auth }
-    requires blocks { length from.now % 16 ≡ 0 }
-    requires inside { n < (D.state disk.old).size }
-    ensures ok { OnOk result (Logs (Write n (sealed_piece ring.old.keying (512 * n) from.now) ∷ []) (D.state disk.old) (D.state disk.new)) }
-    ensures err { OnErr result (FailsIn (Write n (sealed_piece ring.old.keying (512 * n) from.now) ∷ []) (D.state disk.old) (D.state disk.new)) }
-    ensures unasked { (D.state disk.new).reads ≡ (D.state disk.old).reads }
-    ensures keying { ring.new.keying ≡ ring.old.keying }
-{
-    let mut piece: Sector = [0; 512];
-    seal_piece(ring, 512 * n, from, &mut piece);
-    disk.write(n, &piece)
-}
-
-// Writes the units of one logical sector from number `passed` on.
-fn write_rest<D: Disk>(
-    ring: &mut KeyRing,
-    disk: &mut D,
-    sector: u64,
-    passed: usize,
-    from: &[u8],
-) -> Result<(), DiskFailed>
-    requires on { ring.old.keying.auth ≢ Off }
-    requires size { length from.now ≡ ring.old.keying.sectorsize }
-    requires inside { sector * units ring.old.keying + units ring.old.keying ≤ (D.state disk.old).size }
-    ensures ok { OnOk result (Logs (drop passed (sector_writes ring.old.keying sector from.now)) (D.state disk.old) (D.state disk.new)) }
-    ensures err { OnErr result (FailsIn (drop passed (sector_writes ring.old.keying sector from.now)) (D.state disk.old) (D.state disk.new)) }
-    ensures unasked { (D.state disk.new).reads ≡ (D.state disk.old).reads }
-    ensures keying { ring.new.keying ≡ ring.old.keying }
-{
-    ring.is_of_a_keying();
-    let width = ring.auth().data_bytes();
-    let count = (from.len() - 1) / width + 1;
-    let first = sector * count as u64;
-    for j in passed..count {
-        let start = j * width;
-        let end = unit_end(from.len(), start, width);
-        write_piece(ring, disk, first + j as u64, &from[start..end])?;
-    }
-    Ok(())
-}
-
-/// Writes one logical sector, whole units four at a time while there are four.
-pub fn write_pieces<D: Disk>(
-    ring: &mut KeyRing,
-    disk: &mut D,
-    sector: u64,
-    from: &[u8],
-) -> Result<(), DiskFailed>
-    requires on { ring.old.keying.auth ≢ Off }
-    requires size { length from.now ≡ ring.old.keying.sectorsize }
-    requires inside { sector * units ring.old.keying + units ring.old.keying ≤ (D.state disk.old).size }
-    ensures ok { OnOk result (Logs (sector_writes ring.old.keying sector from.now) (D.state disk.old) (D.state disk.new)) }
-    ensures err { OnErr result (FailsIn (sector_writes ring.old.keying sector from.now) (D.state disk.old) (D.state disk.new)) }
-    ensures unasked { (D.state disk.new).reads ≡ (D.state disk.old).reads }
-    ensures keying { ring.new.keying ≡ ring.old.keying }
-{
-    let fours = from.len() / (4 * ring.auth().data_bytes());
-    write_fours(ring, disk, sector, fours, from)?;
-    write_rest(ring, disk, sector, 4 * fours, from)
 }

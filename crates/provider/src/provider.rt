@@ -52,7 +52,7 @@ pub struct Provider<D: Drop> {
     master: MasterKey,
     slot: u8,
     readonly: bool,
-    // Without authentication one logical sector is sealed here.
+    // Logical sectors are sealed here, before one write of the disk.
     buffer: Vec<u8>,
 }
 
@@ -76,7 +76,8 @@ impl<D: Disk> Provider<D> {
     ///
     /// The disk comes back with the fault. In this order: `TooSmall`, exactly where the disk has no whole logical sector;
     /// `WrongKey`, exactly where no slot that is asked for opens; `NoMemory`. No call of the disk is made. The memory that
-    /// later calls can't do without is reserved here: the keys, and without authentication a buffer of one logical sector.
+    /// later calls can't do without is reserved here: the keys, and a buffer for the device
+    /// sectors of some logical sectors.
     pub fn attach(
         alloc: Global,
         disk: D,
@@ -223,7 +224,8 @@ impl<D: Disk> Provider<D> {
                 media,
             });
         }
-        read_run(&mut self.ring, &mut self.disk, sector, size, into)
+        let buffer = &mut self.buffer;
+        read_run(&mut self.ring, &mut self.disk, sector, size, into, buffer)
     }
 
     /// Counts so many reads of the disk, which a look has served. None of them is made.

@@ -7,14 +7,15 @@ ghost use Rattle.eli_base.specs.declared.algorithms.Auth.TheVariants.{Off};
 ghost use Rattle.sealing.specs.Sectors.{units};
 ghost use Rattle.provider.specs.Reading.{ReadsAs, ReadsFrom, sector_reading};
 ghost use Rattle.provider.specs.Reads.{FailsAmong, RunAnswers, SectorAnswers};
-ghost use Rattle.provider.specs.Writing.{data_writes, sector_writes};
+ghost use Rattle.provider.specs.Writing.{data_writes};
 
 use crate::ReadFault;
-use crate::pieces::{read_pieces, write_pieces};
-use crate::units::read_units;
+use crate::pieces::read_pieces;
+use crate::sectors::{open_sectors, seal_sectors};
+use crate::units::{read_units, unit_count};
 use block_traits::{Disk, DiskFailed};
 use eli_base::Auth;
-use plain_sectors::{open_plain, seal_plain};
+use plain_sectors::open_plain;
 use range_keys::KeyRing;
 
 // Reads one logical sector without authentication.
@@ -131,23 +132,114 @@ fn read_each<D: Disk>(
     Ok(())
 }
 
-// Reads logical sectors of `size` bytes, the first of number `sector`. Without authentication the disk is looked at for them all,
-// and where that says nothing they are read unit by unit.
+// Looks at the device sectors of logical sectors of `size` bytes all at once, the first of number `sector`, and opens them. Where the
+// look says nothing or a tag differs, `into` and `device` may hold any bytes, and nothing else has changed.
+fn look_batch<D: Disk>(
+    ring: &mut KeyRing,
+    disk: &mut D,
+    sector: u64,
+    size: usize,
+    into: &mut [u8],
+    device: &mut [u8],
+) -> bool
+    requires size { size ≡ ring.old.keying.sectorsize }
+    requires whole { length into.old % size ≡ 0 }
+    requires device { length device.old ≡ length into.old / size * (512 * units ring.old.keying) }
+    requires inside { (sector + length into.old / size) * units ring.old.keying ≤ (D.state disk.old).size }
+    ensures asked { result ≡ true → Counted (length into.old / size * units ring.old.keying) (D.state disk.old).reads (D.state disk.new).reads }
+    ensures logs { result ≡ true → Logs [] (D.state disk.old) (D.state disk.new) }
+    ensures reads { result ≡ true → ReadsAs (D.state disk.old) ring.old.keying sector (length into.old / size) (Ok into.new) }
+    ensures missed { result ≡ false → D.state disk.new ≡ D.state disk.old }
+    ensures keying { ring.new.keying ≡ ring.old.keying }
+{
+    ring.is_of_a_keying();
+    let units = unit_count(ring.auth(), size);
+    if !disk.peek(sector * units as u64, device) {
+        return false;
+    }
+    if open_sectors(ring, sector, size, device, into).is_err() {
+        return false;
+    }
+    disk.count_reads((into.len() / size * units) as u64);
+    true
+}
+
+// Reads logical sectors of `size` bytes, the first of number `sector`. They are looked at in `buffer`, which has room for the device
+// sectors of them all; where that says nothing, or a tag differs, they are read unit by unit.
+fn read_batch<D: Disk>(
+    ring: &mut KeyRing,
+    disk: &mut D,
+    sector: u64,
+    size: usize,
+    into: &mut [u8],
+    buffer: &mut [u8],
+) -> Result<(), ReadFault>
+    requires size { size ≡ ring.old.keying.sectorsize }
+    requires whole { length into.old % size ≡ 0 }
+    requires buffer { length into.old / size * (512 * units ring.old.keying) ≤ length buffer.old }
+    requires inside { (sector + length into.old / size) * units ring.old.keying ≤ (D.state disk.old).size }
+    ensures answer { RunAnswers ring.old.keying sector (length into.old / size) (D.state disk.old) (D.state disk.new) into.new result }
+    ensures keying { ring.new.keying ≡ ring.old.keying }
+{
+    ring.is_of_a_keying();
+    let units = unit_count(ring.auth(), size);
+    let device = &mut buffer[..into.len() / size * (512 * units)];
+    if look_batch(ring, disk, sector, size, into, device) {
+        return Ok(());
+    }
+    read_each(ring, disk, sector, size, into)
+}
+
+// Reads logical sectors of `size` bytes, the first of number `sector`, as many at a time as `buffer` has room for: one at least.
+fn read_batches<D: Disk>(
+    ring: &mut KeyRing,
+    disk: &mut D,
+    sector: u64,
+    size: usize,
+    into: &mut [u8],
+    buffer: &mut [u8],
+) -> Result<(), ReadFault>
+    requires size { size ≡ ring.old.keying.sectorsize }
+    requires buffer { 512 * units ring.old.keying ≤ length buffer.old }
+    requires whole { length into.old % size ≡ 0 }
+    requires inside { (sector + length into.old / size) * units ring.old.keying ≤ (D.state disk.old).size }
+    ensures answer { RunAnswers ring.old.keying sector (length into.old / size) (D.state disk.old) (D.state disk.new) into.new result }
+    ensures keying { ring.new.keying ≡ ring.old.keying }
+{
+    ring.is_of_a_keying();
+    let most = buffer.len() / (512 * unit_count(ring.auth(), size));
+    let count = into.len() / size;
+    let mut done = 0;
+    'batches: while done < count {
+        let many = most.min(count - done);
+        let part = &mut into[done * size..(done + many) * size];
+        match read_batch(ring, disk, sector + done as u64, size, part, buffer) {
+            Ok(()) => done += many,
+            Err(fault) => return Err(fault),
+        }
+    }
+    Ok(())
+}
+
+// Reads logical sectors of `size` bytes, the first of number `sector`. Without authentication the disk is looked at for them all at
+// once, and they are opened in place; with it, for as many as `buffer` has room for. What a look doesn't give is read unit by unit.
 pub fn read_run<D: Disk>(
     ring: &mut KeyRing,
     disk: &mut D,
     sector: u64,
     size: usize,
     into: &mut [u8],
+    buffer: &mut [u8],
 ) -> Result<(), ReadFault>
     requires size { size ≡ ring.old.keying.sectorsize }
+    requires buffer { 512 * units ring.old.keying ≤ length buffer.old }
     requires whole { length into.old % size ≡ 0 }
     requires inside { (sector + length into.old / size) * units ring.old.keying ≤ (D.state disk.old).size }
     ensures answer { RunAnswers ring.old.keying sector (length into.old / size) (D.state disk.old) (D.state disk.new) into.new result }
     ensures keying { ring.new.keying ≡ ring.old.keying }
 {
     if ring.auth() != Auth::Off {
-        return read_each(ring, disk, sector, size, into);
+        return read_batches(ring, disk, sector, size, into, buffer);
     }
     if look_run(ring, disk, sector, size, into) {
         return Ok(());
@@ -155,54 +247,34 @@ pub fn read_run<D: Disk>(
     read_each(ring, disk, sector, size, into)
 }
 
-// Writes one logical sector without authentication, which is sealed in `buffer`.
-fn write_whole<D: Disk>(
+// Writes logical sectors of `size` bytes by one write of the disk, the first to number `sector`. They are sealed in `buffer`, which
+// has room for them all.
+fn write_batch<D: Disk>(
     ring: &mut KeyRing,
     disk: &mut D,
     sector: u64,
+    size: usize,
     from: &[u8],
     buffer: &mut [u8],
 ) -> Result<(), DiskFailed>
-    requires off { ring.old.keying.auth ≡ Off }
-    requires size { length from.now ≡ ring.old.keying.sectorsize }
-    requires buffer { length buffer.old ≡ length from.now }
-    requires inside { sector * units ring.old.keying + units ring.old.keying ≤ (D.state disk.old).size }
-    ensures ok { OnOk result (Logs (sector_writes ring.old.keying sector from.now) (D.state disk.old) (D.state disk.new)) }
-    ensures err { OnErr result (FailsIn (sector_writes ring.old.keying sector from.now) (D.state disk.old) (D.state disk.new)) }
+    requires size { size ≡ ring.old.keying.sectorsize }
+    requires whole { length from.now % size ≡ 0 }
+    requires buffer { length from.now / size * (512 * units ring.old.keying) ≤ length buffer.old }
+    requires inside { (sector + length from.now / size) * units ring.old.keying ≤ (D.state disk.old).size }
+    ensures ok { OnOk result (Logs (data_writes ring.old.keying sector (length from.now / size) from.now) (D.state disk.old) (D.state disk.new)) }
+    ensures err { OnErr result (FailsIn (data_writes ring.old.keying sector (length from.now / size) from.now) (D.state disk.old) (D.state disk.new)) }
     ensures unasked { (D.state disk.new).reads ≡ (D.state disk.old).reads }
     ensures keying { ring.new.keying ≡ ring.old.keying }
 {
     ring.is_of_a_keying();
-    let size = from.len() as u64;
-    buffer.copy_from_slice(from);
-    seal_plain(ring, sector * size, buffer);
-    disk.write_sectors(sector * (size / 512), buffer)
+    let units = unit_count(ring.auth(), size);
+    let sealed = &mut buffer[..from.len() / size * (512 * units)];
+    seal_sectors(ring, sector, size, from, sealed);
+    disk.write_sectors(sector * units as u64, sealed)
 }
 
-// Writes one logical sector. Without authentication it is sealed in `buffer`, which has its size.
-fn write_sector<D: Disk>(
-    ring: &mut KeyRing,
-    disk: &mut D,
-    sector: u64,
-    from: &[u8],
-    buffer: &mut [u8],
-) -> Result<(), DiskFailed>
-    requires size { length from.now ≡ ring.old.keying.sectorsize }
-    requires buffer { ring.old.keying.auth ≡ Off → length buffer.old ≡ length from.now }
-    requires inside { sector * units ring.old.keying + units ring.old.keying ≤ (D.state disk.old).size }
-    ensures ok { OnOk result (Logs (sector_writes ring.old.keying sector from.now) (D.state disk.old) (D.state disk.new)) }
-    ensures err { OnErr result (FailsIn (sector_writes ring.old.keying sector from.now) (D.state disk.old) (D.state disk.new)) }
-    ensures unasked { (D.state disk.new).reads ≡ (D.state disk.old).reads }
-    ensures keying { ring.new.keying ≡ ring.old.keying }
-{
-    if ring.auth() != Auth::Off {
-        return write_pieces(ring, disk, sector, from);
-    }
-    write_whole(ring, disk, sector, from, buffer)
-}
-
-// Writes logical sectors of `size` bytes in ascending order, the first to number `sector`. Without authentication each is sealed
-// in `buffer`, which then has its size.
+// Writes logical sectors of `size` bytes in ascending order, the first to number `sector`. As many as `buffer` has room for are
+// sealed there and go by one write of the disk; it has room for one at least.
 pub fn write_run<D: Disk>(
     ring: &mut KeyRing,
     disk: &mut D,
@@ -212,7 +284,7 @@ pub fn write_run<D: Disk>(
     buffer: &mut [u8],
 ) -> Result<(), DiskFailed>
     requires size { size ≡ ring.old.keying.sectorsize }
-    requires buffer { ring.old.keying.auth ≡ Off → length buffer.old ≡ size }
+    requires buffer { 512 * units ring.old.keying ≤ length buffer.old }
     requires whole { length from.now % size ≡ 0 }
     requires inside { (sector + length from.now / size) * units ring.old.keying ≤ (D.state disk.old).size }
     ensures ok { OnOk result (Logs (data_writes ring.old.keying sector (length from.now / size) from.now) (D.state disk.old) (D.state disk.new)) }
@@ -221,9 +293,14 @@ pub fn write_run<D: Disk>(
     ensures keying { ring.new.keying ≡ ring.old.keying }
 {
     ring.is_of_a_keying();
-    for i in 0..from.len() / size {
-        let plain = &from[i * size..i * size + size];
-        write_sector(ring, disk, sector + i as u64, plain, buffer)?;
+    let most = buffer.len() / (512 * unit_count(ring.auth(), size));
+    let count = from.len() / size;
+    let mut done = 0;
+    'batches: while done < count {
+        let many = most.min(count - done);
+        let plain = &from[done * size..(done + many) * size];
+        write_batch(ring, disk, sector + done as u64, size, plain, buffer)?;
+        done += many;
     }
     Ok(())
 }

@@ -1,13 +1,18 @@
 // Logical sectors that are sealed and opened in memory, with authentication and without.
-ghost use Rattle.std.specs.Prelude.{◌≡◌, ◌≢◌, ℕ, ◌+◌, ◌*◌, ◌^◌, ◌<◌, ◌≤◌, Ok, Err, MatchResult, length, take};
+ghost use Rattle.std.specs.Prelude.{◌≡◌, ◌≢◌, ℕ, ◌+◌, ◌*◌, ◌/◌, ◌%◌, ◌^◌, ◌<◌, ◌≤◌, Ok, Err, MatchResult, Option, length, take};
+ghost use Rattle.block_traits.specs.Content.{Content};
+ghost use Rattle.block_traits.specs.Disk.{GivesEachFrom, write_events};
 ghost use Rattle.block_traits.specs.Parts.{parts};
 ghost use Rattle.eli_base.specs.declared.algorithms.Auth.TheVariants.{Off};
 ghost use Rattle.eli_base.specs.Units.{unit_bytes_of};
-ghost use Rattle.sealing.specs.Sectors.{device_sectors, reading, seal, units};
+ghost use Rattle.sealing.specs.Sectors.{device_sectors, joined, reading, seal, unit_readings, units};
+ghost use Rattle.provider.specs.Reading.{ReadsFrom};
+ghost use Rattle.provider.specs.Writing.{data_writes};
 
 use crate::BadUnit;
 use crate::pieces::unit_end;
-use auth_sectors::{open_piece, seal_four, seal_piece};
+use crate::units::unit_count;
+use auth_sectors::{open_four, open_piece, seal_four, seal_piece};
 use block_traits::{Sector, sector_of};
 use eli_base::Auth;
 use plain_sectors::{open_plain, seal_plain};
@@ -109,7 +114,103 @@ pub fn seal_sector(ring: &mut KeyRing, sector: u64, plain: &[u8], out: &mut [u8]
     seal_whole(ring, sector, plain, out)
 }
 
-// Opens one logical sector with authentication.
+/// Seals logical sectors of `size` bytes one after the other, the first of number `sector`, each into as many device sectors as it
+/// takes.
+pub fn seal_sectors(ring: &mut KeyRing, sector: u64, size: usize, plain: &[u8], out: &mut [u8])
+    requires size { size ≡ ring.old.keying.sectorsize }
+    requires whole { length plain.now % size ≡ 0 }
+    requires out { length out.old ≡ length plain.now / size * (512 * units ring.old.keying) }
+    requires place { (sector + length plain.now / size) * units ring.old.keying < 2 ^ 44 }
+    ensures sealed { write_events (sector * units ring.old.keying) out.new ≡ data_writes ring.old.keying sector (length plain.now / size) plain.now }
+    ensures keying { ring.new.keying ≡ ring.old.keying }
+{
+    ring.is_of_a_keying();
+    let width = 512 * unit_count(ring.auth(), size);
+    for i in 0..plain.len() / size {
+        let block = &plain[i * size..i * size + size];
+        let sealed = &mut out[i * width..i * width + width];
+        seal_sector(ring, sector + i as u64, block, sealed);
+    }
+}
+
+// Opens the first units of one logical sector, so many times four, which are whole.
+fn open_fours(
+    ring: &mut KeyRing,
+    sector: u64,
+    fours: usize,
+    device: &[u8],
+    out: &mut [u8],
+) -> Result<(), BadUnit>
+    requires on { ring.old.keying.auth ≢ Off }
+    requires device { length device.now ≡ 512 * units ring.old.keying }
+    requires out { length out.old ≡ ring.old.keying.sectorsize }
+    requires fours { fours * (4 * unit_bytes_of ring.old.keying.auth) ≤ length out.old }
+    requires place { sector * units ring.old.keying + units ring.old.keying < 2 ^ 44 }
+    ensures opened { let readings = unit_readings ring.old.keying sector (device_sectors ring.old.keying device.now) in
+        MatchResult result
+        (λ _. joined (take (4 * fours) readings) ≡ Ok (take (fours * (4 * unit_bytes_of ring.old.keying.auth)) out.new))
+        (λ bad. joined readings ≡ Err bad.offset) }
+    ensures keying { ring.new.keying ≡ ring.old.keying }
+{
+    ring.is_of_a_keying();
+    let width = ring.auth().data_bytes();
+    let count = (out.len() - 1) / width + 1;
+    let first = sector * count as u64;
+    let group = 4 * width;
+    for i in 0..fours {
+        let offset = 512 * (first + 4 * i as u64);
+        let mut sealed = [0; 2048];
+        sealed.copy_from_slice(&device[2048 * i..2048 * i + 2048]);
+        match open_four(
+            ring,
+            offset,
+            &sealed,
+            &mut out[i * group..i * group + group],
+        ) {
+            Ok(()) => {}
+            Err(offset) => return Err(BadUnit { offset }),
+        }
+    }
+    Ok(())
+}
+
+// Opens the units of one logical sector from number `passed` on. The bytes of those before stand in `out`.
+fn open_rest(
+    ring: &mut KeyRing,
+    sector: u64,
+    passed: usize,
+    device: &[u8],
+    out: &mut [u8],
+) -> Result<(), BadUnit>
+    requires on { ring.old.keying.auth ≢ Off }
+    requires device { length device.now ≡ 512 * units ring.old.keying }
+    requires out { length out.old ≡ ring.old.keying.sectorsize }
+    requires place { sector * units ring.old.keying + units ring.old.keying < 2 ^ 44 }
+    requires within { passed ≤ units ring.old.keying }
+    requires whole { unit_bytes_of ring.old.keying.auth * passed ≤ length out.old }
+    requires passed { joined (take passed (unit_readings ring.old.keying sector (device_sectors ring.old.keying device.now)))
+        ≡ Ok (take (unit_bytes_of ring.old.keying.auth * passed) out.old) }
+    ensures opened { let answer = reading ring.old.keying sector (device_sectors ring.old.keying device.now) in
+        MatchResult result (λ _. answer ≡ Ok out.new) (λ bad. answer ≡ Err bad.offset) }
+    ensures keying { ring.new.keying ≡ ring.old.keying }
+{
+    ring.is_of_a_keying();
+    let width = ring.auth().data_bytes();
+    let count = (out.len() - 1) / width + 1;
+    let first = sector * count as u64;
+    let mut start = width * passed;
+    for j in passed..count {
+        let end = unit_end(out.len(), start, width);
+        let offset = 512 * (first + j as u64);
+        match open_piece(ring, offset, &sector_of(device, j), &mut out[start..end]) {
+            Ok(()) => start = end,
+            Err(_) => return Err(BadUnit { offset }),
+        }
+    }
+    Ok(())
+}
+
+// Opens one logical sector with authentication, whole units four at a time while there are four.
 fn open_pieces(
     ring: &mut KeyRing,
     sector: u64,
@@ -124,20 +225,11 @@ fn open_pieces(
         MatchResult result (λ _. answer ≡ Ok out.new) (λ bad. answer ≡ Err bad.offset) }
     ensures keying { ring.new.keying ≡ ring.old.keying }
 {
-    ring.is_of_a_keying();
-    let width = ring.auth().data_bytes();
-    let count = (out.len() - 1) / width + 1;
-    let first = sector * count as u64;
-    let mut start = 0;
-    for j in 0..count {
-        let end = unit_end(out.len(), start, width);
-        let offset = 512 * (first + j as u64);
-        match open_piece(ring, offset, &sector_of(device, j), &mut out[start..end]) {
-            Ok(()) => start = end,
-            Err(_) => return Err(BadUnit { offset }),
-        }
+    let fours = out.len() / (4 * ring.auth().data_bytes());
+    match open_fours(ring, sector, fours, device, out) {
+        Ok(()) => open_rest(ring, sector, 4 * fours, device, out),
+        Err(bad) => Err(bad),
     }
-    Ok(())
 }
 
 // Opens one logical sector without authentication. No bytes are refused.
@@ -172,5 +264,36 @@ pub fn open_sector(
         return open_pieces(ring, sector, device, out);
     }
     open_whole(ring, sector, device, out);
+    Ok(())
+}
+
+/// Opens logical sectors of `size` bytes from their device sectors, which stand one after the other, the first sector of number
+/// `sector`. After a refusal `out` may hold any bytes.
+pub fn open_sectors(
+    ring: &mut KeyRing,
+    sector: u64,
+    size: usize,
+    device: &[u8],
+    out: &mut [u8],
+) -> Result<(), BadUnit>
+    requires size { size ≡ ring.old.keying.sectorsize }
+    requires whole { length out.old % size ≡ 0 }
+    requires device { length device.now ≡ length out.old / size * (512 * units ring.old.keying) }
+    requires place { (sector + length out.old / size) * units ring.old.keying < 2 ^ 44 }
+    ensures opened { MatchResult result
+        (λ _. (told : Option Content) → GivesEachFrom told (sector * units ring.old.keying) device.now → ReadsFrom told ring.old.keying sector (length out.old / size) (Ok out.new))
+        (λ bad. (told : Option Content) → GivesEachFrom told (sector * units ring.old.keying) device.now → ReadsFrom told ring.old.keying sector (length out.old / size) (Err bad.offset)) }
+    ensures keying { ring.new.keying ≡ ring.old.keying }
+{
+    ring.is_of_a_keying();
+    let width = 512 * unit_count(ring.auth(), size);
+    for i in 0..out.len() / size {
+        let sealed = &device[i * width..i * width + width];
+        let block = &mut out[i * size..i * size + size];
+        match open_sector(ring, sector + i as u64, sealed, block) {
+            Ok(()) => {}
+            Err(bad) => return Err(bad),
+        }
+    }
     Ok(())
 }

@@ -94,7 +94,7 @@ impl<D: Disk> Drawers<D> {
 
     /// Serves a command, whose places are those of the line: `UnknownProvider` exactly where no drawer has the name of
     /// its provider, and else what the drawer answers. The other drawers stay as they are. `list` answers an entry for each
-    /// drawer, or that there was no memory. `eject` takes the drawer out with its disk, of which no call is made. The buffer
+    /// drawer, or that there was no memory. `eject` takes the drawer out with its disk, of which nothing more is said. The buffer
     /// of requests changes in `read`, `write`, `fill`, `sum`, `verify`, `submit` of a write and `reap` on an attached drawer alone; in
     /// `reap` only where bytes of a read are given out, or refused.
     pub fn serve<C: Cabinet, E: Entropy>(

@@ -96,20 +96,24 @@ pub record AlikeCabinet (c c' : CabinetState) : Type 0 where
   pub files : Files
   pub told : c.files ≡ Some files
   pub told' : c'.files ≡ Some files
+  pub stores : IsSameCount c.stores c'.stores
 
 pub still_cabinet : (c c' b b' : CabinetState) → AlikeCabinet c c' → b ≡ c → b' ≡ c' → AlikeCabinet b b'
 still_cabinet c c' b b' same is is' = rw (is, is') same
 
--- the files stay
-pub keeps_alike : (c c' b b' : CabinetState) → AlikeCabinet c c' → b.files ≡ c.files → b'.files ≡ c'.files → AlikeCabinet b b'
-keeps_alike c c' b b' same is is' = record { files = same.files; told = is ∙ same.told; told' = is' ∙ same.told' }
+-- the files stay, and no store is made
+pub keeps_alike : (c c' b b' : CabinetState) → AlikeCabinet c c' → b.files ≡ c.files → b'.files ≡ c'.files → b.stores ≡ c.stores → b'.stores ≡ c'.stores → AlikeCabinet b b'
+keeps_alike c c' b b' same is is' unstored unstored' =
+    record { files = same.files; told = is ∙ same.told; told' = is' ∙ same.told'; stores = uncounted_same same.stores unstored unstored' }
 
--- the same file is stored in both
-pub stored_alike : (name bytes : List ℕ) (c c' b b' : CabinetState) → AlikeCabinet c c' → b.files ≡ stored name bytes c.files → b'.files ≡ stored name bytes c'.files → AlikeCabinet b b'
-stored_alike name bytes c c' b b' same is is' = record {
+-- the same file is stored in both, in one store
+pub stored_alike : (name bytes : List ℕ) (c c' b b' : CabinetState) → AlikeCabinet c c' → b.files ≡ stored name bytes c.files → b'.files ≡ stored name bytes c'.files → Counted 1 c.stores b.stores → Counted 1 c'.stores b'.stores
+    → AlikeCabinet b b'
+stored_alike name bytes c c' b b' same is is' once once' = record {
   files = with_file name bytes same.files;
   told = is ∙ ap (stored name bytes) same.told;
   told' = is' ∙ ap (stored name bytes) same.told';
+  stores = counted_same 1 same.stores once once';
 }
 
 -- ---- all that is reached

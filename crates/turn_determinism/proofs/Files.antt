@@ -104,7 +104,7 @@ components_settled line words old old' answer answer' new new' both memory memor
     let P : Result Components Refusal → Type 0 = λ r. LoadsEach spans old'.cabinet r new'.cabinet in
     record {
       agrees = agrees;
-      same = cabinet_alike old old' new new' both.same (keeps_alike old.cabinet old'.cabinet new.cabinet new'.cabinet both.same.cabinet h.keeps.files h'.keeps.files) h.disk h'.disk h.holding h'.holding h.entropy h'.entropy;
+      same = cabinet_alike old old' new new' both.same (keeps_alike old.cabinet old'.cabinet new.cabinet new'.cabinet both.same.cabinet h.keeps.files h'.keeps.files h.unstored h'.unstored) h.disk h'.disk h.holding h'.holding h.entropy h'.entropy;
       loads = λ on. loaded_all line words spans answer old.cabinet old'.cabinet new.cabinet new'.cabinet (both.loads on) memory both.quiet.cabinet h.stops h.asked (subst P agrees h'.asked);
     }
 
@@ -120,7 +120,7 @@ file_settled limit line file old old' answer answer' new new' both memory memory
     let is' = told_is old'.cabinet.files files (λ f. file_answer file.word limit (f (bytes_at line file))) answer' both.same.cabinet.told' memory'
     (file_unfailed limit old'.cabinet new'.cabinet answer' both.quiet'.cabinet h'.cause) h'.told in
     settled both.counts answer answer' new new' (is' ∙ sym is)
-    (cabinet_alike old old' new new' both.same (keeps_alike old.cabinet old'.cabinet new.cabinet new'.cabinet both.same.cabinet h.keeps.files h'.keeps.files) h.disk h'.disk h.holding h'.holding h.entropy h'.entropy)
+    (cabinet_alike old old' new new' both.same (keeps_alike old.cabinet old'.cabinet new.cabinet new'.cabinet both.same.cabinet h.keeps.files h'.keeps.files h.unstored h'.unstored) h.disk h'.disk h.holding h'.holding h.entropy h'.entropy)
     (λ on. counted_same 1 (both.loads on) h.asked h'.asked)
 
 pub file_sure : (limit : ℕ) (line : List ℕ) (file : Span) → Sure (LoadsFile limit line file)
@@ -167,7 +167,7 @@ stores_settled line span bytes old old' answer answer' new new' both memory memo
     let is = stored_is line span bytes old.cabinet answer new.cabinet memory both.quiet.cabinet h.stores in
     let is' = stored_is line span bytes old'.cabinet answer' new'.cabinet memory' both.quiet'.cabinet h'.stores in
     settled both.counts answer answer' new new' (is'.0 ∙ sym is.0)
-    (cabinet_alike old old' new new' both.same (stored_alike (bytes_at line span) bytes old.cabinet old'.cabinet new.cabinet new'.cabinet both.same.cabinet is.1.files is'.1.files) h.disk h'.disk h.holding h'.holding h.entropy h'.entropy)
+    (cabinet_alike old old' new new' both.same (stored_alike (bytes_at line span) bytes old.cabinet old'.cabinet new.cabinet new'.cabinet both.same.cabinet is.1.files is'.1.files h.stored h'.stored) h.disk h'.disk h.holding h'.holding h.entropy h'.entropy)
     (λ on. uncounted_same (both.loads on) h.unasked h'.unasked)
 
 pub stores_sure : (line : List ℕ) (span : Span) (bytes : List ℕ) → Sure (StoresBytes line span bytes)

@@ -34,7 +34,7 @@ same_drawers (d ∷ ds) = (same_drawer d, same_drawers ds)
 pub same_world : (w : World) → IsSameWorld w w
 same_world w = record {
   drawers = same_drawers w.drawers;
-  cabinet = record { files = refl; faults = refl };
+  cabinet = record { files = refl; faults = refl; stores = refl };
   entropy = record { left = refl; faults = refl; calls = refl };
 }
 
@@ -122,7 +122,7 @@ same_alike before before' old old' drawer world content files left =
     record {
       disk = record { content = c.0; told = c.1; told' = drawer.disk.content ∙ c.1; size = drawer.disk.size; shows = drawer.disk.shows; reads = drawer.disk.reads };
       holding = drawer.holding;
-      cabinet = record { files = f.0; told = f.1; told' = world.cabinet.files ∙ f.1 };
+      cabinet = record { files = f.0; told = f.1; told' = world.cabinet.files ∙ f.1; stores = world.cabinet.stores };
       entropy = record { left = l.0; told = l.1; told' = world.entropy.left ∙ l.1; calls = world.entropy.calls };
     }
 
@@ -186,7 +186,7 @@ changed_one line command old old' answer answer' new new' place before before' w
       answered = s.agrees;
       worlds = record {
         drawers = subst Q (sym h'.others) (subst P (sym h.others) (set_same old.drawers old'.drawers place h.after h'.after world.drawers drawer));
-        cabinet = record { files = s.same.cabinet.told' ∙ sym s.same.cabinet.told; faults = h'.cabinet ∙ world.cabinet.faults ∙ sym h.cabinet };
+        cabinet = record { files = s.same.cabinet.told' ∙ sym s.same.cabinet.told; faults = h'.cabinet ∙ world.cabinet.faults ∙ sym h.cabinet; stores = s.same.cabinet.stores };
         entropy = record { left = s.same.entropy.told' ∙ sym s.same.entropy.told; faults = h'.entropy ∙ world.entropy.faults ∙ sym h.entropy; calls = s.same.entropy.calls };
       };
       loads = λ many.

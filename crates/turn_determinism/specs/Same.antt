@@ -27,11 +27,12 @@ pub record IsSameDrawer (drawer drawer' : DrawerState) : Type 0 where
   pub disk : IsSameDisk drawer.disk drawer'.disk
   pub holding : drawer'.holding ≡ drawer.holding
 
--- the same files and faults; of how often one was loaded `LoadsAsMany` speaks, and of how often one was absent or too
--- long nothing
+-- the same files and faults, and as many stores; of how often one was loaded `LoadsAsMany` speaks, and of how often one
+-- was absent or too long nothing
 pub record IsSameCabinet (cabinet cabinet' : CabinetState) : Type 0 where
   pub files : cabinet'.files ≡ cabinet.files
   pub faults : cabinet'.faults ≡ cabinet.faults
+  pub stores : IsSameCount cabinet.stores cabinet'.stores
 
 -- the same random bytes are left, and the counts are the same
 pub record IsSameEntropy (entropy entropy' : EntropyState) : Type 0 where

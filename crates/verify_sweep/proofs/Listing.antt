@@ -138,18 +138,6 @@ StandFrom-none : (told : Option Content) (first : ℕ) → StandFrom told first 
 StandFrom-none None first = tt
 StandFrom-none (Some c) first = refl
 
-pub ListsFailing-start : (k : Keying) (first : ℕ) (before : List ℕ) (start : DiskState) → ListsFailing k first 0 0 before before start start
-ListsFailing-start k first before start = record {
-  sectors = [];
-  all = refl;
-  whole = All-nil IsSector;
-  stand = StandFrom-none start.content first;
-  bad_is = refl;
-  listed = refl;
-  asked = record { least = omega arith; most = omega arith };
-  logs = Logs-nothing start;
-}
-
 pub ListsFailing-next : (k : Keying) (first i bad now : ℕ) (before found after : List ℕ) (start middle last : DiskState) → ListsFailing k first i bad before found start middle
     → Looks k (first + i) bad now found after middle last → ListsFailing k first (i + 1) now before after start last
 ListsFailing-next k first i bad now before found after start middle last so one =

@@ -1,6 +1,6 @@
 use Rattle.std.proofs.Common.{rules, ◌≡◌, ◌∙◌, ◌+◌, arith, drop, get_or, map, refl, string_bytes}
 use Rattle.geli_core.specs.Images.{idle_drawers}
-use Rattle.geli_core.proofs.Shelving.{differ_more, idle_next, not_shelved}
+use Rattle.geli_core.proofs.Shelving.{differ_more, idle_next, not_shelved, refused_next, taken_next}
 use Rattle.command_rows.specs.World.{DrawerState, Idle}
 use Rattle.shelf.specs.Shelved.{drawers_of}
 use Rattle.geli_core.proofs.images.shelved.Goals as goal
@@ -8,7 +8,7 @@ use Rattle.geli_core.proofs.images.shelved.Goals as goal
 pub loop-name-init : goal.loop-name-init
 loop-name-init g c =
     let none = c.in-Ok.ensures in
-    (rw none refl, omega (arith, c.requires), rw none tt)
+    (rw none refl, omega (arith, c.requires), rw none tt, rw none refl)
 
 pub remove-requires : goal.remove-requires
 remove-requires g c = omega (arith, c.loop-name.invariant.1, c.loop-name-test.true, c.loop-name.disks.ok.0)
@@ -24,6 +24,8 @@ loop-name-preserved g c =
           c.loop-name-test.true here (omega (arith, c.loop-name.invariant.1, c.loop-name-test.true)) c.remove.ensures.value c.remove.ensures.items ∙ c.loop-name.invariant.0),
       omega (arith, c.loop-name.invariant.1, c.loop-name-test.true, c.remove.ensures.len, c.loop-name.disks.ok.0, c.remove.new.self.ok.0),
       rw adds.added (differ_more before _ c.loop-name.invariant.2 adds.free.new_name),
+      rw adds.added (
+          taken_next state before _ c.loop-name.disks.items c.remove.new.self.items c.remove.result _ (omega (arith, c.loop-name.invariant.1, c.loop-name-test.true)) c.remove.ensures.value c.remove.ensures.items c.loop-name.invariant.3),
     )
 
 pub returns-in-Err-clause-refused : goal.returns-in-Err-clause-refused
@@ -36,3 +38,10 @@ returns-in-Err-clause-refused g c =
     not_shelved c.in-Err.fault before drawer rest _ (rw c.as_str.ensures.value (
     idle_next state string_bytes before c.args.names.now c.loop-name.name-index c.name-item.result c.loop-name.disks.items c.remove.new.self.items c.remove.result
     c.loop-name-test.true here (omega (arith, c.loop-name.invariant.1, c.loop-name-test.true)) c.remove.ensures.value c.remove.ensures.items ∙ c.loop-name.invariant.0)) c.in-Err.ensures.adds.1
+
+pub returns-in-Err-clause-kept : goal.returns-in-Err-clause-kept
+returns-in-Err-clause-kept g c =
+    let state = g.D.Disk.state in
+    let before = drawers_of state c.loop-name.shelf.drawers in
+    rw (c.in-Err.ensures.adds.0, c.in-Err.ensures.adds.2) (
+    refused_next state before c.loop-name.disks.items c.remove.new.self.items c.remove.result _ (omega (arith, c.loop-name.invariant.1, c.loop-name-test.true)) c.remove.ensures.value c.remove.ensures.items c.loop-name.invariant.3)

@@ -1,13 +1,14 @@
 use Rattle.std.proofs.Common.{◌≡◌, ◌+◌, ◌++◌, drop, length, map, string_bytes}
 use Rattle.command_rows.specs.World.{NamesDiffer}
-use Rattle.geli_core.specs.Images.{idle_drawers}
+use Rattle.geli_core.specs.Images.{disks_of, idle_drawers}
 use Rattle.shelf.specs.Shelved.{drawers_of}
 use Rattle.geli_core.proofs.images.shelved.Given as goal
 
--- with the disks that are left under the names that are left it would have them all, and there are as many of these as of those; no two have one name
+-- with the disks that are left under the names that are left it would have them all, and there are as many of these as of those; no two have one name, and no disk was lost
 abbrev pub invariant-loop-name : goal.invariant-loop-name
 invariant-loop-name g l =
     let state = g.D.Disk.state in
     (drawers_of state l.shelf.drawers ++ idle_drawers (map string_bytes (drop l.name-index l.names)) (map state l.disks.items) ≡ idle_drawers (map string_bytes l.names) (map state l.fn.disks.items))
     × (l.name-index + length l.disks.items ≡ length l.names)
     × NamesDiffer (drawers_of state l.shelf.drawers)
+    × (disks_of (drawers_of state l.shelf.drawers) ++ map state l.disks.items ≡ map state l.fn.disks.items)

@@ -1,17 +1,20 @@
-use Rattle.std.proofs.Common.{◌≡◌, ◌/◌, length}
+use Rattle.std.proofs.Common.{◌≡◌, ◌-◌, ◌≤◌}
 use Rattle.block_traits.specs.Disk.{Continues}
 use Rattle.provider.specs.Writing.{data_writes}
 use Rattle.provider.proofs.Events.{run_writes}
 use Rattle.provider.proofs.runs.write_run.Given as goal
 
-abbrev pub invariant-loop-i : goal.invariant-loop-i
-invariant-loop-i g l =
+abbrev pub invariant-batches : goal.invariant-batches
+invariant-batches g l =
     let state = g.D.Disk.state in
     let k = l.initial.ring.keying in
-    let count = length l.from / l.size in
     record {
       keying : l.ring.keying ≡ k;
       size : (state l.disk).size ≡ (state l.initial.disk).size;
       unasked : (state l.disk).reads ≡ (state l.initial.disk).reads;
-      events : Continues (run_writes k l.sector count l.size l.from l.i) (data_writes k l.sector count l.from) (state l.disk) (state l.initial.disk);
+      within : l.done ≤ l.count;
+      events : Continues (run_writes k l.sector l.count l.size l.from l.done) (data_writes k l.sector l.count l.from) (state l.disk) (state l.initial.disk);
     }
+
+abbrev pub decreases-batches : goal.decreases-batches
+decreases-batches g l = l.count - l.done

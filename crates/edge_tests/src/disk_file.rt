@@ -1,0 +1,117 @@
+// A file whose sectors are those of a disk, and which tells what the disk does.
+ghost use Rattle.std.specs.Prelude.{◌≡◌, ◌*◌, None, Some};
+
+use block_traits::Disk;
+use file_edge::{FileId, FileKind, Found, ImageFile};
+use std::io::{self, ErrorKind, Read};
+
+/// A file over a disk, of which a read is a sector. As a reader it gives these bytes.
+#[derive(Drop)]
+pub struct DiskFile<D: Disk> {
+    disk: D,
+    id: FileId,
+    bytes: Vec<u8>,
+    given: usize,
+}
+
+impl<D: Disk> DiskFile<D> {
+    /// The file of a disk.
+    pub fn new(disk: D, id: FileId, bytes: Vec<u8>) -> DiskFile<D>
+        ensures { result.disk ≡ disk }
+    {
+        DiskFile {
+            disk,
+            id,
+            bytes,
+            given: 0,
+        }
+    }
+}
+
+impl<D: Disk> Read for DiskFile<D> {
+    fn read(&mut self, into: &mut [u8]) -> io::Result<usize> {
+        if self.given >= self.bytes.len() {
+            return Ok(0);
+        }
+        let count = into.len().min(self.bytes.len() - self.given);
+        into[..count].copy_from_slice(&self.bytes[self.given..self.given + count]);
+        self.given += count;
+        Ok(count)
+    }
+}
+
+fn refused() -> io::Error {
+    io::Error::from(ErrorKind::StorageFull)
+}
+
+impl<D: Disk> ImageFile for DiskFile<D> {
+    ghost use Rattle.edge_tests.specs.LoggedFile.{told_of};
+
+    ghost tells = { λ _ _. Unit {0} };
+
+    ghost locks = { λ _ _. Unit {0} };
+
+    ghost ends = { λ file end. end ≡ Some (512 * (D.state file.disk).size) };
+
+    ghost reads = { λ _ _ _. Unit {0} };
+
+    ghost writes = { λ _ _ _ _. Unit {0} };
+
+    ghost syncs = { λ _ _. Unit {0} };
+
+    ghost calls = { λ _. None };
+
+    ghost told = { λ file. told_of (D.state file.disk) };
+
+    fn found(&self) -> io::Result<Found> {
+        Ok(Found {
+            id: self.id,
+            kind: FileKind::Regular,
+        })
+    }
+
+    fn lock(&self) -> io::Result<()> {
+        Ok(())
+    }
+
+    #[tactic(auto, using(crate::proofs::LoggedFile::ends_told))]
+    fn end(&self) -> io::Result<u64> {
+        Ok(512 * self.disk.sectors())
+    }
+
+    // A sector at a time is read, and no more.
+    #[tactic(auto, using(crate::proofs::LoggedFile::same_logged, crate::proofs::LoggedFile::same_failed, crate::proofs::LoggedFile::reads_told))]
+    fn read_bytes(&mut self, at: u64, into: &mut [u8]) -> io::Result<()> {
+        if into.len() != 512 || at / 512 >= self.disk.sectors() {
+            return Err(refused());
+        }
+        let mut sector = [0; 512];
+        match self.disk.read(at / 512, &mut sector) {
+            Ok(()) => {
+                into.copy_from_slice(&sector);
+                Ok(())
+            }
+            Err(_) => Err(refused()),
+        }
+    }
+
+    #[tactic(auto, using(file_edge::proofs::Left::leaves_nothing, crate::proofs::LoggedFile::leaves_logged, crate::proofs::LoggedFile::leaves_failed))]
+    fn write_bytes(&mut self, at: u64, from: &[u8]) -> io::Result<()> {
+        let first = at / 512;
+        if first + from.len() as u64 / 512 > self.disk.sectors() {
+            return Err(refused());
+        }
+        match self.disk.write_sectors(first, from) {
+            Ok(()) => Ok(()),
+            Err(_) => Err(refused()),
+        }
+    }
+
+    #[tactic(auto, using(crate::proofs::LoggedFile::leaves_logged, crate::proofs::LoggedFile::leaves_failed))]
+    fn sync(&mut self) -> io::Result<()> {
+        match self.disk.flush() {
+            Ok(()) => Ok(()),
+            Err(_) => Err(refused()),
+        }
+    }
+}

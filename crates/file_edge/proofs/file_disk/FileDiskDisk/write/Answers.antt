@@ -1,0 +1,13 @@
+-- What a write leaves of a file that tells is logged by its disk.
+use Rattle.std.proofs.Common.{◌∷◌, [], refl, arith}
+use Rattle.block_traits.specs.declared.disk.Event.TheVariants.{Write}
+use Rattle.file_edge.proofs.Telling.{fails_left, logs_left, one_event}
+use Rattle.file_edge.proofs.file_disk.FileDiskDisk.write.Goals as goal
+
+pub returns-in-Ok-clause-ok : goal.returns-in-Ok-clause-ok
+returns-in-Ok-clause-ok g c =
+    logs_left c.args.self.now.sectors _ _ (Write c.args.n c.args.from.now ∷ []) _ _ refl refl refl refl (omega arith) (one_event c.args.n c.args.from.now c.told-from) (omega (arith, c.requires, c.told-from)) c.in-Ok.ensures.told
+
+pub returns-in-Err-clause-err : goal.returns-in-Err-clause-err
+returns-in-Err-clause-err g c =
+    fails_left c.args.self.now.sectors _ _ (Write c.args.n c.args.from.now ∷ []) _ _ _ refl (rw (c.fail.ensures.file, c.fail.ensures.sectors) refl) c.fail.ensures.sectors refl c.fail.ensures.later c.fail.ensures.rose (one_event c.args.n c.args.from.now c.told-from) c.in-Err.ensures.told

@@ -1,0 +1,78 @@
+-- The drawers of a run, by the disks that were opened for it.
+use Rattle.std.proofs.Common.{◌≡◌, ◌∙◌, ℕ, zero, suc, List, [], ◌∷◌, map, Option, Some, None, refl, sym, ap, subst, arith, slice_get}
+use Rattle.std.specs.Prelude.{All, IfSome}
+use Rattle.std.specs.Option.{option_map}
+use Rattle.block_traits.specs.Content.{Content}
+use Rattle.block_traits.specs.declared.disk.Disk.{Ghosts}
+use Rattle.command_rows.specs.World.{DrawerState, IsAmong}
+use Rattle.file_edge.specs.FileDisk as file
+use Rattle.file_edge.specs.Told.{Told}
+use Rattle.file_edge.specs.declared.file_disk.FileDisk.{FileDisk}
+use Rattle.geli_core.proofs.Drawn.{same_some}
+use Rattle.geli_core.specs.Images.{Outside, RunsOver, idle_drawers}
+use Rattle.geli_core.specs.Survivors.{EnduresCrashes}
+use Rattle.geli_core.specs.declared.status.Status.{Status}
+use Rattle.image_layers.specs.Images.{TellsImage, state_of}
+use Rattle.image_layers.specs.declared.image_disks.ImageDisk.{ImageDisk}
+use Rattle.image_layers.specs.declared.image_disks.ImageDisk.TheVariants.{Plain, Behind, Join}
+use Rattle.image_run.specs.Surviving.{IfFileTells, SurvivesInFile}
+use Rattle.readings.specs.Steps.{Step, after}
+
+-- what was told grew by the steps
+grown : (was now : Option Content) (steps : List Step) → now ≡ option_map (after steps) was → IfSome was (EnduresCrashes steps)
+    → IfSome was (λ c. (now ≡ Some (after steps c)) × EnduresCrashes steps c)
+grown None now steps same endures = tt
+grown (Some c) now steps same endures = (same, endures)
+
+module _ {F : Type 0} {g : Ghosts (FileDisk F)} (told : F → Option Told) where
+  -- an idle drawer is that of the image at its place
+  record IsOf (names : List (List ℕ)) (disks : List (ImageDisk F g)) (drawer : DrawerState) : Type 0 where
+    pub place : ℕ
+    pub disk : ImageDisk F g
+    pub named : slice_get names place ≡ Some drawer.name
+    pub opened : slice_get disks place ≡ Some disk
+    pub state : state_of disk ≡ drawer.disk
+    pub telling : TellsImage told disk
+
+  is_of : (names : List (List ℕ)) (disks : List (ImageDisk F g)) (drawer : DrawerState) (place : ℕ) → All (TellsImage told) disks
+      → slice_get (idle_drawers names (map state_of disks)) place ≡ Some drawer → IsOf names disks drawer
+  is_of [] disks drawer place tell found = absurd (cc found)
+  is_of (name ∷ names) [] drawer place tell found = absurd (cc found)
+  is_of (name ∷ names) (disk ∷ disks) drawer zero tell found =
+      let same = same_some _ _ found in
+      record {
+        place = 0;
+        disk = disk;
+        named = ap (λ (d : DrawerState). Some d.name) same;
+        opened = refl;
+        state = ap (λ (d : DrawerState). d.disk) same;
+        telling = tell 0 disk (omega arith);
+      }
+  is_of (name ∷ names) (disk ∷ disks) drawer (suc place) tell found =
+      let r = is_of names disks drawer place (λ i d inside. tell (suc i) d (omega (arith, inside))) found in
+      record { place = suc r.place; disk = r.disk; named = r.named; opened = r.opened; state = r.state; telling = r.telling }
+
+  in_file : (same : (d : FileDisk F) → (g.state d).content ≡ (file.state_of told d).content) (disk : ImageDisk F g) (now : Option Content) (steps : List Step) → TellsImage told disk
+      → now ≡ option_map (after steps) (state_of disk).content → IfSome (state_of disk).content (EnduresCrashes steps) → IfFileTells told disk (λ c. (now ≡ Some (after steps c)) × EnduresCrashes steps c)
+  in_file same (Plain disk) now steps tells grew endures =
+      let P : Option Content → Type 0 = λ k. IfSome k (λ c. (now ≡ Some (after steps c)) × EnduresCrashes steps c) in
+      subst P (same disk ∙ tells) (grown (g.state disk).content now steps grew endures)
+  in_file same (Behind behind) now steps tells grew endures = tt
+  in_file same (Join both) now steps tells grew endures = tt
+
+  -- each drawer that a run left
+  pub survives_in_file : (same : (d : FileDisk F) → (g.state d).content ≡ (file.state_of told d).content) (words names : List (List ℕ)) (disks : List (ImageDisk F g)) (old : Outside) (status : Status)
+      (left : List DrawerState) (new : Outside) (run : RunsOver words names (map state_of disks) old status left new) → All (TellsImage told) disks → (drawer : DrawerState) (among : IsAmong left drawer)
+      → SurvivesInFile told names disks drawer (run.lawful.exit drawer among).play.steps
+  survives_in_file same words names disks old status left new run tell drawer among =
+      let survives = run.lawful.exit drawer among in
+      let r = is_of names disks survives.before survives.was.0 tell survives.was.1 in
+      let content = ap (λ s. s.content) r.state in
+      record {
+        place = r.place;
+        disk = r.disk;
+        named = r.named ∙ ap Some (sym survives.name);
+        opened = r.opened;
+        in_file = in_file same r.disk drawer.disk.content survives.play.steps r.telling (survives.content ∙ ap (option_map (after survives.play.steps)) (sym content))
+            (subst (λ (k : Option Content). IfSome k (EnduresCrashes survives.play.steps)) (sym content) survives.endures);
+      }

@@ -1,0 +1,13 @@
+use Rattle.std.proofs.Common.{[], take}
+use Rattle.std.specs.Prelude.{All, map, string_bytes}
+use Rattle.image_layers.specs.Images.{OpensImages, TellsImage, opening}
+use Rattle.image_run.proofs.opening.open_images.Given as goal
+
+-- the images of the first names were opened, each disk of a file alone tells what that tells, and nothing else was asked
+abbrev pub invariant-loop-name : goal.invariant-loop-name
+invariant-loop-name g l =
+    record {
+      opens : OpensImages g.O.Opener.leads g.O.Opener.answers g.O.File.ImageFile.tells g.O.File.ImageFile.locks g.O.File.ImageFile.ends g.O.Opener.asked l.changes
+          (map string_bytes (take l.name-index l.names)) l.disks.items (opening l.fn.opener []) (opening l.opener l.files.items);
+      tells : All (TellsImage g.O.File.ImageFile.told) l.disks.items;
+    }

@@ -1,0 +1,144 @@
+// What a run begins with: the images that its words name are opened, and then the random bytes.
+ghost use Rattle.std.specs.Prelude.{◌≡◌, [], All, IfErr, IfOk, OnErr, map, string_bytes};
+ghost use Rattle.command_words.specs.Images.{image_names, line_of};
+ghost use Rattle.command_words.specs.Reading.{command_in};
+ghost use Rattle.image_layers.specs.Images.{AsksFirst, OpensImages, TellsImage, opening};
+ghost use Rattle.image_run.specs.Program.{AsksPart, OpensAll, new_cabinet, new_entropy, reads_alone};
+
+use block_traits::{Cabinet, Disk, Entropy, NoMemory};
+use command_words::{Command, ImageNames, command_in, images_of, joined};
+use file_edge::{FileCabinet, FileDisk, FileId, ImageFile, Opener, RandomFile, Reader};
+use image_layers::{ImageDisk, open_image};
+use std::alloc::{AllocError, Global};
+
+/// The disks of images, and the files that the names led to.
+#[derive(Drop)]
+struct Images<F: Drop>
+where
+    FileDisk<F>: Disk,
+{
+    disks: Vec<ImageDisk<F>>,
+    files: Vec<FileId>,
+}
+
+/// The disks of the images of these names, opened one after another, to be changed or not.
+fn open_images<O: Opener>(
+    alloc: Global,
+    opener: &mut O,
+    changes: bool,
+    names: &[String],
+) -> Result<Images<O::File>, NoMemory>
+where
+    FileDisk<O::File>: Disk,
+    ensures opens { IfOk result (λ images. OpensImages O.leads O.answers O.File.tells O.File.locks O.File.ends O.asked changes (map string_bytes names.now) images.disks.items
+        (opening opener.old []) (opening opener.new images.files.items)) }
+    ensures tells { IfOk result (λ images. All (TellsImage O.File.told) images.disks.items) }
+    ensures asked_part { OnErr result (AsksFirst O.asked changes (map string_bytes names.now) opener.old opener.new) }
+{
+    let mut disks = Vec::new(alloc);
+    let mut files = Vec::new(alloc);
+    for name in names {
+        disks.push(open_image(alloc, opener, &mut files, changes, name.as_str())?)?;
+    }
+    Ok(Images { disks, files })
+}
+
+// Whether the words are of a command that only reads its image.
+fn reads_alone(alloc: Global, words: &[String]) -> Result<bool, AllocError>
+    ensures { IfOk result (λ alone. alone ≡ reads_alone (command_in (line_of (map string_bytes words.now)))) }
+{
+    Ok(is_reading(&command_in(&joined(alloc, words)?)))
+}
+
+fn is_reading(command: &Option<Command>) -> bool
+    ensures { result ≡ reads_alone command.now }
+{
+    match command {
+        Some(Command::Dump { .. } | Command::Backup { .. }) => true,
+        Some(Command::Attach { only_check, .. }) => *only_check,
+        _ => false,
+    }
+}
+
+// What a run begins with: the names of its images, the disks under them, their files, and the random bytes.
+#[derive(Drop)]
+struct Ready<F: Reader>
+where
+    FileDisk<F>: Disk,
+{
+    names: ImageNames,
+    disks: Vec<ImageDisk<F>>,
+    files: Vec<FileId>,
+    entropy: RandomFile<F>,
+}
+
+// Opens the images that the words name, and then the random bytes. Nothing else is asked of the opener.
+fn make_ready<O: Opener>(
+    alloc: Global,
+    opener: &mut O,
+    words: &[String],
+) -> Result<Ready<O::File>, NoMemory>
+    ensures names { IfOk result (λ ready. ready.names ≡ image_names (map string_bytes words.now)) }
+    ensures opens { IfOk result (λ ready. OpensAll O.leads O.answers O.File.tells O.File.locks O.File.ends O.asked (map string_bytes words.now)
+        ready.disks.items ready.files.items ready.entropy opener.old opener.new) }
+    ensures tells { IfOk result (λ ready. All (TellsImage O.File.told) ready.disks.items) }
+    ensures faults { IfOk result (λ ready. ready.entropy.faults ≡ 0) }
+    ensures calls { IfOk result (λ ready. ready.entropy.calls ≡ 0) }
+    ensures asked_part { OnErr result (AsksPart O.asked (map string_bytes words.now) opener.old opener.new) }
+{
+    let names = images_of(alloc, words)?;
+    let changes = !reads_alone(alloc, words)?;
+    let Images { disks, files } = open_images(alloc, opener, changes, names.as_slice())?;
+    Ok(Ready {
+        names,
+        disks,
+        files,
+        entropy: RandomFile::open(opener),
+    })
+}
+
+/// What a run begins with: the names of its images, the disks under them, the files beside them, and the random bytes.
+#[derive(Drop)]
+pub(crate) struct Opened<O: Opener + Drop>
+where
+    FileDisk<O::File>: Disk,
+{
+    pub(crate) names: ImageNames,
+    pub(crate) disks: Vec<ImageDisk<O::File>>,
+    pub(crate) files: FileCabinet<O>,
+    pub(crate) entropy: RandomFile<O::File>,
+}
+
+/// Opens the images that the words name, and then the random bytes; no call was made of what is handed out. Where memory gave out the opener
+/// comes back.
+pub(crate) fn open_all<O: Opener + Drop>(
+    alloc: Global,
+    opener: O,
+    words: &[String],
+) -> Result<Opened<O>, (O, NoMemory)>
+    ensures names { IfOk result (λ opened. opened.names ≡ image_names (map string_bytes words.now)) }
+    ensures opens { IfOk result (λ opened. OpensAll O.leads O.answers O.File.tells O.File.locks O.File.ends O.asked (map string_bytes words.now)
+        opened.disks.items opened.files.images.items opened.entropy opener opened.files.opener) }
+    ensures tells { IfOk result (λ opened. All (TellsImage O.File.told) opened.disks.items) }
+    ensures files { IfOk result (λ opened. (⟦<FileCabinet<O> as Cabinet>⟧).state opened.files ≡ new_cabinet) }
+    ensures random { IfOk result (λ opened. (⟦<RandomFile<O::File> as Entropy>⟧).state opened.entropy ≡ new_entropy) }
+    ensures asked_part { IfErr result (λ refused. AsksPart O.asked (map string_bytes words.now) opener refused.0) }
+{
+    let mut opener = opener;
+    match make_ready(alloc, &mut opener, words) {
+        Ok(
+            Ready {
+                names,
+                disks,
+                files,
+                entropy,
+            },
+        ) => Ok(Opened {
+            names,
+            disks,
+            files: FileCabinet::new(opener, files),
+            entropy,
+        }),
+        Err(fault) => Err((opener, fault)),
+    }
+}

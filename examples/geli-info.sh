@@ -1,0 +1,120 @@
+#!/usr/bin/env bash
+# geli-info.sh: says what a provider is, by its metadata, and whether a key opens it. It changes nothing.
+#
+#   geli-info.sh [--json] [-p] [-j PASSFILE] [-k KEYFILE]... IMAGE
+#
+# No key is needed. Where one is named it is tried: by -k alone, or -p, one without a passphrase. None is asked for.
+# --json, or -J: as one object of JSON, with sizes in bytes. Status 0: there is a provider, and the key that was named
+# opens it.
+set -euo pipefail
+# shellcheck source=lib.sh
+. "$(dirname -- "$(readlink -f -- "${BASH_SOURCE[0]}")")/lib.sh"
+
+usage() { note 'usage: geli-info.sh [--json] [-p] [-j PASSFILE] [-k KEYFILE]... IMAGE'; exit 2; }
+json=''
+if [ "${1:-}" = --json ]; then json=yes && shift; fi
+while getopts Jpj:k: option; do
+    case $option in
+        J) json=yes ;;
+        p | j | k) key_option "$option" "${OPTARG:-}" ;;
+        *) usage ;;
+    esac
+done
+shift $((OPTIND - 1))
+[ $# -eq 1 ] || usage
+need
+image_of "$1"
+image_is_there
+reply=$("$GELI" dump "$image") || fail "$1: $(told)"
+rows=$reply
+
+# Which slots the key opens.
+opens=''
+if [ ${#key[@]} -gt 0 ]; then
+    [ -n "$has_passphrase" ] || key+=(-p)
+    opens=none
+    for slot in 0 1; do
+        if reply=$("$GELI" attach -C -n "$slot" "${key[@]}" "$image"); then opens=$slot; break; fi
+        case $reply in 'error 15 '* | 'error 19 '*) ;; *) fail "$1: $(told)" ;; esac
+    done
+fi
+
+python_part "$rows" "$1" "$opens" "$json" <<'PY'
+import json
+import sys
+from lib import TAGGED, fields_of, is_tagged, run
+
+CIPHERS = {"11": "AES-CBC", "22": "AES-XTS"}
+CODES = {"18": "HMAC/SHA256", "19": "HMAC/SHA384", "20": "HMAC/SHA512"}
+# The flags of g_eli.h, by their bits.
+FLAGS = {0: "onetime", 1: "boot", 2: "wo-detach", 3: "rw-detach", 4: "auth", 5: "readonly", 6: "nodelete",
+         7: "geliboot", 8: "geliboot-displaypass", 9: "autoresize"}
+
+
+def facts_of(fields, name, opens):
+    flags = int(fields["flags"], 16)
+    tagged = is_tagged(fields)
+    size, width = int(fields["provsize"]), int(fields["sectorsize"])
+    units = (width - 1) // TAGGED.get(fields["aalgo"], 480) + 1 if tagged else width // 512
+    iterations, keys = int(fields["iterations"]), int(fields["keys"], 16)
+    facts = {
+        "image": name,
+        "version": int(fields["version"]),
+        "cipher": CIPHERS.get(fields["ealgo"], f"number {fields['ealgo']}"),
+        "key_bits": int(fields["keylen"]),
+        "authentication": CODES.get(fields["aalgo"], f"number {fields['aalgo']}") if tagged else None,
+        "provider_bytes": size,
+        "sector_bytes": width,
+        "sectors": (size - 512) // (512 * units),
+        "data_bytes": (size - 512) // (512 * units) * width,
+        "slots_with_keys": [slot for slot in (0, 1) if keys >> slot & 1],
+        "iterations": iterations if iterations >= 0 else None,
+        "flags": [FLAGS.get(bit, f"bit {bit}") for bit in range(32) if flags >> bit & 1],
+    }
+    if opens:
+        facts["key_opens_slot"] = None if opens == "none" else int(opens)
+    return facts
+
+
+def size_in_words(size):
+    for shift, unit in (40, "TiB"), (30, "GiB"), (20, "MiB"), (10, "KiB"):
+        if size >= 1 << shift:
+            return f"{size} bytes ({size / (1 << shift):.1f} {unit})"
+    return f"{size} bytes"
+
+
+def passphrase(iterations):
+    if iterations is None:
+        return "none was set when it was made"
+    if iterations == 0:
+        return "without PBKDF2, if there is one"
+    return f"through {iterations} iterations of PBKDF2, if there is one"
+
+
+def tell(facts):
+    slots = facts["slots_with_keys"]
+    print(f"{facts['image']}: a provider of {size_in_words(facts['provider_bytes'])}, metadata of version"
+          f" {facts['version']}")
+    print(f"cipher: {facts['cipher']}, {facts['key_bits']} bits")
+    print(f"authentication: {facts['authentication'] or 'none, so that changed data read as other data'}")
+    print(f"data: {facts['sectors']} sectors of {facts['sector_bytes']} bytes, {size_in_words(facts['data_bytes'])}")
+    print(f"keys: {'in slot ' + ' and '.join(map(str, slots)) if slots else 'none, so that nobody can open it'}")
+    print(f"passphrase: {passphrase(facts['iterations'])}")
+    print(f"flags: {', '.join(facts['flags']) or 'none'}")
+    if "key_opens_slot" in facts:
+        slot = facts["key_opens_slot"]
+        print("this key: doesn't open it" if slot is None else f"this key: opens slot {slot}")
+
+
+def info(_, rows, name, opens, as_json):
+    fields = fields_of(row for row in rows.split("\n") if ": " in row)
+    facts = facts_of(fields, name, opens)
+    if as_json:
+        print(json.dumps(facts, indent=2))
+    else:
+        tell(facts)
+    return 1 if opens == "none" else 0
+
+
+sys.exit(run(info))
+PY

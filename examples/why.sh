@@ -1,0 +1,78 @@
+#!/usr/bin/env bash
+# why.sh: says in words what is wrong with the words of a geli command. It runs no command, and touches no file.
+#
+#   why.sh WORD...
+#
+# WORD... is what stands behind `geli`, as in `why.sh init -s 4k -P -K a.key a.img`. Status 0: the words are a command,
+# or lines of a script would be. Status 1: they aren't, and standard output says why.
+#
+# `geli` itself prints its usage line alone for them. It says more where they are a line of a script; here that script
+# has an image by a name that no file can have, so whatever the words ask for, no image has their name.
+set -euo pipefail
+# shellcheck source=lib.sh
+. "$(dirname -- "$(readlink -f -- "${BASH_SOURCE[0]}")")/lib.sh"
+
+usage() { note 'usage: why.sh WORD...'; exit 2; }
+[ $# -gt 0 ] || usage
+if [ "$1" = geli ] && [ $# -gt 1 ]; then shift; fi
+need
+
+say() {
+    printf '%s\n' "$*"
+    exit 1
+}
+if [ "$1" = script ]; then
+    [ $# -gt 1 ] || say 'script: it needs the names of 1 to 16 images'
+    [ $# -le 17 ] || say "script: it takes 16 images at most, and here are $(($# - 1))"
+    [ "$(printf '%s\n' "${@:2}" | sort | uniq -d)" = '' ] || say 'script: two of its images have one name'
+    printf '%s\n' "these words run a script: lines of it, on standard input, are commands as why.sh explains them"
+    exit 0
+fi
+
+# A word with blanks is one word of a command, but several of a line.
+line=''
+for word in "$@"; do
+    [ -n "$word" ] || say 'a word is empty: look for a name that is not set'
+    line+=${word//[[:space:]]/_}' '
+done
+reply=$(printf '%s\n' "$line" | "$GELI" script /dev/null/none) || :
+reply=${reply##*$'\n'}
+case $reply in
+    ok | 'error 2 UnknownProvider')
+        printf '%s\n' 'these words are a command: nothing is wrong with them'
+        case $1 in
+            read | write | flush | fill | sum | detach | eject | submit | step | reap | suspend | resume | verify | list)
+                printf '%s\n' "but it is of use only as a line of 'geli script IMAGE', behind a line 'attach'" ;;
+        esac
+        exit 0 ;;
+    'error 1 Usage '*) ;;
+    *) fail "geli says '$reply'" ;;
+esac
+read -r _ _ _ at reason <<<"$reply"
+wrong=''
+words=("$@")
+if ((at < ${#words[@]})); then wrong="word $((at + 1)), '${words[at]}'"; else wrong="behind '${words[-1]}'"; fi
+case $reason in
+    UnknownVerb)
+        say "word 1, '$1': no command has this name. These are: attach backup delkey detach dump eject fill flush init" \
+            "kill list read reap resize restore resume script setkey step submit sum suspend verify write" ;;
+    UnknownOption) text="'$1' has no such option" ;;
+    MissingValue) text='this option needs a value' ;;
+    BadNumber) text='this is no decimal number, or it is out of its bounds (write 4096 and not 4k)' ;;
+    BadName)
+        text='the cipher is AES-XTS or AES-CBC, the authentication HMAC/SHA256, HMAC/SHA384 or HMAC/SHA512'
+        [ "$1" != submit ] || text='a request is read SECTOR COUNT, write SECTOR HEX or flush' ;;
+    DashFile) text="the file name '-' is refused: use a real file, or /dev/stdin" ;;
+    TooManyFiles) text='one option has more than 16 files' ;;
+    OperandCount) text="'$1' takes more words than these, or fewer (options stand before names)" ;;
+    Exclusive)
+        text='two options exclude each other: -p and -j, or -P and -J'
+        [ "$1" != init ] || text='two options exclude each other: -P with -J or -i'
+        [ "$1" != delkey ] || text='two options exclude each other: -a and -n' ;;
+    MissingOption) text="an option is missing: 'resize' needs -s OLDSIZE" ;;
+    BadHex) text='these are no hexadecimal digits, or an odd number of them, or more than 262144' ;;
+    NotText) text='these words are no UTF-8' ;;
+    *) text=$reason ;;
+esac
+printf '%s\n' "$wrong: $text" "geli(8) has the words of '$1' in its synopsis."
+exit 1

@@ -1,0 +1,208 @@
+#!/usr/bin/env python3
+"""Draws the pictures of docs/pictures/, each from what it shows.
+
+    tools/pictures.py [--check]
+
+- layers.svg: the crates of crates.txt, each above those that it uses; what another one brings has no line.
+- write.svg: the way of a `write` through the crates (STEPS below; each call must stand in its crate's src/).
+- speed.svg: the table of the whole program in docs/PERFORMANCE.md, as bench/whole.py prints it.
+
+Without --check the pictures are written; with it each is compared, and the status is 1 where one differs.
+"""
+import re
+import sys
+
+from drawing import ROOT, box, label, made, picture, text_of
+from layer_layout import direct, ordered, ranks, reach, spread, uses_of, with_threads
+
+PROGRAM = "geli_cli"
+BOX, ROW, EDGE = 30, 88, 24
+
+# How deep a call stands below the first, the crate, its calls, and what it does for the line `write a.img 0 00..`.
+STEPS = [
+    (0, "geli_cli", ["run_words"], "opens the images that the words name, and hands on their disks"),
+    (1, "geli_core", ["geli_main", "serve_and_print"], "takes the script in pieces, and serves each line as it ends"),
+    (2, "command_words", ["read_line"], "reads the line as a command, or says what is wrong with its words"),
+    (2, "shelf", ["serve", "serve_request"], "finds the drawer, and decodes the digits into the buffer"),
+    (3, "provider", ["write"], "refuses what is read-only or out of range, and goes sector by sector"),
+    (4, "plain_sectors", ["seal_plain"], "without authentication: the logical sector is one run"),
+    (4, "auth_sectors", ["seal_piece", "seal_four"], "with authentication: units with their tags, one or four at once"),
+    (5, "range_keys", ["key_at", "iv_at", "tag_key_at"], "for both: the keys of a byte offset"),
+    (5, "sealing", ["seal_run"], "for both: enciphers one run of blocks under these keys"),
+    (6, "xts_mode", ["xts_seal_sliced"], "AES-XTS, eight blocks at a time (aes_planes); or cbc_mode, block by block"),
+    (4, "block_traits", ["write", "write_sectors"], "the trait Disk: device sectors go to whatever disk is below"),
+    (5, "disk_layers", ["write_at", "write_sectors"], "behind:FILE, whose writes wait, and join:FILE:FILE, two as one"),
+    (6, "file_edge", ["write", "write_sectors"], "the file, by calls of the system"),
+    (2, "reply_text", ["write_reply"], "gives the reply to the output, before the next line is served"),
+]
+
+# ---- the layers
+
+def sources(crate):
+    files = sorted((ROOT / "crates" / crate / "src").rglob("*.rt"))
+    return "\n".join(file.read_text(encoding="utf-8") for file in files)
+
+
+def kind_of(crate, uses):
+    """Whether a crate has laws alone, is part of the program, or is for tests and measurements."""
+    text = sources(crate)
+    calls = len(re.findall(r"^\s*(?:pub(?:\(crate\))? )?(?:const )?fn ", text, re.M))
+    if calls and calls == len(re.findall(r"^\s*\{\s*\}\s*$|\{\}\s*$", text, re.M)):
+        return "law"
+    return "code" if crate == PROGRAM or crate in reach(uses, PROGRAM) else "test"
+
+
+def width_of(crate):
+    return 8.2 * len(crate) + 18
+
+
+def line_through(points):
+    """A line from point to point that leaves and meets each row upright."""
+    path = "M%.1f %.1f" % points[0]
+    for (x, y), (to, above) in zip(points, points[1:]):
+        middle = (y + above) / 2
+        path += " L%.1f %.1f" % (to, above) if x == to else " C%.1f %.1f %.1f %.1f %.1f %.1f" % (
+            x, middle, to, middle, to, above)
+    return '<path d="%s"/>' % path
+
+
+def ends(place, others, middle):
+    """Where the lines of one side of a box begin: side by side, in the order of where they lead."""
+    others = sorted(others, key=lambda other: middle[other])
+    step = min(14, (width_of(place[0]) - 24) / max(1, len(others) - 1))
+    return {other: (number - (len(others) - 1) / 2) * step for number, other in enumerate(others)}
+
+
+def lines_of(lines, rows, middle, height_of):
+    """All lines: each from the box that uses to the one that is used."""
+    chains = {line: [(line[1],)] + [(line[1], line[0], row) for row in range(rows[line[1]] + 1, rows[line[0]])]
+              + [(line[0],)] for line in lines}
+    over = {(name,): ends((name,), [c[1] for c in chains.values() if c[0] == (name,)], middle) for name in rows}
+    under = {(name,): ends((name,), [c[-2] for c in chains.values() if c[-1] == (name,)], middle) for name in rows}
+    for chain in chains.values():
+        points = [(middle[chain[0]] + over[chain[0]][chain[1]], height_of(rows[chain[0][0]]))]
+        for place in chain[1:-1]:
+            points += [(middle[place], height_of(place[2]) + BOX), (middle[place], height_of(place[2]))]
+        last = chain[-1]
+        points.append((middle[last] + under[last][chain[-2]], height_of(rows[last[0]]) + BOX))
+        yield line_through(points)
+
+
+def layers():
+    whole = uses_of(text_of("crates.txt"))
+    uses = direct(whole)
+    rows = ranks(uses)
+    places, pieces = with_threads(uses, rows)
+    order, near = ordered(places, pieces)
+    middle = spread(order, near, width_of)
+    half = {place: width_of(place[0]) / 2 if len(place) == 1 else 0 for place in middle}
+    left = min(middle[place] - half[place] for place in middle) - EDGE
+    middle = {place: x - left for place, x in middle.items()}
+    width = max(middle[place] + half[place] for place in middle) + EDGE
+    top = 96
+    height_of = lambda row: top + (max(rows.values()) - row) * ROW
+    on_way = {crate for _, crate, _, _ in STEPS}
+    parts = list(lines_of([(name, used) for name in uses for used in uses[name]], rows, middle, height_of))
+    for name, row in rows.items():
+        kind = kind_of(name, whole) + (" way" if name in on_way else "")
+        parts.append(box(middle[name,] - width_of(name) / 2, height_of(row), width_of(name), BOX, kind))
+        parts.append(label(middle[name,], height_of(row) + 20, name, anchor="middle"))
+    parts += legend_of_layers()
+    return picture(width, height_of(0) + BOX + EDGE, "The crates, each above those that it uses", parts)
+
+
+def legend_of_layers():
+    parts = [label(EDGE, 32, "The crates, each above those that it uses", "title")]
+    x = EDGE
+    for kind, text in (("code", "in the program"), ("law", "laws alone: no code"), ("test", "tests and measurements"),
+                       ("code way", "on the way of a write")):
+        parts += [box(x, 48, 26, 18, kind), label(x + 34, 62, text)]
+        x += 52 + 7.4 * len(text)
+    return parts
+
+
+# ---- the way of a write
+
+def way():
+    parts = [label(EDGE, 32, "The way of a write through the crates", "title"),
+             label(EDGE, 54, "write a.img 0 00.. as a line of a script; each call stands below its caller", "faint")]
+    indent, step, top = 34, 46, 76
+    at = {}
+    for number, (depth, crate, calls, text) in enumerate(STEPS):
+        for call in calls:
+            if not re.search(r"\bfn %s\b" % call, sources(crate)):
+                sys.exit("tools/pictures.py: crates/%s/src has no %s" % (crate, call))
+        x, y = EDGE + depth * indent, top + number * step
+        if depth:
+            parts.append('<path class="way" d="M%d %d V%d H%d"/>' % (x - 18, at[depth - 1] + BOX, y + BOX / 2, x))
+        at[depth] = y
+        width = width_of(crate)
+        parts += [box(x, y, width, BOX, "code way"), label(x + width / 2, y + 20, crate, anchor="middle"),
+                  label(x + width + 12, y + 13, ", ".join(calls), "mono small"),
+                  label(x + width + 12, y + 29, text, "faint small")]
+    return picture(880, top + len(STEPS) * step + 8, "The way of a write through the crates", parts)
+
+
+# ---- the speed of the whole program
+
+SIDES = [("C, 512 bytes a call", "far empty", "circle"),
+         ("C, 131,072 bytes a call", "far", "circle"),
+         ("C, 512 bytes, AES instructions", "near empty", "rect"),
+         ("C, 131,072 bytes, AES instructions", "near", "rect")]
+
+
+def speeds():
+    """Provider, call, and MB/s of the program and of the four other sides: the table as bench/whole.py prints it."""
+    lines = text_of("docs/PERFORMANCE.md").split("\n")
+    at = next(at for at, line in enumerate(lines) if line.startswith("| provider | call | geli |"))
+    for line in lines[at + 2:]:
+        if not line.startswith("|"):
+            return
+        cells = [cell.strip() for cell in line.strip("|").split("|")]
+        yield cells[0], cells[1], [float(cell.split()[0]) for cell in cells[2:]]
+
+
+def mark(x, y, kind, shape):
+    if shape == "circle":
+        return '<circle cx="%.1f" cy="%.1f" r="4.5" class="%s"/>' % (x, y, kind)
+    return '<rect x="%.1f" y="%.1f" width="8" height="8" class="%s"/>' % (x - 4, y - 4, kind)
+
+
+def mesh(left, top, bottom, scale, most):
+    for rate in range(0, int(most) + 1, 100):
+        yield '<path class="mesh" d="M%.1f %d V%d"/>' % (left + rate * scale, top - 6, bottom)
+        if rate % 200 == 0:
+            yield label(left + rate * scale, bottom + 16, "%d" % rate, "faint small", "middle")
+
+
+def legend_of_speed(left):
+    parts = [label(EDGE, 32, "The whole program beside C over OpenSSL, MB/s by processor time", "title"),
+             '<rect x="%d" y="50" width="26" height="14" class="bar"/>' % EDGE, label(EDGE + 34, 62, "geli")]
+    for number, (text, kind, shape) in enumerate(SIDES):
+        x, y = left + number % 2 * 300, 57 + number // 2 * 22
+        parts += [mark(x, y, kind, shape), label(x + 14, y + 5, text)]
+    note = "geli and the circles do AES without the processor's instructions for it, the squares with them."
+    return parts + [label(EDGE, 106, note, "faint small")]
+
+
+def speed():
+    table = list(speeds())
+    left, scale, row, top = 250, 0.56, 24, 152
+    most = max(max(rates) for _, _, rates in table)
+    parts = legend_of_speed(left)
+    for call in dict.fromkeys(call for _, call, _ in table):
+        rows = [(name, rates) for name, other, rates in table if other == call]
+        bottom = top + len(rows) * row
+        parts += [label(EDGE, top - 12, call, "mono"), *mesh(left, top, bottom, scale, most)]
+        for number, (name, rates) in enumerate(rows):
+            y = top + number * row
+            parts += [label(left - 10, y + 16, name, "small", "end"),
+                      '<rect x="%d" y="%d" width="%.1f" height="14" class="bar"/>' % (left, y + 4, rates[0] * scale)]
+            for rate, (_, kind, shape) in zip(rates[1:], SIDES):
+                parts.append(mark(left + rate * scale, y + 11, kind, shape))
+        top = bottom + 64
+    return picture(int(left + most * scale + 40), top - 24, "The whole program beside C over OpenSSL", parts)
+
+
+if __name__ == "__main__":
+    sys.exit(made([("layers.svg", layers), ("write.svg", way), ("speed.svg", speed)], sys.argv[1:]))

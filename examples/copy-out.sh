@@ -26,7 +26,7 @@ done
 shift $((OPTIND - 1))
 [ $# -eq 2 ] || usage
 image_of "$1"
-target=$(plain "$2")
+target=$2
 need
 if [ -n "$bytes" ]; then size_of "$bytes" && bytes=$size; fi
 image_is_there
@@ -47,7 +47,7 @@ def copy_out(geli, image, target, size, key):
     size = int(size) if size else room
     if size > room:
         raise Failed(f"the provider has {room} bytes, fewer than {size}")
-    disk = os.statvfs(os.path.dirname(target))
+    disk = os.statvfs(os.path.dirname(target) or ".")
     if size > disk.f_bavail * disk.f_frsize:
         raise Failed(f"{size} bytes are to be copied, and the disk of {target} has room for"
                      f" {disk.f_bavail * disk.f_frsize} (-b: only the first ones)")

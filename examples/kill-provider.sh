@@ -26,7 +26,7 @@ image_of "$1"
 need sed
 image_is_there written
 
-reply=$("$GELI" dump "$image") || fail "nothing was changed, '$1' holds no provider: $(told)"
+reply=$("$GELI" dump "$image") || fail "nothing was changed: $(told)"
 size=$(sed -n 's/^provsize: //p' <<<"$reply")
 keys=$(sed -n 's/^keys: //p' <<<"$reply")
 note "$1: a provider of $size bytes, keys $keys, will be lost for good where no backup of its metadata is elsewhere"

@@ -20,11 +20,11 @@ BOX, ROW, EDGE = 30, 88, 24
 
 # How deep a call stands below the first, the crate, its calls, and what it does for the line `write a.img 0 00..`.
 STEPS = [
-    (0, "geli_cli", ["run_words"], "opens the images that the words name, and hands on their disks"),
-    (1, "geli_core", ["geli_main", "serve_and_print"], "takes the script in pieces, and serves each line as it ends"),
+    (0, "image_run", ["run_words"], "opens the images that the words name, and hands on their disks"),
+    (1, "geli_core", ["run_over", "serve_and_print"], "takes the script in pieces, and serves each line as it ends"),
     (2, "command_words", ["read_line"], "reads the line as a command, or says what is wrong with its words"),
     (2, "shelf", ["serve", "serve_request"], "finds the drawer, and decodes the digits into the buffer"),
-    (3, "provider", ["write"], "refuses what is read-only or out of range, and goes sector by sector"),
+    (3, "provider", ["write"], "refuses what is read-only or out of range, and goes by as many sectors as 32 KiB hold"),
     (4, "plain_sectors", ["seal_plain"], "without authentication: the logical sector is one run"),
     (4, "auth_sectors", ["seal_piece", "seal_four"], "with authentication: units with their tags, one or four at once"),
     (5, "range_keys", ["key_at", "iv_at", "tag_key_at"], "for both: the keys of a byte offset"),

@@ -313,10 +313,14 @@ if strace -qq -o traced -e inject=fdatasync:error=EIO:when=1 true 2>/dev/null; t
         says "$call that a signal interrupts is called again" test "$(broken $call:error=EINTR:when=1 <<<"$session")" = "ok,ok,ok,ok ${a:0:21},ok,ok,ok,ok"
         says "  as was tried" grep -q INJECTED traced
     done
-    both=$(printf '%s\n' "$attach c.img" "write c.img 0 $b$b" "read c.img 0 2" "read c.img 0 1" "read c.img 1 1" "flush c.img")
+    each=$(printf '%s\n' "$attach c.img" "write c.img 0 $b" "write c.img 1 $b" "read c.img 0 2" "read c.img 0 1" "read c.img 1 1" "flush c.img")
     printf '%s\n' "$attach c.img" "write c.img 0 $a$a" | "$program" script c.img >out
-    says "a write that fails is told, and what was written before it stays" test "$(broken pwrite64:error=EIO:when=2 <<<"$both")" = "ok,$fault,ok ${b:0:21},ok ${b:0:21},ok ${a:0:21},ok"
-    says "a read that fails is told" test "$(broken pread64:error=EIO:when=3 <<<"$both")" = "ok,ok,$fault,ok ${b:0:21},ok ${b:0:21},ok"
+    says "a write that fails is told, and what was written before it stays" test "$(broken pwrite64:error=EIO:when=2 <<<"$each")" = \
+        "ok,ok,$fault,ok ${b:0:21},ok ${b:0:21},ok ${a:0:21},ok"
+    both=$(printf '%s\n' "$attach c.img" "write c.img 0 $b$b" "read c.img 0 2" "read c.img 0 1" "read c.img 1 1" "flush c.img")
+    says "where a look at two sectors fails they are read one by one" test "$(broken pread64:error=EIO:when=2 <<<"$both")" = "ok,ok,ok ${b:0:21},ok ${b:0:21},ok ${b:0:21},ok"
+    says "  in two reads" test "$(grep -c pread64 traced)" = 6
+    says "a read that fails is told" test "$(broken pread64:error=EIO:when=2..3 <<<"$both")" = "ok,ok,$fault,ok ${b:0:21},ok ${b:0:21},ok"
 else
     echo "not tried: calls of the system that fail (no strace)"
 fi

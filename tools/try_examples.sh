@@ -12,6 +12,9 @@ export GELI
 folder=$(mktemp -d)
 trap 'rm -rf "$folder"' EXIT
 cd "$folder" || exit 2
+# A trial is some hundred times slower, so fewer iterations are shown to it.
+is_trial() { [ -n "${GELI_TRIAL:-}" ] || [[ $GELI = *-trial ]]; }
+trial() { if is_trial; then sed -i 's/1000000/100/' "$1"; fi; }
 failures=0
 exec 3>&1 # what is said of a command goes there, wherever the command prints
 says() {
@@ -35,6 +38,8 @@ awk '
     goes_on || sub(/^\$ /, "") { print >"words"; goes_on = /\\$/; input = /<<EOF/; next }
     { print >"wanted" }
 ' shown
+trial words
+trial wanted
 mkdir bin && ln -s "$GELI" bin/geli
 mkdir page
 (cd page && PATH=$folder/bin:$PATH bash ../words >../printed 2>&1)
@@ -43,46 +48,46 @@ says "  which are some" test "$(wc -l <wanted)" -gt 25
 
 # The lines of the README.
 sed -n '/^## The same by lines/,/^prints/p' "$top/README.md" | sed '1,/^```/d; /^```/,$d' >lines
+trial lines
 mkdir readme
 says "the lines of the README" test "$(cd readme && PATH=$folder/bin:$PATH bash ../lines)" = "$(printf 'ok\nok\nok\nok 68656c6c6f2020202')"
 
 printf 'a passphrase\n' >pass
 make=$top/examples/make-provider.sh
-says "make-provider.sh makes a provider" "$make" -i 1000 -J pass 1048576 'an image' key backup 2>notes
+says "make-provider.sh makes a provider" "$make" -i 100 -J pass 1048576 'an image' key backup 2>notes
 says "  which opens" "$GELI" attach -C -k key -j pass 'an image' >out
 says "  and only its owner may read what was made" test "$(stat -c %a 'an image' key backup | sort -u)" = 600
 says "  and the backup is the metadata" cmp -s backup <(tail -c 512 'an image')
-says "make-provider.sh overwrites nothing" test ! "$("$make" -i 1000 -J pass 1048576 'an image' key other 2>&1)" = ok -a ! -e other
-says "make-provider.sh makes an authenticated provider" "$make" -a -i 1000 -J pass 1048576 b.img key b.backup 2>notes
+says "make-provider.sh overwrites nothing" test ! "$("$make" -i 100 -J pass 1048576 'an image' key other 2>&1)" = ok -a ! -e other
+says "make-provider.sh makes an authenticated provider" "$make" -a -i 100 -J pass 262144 b.img key b.backup 2>notes
 
 says "  every sector of which can be read" grep -q 'of 4096 bytes, 0 of them unreadable' <("$top/examples/after-a-power-failure.sh" -k key -j pass b.img 2>notes)
-says "  of a size such as 1M" test "$("$make" -i 1000 -J pass 1M m.img key m.backup 2>notes; stat -c %s m.img)" = 1048576
-says "  and of no other" test "$("$make" -i 1000 -J pass 1MB n.img key n.backup 2>&1 | grep -c 'no number of bytes')" = 1 -a ! -e n.img
-says "  nor of more than an image can have" test "$("$make" -i 1000 -J pass 8192T n.img key n.backup 2>&1 | grep -c 'more than')" = 1
-says "a name with a blank is no word of a script" test "$("$make" -a -i 1000 -J pass 1048576 'a b.img' key other 2>&1 >/dev/null | grep -c 'has blanks')" = 1
+says "  of a size such as 1M" test "$("$make" -i 100 -J pass 1M m.img key m.backup 2>notes; stat -c %s m.img)" = 1048576
+says "  and of no other" test "$("$make" -i 100 -J pass 1MB n.img key n.backup 2>&1 | grep -c 'no number of bytes')" = 1 -a ! -e n.img
+says "  nor of more than an image can have" test "$("$make" -i 100 -J pass 8192T n.img key n.backup 2>&1 | grep -c 'more than')" = 1
 
 # A plain file into a provider and back.
-"$make" -i 1000 -J pass 6291456 a.img key a.backup 2>notes
-"$make" -a -i 1000 -J pass 6291456 c.img key c.backup 2>notes
+"$make" -i 100 -J pass 524288 a.img key a.backup 2>notes
+"$make" -a -i 100 -J pass 524288 c.img key c.backup 2>notes
 in=$top/examples/copy-in.sh out=$top/examples/copy-out.sh look=$top/examples/after-a-power-failure.sh
-head -c 4000123 /dev/urandom >plain
-head -c 5591041 /dev/zero >long # a byte more than c.img takes
+head -c 400123 /dev/urandom >plain
+head -c 462849 /dev/zero >long # a byte more than c.img takes
 for image in a.img c.img; do
     says "copy-in.sh copies into $image" "$in" -c -k key -j pass plain $image 2>notes
-    says "  and says how far it is" grep -q '^4000123 bytes in 977 sectors of 4096 bytes, read again' notes
-    says "copy-out.sh copies out of it" "$out" -b 4000123 -k key -j pass $image $image.plain 2>notes
+    says "  and says how far it is" grep -q '^400123 bytes in 98 sectors of 4096 bytes, read again' notes
+    says "copy-out.sh copies out of it" "$out" -b 400123 -k key -j pass $image $image.plain 2>notes
     says "  the same bytes" cmp plain $image.plain
     says "  which its owner alone may read" test "$(stat -c %a $image.plain)" = 600
     says "copy-out.sh overwrites nothing" test "$("$out" -k key -j pass $image plain 2>&1 | grep -c 'left alone')" = 1
     says "copy-out.sh copies all of it" "$out" -k key -j pass $image $image.all 2>notes
-    says "  the same bytes, and zeros to the end of the sector" cmp <(cat plain <(head -c 1669 /dev/zero)) <(head -c 4001792 $image.all)
+    says "  the same bytes, and zeros to the end of the sector" cmp <(cat plain <(head -c 1285 /dev/zero)) <(head -c 401408 $image.all)
     rm $image.all
     says "after-a-power-failure.sh finds no fault" "$look" -k key -j pass $image >report 2>notes
 done
 "$GELI" init -P -a HMAC/SHA512 -K key b.img >out # no sector of it can be read
 says "copy-out.sh says where it stops" test "$("$out" -p -k key b.img b.plain 2>&1 | grep -c '^b.plain.part has the 0 bytes before\|error 25 Integrity 0')" = 2
 says "  and makes no file of that name" test ! -e b.plain -a -e b.plain.part
-says "after-a-power-failure.sh tells a range" test "$("$look" -p -k key b.img 2>notes | grep '^unreadable')" = 'unreadable: sectors 0 to 1022'
+says "after-a-power-failure.sh tells a range" test "$("$look" -p -k key b.img 2>notes | grep '^unreadable')" = 'unreadable: sectors 0 to 254'
 cp c.img before
 says "copy-in.sh refuses what is too long" test "$("$in" -k key -j pass long c.img 2>&1 | grep -c 'nothing was written')" = 1
 says "  and writes nothing" cmp c.img before
@@ -91,16 +96,16 @@ says "a wrong passphrase is told" test "$("$in" -k key -j wrong plain c.img 2>&1
 says "  and writes nothing" cmp c.img before
 
 # What a crash, or something else, may leave.
-for at in 0 4000 1004544; do # sectors 0, 0 and 218: in a tag, in ciphertext, in a tag
+for at in 0 4000 230400; do # sectors 0, 0 and 50: in a tag, in ciphertext, in a tag
     printf '\377\376\375' | dd of=c.img bs=1 seek=$at conv=notrunc status=none
 done
 cp c.img before
-says "after-a-power-failure.sh tells what can't be read" test "$("$look" -k key -j pass c.img 2>notes | grep '^unreadable')" = "$(printf 'unreadable: sector 0\nunreadable: sector 218')"
+says "after-a-power-failure.sh tells what can't be read" test "$("$look" -k key -j pass c.img 2>notes | grep '^unreadable')" = "$(printf 'unreadable: sector 0\nunreadable: sector 50')"
 says "  with status 1" test "$("$look" -k key -j pass c.img >report 2>notes; echo $?)" = 1
 says "  and changes nothing" cmp c.img before
 says "what is written again can be read again" "$in" -c -k key -j pass plain c.img 2>notes
 says "  as can all" "$look" -k key -j pass c.img >report 2>notes
-dd if=/dev/zero of=c.img bs=1 count=1 seek=$((6291456 - 512 + 60)) conv=notrunc status=none
+dd if=/dev/zero of=c.img bs=1 count=1 seek=$((524288 - 512 + 60)) conv=notrunc status=none
 says "after-a-power-failure.sh tells damaged metadata" test "$("$look" -k key -j pass c.img 2>notes | grep -o '^metadata: error 7 BadHash')" = 'metadata: error 7 BadHash'
 help=$("$look" -k key -j pass c.img 2>notes | sed -n 's/.*: geli \(restore BACKUP.*\)/"$GELI" \1/p')
 eval "${help/BACKUP/c.backup}" >out 2>notes
@@ -112,16 +117,16 @@ scrub=$top/examples/scrub-provider.sh
 "$in" -c -k key -j pass plain c.img 2>notes
 rm -f place
 says "scrub-provider.sh finds no fault" "$scrub" -k key -j pass c.img place >report 2>notes
-says "  and says that all were looked at" grep -q '^./c.img: 1365 of 1365 sectors were looked at, from sector 0 on, 0 of them unreadable$' report
+says "  and says that all were looked at" grep -q '^c.img: 113 of 113 sectors were looked at, from sector 0 on, 0 of them unreadable$' report
 says "  and shows no progress where nobody looks" test ! -s notes
-for at in 0 4000 1004544; do printf '\377\376\375' | dd of=c.img bs=1 seek=$at conv=notrunc status=none; done
+for at in 0 4000 230400; do printf '\377\376\375' | dd of=c.img bs=1 seek=$at conv=notrunc status=none; done
 cp c.img before
-says "scrub-provider.sh begins anew behind the end" test "$("$scrub" -k key -j pass c.img place 2>notes | grep '^unreadable')" = "$(printf 'unreadable: sector 0\nunreadable: sector 218')"
+says "scrub-provider.sh begins anew behind the end" test "$("$scrub" -k key -j pass c.img place 2>notes | grep '^unreadable')" = "$(printf 'unreadable: sector 0\nunreadable: sector 50')"
 says "  with status 1" test "$("$scrub" -k key -j pass c.img place >report 2>notes; echo $?)" = 1
 says "  and changes nothing" cmp c.img before
-printf '\332\0\0\0\0\0\0\0' >place # 218
-says "  and goes on where it was" test "$("$scrub" -k key -j pass c.img place 2>notes | sed -n '1p;/^unreadable/p')" = "$(printf './c.img: 1147 of 1365 sectors were looked at, from sector 218 on, 1 of them unreadable\nunreadable: sector 218')"
-printf '\332\0\0\0\0\0\0\0' >place
+printf '\062\0\0\0\0\0\0\0' >place # 50
+says "  and goes on where it was" test "$("$scrub" -k key -j pass c.img place 2>notes | sed -n '1p;/^unreadable/p')" = "$(printf 'c.img: 63 of 113 sectors were looked at, from sector 50 on, 1 of them unreadable\nunreadable: sector 50')"
+printf '\062\0\0\0\0\0\0\0' >place
 says "  or anew by -r" test "$("$scrub" -r -k key -j pass c.img place 2>notes | grep -c '^unreadable')" = 2
 printf 'abc' >place
 says "scrub-provider.sh leaves another file alone" test "$("$scrub" -k key -j pass c.img place 2>&1; echo $?)" = "$(printf '%s\n3' 'scrub-provider.sh: verify: error 48 BadPlaceFile 2 3: the file of the place has no place: begin anew')"
@@ -132,7 +137,7 @@ says "  and tells where nothing can be told" test "$("$scrub" -r -k key -j pass 
 # A new passphrase, and a longer image.
 change=$top/examples/change-passphrase.sh grow=$top/examples/grow-provider.sh
 printf 'a new one\n' >new && printf 'a newer one\n' >newer
-"$make" -i 1000 -J pass 1048576 d.img key d.backup 2>notes
+"$make" -i 100 -J pass 1048576 d.img key d.backup 2>notes
 says "change-passphrase.sh changes it" "$change" -k key -j pass -J new d.img d1.backup 2>notes
 says "  the new one opens" "$GELI" attach -C -k key -j new d.img >out
 says "  the old one doesn't" test "$("$GELI" attach -C -k key -j pass d.img)" = 'error 15 WrongKey'
@@ -158,12 +163,12 @@ says "  to its new end" "$GELI" attach -C -k key -j pass d.img >out
 cp d.img before
 says "grow-provider.sh changes nothing under a wrong key" test "$("$grow" -k key -j wrong 8388608 d.img d5.backup 2>&1 | grep -c 'nothing was changed: error 15')" = 1
 says "  indeed" cmp d.img before
-"$make" -a -i 1000 -J pass 1M e.img key e.backup 2>notes
-says "grow-provider.sh grows an authenticated one" "$grow" -k key -j pass 3M e.img e1.backup 2>notes
-says "  every sector of which can be read" grep -q '^data: 682 sectors of 4096 bytes, 0 of them unreadable' <("$look" -k key -j pass e.img 2>notes)
+"$make" -a -i 100 -J pass 256K e.img key e.backup 2>notes
+says "grow-provider.sh grows an authenticated one" "$grow" -k key -j pass 512K e.img e1.backup 2>notes
+says "  every sector of which can be read" grep -q '^data: 113 sectors of 4096 bytes, 0 of them unreadable' <("$look" -k key -j pass e.img 2>notes)
 
 # The end of a provider.
-destroy=$top/examples/kill-provider.sh
+serve=$top/examples/serve-nbd.sh destroy=$top/examples/kill-provider.sh
 head -c 4096 /dev/urandom >data && cp data before
 says "kill-provider.sh leaves a file that is no provider" test "$("$destroy" -y data 2>&1 | grep -c 'nothing was changed: error 5')" = 1
 says "  indeed" cmp data before
@@ -173,10 +178,136 @@ says "  indeed" cmp e.img before
 says "kill-provider.sh -y destroys a provider" "$destroy" -y e.img 2>notes
 says "  indeed" test "$("$GELI" dump e.img)" = 'error 5 BadMagic'
 
+# The scripts' help, and what they do where something is amiss.
+folder_of_scripts=$top/examples
+for script in "$folder_of_scripts"/*.sh; do
+    [ "${script##*/}" != lib.sh ] || continue
+    says "${script##*/} -h says what it does" grep -q "^${script##*/}: " <("$script" -h)
+    [ "${script##*/}" = why.sh ] || says "  and takes no option that it hasn't" test "$("$script" -Z 2>&1 | grep -c '^usage: ')" = 1
+done
+mkdir amiss && cd amiss || exit 2
+cp ../pass ../key .
+here=$folder/amiss
+"$make" -i 100 -J pass 1M a.img key a.backup 2>notes
+says "a passphrase comes by a pipe" "$in" -k key -j <(cat pass) pass a.img 2>notes
+says "  and by standard input" "$out" -b 13 -k key -j /dev/stdin a.img standard.out 2>notes <pass
+says "  which gives what was copied in" cmp pass standard.out
+by_pipe() { cat pass | "$out" -b 13 -k key -j /dev/stdin a.img pipe.out 2>notes; }
+says "  and by a pipe into it" by_pipe
+says "  and makes a provider" "$make" -i 100 -J <(cat pass) 1M pipe.img <(cat key) pipe.backup 2>notes
+says "  which opens" "$GELI" attach -C -k key -j pass pipe.img >reply
+says "  and grows" "$grow" -k <(cat key) -j <(cat pass) 2M pipe.img pipe2.backup 2>notes
+says "  and gets a new one" "$change" -k key -j <(cat pass) -J <(echo new) pipe.img pipe3.backup 2>notes
+says "  which opens" "$GELI" attach -C -k key -j <(echo new) pipe.img >reply
+: >empty; printf '\nx\n' >blank; printf 'a passphrase\r\n' >returned
+for name in empty blank; do
+    says "an $name passphrase makes no provider" test "$("$make" -i 100 -J $name 1M no.img key no.backup 2>&1 | grep -c 'is empty')" = 1 -a ! -e no.img
+    says "  and no new key" test "$("$change" -k key -j pass -J $name a.img no.backup 2>&1 | grep -c 'is empty')" = 1 -a ! -e no.backup
+done
+says "a carriage return at its end is told" test "$("$make" -i 100 -J returned 1M returned.img key returned.backup 2>&1 | grep -c 'carriage return')" = 1
+says "without a terminal nobody is asked" test "$(setsid -w "$in" -k key pass a.img 2>&1 </dev/null)" = 'copy-in.sh: no terminal to ask for the passphrase: name a file whose first line it is, by -j (a new one: -J)'
+
+# Names.
+odd=$'b l\tank #1.img'
+says "a name with blanks" "$make" -a -i 100 -J pass 256K "$odd" 'key of it' 'its backup' 2>notes
+says "  is copied into" "$in" -c -k 'key of it' -j pass pass "$odd" 2>notes
+says "  and out of" "$out" -b 13 -k 'key of it' -j pass "$odd" 'o u t' 2>notes
+says "  the same bytes" cmp pass 'o u t'
+says "  is looked at" grep -q '0 of them unreadable' <("$look" -k 'key of it' -j pass "$odd" 2>notes)
+says "  and in parts" grep -qF "$odd: 56 of 56 sectors" <("$scrub" -k 'key of it' -j pass "$odd" place 2>notes)
+mkdir 'a folder'
+says "  with its place in a folder with blanks" "$scrub" -k 'key of it' -j pass "$odd" 'a folder/place' >report 2>notes
+says "  and grows" "$grow" -k 'key of it' -j pass 512K "$odd" 'its next backup' 2>notes
+says "  and its passphrase is changed" "$change" -k 'key of it' -j pass -J returned "$odd" 'its third backup' 2>notes
+latin=$'caf\xe9.img'
+says "a name that is no UTF-8" "$make" -i 100 -J pass 1M "$latin" key latin.backup 2>notes
+says "  is copied into" "$in" -k key -j pass pass "$latin" 2>notes
+says "layers over files" "$in" -k key -j pass pass behind:a.img 2>notes
+says "  are read" "$out" -b 13 -k key -j pass behind:a.img layer.out 2>notes
+head -c 512K a.img >first; tail -c 512K a.img >second
+says "  two files as one" "$out" -b 13 -k key -j pass join:first:second join.out 2>notes
+says "  the same bytes" cmp pass join.out
+says "  of which the second grows" "$grow" -k key -j pass 2M join:first:second join.backup 2>notes
+says "  indeed" test "$(stat -c %s second)" = $((3 * 524288)) -a "$(stat -c %s first)" = 524288
+says "  and opens" "$look" -k key -j pass join:first:second >report 2>notes
+says "  and none is made" test "$("$make" -i 100 -J pass 1M behind:no.img key no.backup 2>&1 | grep -c 'asks for a layer')" = 1
+says "a file by such a name" "$make" -i 100 -J pass 1M ./behind:no.img key no.backup 2>notes
+says "  is that file" "$GELI" attach -C -k key -j pass ./behind:no.img >reply
+
+# Space on the disk.
+says "an image takes no space before it is written" test "$(stat -c %b a.img)" -lt 1024
+says "  and by -f takes all" "$make" -f -i 100 -J pass 1M full.img key full.backup 2>notes
+says "  indeed" test "$(stat -c %b full.img)" -ge 2048
+says "  and grows so" "$grow" -f -k key -j pass 2M full.img full2.backup 2>notes
+says "  indeed" test "$(stat -c %b full.img)" -ge 4096
+says "what the disk has no room for is told" test "$("$make" -i 100 -J pass 4096T huge.img key huge.backup 2>&1 | grep -c 'may come to take\|no room')" = 1
+rm -f huge.*
+
+# Causes of a fault.
+exec 8<>a.img
+flock 8
+says "who holds an image is told" test "$("$in" -k key -j pass pass a.img 2>&1 | grep -c "26 DeviceFault: process [0-9]* holds it")" = 1
+cp a.img before
+says "one that is held isn't grown" test "$("$grow" -k key -j pass 2M a.img held.backup 2>&1 | grep -c 'nothing was changed: another program holds')" = 1
+says "  indeed" cmp a.img before
+says "  nor is its passphrase changed" test "$("$change" -k key -j pass -J returned a.img held.backup 2>&1 | grep -c 'holds it')" = 1
+says "  nor is it destroyed" test "$("$destroy" -y a.img 2>&1 | grep -c 'holds it')" = 1
+exec 8>&-
+if mkdir small && mount -t tmpfs -o size=1200k small small 2>/dev/null; then
+    says "a provider is made on a small disk" "$make" -i 100 -J pass 8M small/s.img key small.backup 2>notes
+    says "  which warns of it" grep -q 'its disk has room for' notes
+    head -c 4M /dev/urandom >large
+    says "a full disk is told" test "$("$in" -k key -j pass large small/s.img 2>&1 | grep -c '26 DeviceFault: its file system is full\|give this again')" = 2
+    says "  also by a copy out" test "$("$out" -k key -j pass small/s.img small/out 2>&1 | grep -c 'has room for')" = 1
+    says "  which leaves nothing" test ! -e small/out.part
+    says "  nor is it filled by -f" test "$("$make" -f -i 100 -J pass 8M small/f.img key f.backup 2>&1 | grep -c 'no room\|Remove it')" = 2
+    mount -o remount,ro small
+    says "a disk to be read alone is told" test "$("$change" -k key -j pass -J returned small/s.img small2.backup 2>&1 | grep -c "can't be written")" = 1
+    says "  also by a server" test "$("$serve" -k key -j pass small/s.img read.sock 2>&1 | grep -c 'give -r')" = 1
+    umount small
+else
+    echo "not tried: a full disk (no mount of a tmpfs)"
+fi
+says "a folder that isn't there is told" test "$("$out" -b 13 -k key -j pass a.img none/there 2>&1 | grep -c Traceback)" = 0
+
+# Broken off in the middle: by a geli that is slow, and the signal that a terminal sends.
+printf '#!/bin/sh\ncase $1 in script) while read -r line; do sleep 0.5; echo "$line"; done | "%s" "$@" ;; *) exec "%s" "$@" ;; esac\n' "$GELI" "$GELI" >slow
+chmod +x slow
+broken() { GELI=$here/slow timeout -s INT 3 "$@"; }
+says "what make-provider.sh leaves halfway is told" test "$(broken "$make" -a -i 100 -J pass 4M half.img key half.backup 2>&1 | grep -c 'half.img. is only half made. Remove it')" = 1
+rm half.img half.backup
+says "  and it can be given again" "$make" -a -i 100 -J pass 256K half.img key half.backup 2>notes
+head -c 1500K /dev/urandom >many
+says "what copy-in.sh leaves" test "$(broken "$in" -k key -j pass many full.img 2>&1 | grep -c 'full.img: some sectors are as before.*give this again')" = 1
+says "what copy-out.sh leaves" test "$(broken "$out" -k key -j pass full.img full.out 2>&1 | grep -c 'full.out.part has the [0-9]* bytes before, in the clear: remove it')" = 1
+says "  indeed" test -e full.out.part -a ! -e full.out
+says "what grow-provider.sh leaves" test "$(broken "$grow" -k key -j pass 512K half.img half2.backup 2>&1 | grep -c 'Give this again, with -s 262144')" = 1
+says "  and it goes on" "$grow" -s 262144 -k key -j pass 512K half.img half2.backup 2>notes
+says "  to the end" grep -q ', 0 of them unreadable' <("$look" -k key -j pass half.img 2>notes)
+says "a copy says how its bytes come back" grep -q '^copy-out.sh -b 13 ' <("$in" -k key -j pass pass a.img 2>&1)
+
+# What a provider is, and what is wrong with words.
+info=$top/examples/geli-info.sh why=$top/examples/why.sh
+says "geli-info.sh says what it is" grep -q '^cipher: AES-XTS, 256 bits$' <("$info" half.img)
+says "  and how its data are authenticated" grep -q '^authentication: HMAC/SHA256$' <("$info" half.img)
+says "  and of what size" grep -q '^data: 113 sectors of 4096 bytes, ' <("$info" half.img)
+says "  and that a key opens it" grep -q '^this key: opens slot 0$' <("$info" -k key -j pass half.img)
+says "  and that another doesn't" test "$("$info" -k key half.img | tail -n 1; echo "${PIPESTATUS[0]}")" = "$(printf "this key: doesn't open it\n1")"
+says "  and all of it in JSON" python3 -c 'import json, sys; facts = json.load(sys.stdin); assert (facts["sectors"], facts["slots_with_keys"], facts["key_opens_slot"]) == (113, [0], 0)' < <("$info" --json -k key -j pass half.img)
+says "  and where there is none" test "$("$info" pass 2>&1 | grep -c '^geli-info.sh: pass: error 35')" = 1
+says "why.sh says what is wrong with words" test "$("$why" init -s 4k -P -K key a.img | head -n 1)" = "word 3, '4k': this is no decimal number, or it is out of its bounds (write 4096 and not 4k)"
+says "  and that nothing is" "$why" kill 'a name.img' >reply
+says "  and runs nothing" "$GELI" attach -C -k key -j pass half.img >reply
+for words in 'foo' 'init -Z a' 'init -s' 'resize a.img' 'write a.img 0 xyz' 'init -a foo b' 'attach -p -j x y' 'script a a' 'read a' 'init -K - a' 'delkey -a -n 0 a'; do
+    # shellcheck disable=SC2086 # they are words
+    says "  of: $words" test "$("$why" $words >reply; echo $?)" = 1 -a "$(grep -c 'error\|geli says' reply)" = 0
+done
+cd "$folder" || exit 2
+
 # A provider as a network block device, for clients of other makers.
-serve=$top/examples/serve-nbd.sh uri="nbd+unix:///?socket=$folder/sock"
+uri="nbd+unix:///?socket=$folder/sock"
 if command -v nbdkit nbdcopy nbdinfo >commands && nbdkit --dump-plugin python >commands 2>&1; then
-    "$make" -i 1000 -J pass 8M f.img key f.backup 2>notes
+    "$make" -i 100 -J pass 8M f.img key f.backup 2>notes
     head -c 8380416 /dev/urandom >data
     says "serve-nbd.sh refuses a wrong key" test "$("$serve" -k key -j wrong f.img sock 2>&1 | grep -c 'error 15 WrongKey: wrong\|nothing is served')" = 2
     says "  and leaves no socket" test ! -e sock -a ! -e sock.pid
@@ -193,8 +324,10 @@ if command -v nbdkit nbdcopy nbdinfo >commands && nbdkit --dump-plugin python >c
 import random
 random.seed(5)
 model = bytearray(open("data", "rb").read())
-for _ in range(200):
-    at = random.randrange(len(model))
+at = 0
+for _ in range(400):
+    if random.random() < 0.5 or at >= len(model):  # else behind the last one
+        at = random.randrange(len(model))
     size = min(random.choice([1, 7, 511, 512, 4095, 4096, 4097, 10000, 131072, 400000]), len(model) - at)
     if random.random() < 0.5:
         piece = random.randbytes(size)
@@ -202,10 +335,11 @@ for _ in range(200):
         model[at:at + size] = piece
     else:
         assert h.pread(size, at) == model[at:at + size], (at, size)
+    at += size
 h.flush()
 open("data", "wb").write(model)
 EOF
-        says "200 requests at odd places answer as a model does" nbdsh -u "$uri" -c - <model.py
+        says "400 requests at odd places and behind each other answer as a model does" nbdsh -u "$uri" -c - <model.py
     else
         echo "not tried: requests at odd places (no nbdsh)"
     fi
@@ -214,6 +348,58 @@ EOF
     says "  and leaves nothing behind" test ! -e sock -a ! -e sock.pid -a ! -e sock.ended
     says "  and the data are there" "$out" -b 8380416 -k key -j pass f.img f.out 2>notes
     says "  the same bytes" cmp data f.out
+    # Writes that are gathered, on a disk that is full for a while.
+    if nbdsh -c pass 2>commands && mkdir gather && mount -t tmpfs -o size=2500k gather gather 2>commands; then
+        "$make" -i 100 -J pass 4M gather/g.img key g.backup 2>notes
+        cp "$top/README.md" gather/filler
+        "$serve" -k key -j pass gather/g.img sock 2>notes
+        cat >gathered.py <<'EOS'
+import errno, os, sys
+import nbd
+
+def refused(work, *words):
+    try:
+        work(*words)
+    except nbd.Error as failed:
+        return failed.errnum == errno.EIO
+    return False
+
+filler = open("gather/filler", "ab")
+small = [bytes([number]) * 4096 for number in range(1, 9)]
+for number, piece in enumerate(small):  # gathered
+    h.pwrite(piece, number * 4096)
+assert h.pread(8192, 4096) == small[1] + small[2]
+h.flush()
+try:
+    while True:
+        filler.write(bytes(4096))
+        filler.flush()
+except OSError as failed:
+    assert failed.errno == errno.ENOSPC
+for number, piece in enumerate(small):  # there is no room for them
+    h.pwrite(piece, 1 << 20 | number * 4096)
+assert refused(h.flush)
+assert refused(h.flush)
+assert refused(h.pread, 4096, 1 << 20)
+assert h.pread(4096, 4096) == small[1]
+os.truncate("gather/filler", 0)
+h.flush()  # now there is
+assert h.pread(8 * 4096, 1 << 20) == b"".join(small)
+h.pwrite(b"between", (1 << 20) + 4090)
+h.pwrite(b" them", (1 << 20) + 4097)
+assert h.pread(16, (1 << 20) + 4088) == b"\1\1between them\2\2"
+EOS
+        says "a gathered write that fails is told by the next flush" nbdsh -u "$uri" -c - <gathered.py
+        says "  and what was gathered at the end is written" "$serve" -e sock 2>notes
+        says "  indeed" test "$("$out" -b 1056768 -k key -j pass gather/g.img g.out 2>notes; tail -c +1052665 g.out | head -c 16 | tr '\1\2' '..')" = '..between them..'
+        "$serve" -k key -j pass gather/g.img sock 2>notes
+        nbdsh -u "$uri" -c 'h.pwrite(b"x" * 4096, 3 << 20)'
+        head -c 4M /dev/zero >gather/filler 2>commands
+        says "  and one that fails at the end is told there" test "$("$serve" -e sock 2>&1 | grep -c 'may be lost: .*its file system is full')" = 1
+        umount gather
+    else
+        echo "not tried: gathered writes on a full disk (no nbdsh, or no mount of a tmpfs)"
+    fi
     says "serve-nbd.sh -r serves it to be read alone" "$serve" -r -k key -j pass f.img sock 2>notes
     says "  indeed" nbdinfo --is readonly "$uri"
     says "  the same bytes" cmp -n 8380416 data <(nbdcopy "$uri" -)
@@ -246,7 +432,7 @@ EOF
         says "  with the files" test "$(debugfs -R 'cat /examples/lib.py' ext4 2>commands | sha256sum)" = "$(sha256sum <"$top/examples/lib.py")"
     fi
     if loop=$(losetup --find --show --offset 1M --sizelimit 4M disk.out 2>commands); then
-        says "a provider can be in a partition of a disk image" "$GELI" init -i 1000 -K key -J pass "$loop" >out
+        says "a provider can be in a partition of a disk image" "$GELI" init -i 100 -K key -J pass "$loop" >out
         says "  and is served out of it" "$serve" -k key -j pass "$loop" sock 2>notes
         says "  of its size" test "$(nbdinfo --size "$uri")" = 4193792
         says "  and it ends" "$serve" -e sock 2>notes
@@ -256,6 +442,109 @@ EOF
     fi
 else
     echo "not tried: a network block device (no nbdkit with python, nbdcopy and nbdinfo)"
+fi
+
+# A filesystem that is mounted by one command.
+mount=$top/examples/mount-provider.sh
+if command -v nbdkit nbdfuse fuse2fs mke2fs e2fsck fusermount3 blkid >commands && [ -w /dev/fuse ]; then
+    mkdir "$folder/mounts" && cd "$folder/mounts" || exit 2
+    cp ../pass ../key .
+    files="a folder"
+    mkdir "$files"
+    "$make" -i 100 -J pass 2M m.img key m.backup 2>notes
+    says "mount-provider.sh finds no filesystem in a new provider" test "$("$mount" -k key -j pass m.img "$files" 2>&1 | grep -c 'no filesystem is known in it')" = 1
+    says "  and takes all down again" test "$("$mount" -u "$files" 2>&1 | grep -c 'nothing was mounted')" = 1
+    says "  and mounts one that it makes by -m" setsid -w "$mount" -m -k key -j pass m.img "$files" 2>notes
+    says "  whose use holds the image" test "$("$GELI" setkey -k key -j pass -K key -J pass m.img)" = 'error 26 DeviceFault'
+    says "  and the folder" test "$("$mount" -k key -j pass m.img "$files" 2>&1 | grep -c 'is mounted on .* already')" = 1
+    says "  files are copied into it" cp "$top/README.md" "$files/"
+    says "  and one that stays open" sh -c 'exec 9>"$1/open"; ! "$2" -u "$1" 2>../busy' - "$files" "$mount"
+    says "  is told" grep -q 'is in use' ../busy
+    says "  and it is unmounted" "$mount" -u "$files" 2>notes
+    says "  with nothing behind it left" test -z "$(ls "/tmp/geli-mounts-$(id -u)")"
+    says "  and mounted again, to be read alone" "$mount" -r -k key -j pass m.img "$files" 2>notes
+    says "  with the file" cmp "$top/README.md" "$files/README.md"
+    says "  indeed" test ! "$(touch "$files/none" 2>&1)" = ''
+    says "  and it is unmounted" "$mount" -u "$files" 2>notes
+    "$out" -k key -j pass m.img m.out 2>notes
+    says "  the filesystem is clean" e2fsck -fn m.out >commands 2>&1
+    says "  and it is never made anew" test "$("$mount" -m -k key -j pass m.img "$files" 2>notes && cat "$files/README.md" && "$mount" -u "$files" 2>notes)" = "$(cat "$top/README.md")"
+    says "a wrong key is told" test "$("$mount" -k key -j key m.img "$files" 2>&1 | grep -c 'error 15 WrongKey: wrong')" = 1
+    head -c 300K /dev/urandom >other && "$in" -k key -j pass other m.img 2>notes
+    says "what is no filesystem is not overwritten" test "$("$mount" -m -k key -j pass m.img "$files" 2>&1 | grep -c 'nothing was made')" = 1
+    says "  indeed" cmp other <("$out" -b 300K -k key -j pass m.img m2.out 2>notes; cat m2.out)
+    touch "$files/there"
+    says "a folder that isn't empty is left" test "$("$mount" -k key -j pass m.img "$files" 2>&1 | grep -c "isn't empty")" = 1
+    rm "$files/there"
+    "$in" -k key -j pass m.out m.img 2>notes
+    "$mount" -k key -j pass m.img "$files" 2>notes
+    says "a server that dies is told" test "$(kill -9 "$(cat /tmp/geli-mounts-"$(id -u)"/*/sock.pid)"; sleep 1; "$mount" -u "$files" 2>&1 | grep -c 'may be lost')" -ge 1
+    says "  and nothing is left" test -z "$(ls "/tmp/geli-mounts-$(id -u)")"
+    if command -v makefs grub-mount >commands; then
+        mkdir tree && cp "$top/README.md" tree/
+        says "a filesystem of FreeBSD's" makefs -t ffs -o version=2 -s 1m ufs.img tree >commands 2>&1
+        "$in" -k key -j pass ufs.img m.img 2>notes
+        says "  is mounted" "$mount" -k key -j pass m.img "$files" 2>notes
+        says "  to be read alone" grep -q 'its ufs is mounted .* to be read alone' notes
+        says "  with its file" cmp "$top/README.md" "$files/README.md"
+        says "  and it is unmounted" "$mount" -u "$files" 2>notes
+    else
+        echo "not tried: a UFS (no makefs and grub-mount)"
+    fi
+    # A provider in the second partition of a disk's image.
+    { head -c 446 /dev/zero; printf '\0\0\0\0\203\0\0\0\0\010\0\0\0\010\0\0\0\0\0\0\203\0\0\0\0\020\0\0\0\020\0\0'
+      head -c 32 /dev/zero; printf '\125\252'; } >disk.img
+    "$in" -k key -j pass m.out m.img 2>notes
+    truncate -s 2M disk.img && cat m.img >>disk.img
+    mkdir part
+    nbdfuse part [ nbdkit --exit-with-parent --filter=partition file disk.img partition=2 ] 2>commands &
+    for _ in 1 2 3 4 5 6 7 8 9 10; do [ -e part/nbd ] || sleep 0.5; done
+    says "a provider in a partition of a disk's image" "$mount" -k key -j pass part/nbd "$files" 2>notes
+    says "  is mounted with its file" cmp "$top/README.md" "$files/README.md"
+    says "  and unmounted" "$mount" -u "$files" 2>notes
+    fusermount3 -u part
+    # The README's lines, typed into a fresh folder; its three questions are answered as a person would.
+    sed -n '/^## A filesystem in it/,/^## The same/p' "$top/README.md" | sed '1,/^```/d; /^```/,$d' >block
+    if is_trial; then sed -i 's/make-provider.sh 80M/make-provider.sh -i 100 2M/' block; fi
+    mkdir fresh
+    cat >type.py <<'EOF'
+import os, pty, sys
+process, terminal = pty.fork()
+if process == 0:
+    os.execvp("bash", ["bash", "-eux", sys.argv[1]])
+said = b""
+while True:
+    try:
+        piece = os.read(terminal, 4096)
+    except OSError:
+        break
+    said += piece
+    if said.rstrip().endswith((b"passphrase:", b"again:")):
+        os.write(terminal, b"a few words\n")
+        said += b"\n"
+sys.stdout.buffer.write(said)
+sys.exit(os.waitstatus_to_exitcode(os.waitpid(process, 0)[1]))
+EOF
+    typed() { (cd fresh && PATH=$folder/bin:$top/examples:$PATH env -u GELI python3 ../type.py ../block >../typed); }
+    SECONDS=0
+    says "the README's filesystem, typed" typed
+    echo "  ($SECONDS seconds)"
+    says "  has its file in the end" grep -q '^hello' typed
+    # The terminal that started it is closed.
+    printf '%s\n' "mount-provider.sh -k ../key -j ../pass ../m.img files" >block
+    "$in" -k key -j pass m.out m.img 2>notes
+    says "a mount whose terminal is closed" typed
+    sleep 1
+    says "  goes on" cp "$top/README.md" fresh/files/again
+    says "  and is unmounted" "$mount" -u fresh/files 2>notes
+    cd "$folder" || exit 2
+else
+    echo "not tried: mount-provider.sh (no nbdkit, nbdfuse, fuse2fs, or /dev/fuse)"
+fi
+
+# The scripts themselves.
+if command -v shellcheck >commands; then
+    says "shellcheck finds nothing in the scripts" shellcheck -S warning -x -P "$top/examples" "$top"/examples/*.sh
 fi
 
 # Completions, by bash itself.

@@ -8,7 +8,8 @@ use Rattle.command_words.specs.declared.commands.Command.TheVariants as commands
 use Rattle.command_words.specs.declared.spans.Span.{Span}
 use Rattle.command_rows.specs.World.{World}
 
--- the place of the name of the file that a command stores, if it stores one; each verb is named, so that a new one has to be decided on
+-- the place of the name of the file that a command stores, if it stores one; each verb is named, so that a new one has
+-- to be decided on
 abbrev pub stored_file : Command → Option Span
 stored_file commands.List = None
 stored_file (commands.Dump prov) = None

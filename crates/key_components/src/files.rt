@@ -27,7 +27,7 @@ fn refusal(word: u32, named: usize, fault: LoadFault) -> Refusal
     }
 }
 
-/// Loads the file that a span of the line names, if it has at most `limit` bytes: one load of the cabinet.
+/// Loads the file that a span of the line names, if it has at most `limit` bytes: one load of the cabinet, and no store.
 pub fn load_file<C: Cabinet>(
     alloc: Global,
     line: &[u8],

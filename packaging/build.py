@@ -121,7 +121,7 @@ class Build:
         source, to = f"{self.tree}/crates/{name}", f"{self.room}/built/{name}"
         for part in PARTS:
             if os.path.isdir(f"{source}/{part}"):
-                shutil.copytree(f"{source}/{part}", f"{to}/{part}")
+                shutil.copytree(f"{source}/{part}", f"{to}/{part}", symlinks=True)
         if os.path.isfile(f"{source}/out/rlib/stamp"):
             with held(source) as is_held:
                 if is_held:
@@ -141,7 +141,7 @@ class Build:
         """Makes a tree of this crate and those below it, and returns the crate's folder in it."""
         tree, names = f"{self.room}/{name}", [*below(self.uses, name), name]
         for it in names:
-            shutil.copytree(f"{self.room}/built/{it}", f"{tree}/crates/{it}", copy_function=link_or_copy)
+            shutil.copytree(f"{self.room}/built/{it}", f"{tree}/crates/{it}", True, copy_function=link_or_copy)
         with open(f"{self.tree}/crates.txt", encoding="utf-8") as lines:
             kept = [line for line in lines if line.partition(":")[0].strip() in names]
         with open(f"{tree}/crates.txt", "w", encoding="utf-8") as it:

@@ -59,19 +59,27 @@ def seconds_of(folder):
     return 15 + lines / 10
 
 
-def processors():
-    given = os.environ.get("GELI_JOBS", "")
-    if given.isdigit() and int(given):
-        return int(given)
-    free = 1024 * int(re.search(r"MemAvailable:\s+(\d+)", text_of("/proc/meminfo"))[1])
-    return max(1, min(len(os.sched_getaffinity(0)), free // BYTES_OF_JOB))
-
-
 def text_of(file):
     """Returns what stands in a file, or nothing where there is none."""
     with contextlib.suppress(OSError), open(file, encoding="utf-8") as it:
         return it.read()
     return ""
+
+
+def processors():
+    given = os.environ.get("GELI_JOBS", "")
+    if given.isdigit() and int(given):
+        return int(given)
+    found = [len(os.sched_getaffinity(0))]
+    found += [1024 * int(it) // BYTES_OF_JOB for it in re.findall(r"MemAvailable:\s+(\d+)", text_of("/proc/meminfo"))]
+    # What a container may use can be less than the machine has.
+    group = ("cpu.max", "memory.max", "memory.current")
+    quota, most, taken = (text_of(f"/sys/fs/cgroup/{it}").split() for it in group)
+    if quota and quota[0].isdigit():
+        found.append(int(quota[0]) // int(quota[1]))
+    if most and taken and most[0].isdigit():
+        found.append((int(most[0]) - int(taken[0])) // BYTES_OF_JOB)
+    return max(1, min(found))
 
 
 def link_or_copy(source, to):
@@ -113,7 +121,7 @@ class Build:
         source, to = f"{self.tree}/crates/{name}", f"{self.room}/built/{name}"
         for part in PARTS:
             if os.path.isdir(f"{source}/{part}"):
-                shutil.copytree(f"{source}/{part}", f"{to}/{part}")
+                shutil.copytree(f"{source}/{part}", f"{to}/{part}", symlinks=True)
         if os.path.isfile(f"{source}/out/rlib/stamp"):
             with held(source) as is_held:
                 if is_held:
@@ -133,7 +141,7 @@ class Build:
         """Makes a tree of this crate and those below it, and returns the crate's folder in it."""
         tree, names = f"{self.room}/{name}", [*below(self.uses, name), name]
         for it in names:
-            shutil.copytree(f"{self.room}/built/{it}", f"{tree}/crates/{it}", copy_function=link_or_copy)
+            shutil.copytree(f"{self.room}/built/{it}", f"{tree}/crates/{it}", True, copy_function=link_or_copy)
         with open(f"{self.tree}/crates.txt", encoding="utf-8") as lines:
             kept = [line for line in lines if line.partition(":")[0].strip() in names]
         with open(f"{tree}/crates.txt", "w", encoding="utf-8") as it:
@@ -231,8 +239,9 @@ class Build:
 def room_of(tree):
     """Makes the folder that a build works in, and removes it again. It has one name for each tree, so what a build that
     was killed left goes away with the next, and rt has no more folders to remember than before."""
-    # (some gigabytes, which /tmp may hold in memory)
-    place = os.environ.get("TMPDIR") or ("/var/tmp" if os.path.isdir("/var/tmp") else tempfile.gettempdir())
+    # (some gigabytes, which /tmp may hold in memory, and a program that is run there)
+    places = [it for it in ("/var/tmp", "/tmp") if os.path.isdir(it) and not os.statvfs(it).f_flag & os.ST_NOEXEC]
+    place = os.environ.get("TMPDIR") or [*places, f"{tree}/out"][0]
     room = f"{place}/geli-build-{hashlib.sha256(os.path.realpath(tree).encode()).hexdigest()[:16]}"
     with contextlib.suppress(OSError):
         if os.lstat(room).st_uid == os.geteuid():

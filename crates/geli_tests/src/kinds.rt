@@ -37,12 +37,7 @@ fn add(shelf: &mut Shelf, name: &str, disk: Box<dyn Disk>) -> Result<(), Fail> {
 }
 
 // What a script prints over the shelf, of whose images the words name all.
-fn printed(
-    alloc: Global,
-    shelf: &mut Shelf,
-    line: &str,
-    script: &str,
-) -> Result<MemSink, Fail> {
+fn printed(alloc: Global, shelf: &mut Shelf, line: &str, script: &str) -> Result<MemSink, Fail> {
     let mut output = MemSink::new(alloc, &[], &[], 1024)?;
     geli_main(
         alloc,
@@ -50,7 +45,7 @@ fn printed(
         &mut MemSource::new(alloc, script.as_bytes(), &[], &[])?,
         &mut output,
         &mut stock(alloc)?,
-        &mut MemEntropy::new(alloc, &[0x5a; 1152])?,
+        &mut MemEntropy::new(alloc, &[0x5a; 1536])?,
         shelf,
     );
     Ok(output)
@@ -62,7 +57,8 @@ const BY_TURNS: &str = "init -P -K k a.img\ninit -P -K k b.img\ninit -P -K k c.i
     attach -p -k k a.img\nattach -p -k k b.img\nattach -p -k k c.img\n\
     fill a.img 7 0 1\ninit -P -K k b.img\nfill c.img 7 0 1\n";
 
-const REPLIES: &str = "ok\nerror 26 DeviceFault\nok\nok\nerror 5 BadMagic\nok\nok\nerror 26 DeviceFault\nok\n";
+const REPLIES: &str =
+    "ok\nerror 26 DeviceFault\nok\nok\nerror 5 BadMagic\nok\nok\nerror 26 DeviceFault\nok\n";
 
 // The first disk does what it does where it stands alone. The third gets a flush, a write and a flush, a read, eight
 // writes, and the flush of the closing.

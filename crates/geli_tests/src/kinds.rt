@@ -60,8 +60,8 @@ const BY_TURNS: &str = "init -P -K k a.img\ninit -P -K k b.img\ninit -P -K k c.i
 const REPLIES: &str =
     "ok\nerror 26 DeviceFault\nok\nok\nerror 5 BadMagic\nok\nok\nerror 26 DeviceFault\nok\n";
 
-// The first disk does what it does where it stands alone. The third gets a flush, a write and a flush, a read, eight
-// writes, and the flush of the closing.
+// The first disk does what it does where it stands alone. The third gets a flush, a write and a flush, a read, a write of
+// one sector, and the flush of the closing.
 #[test]
 fn three_kinds_on_one_shelf(rt: HostRuntime) -> Result<(), Fail> {
     let alloc = rt.alloc();
@@ -73,7 +73,7 @@ fn three_kinds_on_one_shelf(rt: HostRuntime) -> Result<(), Fail> {
     add(&mut shelf, "c.img", Box::new(alloc, counting)?)?;
     let output = printed(alloc, &mut shelf, "script a.img b.img c.img", BY_TURNS)?;
     assert!(&rt; output.bytes() == REPLIES.as_bytes());
-    assert_eq!(rt; calls.get(), 13);
+    assert_eq!(rt; calls.get(), 6);
     let mut alone = Shelf::new(alloc)?;
     add(&mut alone, "a.img", Box::new(alloc, image(alloc)?)?)?;
     let output = printed(alloc, &mut alone, "script a.img", ALONE)?;

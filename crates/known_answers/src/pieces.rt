@@ -233,3 +233,26 @@ fn four_sealed_pieces(rt: HostRuntime) -> Result<(), Fail> {
     }
     Ok(())
 }
+
+// Whether a piece of 32 bytes opens so: by these bytes, or not at all and to zeros.
+fn opens_short(rt: &impl Abort, ring: &mut KeyRing, sector: &[u8; 512], want: Option<u8>) -> bool {
+    assert!(rt; ring.auth() != Auth::Off && 32 <= ring.auth().data_bytes());
+    let mut out = [9; 32];
+    let answer = open_piece(ring, 0, sector, &mut out);
+    answer.is_ok() == want.is_some() && out == [want.unwrap_or(0); 32]
+}
+
+// Behind a short piece stand zeros, at which nobody looks. A turned bit of the piece is told.
+#[test]
+fn a_short_piece(rt: HostRuntime) -> Result<(), Fail> {
+    let mut ring = ring_of(&rt, rt.alloc(), Auth::Sha256, Cipher::AesXts, 128)?;
+    let mut sector = [0xff; 512];
+    assert!(&rt; ring.auth() != Auth::Off && 32 <= ring.auth().data_bytes());
+    seal_piece(&mut ring, 0, &[7; 32], &mut sector);
+    assert!(&rt; sector.iter().skip(64).all(|byte| *byte == 0));
+    sector[511] = 1;
+    assert!(&rt; opens_short(&rt, &mut ring, &sector, Some(7)));
+    sector[40] ^= 1;
+    assert!(&rt; opens_short(&rt, &mut ring, &sector, None));
+    Ok(())
+}

@@ -67,19 +67,6 @@ is_unit_at auth size width j start end low whole lt wide s e =
 pub length-between : (start end : ℕ) (bytes : List ℕ) → start ≤ end → end ≤ length bytes → length (take (end - start) (drop start bytes)) ≡ end - start
 length-between start end bytes order within = length-take-le (end - start) (drop start bytes) (omega (arith, length-drop start bytes))
 
--- a piece that was opened is accepted, and another isn't
-pub accepts : (k : Keying) (n size start : ℕ) (buffer from bytes : List ℕ) → start ≤ length buffer → size ≡ start → start ≡ piece_size k n
-    → opened_piece k (512 * n) (length (take size buffer)) from ≡ Ok bytes → true ≡ is_ok (piece_reading k n from)
-accepts k n size start buffer from bytes room same is h =
-    let long : length (take size buffer) ≡ piece_size k n = length-take-le size buffer (omega arith) ∙ same ∙ is in
-    sym (ap (λ (r : Result (List ℕ) ℕ). is_ok r) (sym (ap (λ (m : ℕ). opened_piece k (512 * n) m from) long) ∙ h))
-
-pub refuses : (k : Keying) (n size start : ℕ) (buffer from : List ℕ) (offset : ℕ) → start ≤ length buffer → size ≡ start → start ≡ piece_size k n
-    → opened_piece k (512 * n) (length (take size buffer)) from ≡ Err offset → false ≡ is_ok (piece_reading k n from)
-refuses k n size start buffer from offset room same is h =
-    let long : length (take size buffer) ≡ piece_size k n = length-take-le size buffer (omega arith) ∙ same ∙ is in
-    sym (ap (λ (r : Result (List ℕ) ℕ). is_ok r) (sym (ap (λ (m : ℕ). opened_piece k (512 * n) m from) long) ∙ h))
-
 -- ---- reading
 
 get_or-standing : (c : Content) (n count j : ℕ) → j < count → get_or (standing c n count) j [] ≡ present c (n + j)

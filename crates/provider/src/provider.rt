@@ -1,21 +1,24 @@
 // A disk that is read and written under a keying.
-ghost use Rattle.std.specs.Prelude.{◌≡◌, ◌≢◌, ℕ, ◌+◌, ◌*◌, ◌/◌, ◌%◌, ◌<◌, ◌≤◌, ◌↔◌, ◌∷◌, [], List, IsTrue, OnOk, OnErr, Ok, Err, MatchResult, is_ok, length, replicate};
+ghost use Rattle.std.specs.Prelude.{◌≡◌, ◌≢◌, ℕ, ◌+◌, ◌*◌, ◌/◌, ◌%◌, ◌<◌, ◌≤◌, ◌↔◌, ◌∷◌, [], List, IsTrue, OnOk, OnErr, None, Ok, Err, IfSome, MatchResult, is_ok, length, replicate};
 ghost use Rattle.std.specs.List.{concat};
 ghost use Rattle.block_traits.specs.Causes.{Counted};
-ghost use Rattle.block_traits.specs.Disk.{DiskState, FailsIn, Gives, Logs};
+ghost use Rattle.block_traits.specs.Disk.{DiskState, FailsIn, Gives, GivesEach, Logs};
+ghost use Rattle.block_traits.specs.Parts.{parts};
 ghost use Rattle.eli_base.specs.Units.{media_sectors};
 ghost use Rattle.eli_metadata.specs.Checks.{settings_of, size_matches, slot_matches, supported};
 ghost use Rattle.provider.specs.Answers.{AttachAnswers, Means, ReadAnswers, Target, WriteAnswers, request};
 ghost use Rattle.provider.specs.Attached.{IsKept, has_tags, media};
+ghost use Rattle.provider.specs.Reading.{units_accepted};
 ghost use Rattle.provider.specs.Rest.{rest_of};
 ghost use Rattle.range_keys.specs.Ring.{IsKeying};
 ghost use Rattle.sealing.specs.Sectors.{device_sectors, piece_reading, reading, seal, units};
 
 use crate::attaching::{opened, reserve};
-use crate::pieces::piece_ok;
+use crate::pieces::{has_whole_four, piece_ok};
 use crate::runs::{read_run, write_run};
 use crate::sectors::{open_sector, seal_sector};
 use crate::{AttachFault, BadUnit, ReadFault, WriteFault};
+use auth_sectors::four_accepted;
 use block_traits::{Disk, DiskFailed, Event, MetaPlace, Sector, load_last, store_last};
 use eli_base::{Auth, Cipher, Geometry, MasterKey, Params};
 use eli_metadata::Metadata;
@@ -338,7 +341,28 @@ impl<D: Disk> Provider<D> {
         ensures stays { self.new ≡ self.old }
     {
         let size = self.params.sectorsize as usize;
-        piece_ok(&mut self.ring, n, size, from)
+        piece_ok(&self.ring, n, size, from)
+    }
+
+    /// Looks at four device sectors at once, the first of number `n`, where they have whole units of one logical sector and the
+    /// disk lets that be done: which of them are accepted, each as by `unit_ok`. Four reads are counted. Else nothing has
+    /// changed, and `into` may hold any bytes.
+    pub fn look_at_four(&mut self, n: u64, into: &mut [u8; 2048]) -> Option<[bool; 4]>
+        requires on { self.old.keying.auth ≢ Auth.Off }
+        requires inside { n + 4 ≤ media self.old.keying (D.state self.old.disk) * units self.old.keying }
+        ensures stand { IfSome result (λ _. GivesEach (D.state self.old.disk) n into.new) }
+        ensures accepted { IfSome result (λ accepted. accepted ≡ units_accepted self.old.keying n (parts 512 4 into.new)) }
+        ensures asked { IfSome result (λ _. Counted 4 (D.state self.old.disk).reads (D.state self.new.disk).reads) }
+        ensures logs { IfSome result (λ _. Logs [] (D.state self.old.disk) (D.state self.new.disk)) }
+        ensures missed { result ≡ None → D.state self.new.disk ≡ D.state self.old.disk }
+        ensures kept { IsKept self.old self.new }
+    {
+        let size = self.params.sectorsize as usize;
+        if !has_whole_four(&self.ring, n, size) || !self.disk.peek(n, into) {
+            return None;
+        }
+        self.disk.count_reads(4);
+        Some(four_accepted(&self.ring, 512 * n, into))
     }
 
     /// Writes device sector `n`, which has a unit of a logical sector. It is refused only where the device failed; a write

@@ -1,7 +1,8 @@
 //! Device sectors of a GELI provider with authentication (geli(8), "DATA AUTHENTICATION"; g_eli_integrity.c).
 //!
-//! A piece is the part of a logical sector that stands in one device sector: a tag, the cipher text of the piece's plain
-//! bytes, and zeros, all under the keys of the device sector's own byte offset. No call fails for want of memory.
+//! A piece is the part of a logical sector that stands in one device sector: a tag, the cipher text of the piece's
+//! plain bytes, and zeros, all under the keys of the device sector's own byte offset. No call fails for want of
+//! memory.
 #![tactic(auto)]
 
 ghost use Rattle.std.specs.Prelude.{◌≡◌, ◌≢◌, ◌+◌, ◌*◌, ◌%◌, ◌^◌, ◌<◌, ◌≤◌, Ok, Err, MatchResult, is_ok, length, map, replicate};
@@ -122,8 +123,8 @@ pub fn open_piece(
     Ok(())
 }
 
-/// Whether a piece of `size` plain bytes is accepted, from its device sector, which stands at this byte offset of the device:
-/// whether the tag is that of its cipher text. Nothing is deciphered.
+/// Whether a piece of `size` plain bytes is accepted, from its device sector, which stands at this byte offset of the
+/// device: whether the tag is that of its cipher text. Nothing is deciphered.
 pub fn piece_accepted(ring: &KeyRing, offset: u64, size: usize, from: &Sector) -> bool
     requires on { ring.now.keying.auth ≢ Auth.Off }
     requires at_most { size ≤ unit_bytes_of ring.now.keying.auth }
@@ -134,8 +135,8 @@ pub fn piece_accepted(ring: &KeyRing, offset: u64, size: usize, from: &Sector) -
     has_tag(ring, from, &computed)
 }
 
-/// Which of four whole pieces are accepted, each from the device sector behind that of the one before it. The first stands at
-/// this byte offset of the device. Nothing is deciphered.
+/// Which of four whole pieces are accepted, each from the device sector behind that of the one before it. The first
+/// stands at this byte offset of the device. Nothing is deciphered.
 pub fn four_accepted(ring: &KeyRing, offset: u64, from: &[u8; 2048]) -> [bool; 4]
     requires on { ring.now.keying.auth ≢ Auth.Off }
     requires place { offset + 1536 < 2 ^ 64 }
@@ -161,10 +162,11 @@ pub fn four_accepted(ring: &KeyRing, offset: u64, from: &[u8; 2048]) -> [bool; 4
     ]
 }
 
-/// Opens four whole pieces from their device sectors, each behind the one before it. The first stands at this byte offset
-/// of the device.
+/// Opens four whole pieces from their device sectors, each behind the one before it. The first stands at this byte
+/// offset of the device.
 ///
-/// A fault is answered exactly where a tag differs: the byte offset of the first piece whose tag does. `out` is then as it was.
+/// A fault is answered exactly where a tag differs: the byte offset of the first piece whose tag does. `out` is then
+/// as it was.
 pub fn open_four(
     ring: &mut KeyRing,
     offset: u64,

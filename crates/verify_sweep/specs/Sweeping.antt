@@ -52,8 +52,8 @@ pub record Lists (ns : List ℕ) (bad now : ℕ) (before after : List ℕ) : Typ
   pub now_is : now ≡ bad + length ns
   pub listed : after ≡ take (8 * bad) before ++ le64s ns ++ drop (8 * now) before
 
--- so many device sectors from number n on were read once, nothing was logged, and the offsets of those that fail were put behind
--- those that were listed before
+-- so many device sectors from number n on were read once, nothing was logged, and the offsets of those that fail were
+-- put behind those that were listed before
 pub record Looks (k : Keying) (n count bad now : ℕ) (before after : List ℕ) (old new : DiskState) : Type 0 where
   pub sectors : List (List ℕ)
   pub all : length sectors ≡ count
@@ -72,12 +72,13 @@ pub record Sweep : Type 0 where
   pub start : ℕ
   pub count : ℕ
 
--- the logical sectors that it goes over: as many as are asked for, unless there are fewer, or they have more than 16,384 units
+-- the logical sectors that it goes over: as many as are asked for, unless there are fewer, or they have more than
+-- 16,384 units
 abbrev pub sectors_swept : Sweep → ℕ
 sectors_swept s = min (min s.count (s.media - s.start)) (16384 / units s.keying)
 
--- so many device sectors from number n on were read once, nothing was logged, and those that fail are listed at the front of the
--- bytes, of which the others stay
+-- so many device sectors from number n on were read once, nothing was logged, and those that fail are listed at the
+-- front of the bytes, of which the others stay
 pub record ListsFailing (k : Keying) (n count bad : ℕ) (before after : List ℕ) (old new : DiskState) : Type 0 where
   pub sectors : List (List ℕ)
   pub all : length sectors ≡ count

@@ -22,7 +22,8 @@ pub struct Swept {
 // How many units a sweep looks at, at most.
 const MOST_UNITS: u64 = 16_384;
 
-// Puts the offset of device sector `n` behind so many others, where its unit isn't accepted. Gives how many are listed then.
+// Puts the offset of device sector `n` behind so many others, where its unit isn't accepted. Gives how many are
+// listed then.
 fn list(n: u64, accepted: bool, found: &mut [u8], bad: u32) -> u32
     requires small { n < 2 ^ 44 }
     requires few { bad < 16384 }
@@ -73,8 +74,8 @@ fn look<D: Disk>(
     Ok(list(n, accepted, found, bad))
 }
 
-// Looks at the units in four device sectors at once, the first of number `n`, where that can be done, and lists the offsets of those
-// that fail. Gives how many are listed then. Else nothing has changed.
+// Looks at the units in four device sectors at once, the first of number `n`, where that can be done, and lists the
+// offsets of those that fail. Gives how many are listed then. Else nothing has changed.
 fn look_at_four<D: Disk>(on: &mut Provider<D>, n: u64, found: &mut [u8], bad: u32) -> Option<u32>
     requires on { on.old.keying.auth ≢ Off }
     requires inside { n + 4 ≤ media on.old.keying (D.state on.old.disk) * units on.old.keying }
@@ -92,8 +93,8 @@ fn look_at_four<D: Disk>(on: &mut Provider<D>, n: u64, found: &mut [u8], bad: u3
     }
 }
 
-// Looks at the next units, of which so many are left: at four at once where that can be done, and else at one. Gives at how many,
-// and how many are listed then.
+// Looks at the next units, of which so many are left: at four at once where that can be done, and else at one. Gives
+// at how many, and how many are listed then.
 fn look_on<D: Disk>(
     on: &mut Provider<D>,
     n: u64,
@@ -122,14 +123,16 @@ fn look_on<D: Disk>(
     }
 }
 
-/// Looks at the units of logical sectors from number `start` on, and lists those whose tag isn't that of their cipher text. It
-/// goes over `count` sectors, or over fewer: no further than the last one, and over no more units than 16,384.
+/// Looks at the units of logical sectors from number `start` on, and lists those whose tag isn't that of their cipher
+/// text. It goes over `count` sectors, or over fewer: no further than the last one, and over no more units than
+/// 16,384.
 ///
-/// The listed units stand at the front of `found` in ascending order, each as eight bytes, the least significant first: its byte
-/// offset on the device. What is behind them stays. Each unit of these sectors is read once, and nothing else is done.
+/// The listed units stand at the front of `found` in ascending order, each as eight bytes, the least significant
+/// first: its byte offset on the device. What is behind them stays. Each unit of these sectors is read once, and
+/// nothing else is done.
 ///
-/// It is refused only where the device failed: then no more units were read than these, nothing else was done, and `found` may hold
-/// any bytes.
+/// It is refused only where the device failed: then no more units were read than these, nothing else was done, and
+/// `found` may hold any bytes.
 pub fn sweep<D: Disk>(
     on: &mut Provider<D>,
     start: u64,

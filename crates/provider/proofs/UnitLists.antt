@@ -1,5 +1,5 @@
 -- Logical sectors with authentication, piece by piece.
-use Rattle.std.proofs.Common.{◌≡◌, ◌≢◌, ℕ, zero, suc, ◌+◌, ◌-◌, ◌*◌, ◌%◌, ◌<◌, ◌≤◌, min, true, false, List, [], ◌∷◌, ◌++◌, length, get_or, take, drop, Option, Some, None, IfSome, Result, Ok, Err, IsOk, is_ok, OnErr, map, subst, refl, sym, ap, ◌∙◌, arith, add-one}
+use Rattle.std.proofs.Common.{◌≡◌, ◌≢◌, ℕ, zero, suc, ◌+◌, ◌-◌, ◌*◌, ◌%◌, ◌<◌, ◌≤◌, min, List, [], ◌∷◌, ◌++◌, length, get_or, take, drop, Option, Some, None, IfSome, Result, Ok, Err, IsOk, OnErr, map, subst, refl, sym, ap, ◌∙◌, arith, add-one}
 use Rattle.std.specs.List.{concat}
 use Rattle.std.proofs.Math.Seq.{take-suc, drop-cons}
 use Rattle.std.proofs.lemmas.List.{take_all, length-take-le, length-drop, take-append-drop}
@@ -18,7 +18,7 @@ use Rattle.eli_base.specs.Units.{unit_bytes_of, units_per_sector}
 use Rattle.eli_base.proofs.Units.{units_reach}
 use Rattle.sealing.specs.Pieces.{opened_piece}
 use Rattle.sealing.specs.Runs.{opened_run}
-use Rattle.sealing.specs.Sectors.{before, joined, opened_with, piece_reading, piece_size, units}
+use Rattle.sealing.specs.Sectors.{before, joined, opened_with, units}
 use Rattle.sealing.proofs.Pieces.{unit_reading-tagged, length-unit_readings-tagged}
 use Rattle.provider.specs.Reading.{standing, sector_reading, units_read}
 use Rattle.provider.specs.Reads.{AreAccepted, PieceAnswers, SectorAnswers}

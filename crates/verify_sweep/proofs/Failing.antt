@@ -1,16 +1,16 @@
 -- Which units are listed.
-use Rattle.std.proofs.Common.{◌≡◌, ◌≢◌, ◌↔◌, ◌⊎◌, inl, inr, ℕ, zero, suc, ◌+◌, ◌*◌, ◌<◌, ◌≤◌, Bool, true, false, cond, List, [], ◌∷◌, ◌++◌, length, get_or, Result, Ok, Err, is_ok, Contains, refl, sym, ap, subst, ◌∙◌, arith, add-zero}
+use Rattle.std.proofs.Common.{◌≡◌, ◌≢◌, ◌↔◌, inl, inr, ℕ, zero, suc, ◌+◌, ◌*◌, ◌<◌, ◌≤◌, true, List, [], ◌∷◌, ◌++◌, length, get_or, Result, Ok, Err, is_ok, Contains, refl, sym, ap, subst, ◌∙◌, arith, add-zero}
 use Rattle.std.specs.List.Sorted.{IsStrictlyIncreasing}
 use Rattle.std.proofs.lemmas.List.{get_or_default, same_lists}
 use Rattle.std.proofs.lemmas.List.Elements.{Contains-append_cases, Contains-append_right, Contains-push_cases}
-use Rattle.block_traits.specs.Content.{Content, present}
+use Rattle.block_traits.specs.Content.{Content}
 use Rattle.eli_base.specs.declared.algorithms.Auth.TheVariants.{Off}
 use Rattle.eli_base.specs.Keying.{Keying}
 use Rattle.provider.specs.Reading.{standing, units_read}
 use Rattle.sealing.specs.Sectors.{piece_reading, unit_readings, units}
 use Rattle.sealing.proofs.Pieces.{length-unit_readings-tagged, unit_reading-piece}
 use Rattle.verify_sweep.specs.Parts.{units_read_from}
-use Rattle.verify_sweep.specs.Sweeping.{Fails, failing_units, faults_in, pieces_read}
+use Rattle.verify_sweep.specs.Sweeping.{Fails, failing_units, pieces_read}
 use Rattle.verify_sweep.proofs.Listing.{failing-of, length-standing, pieces_read-append, standing-append}
 
 -- ---- an offset is listed exactly where the unit there fails

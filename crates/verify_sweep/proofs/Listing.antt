@@ -12,7 +12,7 @@ use Rattle.block_traits.specs.Causes.{Counted}
 use Rattle.block_traits.specs.Parts.{parts}
 use Rattle.block_traits.specs.declared.disk.DiskFailed.{DiskFailed}
 use Rattle.block_traits.proofs.Causes.{Counted-then}
-use Rattle.block_traits.proofs.Logs.{Logs-nothing, Logs-then, content-Logs}
+use Rattle.block_traits.proofs.Logs.{Logs-then, content-Logs}
 use Rattle.eli_base.specs.Keying.{Keying}
 use Rattle.eli_base.specs.Units.{media_sectors}
 use Rattle.provider.specs.Reading.{StandFrom, standing, units_accepted}

@@ -1,4 +1,4 @@
-use Rattle.std.proofs.Common.{◌≡◌, ℕ, ◌+◌, List, Result, ◌∷◌, [], get_or, length, is_ok, map, ap, ◌∙◌, sym, arith}
+use Rattle.std.proofs.Common.{◌≡◌, ℕ, ◌+◌, List, Result, ◌∷◌, [], get_or, is_ok, map, ap, ◌∙◌, sym, arith}
 use Rattle.eli_base.specs.declared.algorithms.Auth.{Auth}
 use Rattle.eli_base.specs.Units.{tag_bytes}
 use Rattle.auth_sectors.proofs.Openings.{code_of_whole, pieces_of_four, whole_tells}

@@ -1,4 +1,4 @@
-use Rattle.std.proofs.Common.{◌+◌, ◌≤◌, [], ◌∷◌, false, get_or, arith}
+use Rattle.std.proofs.Common.{◌+◌, [], ◌∷◌, false, get_or, arith}
 use Rattle.verify_sweep.proofs.Listing.{Lists-next, Lists-nothing, refused_few}
 use Rattle.verify_sweep.proofs.sweeping.list_four.Goals as goal
 

@@ -1,4 +1,4 @@
-use Rattle.std.proofs.Common.{◌≡◌, ◌+◌, ◌<◌, ◌^◌, is_ok, sym, subst, ap, ◌∙◌, arith}
+use Rattle.std.proofs.Common.{◌+◌, is_ok, sym, subst, ap, ◌∙◌, arith}
 use Rattle.eli_base.specs.Keying.{Keying}
 use Rattle.provider.specs.Attached.{Attached}
 use Rattle.sealing.specs.Sectors.{piece_reading}

@@ -1,4 +1,4 @@
-use Rattle.std.proofs.Common.{◌+◌, ◌≤◌, ◌^◌, arith}
+use Rattle.std.proofs.Common.{◌+◌, arith}
 use Rattle.verify_sweep.proofs.Listing.{Looks-four, unit_small}
 use Rattle.verify_sweep.proofs.sweeping.look_at_four.Goals as goal
 

@@ -1,4 +1,4 @@
-use Rattle.std.proofs.Common.{◌≡◌, List, refl, ◌∙◌}
+use Rattle.std.proofs.Common.{◌≡◌, refl, ◌∙◌}
 use Rattle.block_traits.specs.Parts.{parts}
 use Rattle.provider.specs.Reading.{units_accepted}
 use Rattle.provider.proofs.Fours.{four_accepted_so}

@@ -1,5 +1,5 @@
 -- Whole pieces that are opened, each behind the one before it.
-use Rattle.std.proofs.Common.{◌≡◌, ℕ, ◌+◌, ◌-◌, List, [], ◌∷◌, ◌++◌, length, take, drop, Bool, cond, true, false, Result, Ok, Err, IsTrue, ◌↔◌, bytes_eq, refl, sym, ap, ◌∙◌, arith, append-nil}
+use Rattle.std.proofs.Common.{◌≡◌, ℕ, ◌+◌, ◌-◌, List, [], ◌∷◌, ◌++◌, length, take, drop, Bool, cond, true, false, Result, Ok, Err, IsTrue, ◌↔◌, bytes_eq, is_ok, refl, sym, ap, ◌∙◌, arith, append-nil}
 use Rattle.std.proofs.lemmas.Bool.{cond-true, cond-false}
 use Rattle.std.proofs.lemmas.Slice.Eq.{bytes_eq-Decides}
 use Rattle.std.proofs.lemmas.List.{length-take-le, length-drop, take_all}
@@ -12,6 +12,7 @@ use Rattle.sealing.specs.Runs.{opened_run}
 use Rattle.sealing.specs.Pieces.{cipher_text_in, kept_tag, opened_piece, tag_of}
 use Rattle.sealing.specs.Sectors.{joined}
 use Rattle.sealing.proofs.Keys.{length-hmac_of}
+use Rattle.sealing.proofs.Pieces.{opened_piece-good}
 use Rattle.auth_sectors.specs.Tags.{padded}
 use Rattle.auth_sectors.specs.Wholes.{opened_pieces}
 use Rattle.auth_sectors.proofs.Pieces.{same_front}
@@ -58,12 +59,12 @@ reads_right k offset sector code same long is tells right =
     ∙ cond-true (bytes_eq (kept_tag k sector) tag) (Ok (opened_run k offset text)) (Err offset) good
 
 -- what four device sectors read as, cut one after the other
-pub reading_of_four : (k : Keying) (offset : ℕ) (from a b c d behind rest : List ℕ) → length from ≡ 2048 → a ≡ take 512 from → behind ≡ drop 512 from → b ≡ take 512 behind
+pub pieces_of_four : (k : Keying) (offset : ℕ) (from a b c d behind rest : List ℕ) → length from ≡ 2048 → a ≡ take 512 from → behind ≡ drop 512 from → b ≡ take 512 behind
     → rest ≡ drop 512 behind → c ≡ take 512 rest → d ≡ drop 512 rest
-    → joined (opened_pieces k offset (parts 512 4 from))
-    ≡ joined (opened_piece k offset (unit_bytes_of k.auth) a ∷ opened_piece k (offset + 512) (unit_bytes_of k.auth) b ∷ opened_piece k (offset + 1024) (unit_bytes_of k.auth) c
-    ∷ opened_piece k (offset + 1536) (unit_bytes_of k.auth) d ∷ [])
-reading_of_four k offset from a b c d behind rest long ea eb b_is er c_is d_is =
+    → opened_pieces k offset (parts 512 4 from)
+    ≡ opened_piece k offset (unit_bytes_of k.auth) a ∷ opened_piece k (offset + 512) (unit_bytes_of k.auth) b ∷ opened_piece k (offset + 1024) (unit_bytes_of k.auth) c
+    ∷ opened_piece k (offset + 1536) (unit_bytes_of k.auth) d ∷ []
+pieces_of_four k offset from a b c d behind rest long ea eb b_is er c_is d_is =
     let u : ℕ = unit_bytes_of k.auth in
     let rest_is : rest ≡ drop 512 (drop 512 from) = er ∙ ap (drop 512) eb in
     let fourth : take 512 (drop 512 rest) ≡ d = take_all 512 (drop 512 rest) (omega (arith, length-drop 512 rest, ap (λ (l : List ℕ). length l) rest_is, length-drop 512 (drop 512 from), length-drop 512 from)) ∙ sym d_is in
@@ -72,7 +73,37 @@ reading_of_four k offset from a b c d behind rest long ea eb b_is er c_is d_is =
     let second : take 512 (drop 512 from) ≡ b = ap (take 512) (sym eb) ∙ sym b_is in
     let third : take 512 (drop 512 (drop 512 from)) ≡ c = ap (take 512) (sym rest_is) ∙ sym c_is in
     let last : take 512 (drop 512 (drop 512 (drop 512 from))) ≡ d = ap (λ (l : List ℕ). take 512 (drop 512 l)) (sym rest_is) ∙ fourth in
-    λ i. joined (opened_piece k offset u (sym ea i) ∷ opened_piece k (offset + 512) u (second i) ∷ opened_piece k (third_at i) u (third i) ∷ opened_piece k (fourth_at i) u (last i) ∷ [])
+    λ i. opened_piece k offset u (sym ea i) ∷ opened_piece k (offset + 512) u (second i) ∷ opened_piece k (third_at i) u (third i) ∷ opened_piece k (fourth_at i) u (last i) ∷ []
+
+pub reading_of_four : (k : Keying) (offset : ℕ) (from a b c d behind rest : List ℕ) → length from ≡ 2048 → a ≡ take 512 from → behind ≡ drop 512 from → b ≡ take 512 behind
+    → rest ≡ drop 512 behind → c ≡ take 512 rest → d ≡ drop 512 rest
+    → joined (opened_pieces k offset (parts 512 4 from))
+    ≡ joined (opened_piece k offset (unit_bytes_of k.auth) a ∷ opened_piece k (offset + 512) (unit_bytes_of k.auth) b ∷ opened_piece k (offset + 1024) (unit_bytes_of k.auth) c
+    ∷ opened_piece k (offset + 1536) (unit_bytes_of k.auth) d ∷ [])
+reading_of_four k offset from a b c d behind rest long ea eb b_is er c_is d_is = ap joined (pieces_of_four k offset from a b c d behind rest long ea eb b_is er c_is d_is)
+
+-- ---- what is told by the tag alone
+
+-- whether a device sector has the tag that was computed of its cipher text is whether it reads as bytes
+pub tag_tells : (k : Keying) (offset size : ℕ) (sector code : List ℕ) (same : Bool) → length sector ≡ 512 → code ≡ padded (tag_of k offset (cipher_text_in k size sector))
+    → (IsTrue same ↔ (padded (kept_tag k sector) ≡ code)) → is_ok (opened_piece k offset size sector) ≡ same
+tag_tells k offset size sector code true long is tells =
+    let text : List ℕ = cipher_text_in k size sector in
+    let front : length (kept_tag k sector) ≡ tag_bytes k.auth = length-take-le (tag_bytes k.auth) sector (omega (arith, tag_and_unit k.auth)) in
+    let equal : kept_tag k sector ≡ tag_of k offset text = same_front (tag_bytes k.auth) (kept_tag k sector) (tag_of k offset text) front (length-hmac_of k.auth (tag_key k offset) text) (tells.0 refl ∙ is) in
+    ap (λ (r : Result (List ℕ) ℕ). is_ok r) (opened_piece-good k offset size sector text equal refl)
+tag_tells k offset size sector code false long is tells =
+    let text : List ℕ = cipher_text_in k size sector in
+    let tag : List ℕ = tag_of k offset text in
+    let differs : bytes_eq (kept_tag k sector) tag ≡ false =
+    not_true (bytes_eq (kept_tag k sector) tag) (λ equal. let true_so = tells.1 (ap padded ((bytes_eq-Decides (kept_tag k sector) tag).0 equal) ∙ sym is) in absurd cc) in
+    ap (λ (r : Result (List ℕ) ℕ). is_ok r) (cond-false (bytes_eq (kept_tag k sector) tag) (Ok (opened_run k offset text)) (Err offset) differs)
+
+-- the same of a whole piece, whose cipher text is all that stands behind the tag
+pub whole_tells : (k : Keying) (offset : ℕ) (sector code : List ℕ) (same : Bool) → length sector ≡ 512 → code ≡ padded (tag_of k offset (drop (tag_bytes k.auth) sector))
+    → (IsTrue same ↔ (padded (kept_tag k sector) ≡ code)) → is_ok (opened_piece k offset (unit_bytes_of k.auth) sector) ≡ same
+whole_tells k offset sector code same long is tells =
+    tag_tells k offset (unit_bytes_of k.auth) sector code same long (is ∙ ap (λ (t : List ℕ). padded (tag_of k offset t)) (sym (whole_text k sector long))) tells
 
 -- ---- the first fault among four
 

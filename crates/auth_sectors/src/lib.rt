@@ -1,10 +1,11 @@
 //! Device sectors of a GELI provider with authentication (geli(8), "DATA AUTHENTICATION"; g_eli_integrity.c).
 //!
-//! A piece is the part of a logical sector that stands in one device sector: a tag, the cipher text of the piece's plain
-//! bytes, and zeros, all under the keys of the device sector's own byte offset. No call fails for want of memory.
+//! A piece is the part of a logical sector that stands in one device sector: a tag, the cipher text of the piece's
+//! plain bytes, and zeros, all under the keys of the device sector's own byte offset. No call fails for want of
+//! memory.
 #![tactic(auto)]
 
-ghost use Rattle.std.specs.Prelude.{◌≡◌, ◌≢◌, ◌+◌, ◌*◌, ◌%◌, ◌^◌, ◌<◌, ◌≤◌, Ok, Err, MatchResult, length, replicate};
+ghost use Rattle.std.specs.Prelude.{◌≡◌, ◌≢◌, ◌+◌, ◌*◌, ◌%◌, ◌^◌, ◌<◌, ◌≤◌, Ok, Err, MatchResult, is_ok, length, map, replicate};
 ghost use Rattle.block_traits.specs.Parts.{parts};
 ghost use Rattle.eli_base.specs.Units.{unit_bytes_of};
 ghost use Rattle.sealing.specs.Pieces.{opened_piece, sealed_piece};
@@ -122,10 +123,50 @@ pub fn open_piece(
     Ok(())
 }
 
-/// Opens four whole pieces from their device sectors, each behind the one before it. The first stands at this byte offset
-/// of the device.
+/// Whether a piece of `size` plain bytes is accepted, from its device sector, which stands at this byte offset of the
+/// device: whether the tag is that of its cipher text. Nothing is deciphered.
+pub fn piece_accepted(ring: &KeyRing, offset: u64, size: usize, from: &Sector) -> bool
+    requires on { ring.now.keying.auth ≢ Auth.Off }
+    requires at_most { size ≤ unit_bytes_of ring.now.keying.auth }
+    ensures { result ≡ is_ok (opened_piece ring.now.keying offset size from.now) }
+{
+    let tag = ring.auth().tag_bytes();
+    let computed = tag_of(ring, offset, &from[tag..tag + size]);
+    has_tag(ring, from, &computed)
+}
+
+/// Which of four whole pieces are accepted, each from the device sector behind that of the one before it. The first
+/// stands at this byte offset of the device. Nothing is deciphered.
+pub fn four_accepted(ring: &KeyRing, offset: u64, from: &[u8; 2048]) -> [bool; 4]
+    requires on { ring.now.keying.auth ≢ Auth.Off }
+    requires place { offset + 1536 < 2 ^ 64 }
+    ensures { result ≡ map is_ok (opened_pieces ring.now.keying offset (parts 512 4 from.now)) }
+{
+    let size = ring.auth().tag_bytes();
+    let (first, rest) = from.split_at(512);
+    let (second, rest) = rest.split_at(512);
+    let (third, fourth) = rest.split_at(512);
+    let tags = tags_of_four(
+        ring,
+        offset,
+        &first[size..],
+        &second[size..],
+        &third[size..],
+        &fourth[size..],
+    );
+    [
+        has_tag(ring, first, &tags[0]),
+        has_tag(ring, second, &tags[1]),
+        has_tag(ring, third, &tags[2]),
+        has_tag(ring, fourth, &tags[3]),
+    ]
+}
+
+/// Opens four whole pieces from their device sectors, each behind the one before it. The first stands at this byte
+/// offset of the device.
 ///
-/// A fault is answered exactly where a tag differs: the byte offset of the first piece whose tag does. `out` is then as it was.
+/// A fault is answered exactly where a tag differs: the byte offset of the first piece whose tag does. `out` is then
+/// as it was.
 pub fn open_four(
     ring: &mut KeyRing,
     offset: u64,

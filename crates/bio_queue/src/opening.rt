@@ -32,7 +32,8 @@ pub fn seal_all<D: Disk>(
     }
 }
 
-// Opens `count` logical sectors from their device sectors into the front of `into`. After a refusal `into` may hold any bytes.
+// Opens `count` logical sectors from their device sectors into the front of `into`. After a refusal `into` may hold
+// any bytes.
 pub fn open_all<D: Disk>(
     on: &mut Provider<D>,
     sector: u64,

@@ -10,7 +10,7 @@ ghost use Rattle.bio_queue.specs.Requests.{AscendsFrom, request_with};
 use crate::request::OpenRequest;
 use crate::{Job, ReapFault, Reaped, StepFault, SubmitFault};
 use block_traits::{Disk, NoMemory};
-use provider::Provider;
+use provider::{OutOfRange, Provider};
 use std::alloc::Global;
 use std::marker::Model;
 
@@ -68,9 +68,10 @@ impl Queue {
         let _ = self.requests.len();
     }
 
-    /// Whether an open request has this tag and is one of this provider: the provider, as it is now, would make it of its
-    /// job, in its sectors, with as many units, for no more bytes than a request may have. Where it is, the conditions of
-    /// `step` and `reap` hold. A queue that began empty and served this provider alone has no other requests.
+    /// Whether an open request has this tag and is one of this provider: the provider, as it is now, would make it of
+    /// its job, in its sectors, with as many units, for no more bytes than a request may have. Where it is, the
+    /// conditions of `step` and `reap` hold. A queue that began empty and served this provider alone has no other
+    /// requests.
     pub fn has_request<D: Disk>(&self, on: &Provider<D>, tag: u8) -> bool
         ensures { IsTrue result ↔ IsServed on.now.keying (media on.now.keying (D.state on.now.disk)) tag self.now }
     {
@@ -80,11 +81,12 @@ impl Queue {
         }
     }
 
-    /// Opens a request for a job, and answers the least tag that isn't in use. A write is sealed here, from its plain bytes
-    /// `from`. No call of the disk is made, and the provider is as before.
+    /// Opens a request for a job, and answers the least tag that isn't in use. A write is sealed here, from its plain
+    /// bytes `from`. No call of the disk is made, and the provider is as before.
     ///
-    /// In this order: `ReadOnly`, exactly where the provider is only read and the job is a write; `OutOfRange`, exactly where the job
-    /// passes the end; `QueueFull`, exactly where 32 requests are open; `NoMemory`. After a refusal the queue is as before.
+    /// In this order: `ReadOnly`, exactly where the provider is only read and the job is a write; `OutOfRange`,
+    /// exactly where the job passes the end; `QueueFull`, exactly where 32 requests are open; `NoMemory`. After a
+    /// refusal the queue is as before.
     pub fn submit<D: Disk>(
         &mut self,
         on: &mut Provider<D>,
@@ -108,12 +110,12 @@ impl Queue {
         Ok(place as u8)
     }
 
-    /// Does the next unit of the request with this tag, in ascending order of device sectors, or its one flush, and answers how many
-    /// units are left.
+    /// Does the next unit of the request with this tag, in ascending order of device sectors, or its one flush, and
+    /// answers how many units are left.
     ///
-    /// In this order: `NoRequest`, exactly where no request has the tag; `AllDone`, exactly where no unit is left; and then the
-    /// queue and the provider are as before. `DeviceFault`, only where the device failed: the unit isn't done, and what it would
-    /// have written or flushed may be done or not.
+    /// In this order: `NoRequest`, exactly where no request has the tag; `AllDone`, exactly where no unit is left;
+    /// and then the queue and the provider are as before. `DeviceFault`, only where the device failed: the unit isn't
+    /// done, and what it would have written or flushed may be done or not.
     pub fn step<D: Disk>(&mut self, on: &mut Provider<D>, tag: u8) -> Result<u64, StepFault>
         requires { IfSome (request_with tag self.old) (CanStep on.old.keying (D.state on.old.disk)) }
         ensures answer { StepAnswers tag self.old self.new (D.state on.old.disk) (D.state on.new.disk) result }
@@ -133,12 +135,13 @@ impl Queue {
         Ok(request.left())
     }
 
-    /// Takes out the request with this tag, whose units are all done. The bytes of a read are put to the front of `into`. No
-    /// call of the disk is made, and the provider is as before.
+    /// Takes out the request with this tag, whose units are all done. The bytes of a read are put to the front of
+    /// `into`. No call of the disk is made, and the provider is as before.
     ///
-    /// In this order: `NoRequest`, exactly where no request has the tag; `NotDone`, exactly where units are left; and then the queue
-    /// and `into` are as before. `Integrity`, exactly where the tag of a unit that was read isn't that of its cipher text, with the
-    /// byte offset of the first one; the request is then taken out too, and `into` is all zeros.
+    /// In this order: `NoRequest`, exactly where no request has the tag; `NotDone`, exactly where units are left; and
+    /// then the queue and `into` are as before. `Integrity`, exactly where the tag of a unit that was read isn't that
+    /// of its cipher text, with the byte offset of the first one; the request is then taken out too, and `into` is
+    /// all zeros.
     pub fn reap<D: Disk>(
         &mut self,
         on: &mut Provider<D>,
@@ -173,16 +176,20 @@ fn check_range<D: Disk>(on: &Provider<D>, sector: u64, count: u32) -> Result<(),
     ensures { let there = media on.now.keying (D.state on.now.disk) in
         MatchResult result (λ _. sector + count ≤ there) (λ fault. (there < sector + count) × (fault ≡ SubmitFault.OutOfRange sector count there)) }
 {
-    let media = on.sectors();
-    let count = u64::from(count);
-    if count > media || sector > media - count {
-        return Err(SubmitFault::OutOfRange {
+    match on.check_range(sector, u64::from(count)) {
+        Ok(()) => Ok(()),
+        Err(
+            OutOfRange {
+                sector,
+                count,
+                media,
+            },
+        ) => Err(SubmitFault::OutOfRange {
             sector,
             count,
             media,
-        });
+        }),
     }
-    Ok(())
 }
 
 // Refuses a job that the provider doesn't take.

@@ -16,8 +16,8 @@ use std::marker::Model;
 
 /// A request that is open.
 ///
-/// Contracts see its tag, what was asked, how many of its units are done, how many it has, and the device sectors of a write, or those
-/// of a read that were read so far.
+/// Contracts see its tag, what was asked, how many of its units are done, how many it has, and the device sectors of
+/// a write, or those of a read that were read so far.
 #[derive(Drop)]
 pub struct OpenRequest {
     tag: u8,
@@ -201,8 +201,8 @@ impl OpenRequest {
         Ok(())
     }
 
-    /// What the request gives, whose units are all done: the bytes of a read, at the front of `into`. After a refusal `into` may
-    /// hold any bytes.
+    /// What the request gives, whose units are all done: the bytes of a read, at the front of `into`. After a refusal
+    /// `into` may hold any bytes.
     pub fn give<D: Disk>(&self, on: &mut Provider<D>, into: &mut [u8]) -> Result<Reaped, BadUnit>
         requires room { request_limit ≤ length into.old }
         requires none { left_of self.now ≡ 0 }

@@ -1,6 +1,7 @@
 -- Whole units of a logical sector, four at a time.
-use Rattle.std.proofs.Common.{◌≡◌, ◌≢◌, ℕ, zero, suc, ◌+◌, ◌-◌, ◌*◌, ◌/◌, ◌<◌, ◌≤◌, min, List, [], ◌∷◌, ◌++◌, length, get_or, take, take-add, drop, Result, Ok, Err, refl, sym, ap, ◌∙◌, arith, add-one}
-use Rattle.std.proofs.Math.Nat.{mul-le-mul_right}
+use Rattle.std.proofs.Common.{◌≡◌, ◌≢◌, ℕ, zero, suc, ◌+◌, ◌-◌, ◌*◌, ◌/◌, ◌%◌, ◌<◌, ◌≤◌, min, Bool, is_ok, map, List, [], ◌∷◌, ◌++◌, length, get_or, take, take-add, drop, Result, Ok, Err, refl, sym, ap, ◌∙◌, arith, add-one}
+use Rattle.std.proofs.Math.Nat.{div-add-mod, div-mul-le_self, mul-le-mul_right}
+use Rattle.std.proofs.lemmas.Nat.{mod-mul-add}
 use Rattle.std.proofs.Math.Seq.{drop-cons}
 use Rattle.std.proofs.lemmas.List.{take-append-drop, take-take, drop-take, drop-drop}
 use Rattle.std.proofs.lemmas.Slice.{take-put_mid}
@@ -13,9 +14,10 @@ use Rattle.eli_base.specs.declared.algorithms.Auth.TheVariants.{Off, Sha256, Sha
 use Rattle.eli_base.specs.Keying.{Keying}
 use Rattle.eli_base.specs.Units.{unit_bytes_of, units_per_sector}
 use Rattle.sealing.specs.Pieces.{opened_piece, sealed_piece}
-use Rattle.sealing.specs.Sectors.{device_sectors, joined, seal, unit_readings, units}
+use Rattle.sealing.specs.Sectors.{device_sectors, joined, piece_reading, piece_size, seal, unit_readings, unit_size, units}
 use Rattle.sealing.proofs.Pieces.{length-unit_readings-tagged, sealed_unit-tagged, unit_reading-tagged}
 use Rattle.sealing.proofs.Sectors.{length-seal}
+use Rattle.provider.specs.Reading.{HasWholeFour, units_accepted}
 use Rattle.provider.proofs.Adjoining.{joined-behind, joined-both, joined-front}
 use Rattle.provider.proofs.Cuts.{parts-front, parts-put-some}
 use Rattle.provider.proofs.InMemory.{counted}
@@ -194,3 +196,33 @@ group_faulty k now sector i n width offset device out sealed front on same fits 
     ap joined (sym (take-append-drop (4 * i) readings)
     ∙ ap (λ (l : List (Result (List ℕ) ℕ)). take (4 * i) readings ++ l) (group_opened k now sector i n width device sealed on same fits at wide is))
     ∙ joined-behind (take (4 * i) readings) (pieces ++ drop (4 * (i + 1)) readings) front offset so (joined-front pieces (drop (4 * (i + 1)) readings) offset opened)
+
+-- ---- which are accepted
+
+accepted_pieces : (k : Keying) (sector j n : ℕ) (sectors : List (List ℕ)) → n ≡ sector * units k + j → unit_bytes_of k.auth * (j + length sectors) ≤ k.sectorsize
+    → map (λ (r : Result (List ℕ) ℕ). is_ok r) (opened_pieces k (512 * n) sectors) ≡ units_accepted k n sectors
+accepted_pieces k sector j n [] at fits = refl
+accepted_pieces k sector j n (bytes ∷ sectors) at fits =
+    let u : ℕ = unit_bytes_of k.auth in
+    let within = wholes_within k.auth k.sectorsize (j + suc (length sectors)) fits in
+    let lt : j < units k = omega (arith, within) in
+    let which : n % units k ≡ j = ap (λ (m : ℕ). m % units k) at ∙ mod-mul-add sector (units k) j lt in
+    let wide : min u (k.sectorsize - u * j) ≡ u = omega (arith, fits) in
+    let size : piece_size k n ≡ u = ap (unit_size k) which ∙ wide in
+    let after : 512 * n + 512 ≡ 512 * (n + 1) = omega arith in
+    let number : n + 1 ≡ sector * units k + (j + 1) = omega (arith, at) in
+    let next : u * (j + 1 + length sectors) ≤ k.sectorsize = omega (arith, fits) in
+    (λ i. is_ok (opened_piece k (512 * n) (sym size i) bytes) ∷ map (λ (r : Result (List ℕ) ℕ). is_ok r) (opened_pieces k (after i) sectors))
+    ∙ ap (λ (l : List Bool). is_ok (piece_reading k n bytes) ∷ l) (accepted_pieces k sector (j + 1) (n + 1) sectors number next)
+
+-- four that have whole units of one logical sector
+pub four_accepted_so : (k : Keying) (n : ℕ) (sectors : List (List ℕ)) → HasWholeFour k n → length sectors ≡ 4
+    → map (λ (r : Result (List ℕ) ℕ). is_ok r) (opened_pieces k (512 * n) sectors) ≡ units_accepted k n sectors
+four_accepted_so k n sectors whole four =
+    let u : ℕ = unit_bytes_of k.auth in
+    let j : ℕ = n % units k in
+    let room : (j + 4) * u ≤ k.sectorsize / u * u = mul-le-mul_right u whole in
+    let all : k.sectorsize / u * u ≤ k.sectorsize = div-mul-le_self k.sectorsize u in
+    let fits : u * (j + length sectors) ≤ k.sectorsize = let turned : u * (j + length sectors) ≡ (j + 4) * u = (let same : u * (j + 4) ≡ (j + 4) * u = omega arith in ap (λ (m : ℕ). u * (j + m)) four ∙ same) in omega (arith, turned, room, all) in
+    let at : n ≡ n / units k * units k + j = omega (arith, div-add-mod n (units k)) in
+    accepted_pieces k (n / units k) j n sectors at fits

@@ -16,7 +16,7 @@ use Rattle.provider.proofs.Ranges.{units-off}
 use Rattle.provider.proofs.Sealed.{sector_reading-is}
 
 -- some of the device sectors that were looked at
-StandFrom-each : (told : Option Content) (first m count : ℕ) (bytes : List ℕ) → GivesEachFrom told first bytes → m + count ≤ length bytes / 512
+pub StandFrom-each : (told : Option Content) (first m count : ℕ) (bytes : List ℕ) → GivesEachFrom told first bytes → m + count ≤ length bytes / 512
     → StandFrom told (first + m) count (parts 512 count (drop (512 * m) bytes))
 StandFrom-each None first m count bytes each fits = tt
 StandFrom-each (Some c) first m zero bytes each fits = refl

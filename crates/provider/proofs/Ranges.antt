@@ -1,5 +1,5 @@
 -- Where logical sectors stand on the disk.
-use Rattle.std.proofs.Common.{◌≡◌, ◌↔◌, ℕ, ◌+◌, ◌-◌, ◌*◌, ◌/◌, ◌%◌, ◌^◌, ◌<◌, ◌≤◌, Bool, true, false, IsTrue, sym, ap, ◌∙◌, arith}
+use Rattle.std.proofs.Common.{◌≡◌, ℕ, ◌+◌, ◌-◌, ◌*◌, ◌/◌, ◌%◌, ◌^◌, ◌<◌, ◌≤◌, sym, ap, ◌∙◌, arith}
 use Rattle.std.proofs.Math.Nat.{mul-le-mul_right, mul-le-mul_left, div-mul-le_self, mul-one}
 use Rattle.eli_base.specs.declared.algorithms.Auth.{Auth}
 use Rattle.eli_base.specs.declared.algorithms.Auth.TheVariants.{Off}
@@ -33,17 +33,12 @@ offset_small sector size units disk same inside small =
     let at : sector * size ≡ sector * (512 * units) = ap (λ (s : ℕ). sector * s) same in
     omega (arith, at)
 
-not_below : (m n : ℕ) → ¬ (m < n) → n ≤ m
-not_below m n none = omega arith
-
 -- a request that doesn't pass the end lies within the disk
-pub request_inside : (k : Keying) (sector count media size : ℕ) (passes : Bool) → media ≡ media_sectors k.auth k.sectorsize (512 * size) → (IsTrue passes ↔ (media < sector + count))
-    → passes ≡ false → (sector + count) * units k ≤ size
-request_inside k sector count media size true is iff none = absurd cc
-request_inside k sector count media size false is iff none =
+pub request_inside : (k : Keying) (sector count size : ℕ) → sector + count ≤ media_sectors k.auth k.sectorsize (512 * size) → (sector + count) * units k ≤ size
+request_inside k sector count size fits =
     let all : ℕ = 512 * size - 512 in
     let bytes : ℕ = 512 * units k in
-    let fits : sector + count ≤ media = not_below media (sector + count) (λ more. let wrong = iff.1 more in absurd cc) in
+    let media : ℕ = all / bytes in
     let within : (sector + count) * bytes ≤ media * bytes = mul-le-mul_right bytes fits in
-    let whole : media * bytes ≤ all = rw is (div-mul-le_self all bytes) in
+    let whole : media * bytes ≤ all = div-mul-le_self all bytes in
     omega (arith, within, whole)

@@ -1,5 +1,5 @@
 -- Logical sectors with authentication, piece by piece.
-use Rattle.std.proofs.Common.{◌≡◌, ◌≢◌, ℕ, zero, suc, ◌+◌, ◌-◌, ◌*◌, ◌%◌, ◌<◌, ◌≤◌, min, true, false, List, [], ◌∷◌, ◌++◌, length, get_or, take, drop, Option, Some, None, IfSome, Result, Ok, Err, IsOk, is_ok, OnErr, map, subst, refl, sym, ap, ◌∙◌, arith, add-one}
+use Rattle.std.proofs.Common.{◌≡◌, ◌≢◌, ℕ, zero, suc, ◌+◌, ◌-◌, ◌*◌, ◌%◌, ◌<◌, ◌≤◌, min, List, [], ◌∷◌, ◌++◌, length, get_or, take, drop, Option, Some, None, IfSome, Result, Ok, Err, IsOk, OnErr, map, subst, refl, sym, ap, ◌∙◌, arith, add-one}
 use Rattle.std.specs.List.{concat}
 use Rattle.std.proofs.Math.Seq.{take-suc, drop-cons}
 use Rattle.std.proofs.lemmas.List.{take_all, length-take-le, length-drop, take-append-drop}
@@ -18,7 +18,7 @@ use Rattle.eli_base.specs.Units.{unit_bytes_of, units_per_sector}
 use Rattle.eli_base.proofs.Units.{units_reach}
 use Rattle.sealing.specs.Pieces.{opened_piece}
 use Rattle.sealing.specs.Runs.{opened_run}
-use Rattle.sealing.specs.Sectors.{before, joined, opened_with, piece_reading, piece_size, units}
+use Rattle.sealing.specs.Sectors.{before, joined, opened_with, units}
 use Rattle.sealing.proofs.Pieces.{unit_reading-tagged, length-unit_readings-tagged}
 use Rattle.provider.specs.Reading.{standing, sector_reading, units_read}
 use Rattle.provider.specs.Reads.{AreAccepted, PieceAnswers, SectorAnswers}
@@ -66,19 +66,6 @@ is_unit_at auth size width j start end low whole lt wide s e =
 
 pub length-between : (start end : ℕ) (bytes : List ℕ) → start ≤ end → end ≤ length bytes → length (take (end - start) (drop start bytes)) ≡ end - start
 length-between start end bytes order within = length-take-le (end - start) (drop start bytes) (omega (arith, length-drop start bytes))
-
--- a piece that was opened is accepted, and another isn't
-pub accepts : (k : Keying) (n size start : ℕ) (buffer from bytes : List ℕ) → start ≤ length buffer → size ≡ start → start ≡ piece_size k n
-    → opened_piece k (512 * n) (length (take size buffer)) from ≡ Ok bytes → true ≡ is_ok (piece_reading k n from)
-accepts k n size start buffer from bytes room same is h =
-    let long : length (take size buffer) ≡ piece_size k n = length-take-le size buffer (omega arith) ∙ same ∙ is in
-    sym (ap (λ (r : Result (List ℕ) ℕ). is_ok r) (sym (ap (λ (m : ℕ). opened_piece k (512 * n) m from) long) ∙ h))
-
-pub refuses : (k : Keying) (n size start : ℕ) (buffer from : List ℕ) (offset : ℕ) → start ≤ length buffer → size ≡ start → start ≡ piece_size k n
-    → opened_piece k (512 * n) (length (take size buffer)) from ≡ Err offset → false ≡ is_ok (piece_reading k n from)
-refuses k n size start buffer from offset room same is h =
-    let long : length (take size buffer) ≡ piece_size k n = length-take-le size buffer (omega arith) ∙ same ∙ is in
-    sym (ap (λ (r : Result (List ℕ) ℕ). is_ok r) (sym (ap (λ (m : ℕ). opened_piece k (512 * n) m from) long) ∙ h))
 
 -- ---- reading
 

@@ -1,7 +1,8 @@
--- What reading a piece, a logical sector, or some of them came to, each answer with its cause. Units are read in order, and each
--- is looked at before the next one is read: so a fault is that of the first unit that has one, and where a call of the disk
--- failed, every unit before the one that was to be read was accepted. A read leaves no event, but the disk counts it: the unit
--- with a fault, and the one whose read failed, is that of the last read, and none behind it was read.
+-- What reading a piece, a logical sector, or some of them came to, each answer with its cause. Units are read in
+-- order, and each is looked at before the next one is read: so a fault is that of the first unit that has one, and
+-- where a call of the disk failed, every unit before the one that was to be read was accepted. A read leaves no
+-- event, but the disk counts it: the unit with a fault, and the one whose read failed, is that of the last read, and
+-- none behind it was read.
 use Rattle.std.specs.Prelude.{◌≡◌, ◌≢◌, ℕ, ◌+◌, ◌*◌, ◌<◌, List, [], take, Result, Ok, Err, IfSome, IsOk}
 use Rattle.block_traits.specs.Causes.{Counted}
 use Rattle.block_traits.specs.Content.{Content, present}
@@ -44,8 +45,8 @@ PieceAnswers k n size old new bytes (Err (OutOfRange sector count media)) = ⊥
 abbrev pub AreAccepted : Keying → Content → ℕ → ℕ → Type 0
 AreAccepted k c sector count = IsOk (joined (take count (units_read k c sector)))
 
--- there is authentication, this unit is the first of the logical sector whose tag differs, it was the last to be read, and
--- nothing was logged
+-- there is authentication, this unit is the first of the logical sector whose tag differs, it was the last to be
+-- read, and nothing was logged
 pub record SectorFault (k : Keying) (sector offset : ℕ) (old new : DiskState) : Type 0 where
   pub tagged : k.auth ≢ Off
   pub unit : ℕ
@@ -55,8 +56,8 @@ pub record SectorFault (k : Keying) (sector offset : ℕ) (old new : DiskState) 
   pub logs : Logs [] old new
   pub reads : IfSome old.content (λ c. sector_reading k c sector ≡ Err offset)
 
--- the device failed where this unit was to be read, all units before it were accepted, none behind it was read, and nothing
--- was logged
+-- the device failed where this unit was to be read, all units before it were accepted, none behind it was read, and
+-- nothing was logged
 pub record SectorFails (k : Keying) (sector : ℕ) (old new : DiskState) : Type 0 where
   pub unit : ℕ
   pub within : unit < units k
@@ -72,8 +73,8 @@ SectorAnswers k sector old new bytes (Err (OutOfRange first count media)) = ⊥
 
 -- ---- some logical sectors
 
--- there is authentication, a unit of the logical sector behind so many is the first of them all whose tag differs, at this byte offset
--- of the device, it was the last to be read, and nothing was logged
+-- there is authentication, a unit of the logical sector behind so many is the first of them all whose tag differs, at
+-- this byte offset of the device, it was the last to be read, and nothing was logged
 pub record RunFault (k : Keying) (sector count offset : ℕ) (old new : DiskState) : Type 0 where
   pub tagged : k.auth ≢ Off
   pub passed : ℕ
@@ -85,8 +86,8 @@ pub record RunFault (k : Keying) (sector count offset : ℕ) (old new : DiskStat
   pub logs : Logs [] old new
   pub reads : ReadsAs old k sector count (Err offset)
 
--- the device failed where a unit of the logical sector behind so many was to be read, all units before it were accepted, none
--- behind it was read, and nothing was logged
+-- the device failed where a unit of the logical sector behind so many was to be read, all units before it were
+-- accepted, none behind it was read, and nothing was logged
 pub record RunFails (k : Keying) (sector count : ℕ) (old new : DiskState) : Type 0 where
   pub passed : ℕ
   pub unit : ℕ
@@ -96,7 +97,8 @@ pub record RunFails (k : Keying) (sector count : ℕ) (old new : DiskState) : Ty
   pub asked : Counted (passed * units k + unit + 1) old.reads new.reads
   pub fails : FailsIn [] old new
 
--- what reading so many logical sectors answers: the bytes of all, each unit of which was read once, or the first fault among them
+-- what reading so many logical sectors answers: the bytes of all, each unit of which was read once, or the first
+-- fault among them
 abbrev pub RunAnswers : Keying → ℕ → ℕ → DiskState → DiskState → List ℕ → Result (Unit {0}) ReadFault → Type 0
 RunAnswers k sector count old new bytes (Ok done) = Counted (count * units k) old.reads new.reads × Logs [] old new × ReadsAs old k sector count (Ok bytes)
 RunAnswers k sector count old new bytes (Err (Integrity offset)) = RunFault k sector count offset old new

@@ -15,6 +15,18 @@ pub enum AttachFault {
     NoMemory,
 }
 
+/// That a request passes the end: its first sector, how many sectors it asks for, and how many there are.
+#[derive(Clone, Copy, Debug, PartialEq, Eq, Error)]
+#[error("sectors from {sector} on, {count} of them, pass the end at {media}")]
+pub struct OutOfRange {
+    /// The first sector.
+    pub sector: u64,
+    /// How many are asked for.
+    pub count: u64,
+    /// How many there are.
+    pub media: u64,
+}
+
 /// Why logical sectors weren't read.
 #[derive(Clone, Copy, Debug, PartialEq, Eq, Error)]
 pub enum ReadFault {

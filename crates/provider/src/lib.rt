@@ -14,6 +14,6 @@ mod sectors;
 mod units;
 
 pub use attaching::opened;
-pub use faults::{AttachFault, BadUnit, ReadFault, WriteFault};
+pub use faults::{AttachFault, BadUnit, OutOfRange, ReadFault, WriteFault};
 pub use laws::rest_tells_all;
 pub use provider::Provider;

@@ -1,12 +1,13 @@
 // Logical sectors with authentication that are read unit by unit.
-ghost use Rattle.std.specs.Prelude.{◌≡◌, ◌≢◌, ◌+◌, ◌*◌, ◌^◌, ◌<◌, ◌≤◌, ◌%◌, min, is_ok, length};
+ghost use Rattle.std.specs.Prelude.{◌≡◌, ◌≢◌, ◌+◌, ◌*◌, ◌^◌, ◌<◌, ◌≤◌, ◌%◌, ◌↔◌, IsTrue, min, is_ok, length};
 ghost use Rattle.eli_base.specs.declared.algorithms.Auth.TheVariants.{Off};
 ghost use Rattle.eli_base.specs.Units.{unit_bytes_of};
 ghost use Rattle.sealing.specs.Sectors.{piece_reading, units};
+ghost use Rattle.provider.specs.Reading.{HasWholeFour};
 ghost use Rattle.provider.specs.Reads.{PieceAnswers, SectorAnswers};
 
 use crate::ReadFault;
-use auth_sectors::open_piece;
+use auth_sectors::{open_piece, piece_accepted};
 use block_traits::{Disk, Sector};
 use range_keys::KeyRing;
 
@@ -49,23 +50,30 @@ fn read_piece<D: Disk>(
 }
 
 /// Whether these bytes are accepted as the piece in device sector `n`, of logical sectors of `size` bytes.
-pub fn piece_ok(ring: &mut KeyRing, n: u64, size: usize, from: &Sector) -> bool
-    requires on { ring.old.keying.auth ≢ Off }
-    requires size { size ≡ ring.old.keying.sectorsize }
+pub fn piece_ok(ring: &KeyRing, n: u64, size: usize, from: &Sector) -> bool
+    requires on { ring.now.keying.auth ≢ Off }
+    requires size { size ≡ ring.now.keying.sectorsize }
     requires small { n < 2 ^ 44 }
-    ensures answer { result ≡ is_ok (piece_reading ring.old.keying n from.now) }
-    ensures keying { ring.new.keying ≡ ring.old.keying }
+    ensures { result ≡ is_ok (piece_reading ring.now.keying n from.now) }
 {
     ring.is_of_a_keying();
     let width = ring.auth().data_bytes();
     let units = (size - 1) / width + 1;
     let start = (n % units as u64) as usize * width;
     let end = unit_end(size, start, width);
-    let mut piece: Sector = [0; 512];
-    match open_piece(ring, 512 * n, from, &mut piece[..end - start]) {
-        Ok(()) => true,
-        Err(_) => false,
-    }
+    piece_accepted(ring, 512 * n, end - start, from)
+}
+
+/// Whether four device sectors, the first of number `n`, have whole units of one logical sector of `size` bytes.
+pub fn has_whole_four(ring: &KeyRing, n: u64, size: usize) -> bool
+    requires on { ring.now.keying.auth ≢ Off }
+    requires size { size ≡ ring.now.keying.sectorsize }
+    ensures { IsTrue result ↔ HasWholeFour ring.now.keying n }
+{
+    ring.is_of_a_keying();
+    let width = ring.auth().data_bytes();
+    let units = (size - 1) / width + 1;
+    (n % units as u64) as usize + 4 <= size / width
 }
 
 /// Reads one logical sector.

@@ -1,21 +1,24 @@
 // A disk that is read and written under a keying.
-ghost use Rattle.std.specs.Prelude.{◌≡◌, ◌≢◌, ℕ, ◌+◌, ◌*◌, ◌/◌, ◌%◌, ◌<◌, ◌≤◌, ◌↔◌, ◌∷◌, [], List, IsTrue, OnOk, OnErr, Ok, Err, MatchResult, is_ok, length, replicate};
+ghost use Rattle.std.specs.Prelude.{◌≡◌, ◌≢◌, ℕ, ◌+◌, ◌*◌, ◌/◌, ◌%◌, ◌<◌, ◌≤◌, ◌↔◌, ◌∷◌, [], List, IsTrue, OnOk, OnErr, None, Ok, Err, IfSome, MatchResult, is_ok, length, replicate};
 ghost use Rattle.std.specs.List.{concat};
 ghost use Rattle.block_traits.specs.Causes.{Counted};
-ghost use Rattle.block_traits.specs.Disk.{DiskState, FailsIn, Gives, Logs};
+ghost use Rattle.block_traits.specs.Disk.{DiskState, FailsIn, Gives, GivesEach, Logs};
+ghost use Rattle.block_traits.specs.Parts.{parts};
 ghost use Rattle.eli_base.specs.Units.{media_sectors};
 ghost use Rattle.eli_metadata.specs.Checks.{settings_of, size_matches, slot_matches, supported};
 ghost use Rattle.provider.specs.Answers.{AttachAnswers, Means, ReadAnswers, Target, WriteAnswers, request};
 ghost use Rattle.provider.specs.Attached.{IsKept, has_tags, media};
+ghost use Rattle.provider.specs.Reading.{units_accepted};
 ghost use Rattle.provider.specs.Rest.{rest_of};
 ghost use Rattle.range_keys.specs.Ring.{IsKeying};
 ghost use Rattle.sealing.specs.Sectors.{device_sectors, piece_reading, reading, seal, units};
 
 use crate::attaching::{opened, reserve};
-use crate::pieces::piece_ok;
+use crate::pieces::{has_whole_four, piece_ok};
 use crate::runs::{read_run, write_run};
 use crate::sectors::{open_sector, seal_sector};
-use crate::{AttachFault, BadUnit, ReadFault, WriteFault};
+use crate::{AttachFault, BadUnit, OutOfRange, ReadFault, WriteFault};
+use auth_sectors::four_accepted;
 use block_traits::{Disk, DiskFailed, Event, MetaPlace, Sector, load_last, store_last};
 use eli_base::{Auth, Cipher, Geometry, MasterKey, Params};
 use eli_metadata::Metadata;
@@ -31,13 +34,6 @@ fn media_on<D: Disk>(disk: &D, auth: Auth, sectorsize: u32) -> u64
 {
     let units = (u64::from(sectorsize) - 1) / auth.data_bytes() as u64 + 1;
     (512 * disk.sectors()).saturating_sub(512) / (512 * units)
-}
-
-// Whether a request passes the end.
-fn passes_end(sector: u64, count: u64, media: u64) -> bool
-    ensures { IsTrue result ↔ (media < sector + count) }
-{
-    count > media || sector > media - count
 }
 
 /// An attached provider, which has its disk.
@@ -74,10 +70,10 @@ impl<D: Disk> Provider<D> {
     ///
     /// `params` are those that `check` gave of the metadata, and both gates let this disk and this slot through.
     ///
-    /// The disk comes back with the fault. In this order: `TooSmall`, exactly where the disk has no whole logical sector;
-    /// `WrongKey`, exactly where no slot that is asked for opens; `NoMemory`. No call of the disk is made. The memory that
-    /// later calls can't do without is reserved here: the keys, and a buffer for the device
-    /// sectors of some logical sectors.
+    /// The disk comes back with the fault. In this order: `TooSmall`, exactly where the disk has no whole logical
+    /// sector; `WrongKey`, exactly where no slot that is asked for opens; `NoMemory`. No call of the disk is made.
+    /// The memory that later calls can't do without is reserved here: the keys, and a buffer for the device sectors
+    /// of some logical sectors.
     pub fn attach(
         alloc: Global,
         disk: D,
@@ -130,6 +126,23 @@ impl<D: Disk> Provider<D> {
         ensures { result ≡ media self.now.keying (D.state self.now.disk) }
     {
         media_on(&self.disk, self.params.auth, self.params.sectorsize)
+    }
+
+    /// Whether so many logical sectors from number `sector` on are there.
+    pub fn check_range(&self, sector: u64, count: u64) -> Result<(), OutOfRange>
+        ensures { let there = media self.now.keying (D.state self.now.disk) in
+            MatchResult result (λ _. sector + count ≤ there)
+            (λ past. (there < sector + count) × (past ≡ record { sector = sector; count = count; media = there })) }
+    {
+        let media = self.sectors();
+        if count > media || sector > media - count {
+            return Err(OutOfRange {
+                sector,
+                count,
+                media,
+            });
+        }
+        Ok(())
     }
 
     /// How many device sectors a logical sector takes.
@@ -189,10 +202,11 @@ impl<D: Disk> Provider<D> {
     /// Reads logical sectors from number `sector` on into `into`, whose length is a positive multiple of the sector
     /// size.
     ///
-    /// `OutOfRange` comes exactly where the request passes the end, and then no call of the disk is made. Then each unit is read
-    /// and opened before the next one is read, and the first fault ends the request: `DeviceFault` comes only where the device
-    /// failed and all units before were accepted, and `Integrity` exactly where a unit is the first whose tag isn't that of its
-    /// cipher text, at the unit's byte offset on the device. After a refusal `into` is all zeros.
+    /// `OutOfRange` comes exactly where the request passes the end, and then no call of the disk is made. Then each
+    /// unit is read and opened before the next one is read, and the first fault ends the request: `DeviceFault` comes
+    /// only where the device failed and all units before were accepted, and `Integrity` exactly where a unit is the
+    /// first whose tag isn't that of its cipher text, at the unit's byte offset on the device. After a refusal `into`
+    /// is all zeros.
     pub fn read(&mut self, sector: u64, into: &mut [u8]) -> Result<(), ReadFault>
         requires some { 0 < length into.old }
         requires whole { length into.old % self.old.keying.sectorsize ≡ 0 }
@@ -214,15 +228,22 @@ impl<D: Disk> Provider<D> {
         ensures answer { ReadAnswers D.state (request D.state self.old sector into.old) into.new self.old self.new result }
         ensures kept { IsKept self.old self.new }
     {
-        let media = self.sectors();
         let size = self.params.sectorsize as usize;
-        let count = (into.len() / size) as u64;
-        if passes_end(sector, count, media) {
-            return Err(ReadFault::OutOfRange {
-                sector,
-                count,
-                media,
-            });
+        match self.check_range(sector, (into.len() / size) as u64) {
+            Ok(()) => {}
+            Err(
+                OutOfRange {
+                    sector,
+                    count,
+                    media,
+                },
+            ) => {
+                return Err(ReadFault::OutOfRange {
+                    sector,
+                    count,
+                    media,
+                });
+            }
         }
         let buffer = &mut self.buffer;
         read_run(&mut self.ring, &mut self.disk, sector, size, into, buffer)
@@ -237,13 +258,13 @@ impl<D: Disk> Provider<D> {
         self.disk.count_reads(many);
     }
 
-    /// Writes logical sectors from number `sector` on, whose plain bytes are `from`; its length is a positive multiple of
-    /// the sector size.
+    /// Writes logical sectors from number `sector` on, whose plain bytes are `from`; its length is a positive
+    /// multiple of the sector size.
     ///
-    /// In this order: `ReadOnly`, exactly where the provider is only read; `OutOfRange`, exactly where the request passes
-    /// the end; and then no call of the disk is made. `DeviceFault` comes only where the device failed. The device
-    /// sectors of the sealed bytes are written in ascending order, up to the first that fails. Nothing is read. The provider stays
-    /// attached.
+    /// In this order: `ReadOnly`, exactly where the provider is only read; `OutOfRange`, exactly where the request
+    /// passes the end; and then no call of the disk is made. `DeviceFault` comes only where the device failed. The
+    /// device sectors of the sealed bytes are written in ascending order, up to the first that fails. Nothing is
+    /// read. The provider stays attached.
     pub fn write(&mut self, sector: u64, from: &[u8]) -> Result<(), WriteFault>
         requires some { 0 < length from.now }
         requires whole { length from.now % self.old.keying.sectorsize ≡ 0 }
@@ -254,15 +275,22 @@ impl<D: Disk> Provider<D> {
         if self.readonly {
             return Err(WriteFault::ReadOnly);
         }
-        let media = self.sectors();
         let size = self.params.sectorsize as usize;
-        let count = (from.len() / size) as u64;
-        if passes_end(sector, count, media) {
-            return Err(WriteFault::OutOfRange {
-                sector,
-                count,
-                media,
-            });
+        match self.check_range(sector, (from.len() / size) as u64) {
+            Ok(()) => {}
+            Err(
+                OutOfRange {
+                    sector,
+                    count,
+                    media,
+                },
+            ) => {
+                return Err(WriteFault::OutOfRange {
+                    sector,
+                    count,
+                    media,
+                });
+            }
         }
         let buffer = &mut self.buffer;
         if write_run(&mut self.ring, &mut self.disk, sector, size, from, buffer).is_err() {
@@ -281,8 +309,8 @@ impl<D: Disk> Provider<D> {
         self.disk.flush()
     }
 
-    /// Seals the plain bytes of a logical sector into `out`, its device sectors one after the other. No call of the disk is
-    /// made.
+    /// Seals the plain bytes of a logical sector into `out`, its device sectors one after the other. No call of the
+    /// disk is made.
     pub fn seal_into(&mut self, sector: u64, plain: &[u8], out: &mut [u8])
         requires inside { sector < media self.old.keying (D.state self.old.disk) }
         requires plain { length plain.now ≡ self.old.keying.sectorsize }
@@ -294,11 +322,11 @@ impl<D: Disk> Provider<D> {
         seal_sector(&mut self.ring, sector, plain, out);
     }
 
-    /// Opens a logical sector into `out` from the bytes of its device sectors, one after the other. No call of the disk is
-    /// made.
+    /// Opens a logical sector into `out` from the bytes of its device sectors, one after the other. No call of the
+    /// disk is made.
     ///
-    /// `BadUnit` comes exactly where the tag of a unit isn't that of its cipher text, with the byte offset of the first one,
-    /// and `out` is then all zeros.
+    /// `BadUnit` comes exactly where the tag of a unit isn't that of its cipher text, with the byte offset of the
+    /// first one, and `out` is then all zeros.
     pub fn open_from(&mut self, sector: u64, device: &[u8], out: &mut [u8]) -> Result<(), BadUnit>
         requires inside { sector < media self.old.keying (D.state self.old.disk) }
         requires device { length device.now ≡ 512 * units self.old.keying }
@@ -329,8 +357,8 @@ impl<D: Disk> Provider<D> {
         self.disk.read(n, into)
     }
 
-    /// Whether these bytes are accepted as the unit in device sector `n`: whether the tag in them is that of their cipher text.
-    /// No call of the disk is made.
+    /// Whether these bytes are accepted as the unit in device sector `n`: whether the tag in them is that of their
+    /// cipher text. No call of the disk is made.
     pub fn unit_ok(&mut self, n: u64, from: &Sector) -> bool
         requires on { self.old.keying.auth ≢ Auth.Off }
         requires inside { n < media self.old.keying (D.state self.old.disk) * units self.old.keying }
@@ -338,11 +366,32 @@ impl<D: Disk> Provider<D> {
         ensures stays { self.new ≡ self.old }
     {
         let size = self.params.sectorsize as usize;
-        piece_ok(&mut self.ring, n, size, from)
+        piece_ok(&self.ring, n, size, from)
     }
 
-    /// Writes device sector `n`, which has a unit of a logical sector. It is refused only where the device failed; a write
-    /// that failed was done or wasn't.
+    /// Looks at four device sectors at once, the first of number `n`, where they have whole units of one logical
+    /// sector and the disk lets that be done: which of them are accepted, each as by `unit_ok`. Four reads are
+    /// counted. Else nothing has changed, and `into` may hold any bytes.
+    pub fn look_at_four(&mut self, n: u64, into: &mut [u8; 2048]) -> Option<[bool; 4]>
+        requires on { self.old.keying.auth ≢ Auth.Off }
+        requires inside { n + 4 ≤ media self.old.keying (D.state self.old.disk) * units self.old.keying }
+        ensures stand { IfSome result (λ _. GivesEach (D.state self.old.disk) n into.new) }
+        ensures accepted { IfSome result (λ accepted. accepted ≡ units_accepted self.old.keying n (parts 512 4 into.new)) }
+        ensures asked { IfSome result (λ _. Counted 4 (D.state self.old.disk).reads (D.state self.new.disk).reads) }
+        ensures logs { IfSome result (λ _. Logs [] (D.state self.old.disk) (D.state self.new.disk)) }
+        ensures missed { result ≡ None → D.state self.new.disk ≡ D.state self.old.disk }
+        ensures kept { IsKept self.old self.new }
+    {
+        let size = self.params.sectorsize as usize;
+        if !has_whole_four(&self.ring, n, size) || !self.disk.peek(n, into) {
+            return None;
+        }
+        self.disk.count_reads(4);
+        Some(four_accepted(&self.ring, 512 * n, into))
+    }
+
+    /// Writes device sector `n`, which has a unit of a logical sector. It is refused only where the device failed; a
+    /// write that failed was done or wasn't.
     pub fn put_unit(&mut self, n: u64, from: &Sector) -> Result<(), DiskFailed>
         requires { n < media self.old.keying (D.state self.old.disk) * units self.old.keying }
         ensures ok { OnOk result (Logs (Event.Write n from.now ∷ []) (D.state self.old.disk) (D.state self.new.disk)) }

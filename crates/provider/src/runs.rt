@@ -79,8 +79,9 @@ fn open_each(ring: &mut KeyRing, sector: u64, size: usize, into: &mut [u8])
     }
 }
 
-// Looks at logical sectors of `size` bytes all at once, the first of number `sector`, where there is no authentication, and opens
-// them. Where the look says nothing, `into` may hold any bytes, and nothing else has changed.
+// Looks at logical sectors of `size` bytes all at once, the first of number `sector`, where there is no
+// authentication, and opens them. Where the look says nothing, `into` may hold any bytes, and nothing else has
+// changed.
 fn look_run<D: Disk>(
     ring: &mut KeyRing,
     disk: &mut D,
@@ -132,8 +133,9 @@ fn read_each<D: Disk>(
     Ok(())
 }
 
-// Looks at the device sectors of logical sectors of `size` bytes all at once, the first of number `sector`, and opens them. Where the
-// look says nothing or a tag differs, `into` and `device` may hold any bytes, and nothing else has changed.
+// Looks at the device sectors of logical sectors of `size` bytes all at once, the first of number `sector`, and opens
+// them. Where the look says nothing or a tag differs, `into` and `device` may hold any bytes, and nothing else has
+// changed.
 fn look_batch<D: Disk>(
     ring: &mut KeyRing,
     disk: &mut D,
@@ -164,8 +166,8 @@ fn look_batch<D: Disk>(
     true
 }
 
-// Reads logical sectors of `size` bytes, the first of number `sector`. They are looked at in `buffer`, which has room for the device
-// sectors of them all; where that says nothing, or a tag differs, they are read unit by unit.
+// Reads logical sectors of `size` bytes, the first of number `sector`. They are looked at in `buffer`, which has room
+// for the device sectors of them all; where that says nothing, or a tag differs, they are read unit by unit.
 fn read_batch<D: Disk>(
     ring: &mut KeyRing,
     disk: &mut D,
@@ -190,7 +192,8 @@ fn read_batch<D: Disk>(
     read_each(ring, disk, sector, size, into)
 }
 
-// Reads logical sectors of `size` bytes, the first of number `sector`, as many at a time as `buffer` has room for: one at least.
+// Reads logical sectors of `size` bytes, the first of number `sector`, as many at a time as `buffer` has room for:
+// one at least.
 fn read_batches<D: Disk>(
     ring: &mut KeyRing,
     disk: &mut D,
@@ -221,8 +224,9 @@ fn read_batches<D: Disk>(
     Ok(())
 }
 
-// Reads logical sectors of `size` bytes, the first of number `sector`. Without authentication the disk is looked at for them all at
-// once, and they are opened in place; with it, for as many as `buffer` has room for. What a look doesn't give is read unit by unit.
+// Reads logical sectors of `size` bytes, the first of number `sector`. Without authentication the disk is looked at
+// for them all at once, and they are opened in place; with it, for as many as `buffer` has room for. What a look
+// doesn't give is read unit by unit.
 pub fn read_run<D: Disk>(
     ring: &mut KeyRing,
     disk: &mut D,
@@ -247,8 +251,8 @@ pub fn read_run<D: Disk>(
     read_each(ring, disk, sector, size, into)
 }
 
-// Writes logical sectors of `size` bytes by one write of the disk, the first to number `sector`. They are sealed in `buffer`, which
-// has room for them all.
+// Writes logical sectors of `size` bytes by one write of the disk, the first to number `sector`. They are sealed in
+// `buffer`, which has room for them all.
 fn write_batch<D: Disk>(
     ring: &mut KeyRing,
     disk: &mut D,
@@ -273,8 +277,8 @@ fn write_batch<D: Disk>(
     disk.write_sectors(sector * units as u64, sealed)
 }
 
-// Writes logical sectors of `size` bytes in ascending order, the first to number `sector`. As many as `buffer` has room for are
-// sealed there and go by one write of the disk; it has room for one at least.
+// Writes logical sectors of `size` bytes in ascending order, the first to number `sector`. As many as `buffer` has
+// room for are sealed there and go by one write of the disk; it has room for one at least.
 pub fn write_run<D: Disk>(
     ring: &mut KeyRing,
     disk: &mut D,

@@ -114,8 +114,8 @@ pub fn seal_sector(ring: &mut KeyRing, sector: u64, plain: &[u8], out: &mut [u8]
     seal_whole(ring, sector, plain, out)
 }
 
-/// Seals logical sectors of `size` bytes one after the other, the first of number `sector`, each into as many device sectors as it
-/// takes.
+/// Seals logical sectors of `size` bytes one after the other, the first of number `sector`, each into as many device
+/// sectors as it takes.
 pub fn seal_sectors(ring: &mut KeyRing, sector: u64, size: usize, plain: &[u8], out: &mut [u8])
     requires size { size ≡ ring.old.keying.sectorsize }
     requires whole { length plain.now % size ≡ 0 }
@@ -267,8 +267,8 @@ pub fn open_sector(
     Ok(())
 }
 
-/// Opens logical sectors of `size` bytes from their device sectors, which stand one after the other, the first sector of number
-/// `sector`. After a refusal `out` may hold any bytes.
+/// Opens logical sectors of `size` bytes from their device sectors, which stand one after the other, the first sector
+/// of number `sector`. After a refusal `out` may hold any bytes.
 pub fn open_sectors(
     ring: &mut KeyRing,
     sector: u64,

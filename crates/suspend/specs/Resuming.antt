@@ -30,14 +30,14 @@ pub record OpensAnother (t : Target) (by : Means) (mark kept found : List ℕ) :
   pub found_is : found ≡ sha256 master
   pub differ : found ≢ kept
 
--- the provider that is attached: on the disk, under the keying of the metadata, with the master key of the slot that opens,
--- whose digest was kept
+-- the provider that is attached: on the disk, under the keying of the metadata, with the master key of the slot that
+-- opens, whose digest was kept
 pub record IsResumed {D : Type 0} (t : Target) (by : Means) (s : Suspension D) (p : Attached D) : Type 0 where
   pub attached : IsAttached t by s.disk p
   pub same : sha256 p.keying.master ≡ s.mark
 
--- why it isn't: the disk has no whole logical sector, no slot that is asked for opens, it opens to another master key, or else
--- there was no memory
+-- why it isn't: the disk has no whole logical sector, no slot that is asked for opens, it opens to another master
+-- key, or else there was no memory
 abbrev pub ResumeFails : Target → Means → List ℕ → ResumeFault → Type 0
 ResumeFails t by mark (resume.TooSmall size) = AttachFails t by (attach.TooSmall size)
 ResumeFails t by mark resume.WrongKey = AttachFails t by attach.WrongKey

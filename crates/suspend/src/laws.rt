@@ -10,8 +10,8 @@ ghost use Rattle.suspend.specs.Suspension.{Suspension};
 
 use block_traits::Disk;
 
-/// A law: a provider that was resumed has a master key that a slot of the metadata gives to the user key. It is the one whose digest was
-/// kept, or the two are a collision of SHA-256.
+/// A law: a provider that was resumed has a master key that a slot of the metadata gives to the user key. It is the
+/// one whose digest was kept, or the two are a collision of SHA-256.
 pub fn resumed_master_is_the_same_or_collides<D: Disk>()
     ensures opens { (target : Target) (by : Means) (s : Suspension D) (p : Attached D) → ResumeAnswers target by s (Ok p) →
         Opens target.meta by.key p.slot p.keying.master }

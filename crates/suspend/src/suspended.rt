@@ -25,13 +25,9 @@ fn digest_of(master: &MasterKey) -> [u8; 32]
     Sha256::digest(&master.bytes)
 }
 
-/// A suspended provider, which has its disk. It has no keys: of the master key it keeps the SHA-256.
-///
-/// Contracts see the disk, and what is kept of the provider.
-// The bound is `Drop` and not `Disk`, so that the type may be named at a boxed disk.
-#[derive(Drop)]
-pub struct Suspended<D: Drop> {
-    disk: D,
+// What is kept of a provider beside its disk.
+#[derive(Clone, Copy)]
+struct Kept {
     sectorsize: u32,
     sectors: u64,
     slot: u8,
@@ -39,73 +35,82 @@ pub struct Suspended<D: Drop> {
     mark: [u8; 32],
 }
 
+/// A suspended provider, which has its disk. It has no keys: of the master key it keeps the SHA-256.
+///
+/// Contracts see the disk, and what is kept of the provider.
+// The bound is `Drop` and not `Disk`, so that the type may be named at a boxed disk.
+#[derive(Drop)]
+pub struct Suspended<D: Drop> {
+    disk: D,
+    kept: Kept,
+}
+
 impl<D: Drop> Model for Suspended<D> {
+    ghost use Rattle.std.specs.Prelude.{◌≡◌};
     ghost use Rattle.suspend.specs.Suspension.{Suspension};
 
     ghost Value = { Suspension D };
 
-    ghost view = { λ s. record { disk = s.disk; sectorsize = s.sectorsize; sectors = s.sectors; slot = s.slot; readonly = s.readonly; mark = s.mark } };
+    ghost view = { λ s. record { disk = s.disk; sectorsize = s.kept.sectorsize; sectors = s.kept.sectors; slot = s.kept.slot; readonly = s.kept.readonly; mark = s.kept.mark } };
+
+    // It keeps these and nothing else: a field more isn't in this record.
+    ghost invariant = { λ s. s ≡ record { disk = s.disk; kept = record { sectorsize = s.kept.sectorsize; sectors = s.kept.sectors; slot = s.kept.slot; readonly = s.kept.readonly; mark = s.kept.mark } } };
 }
 
 impl<D: Disk> Suspended<D> {
-    /// Suspends a provider: its disk is flushed once, nothing is read, and its keys are let go. It is suspended either way.
+    /// Suspends a provider: its disk is flushed once, nothing is read, and its keys are let go. It is suspended
+    /// either way.
     pub fn suspend(on: Provider<D>) -> (Suspended<D>, Result<(), DiskFailed>)
         ensures kept { KeepsOf D.state on result.0 }
         ensures ok { OnOk result.1 (Logs (Event.Flush ∷ []) (D.state on.disk) (D.state result.0.disk)) }
         ensures err { OnErr result.1 (FailsIn (Event.Flush ∷ []) (D.state on.disk) (D.state result.0.disk)) }
         ensures unasked { (D.state result.0.disk).reads ≡ (D.state on.disk).reads }
     {
-        let sectorsize = on.sector_size();
-        let sectors = on.sectors();
-        let slot = on.slot();
-        let readonly = on.read_only();
-        let mark = digest_of(&on.master());
+        let kept = Kept {
+            sectorsize: on.sector_size(),
+            sectors: on.sectors(),
+            slot: on.slot(),
+            readonly: on.read_only(),
+            mark: digest_of(&on.master()),
+        };
         let mut disk = on.withdraw();
         let answer = disk.flush();
-        let suspended = Suspended {
-            disk,
-            sectorsize,
-            sectors,
-            slot,
-            readonly,
-            mark,
-        };
-        (suspended, answer)
+        (Suspended { disk, kept }, answer)
     }
 
     /// The bytes of a logical sector, as they were at suspending.
     pub fn sector_size(&self) -> u32
         ensures { result ≡ self.now.sectorsize }
     {
-        self.sectorsize
+        self.kept.sectorsize
     }
 
     /// How many logical sectors there were at suspending.
     pub fn sectors(&self) -> u64
         ensures { result ≡ self.now.sectors }
     {
-        self.sectors
+        self.kept.sectors
     }
 
     /// The number of the slot that gave the master key.
     pub fn slot(&self) -> u8
         ensures { result ≡ self.now.slot }
     {
-        self.slot
+        self.kept.slot
     }
 
     /// Whether the provider was only read.
     pub fn read_only(&self) -> bool
         ensures { result ≡ self.now.readonly }
     {
-        self.readonly
+        self.kept.readonly
     }
 
     /// The SHA-256 of the 128 bytes of the master key.
     pub fn mark(&self) -> [u8; 32]
         ensures { result ≡ self.now.mark }
     {
-        self.mark
+        self.kept.mark
     }
 
     // Whether the key opens the master key that the provider had, from these metadata; else why it isn't resumed.
@@ -130,7 +135,7 @@ impl<D: Disk> Suspended<D> {
         let Some((master, _)) = opened(meta, key, slot) else {
             return Err(ResumeFault::WrongKey);
         };
-        let kept = self.mark;
+        let kept = self.kept.mark;
         let opened = digest_of(&master);
         if opened != kept {
             return Err(ResumeFault::DifferentKey { kept, opened });
@@ -138,15 +143,15 @@ impl<D: Disk> Suspended<D> {
         Ok(())
     }
 
-    /// Attaches the provider again, by metadata of its disk: with the master key of the slot that is named, or else of the
-    /// first slot that `key` opens, which has to be the master key that it had. Its keying is that of the metadata. It is only
-    /// read where it was so or the metadata say so.
+    /// Attaches the provider again, by metadata of its disk: with the master key of the slot that is named, or else
+    /// of the first slot that `key` opens, which has to be the master key that it had. Its keying is that of the
+    /// metadata. It is only read where it was so or the metadata say so.
     ///
     /// `params` are those that `check` gave of the metadata, and both gates let this disk and this slot through.
     ///
-    /// After a refusal it is suspended as before. In this order: `TooSmall`, exactly where the disk has no whole logical
-    /// sector; `WrongKey`, exactly where no slot that is asked for opens; `DifferentKey`, exactly where the SHA-256 of the
-    /// master key that opened isn't the one that was kept; `NoMemory`. No call of the disk is made.
+    /// After a refusal it is suspended as before. In this order: `TooSmall`, exactly where the disk has no whole
+    /// logical sector; `WrongKey`, exactly where no slot that is asked for opens; `DifferentKey`, exactly where the
+    /// SHA-256 of the master key that opened isn't the one that was kept; `NoMemory`. No call of the disk is made.
     pub fn resume(
         self,
         alloc: Global,
@@ -165,27 +170,10 @@ impl<D: Disk> Suspended<D> {
         if let Err(fault) = self.admit(meta, params, key, slot) {
             return Err((self, fault));
         }
-        let Suspended {
-            disk,
-            sectorsize,
-            sectors,
-            slot: gave,
-            readonly,
-            mark,
-        } = self;
-        match Provider::attach(alloc, disk, meta, params, key, slot, readonly) {
+        let Suspended { disk, kept } = self;
+        match Provider::attach(alloc, disk, meta, params, key, slot, kept.readonly) {
             Ok(provider) => Ok(provider),
-            Err((disk, fault)) => {
-                let suspended = Suspended {
-                    disk,
-                    sectorsize,
-                    sectors,
-                    slot: gave,
-                    readonly,
-                    mark,
-                };
-                Err((suspended, ResumeFault::from(fault)))
-            }
+            Err((disk, fault)) => Err((Suspended { disk, kept }, ResumeFault::from(fault))),
         }
     }
 

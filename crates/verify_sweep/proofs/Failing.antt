@@ -1,37 +1,23 @@
 -- Which units are listed.
-use Rattle.std.proofs.Common.{◌≡◌, ◌≢◌, ◌↔◌, ◌⊎◌, inl, inr, ℕ, zero, suc, ◌+◌, ◌*◌, ◌<◌, ◌≤◌, Bool, true, false, cond, List, [], ◌∷◌, ◌++◌, length, get_or, Result, Ok, Err, is_ok, Contains, refl, sym, ap, subst, ◌∙◌, arith, add-zero}
+use Rattle.std.proofs.Common.{◌≡◌, ◌≢◌, ◌↔◌, inl, inr, ℕ, zero, suc, ◌+◌, ◌*◌, ◌<◌, ◌≤◌, true, List, [], ◌∷◌, ◌++◌, length, get_or, Result, Ok, Err, is_ok, Contains, refl, sym, ap, subst, ◌∙◌, arith, add-zero}
 use Rattle.std.specs.List.Sorted.{IsStrictlyIncreasing}
 use Rattle.std.proofs.lemmas.List.{get_or_default, same_lists}
 use Rattle.std.proofs.lemmas.List.Elements.{Contains-append_cases, Contains-append_right, Contains-push_cases}
-use Rattle.block_traits.specs.Content.{Content, present}
+use Rattle.block_traits.specs.Content.{Content}
 use Rattle.eli_base.specs.declared.algorithms.Auth.TheVariants.{Off}
 use Rattle.eli_base.specs.Keying.{Keying}
 use Rattle.provider.specs.Reading.{standing, units_read}
 use Rattle.sealing.specs.Sectors.{piece_reading, unit_readings, units}
 use Rattle.sealing.proofs.Pieces.{length-unit_readings-tagged, unit_reading-piece}
 use Rattle.verify_sweep.specs.Parts.{units_read_from}
-use Rattle.verify_sweep.specs.Sweeping.{Fails, failing_units, faults_in, pieces_read}
-use Rattle.verify_sweep.proofs.Listing.{pieces_read-append}
+use Rattle.verify_sweep.specs.Sweeping.{Fails, failing_units, pieces_read}
+use Rattle.verify_sweep.proofs.Listing.{failing-of, length-standing, pieces_read-append, standing-append}
 
--- ---- one device sector: it is accepted, or it fails at its own byte offset
-
--- what is listed of a device sector and of those behind it
-faults-of : (test : Bool) (bytes : List ℕ) (offset : ℕ) (readings : List (Result (List ℕ) ℕ)) →
-    let r : Result (List ℕ) ℕ = cond test (Ok bytes) (Err offset) in
-    ((is_ok r ≡ true) × (faults_in (r ∷ readings) ≡ faults_in readings)) ⊎ ((r ≡ Err offset) × (faults_in (r ∷ readings) ≡ offset ∷ faults_in readings))
-faults-of true bytes offset readings = inl (refl, refl)
-faults-of false bytes offset readings = inr (refl, refl)
-
-failing-of : (k : Keying) (n : ℕ) (sector : List ℕ) (sectors : List (List ℕ)) →
-    ((is_ok (piece_reading k n sector) ≡ true) × (failing_units k n (sector ∷ sectors) ≡ failing_units k (n + 1) sectors))
-    ⊎ ((piece_reading k n sector ≡ Err (512 * n)) × (failing_units k n (sector ∷ sectors) ≡ 512 * n ∷ failing_units k (n + 1) sectors))
-failing-of k n sector sectors = faults-of _ _ (512 * n) (pieces_read k (n + 1) sectors)
+-- ---- an offset is listed exactly where the unit there fails
 
 not_accepted : (r : Result (List ℕ) ℕ) (offset : ℕ) → is_ok r ≡ true → r ≡ Err offset → ⊥
 not_accepted (Ok bytes) offset h g = cc
 not_accepted (Err other) offset h g = cc
-
--- ---- an offset is listed exactly where the unit there fails
 
 alone : (n offset : ℕ) → Contains (n ∷ []) offset → n ≡ offset
 alone n offset h = elim (Contains-push_cases [] n offset h) [ inl none ↦ absurd (let lt = none.1 in omega arith) | inr same ↦ same ]
@@ -124,20 +110,6 @@ get_or-pieces_read k n (sector ∷ sectors) zero d lt = ap (λ (m : ℕ). piece_
 get_or-pieces_read k n (sector ∷ sectors) (suc j) d lt =
     let at : n + 1 + j ≡ n + suc j = omega arith in
     get_or-pieces_read k (n + 1) sectors j d (omega arith) ∙ ap (λ (m : ℕ). piece_reading k m (get_or sectors j [])) at
-
-length-standing : (c : Content) (n count : ℕ) → length (standing c n count) ≡ count
-length-standing c n zero = refl
-length-standing c n (suc count) = ap suc (length-standing c (n + 1) count)
-
-standing-append : (c : Content) (n count more : ℕ) → standing c n (count + more) ≡ standing c n count ++ standing c (n + count) more
-standing-append c n zero more =
-    let none : zero + more ≡ more = omega arith in
-    ap (standing c n) none ∙ ap (λ (m : ℕ). standing c m more) (sym (add-zero n))
-standing-append c n (suc count) more =
-    let all : suc count + more ≡ suc (count + more) = omega arith in
-    let at : n + 1 + count ≡ n + suc count = omega arith in
-    ap (standing c n) all
-    ∙ ap (λ (l : List (List ℕ)). present c n ∷ l) (standing-append c (n + 1) count more ∙ ap (λ (m : ℕ). standing c (n + 1) count ++ standing c m more) at)
 
 -- those of one logical sector
 of_one_sector : (k : Keying) (c : Content) (sector : ℕ) → k.auth ≢ Off → pieces_read k (sector * units k) (standing c (sector * units k) (units k)) ≡ units_read k c sector

@@ -1,23 +1,26 @@
 -- Units that are listed one after the other.
-use Rattle.std.proofs.Common.{◌≡◌, ℕ, suc, ◌+◌, ◌-◌, ◌*◌, ◌/◌, ◌^◌, ◌<◌, ◌≤◌, Bool, true, false, cond, List, [], ◌∷◌, ◌++◌, length, take, drop, Option, Some, None, Result, Ok, Err, IsErr, is_ok, refl, sym, ap, subst, ◌∙◌, arith, add-one, add-zero, append-nil, append_assoc, length-append}
+use Rattle.std.proofs.Common.{◌≡◌, ◌⊎◌, inl, inr, ℕ, zero, suc, get_or, ◌+◌, ◌-◌, ◌*◌, ◌/◌, ◌^◌, ◌<◌, ◌≤◌, Bool, true, false, cond, List, [], ◌∷◌, ◌++◌, length, take, drop, All, Option, Some, None, Result, Ok, Err, IsErr, is_ok, refl, sym, ap, subst, ◌∙◌, arith, add-one, add-zero, append-nil, append_assoc, length-append}
 use Rattle.std.proofs.Math.Nat.{div-mul-le_self, mul-le-mul_right}
-use Rattle.std.proofs.lemmas.List.{drop-drop, take-append-drop, take_at}
+use Rattle.std.proofs.Math.Seq.{take-suc}
+use Rattle.std.proofs.lemmas.List.{drop-drop, length-drop, length-take-le, take-append-drop, take_at}
 use Rattle.std.proofs.lemmas.List.Elements.{All-append, All-cons, All-nil}
 use Rattle.std.proofs.lemmas.Slice.{drop-append-drop}
 use borrow.Rule.Slice.PartMut.{put_mid}
 use Rattle.block_traits.specs.Content.{Content, IsSector, present}
-use Rattle.block_traits.specs.Disk.{DiskState, GivesFrom}
+use Rattle.block_traits.specs.Disk.{DiskState, Gives, GivesEach, GivesEachFrom, GivesFrom, Logs}
+use Rattle.block_traits.specs.Causes.{Counted}
+use Rattle.block_traits.specs.Parts.{parts}
 use Rattle.block_traits.specs.declared.disk.DiskFailed.{DiskFailed}
 use Rattle.block_traits.proofs.Causes.{Counted-then}
-use Rattle.block_traits.proofs.Logs.{Logs-nothing, Logs-then, content-Logs}
+use Rattle.block_traits.proofs.Logs.{Logs-then, content-Logs}
 use Rattle.eli_base.specs.Keying.{Keying}
 use Rattle.eli_base.specs.Units.{media_sectors}
-use Rattle.provider.specs.Reading.{StandFrom, standing}
+use Rattle.provider.specs.Reading.{StandFrom, standing, units_accepted}
 use Rattle.provider.specs.Reads.{FailsAmong}
-use Rattle.provider.proofs.Readings.{standing-suc}
+use Rattle.provider.proofs.Looks.{StandFrom-each}
 use Rattle.range_keys.specs.Keys.{le64}
 use Rattle.sealing.specs.Sectors.{piece_reading, units}
-use Rattle.verify_sweep.specs.Sweeping.{ListsFailing, Looks, Reads, Sweep, SweepAnswers, failing_units, faults_in, le64s, pieces_read, sectors_swept}
+use Rattle.verify_sweep.specs.Sweeping.{Lists, ListsFailing, Looks, Sweep, SweepAnswers, failing_units, faults_in, le64s, pieces_read, refused_at, sectors_swept}
 use Rattle.verify_sweep.specs.declared.sweeping.Swept.{Swept}
 
 -- ---- lists of units and of numbers, one behind the other
@@ -45,78 +48,201 @@ length-le64s : (ns : List ℕ) → length (le64s ns) ≡ 8 * length ns
 length-le64s [] = refl
 length-le64s (n ∷ ns) = length-append (le64 n) (le64s ns) ∙ (let all : 8 + length (le64s ns) ≡ 8 * suc (length ns) = omega (arith, length-le64s ns) in all)
 
--- ---- one unit
+-- ---- one device sector: it is accepted, or it fails at its own byte offset
 
--- whether a unit fails decides what is listed of it
-pub none_listed : (r : Result (List ℕ) ℕ) → true ≡ is_ok r → faults_in (r ∷ []) ≡ []
-none_listed (Ok bytes) h = refl
-none_listed (Err offset) h = absurd cc
+-- what is listed of a device sector and of those behind it
+faults-of : (test : Bool) (bytes : List ℕ) (offset : ℕ) (readings : List (Result (List ℕ) ℕ)) →
+    let r : Result (List ℕ) ℕ = cond test (Ok bytes) (Err offset) in
+    ((is_ok r ≡ true) × (faults_in (r ∷ readings) ≡ faults_in readings)) ⊎ ((r ≡ Err offset) × (faults_in (r ∷ readings) ≡ offset ∷ faults_in readings))
+faults-of true bytes offset readings = inl (refl, refl)
+faults-of false bytes offset readings = inr (refl, refl)
 
-one_listed : (test : Bool) (bytes : List ℕ) (offset : ℕ) → false ≡ is_ok (let r : Result (List ℕ) ℕ = cond test (Ok bytes) (Err offset) in r)
-    → faults_in ((let r : Result (List ℕ) ℕ = cond test (Ok bytes) (Err offset) in r) ∷ []) ≡ offset ∷ []
-one_listed true bytes offset h = absurd cc
-one_listed false bytes offset h = refl
+pub failing-of : (k : Keying) (n : ℕ) (sector : List ℕ) (sectors : List (List ℕ)) →
+    ((is_ok (piece_reading k n sector) ≡ true) × (failing_units k n (sector ∷ sectors) ≡ failing_units k (n + 1) sectors))
+    ⊎ ((piece_reading k n sector ≡ Err (512 * n)) × (failing_units k n (sector ∷ sectors) ≡ 512 * n ∷ failing_units k (n + 1) sectors))
+failing-of k n sector sectors = faults-of _ _ (512 * n) (pieces_read k (n + 1) sectors)
 
-pub offset_listed : (k : Keying) (n : ℕ) (bytes : List ℕ) → false ≡ is_ok (piece_reading k n bytes) → failing_units k n (bytes ∷ []) ≡ 512 * n ∷ []
-offset_listed k n bytes h = one_listed _ _ (512 * n) h
+-- ---- what is listed
+
+-- those that fail are those that aren't accepted
+failing-are : (k : Keying) (n : ℕ) (sectors : List (List ℕ)) → failing_units k n sectors ≡ refused_at n (units_accepted k n sectors)
+failing-are k n [] = refl
+failing-are k n (sector ∷ sectors) =
+    let rest = failing-are k (n + 1) sectors in
+    let more : List Bool = units_accepted k (n + 1) sectors in
+    elim (failing-of k n sector sectors) [
+      | inl fine ↦ fine.1 ∙ rest ∙ ap (λ (b : Bool). refused_at n (b ∷ more)) (sym fine.0)
+      | inr bad ↦ bad.1 ∙ ap (λ (l : List ℕ). 512 * n ∷ l) rest ∙ ap (λ (r : Result (List ℕ) ℕ). refused_at n (is_ok r ∷ more)) (sym bad.0)
+    ]
 
 -- a unit that is accepted is looked at, and nothing is listed
-pub Looks-none : (k : Keying) (n bad : ℕ) (accepted : Bool) (found : List ℕ) (old new : DiskState) → accepted ≡ true → Reads k n accepted old new → Looks k n bad bad found found old new
-Looks-none k n bad accepted found old new so read =
-    let none : failing_units k n (read.bytes ∷ []) ≡ [] = none_listed (piece_reading k n read.bytes) (sym so ∙ read.accepted_is) in
+pub Lists-none : (n bad : ℕ) (accepted : Bool) (found : List ℕ) → accepted ≡ true → Lists (refused_at n (accepted ∷ [])) bad bad found found
+Lists-none n bad accepted found so =
+    let none : refused_at n (accepted ∷ []) ≡ [] = ap (λ (b : Bool). refused_at n (b ∷ [])) so in
     let front : List ℕ = take (8 * bad) found in
     let behind : List ℕ = drop (8 * bad) found in
     record {
-      bytes = read.bytes;
-      whole = read.whole;
-      told = read.told;
       now_is = sym (add-zero bad) ∙ sym (ap (λ (l : List ℕ). bad + length l) none);
       listed = sym (take-append-drop (8 * bad) found) ∙ ap (λ (l : List ℕ). l ++ behind) (sym (append-nil front)) ∙ sym (ap (λ (l : List ℕ). front ++ le64s l ++ behind) none);
-      asked = read.asked;
-      logs = read.logs;
     }
 
 -- the offset of one that isn't is put behind the others
-pub Looks-one : (k : Keying) (n bad width : ℕ) (accepted : Bool) (found bytes : List ℕ) (old new : DiskState) → accepted ≡ false → Reads k n accepted old new → bytes ≡ le64 (512 * n) → width ≡ 8
-    → Looks k n bad (bad + 1) found (put_mid (8 * bad) width found bytes) old new
-Looks-one k n bad width accepted found bytes old new so read is wide =
-    let one : failing_units k n (read.bytes ∷ []) ≡ 512 * n ∷ [] = offset_listed k n read.bytes (sym so ∙ read.accepted_is) in
+pub Lists-one : (n bad width : ℕ) (accepted : Bool) (found bytes : List ℕ) → accepted ≡ false → bytes ≡ le64 (512 * n) → width ≡ 8
+    → Lists (refused_at n (accepted ∷ [])) bad (bad + 1) found (put_mid (8 * bad) width found bytes)
+Lists-one n bad width accepted found bytes so is wide =
+    let one : refused_at n (accepted ∷ []) ≡ 512 * n ∷ [] = ap (λ (b : Bool). refused_at n (b ∷ [])) so in
     let front : List ℕ = take (8 * bad) found in
     let behind : List ℕ = drop (8 * (bad + 1)) found in
     let place : 8 * bad + width ≡ 8 * (bad + 1) = omega arith in
     let left : drop width (drop (8 * bad) found) ≡ behind = drop-drop width (8 * bad) found ∙ ap (λ (m : ℕ). drop m found) place in
     record {
-      bytes = read.bytes;
-      whole = read.whole;
-      told = read.told;
       now_is = sym (ap (λ (l : List ℕ). bad + length l) one);
       listed = (λ i. front ++ (is i ++ left i))
           ∙ sym (append_assoc front (le64 (512 * n)) behind)
           ∙ ap (λ (l : List ℕ). front ++ l ++ behind) (sym (append-nil (le64 (512 * n))))
           ∙ sym (ap (λ (l : List ℕ). front ++ le64s l ++ behind) one);
-      asked = read.asked;
-      logs = read.logs;
     }
 
--- the offsets of units are small
-pub offset_small : (k : Keying) (n size : ℕ) → n < media_sectors k.auth k.sectorsize (512 * size) * units k → size < 2 ^ 44 → 512 * n < 2 ^ 64
-offset_small k n size below small =
+refused_at-append : (n : ℕ) (front behind : List Bool) → refused_at n (front ++ behind) ≡ refused_at n front ++ refused_at (n + length front) behind
+refused_at-append n [] behind = ap (λ (m : ℕ). refused_at m behind) (sym (add-zero n))
+refused_at-append n (true ∷ front) behind =
+    let at : n + 1 + length front ≡ n + suc (length front) = omega arith in
+    refused_at-append (n + 1) front behind ∙ ap (λ (m : ℕ). refused_at (n + 1) front ++ refused_at m behind) at
+refused_at-append n (false ∷ front) behind =
+    let at : n + 1 + length front ≡ n + suc (length front) = omega arith in
+    ap (λ (l : List ℕ). 512 * n ∷ l) (refused_at-append (n + 1) front behind ∙ ap (λ (m : ℕ). refused_at (n + 1) front ++ refused_at m behind) at)
+
+pub Lists-nothing : (n bad : ℕ) (found : List ℕ) → Lists (refused_at n []) bad bad found found
+Lists-nothing n bad found = record {
+  now_is = sym (add-zero bad);
+  listed = sym (take-append-drop (8 * bad) found) ∙ ap (λ (l : List ℕ). l ++ drop (8 * bad) found) (sym (append-nil (take (8 * bad) found)));
+}
+
+-- some, and others behind them
+Lists-then : (ns more : List ℕ) (bad now next : ℕ) (before found after : List ℕ) → 8 * bad ≤ length before → Lists ns bad now before found → Lists more now next found after
+    → Lists (ns ++ more) bad next before after
+Lists-then ns more bad now next before found after room one two =
+    let front : List ℕ = take (8 * bad) before in
+    let all : List ℕ = front ++ le64s ns in
+    let first : length front ≡ 8 * bad = length-take-le (8 * bad) before room in
+    let so : found ≡ all ++ drop (8 * now) before = one.listed in
+    let long : length all ≡ 8 * now = length-append front (le64s ns) ∙ (let sum : length front + length (le64s ns) ≡ 8 * now = omega (arith, first, length-le64s ns, one.now_is) in sum) in
+    let here : take (8 * now) found ≡ all = ap (take (8 * now)) so ∙ take_at all (drop (8 * now) before) (8 * now) long in
+    let order : 8 * now ≤ 8 * next = omega (arith, two.now_is) in
+    let behind : drop (8 * next) found ≡ drop (8 * next) before = ap (drop (8 * next)) so ∙ drop-append-drop (8 * now) before all (8 * next) order long in
+    record {
+      now_is = two.now_is ∙ (let sum : now + length more ≡ bad + length (ns ++ more) = omega (arith, one.now_is, length-append ns more) in sum);
+      listed = two.listed ∙ (λ i. here i ++ le64s more ++ behind i)
+          ∙ ap (λ (l : List ℕ). l ++ drop (8 * next) before) (append_assoc front (le64s ns) (le64s more) ∙ ap (λ (l : List ℕ). front ++ l) (sym (le64s-append ns more)));
+    }
+
+-- one device sector more
+pub Lists-next : (n j bad now next : ℕ) (accepted : List Bool) (before found after : List ℕ) → 8 * bad ≤ length before → j < length accepted
+    → Lists (refused_at n (take j accepted)) bad now before found → Lists (refused_at (n + j) (get_or accepted j false ∷ [])) now next found after
+    → Lists (refused_at n (take (j + 1) accepted)) bad next before after
+Lists-next n j bad now next accepted before found after room lt one two =
+    let P : List ℕ → Type 0 = λ l. Lists l bad next before after in
+    let count : length (take j accepted) ≡ j = length-take-le j accepted (omega arith) in
+    let all : refused_at n (take (j + 1) accepted) ≡ refused_at n (take j accepted) ++ refused_at (n + j) (get_or accepted j false ∷ []) =
+    ap (λ (m : ℕ). refused_at n (take m accepted)) (add-one j)
+    ∙ ap (refused_at n) (take-suc accepted j false lt)
+    ∙ refused_at-append n (take j accepted) (get_or accepted j false ∷ [])
+    ∙ ap (λ (m : ℕ). refused_at n (take j accepted) ++ refused_at (n + m) (get_or accepted j false ∷ [])) count in
+    subst P (sym all) (Lists-then (refused_at n (take j accepted)) (refused_at (n + j) (get_or accepted j false ∷ [])) bad now next before found after room one two)
+
+-- ---- units that were looked at
+
+StandFrom-one : (told : Option Content) (n : ℕ) (bytes : List ℕ) → GivesFrom told n bytes → StandFrom told n 1 (bytes ∷ [])
+StandFrom-one None n bytes gives = tt
+StandFrom-one (Some c) n bytes gives = ap (λ (b : List ℕ). b ∷ []) gives
+
+pub Looks-one : (k : Keying) (n bad now : ℕ) (accepted : Bool) (unit before after : List ℕ) (old new : DiskState) → length unit ≡ 512 → Gives old n unit → accepted ≡ is_ok (piece_reading k n unit)
+    → Lists (refused_at n (accepted ∷ [])) bad now before after → Counted 1 old.reads new.reads → Logs [] old new → Looks k n 1 bad now before after old new
+Looks-one k n bad now accepted unit before after old new long gives so lists asked logs =
+    let P : List ℕ → Type 0 = λ l. Lists l bad now before after in
+    let same : refused_at n (accepted ∷ []) ≡ failing_units k n (unit ∷ []) = ap (λ (b : Bool). refused_at n (b ∷ [])) so ∙ sym (failing-are k n (unit ∷ [])) in
+    record {
+      sectors = unit ∷ [];
+      all = refl;
+      whole = All-cons IsSector unit [] long (All-nil IsSector);
+      stand = StandFrom-one old.content n unit gives;
+      lists = subst P same lists;
+      asked = asked;
+      logs = logs;
+    }
+
+whole_parts : (count : ℕ) (bytes : List ℕ) → 512 * count ≤ length bytes → All IsSector (parts 512 count bytes)
+whole_parts zero bytes room = All-nil IsSector
+whole_parts (suc count) bytes room =
+    All-cons IsSector (take 512 bytes) (parts 512 count (drop 512 bytes)) (length-take-le 512 bytes (omega arith)) (whole_parts count (drop 512 bytes) (omega (arith, length-drop 512 bytes)))
+
+StandFrom-parts : (told : Option Content) (first count : ℕ) (bytes : List ℕ) → GivesEachFrom told first bytes → count ≤ length bytes / 512 → StandFrom told first count (parts 512 count bytes)
+StandFrom-parts told first count bytes each fits =
+    let P : ℕ → Type 0 = λ n. StandFrom told n count (parts 512 count bytes) in
+    let at : first + 0 ≡ first = omega arith in
+    subst P at (StandFrom-each told first 0 count bytes each (omega (arith, fits)))
+
+pub Looks-four : (k : Keying) (n bad now : ℕ) (accepted : List Bool) (bytes before after : List ℕ) (old new : DiskState) → length bytes ≡ 2048 → GivesEach old n bytes
+    → accepted ≡ units_accepted k n (parts 512 4 bytes) → Lists (refused_at n accepted) bad now before after → Counted 4 old.reads new.reads → Logs [] old new
+    → Looks k n 4 bad now before after old new
+Looks-four k n bad now accepted bytes before after old new long each so lists asked logs =
+    let P : List ℕ → Type 0 = λ l. Lists l bad now before after in
+    let same : refused_at n accepted ≡ failing_units k n (parts 512 4 bytes) = ap (refused_at n) so ∙ sym (failing-are k n (parts 512 4 bytes)) in
+    record {
+      sectors = parts 512 4 bytes;
+      all = refl;
+      whole = whole_parts 4 bytes (omega (arith, long));
+      stand = StandFrom-parts old.content n 4 bytes each (omega (arith, long));
+      lists = subst P same lists;
+      asked = asked;
+      logs = logs;
+    }
+
+-- units of sectors that are there have small numbers
+pub unit_small : (k : Keying) (n size : ℕ) → n ≤ media_sectors k.auth k.sectorsize (512 * size) * units k → size < 2 ^ 44 → n ≤ 2 ^ 44
+unit_small k n size below small =
     let all : ℕ = 512 * size - 512 in
     let bytes : ℕ = 512 * units k in
     let media : ℕ = all / bytes in
     let whole : media * bytes ≤ all = div-mul-le_self all bytes in
     omega (arith, below, whole, small)
 
--- a unit of sectors that are there is there
-pub unit_within : (start n i units media : ℕ) → start + n ≤ media → i < n * units → start * units + i < media * units
-unit_within start n i units media fits lt = let all : (start + n) * units ≤ media * units = mul-le-mul_right units fits in omega (arith, all, lt)
+-- units of sectors that are there are there
+pub units_within : (start n units media : ℕ) → start + n ≤ media → start * units + n * units ≤ media * units
+units_within start n units media fits = let all : (start + n) * units ≤ media * units = mul-le-mul_right units fits in omega (arith, all)
 
--- of a unit one offset is listed at most
-pub one_at_most : (r : Result (List ℕ) ℕ) → length (faults_in (r ∷ [])) ≤ 1
-one_at_most (Ok bytes) = omega arith
-one_at_most (Err offset) = omega arith
+-- at most as many are listed as there are
+pub refused_few : (n : ℕ) (accepted : List Bool) → length (refused_at n accepted) ≤ length accepted
+refused_few n [] = omega arith
+refused_few n (true ∷ accepted) = omega (arith, refused_few (n + 1) accepted)
+refused_few n (false ∷ accepted) = omega (arith, refused_few (n + 1) accepted)
 
--- ---- one unit more
+pub length-standing : (c : Content) (n count : ℕ) → length (standing c n count) ≡ count
+length-standing c n zero = refl
+length-standing c n (suc count) = ap suc (length-standing c (n + 1) count)
+
+pub standing-append : (c : Content) (n count more : ℕ) → standing c n (count + more) ≡ standing c n count ++ standing c (n + count) more
+standing-append c n zero more =
+    let none : zero + more ≡ more = omega arith in
+    ap (standing c n) none ∙ ap (λ (m : ℕ). standing c m more) (sym (add-zero n))
+standing-append c n (suc count) more =
+    let all : suc count + more ≡ suc (count + more) = omega arith in
+    let at : n + 1 + count ≡ n + suc count = omega arith in
+    ap (standing c n) all
+    ∙ ap (λ (l : List (List ℕ)). present c n ∷ l) (standing-append c (n + 1) count more ∙ ap (λ (m : ℕ). standing c (n + 1) count ++ standing c m more) at)
+
+-- at most as many fail as there are
+pub few_failing : (k : Keying) (n : ℕ) (sectors : List (List ℕ)) → length (failing_units k n sectors) ≤ length sectors
+few_failing k n [] = omega arith
+few_failing k n (sector ∷ sectors) =
+    let rest = few_failing k (n + 1) sectors in
+    let P : List ℕ → Type 0 = λ l. length l ≤ suc (length sectors) in
+    elim (failing-of k n sector sectors) [
+      | inl fine ↦ subst P (sym fine.1) (omega (arith, rest))
+      | inr bad ↦ subst P (sym bad.1) (omega (arith, rest))
+    ]
+
+-- ---- some units more
 
 listed_next : (before now after first more : List ℕ) (bad next : ℕ) → now ≡ le64s first ++ drop (8 * bad) before → bad ≡ length first → next ≡ bad + length more
     → after ≡ take (8 * bad) now ++ le64s more ++ drop (8 * next) now → after ≡ le64s (first ++ more) ++ drop (8 * next) before
@@ -127,33 +253,30 @@ listed_next before now after first more bad next so count sum is =
     let behind : drop (8 * next) now ≡ drop (8 * next) before = ap (drop (8 * next)) so ∙ drop-append-drop (8 * bad) before (le64s first) (8 * next) order long in
     is ∙ (λ i. front i ++ le64s more ++ behind i) ∙ sym (ap (λ (l : List ℕ). l ++ drop (8 * next) before) (le64s-append first more))
 
-StandFrom-push : (told now : Option Content) (first i : ℕ) (sectors : List (List ℕ)) (bytes : List ℕ) → now ≡ told → StandFrom told first i sectors → GivesFrom now (first + i) bytes
-    → StandFrom told first (i + 1) (sectors ++ bytes ∷ [])
-StandFrom-push None now first i sectors bytes same so gives = tt
-StandFrom-push (Some c) now first i sectors bytes same so gives =
-    let here : bytes ≡ present c (first + i) = subst (λ (told : Option Content). GivesFrom told (first + i) bytes) same gives in
-    (λ j. so j ++ here j ∷ []) ∙ sym (standing-suc c first i) ∙ sym (ap (standing c first) (add-one i))
+StandFrom-more : (told now : Option Content) (first i count : ℕ) (sectors more : List (List ℕ)) → now ≡ told → StandFrom told first i sectors → StandFrom now (first + i) count more
+    → StandFrom told first (i + count) (sectors ++ more)
+StandFrom-more None now first i count sectors more same so next = tt
+StandFrom-more (Some c) now first i count sectors more same so next =
+    let here : more ≡ standing c (first + i) count = subst (λ (told : Option Content). StandFrom told (first + i) count more) same next in
+    (λ j. so j ++ here j) ∙ sym (standing-append c first i count)
 
-StandFrom-none : (told : Option Content) (first : ℕ) → StandFrom told first 0 []
-StandFrom-none None first = tt
-StandFrom-none (Some c) first = refl
-
-pub ListsFailing-next : (k : Keying) (first i bad now : ℕ) (before found after : List ℕ) (start middle last : DiskState) → ListsFailing k first i bad before found start middle
-    → Looks k (first + i) bad now found after middle last → ListsFailing k first (i + 1) now before after start last
-ListsFailing-next k first i bad now before found after start middle last so one =
-    let more : failing_units k first (so.sectors ++ one.bytes ∷ []) ≡ failing_units k first so.sectors ++ failing_units k (first + i) (one.bytes ∷ []) =
-    failing_units-append k first so.sectors (one.bytes ∷ [])
-    ∙ ap (λ (m : ℕ). failing_units k first so.sectors ++ failing_units k (first + m) (one.bytes ∷ [])) so.all in
+pub ListsFailing-next : (k : Keying) (first i count bad now : ℕ) (before found after : List ℕ) (start middle last : DiskState) → ListsFailing k first i bad before found start middle
+    → Looks k (first + i) count bad now found after middle last → ListsFailing k first (i + count) now before after start last
+ListsFailing-next k first i count bad now before found after start middle last so one =
+    let next : List ℕ = failing_units k (first + i) one.sectors in
+    let more : failing_units k first (so.sectors ++ one.sectors) ≡ failing_units k first so.sectors ++ next =
+    failing_units-append k first so.sectors one.sectors
+    ∙ ap (λ (m : ℕ). failing_units k first so.sectors ++ failing_units k (first + m) one.sectors) so.all in
     record {
-      sectors = so.sectors ++ one.bytes ∷ [];
-      all = length-append so.sectors (one.bytes ∷ []) ∙ ap (λ (m : ℕ). m + 1) so.all;
-      whole = All-append IsSector so.sectors (one.bytes ∷ []) so.whole (All-cons IsSector one.bytes [] one.whole (All-nil IsSector));
-      stand = StandFrom-push start.content middle.content first i so.sectors one.bytes (content-Logs start middle so.logs) so.stand one.told;
-      bad_is = one.now_is ∙ ap (λ (m : ℕ). m + length (failing_units k (first + i) (one.bytes ∷ []))) so.bad_is
-          ∙ sym (length-append (failing_units k first so.sectors) (failing_units k (first + i) (one.bytes ∷ []))) ∙ sym (ap (λ (l : List ℕ). length l) more);
-      listed = listed_next before found after (failing_units k first so.sectors) (failing_units k (first + i) (one.bytes ∷ [])) bad now so.listed so.bad_is one.now_is one.listed
+      sectors = so.sectors ++ one.sectors;
+      all = length-append so.sectors one.sectors ∙ (λ j. so.all j + one.all j);
+      whole = All-append IsSector so.sectors one.sectors so.whole one.whole;
+      stand = StandFrom-more start.content middle.content first i count so.sectors one.sectors (content-Logs start middle so.logs) so.stand one.stand;
+      bad_is = one.lists.now_is ∙ ap (λ (m : ℕ). m + length next) so.bad_is
+          ∙ sym (length-append (failing_units k first so.sectors) next) ∙ sym (ap (λ (l : List ℕ). length l) more);
+      listed = listed_next before found after (failing_units k first so.sectors) next bad now so.listed so.bad_is one.lists.now_is one.lists.listed
           ∙ sym (ap (λ (l : List ℕ). le64s l ++ drop (8 * now) before) more);
-      asked = Counted-then i 1 (i + 1) refl so.asked one.asked;
+      asked = Counted-then i count (i + count) refl so.asked one.asked;
       logs = Logs-then [] [] so.logs one.logs;
     }
 

@@ -16,7 +16,8 @@ units_read_from k c sector (suc count) = units_read k c sector ++ units_read_fro
 abbrev pub sweep_at : Keying → ℕ → ℕ → ℕ → Sweep
 sweep_at k media start count = record { keying = k; media = media; start = start; count = count }
 
--- where sweeps over these counts of sectors end, of which the first begins at a place and each other where the one before ended
+-- where sweeps over these counts of sectors end, of which the first begins at a place and each other where the one
+-- before ended
 abbrev pub place_after : Keying → ℕ → ℕ → List ℕ → ℕ
 place_after k media start [] = start
 place_after k media start (count ∷ counts) = place_after k media (start + sectors_swept (sweep_at k media start count)) counts

@@ -1,8 +1,8 @@
 -- A sweep over the units of a provider with authentication: which of them fail, and how far it goes.
-use Rattle.std.specs.Prelude.{◌≡◌, ℕ, ◌+◌, ◌-◌, ◌*◌, ◌/◌, ◌<◌, Bool, List, [], ◌∷◌, ◌++◌, length, take, drop, get_or, min, Result, Ok, Err, is_ok, All}
+use Rattle.std.specs.Prelude.{◌≡◌, ℕ, ◌+◌, ◌-◌, ◌*◌, ◌/◌, ◌<◌, Bool, true, false, List, [], ◌∷◌, ◌++◌, length, take, drop, get_or, min, Result, Ok, Err, All}
 use Rattle.block_traits.specs.Causes.{Counted}
 use Rattle.block_traits.specs.Content.{IsSector}
-use Rattle.block_traits.specs.Disk.{DiskState, Gives, Logs}
+use Rattle.block_traits.specs.Disk.{DiskState, Logs}
 use Rattle.block_traits.specs.declared.disk.DiskFailed.{DiskFailed}
 use Rattle.eli_base.specs.Keying.{Keying}
 use Rattle.provider.specs.Reading.{StandFrom}
@@ -39,25 +39,28 @@ abbrev pub le64s : List ℕ → List ℕ
 le64s [] = []
 le64s (n ∷ ns) = le64 n ++ le64s ns
 
--- ---- one unit
+-- the byte offsets of those of some device sectors that aren't accepted, of which the first is the one of number n
+abbrev pub refused_at : ℕ → List Bool → List ℕ
+refused_at n [] = []
+refused_at n (true ∷ accepted) = refused_at (n + 1) accepted
+refused_at n (false ∷ accepted) = 512 * n ∷ refused_at (n + 1) accepted
 
--- the device sector of number n was read, and whether it is accepted is the answer
-pub record Reads (k : Keying) (n : ℕ) (accepted : Bool) (old new : DiskState) : Type 0 where
-  pub bytes : List ℕ
-  pub whole : length bytes ≡ 512
-  pub told : Gives old n bytes
-  pub accepted_is : accepted ≡ is_ok (piece_reading k n bytes)
-  pub asked : Counted 1 old.reads new.reads
-  pub logs : Logs [] old new
+-- ---- some units
 
--- the same, and where it fails its offset was put behind those that were listed before
-pub record Looks (k : Keying) (n bad now : ℕ) (before after : List ℕ) (old new : DiskState) : Type 0 where
-  pub bytes : List ℕ
-  pub whole : length bytes ≡ 512
-  pub told : Gives old n bytes
-  pub now_is : now ≡ bad + length (failing_units k n (bytes ∷ []))
-  pub listed : after ≡ take (8 * bad) before ++ le64s (failing_units k n (bytes ∷ [])) ++ drop (8 * now) before
-  pub asked : Counted 1 old.reads new.reads
+-- these numbers were put behind so many others, and what is behind them stays
+pub record Lists (ns : List ℕ) (bad now : ℕ) (before after : List ℕ) : Type 0 where
+  pub now_is : now ≡ bad + length ns
+  pub listed : after ≡ take (8 * bad) before ++ le64s ns ++ drop (8 * now) before
+
+-- so many device sectors from number n on were read once, nothing was logged, and the offsets of those that fail were
+-- put behind those that were listed before
+pub record Looks (k : Keying) (n count bad now : ℕ) (before after : List ℕ) (old new : DiskState) : Type 0 where
+  pub sectors : List (List ℕ)
+  pub all : length sectors ≡ count
+  pub whole : All IsSector sectors
+  pub stand : StandFrom old.content n count sectors
+  pub lists : Lists (failing_units k n sectors) bad now before after
+  pub asked : Counted count old.reads new.reads
   pub logs : Logs [] old new
 
 -- ---- a sweep
@@ -69,12 +72,13 @@ pub record Sweep : Type 0 where
   pub start : ℕ
   pub count : ℕ
 
--- the logical sectors that it goes over: as many as are asked for, unless there are fewer, or they have more than 16,384 units
+-- the logical sectors that it goes over: as many as are asked for, unless there are fewer, or they have more than
+-- 16,384 units
 abbrev pub sectors_swept : Sweep → ℕ
 sectors_swept s = min (min s.count (s.media - s.start)) (16384 / units s.keying)
 
--- so many device sectors from number n on were read once, nothing was logged, and those that fail are listed at the front of the
--- bytes, of which the others stay
+-- so many device sectors from number n on were read once, nothing was logged, and those that fail are listed at the
+-- front of the bytes, of which the others stay
 pub record ListsFailing (k : Keying) (n count bad : ℕ) (before after : List ℕ) (old new : DiskState) : Type 0 where
   pub sectors : List (List ℕ)
   pub all : length sectors ≡ count

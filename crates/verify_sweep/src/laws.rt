@@ -10,7 +10,8 @@ ghost use Rattle.sealing.specs.Sectors.{units};
 ghost use Rattle.verify_sweep.specs.Sweeping.{Fails, failing_units, pieces_read};
 ghost use Rattle.verify_sweep.specs.Parts.{cut_count, place_after, sectors_after, units_read_from};
 
-/// A law: what the device sectors of some logical sectors read as, each alone, is what the units of these sectors read as.
+/// A law: what the device sectors of some logical sectors read as, each alone, is what the units of these sectors
+/// read as.
 pub fn units_are_those_of_their_sectors()
     ensures { (k : Keying) (c : Content) (sector count : ℕ) → k.auth ≢ Off →
         pieces_read k (sector * units k) (standing c (sector * units k) (count * units k)) ≡ units_read_from k c sector count }
@@ -29,7 +30,8 @@ pub fn parts_list_what_the_whole_lists()
         failing_units k n (front ++ behind) ≡ failing_units k n front ++ failing_units k (n + length front) behind }
 {}
 
-/// A law: sweeps of which each begins where the one before ended go over all sectors from the first place to the last, each once.
+/// A law: sweeps of which each begins where the one before ended go over all sectors from the first place to the
+/// last, each once.
 pub fn parts_follow_each_other()
     ensures order { (k : Keying) (media start : ℕ) (counts : List ℕ) → start ≤ place_after k media start counts }
     ensures within { (k : Keying) (media start : ℕ) (counts : List ℕ) → start ≤ media → place_after k media start counts ≤ media }

@@ -1,11 +1,11 @@
 // Units that are read and looked at, one after the other.
-ghost use Rattle.std.specs.Prelude.{◌≡◌, ◌≢◌, ◌+◌, ◌*◌, ◌<◌, ◌≤◌, IfOk, OnErr, length};
+ghost use Rattle.std.specs.Prelude.{◌≡◌, ◌≢◌, ◌+◌, ◌*◌, ◌^◌, ◌<◌, ◌≤◌, [], ◌∷◌, None, IfOk, IfSome, OnErr, length};
 ghost use Rattle.block_traits.specs.Disk.{DiskState};
 ghost use Rattle.eli_base.specs.declared.algorithms.Auth.TheVariants.{Off};
 ghost use Rattle.provider.specs.Attached.{IsKept, media};
 ghost use Rattle.provider.specs.Reads.{FailsAt};
 ghost use Rattle.sealing.specs.Sectors.{units};
-ghost use Rattle.verify_sweep.specs.Sweeping.{Looks, Reads, Sweep, SweepAnswers};
+ghost use Rattle.verify_sweep.specs.Sweeping.{Lists, Looks, Sweep, SweepAnswers, refused_at};
 
 use block_traits::{Disk, DiskFailed, Sector};
 use provider::Provider;
@@ -22,20 +22,38 @@ pub struct Swept {
 // How many units a sweep looks at, at most.
 const MOST_UNITS: u64 = 16_384;
 
-// Whether the unit in device sector `n` is accepted.
-fn is_accepted<D: Disk>(on: &mut Provider<D>, n: u64) -> Result<bool, DiskFailed>
-    requires on { on.old.keying.auth ≢ Off }
-    requires inside { n < media on.old.keying (D.state on.old.disk) * units on.old.keying }
-    ensures ok { IfOk result (λ accepted. Reads on.old.keying n accepted (D.state on.old.disk) (D.state on.new.disk)) }
-    ensures err { OnErr result (FailsAt 1 (D.state on.old.disk) (D.state on.new.disk)) }
-    ensures kept { IsKept on.old on.new }
+// Puts the offset of device sector `n` behind so many others, where its unit isn't accepted. Gives how many are
+// listed then.
+fn list(n: u64, accepted: bool, found: &mut [u8], bad: u32) -> u32
+    requires small { n < 2 ^ 44 }
+    requires few { bad < 16384 }
+    requires room { 131072 ≤ length found.old }
+    ensures { Lists (refused_at n (accepted ∷ [])) bad result found.old found.new }
 {
-    let mut sector: Sector = [0; 512];
-    on.get_unit(n, &mut sector)?;
-    Ok(on.unit_ok(n, &sector))
+    if accepted {
+        return bad;
+    }
+    let place = 8 * bad as usize;
+    let offset = 512 * n;
+    found[place..place + 8].copy_from_slice(&offset.to_le_bytes());
+    bad + 1
 }
 
-// Looks at the unit in device sector `n`, and lists its offset behind so many others where it fails. Gives how many are listed then.
+// The same of four device sectors, the first of number `n`.
+fn list_four(n: u64, accepted: &[bool; 4], found: &mut [u8], bad: u32) -> u32
+    requires small { n + 4 ≤ 2 ^ 44 }
+    requires few { bad + 4 ≤ 16384 }
+    requires room { 131072 ≤ length found.old }
+    ensures { Lists (refused_at n accepted.now) bad result found.old found.new }
+{
+    let mut now = bad;
+    for j in 0..4 {
+        now = list(n + j as u64, accepted[j], found, now);
+    }
+    now
+}
+
+// Reads the unit in device sector `n`, and lists its offset where it fails. Gives how many are listed then.
 fn look<D: Disk>(
     on: &mut Provider<D>,
     n: u64,
@@ -46,27 +64,75 @@ fn look<D: Disk>(
     requires inside { n < media on.old.keying (D.state on.old.disk) * units on.old.keying }
     requires few { bad < 16384 }
     requires room { 131072 ≤ length found.old }
-    ensures ok { IfOk result (λ now. Looks on.old.keying n bad now found.old found.new (D.state on.old.disk) (D.state on.new.disk)) }
+    ensures ok { IfOk result (λ now. Looks on.old.keying n 1 bad now found.old found.new (D.state on.old.disk) (D.state on.new.disk)) }
     ensures err { OnErr result (FailsAt 1 (D.state on.old.disk) (D.state on.new.disk)) }
     ensures kept { IsKept on.old on.new }
 {
-    if is_accepted(on, n)? {
-        return Ok(bad);
-    }
-    let place = 8 * bad as usize;
-    let offset = 512 * n;
-    found[place..place + 8].copy_from_slice(&offset.to_le_bytes());
-    Ok(bad + 1)
+    let mut unit: Sector = [0; 512];
+    on.get_unit(n, &mut unit)?;
+    let accepted = on.unit_ok(n, &unit);
+    Ok(list(n, accepted, found, bad))
 }
 
-/// Looks at the units of logical sectors from number `start` on, and lists those whose tag isn't that of their cipher text. It
-/// goes over `count` sectors, or over fewer: no further than the last one, and over no more units than 16,384.
+// Looks at the units in four device sectors at once, the first of number `n`, where that can be done, and lists the
+// offsets of those that fail. Gives how many are listed then. Else nothing has changed.
+fn look_at_four<D: Disk>(on: &mut Provider<D>, n: u64, found: &mut [u8], bad: u32) -> Option<u32>
+    requires on { on.old.keying.auth ≢ Off }
+    requires inside { n + 4 ≤ media on.old.keying (D.state on.old.disk) * units on.old.keying }
+    requires few { bad + 4 ≤ 16384 }
+    requires room { 131072 ≤ length found.old }
+    ensures some { IfSome result (λ now. Looks on.old.keying n 4 bad now found.old found.new (D.state on.old.disk) (D.state on.new.disk)) }
+    ensures missed { result ≡ None → D.state on.new.disk ≡ D.state on.old.disk }
+    ensures stays { result ≡ None → found.new ≡ found.old }
+    ensures kept { IsKept on.old on.new }
+{
+    let mut units = [0; 2048];
+    match on.look_at_four(n, &mut units) {
+        Some(accepted) => Some(list_four(n, &accepted, found, bad)),
+        None => None,
+    }
+}
+
+// Looks at the next units, of which so many are left: at four at once where that can be done, and else at one. Gives
+// at how many, and how many are listed then.
+fn look_on<D: Disk>(
+    on: &mut Provider<D>,
+    n: u64,
+    left: u64,
+    found: &mut [u8],
+    bad: u32,
+) -> Result<(u64, u32), DiskFailed>
+    requires on { on.old.keying.auth ≢ Off }
+    requires some { 1 ≤ left }
+    requires inside { n + left ≤ media on.old.keying (D.state on.old.disk) * units on.old.keying }
+    requires few { bad + left ≤ 16384 }
+    requires room { 131072 ≤ length found.old }
+    ensures many { IfOk result (λ seen. (1 ≤ seen.0) × (seen.0 ≤ left)) }
+    ensures ok { IfOk result (λ seen. Looks on.old.keying n seen.0 bad seen.1 found.old found.new (D.state on.old.disk) (D.state on.new.disk)) }
+    ensures err { OnErr result (FailsAt 1 (D.state on.old.disk) (D.state on.new.disk)) }
+    ensures kept { IsKept on.old on.new }
+{
+    if left >= 4 {
+        if let Some(now) = look_at_four(on, n, found, bad) {
+            return Ok((4, now));
+        }
+    }
+    match look(on, n, found, bad) {
+        Ok(now) => Ok((1, now)),
+        Err(failed) => Err(failed),
+    }
+}
+
+/// Looks at the units of logical sectors from number `start` on, and lists those whose tag isn't that of their cipher
+/// text. It goes over `count` sectors, or over fewer: no further than the last one, and over no more units than
+/// 16,384.
 ///
-/// The listed units stand at the front of `found` in ascending order, each as eight bytes, the least significant first: its byte
-/// offset on the device. What is behind them stays. Each unit of these sectors is read once, and nothing else is done.
+/// The listed units stand at the front of `found` in ascending order, each as eight bytes, the least significant
+/// first: its byte offset on the device. What is behind them stays. Each unit of these sectors is read once, and
+/// nothing else is done.
 ///
-/// It is refused only where the device failed: then no more units were read than these, nothing else was done, and `found` may hold
-/// any bytes.
+/// It is refused only where the device failed: then no more units were read than these, nothing else was done, and
+/// `found` may hold any bytes.
 pub fn sweep<D: Disk>(
     on: &mut Provider<D>,
     start: u64,
@@ -84,9 +150,13 @@ pub fn sweep<D: Disk>(
     let units = on.units();
     let sectors = count.min(on.sectors() - start).min(MOST_UNITS / units);
     let first = start * units;
+    let all = sectors * units;
     let mut bad = 0;
-    for i in 0..sectors * units {
-        bad = look(on, first + i, found, bad)?;
+    let mut done = 0;
+    'groups: while done < all {
+        let (many, now) = look_on(on, first + done, all - done, found, bad)?;
+        done += many;
+        bad = now;
     }
     Ok(Swept {
         next: start + sectors,

@@ -1,9 +1,8 @@
-use Rattle.std.proofs.Common.{◌≡◌, ℕ, ◌+◌, ◌-◌, List, ◌∷◌, [], ◌++◌, get_or, length, take, drop, Ok, Err, ap, ◌∙◌, sym, refl, arith}
+use Rattle.std.proofs.Common.{◌≡◌, ℕ, ◌+◌, List, [], ◌++◌, get_or, drop, Ok, ap, ◌∙◌, sym, arith}
 use Rattle.eli_base.specs.declared.algorithms.Auth.{Auth}
 use Rattle.eli_base.specs.Keying.{Keying}
-use Rattle.eli_base.specs.Units.{tag_bytes, unit_bytes_of}
+use Rattle.eli_base.specs.Units.{tag_bytes}
 use Rattle.sealing.specs.Runs.{opened_run}
-use Rattle.sealing.specs.Pieces.{opened_piece}
 use Rattle.auth_sectors.proofs.Openings.{code_of_whole, first_fault, fourth_fault, no_fault, reading_of_four, reads_right, reads_wrong, second_fault, third_fault}
 use Rattle.auth_sectors.proofs.open_four.Goals as goal
 

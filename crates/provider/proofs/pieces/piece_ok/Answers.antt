@@ -1,13 +1,13 @@
-use Rattle.std.proofs.Common.{◌≡◌, ◌+◌, ◌-◌, ◌*◌, ◌/◌, ◌%◌, ◌<◌, min, ℕ, refl, subst, sym, ap, ◌∙◌, arith}
+use Rattle.std.proofs.Common.{◌≡◌, ◌+◌, ◌-◌, ◌*◌, ◌/◌, ◌%◌, ◌<◌, min, ℕ, is_ok, refl, subst, sym, ap, ◌∙◌, arith}
 use Rattle.eli_base.specs.declared.algorithms.Auth.{Auth}
 use Rattle.eli_base.specs.Units.{unit_bytes_of}
-use Rattle.eli_base.proofs.Units.{tag_and_unit}
+use Rattle.sealing.specs.Pieces.{opened_piece}
 use Rattle.sealing.specs.Sectors.{piece_size, unit_size, units}
-use Rattle.provider.proofs.UnitLists.{IsUnit, accepts, is_unit_at, refuses}
+use Rattle.provider.proofs.UnitLists.{IsUnit, is_unit_at}
 use Rattle.provider.proofs.pieces.piece_ok.Goals as goal
 
-pub returns-in-Ok-clause-answer : goal.returns-in-Ok-clause-answer
-returns-in-Ok-clause-answer c =
+pub returns : goal.returns
+returns c =
     let k = c.args.ring.now.keying in
     let width : ℕ = c.data_bytes-width.result in
     let wide : width ≡ unit_bytes_of k.auth = c.data_bytes-width.ensures ∙ ap (λ (a : Auth). unit_bytes_of a) c.auth.ensures in
@@ -22,26 +22,4 @@ returns-in-Ok-clause-answer c =
     let ends : end ≡ min k.sectorsize (start + width) = c.unit_end-end.ensures ∙ ap (λ (m : ℕ). min m (start + width)) long in
     let unit : IsUnit k.auth k.sectorsize j start end = is_unit_at k.auth k.sectorsize width j start end c.is_of_a_keying.ensures.at_least c.is_of_a_keying.ensures.whole lt wide refl ends in
     let size : end - start ≡ piece_size k c.args.n = unit.bytes ∙ ap (unit_size k) at in
-    let most = unit.at_most in
-    let all = tag_and_unit k.auth in
-    accepts k c.args.n _ (end - start) _ c.args.from.now c.open_piece.new.out (omega arith) (omega arith) size c.in-Ok.ensures.opened
-
-pub returns-in-Err-clause-answer : goal.returns-in-Err-clause-answer
-returns-in-Err-clause-answer c =
-    let k = c.args.ring.now.keying in
-    let width : ℕ = c.data_bytes-width.result in
-    let wide : width ≡ unit_bytes_of k.auth = c.data_bytes-width.ensures ∙ ap (λ (a : Auth). unit_bytes_of a) c.auth.ensures in
-    let long : c.args.size ≡ k.sectorsize = c.requires.size in
-    let count : (c.args.size - 1) / width + 1 ≡ units k = (λ i. (long i - 1) / wide i + 1) in
-    let j : ℕ = c.args.n % ((c.args.size - 1) / width + 1) in
-    let at : j ≡ c.args.n % units k = ap (λ (m : ℕ). c.args.n % m) count in
-    let small : c.args.n % units k < units k = omega arith in
-    let lt : j < units k = let P : ℕ → Type 0 = λ m. m < units k in subst P (sym at) small in
-    let start : ℕ = j * width in
-    let end : ℕ = c.unit_end-end.result in
-    let ends : end ≡ min k.sectorsize (start + width) = c.unit_end-end.ensures ∙ ap (λ (m : ℕ). min m (start + width)) long in
-    let unit : IsUnit k.auth k.sectorsize j start end = is_unit_at k.auth k.sectorsize width j start end c.is_of_a_keying.ensures.at_least c.is_of_a_keying.ensures.whole lt wide refl ends in
-    let size : end - start ≡ piece_size k c.args.n = unit.bytes ∙ ap (unit_size k) at in
-    let most = unit.at_most in
-    let all = tag_and_unit k.auth in
-    refuses k c.args.n _ (end - start) _ c.args.from.now _ (omega arith) (omega arith) size c.in-Err.ensures.opened
+    c.piece_accepted.ensures ∙ ap (λ (m : ℕ). is_ok (opened_piece k (512 * c.args.n) m c.args.from.now)) size

@@ -1,13 +1,13 @@
-use Rattle.std.proofs.Common.{◌≡◌, ℕ, ◌+◌, ◌-◌, ◌*◌, ◌/◌, ◌<◌, ◌≤◌, min, [], refl, sym, subst, ap, ◌∙◌, arith}
+use Rattle.std.proofs.Common.{◌≡◌, ℕ, ◌+◌, ◌-◌, ◌*◌, ◌/◌, ◌<◌, ◌≤◌, min, [], refl, subst, ap, ◌∙◌, arith}
 use Rattle.block_traits.proofs.Causes.{Counted-then}
 use Rattle.block_traits.proofs.Logs.{FailsIn-then}
 use Rattle.eli_base.specs.Keying.{Keying}
 use Rattle.eli_base.specs.Units.{media_sectors}
 use Rattle.provider.specs.Attached.{media}
 use Rattle.provider.specs.Reads.{FailsAmong}
-use Rattle.sealing.specs.Sectors.{piece_reading, units}
+use Rattle.sealing.specs.Sectors.{units}
 use Rattle.verify_sweep.specs.Sweeping.{Looks, Sweep}
-use Rattle.verify_sweep.proofs.Listing.{ListsFailing-next, offset_small, one_at_most, sweep_fails, unit_within}
+use Rattle.verify_sweep.proofs.Listing.{ListsFailing-next, few_failing, sweep_fails, unit_small, units_within}
 use Rattle.verify_sweep.proofs.sweeping.sweep.Goals as goal
 
 pub overflow_add-first : goal.overflow_add-first
@@ -18,69 +18,66 @@ overflow_add-first g c =
     let units_is : c.units-units.result ≡ units k = c.units-units.ensures.units in
     let there : c.sectors.result ≡ media k disk = c.sectors.ensures in
     let fits : c.args.start + c.min-sectors.result ≤ media k disk = omega (arith, there, c.min.ensures, c.min-sectors.ensures, c.requires.place) in
-    let n : ℕ = c.args.start * c.units-units.result + c.loop-i.i in
-    let within : n < media k disk * c.units-units.result = unit_within c.args.start c.min-sectors.result c.loop-i.i c.units-units.result (media k disk) fits c.loop-i-test.true in
-    let inside : n < media k disk * units k = let P : ℕ → Type 0 = λ u. n < media k disk * u in subst P units_is within in
-    let small = offset_small k n disk.size inside disk.well_formed.bound in
-    omega arith
+    let P : ℕ → Type 0 = λ u. c.args.start * u + c.min-sectors.result * u ≤ media k disk * u in
+    let within = units_within c.args.start c.min-sectors.result c.units-units.result (media k disk) fits in
+    let same : media k disk * c.units-units.result ≡ media k disk * units k = ap (λ (u : ℕ). media k disk * u) units_is in
+    let small = unit_small k (c.args.start * c.units-units.result + c.min-sectors.result * c.units-units.result) disk.size (omega (arith, within, same)) disk.well_formed.bound in
+    omega (arith, small)
 
-pub look-requires-clause-inside : goal.look-requires-clause-inside
-look-requires-clause-inside g c =
+pub look_on-requires-clause-inside : goal.look_on-requires-clause-inside
+look_on-requires-clause-inside g c =
     let state = g.D.Disk.state in
     let k = c.args.on.now.keying in
     let disk = state c.args.on.now.disk in
     let units_is : c.units-units.result ≡ units k = c.units-units.ensures.units in
     let there : c.sectors.result ≡ media k disk = c.sectors.ensures in
     let fits : c.args.start + c.min-sectors.result ≤ media k disk = omega (arith, there, c.min.ensures, c.min-sectors.ensures, c.requires.place) in
-    let n : ℕ = c.args.start * c.units-units.result + c.loop-i.i in
-    let within : n < media k disk * c.units-units.result = unit_within c.args.start c.min-sectors.result c.loop-i.i c.units-units.result (media k disk) fits c.loop-i-test.true in
-    let inside : n < media k disk * units k = let P : ℕ → Type 0 = λ u. n < media k disk * u in subst P units_is within in
-    let kept = c.loop-i.invariant.kept in
-    let size = c.loop-i.invariant.lists.logs.size in
+    let within = units_within c.args.start c.min-sectors.result c.units-units.result (media k disk) fits in
+    let same : media k disk * c.units-units.result ≡ media k disk * units k = ap (λ (u : ℕ). media k disk * u) units_is in
+    let kept = c.groups.invariant.kept in
+    let size = c.groups.invariant.lists.logs.size in
     let F : Keying → ℕ → ℕ = λ (j : Keying) (m : ℕ). media_sectors j.auth j.sectorsize (512 * m) * units j in
-    let same : F c.loop-i.on.keying (state c.loop-i.on.disk).size ≡ F k disk.size = (λ i. F (kept.keying i) (size i)) in
-    let P : ℕ → Type 0 = λ m. n < m in
-    subst P (sym same) inside
+    let now : F c.groups.on.keying (state c.groups.on.disk).size ≡ F k disk.size = (λ i. F (kept.keying i) (size i)) in
+    omega (arith, within, same, now, c.groups-test.true)
 
-pub returns-in_err-bad-clause-answer : goal.returns-in_err-bad-clause-answer
-returns-in_err-bad-clause-answer g c =
+pub returns-in_err-many-clause-answer : goal.returns-in_err-many-clause-answer
+returns-in_err-many-clause-answer g c =
     let state = g.D.Disk.state in
     let k = c.args.on.now.keying in
     let disk = state c.args.on.now.disk in
     let units_is : c.units-units.result ≡ units k = c.units-units.ensures.units in
     let there : c.sectors.result ≡ media k disk = c.sectors.ensures in
-    let fits : c.args.start + c.min-sectors.result ≤ media k disk = omega (arith, there, c.min.ensures, c.min-sectors.ensures, c.requires.place) in
-    let n : ℕ = c.args.start * c.units-units.result + c.loop-i.i in
-    let within : n < media k disk * c.units-units.result = unit_within c.args.start c.min-sectors.result c.loop-i.i c.units-units.result (media k disk) fits c.loop-i-test.true in
-    let inside : n < media k disk * units k = let P : ℕ → Type 0 = λ u. n < media k disk * u in subst P units_is within in
     let swept_is : c.min-sectors.result ≡ min (min c.args.count (media k disk - c.args.start)) (16384 / units k) =
     c.min-sectors.ensures ∙ (λ i. min ((c.min.ensures ∙ ap (λ (m : ℕ). min c.args.count (m - c.args.start)) there) i) (16384 / units_is i)) in
     let count : c.min-sectors.result * c.units-units.result ≡ min (min c.args.count (media k disk - c.args.start)) (16384 / units k) * units k = (λ i. swept_is i * units_is i) in
-    let lists = c.loop-i.invariant.lists in
-    let fails : FailsAmong (min (min c.args.count (media k disk - c.args.start)) (16384 / units k) * units k) disk (state c.look.new.on.disk) = record {
-      unit = c.loop-i.i;
-      within = let P : ℕ → Type 0 = λ m. c.loop-i.i < m in subst P count c.loop-i-test.true;
+    let lists = c.groups.invariant.lists in
+    let done = c.groups.done in
+    let fails : FailsAmong (min (min c.args.count (media k disk - c.args.start)) (16384 / units k) * units k) disk (state c.look_on.new.on.disk) = record {
+      unit = done;
+      within = let P : ℕ → Type 0 = λ m. done < m in subst P count c.groups-test.true;
       fails = record {
-        asked = Counted-then c.loop-i.i 1 (c.loop-i.i + 1) refl lists.asked c.in_err-bad.ensures.err.asked;
-        fails = FailsIn-then [] [] lists.logs c.in_err-bad.ensures.err.fails;
+        asked = Counted-then done 1 (done + 1) refl lists.asked c.in_err-many.ensures.err.asked;
+        fails = FailsIn-then [] [] lists.logs c.in_err-many.ensures.err.fails;
       };
     } in
     let s : Sweep = record { keying = k; media = media k disk; start = c.args.start; count = c.args.count } in
-    sweep_fails s c.args.found.now c.look.new.found c.from_residual.result disk (state c.look.new.on.disk) c.from_residual.ensures.0 fails
+    sweep_fails s c.args.found.now c.look_on.new.found c.from_residual.result disk (state c.look_on.new.on.disk) c.from_residual.ensures.0 fails
 
-pub loop-i-preserved : goal.loop-i-preserved
-loop-i-preserved g c =
+pub groups-preserved : goal.groups-preserved
+groups-preserved g c =
     let state = g.D.Disk.state in
     let k = c.args.on.now.keying in
-    let n : ℕ = c.args.start * c.units-units.result + c.loop-i.i in
-    let was = c.loop-i.invariant.kept in
-    let kept = c.in_ok-bad.ensures.kept in
-    let P : Keying → Type 0 = λ j. Looks j n c.loop-i.bad c.in_ok-bad.bad c.loop-i.found c.look.new.found (state c.loop-i.on.disk) (state c.look.new.on.disk) in
-    let looks = subst P was.keying c.in_ok-bad.ensures.ok in
-    let most = one_at_most (piece_reading k n looks.bytes) in
-    let few = c.loop-i.invariant.few in
+    let n : ℕ = c.args.start * c.units-units.result + c.groups.done in
+    let was = c.groups.invariant.kept in
+    let seen = c.in_ok-many.ensures in
+    let P : Keying → Type 0 = λ j. Looks j n c.in_ok-many.many c.groups.bad c.in_ok-many.now c.groups.found c.look_on.new.found (state c.groups.on.disk) (state c.look_on.new.on.disk) in
+    let looks = subst P was.keying seen.ok in
+    let most = few_failing k n looks.sectors in
+    let few = c.groups.invariant.few in
     record {
-      kept = record { keying = kept.keying ∙ was.keying; slot = kept.slot ∙ was.slot; readonly = kept.readonly ∙ was.readonly };
-      few = omega (arith, looks.now_is, most);
-      lists = ListsFailing-next k (c.args.start * c.units-units.result) c.loop-i.i c.loop-i.bad c.in_ok-bad.bad c.args.found.now c.loop-i.found c.look.new.found (state c.args.on.now.disk) (state c.loop-i.on.disk) (state c.look.new.on.disk) c.loop-i.invariant.lists looks;
+      kept = record { keying = seen.kept.keying ∙ was.keying; slot = seen.kept.slot ∙ was.slot; readonly = seen.kept.readonly ∙ was.readonly };
+      within = omega (arith, seen.many.1);
+      few = omega (arith, looks.lists.now_is, most, looks.all, few);
+      lists = ListsFailing-next k (c.args.start * c.units-units.result) c.groups.done c.in_ok-many.many c.groups.bad c.in_ok-many.now c.args.found.now c.groups.found c.look_on.new.found (state c.args.on.now.disk)
+          (state c.groups.on.disk) (state c.look_on.new.on.disk) c.groups.invariant.lists looks;
     }

@@ -4,6 +4,5 @@ use Rattle.provider.proofs.provider.Provider.read_sectors.Goals as goal
 
 pub read_run-requires-clause-inside : goal.read_run-requires-clause-inside
 read_run-requires-clause-inside g c =
-    let is = rw (← c.self.view_is) at c.sectors-media.ensures in
-    request_inside c.self.inside.ring.keying c.args.sector (length c.args.into.now / c.self.inside.params.sectorsize) c.sectors-media.result
-    (g.D.Disk.state c.self.inside.disk).size c.passes_end.result is c.passes_end.ensures c.if-passes_end.false
+    let fits = rw (← c.self.view_is) at c.in-Ok.ensures in
+    request_inside c.self.inside.ring.keying c.args.sector (length c.args.into.now / c.self.inside.params.sectorsize) (g.D.Disk.state c.self.inside.disk).size fits

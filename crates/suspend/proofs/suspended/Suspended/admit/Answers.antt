@@ -39,14 +39,14 @@ returns-then-ne g c =
       };
       kept_is = ap (λ (s : Suspension _). s.mark) c.self.view_is;
       found_is = c.digest_of-opened.ensures;
-      differ = differ_so c.digest_of-opened.result c.self.inside.mark c.ne.result c.ne.ensures c.if-ne.true;
+      differ = differ_so c.digest_of-opened.result c.self.inside.kept.mark c.ne.result c.ne.ensures c.if-ne.true;
     }
 
 pub returns : goal.returns
 returns g c =
     let is = checked c.args.meta.now c.args.params.now (g.D.Disk.state c.args.self.now.disk).size c.requires.checked c.requires.size in
     let answer = sym c.opened.ensures.answer ∙ c.in-Some.is in
-    let mark : c.self.inside.mark ≡ c.args.self.now.mark = ap (λ (s : Suspension _). s.mark) c.self.view_is in
+    let mark : c.self.inside.kept.mark ≡ c.args.self.now.mark = ap (λ (s : Suspension _). s.mark) c.self.view_is in
     record {
       slot = c.in-Some.field-0-1;
       master = c.in-Some.master.bytes;
@@ -55,5 +55,5 @@ returns g c =
         opened = answer;
         opens = (c.opened.ensures.opens c.in-Some.field-0-1 c.in-Some.master.bytes).1 c.in-Some.is;
       };
-      same = sym c.digest_of-opened.ensures ∙ same_so c.digest_of-opened.result c.self.inside.mark c.ne.result c.ne.ensures c.if-ne.false ∙ mark;
+      same = sym c.digest_of-opened.ensures ∙ same_so c.digest_of-opened.result c.self.inside.kept.mark c.ne.result c.ne.ensures c.if-ne.false ∙ mark;
     }

@@ -42,8 +42,7 @@ unmount() {
     fi
     # The filesystem's program writes the last of it now. The server waits until that and nbdfuse have ended.
     fusermount3 -uz -- "$state/disk" 2>/dev/null || :
-    "$library/serve-nbd.sh" -e "$state/sock" 2>"$state/log" || status=$?
-    if [ "$status" != 0 ]; then cat -- "$state/log" >&2; fi
+    "$library/serve-nbd.sh" -e "$state/sock" 2>"$state/end" || { status=$?; cat -- "$state/end" >&2; }
     rm -rf -- "$state"
     return "$status"
 }

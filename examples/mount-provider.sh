@@ -42,7 +42,8 @@ unmount() {
     fi
     # The filesystem's program writes the last of it now. The server waits until that and nbdfuse have ended.
     fusermount3 -uz -- "$state/disk" 2>/dev/null || :
-    "$library/serve-nbd.sh" -e "$state/sock" 2>"$state/end" || { status=$?; cat -- "$state/end" >&2; }
+    "$library/serve-nbd.sh" -e "$state/sock" 2>&1 |
+        { grep --line-buffered -v ': ended, all is flushed$' >&2 || :; } || status=$?
     rm -rf -- "$state"
     return "$status"
 }

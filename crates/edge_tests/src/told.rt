@@ -204,12 +204,7 @@ fn an_ordinary_session_leaves_its_bytes(rt: HostRuntime) -> Result<(), Fail> {
 }
 
 // What a script on a new provider answers and leaves, where these calls of its image fail.
-fn replies(
-    alloc: Global,
-    fails: &[FailAt],
-    parts: &[&str],
-    seen: &Seen,
-) -> Result<MemSink, Fail> {
+fn replies(alloc: Global, fails: &[FailAt], parts: &[&str], seen: &Seen) -> Result<MemSink, Fail> {
     let mut output = MemSink::new(alloc, &[], &[], 4096)?;
     let script = joined(alloc, parts)?;
     let _ = run_script(alloc, fails, &script, &mut output, seen)?;
@@ -227,7 +222,10 @@ fn a_write_that_fails_leaves_its_front(rt: HostRuntime) -> Result<(), Fail> {
     }];
     let seen: Seen = Rc::new(alloc, RefCell::new(Vec::new(alloc)))?;
     let output = replies(alloc, &fails, &["write a.img 254 ", "\n"], &seen)?;
-    assert_eq!(rt; output.bytes(), b"ok\nok\nerror 26 DeviceFault\n".as_slice());
+    assert_eq!(rt;
+        output.bytes(),
+        b"ok\nok\nerror 26 DeviceFault\n".as_slice()
+    );
     let events = seen.try_borrow()?;
     assert_eq!(rt; events.len(), 8);
     assert!(rt; matches!(events.get(6), Some(Event::Write { n: 2035, .. })));
@@ -246,7 +244,11 @@ fn after_a_sync_that_failed_none_is_answered(rt: HostRuntime) -> Result<(), Fail
     let seen: Seen = Rc::new(alloc, RefCell::new(Vec::new(alloc)))?;
     let output = replies(alloc, &fails, &["flush a.img\nflush a.img\n"], &seen)?;
     let fault = "error 26 DeviceFault\n";
-    assert!(rt; output.bytes().starts_with(b"ok\nok\nerror 26 DeviceFault\nerror 26 DeviceFault\n"));
+    assert!(rt;
+        output
+            .bytes()
+            .starts_with(b"ok\nok\nerror 26 DeviceFault\nerror 26 DeviceFault\n")
+    );
     assert_eq!(rt; output.bytes().len(), 6 + 3 * fault.len());
     assert_eq!(rt; seen.try_borrow()?.len(), 3);
     Ok(())

@@ -1,8 +1,10 @@
 // The disks of images over the system's own files.
 use block_traits::Disk;
-use file_edge::{FileDisk, FileId, SystemFiles};
+use file_edge::{FileDisk, FileId, FileKind, ImageFile, Opener, SystemFiles};
 use image_layers::{ImageDisk, open_image};
+use std::alloc::{AllocError, Global};
 use std::fs::{self, File, OpenOptions};
+use std::os::unix::fs::symlink;
 use std::test::Fail;
 
 // The disk of a file, beside no other.
@@ -138,5 +140,103 @@ fn images_end_in_their_files(rt: HostRuntime) -> Result<(), Fail> {
     for (name, last) in FILES {
         assert!(&rt; is_left(&rt, name, last)?, "{name}");
     }
+    Ok(())
+}
+
+// Sectors, each of which has one byte at each place, the first 1.
+fn run_of(alloc: Global, sectors: u8) -> Result<Vec<u8>, AllocError> {
+    let mut bytes = Vec::new(alloc);
+    for byte in 0..sectors {
+        bytes.extend_from_slice(&[byte.saturating_add(1); 512])?;
+    }
+    Ok(bytes)
+}
+
+// Whether a sector has zeros.
+fn is_blank<D: Disk>(disk: &mut D, n: u64) -> bool {
+    let mut bytes = [7; 512];
+    n < disk.sectors() && disk.read(n, &mut bytes).is_ok() && bytes == [0; 512]
+}
+
+// Whether a disk takes a run from sector 1 on that is flushed, after its first and third sector were read.
+fn takes_run<D: Disk>(disk: &mut D, run: &[u8]) -> bool {
+    is_blank(disk, 0)
+        && is_blank(disk, 2)
+        && run.len() % 512 == 0
+        && 1 + run.len() as u64 / 512 <= disk.sectors()
+        && disk.write_sectors(1, run).is_ok()
+        && disk.flush().is_ok()
+}
+
+// Whether the image of a name takes a run.
+fn takes_run_as(rt: &HostRuntime, name: &str, run: &[u8]) -> Result<bool, Fail> {
+    let mut opener = SystemFiles::new(rt.clone()?);
+    let mut files = Vec::new(rt.alloc());
+    match open_image(rt.alloc(), &mut opener, &mut files, true, name)? {
+        ImageDisk::Plain(mut disk) => Ok(takes_run(&mut disk, run)),
+        ImageDisk::Behind(mut disk) => Ok(takes_run(&mut disk, run)),
+        ImageDisk::Join(mut disk) => Ok(takes_run(&mut disk, run)),
+    }
+}
+
+// A run over the seam of a join, and one of more sectors than may wait, are left in order, and nothing else changes.
+#[test]
+fn runs_end_in_their_files(rt: HostRuntime) -> Result<(), Fail> {
+    let run = run_of(rt.alloc(), 4)?;
+    fs::write(&rt, "seam1.img", [0u8; 1536].as_slice())?;
+    fs::write(&rt, "seam2.img", [0u8; 1536].as_slice())?;
+    assert!(&rt; takes_run_as(&rt, "join:seam1.img:seam2.img", &run)?);
+    let left = fs::read(&rt, "seam1.img")?;
+    let right = fs::read(&rt, "seam2.img")?;
+    assert!(rt; left.starts_with(&[0; 512]) && left.get(512..) == run.get(..1024));
+    assert!(rt; right.get(..1024) == run.get(1024..));
+    assert!(rt; right.get(1024..) == Some([0; 512].as_slice()));
+    fs::remove_file(&rt, "seam1.img")?;
+    fs::remove_file(&rt, "seam2.img")?;
+    Ok(())
+}
+
+#[test]
+fn more_than_may_wait_ends_in_its_file(rt: HostRuntime) -> Result<(), Fail> {
+    let mut run = run_of(rt.alloc(), 250)?;
+    run.extend_from_slice(run_of(rt.alloc(), 20)?.as_slice())?;
+    let mut zeros = Vec::new(rt.alloc());
+    zeros.resize(run.len().saturating_add(1024), 0)?;
+    fs::write(&rt, "waits.img", zeros.as_slice())?;
+    assert!(&rt; takes_run_as(&rt, "behind:waits.img", &run)?);
+    let left = fs::read(&rt, "waits.img")?;
+    fs::remove_file(&rt, "waits.img")?;
+    assert_eq!(rt; left.len(), zeros.len());
+    assert!(rt; left.starts_with(&[0; 512]) && left.ends_with(&[0; 512]));
+    assert!(rt; left.get(512..left.len().saturating_sub(512)) == Some(run.as_slice()));
+    Ok(())
+}
+
+// Each of the four calls of a file that has an image does just what it says, and what is found of a name is by its kind.
+#[test]
+fn a_file_of_the_system_keeps_its_promises(rt: HostRuntime) -> Result<(), Fail> {
+    let name = "promises.img";
+    let run = run_of(rt.alloc(), 5)?;
+    fs::write(&rt, name, run.as_slice())?;
+    let mut files = SystemFiles::new(rt.clone()?);
+    let mut file = files.open(OpenOptions::new().read(true).write(true), name)?;
+    assert_eq!(rt; file.end()?, 2560);
+    let mut into = [0; 1024];
+    file.read_bytes(512, &mut into)?;
+    assert!(rt; run.get(512..1536) == Some(into.as_slice()));
+    assert!(rt; file.read_bytes(2048, &mut into).is_err());
+    file.write_bytes(1024, &[9; 1024])?;
+    file.sync()?;
+    let left = fs::read(&rt, name)?;
+    assert!(rt; left.get(..1024) == run.get(..1024));
+    assert!(rt; left.get(1024..2048) == Some([9; 1024].as_slice()));
+    assert!(rt; left.get(2048..) == run.get(2048..));
+    symlink(&rt, name, "promises.link")?;
+    assert!(rt; files.find("promises.link")?.kind == FileKind::Regular);
+    assert!(rt; files.look("promises.link")?.kind == FileKind::Other);
+    assert!(rt; files.find(".")?.kind == FileKind::Other);
+    assert!(rt; files.find("/dev/null")?.kind == FileKind::Other);
+    fs::remove_file(&rt, "promises.link")?;
+    fs::remove_file(&rt, name)?;
     Ok(())
 }

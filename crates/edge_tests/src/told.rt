@@ -203,6 +203,57 @@ fn an_ordinary_session_leaves_its_bytes(rt: HostRuntime) -> Result<(), Fail> {
     Ok(())
 }
 
+// What a script on a new provider answers and leaves, where these calls of its image fail.
+fn replies(alloc: Global, fails: &[FailAt], parts: &[&str], seen: &Seen) -> Result<MemSink, Fail> {
+    let mut output = MemSink::new(alloc, &[], &[], 4096)?;
+    let script = joined(alloc, parts)?;
+    let _ = run_script(alloc, fails, &script, &mut output, seen)?;
+    Ok(output)
+}
+
+// The sixth write of a sector fails, the fifth of eight that are one write of the file: its first four sectors are left.
+#[test]
+fn a_write_that_fails_leaves_its_front(rt: HostRuntime) -> Result<(), Fail> {
+    let alloc = rt.alloc();
+    let fails = [FailAt {
+        kind: CallKind::Write,
+        nth: 6,
+        lands: false,
+    }];
+    let seen: Seen = Rc::new(alloc, RefCell::new(Vec::new(alloc)))?;
+    let output = replies(alloc, &fails, &["write a.img 254 ", "\n"], &seen)?;
+    assert_eq!(rt;
+        output.bytes(),
+        b"ok\nok\nerror 26 DeviceFault\n".as_slice()
+    );
+    let events = seen.try_borrow()?;
+    assert_eq!(rt; events.len(), 8);
+    assert!(rt; matches!(events.get(6), Some(Event::Write { n: 2035, .. })));
+    Ok(())
+}
+
+// The third sync fails, and no later one is asked for: the flush after it and the closing fail too.
+#[test]
+fn after_a_sync_that_failed_none_is_answered(rt: HostRuntime) -> Result<(), Fail> {
+    let alloc = rt.alloc();
+    let fails = [FailAt {
+        kind: CallKind::Flush,
+        nth: 3,
+        lands: false,
+    }];
+    let seen: Seen = Rc::new(alloc, RefCell::new(Vec::new(alloc)))?;
+    let output = replies(alloc, &fails, &["flush a.img\nflush a.img\n"], &seen)?;
+    let fault = "error 26 DeviceFault\n";
+    assert!(rt;
+        output
+            .bytes()
+            .starts_with(b"ok\nok\nerror 26 DeviceFault\nerror 26 DeviceFault\n")
+    );
+    assert_eq!(rt; output.bytes().len(), 6 + 3 * fault.len());
+    assert_eq!(rt; seen.try_borrow()?.len(), 3);
+    Ok(())
+}
+
 // SHA-256 of the lines that the case `ordinary-session` wants.
 const OUTPUT: [u8; 32] = [
     0x1a, 0xa5, 0x61, 0x46, 0x58, 0x03, 0xdb, 0xcf, 0xc5, 0xab, 0x01, 0xc5, 0x2a, 0x48, 0x02, 0x59,

@@ -72,10 +72,11 @@ module _ {O F : Type 0} (g : Ghosts (FileDisk F)) (leads : O → List ℕ → Re
     pub opens : OpensAll leads answers tells locks ends log_of words disks files random old new
 
   module _ (told : F → Option Told) where
-    -- The words were run over the images that they name: what opens files opened just these and the random bytes, and of the run of the words over
-    -- drawers with those names, in which just the disks of these images lay, to the drawers that are left, holds all that is said of runs. The disk
-    -- of a file alone tells what its file tells. Before the run nothing was asked of the cabinet. `survives`: whatever a power failure leaves in the
-    -- file of an image alone that tells its sectors, at any moment of the run, reads as promised, from the content that the file had when it was opened.
+    -- The words were run over the images that they name. What opens files opened just these and the random bytes. Of the run of
+    -- the words over drawers with those names, in which just the disks of these images lay, to the drawers that are left, holds all
+    -- that is said of runs. The disk of a file alone tells what its file tells, and before the run nothing was asked of the cabinet.
+    -- `survives`: whatever a power failure leaves in the file of an image alone that tells its sectors, at any moment of the run,
+    -- reads as promised, from the content that the file had when it was opened.
     pub record RunsOverFiles (words : List (List ℕ)) (opener : O) (source : SourceState) (sink : SinkState) (status : Status) (left : List DrawerState) (cabinet : CabinetState) (source_after : SourceState) (sink_after : SinkState) : Type 0 where
       pub disks : List (ImageDisk F g)
       pub files : List FileId

@@ -109,8 +109,8 @@ where
     pub(crate) entropy: RandomFile<O::File>,
 }
 
-/// Opens the images that the words name, and then the random bytes; no call was made of what is handed out. Where memory gave out the opener
-/// comes back.
+/// Opens the images that the words name, and then the random bytes; no call was made of what is handed out. Where memory
+/// gave out the opener comes back.
 pub(crate) fn open_all<O: Opener + Drop>(
     alloc: Global,
     opener: O,

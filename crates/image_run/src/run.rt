@@ -13,10 +13,10 @@ use geli_core::{AddFault, Drawers, Status, run_over};
 use image_layers::ImageDisk;
 use std::alloc::Global;
 
-/// Runs what the words ask for over the images that they name, and hands back the shelf with their disks, and the files, as the run left them.
-/// Each image is opened, in order, to be changed but where the command only reads, and then the random bytes, and nothing else. Or there was no
-/// memory for that: then neither was anything read nor printed, and the opener comes back. Words that aren't those of a script read nothing
-/// of the input.
+/// Runs what the words ask for over the images that they name, and hands back the shelf with their disks, and the
+/// files, as the run left them. Each image is opened, in order, to be changed but where the command only reads, and then
+/// the random bytes, and nothing else. Or there was no memory for that: then neither was anything read nor printed, and
+/// the opener comes back. Words that aren't those of a script read nothing of the input.
 pub fn run_files<O: Opener + Drop, S: Source, K: Sink>(
     alloc: Global,
     words: &[String],
@@ -65,8 +65,8 @@ fn memory_fault(fault: AddFault) -> NoMemory
     }
 }
 
-/// The same, and of what the run left the status alone. The status is by the words: `ReadFault` only where the input failed, `WriteFault` only
-/// where the output did; or `NoMemory`.
+/// The same, and of what the run left the status alone. The status is by the words: `ReadFault` only where the input
+/// failed, `WriteFault` only where the output did; or `NoMemory`.
 pub fn run_words<O: Opener + Drop, S: Source, K: Sink>(
     alloc: Global,
     words: &[String],

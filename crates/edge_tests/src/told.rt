@@ -16,12 +16,16 @@ use std::io::{self, ErrorKind};
 use std::rc::Rc;
 use std::test::Fail;
 
+// What was asked of the names of files but to open and to find them, in order, a letter each.
+type Changes = Rc<RefCell<Vec<u8>>>;
+
 // An image of 2,048 sectors of which some calls fail, a key file, a passphrase, and random bytes.
 #[derive(Drop)]
 struct MemFiles {
     alloc: Global,
     fails: Vec<FailAt>,
     seen: Seen,
+    changes: Changes,
     refusals: u64,
 }
 
@@ -49,6 +53,12 @@ fn counted(alloc: Global, count: u64) -> Result<Vec<u8>, AllocError> {
 }
 
 impl MemFiles {
+    fn note(&self, letter: u8) {
+        if let Ok(mut changes) = self.changes.try_borrow_mut() {
+            let _ = changes.push(letter);
+        }
+    }
+
     fn disk(&self) -> Result<SeenDisk, NoMemory> {
         let mut disk = MemDisk::new(self.alloc, 2048, 64)?;
         disk.fail_calls(self.fails.as_slice())?;
@@ -106,26 +116,33 @@ impl Opener for MemFiles {
     }
 
     fn make(&mut self, _mode: u32, _name: &str) -> io::Result<()> {
-        Err(refused())
+        self.note(b'm');
+        Ok(())
     }
 
     fn write(&mut self, _bytes: &[u8]) -> io::Result<()> {
-        Err(refused())
+        self.note(b'w');
+        Ok(())
     }
 
     fn sync(&mut self) -> io::Result<()> {
-        Err(refused())
+        self.note(b's');
+        Ok(())
     }
 
     fn rename(&mut self, _from: &str, _to: &str) -> io::Result<()> {
-        Err(refused())
+        self.note(b'r');
+        Ok(())
     }
 
     fn sync_folder(&mut self, _name: &str) -> io::Result<()> {
-        Err(refused())
+        self.note(b'f');
+        Ok(())
     }
 
-    fn remove(&mut self, _name: &str) {}
+    fn remove(&mut self, _name: &str) {
+        self.note(b'd');
+    }
 }
 
 // A script over the image, of which these calls fail.
@@ -140,6 +157,7 @@ fn run_script(
         alloc,
         fails: Vec::from_slice(alloc, fails)?,
         seen: seen.clone()?,
+        changes: Rc::new(alloc, RefCell::new(Vec::new(alloc)))?,
         refusals: 0,
     };
     let mut words = Vec::new(alloc);
@@ -265,3 +283,104 @@ const EVENTS: [u8; 32] = [
     0x7c, 0xb2, 0xd3, 0xfb, 0x07, 0x81, 0xb8, 0x36, 0xb3, 0x85, 0x54, 0xa5, 0xc7, 0x9e, 0x88, 0xc0,
     0x46, 0x42, 0x44, 0xb3, 0xb3, 0x4c, 0x13, 0xd0, 0x8d, 0xe8, 0xc4, 0x1d, 0xde, 0xe2, 0x0f, 0x92,
 ];
+
+// Runs words over the image, with this input, and fails where the status is another, or what was asked of names is.
+fn asks(
+    alloc: Global,
+    words: &[&str],
+    input: &mut MemSource,
+    output: &mut MemSink,
+    status: Status,
+    wanted: &[u8],
+) -> Result<bool, Fail> {
+    let changes: Changes = Rc::new(alloc, RefCell::new(Vec::new(alloc)))?;
+    let opener = MemFiles {
+        alloc,
+        fails: Vec::new(alloc),
+        seen: Rc::new(alloc, RefCell::new(Vec::new(alloc)))?,
+        changes: changes.clone()?,
+        refusals: 0,
+    };
+    let mut owned = Vec::new(alloc);
+    for word in words {
+        owned.push(String::from_str(alloc, word)?)?;
+    }
+    let ended = run_words(alloc, &owned, opener, input, output);
+    let asked = changes.try_borrow()?;
+    Ok(ended == status && asked.as_slice() == wanted)
+}
+
+// No file is made, replaced or removed but the one that a line names to be stored, whatever the status; three words are served.
+#[test]
+fn a_run_changes_no_name_but_those_it_stores(rt: HostRuntime) -> Result<(), Fail> {
+    let alloc = rt.alloc();
+    let script = ["script", "a.img"].as_slice();
+    let mut none = MemSource::new(alloc, &[], &[], &[])?;
+    let mut output = MemSink::new(alloc, &[], &[], 4096)?;
+    let mut lines = MemSource::new(alloc, b"init -P -K k a.img\nbackup a.img b\n", &[], &[])?;
+    assert!(rt;
+        asks(
+            alloc,
+            script,
+            &mut lines,
+            &mut output,
+            Status::Done,
+            b"mwsrf"
+        )?
+    );
+    assert!(rt;
+        asks(
+            alloc,
+            &["backup", "a.img", "b"],
+            &mut none,
+            &mut output,
+            Status::SomeRefused,
+            b""
+        )?
+    );
+    assert!(rt;
+        asks(
+            alloc,
+            &["destroy", "a.img"],
+            &mut none,
+            &mut output,
+            Status::BadWords,
+            b""
+        )?
+    );
+    let mut failing = MemSource::new(alloc, b"list\n", &[], &[1])?;
+    assert!(rt;
+        asks(
+            alloc,
+            script,
+            &mut failing,
+            &mut output,
+            Status::ReadFault,
+            b""
+        )?
+    );
+    let mut full = MemSink::new(alloc, &[], &[], 0)?;
+    assert!(rt;
+        asks(
+            alloc,
+            &["dump", "a.img"],
+            &mut none,
+            &mut full,
+            Status::WriteFault,
+            b""
+        )?
+    );
+    let digits = vec![in alloc; b'x'; 300_001]?;
+    let mut long = MemSource::new(alloc, &digits, &[], &[])?;
+    assert!(rt;
+        asks(
+            alloc,
+            script,
+            &mut long,
+            &mut output,
+            Status::LineTooLong,
+            b""
+        )?
+    );
+    Ok(())
+}

@@ -284,16 +284,17 @@ const EVENTS: [u8; 32] = [
     0x46, 0x42, 0x44, 0xb3, 0xb3, 0x4c, 0x13, 0xd0, 0x8d, 0xe8, 0xc4, 0x1d, 0xde, 0xe2, 0x0f, 0x92,
 ];
 
-// Runs words over the image, with this input, and fails where the status is another, or what was asked of names is.
-fn asks(
-    alloc: Global,
-    words: &[&str],
-    input: &mut MemSource,
-    output: &mut MemSink,
-    status: Status,
-    wanted: &[u8],
-) -> Result<bool, Fail> {
-    let changes: Changes = Rc::new(alloc, RefCell::new(Vec::new(alloc)))?;
+// A run of words over the image: what the input has, which of its calls fail, and the room of the output.
+#[derive(Clone, Copy)]
+struct Given<'a> {
+    words: &'a [&'a str],
+    input: &'a [u8],
+    fails: &'a [u64],
+    room: u64,
+}
+
+// How such a run ends, and what it asked of names.
+fn end_of(alloc: Global, given: Given<'_>, changes: &Changes) -> Result<Status, Fail> {
     let opener = MemFiles {
         alloc,
         fails: Vec::new(alloc),
@@ -301,86 +302,75 @@ fn asks(
         changes: changes.clone()?,
         refusals: 0,
     };
-    let mut owned = Vec::new(alloc);
-    for word in words {
-        owned.push(String::from_str(alloc, word)?)?;
+    let mut words = Vec::new(alloc);
+    for word in given.words {
+        words.push(String::from_str(alloc, word)?)?;
     }
-    let ended = run_words(alloc, &owned, opener, input, output);
+    let mut input = MemSource::new(alloc, given.input, &[], given.fails)?;
+    let mut output = MemSink::new(alloc, &[], &[], given.room)?;
+    Ok(run_words(alloc, &words, opener, &mut input, &mut output))
+}
+
+// Whether it ends so, and asked this of names.
+fn asks(alloc: Global, given: Given<'_>, status: Status, wanted: &[u8]) -> Result<bool, Fail> {
+    let changes: Changes = Rc::new(alloc, RefCell::new(Vec::new(alloc)))?;
+    let ended = end_of(alloc, given, &changes)?;
     let asked = changes.try_borrow()?;
     Ok(ended == status && asked.as_slice() == wanted)
 }
 
-// No file is made, replaced or removed but the one that a line names to be stored, whatever the status; three words are served.
+// The words of a script over the image, with this input.
+fn over<'a>(input: &'a [u8], fails: &'a [u64]) -> Given<'a> {
+    Given {
+        words: &["script", "a.img"],
+        input,
+        fails,
+        room: 4096,
+    }
+}
+
+// One command, whose output has this room.
+fn alone<'a>(words: &'a [&'a str], room: u64) -> Given<'a> {
+    Given {
+        words,
+        input: &[],
+        fails: &[],
+        room,
+    }
+}
+
+// No file is made, replaced or removed but the one that a line names to be stored, and three words are served.
 #[test]
 fn a_run_changes_no_name_but_those_it_stores(rt: HostRuntime) -> Result<(), Fail> {
     let alloc = rt.alloc();
-    let script = ["script", "a.img"].as_slice();
-    let mut none = MemSource::new(alloc, &[], &[], &[])?;
-    let mut output = MemSink::new(alloc, &[], &[], 4096)?;
-    let mut lines = MemSource::new(alloc, b"init -P -K k a.img\nbackup a.img b\n", &[], &[])?;
+    let stores = over(b"init -P -K k a.img\nbackup a.img b\n", &[]);
+    assert!(rt; asks(alloc, stores, Status::Done, b"mwsrf")?);
     assert!(rt;
         asks(
             alloc,
-            script,
-            &mut lines,
-            &mut output,
-            Status::Done,
-            b"mwsrf"
-        )?
-    );
-    assert!(rt;
-        asks(
-            alloc,
-            &["backup", "a.img", "b"],
-            &mut none,
-            &mut output,
+            alone(&["backup", "a.img", "b"], 99),
             Status::SomeRefused,
             b""
         )?
     );
+    Ok(())
+}
+
+// So it is with each status that a run over memory can have.
+#[test]
+fn a_run_that_ends_early_changes_no_name(rt: HostRuntime) -> Result<(), Fail> {
+    let alloc = rt.alloc();
+    let long = vec![in alloc; b'x'; 300_001]?;
     assert!(rt;
         asks(
             alloc,
-            &["destroy", "a.img"],
-            &mut none,
-            &mut output,
+            alone(&["destroy", "a.img"], 999),
             Status::BadWords,
             b""
         )?
     );
-    let mut failing = MemSource::new(alloc, b"list\n", &[], &[1])?;
-    assert!(rt;
-        asks(
-            alloc,
-            script,
-            &mut failing,
-            &mut output,
-            Status::ReadFault,
-            b""
-        )?
-    );
-    let mut full = MemSink::new(alloc, &[], &[], 0)?;
-    assert!(rt;
-        asks(
-            alloc,
-            &["dump", "a.img"],
-            &mut none,
-            &mut full,
-            Status::WriteFault,
-            b""
-        )?
-    );
-    let digits = vec![in alloc; b'x'; 300_001]?;
-    let mut long = MemSource::new(alloc, &digits, &[], &[])?;
-    assert!(rt;
-        asks(
-            alloc,
-            script,
-            &mut long,
-            &mut output,
-            Status::LineTooLong,
-            b""
-        )?
-    );
+    assert!(rt; asks(alloc, over(b"list\n", &[1]), Status::ReadFault, b"")?);
+    assert!(rt; asks(alloc, alone(&["dump", "a.img"], 0), Status::WriteFault, b"")?);
+    assert!(rt; asks(alloc, over(&long, &[]), Status::LineTooLong, b"")?);
     Ok(())
 }

@@ -43,7 +43,8 @@ STAY = {
     "geli_core": ["always_a_read_fault", "always_a_write_fault", "always_a_device_fault"],
     "key_commands": ["fresh_master_key_wrapped", "slot_cleared_before_the_new_key", "wrapped_bytes_left_in_a_slot"],
     "key_slots": ["sealed_by_xts"],
-    "provider": ["flush_without_a_device_flush", "device_fault_for_good", "always_a_wrong_key"],
+    "provider": [
+        "flush_without_a_device_flush", "sectors_kept_in_memory", "device_fault_for_good", "always_a_wrong_key"],
     "range_keys": ["range_key_0_everywhere", "one_tag_key_for_all_offsets", "key_of_another_number_lent"],
     "resize_kill": ["old_place_destroyed_before_the_new_is_flushed"],
     "sealing": ["tweak_is_the_sector_number", "opened_with_the_sector_number"],

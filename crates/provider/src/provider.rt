@@ -202,11 +202,11 @@ impl<D: Disk> Provider<D> {
     /// Reads logical sectors from number `sector` on into `into`, whose length is a positive multiple of the sector
     /// size.
     ///
-    /// `OutOfRange` comes exactly where the request passes the end, and then no call of the disk is made. Then each
-    /// unit is read and opened before the next one is read, and the first fault ends the request: `DeviceFault` comes
-    /// only where the device failed and all units before were accepted, and `Integrity` exactly where a unit is the
-    /// first whose tag isn't that of its cipher text, at the unit's byte offset on the device. After a refusal `into`
-    /// is all zeros.
+    /// `OutOfRange` comes exactly where the request passes the end, and then no call of the disk is made. Sectors that
+    /// a look doesn't serve are read unit by unit, each opened before the next one is read. The first fault ends the
+    /// request: `DeviceFault` comes only where the device failed and all units before were accepted, and `Integrity`
+    /// exactly where a unit is the first whose tag isn't that of its cipher text, at the unit's byte offset on the
+    /// device. After a refusal `into` is all zeros.
     pub fn read(&mut self, sector: u64, into: &mut [u8]) -> Result<(), ReadFault>
         requires some { 0 < length into.old }
         requires whole { length into.old % self.old.keying.sectorsize ≡ 0 }

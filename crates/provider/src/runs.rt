@@ -1,8 +1,8 @@
 // Logical sectors one after the other, opened and sealed, with authentication and without.
-ghost use Rattle.std.specs.Prelude.{◌≡◌, ℕ, ◌+◌, ◌*◌, ◌/◌, ◌%◌, ◌^◌, ◌<◌, ◌≤◌, [], Ok, OnOk, OnErr, IfSome, Option, false, length, true};
+ghost use Rattle.std.specs.Prelude.{◌≡◌, ℕ, ◌+◌, ◌*◌, ◌/◌, ◌%◌, ◌^◌, ◌<◌, ◌≤◌, [], Ok, OnOk, OnErr, IfSome, Option, false, length, take, true};
 ghost use Rattle.block_traits.specs.Causes.{Counted};
 ghost use Rattle.block_traits.specs.Content.{Content};
-ghost use Rattle.block_traits.specs.Disk.{DiskState, FailsIn, GivesEachFrom, Logs};
+ghost use Rattle.block_traits.specs.Disk.{DiskState, FailsIn, GivesEachFrom, Logs, write_events};
 ghost use Rattle.eli_base.specs.declared.algorithms.Auth.TheVariants.{Off};
 ghost use Rattle.sealing.specs.Sectors.{units};
 ghost use Rattle.provider.specs.Reading.{ReadsAs, ReadsFrom, sector_reading};
@@ -252,7 +252,7 @@ pub fn read_run<D: Disk>(
 }
 
 // Writes logical sectors of `size` bytes by one write of the disk, the first to number `sector`. They are sealed in
-// `buffer`, which has room for them all.
+// `buffer`, which has room for them all, and what is left there is what was to be written.
 fn write_batch<D: Disk>(
     ring: &mut KeyRing,
     disk: &mut D,
@@ -269,6 +269,8 @@ fn write_batch<D: Disk>(
     ensures err { OnErr result (FailsIn (data_writes ring.old.keying sector (length from.now / size) from.now) (D.state disk.old) (D.state disk.new)) }
     ensures unasked { (D.state disk.new).reads ≡ (D.state disk.old).reads }
     ensures keying { ring.new.keying ≡ ring.old.keying }
+    ensures left { write_events (sector * units ring.old.keying) (take (length from.now / size * (512 * units ring.old.keying)) buffer.new)
+        ≡ data_writes ring.old.keying sector (length from.now / size) from.now }
 {
     ring.is_of_a_keying();
     let units = unit_count(ring.auth(), size);

@@ -128,8 +128,8 @@ fn look_on<D: Disk>(
 /// 16,384.
 ///
 /// The listed units stand at the front of `found` in ascending order, each as eight bytes, the least significant
-/// first: its byte offset on the device. What is behind them stays. Each unit of these sectors is read once, and
-/// nothing else is done.
+/// first: its byte offset on the device. What is behind them stays. One read of each unit of these sectors is counted,
+/// and nothing else is done.
 ///
 /// It is refused only where the device failed: then no more units were read than these, nothing else was done, and
 /// `found` may hold any bytes.

@@ -8,8 +8,8 @@
 # -m: makes an ext4 first, where the provider is new. -r: to be read alone. -n: the filesystem in this partition of the
 # data, counted from 1. The passphrase is asked for; -j names a file whose first line it is, -p says that there is none.
 #
-# It stays mounted when the terminal is closed. -u unmounts it, and answers 0 only where all was flushed. What stands
-# behind the mount is kept in /tmp/geli-mounts-UID.
+# It stays mounted when the terminal is closed. -u unmounts it, and answers 0 only where all that was written meanwhile
+# is in the provider, and flushed. What stands behind the mount is kept in /tmp/geli-mounts-UID.
 #
 # It needs nbdkit with its python plugin, nbdfuse, fusermount3, and fuse2fs or grub-mount. On Debian:
 #

@@ -8,12 +8,17 @@ and of a sector that a write covers in part the rest is read first.
 Writes that stand side by side are gathered in memory, up to one line's worth: to the end of a gathering, a client's
 flush or a request elsewhere. A client's flush first writes what is gathered and then is the line `flush`. Where a
 gathered write is refused, what was gathered is kept, and the request that made it be written fails. The next request
-that needs it to be written tries again, and so does a flush: it is answered well only once all that clients wrote
-before is written and synced.
+that needs it to be written tries again, and so does a flush: it is answered well only once all that was taken from
+clients before is written and synced.
+
+A write elsewhere that comes while what is gathered can't be written is refused, and its bytes aren't taken. The server
+remembers where they belong until a client writes there again.
 
 Where a client reads on and on, the next lines are said before it asks. When the server ends, what is gathered is
-written, the provider is flushed and detached, and FILE gets `ok` or what went wrong. It needs lib.py in PYTHONPATH.
+written, and the provider is flushed and detached. FILE gets `ok`, or what went wrong, or which bytes of clients were
+refused and not written again. It needs lib.py in PYTHONPATH.
 """
+import bisect
 import collections
 import errno
 import os
@@ -100,13 +105,47 @@ class Ahead:
         self.piece, self.lines = b"", 0
 
 
+class Ranges:
+    """Ranges of bytes that don't touch each other, in ascending order."""
+
+    def __init__(self):
+        self.begins, self.ends = [], []
+
+    def add(self, begin, end):
+        first, last = bisect.bisect_left(self.ends, begin), bisect.bisect_right(self.begins, end)
+        if begin < end:
+            begin, end = min([begin, *self.begins[first:last]]), max([end, *self.ends[first:last]])
+            self.replace(first, last, [(begin, end)])
+
+    def remove(self, begin, end):
+        first, last = bisect.bisect_right(self.ends, begin), bisect.bisect_left(self.begins, end)
+        if begin < end and first < last:
+            rests = ((self.begins[first], begin), (end, self.ends[last - 1]))
+            self.replace(first, last, [rest for rest in rests if rest[0] < rest[1]])
+
+    def replace(self, first, last, ranges):
+        self.begins[first:last] = [begin for begin, _ in ranges]
+        self.ends[first:last] = [end for _, end in ranges]
+
+    def __bool__(self):
+        return bool(self.begins)
+
+    def __str__(self):
+        some = [f"{begin} to {end - 1}" for begin, end in zip(self.begins[:3], self.ends)]
+        return "bytes " + ", ".join(some) + ", and others" * (len(self.begins) > len(some))
+
+
 class Data:
-    """The bytes of an attached provider, as they are with what is gathered."""
+    """The bytes of an attached provider, as they are with what is gathered.
+
+    What a client asked last to be written at a place is written, or is gathered, or the place is among the lost ones.
+    """
 
     def __init__(self, session):
         self.session = session
         self.ahead = Ahead(session)
         self.start, self.gathered = 0, bytearray()
+        self.lost = Ranges()
         self.most = REQUEST // session.width * session.width
 
     def read(self, buffer, offset):
@@ -124,13 +163,16 @@ class Data:
         return b"".join(self.session.read_pieces(first, last - first))[skip:skip + size]
 
     def write(self, buffer, offset):
-        """Gathers what stands beside the rest, else writes the rest first."""
+        """Gathers what stands beside the rest, else writes the rest first; where that is refused nothing is taken."""
+        end = offset + len(buffer)
+        self.lost.add(offset, end)
         at = offset - self.start
         if self.gathered and (not 0 <= at <= len(self.gathered) or len(self.gathered) >= self.most):
             self.write_gathered()
         if not self.gathered:
             self.start, at = offset, 0
         self.gathered[at:at + len(buffer)] = buffer
+        self.lost.remove(offset, end)
         if len(self.gathered) >= self.most:
             self.write_gathered()
 
@@ -155,13 +197,15 @@ class Data:
         self.session.must("flush", self.session.image)
 
     def detach(self):
-        """Detaches the provider, which flushes it."""
+        """Detaches the provider, which flushes it, and tells whether all that clients wrote is in it."""
         try:
             self.write_gathered()
         finally:
             self.ahead.drop()
             self.session.must("detach", self.session.image)
             self.session.end()
+        if self.lost:
+            raise Failed(f"refused, and not written again: {self.lost}")
 
 
 def config(name, value):

@@ -387,6 +387,84 @@ EOF
     says "  and leaves nothing behind" test ! -e sock -a ! -e sock.pid -a ! -e sock.ended
     says "  and the data are there" "$out" -b 8380416 -k key -j pass f.img f.out 2>notes
     says "  the same bytes" cmp data f.out
+    # Writes that are refused while there is no room, and made again or not. A stand-in for geli refuses them while the
+    # file `full` is there; where a small disk can be mounted, FILLER fills it.
+    cat >standin <<EOS
+#!/usr/bin/env python3
+import os, subprocess, sys
+words = ["$GELI", *sys.argv[1:]]
+if words[1] != "script":
+    os.execv(words[0], words)
+geli = subprocess.Popen(words, stdin=subprocess.PIPE, stdout=subprocess.PIPE)
+for line in sys.stdin.buffer:
+    rows = []
+    if line.startswith(b"write ") and os.path.exists("$folder/full"):
+        rows.append(b"error 26 DeviceFault\n")
+    else:
+        geli.stdin.write(line)
+        geli.stdin.flush()
+    while not rows or not rows[-1].startswith((b"ok", b"error ")):
+        rows.append(geli.stdout.readline())
+    sys.stdout.buffer.write(b"".join(rows))
+    sys.stdout.buffer.flush()
+geli.stdin.close()
+sys.exit(geli.wait())
+EOS
+    chmod +x standin
+    cat >refused.py <<'EOS'
+import errno, os
+import nbd
+
+def refused(work, *words):
+    try:
+        work(*words)
+    except nbd.Error as failed:
+        return failed.errnum == errno.EIO
+    return False
+
+def fill():
+    with open(filler or "full", "ab", buffering=0) as file:
+        try:
+            while filler:
+                file.write(bytes(4096))
+        except OSError as failed:
+            assert failed.errno == errno.ENOSPC
+
+def empty():
+    os.truncate(filler, 0) if filler else os.remove("full")
+
+filler, at, again = os.getenv("FILLER"), int(os.environ["AT"]), os.environ["AGAIN"]
+h.pwrite(b"a" * 8192, at)
+fill()
+assert refused(h.pwrite, b"b" * 8192, at + 65536)  # what is gathered must be written first
+assert refused(h.pwrite, b"c" * 8192, at - 4096)
+empty()
+h.flush()
+assert h.pread(8192, at) == b"a" * 8192
+if again == "some":
+    h.pwrite(b"d" * 4096, at + 65536)
+    h.pwrite(b"d" * 8192, at - 4096)
+if again == "all":
+    h.pwrite(b"d" * 12288, at - 4096)
+    h.pwrite(b"d" * 8192, at + 65536)
+h.flush()
+EOS
+    refused_writes() { # AGAIN AT: what is said at the end, and the status
+        "$serve" -k key -j pass "$small" sock 2>notes
+        AGAIN=$1 AT=$2 nbdsh -u "$uri" -c - <refused.py
+        "$serve" -e sock 2>&1
+        echo $?
+    }
+    lost='serve-nbd.sh: what clients wrote may be lost: refused, and not written again: bytes'
+    try_refused_writes() { # HOW
+        says "a write that was refused, $1, is told at the end" test "$(refused_writes none 2097152)" = "$lost 2093056 to 2101247, 2162688 to 2170879"$'\n1'
+        says "  and what is left of it" test "$(refused_writes some 2359296)" = "$lost 2428928 to 2433023"$'\n1'
+        says "  and none where all was written again" test "$(refused_writes all 2621440)" = $'sock: ended, all is flushed\n0'
+    }
+    if nbdsh -c pass 2>commands; then
+        "$make" -i 100 -J pass 4M refused.img key refused.backup 2>notes
+        GELI=$folder/standin small=refused.img try_refused_writes 'by a stand-in'
+    fi
     # Writes that are gathered, on a disk that is full for a while.
     if nbdsh -c pass 2>commands && mkdir gather && mount -t tmpfs -o size=2500k gather gather 2>commands; then
         "$make" -i 100 -J pass 4M gather/g.img key g.backup 2>notes
@@ -435,6 +513,8 @@ EOS
         nbdsh -u "$uri" -c 'h.pwrite(b"x" * 4096, 3 << 20)'
         head -c 4M /dev/zero >gather/filler 2>commands
         says "  and one that fails at the end is told there" test "$("$serve" -e sock 2>&1 | grep -c 'may be lost: .*its file system is full')" = 1
+        : >gather/filler
+        FILLER=gather/filler small=gather/g.img try_refused_writes 'on a full disk'
         umount gather
     else
         echo "not tried: gathered writes on a full disk (no nbdsh, or no mount of a tmpfs)"
@@ -519,6 +599,27 @@ if command -v nbdkit nbdfuse fuse2fs mke2fs e2fsck fusermount3 blkid >commands &
     "$mount" -k key -j pass m.img "$files" 2>notes
     says "a server that dies is told" test "$(kill -9 "$(cat /tmp/geli-mounts-"$(id -u)"/*/sock.pid)"; sleep 1; "$mount" -u "$files" 2>&1 | grep -c 'may be lost')" -ge 1
     says "  and nothing is left" test -z "$(ls "/tmp/geli-mounts-$(id -u)")"
+    if [ -x ../standin ] && nbdsh -c pass 2>commands; then
+        GELI=$folder/standin "$mount" -k key -j pass m.img "$files" 2>notes
+        cat >refused.py <<EOS
+import os
+same, refused = h.pread(4096, 1 << 19), 0
+h.pwrite(same, 1 << 19)
+open("$folder/full", "w").close()
+try:
+    h.pwrite(h.pread(4096, 1 << 20), 1 << 20)
+except nbd.Error:
+    refused = 1
+os.remove("$folder/full")
+h.flush()
+assert refused
+EOS
+        says "a write that a mount refuses" nbdsh -u "nbd+unix:///?socket=$(echo "/tmp/geli-mounts-$(id -u)"/*/sock)" -c - <refused.py
+        says "  is told when it is unmounted" test "$("$mount" -u "$files" 2>&1; echo $?)" = $'serve-nbd.sh: what clients wrote may be lost: refused, and not written again: bytes 1048576 to 1052671\n1'
+        says "  and nothing is left" test -z "$(ls "/tmp/geli-mounts-$(id -u)")"
+    else
+        echo "not tried: a write that a mount refuses (no nbdsh)"
+    fi
     if command -v makefs grub-mount >commands; then
         mkdir tree && cp "$top/README.md" tree/
         says "a filesystem of FreeBSD's" makefs -t ffs -o version=2 -s 1m ufs.img tree >commands 2>&1

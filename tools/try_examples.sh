@@ -455,7 +455,7 @@ EOS
         "$serve" -e sock 2>&1
         echo $?
     }
-    lost='serve-nbd.sh: what clients wrote may be lost: refused, and not written again: bytes'
+    lost='serve-nbd.sh: what clients wrote may be lost: refused or dropped, and not written again: bytes'
     try_refused_writes() { # HOW
         says "a write that was refused, $1, is told at the end" test "$(refused_writes none 2097152)" = "$lost 2093056 to 2101247, 2162688 to 2170879"$'\n1'
         says "  and what is left of it" test "$(refused_writes some 2359296)" = "$lost 2428928 to 2433023"$'\n1'
@@ -464,6 +464,47 @@ EOS
     if nbdsh -c pass 2>commands; then
         "$make" -i 100 -J pass 4M refused.img key refused.backup 2>notes
         GELI=$folder/standin small=refused.img try_refused_writes 'by a stand-in'
+    fi
+    # Writes to a part of a sector that can't be read.
+    if nbdsh -c pass 2>commands; then
+        truncate -s 2M part.img && "$GELI" init -s 4096 -a HMAC/SHA256 -P -K key part.img >out
+        sed '/^filler, /,$d' refused.py >part.py && cp part.py again.py
+        cat >>part.py <<'EOS'
+h.pwrite(b"a" * 512, 4096)
+h.pwrite(b"b" * 4096, 65536)
+assert h.pread(4096, 65536) == b"b" * 4096
+assert refused(h.pread, 512, 4096)
+assert refused(h.flush)
+h.flush()
+h.pwrite(b"c" * 12288, 20480 - 100)  # a part, two whole sectors and a part
+h.pwrite(b"d" * 4096, 4096)
+assert h.pread(4096, 4096) + h.pread(8192, 20480) == b"d" * 4096 + b"c" * 8192
+assert refused(h.flush)
+h.flush()
+EOS
+        cat >>again.py <<'EOS'
+h.pwrite(b"e" * 100, 16484)
+h.pwrite(b"f" * 100, 131072)
+assert refused(h.pwrite, b"g" * 200000, 300000)  # written at once
+h.pwrite(b"h" * 8192, 16384)
+h.pwrite(b"h" * 4096, 131072)
+h.flush()  # nothing is left to be told
+for at in 28672, 299008, 499712:
+    h.pwrite(b"i" * 4096, at)
+h.pwrite(b"j" * 5, 30000)
+h.pwrite(b"k" * 5, 30005)
+h.flush()
+assert h.pread(14, 29998) == b"iijjjjjkkkkkii"
+assert h.pread(196608, 303104) == b"g" * 196608
+EOS
+        "$serve" -p -k key part.img sock 2>notes
+        says "a write to a part of a sector that can't be read is told by one flush, and others go on" nbdsh -u "$uri" -c - <part.py
+        says "  and at the end" test "$("$serve" -e sock 2>&1; echo $?)" = "$lost 20380 to 20479, 28672 to 32667"$'\n1'
+        "$serve" -p -k key part.img sock 2>notes
+        says "  and not where all was written again" nbdsh -u "$uri" -c - <again.py
+        says "  nor at the end" test "$("$serve" -e sock 2>&1; echo $?)" = $'sock: ended, all is flushed\n0'
+    else
+        echo "not tried: requests in a server's memory (no nbdsh)"
     fi
     # Writes that are gathered, on a disk that is full for a while.
     if nbdsh -c pass 2>commands && mkdir gather && mount -t tmpfs -o size=2500k gather gather 2>commands; then
@@ -615,7 +656,7 @@ h.flush()
 assert refused
 EOS
         says "a write that a mount refuses" nbdsh -u "nbd+unix:///?socket=$(echo "/tmp/geli-mounts-$(id -u)"/*/sock)" -c - <refused.py
-        says "  is told when it is unmounted" test "$("$mount" -u "$files" 2>&1; echo $?)" = $'serve-nbd.sh: what clients wrote may be lost: refused, and not written again: bytes 1048576 to 1052671\n1'
+        says "  is told when it is unmounted" test "$("$mount" -u "$files" 2>&1; echo $?)" = $'serve-nbd.sh: what clients wrote may be lost: refused or dropped, and not written again: bytes 1048576 to 1052671\n1'
         says "  and nothing is left" test -z "$(ls "/tmp/geli-mounts-$(id -u)")"
     else
         echo "not tried: a write that a mount refuses (no nbdsh)"

@@ -629,6 +629,15 @@ if command -v nbdkit nbdfuse fuse2fs mke2fs e2fsck fusermount3 blkid >commands &
     "$out" -k key -j pass m.img m.out 2>notes
     says "  the filesystem is clean" e2fsck -fn m.out >commands 2>&1
     says "  and it is never made anew" test "$("$mount" -m -k key -j pass m.img "$files" 2>notes && cat "$files/README.md" && "$mount" -u "$files" 2>notes)" = "$(cat "$top/README.md")"
+    # Where the folder behind the mounts is another user's, by a user number that none has.
+    mkdir numbers planted && printf '#!/bin/sh\necho %s\n' "${folder##*/}" >numbers/id && chmod +x numbers/id
+    mkdir "planted/$(realpath "$files" | tr -d '\n' | sha256sum | cut -c1-16)"
+    another=/tmp/geli-mounts-${folder##*/}
+    ln -s "$PWD/planted" "$another"
+    says "another's folder behind the mounts is told" test "$(PATH=$PWD/numbers:$PATH "$mount" -u "$files" 2>&1; echo $?)" = "mount-provider.sh: '$another' is another user's"$'\n1'
+    says "  and left alone" test "$(ls planted | wc -l)" = 1
+    says "  and nothing is mounted by it" test "$(PATH=$PWD/numbers:$PATH "$mount" -k key -j pass m.img "$files" 2>&1 | grep -c "is another user's")" = 1
+    rm "$another"
     says "a wrong key is told" test "$("$mount" -k key -j key m.img "$files" 2>&1 | grep -c 'error 15 WrongKey: wrong')" = 1
     head -c 300K /dev/urandom >other && "$in" -k key -j pass other m.img 2>notes
     says "what is no filesystem is not overwritten" test "$("$mount" -m -k key -j pass m.img "$files" 2>&1 | grep -c 'nothing was made')" = 1

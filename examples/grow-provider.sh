@@ -80,8 +80,11 @@ if [ -z "$resumed" ] || ((length < size)) || ! opens; then
     # Once the image is longer, `resize` must not be refused because another program holds it.
     exec {lock}<>"$grown"
     flock -n "$lock" || fail "nothing was changed: another program holds '$grown' (end it, as by serve-nbd.sh -e)"
-    left() { note "$again"; }
+    has_length() { (($(stat -Lc %s -- "$grown") == length - before)); }
+    has_length || fail "nothing was changed: another program has changed the length of '$grown' meanwhile"
+    left() { has_length || note "$again"; }
     lengthen "$grown" $((size - before)) "$allocated"
+    left() { note "$again"; }
     sync "$grown"
     exec {lock}>&-
     reply=$("$GELI" resize -s "$oldsize" "$image") || not_resized

@@ -162,38 +162,38 @@ says "grow-provider.sh goes on with -s" "$grow" -s 2097152 -k key -j pass 419430
 says "  to its new end" "$GELI" attach -C -k key -j pass d.img >out
 # A `resize` that is refused, and what is advised then. `advised` does that, where it is a truncate.
 advised() { eval "$(sed -n "s/.*, '\(truncate .*\)' makes it as it was$/\1/p" notes)"; }
-is_grown() { "$GELI" attach -C -k key -j pass g.img >out && "$out" -b 64 -k key -j pass g.img g.plain 2>out && cmp -s key g.plain && rm g.plain; }
-"$make" -i 100 -J pass 1M g.img key g.backup 2>notes
-"$in" -k key -j pass key g.img 2>notes
-cp g.img before
-"$grow" -s 512K -k key -j pass 2M g.img g1.backup 2>notes
+is_grown() { "$GELI" attach -C -k key -j pass grown.img >out && "$out" -b 64 -k key -j pass grown.img grown.plain 2>out && cmp -s key grown.plain && rm grown.plain; }
+"$make" -i 100 -J pass 1M grown.img key grown.backup 2>notes
+"$in" -k key -j pass key grown.img 2>notes
+cp grown.img before
+"$grow" -s 512K -k key -j pass 2M grown.img grown1.backup 2>notes
 says "grow-provider.sh with a wrong -s tells it" test "$? $(grep -c 'error 5 BadMagic\|is 524288 the length that the provider had' notes)" = '1 2'
 says "  and how the image becomes as it was" advised
-says "  indeed" cmp g.img before
+says "  indeed" cmp grown.img before
 says "  with its data" is_grown
-truncate -s 2M g.img
-"$grow" -s 512K -k key -j pass 2M g.img g1.backup 2>notes
+truncate -s 2M grown.img
+"$grow" -s 512K -k key -j pass 2M grown.img grown1.backup 2>notes
 says "  and no truncate where it made nothing longer" test "$? $(grep -c 'error 5 BadMagic' notes) $(grep -c truncate notes)" = '1 1 0'
-"$grow" -s 512K -k key -j pass 3M g.img g1.backup 2>notes
+"$grow" -s 512K -k key -j pass 3M grown.img grown1.backup 2>notes
 says "  nor another than to the length that it found" advised
-says "  indeed" test "$(stat -c %s g.img)" = 2097152
-says "  and with the right one it grows" "$grow" -s 1M -k key -j pass 2M g.img g1.backup 2>notes
+says "  indeed" test "$(stat -c %s grown.img)" = 2097152
+says "  and with the right one it grows" "$grow" -s 1M -k key -j pass 2M grown.img grown1.backup 2>notes
 says "  with its data" is_grown
-says "  and none that no provider can have had" test "$("$grow" -s 1000001 -k key -j pass 3M g.img g2.backup 2>&1 | grep -c 'multiple of 512')" = 1
-says "an image of no whole sectors grows" test "$(cp before g.img; echo >>g.img; "$grow" -k key -j pass 2M g.img g2.backup 2>&1 | grep -c 'a provider in 2097152 bytes')" = 1
+says "  and none that no provider can have had" test "$("$grow" -s 1000001 -k key -j pass 3M grown.img grown2.backup 2>&1 | grep -c 'multiple of 512')" = 1
+says "an image of no whole sectors grows" test "$(cp before grown.img; echo >>grown.img; "$grow" -k key -j pass 2M grown.img grown2.backup 2>&1 | grep -c 'a provider in 2097152 bytes')" = 1
 says "  with its data" is_grown
 if strace -qq -o traced -e inject=fdatasync:error=EIO:when=1 true 2>/dev/null; then
     # The first write is that of the new metadata, six passes over the old follow.
     for write in 1 2 3 7; do
-        cp before g.img
-        rm -f g2.backup
+        cp before grown.img
+        rm -f grown2.backup
         printf '%s\n' '#!/bin/sh' '[ "$1" = resize ] || exec '"'$GELI'"' "$@"' \
             "exec strace -qq -o traced -e inject=pwrite64:error=EIO:when=$write '$GELI' \"\$@\"" >failing
         chmod +x failing
-        GELI=$folder/failing "$grow" -k key -j pass 2M g.img g2.backup 2>notes
+        GELI=$folder/failing "$grow" -k key -j pass 2M grown.img grown2.backup 2>notes
         says "grow-provider.sh where write $write of the resize fails tells it" test "$? $(grep -c 'error 26' notes)" = '1 1'
         says "  and to give it again with -s, and no truncate" test "$(grep -c 'give this again, with -s 1048576$' notes) $(grep -c truncate notes)" = '1 0'
-        says "  and so it grows" "$grow" -s 1048576 -k key -j pass 2M g.img g2.backup 2>notes
+        says "  and so it grows" "$grow" -s 1048576 -k key -j pass 2M grown.img grown2.backup 2>notes
         says "  with its data" is_grown
     done
 else

@@ -9,7 +9,8 @@
 # `join:FIRST:SECOND` the second file grows.
 #
 # If power fails on the way, the metadata are at their old place or at the new one. Where the image opens, all is well.
-# Where it doesn't (error 5), give this again with -s and the length that the image had before.
+# Where it doesn't (error 5), give this again with -s and the length that the image had before. The same goes where an
+# error comes on the way. Don't make the file shorter then: its end may have the only metadata.
 #
 # The new sectors of an authenticated provider are written once, with zeros, since they couldn't be read else. If that
 # is broken off, -s goes on with it: it writes those that can't be read.
@@ -36,7 +37,10 @@ shift $((OPTIND - 1))
 image_of "$2"
 backup=$(plain "$3")
 need truncate fallocate df stat flock
-if [ -n "$oldsize" ]; then size_of "$oldsize" && oldsize=$size; fi
+if [ -n "$oldsize" ]; then
+    size_of "$oldsize" && oldsize=$size
+    ((oldsize % 512 == 0 && oldsize >= 1024)) || fail 'the old size must be a multiple of 512, and 1024 or more'
+fi
 size_of "$1"
 ((size % 4096 == 0)) || fail 'the size must be a multiple of 4096'
 for file in "${files[@]}"; do
@@ -52,21 +56,38 @@ length=$((before + $(stat -Lc %s -- "$grown")))
 key_ready
 
 opens() { reply=$("$GELI" attach -C "${key[@]}" "$image"); }
+# A `resize` that is refused. These refusals come before its first write; any other may come between two of them, when
+# only the new end of the image may have metadata: it must stay as long as it is.
+not_resized() {
+    local refusal
+    refusal=$(told)
+    if [[ ${reply##*$'\n'} =~ ^error\ (5|6|7|29|32|34|35)(\ |$) ]]; then
+        again='no metadata were written'
+        [ -z "$resumed" ] || again+=": is $oldsize the length that the provider had before?"
+        ((length == size)) || again+="
+where nothing else changed the image, 'truncate -s $((length - before)) $(printf %q "$grown")' makes it as it was"
+    fi
+    fail "$refusal"
+}
 if [ -z "$oldsize" ]; then
     # The key must open it before anything is changed.
     opens || fail "nothing was changed: $(told)"
-    oldsize=$length
+    oldsize=$((length / 512 * 512))
     ((length < size)) || fail "the image has $size bytes already"
 fi
+again="the metadata are at the old end, or at the new one: give this again, with -s $oldsize"
 if [ -z "$resumed" ] || ((length < size)) || ! opens; then
     # Once the image is longer, `resize` must not be refused because another program holds it.
     exec {lock}<>"$grown"
     flock -n "$lock" || fail "nothing was changed: another program holds '$grown' (end it, as by serve-nbd.sh -e)"
+    has_length() { (($(stat -Lc %s -- "$grown") == length - before)); }
+    has_length || fail "nothing was changed: another program has changed the length of '$grown' meanwhile"
+    left() { has_length || note "$again"; }
     lengthen "$grown" $((size - before)) "$allocated"
+    left() { note "$again"; }
     sync "$grown"
     exec {lock}>&-
-    reply=$("$GELI" resize -s "$oldsize" "$image") || fail "$(told)
-where nothing else changed the image, 'truncate -s $((oldsize - before)) $(printf %q "$grown")' makes it as it was"
+    reply=$("$GELI" resize -s "$oldsize" "$image") || not_resized
     opens || fail "the key doesn't open it: $(told)"
 fi
 

@@ -8,8 +8,8 @@
 # -m: makes an ext4 first, where the provider is new. -r: to be read alone. -n: the filesystem in this partition of the
 # data, counted from 1. The passphrase is asked for; -j names a file whose first line it is, -p says that there is none.
 #
-# It stays mounted when the terminal is closed. -u unmounts it, and answers 0 only where all was flushed. What stands
-# behind the mount is kept in /tmp/geli-mounts-UID.
+# It stays mounted when the terminal is closed. -u unmounts it, and answers 0 only where all that was written meanwhile
+# is in the provider, and flushed. What stands behind the mount is kept in /tmp/geli-mounts-UID.
 #
 # It needs nbdkit with its python plugin, nbdfuse, fusermount3, and fuse2fs or grub-mount. On Debian:
 #
@@ -29,6 +29,9 @@ absolute() { realpath -e -- "$1" 2>/dev/null || realpath -ms -- "$1"; }
 
 # A mount whose program has died can't be looked at.
 is_broken() { ! stat -- "$1" >/dev/null 2>&1; }
+
+# In /tmp anybody can make a folder, or a link, of this name; nobody can replace one that is another's.
+is_own() { [ "$(stat -c %u:%F -- "$mounts")" = "$EUID:directory" ] || fail "'$mounts' is another user's"; }
 
 # unmount FOLDER: takes down what stands, and answers 0 where the server's end does and nothing had died before.
 unmount() {
@@ -109,6 +112,7 @@ mounts=/tmp/geli-mounts-$(id -u)
 state=$mounts/$(printf '%s' "$folder" | sha256sum | cut -c1-16)
 if [ -n "$ends" ]; then
     [ -d "$state" ] || fail "nothing was mounted on '$folder' by this script"
+    is_own
     unmount "$folder" || exit
     note "$folder: unmounted, all is flushed"
     exit
@@ -116,13 +120,17 @@ fi
 [ -z "$make" ] || [ -z "$read_only" ] || fail '-m writes, and -r is to be read alone: leave one out'
 [ -d "$folder" ] || fail "'${!#}' is no folder"
 ! mountpoint -q -- "$folder" || fail "something is mounted on '$folder' already"
-[ ! -e "$state" ] || fail "there are leftovers of a mount: give '$program -u $(printf %q "$folder")' first"
+if [ -e "$state" ]; then
+    is_own
+    fail "there are leftovers of a mount: give '$program -u $(printf %q "$folder")' first"
+fi
 [ -z "$(find "$folder" -mindepth 1 -print -quit)" ] || fail "'$folder' isn't empty: what is in it would be hidden"
 image_of "$1"
 image_is_there
 key_ready
 mkdir -p -- "$mounts"
-[ -O "$mounts" ] && [ ! -L "$mounts" ] && chmod 700 "$mounts" || fail "'$mounts' is another user's"
+is_own
+chmod 700 "$mounts"
 mkdir -p -- "$state/disk"
 left() { rm -rf -- "$state"; }
 # What cleans /tmp leaves a folder alone that is locked.

@@ -8,12 +8,22 @@ and of a sector that a write covers in part the rest is read first.
 Writes that stand side by side are gathered in memory, up to one line's worth: to the end of a gathering, a client's
 flush or a request elsewhere. A client's flush first writes what is gathered and then is the line `flush`. Where a
 gathered write is refused, what was gathered is kept, and the request that made it be written fails. The next request
-that needs it to be written tries again, and so does a flush: it is answered well only once all that clients wrote
-before is written and synced.
+that needs it to be written tries again, and so does a flush: it is answered well only once all that was taken from
+clients before is written and synced.
+
+A write elsewhere that comes while what is gathered can't be written is refused, and its bytes aren't taken. The server
+remembers where they belong until a client writes there again.
+
+A sector of an authenticated provider that was never written, or is damaged, can't be read (error 25), so that a part of
+it alone can't be written. What is gathered of such a sector is dropped, and all else is written: requests for other
+places go on. The client hears of it from that write where it was written at once, else from the next flush, by whatever
+client, which fails once. The server remembers the place as that of a write that it refused.
 
 Where a client reads on and on, the next lines are said before it asks. When the server ends, what is gathered is
-written, the provider is flushed and detached, and FILE gets `ok` or what went wrong. It needs lib.py in PYTHONPATH.
+written, and the provider is flushed and detached. FILE gets `ok`, or what went wrong, or which bytes of clients were
+refused or dropped and not written again. It needs lib.py in PYTHONPATH.
 """
+import bisect
 import collections
 import errno
 import os
@@ -100,13 +110,51 @@ class Ahead:
         self.piece, self.lines = b"", 0
 
 
+class Ranges:
+    """Ranges of bytes that don't touch each other, in ascending order."""
+
+    def __init__(self):
+        self.begins, self.ends = [], []
+
+    def add(self, begin, end):
+        first, last = bisect.bisect_left(self.ends, begin), bisect.bisect_right(self.begins, end)
+        if begin < end:
+            begin, end = min([begin, *self.begins[first:last]]), max([end, *self.ends[first:last]])
+            self.replace(first, last, [(begin, end)])
+
+    def remove(self, begin, end):
+        first, last = bisect.bisect_right(self.ends, begin), bisect.bisect_left(self.begins, end)
+        if begin < end and first < last:
+            rests = ((self.begins[first], begin), (end, self.ends[last - 1]))
+            self.replace(first, last, [rest for rest in rests if rest[0] < rest[1]])
+
+    def has_some_of(self, begin, end):
+        return bisect.bisect_right(self.ends, begin) < bisect.bisect_left(self.begins, end)
+
+    def replace(self, first, last, ranges):
+        self.begins[first:last] = [begin for begin, _ in ranges]
+        self.ends[first:last] = [end for _, end in ranges]
+
+    def __bool__(self):
+        return bool(self.begins)
+
+    def __str__(self):
+        some = [f"{begin} to {end - 1}" for begin, end in zip(self.begins[:3], self.ends)]
+        return "bytes " + ", ".join(some) + ", and others" * (len(self.begins) > len(some))
+
+
 class Data:
-    """The bytes of an attached provider, as they are with what is gathered."""
+    """The bytes of an attached provider, as they are with what is gathered.
+
+    What a client asked last to be written at a place is written, or is gathered, or the place is among the lost ones.
+    """
 
     def __init__(self, session):
         self.session = session
         self.ahead = Ahead(session)
         self.start, self.gathered = 0, bytearray()
+        self.lost = Ranges()
+        self.untold = Ranges()  # those that were dropped, and no client knows
         self.most = REQUEST // session.width * session.width
 
     def read(self, buffer, offset):
@@ -124,44 +172,84 @@ class Data:
         return b"".join(self.session.read_pieces(first, last - first))[skip:skip + size]
 
     def write(self, buffer, offset):
-        """Gathers what stands beside the rest, else writes the rest first."""
+        """Gathers what stands beside the rest, else writes the rest first; where that is refused nothing is taken."""
+        end = offset + len(buffer)
+        self.lost.add(offset, end)
         at = offset - self.start
         if self.gathered and (not 0 <= at <= len(self.gathered) or len(self.gathered) >= self.most):
             self.write_gathered()
         if not self.gathered:
             self.start, at = offset, 0
         self.gathered[at:at + len(buffer)] = buffer
+        self.lost.remove(offset, end)
+        self.untold.remove(offset, end)
         if len(self.gathered) >= self.most:
             self.write_gathered()
+            if self.lost.has_some_of(offset, end):
+                self.untold.remove(offset, end)
+                raise Failed(f"write of {end - offset} bytes from {offset} on: a sector can't be read")
 
     def write_gathered(self):
-        """Writes what is gathered; where that is refused it stays."""
+        """Writes what is gathered, but for what is dropped; where that is refused it stays."""
         if not self.gathered:
             return
         self.ahead.drop()
+        held = self.held_in_part()
         first, skip = divmod(self.start, self.session.width)
         last, rest = divmod(self.start + len(self.gathered), self.session.width)
-        head = self.sector(first)[:skip] if skip else b""
-        tail = self.sector(last)[rest:] if rest else b""
-        self.session.write(first, b"".join((head, self.gathered, tail)))
+        if self.gathered:
+            head = held[first][:skip] if skip else b""
+            tail = held[last][rest:] if rest else b""
+            self.session.write(first, b"".join((head, self.gathered, tail)))
         self.gathered = bytearray()
 
+    def held_in_part(self):
+        """The sectors of which a part is gathered, by number. Of one that can't be read that part is dropped."""
+        ends = self.start, self.start + len(self.gathered)
+        numbers = {at // self.session.width for at in ends if at % self.session.width}
+        held = {number: self.sector(number) for number in numbers}
+        for number in held:
+            if held[number] is None:
+                self.drop(number)
+        return held
+
+    def drop(self, number):
+        """Drops what is gathered of a sector, which is at one of the ends."""
+        begin = max(number * self.session.width, self.start)
+        end = min((number + 1) * self.session.width, self.start + len(self.gathered))
+        del self.gathered[begin - self.start:end - self.start]
+        if begin == self.start:
+            self.start = end
+        self.lost.add(begin, end)
+        self.untold.add(begin, end)
+
     def sector(self, number):
-        return b"".join(self.session.read_pieces(number, 1))
+        """The bytes of a sector; None where it is damaged or was never written."""
+        try:
+            return b"".join(self.session.read_pieces(number, 1))
+        except Failed:
+            if self.session.can_read(number, 1):
+                raise
+            return None
 
     def flush(self):
         self.write_gathered()
         self.ahead.drop()
         self.session.must("flush", self.session.image)
+        untold, self.untold = self.untold, Ranges()
+        if untold:
+            raise Failed(f"dropped, since their sectors can't be read: {untold}")
 
     def detach(self):
-        """Detaches the provider, which flushes it."""
+        """Detaches the provider, which flushes it, and tells whether all that clients wrote is in it."""
         try:
             self.write_gathered()
         finally:
             self.ahead.drop()
             self.session.must("detach", self.session.image)
             self.session.end()
+        if self.lost:
+            raise Failed(f"refused or dropped, and not written again: {self.lost}")
 
 
 def config(name, value):

@@ -5,7 +5,8 @@
 #   serve-nbd.sh -e SOCKET
 #
 # SOCKET must not exist. The server runs on behind it until `serve-nbd.sh -e SOCKET` ends it: that waits for the clients
-# to disconnect, writes what is gathered, flushes and detaches the provider, and answers 0 only where it went well.
+# to disconnect, writes what is gathered, flushes and detaches the provider. It answers 0 only where that went well, and
+# where what clients were refused to write, as on a full disk, was written later.
 # -r: to be read alone. -n: only this partition of the data, counted from 1. The passphrase is asked for; -j names a
 # file whose first line it is, -p says that there is none.
 # It needs nbdkit with its python plugin. Some clients, with URI=nbd+unix:///?socket=SOCKET (the whole path of it):
@@ -22,8 +23,8 @@
 #
 # What a client wrote is safe once the client has flushed: by `sync`, or when it unmounts. Until then the server holds
 # up to 128 KiB of it in memory, where small writes stand side by side; a write of these that fails is told by the
-# client's next flush at the latest. After a crash see after-a-power-failure.sh. A sector of an authenticated provider that was never written answers an I/O error: make
-# such a provider by make-provider.sh -a.
+# client's next flush at the latest. After a crash see after-a-power-failure.sh. A sector of an authenticated provider
+# that was never written answers an I/O error: make such a provider by make-provider.sh -a.
 set -euo pipefail
 # shellcheck source=lib.sh
 . "$(dirname -- "$(readlink -f -- "${BASH_SOURCE[0]}")")/lib.sh"
@@ -56,7 +57,7 @@ end_server() {
     case $said in
         ok) note "$1: ended, all is flushed" ;;
         '') fail 'the server had ended by itself: what was written since the last flush may be lost' ;;
-        *) fail "what was written since the last flush may be lost: $said" ;;
+        *) fail "what clients wrote may be lost: $said" ;;
     esac
     exit 0
 }

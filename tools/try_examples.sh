@@ -160,6 +160,45 @@ says "  and the backup is the metadata" cmp -s d3.backup <(tail -c 512 d.img)
 truncate -s 4194304 d.img # and then power failed
 says "grow-provider.sh goes on with -s" "$grow" -s 2097152 -k key -j pass 4194304 d.img d4.backup 2>notes
 says "  to its new end" "$GELI" attach -C -k key -j pass d.img >out
+# A `resize` that is refused, and what is advised then. `advised` does that, where it is a truncate.
+advised() { eval "$(sed -n "s/.*, '\(truncate .*\)' makes it as it was$/\1/p" notes)"; }
+is_grown() { "$GELI" attach -C -k key -j pass grown.img >out && "$out" -b 64 -k key -j pass grown.img grown.plain 2>out && cmp -s key grown.plain && rm grown.plain; }
+"$make" -i 100 -J pass 1M grown.img key grown.backup 2>notes
+"$in" -k key -j pass key grown.img 2>notes
+cp grown.img before
+"$grow" -s 512K -k key -j pass 2M grown.img grown1.backup 2>notes
+says "grow-provider.sh with a wrong -s tells it" test "$? $(grep -c 'error 5 BadMagic\|is 524288 the length that the provider had' notes)" = '1 2'
+says "  and how the image becomes as it was" advised
+says "  indeed" cmp grown.img before
+says "  with its data" is_grown
+truncate -s 2M grown.img
+"$grow" -s 512K -k key -j pass 2M grown.img grown1.backup 2>notes
+says "  and no truncate where it made nothing longer" test "$? $(grep -c 'error 5 BadMagic' notes) $(grep -c truncate notes)" = '1 1 0'
+"$grow" -s 512K -k key -j pass 3M grown.img grown1.backup 2>notes
+says "  nor another than to the length that it found" advised
+says "  indeed" test "$(stat -c %s grown.img)" = 2097152
+says "  and with the right one it grows" "$grow" -s 1M -k key -j pass 2M grown.img grown1.backup 2>notes
+says "  with its data" is_grown
+says "  and none that no provider can have had" test "$("$grow" -s 1000001 -k key -j pass 3M grown.img grown2.backup 2>&1 | grep -c 'multiple of 512')" = 1
+says "an image of no whole sectors grows" test "$(cp before grown.img; echo >>grown.img; "$grow" -k key -j pass 2M grown.img grown2.backup 2>&1 | grep -c 'a provider in 2097152 bytes')" = 1
+says "  with its data" is_grown
+if strace -qq -o traced -e inject=fdatasync:error=EIO:when=1 true 2>/dev/null; then
+    # The first write is that of the new metadata, six passes over the old follow.
+    for write in 1 2 3 7; do
+        cp before grown.img
+        rm -f grown2.backup
+        printf '%s\n' '#!/bin/sh' '[ "$1" = resize ] || exec '"'$GELI'"' "$@"' \
+            "exec strace -qq -o traced -e inject=pwrite64:error=EIO:when=$write '$GELI' \"\$@\"" >failing
+        chmod +x failing
+        GELI=$folder/failing "$grow" -k key -j pass 2M grown.img grown2.backup 2>notes
+        says "grow-provider.sh where write $write of the resize fails tells it" test "$? $(grep -c 'error 26' notes)" = '1 1'
+        says "  and to give it again with -s, and no truncate" test "$(grep -c 'give this again, with -s 1048576$' notes) $(grep -c truncate notes)" = '1 0'
+        says "  and so it grows" "$grow" -s 1048576 -k key -j pass 2M grown.img grown2.backup 2>notes
+        says "  with its data" is_grown
+    done
+else
+    echo "not tried: a resize that fails on its way (no strace)"
+fi
 cp d.img before
 says "grow-provider.sh changes nothing under a wrong key" test "$("$grow" -k key -j wrong 8388608 d.img d5.backup 2>&1 | grep -c 'nothing was changed: error 15')" = 1
 says "  indeed" cmp d.img before
@@ -348,6 +387,125 @@ EOF
     says "  and leaves nothing behind" test ! -e sock -a ! -e sock.pid -a ! -e sock.ended
     says "  and the data are there" "$out" -b 8380416 -k key -j pass f.img f.out 2>notes
     says "  the same bytes" cmp data f.out
+    # Writes that are refused while there is no room, and made again or not. A stand-in for geli refuses them while the
+    # file `full` is there; where a small disk can be mounted, FILLER fills it.
+    cat >standin <<EOS
+#!/usr/bin/env python3
+import os, subprocess, sys
+words = ["$GELI", *sys.argv[1:]]
+if words[1] != "script":
+    os.execv(words[0], words)
+geli = subprocess.Popen(words, stdin=subprocess.PIPE, stdout=subprocess.PIPE)
+for line in sys.stdin.buffer:
+    rows = []
+    if line.startswith(b"write ") and os.path.exists("$folder/full"):
+        rows.append(b"error 26 DeviceFault\n")
+    else:
+        geli.stdin.write(line)
+        geli.stdin.flush()
+    while not rows or not rows[-1].startswith((b"ok", b"error ")):
+        rows.append(geli.stdout.readline())
+    sys.stdout.buffer.write(b"".join(rows))
+    sys.stdout.buffer.flush()
+geli.stdin.close()
+sys.exit(geli.wait())
+EOS
+    chmod +x standin
+    cat >refused.py <<'EOS'
+import errno, os
+import nbd
+
+def refused(work, *words):
+    try:
+        work(*words)
+    except nbd.Error as failed:
+        return failed.errnum == errno.EIO
+    return False
+
+def fill():
+    with open(filler or "full", "ab", buffering=0) as file:
+        try:
+            while filler:
+                file.write(bytes(4096))
+        except OSError as failed:
+            assert failed.errno == errno.ENOSPC
+
+def empty():
+    os.truncate(filler, 0) if filler else os.remove("full")
+
+filler, at, again = os.getenv("FILLER"), int(os.environ["AT"]), os.environ["AGAIN"]
+h.pwrite(b"a" * 8192, at)
+fill()
+assert refused(h.pwrite, b"b" * 8192, at + 65536)  # what is gathered must be written first
+assert refused(h.pwrite, b"c" * 8192, at - 4096)
+empty()
+h.flush()
+assert h.pread(8192, at) == b"a" * 8192
+if again == "some":
+    h.pwrite(b"d" * 4096, at + 65536)
+    h.pwrite(b"d" * 8192, at - 4096)
+if again == "all":
+    h.pwrite(b"d" * 12288, at - 4096)
+    h.pwrite(b"d" * 8192, at + 65536)
+h.flush()
+EOS
+    refused_writes() { # AGAIN AT: what is said at the end, and the status
+        "$serve" -k key -j pass "$small" sock 2>notes
+        AGAIN=$1 AT=$2 nbdsh -u "$uri" -c - <refused.py
+        "$serve" -e sock 2>&1
+        echo $?
+    }
+    lost='serve-nbd.sh: what clients wrote may be lost: refused or dropped, and not written again: bytes'
+    try_refused_writes() { # HOW
+        says "a write that was refused, $1, is told at the end" test "$(refused_writes none 2097152)" = "$lost 2093056 to 2101247, 2162688 to 2170879"$'\n1'
+        says "  and what is left of it" test "$(refused_writes some 2359296)" = "$lost 2428928 to 2433023"$'\n1'
+        says "  and none where all was written again" test "$(refused_writes all 2621440)" = $'sock: ended, all is flushed\n0'
+    }
+    if nbdsh -c pass 2>commands; then
+        "$make" -i 100 -J pass 4M refused.img key refused.backup 2>notes
+        GELI=$folder/standin small=refused.img try_refused_writes 'by a stand-in'
+    fi
+    # Writes to a part of a sector that can't be read.
+    if nbdsh -c pass 2>commands; then
+        truncate -s 2M part.img && "$GELI" init -s 4096 -a HMAC/SHA256 -P -K key part.img >out
+        sed '/^filler, /,$d' refused.py >part.py && cp part.py again.py
+        cat >>part.py <<'EOS'
+h.pwrite(b"a" * 512, 4096)
+h.pwrite(b"b" * 4096, 65536)
+assert h.pread(4096, 65536) == b"b" * 4096
+assert refused(h.pread, 512, 4096)
+assert refused(h.flush)
+h.flush()
+h.pwrite(b"c" * 12288, 20480 - 100)  # a part, two whole sectors and a part
+h.pwrite(b"d" * 4096, 4096)
+assert h.pread(4096, 4096) + h.pread(8192, 20480) == b"d" * 4096 + b"c" * 8192
+assert refused(h.flush)
+h.flush()
+EOS
+        cat >>again.py <<'EOS'
+h.pwrite(b"e" * 100, 16484)
+h.pwrite(b"f" * 100, 131072)
+assert refused(h.pwrite, b"g" * 200000, 300000)  # written at once
+h.pwrite(b"h" * 8192, 16384)
+h.pwrite(b"h" * 4096, 131072)
+h.flush()  # nothing is left to be told
+for at in 28672, 299008, 499712:
+    h.pwrite(b"i" * 4096, at)
+h.pwrite(b"j" * 5, 30000)
+h.pwrite(b"k" * 5, 30005)
+h.flush()
+assert h.pread(14, 29998) == b"iijjjjjkkkkkii"
+assert h.pread(196608, 303104) == b"g" * 196608
+EOS
+        "$serve" -p -k key part.img sock 2>notes
+        says "a write to a part of a sector that can't be read is told by one flush, and others go on" nbdsh -u "$uri" -c - <part.py
+        says "  and at the end" test "$("$serve" -e sock 2>&1; echo $?)" = "$lost 20380 to 20479, 28672 to 32667"$'\n1'
+        "$serve" -p -k key part.img sock 2>notes
+        says "  and not where all was written again" nbdsh -u "$uri" -c - <again.py
+        says "  nor at the end" test "$("$serve" -e sock 2>&1; echo $?)" = $'sock: ended, all is flushed\n0'
+    else
+        echo "not tried: requests in a server's memory (no nbdsh)"
+    fi
     # Writes that are gathered, on a disk that is full for a while.
     if nbdsh -c pass 2>commands && mkdir gather && mount -t tmpfs -o size=2500k gather gather 2>commands; then
         "$make" -i 100 -J pass 4M gather/g.img key g.backup 2>notes
@@ -396,6 +554,8 @@ EOS
         nbdsh -u "$uri" -c 'h.pwrite(b"x" * 4096, 3 << 20)'
         head -c 4M /dev/zero >gather/filler 2>commands
         says "  and one that fails at the end is told there" test "$("$serve" -e sock 2>&1 | grep -c 'may be lost: .*its file system is full')" = 1
+        : >gather/filler
+        FILLER=gather/filler small=gather/g.img try_refused_writes 'on a full disk'
         umount gather
     else
         echo "not tried: gathered writes on a full disk (no nbdsh, or no mount of a tmpfs)"
@@ -469,6 +629,15 @@ if command -v nbdkit nbdfuse fuse2fs mke2fs e2fsck fusermount3 blkid >commands &
     "$out" -k key -j pass m.img m.out 2>notes
     says "  the filesystem is clean" e2fsck -fn m.out >commands 2>&1
     says "  and it is never made anew" test "$("$mount" -m -k key -j pass m.img "$files" 2>notes && cat "$files/README.md" && "$mount" -u "$files" 2>notes)" = "$(cat "$top/README.md")"
+    # Where the folder behind the mounts is another user's, by a user number that none has.
+    mkdir numbers planted && printf '#!/bin/sh\necho %s\n' "${folder##*/}" >numbers/id && chmod +x numbers/id
+    mkdir "planted/$(realpath "$files" | tr -d '\n' | sha256sum | cut -c1-16)"
+    another=/tmp/geli-mounts-${folder##*/}
+    ln -s "$PWD/planted" "$another"
+    says "another's folder behind the mounts is told" test "$(PATH=$PWD/numbers:$PATH "$mount" -u "$files" 2>&1; echo $?)" = "mount-provider.sh: '$another' is another user's"$'\n1'
+    says "  and left alone" test "$(ls planted | wc -l)" = 1
+    says "  and nothing is mounted by it" test "$(PATH=$PWD/numbers:$PATH "$mount" -k key -j pass m.img "$files" 2>&1 | grep -c "is another user's")" = 1
+    rm "$another"
     says "a wrong key is told" test "$("$mount" -k key -j key m.img "$files" 2>&1 | grep -c 'error 15 WrongKey: wrong')" = 1
     head -c 300K /dev/urandom >other && "$in" -k key -j pass other m.img 2>notes
     says "what is no filesystem is not overwritten" test "$("$mount" -m -k key -j pass m.img "$files" 2>&1 | grep -c 'nothing was made')" = 1
@@ -480,6 +649,27 @@ if command -v nbdkit nbdfuse fuse2fs mke2fs e2fsck fusermount3 blkid >commands &
     "$mount" -k key -j pass m.img "$files" 2>notes
     says "a server that dies is told" test "$(kill -9 "$(cat /tmp/geli-mounts-"$(id -u)"/*/sock.pid)"; sleep 1; "$mount" -u "$files" 2>&1 | grep -c 'may be lost')" -ge 1
     says "  and nothing is left" test -z "$(ls "/tmp/geli-mounts-$(id -u)")"
+    if [ -x ../standin ] && nbdsh -c pass 2>commands; then
+        GELI=$folder/standin "$mount" -k key -j pass m.img "$files" 2>notes
+        cat >refused.py <<EOS
+import os
+same, refused = h.pread(4096, 1 << 19), 0
+h.pwrite(same, 1 << 19)
+open("$folder/full", "w").close()
+try:
+    h.pwrite(h.pread(4096, 1 << 20), 1 << 20)
+except nbd.Error:
+    refused = 1
+os.remove("$folder/full")
+h.flush()
+assert refused
+EOS
+        says "a write that a mount refuses" nbdsh -u "nbd+unix:///?socket=$(echo "/tmp/geli-mounts-$(id -u)"/*/sock)" -c - <refused.py
+        says "  is told when it is unmounted" test "$("$mount" -u "$files" 2>&1; echo $?)" = $'serve-nbd.sh: what clients wrote may be lost: refused or dropped, and not written again: bytes 1048576 to 1052671\n1'
+        says "  and nothing is left" test -z "$(ls "/tmp/geli-mounts-$(id -u)")"
+    else
+        echo "not tried: a write that a mount refuses (no nbdsh)"
+    fi
     if command -v makefs grub-mount >commands; then
         mkdir tree && cp "$top/README.md" tree/
         says "a filesystem of FreeBSD's" makefs -t ffs -o version=2 -s 1m ufs.img tree >commands 2>&1

@@ -109,7 +109,8 @@ pub fn tags_of_four(
     codes_of_four(ring.auth(), &keys, first, second, third, fourth)
 }
 
-/// Whether two tags are the same. Each byte is looked at, whatever those before it are.
+/// Whether two tags are the same. The body looks at each byte, whatever those before it are; no clause says so, since
+/// time is no value.
 pub fn is_same(a: &[u8; 64], b: &[u8; 64]) -> bool
     ensures { IsTrue result ↔ (a.now ≡ b.now) }
 {

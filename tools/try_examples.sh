@@ -47,7 +47,7 @@ says "the examples of the page" diff wanted printed
 says "  which are some" test "$(wc -l <wanted)" -gt 25
 
 # The lines of the README.
-sed -n '/^## The same by lines/,/^prints/p' "$top/README.md" | sed '1,/^```/d; /^```/,$d' >lines
+sed -n '/^## Without the scripts/,/^prints/p' "$top/README.md" | sed '1,/^```/d; /^```/,$d' >lines
 trial lines
 mkdir readme
 says "the lines of the README" test "$(cd readme && PATH=$folder/bin:$PATH bash ../lines)" = "$(printf 'ok\nok\nok\nok 68656c6c6f2020202')"

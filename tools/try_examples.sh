@@ -694,7 +694,7 @@ EOS
     says "  and unmounted" "$mount" -u "$files" 2>notes
     fusermount3 -u part
     # The README's lines, typed into a fresh folder; its three questions are answered as a person would.
-    sed -n '/^## A filesystem in it/,/^## The same/p' "$top/README.md" | sed '1,/^```/d; /^```/,$d' >block
+    sed -n '/^## A filesystem in it/,/^## Without the scripts/p' "$top/README.md" | sed '1,/^```/d; /^```/,$d' >block
     if is_trial; then sed -i 's/make-provider.sh 80M/make-provider.sh -i 100 2M/' block; fi
     mkdir fresh
     cat >type.py <<'EOF'

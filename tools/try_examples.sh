@@ -732,6 +732,44 @@ else
     echo "not tried: mount-provider.sh (no nbdkit, nbdfuse, fuse2fs, or /dev/fuse)"
 fi
 
+# At a terminal: `shown KEYS COMMAND...` runs the command at one of its own, types the keys at its first prompt, and
+# prints what it shows.
+cat >terminal.py <<'EOF'
+import os, pty, sys
+process, terminal = pty.fork()
+if process == 0:
+    os.execvp(sys.argv[2], sys.argv[2:])
+said, keys = b"", sys.argv[1].encode()
+while True:
+    try:
+        piece = os.read(terminal, 4096)
+    except OSError:
+        break
+    if not piece:
+        break
+    said += piece
+    if keys and said.rstrip().endswith(b":"):
+        os.write(terminal, keys)
+        keys = b""
+sys.stdout.buffer.write(said)
+sys.exit(os.waitstatus_to_exitcode(os.waitpid(process, 0)[1]) % 256)
+EOF
+shown() { python3 terminal.py "$@"; }
+cat >slow.py <<EOF
+import sys, time
+sys.path.insert(0, "$top/examples")
+import lib
+progress = lib.Progress(64 << 20)
+time.sleep(1.1)
+progress.at(16 << 20)
+progress.end("67108864 bytes")
+EOF
+says "how far it is, at a terminal" test "$(shown '' python3 slow.py | grep -c '25 %, 16 of 64 MiB, .* left')" = 1
+says "  and nothing but the end elsewhere" test "$(python3 slow.py 2>&1 | grep -c ' left')" = 0
+interrupted() { shown "$(printf '\3')" "$make" -i 100 1M asked.img key asked.backup >notes; [ $? = 130 ]; }
+says "an interrupt at the prompt ends with 130" interrupted
+says "  and leaves nothing" test ! -e asked.img -a ! -e asked.backup
+
 # The scripts themselves.
 if command -v shellcheck >commands; then
     says "shellcheck finds nothing in the scripts" shellcheck -S warning -x -P "$top/examples" "$top"/examples/*.sh

@@ -693,6 +693,18 @@ EOS
     says "  is mounted with its file" cmp "$top/README.md" "$files/README.md"
     says "  and unmounted" "$mount" -u "$files" 2>notes
     fusermount3 -u part
+    if command -v sfdisk >commands; then
+        truncate -s 2M gpt.img && cat m.img >>gpt.img && truncate -s +1M gpt.img
+        printf 'label: gpt\nstart=2048, size=2048\nstart=4096, size=%s\n' $(($(stat -c %s m.img) / 512)) | sfdisk -q gpt.img 2>commands
+        nbdfuse part [ nbdkit --exit-with-parent --filter=partition file gpt.img partition=2 ] 2>commands &
+        for _ in 1 2 3 4 5 6 7 8 9 10; do [ -e part/nbd ] || sleep 0.5; done
+        says "a provider in a partition of a GPT" "$mount" -k key -j pass part/nbd "$files" 2>notes
+        says "  is mounted with its file" cmp "$top/README.md" "$files/README.md"
+        says "  and unmounted" "$mount" -u "$files" 2>notes
+        fusermount3 -u part
+    else
+        echo "not tried: a provider in a partition of a GPT (no sfdisk)"
+    fi
     # The README's lines, typed into a fresh folder; its three questions are answered as a person would.
     sed -n '/^## A filesystem in it/,/^## Without the scripts/p' "$top/README.md" | sed '1,/^```/d; /^```/,$d' >block
     if is_trial; then sed -i 's/make-provider.sh 80M/make-provider.sh -i 100 2M/' block; fi

@@ -2,7 +2,7 @@
 """The tables of the tests of hmac_kdf.
 
 The codes of the keys and messages of RFC 4231, test cases 1 to 7, and the derived keys of the inputs of RFC 6070 with
-SHA-512 in place of SHA-1, and of an empty password.
+SHA-512 in place of SHA-1, and of an empty password. The codes of four messages of one length under four keys of 32 bytes.
 """
 import hashlib
 import hmac
@@ -36,6 +36,10 @@ KEYS = [
     (b"", b"", 3),
 ]
 
+# The lengths of four messages side by side: none, the two on whose sides the padding needs a second block, a block, and
+# the most that a test gives.
+LENGTHS = (0, 111, 112, 128, 464)
+
 
 def rust(text):
     if text in REPEATED:
@@ -53,10 +57,19 @@ def kdf_case(password, salt, count):
     return f'KdfCase {{ password: {rust(password)}, salt: {rust(salt)}, count: {count}, derived: "{derived}" }}'
 
 
+def four_case(length):
+    def codes(name):
+        each = (hmac.digest(bytes(range(32 * j, 32 * j + 32)), bytes((7 * i + 64 * j) % 256 for i in range(length)), name)
+                for j in range(4))
+        return "[" + ", ".join(f'"{code.hex()}"' for code in each) + "]"
+    return f"FourCase {{ length: {length}, codes384: {codes('sha384')}, codes512: {codes('sha512')} }}"
+
+
 def main():
     print_or_check(__doc__, MADE_WITH, {
         ("known_answers/src/codes.rt", "MAC_CASES"): table(mac_case(*row) for row in MESSAGES),
         ("known_answers/src/codes.rt", "KDF_CASES"): table(kdf_case(*row) for row in KEYS),
+        ("known_answers/src/codes.rt", "FOUR_CASES"): table(map(four_case, LENGTHS)),
     })
 
 

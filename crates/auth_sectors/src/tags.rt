@@ -7,6 +7,7 @@ ghost use Rattle.auth_sectors.specs.Tags.{padded};
 use eli_base::Auth;
 use hmac_kdf::{Hmac256, Hmac384, Hmac512};
 use range_keys::KeyRing;
+use sha512_lanes::{codes_of_four_384, codes_of_four_512};
 
 // The bytes, and zeros behind them up to `N`.
 fn filled<const N: usize>(bytes: &[u8]) -> [u8; N]
@@ -46,7 +47,21 @@ pub fn tag_of(ring: &KeyRing, offset: u64, cipher_text: &[u8]) -> [u8; 64]
     code_of(ring.auth(), &ring.tag_key_at(offset), cipher_text)
 }
 
-// The codes of four messages of one length, each under its own key. Those of SHA-256 are computed side by side.
+// Four codes, each with zeros behind it.
+fn all_padded<const N: usize>(codes: &[[u8; N]; 4]) -> [[u8; 64]; 4]
+    requires { N ≤ 64 }
+    ensures { result ≡ padded (get_or codes.now 0 []) ∷ padded (get_or codes.now 1 [])
+        ∷ padded (get_or codes.now 2 []) ∷ padded (get_or codes.now 3 []) ∷ [] }
+{
+    [
+        padded(&codes[0]),
+        padded(&codes[1]),
+        padded(&codes[2]),
+        padded(&codes[3]),
+    ]
+}
+
+// The codes of four messages of one length, each under its own key, computed side by side.
 fn codes_of_four(
     auth: Auth,
     keys: &[[u8; 32]; 4],
@@ -63,21 +78,13 @@ fn codes_of_four(
         ∷ padded (hmac_of auth (get_or keys.now 2 []) third.now)
         ∷ padded (hmac_of auth (get_or keys.now 3 []) fourth.now) ∷ [] }
 {
-    if auth == Auth::Sha256 {
-        let codes = sha_lanes::codes_of_four(keys, [first, second, third, fourth]);
-        return [
-            padded(&codes[0]),
-            padded(&codes[1]),
-            padded(&codes[2]),
-            padded(&codes[3]),
-        ];
+    let messages = [first, second, third, fourth];
+    match auth {
+        Auth::Off => [[0; 64]; 4],
+        Auth::Sha256 => all_padded(&sha_lanes::codes_of_four(keys, messages)),
+        Auth::Sha384 => all_padded(&codes_of_four_384(keys, messages)),
+        Auth::Sha512 => all_padded(&codes_of_four_512(keys, messages)),
     }
-    [
-        code_of(auth, &keys[0], first),
-        code_of(auth, &keys[1], second),
-        code_of(auth, &keys[2], third),
-        code_of(auth, &keys[3], fourth),
-    ]
 }
 
 /// The tags of four cipher texts of one length. The first is that of this byte offset, and each other is that of the

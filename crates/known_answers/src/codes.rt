@@ -1,7 +1,10 @@
 //! The codes of RFC 4231 and derived keys.
 
+ghost use Rattle.std.specs.Prelude.{◌≤◌};
+
 use crate::common::is_hex;
 use hmac_kdf::{Hmac256, Hmac384, Hmac512, pbkdf2_sha512};
+use sha512_lanes::{codes_of_four_384, codes_of_four_512};
 use std::alloc::Global;
 use std::test::Fail;
 
@@ -82,6 +85,92 @@ const MAC_CASES: [MacCase; 7] = [
         code256: "9b09ffa71b942fcb27635fbcd5b0e944bfdc63644f0713938a7f51535c3a35e2",
         code384: "6617178e941f020d351e2f254e8fd32c602420feb0b8fb9adccebb82461e99c5a678cc31e799176d3860e6110c46523e",
         code512: "e37b6a775dc87dbaa4dfa9f96e5e3ffddebd71f8867289865df5a32d20cdc944b6022cac3c4982b10d5eeb55c3e4de15134676fb6de0446065c97440fa8c6a58",
+    },
+];
+
+// A length, and the codes of four messages of it as hexadecimal text.
+struct FourCase {
+    length: usize,
+    codes384: [&'static str; 4],
+    codes512: [&'static str; 4],
+}
+
+// The codes of the messages and keys below, by tools/hmac_tables.py. From 112 bytes on the padding has a second block.
+const FOUR_CASES: [FourCase; 5] = [
+    FourCase {
+        length: 0,
+        codes384: [
+            "8f8683aef2575615be091bb6cda44bb103c8fc7f68dd0879824ffac246e8f2ca7471c605d53f69941c51b47549168216",
+            "235414cdfc203ec0d4af29843d464582b2e703d2d45d7e7ad8e4ffbb23d7e93270aa54f01ff2f6451876f92ebee978ce",
+            "4863bf0051c183c71f397232aa694bcde77888b970d33ae96c61088054e211fa98e0ee7e07a1039e0ecc86fec33107a1",
+            "2069a2e73d8ba1aba0f3ac6b189780ae8d516071046df8dd8fb6c51622f2363a19d91386b892c2284227c70acf3bab2a",
+        ],
+        codes512: [
+            "b04a70f45e9529968060f0026344d5f4da59f1c3ce228245f6bb088d7b8aa9fc8f5f3c2a48027e48338de0fbec7d9d8fed963ae333d2b9c5704e2e95864ec78b",
+            "c35b352d550e464dc7858d399cb641cf907eff09aade77837e7b44c9d27413ca38db2c50f02b5d3ecaf08a9970cf0b397970dda87b20e3ac5c03f1a448b170b6",
+            "8e2a1986f7249a461f8bcb44a39e94ffad9d47f9b6bf764e4a3baeab1646194949a037f3f09f9d5123a86e81a5c4ed9847ecfd67fc987de38d6d8b4b31c7b9b9",
+            "0896cde029643b49ffafbb3c9096410450e9956274b0784c298573c8df4ee0b72224e151cdad96ee8f5f4eb39d74228a847f248934d35283ba6aab61c465ab36",
+        ],
+    },
+    FourCase {
+        length: 111,
+        codes384: [
+            "ab823e89336d4eec51d742baabdac52fd27f792dcc423adf99f1cd78342563564fdda374b4d5c9a6c296bd3c5895d78b",
+            "9ec534497120946c76ab9e262bf77a091e4a62164037e7d5229dc1b0c90d21576f3e2e8ad724ae893271e714891b578f",
+            "652109360e7e066ee5f569ab26045805d4ce3d9769d6755b9c409217261fc1b21ba4d05efeec2cc562184108234fad47",
+            "1ee3a3b8e54fda8a825cff184aad1b213b1f85e3124011a1cee6e87dc256df32aeac82f09ee9b08bd09c98c8dc4d5e3b",
+        ],
+        codes512: [
+            "d67a16a8939580a04f1356a06da148c6ba3d95243529d38666ea9d19b36dbe10cb0d668d732dfeccb1cc1c39a49785ab925414c098063d651c44c6acee4e61a2",
+            "0e1c294ac772528164fd2807884491ea2ded7282b1aea24b99da0962cd68677187df85fb090f2bd69f84bae3c358bfcbb4b3cee7e831a785a451700c3f994aaf",
+            "6c413024f7e4dea1ead4db4ffdb3d63fc294fe760151ee77d0e739f631978a9befb85008bf8139fbe8dcc07651ad60de1f06dc91767fced9d9faae106d7928b2",
+            "cace99b350d16dbfb6a8903f62f4f5a41fa59c2eee164cc1aa786eed686e8b822693c993651695ce0a6b031a94880f37ce34de35d29810be2fde96a9337bce4a",
+        ],
+    },
+    FourCase {
+        length: 112,
+        codes384: [
+            "1dc8722afffcd33f8e3ec9c9df2276bf0d88c9fb4a7c1346700424bba66b9559f05fe8c04ce5e22cbdbbf70f3972a1e4",
+            "0f32f98f9197d6545d5eaa25fbb4680770162d7d042187369399d0abd9190f815b0eb062c4e54eec55467e9f40134203",
+            "58332d0c5521c0d050ea4ce3fe838daec9d9f424f343014fc7b4a3351ceee1679497000f3c04d73d0df1f31e0c1de261",
+            "13262762b24c2e53764361c1ef42b4556a694165d69c87ccbe19b46984869e5b5024a353f99df07032bfc4483492d353",
+        ],
+        codes512: [
+            "fd014ea8d5d71c0c249f891b386cdc484b14b1e4d3f82e758aee8bde009d623407db5898e1cc5ed24a43060cb3b8003ad999dbd2fe812d3770867f209969ce43",
+            "8c5779993cebc2d848d54f507e085ddd4764846d08e47584e75404a635256d52e9c87964c4de32c2a592ee87348860a9f5e3078da663c5940a55f407db1ad28a",
+            "1c11e21322671dc8e9c7943a71dd16bb2f4fca6531477b3d2bdcb4f0254a01c49ae8344b3e97ca659dd48999fc7cba705f1585ba4c8bf63813c6eb11cba7fb8c",
+            "bbb074dd8c4661281762d65c61bcbc27dad2876fa4c2ee055413a042b18afae1910aca1376e76ed10ee6039d6214c0d34464a00d878ab2be12003332b8891be2",
+        ],
+    },
+    FourCase {
+        length: 128,
+        codes384: [
+            "8be12309e26a1a3724fa4d114bffb80642211ae2d4c7bea05aea1b53c95b75ce18e8aaf279a7fd54899991203da127ad",
+            "d8df543b4919f61d45a6bd7260be1d10cd1cab61c5c6055a8521c31709ecda8ff4511d58d9b1c7fe2b899db17b5a5426",
+            "9f01b689210f13956925e21f1d6281b102ca19fa9d6ef0e0ac5e1f0a5aae3eaee1326679a7c762edb4dbc6324419da90",
+            "02b7c3de17fffcedb6e96363cfd358165eaf4596b2c208ef822678ce8acd67ff3e75a28c7db54a31366a8e6fa3829914",
+        ],
+        codes512: [
+            "5992da83d9d970d5ea35815dc2982b2ea596941a6a1104b2a54a6819920bf08605366219bafce6685f2eb0cb7b8e9570ce6570227a8d34ce2a89134a6cb08468",
+            "3d3a05ff353addcae8777af494edd80d108693d2a3e3f065f1e478f60fccf1359ace9cf94929cf8ca0ce63bff37cd51af7a3de500f54df4818dd2a8bbd71ff82",
+            "53f7775987594a86afe14a0465299aec64858f534f80c50c1be8a33b0a5334a49d24ac66bc9e3d6e646fef2bab379da5b9ac53eb44f4aea37f9144df66b7cfd8",
+            "ecb44a013bb13beb529653b9131a3bb627a78e9ea70c4a1c2a9e25c3e6921e2ccf856f2df2438b883602a6636cfd07099ba29321e020b553bc96c7cae7c304d2",
+        ],
+    },
+    FourCase {
+        length: 464,
+        codes384: [
+            "40032eda1947814403ee302cc3aa6f0247fc9f3c6fde637edcf74c8875f82c51136ecde073c0ad1624ba7a608476059c",
+            "a1f4701af29c55549a0164a044f2b7eb5e54dffd274a00efa274eb8339140c8abd84c8a25a8ee136167de2c9f2306526",
+            "4bca6bd1977ddda57e518abd12dbccfe0fb08c7a966f335ac3175850694db9a30a1ea15ca4d563032e382306ffd14c8f",
+            "ab015ec0e56018cbf4183916fa7864fc2cb492fff07db8f30efa0c82e681785276436105843f0f82a3e44e71580601c0",
+        ],
+        codes512: [
+            "4ade3b654154b5de2e331e6bcdbb4c94bd24746d56215f240eea210fdab322bb8d26576f39a3fa4c05b55eeb7b31a0d107dc3324499c3639983b18148c83840e",
+            "740769c6611cdd7d9689f35d81c59b1da945158784bd33f957d8bead0a11dbe9489b22a2ce97d936846186838e58a6aaa743b1faa1f6f6a192b75b5a983e7a3a",
+            "604c571aca39dfec27b698cfdd56a1394fa460d16443cd04a5df3790f42c1fdc79420e6c84a212e2df7064bec6ea73443f9e3434821a61bc8bdd8c8972df9469",
+            "de0560cb5aa0f7d2a0dbc7984f8f85b343243ccd706a58671bfdc65e0bc0bdfd769baa13a40184cc153b68db1c76066d686066e96416870ccbf7b5df8113a2ca",
+        ],
     },
 ];
 
@@ -173,6 +262,69 @@ fn published_keys(rt: HostRuntime) -> Result<(), Fail> {
         let mut out = [0u8; 64];
         pbkdf2_sha512(case.password, case.salt, case.count, &mut out);
         assert!(&rt; is_hex(rt.alloc(), &out, case.derived)?, "row {i}");
+    }
+    Ok(())
+}
+
+// Four keys: the bytes of key j begin with 32 * j, and each is one more than that before it.
+fn four_keys() -> [[u8; 32]; 4] {
+    let mut keys = [[0u8; 32]; 4];
+    for (j, key) in keys.iter_mut().enumerate() {
+        for (i, byte) in key.iter_mut().enumerate() {
+            *byte = ((32 * (j % 4) + i % 32) % 256) as u8;
+        }
+    }
+    keys
+}
+
+// Four messages: byte i of message j is (7 * i + 64 * j) mod 256.
+fn four_messages() -> [[u8; 464]; 4] {
+    let mut messages = [[0u8; 464]; 4];
+    for (j, message) in messages.iter_mut().enumerate() {
+        for (i, byte) in message.iter_mut().enumerate() {
+            *byte = ((7 * (i % 256) + 64 * (j % 4)) % 256) as u8;
+        }
+    }
+    messages
+}
+
+// Whether four codes have these digits.
+fn are_hex<const N: usize>(
+    alloc: Global,
+    codes: &[[u8; N]; 4],
+    texts: &[&str; 4],
+) -> Result<bool, Fail> {
+    Ok(
+        is_hex(alloc, &codes[0], texts[0])?
+            && is_hex(alloc, &codes[1], texts[1])?
+            && is_hex(alloc, &codes[2], texts[2])?
+            && is_hex(alloc, &codes[3], texts[3])?,
+    )
+}
+
+// Whether four messages have the codes of a row.
+fn have_codes(alloc: Global, case: &FourCase) -> Result<bool, Fail>
+    requires { case.now.length ≤ 464 }
+{
+    let keys = four_keys();
+    let whole = four_messages();
+    let messages = [
+        &whole[0][..case.length],
+        &whole[1][..case.length],
+        &whole[2][..case.length],
+        &whole[3][..case.length],
+    ];
+    let middle = codes_of_four_384(&keys, messages);
+    let long = codes_of_four_512(&keys, messages);
+    Ok(are_hex(alloc, &middle, &case.codes384)? && are_hex(alloc, &long, &case.codes512)?)
+}
+
+#[test]
+fn codes_side_by_side(rt: HostRuntime) -> Result<(), Fail> {
+    for case in &FOUR_CASES {
+        let length = case.length;
+        assert!(&rt; length <= 464, "{length} bytes");
+        assert!(&rt; have_codes(rt.alloc(), case)?, "{length} bytes");
     }
     Ok(())
 }

@@ -6,7 +6,7 @@ use Rattle.std.specs.Int.{w128, to_be_bytes}
 use Rattle.sha2.specs.Sha512.{padding, word_at}
 use Rattle.sha2.proofs.Absorbing512.{padding-take}
 use Rattle.hmac_kdf.specs.Hmac.{key_block, masked}
-use Rattle.sha512_lanes.specs.Tails.{tail_size}
+use Rattle.sha512_lanes.specs.Tails.{last_blocks_size}
 use lib.Bits.{xor_zero_r}
 
 -- a word of the block that begins at this byte of a text
@@ -55,7 +55,7 @@ masked_key_is pad hash key block long front back =
     sym (take-append-drop 32 block) ∙ rw (front, back) (sym whole)
 
 -- the padding's first bytes, behind the bytes of a message that stands behind a block
-padding_first : (n used field z : ℕ) → used ≡ n % 128 → field ≡ tail_size n - 16 → z ≡ (239 - (128 + n) % 128) % 128
+padding_first : (n used field z : ℕ) → used ≡ n % 128 → field ≡ last_blocks_size n - 16 → z ≡ (239 - (128 + n) % 128) % 128
     → take {A = ℕ} (field - used) (0x80 ∷ replicate 127 0) ≡ 0x80 ∷ replicate z 0
 padding_first n used field z eu ef ez =
     let e : field - used ≡ z + 1 = omega arith in
@@ -63,10 +63,10 @@ padding_first n used field z eu ef ez =
 
 -- the last blocks of a message m that stands behind a block
 abbrev pub IsTail : List ℕ → List ℕ → Type 0
-IsTail t m = take (tail_size (length m)) t ≡ drop (length m / 128 * 128) m ++ padding (128 + length m)
+IsTail t m = take (last_blocks_size (length m)) t ≡ drop (length m / 128 * 128) m ++ padding (128 + length m)
 
 -- they are put together from the message's last bytes, the first bytes of the padding and the length in bits
-pub tail_is : (m t0 t1 t2 t3 front zeros bits : List ℕ) (used field : ℕ) → used ≡ length m % 128 → field ≡ tail_size (length m) - 16
+pub tail_is : (m t0 t1 t2 t3 front zeros bits : List ℕ) (used field : ℕ) → used ≡ length m % 128 → field ≡ last_blocks_size (length m) - 16
     → take (0 + length front) t1 ≡ take 0 t0 ++ front → front ≡ drop (length m - used) m
     → take (used + length zeros) t2 ≡ take used t1 ++ zeros → zeros ≡ take {A = ℕ} (field - used) (0x80 ∷ replicate 127 0)
     → take (field + length bits) t3 ≡ take field t2 ++ bits → bits ≡ to_be_bytes w128 ((128 + length m) * 8 % 2 ^ 128)
@@ -84,6 +84,6 @@ tail_is m t0 t1 t2 t3 front zeros bits used field eu ef p1 e1 p2 e2 p3 e3 =
     let at1 : take used t1 ≡ front = rw end1 at p1 in
     let end2 : used + length zeros ≡ field = omega arith in
     let at2 : take field t2 ≡ front ++ zeros = rw (end2, at1) at p2 in
-    let end3 : field + length bits ≡ tail_size n = omega arith in
-    let at3 : take (tail_size n) t3 ≡ (front ++ zeros) ++ bits = rw (end3, at2) at p3 in
+    let end3 : field + length bits ≡ last_blocks_size n = omega arith in
+    let at3 : take (last_blocks_size n) t3 ≡ (front ++ zeros) ++ bits = rw (end3, at2) at p3 in
     at3 ∙ append_assoc front zeros bits ∙ rw (e1, start, z2, e3) refl

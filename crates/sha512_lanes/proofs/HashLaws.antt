@@ -5,7 +5,7 @@ use Rattle.std.proofs.Math.Seq.{drop-append-add}
 use Rattle.sha2.specs.Sha512.{compress, digest_bytes, final_hash, hash_after, padded_message, padding}
 use Rattle.sha2.proofs.Absorbing512.{hash_after_next}
 use Rattle.sha512_lanes.specs.Hashes.{first_bytes}
-use Rattle.sha512_lanes.specs.Tails.{tail_size}
+use Rattle.sha512_lanes.specs.Tails.{last_blocks_size}
 use Rattle.sha512_lanes.proofs.BlockLaws.{IsTail}
 
 -- the message and its padding, behind a block
@@ -46,7 +46,7 @@ after_whole h before m v w i long held fits e =
     (rw (place, drop-append-le (128 * i) m pad (omega arith)) (sym (take-append-le 128 (drop (128 * i) m) pad (omega (arith, length-drop (128 * i) m)))))
 
 -- what is behind the whole blocks
-tail_at : (m t : List ℕ) → IsTail t m → drop (length m / 128 * 128) (rest m) ≡ take (tail_size (length m)) t
+tail_at : (m t : List ℕ) → IsTail t m → drop (length m / 128 * 128) (rest m) ≡ take (last_blocks_size (length m)) t
 tail_at m t held = drop-append-le (length m / 128 * 128) m (padding (128 + length m)) (omega arith) ∙ sym held
 
 -- the first of the last blocks
@@ -54,10 +54,10 @@ pub after_tail : (h before m t v w : List ℕ) → length before ≡ 128 → len
     → w ≡ compress v (take 128 (drop 0 t)) → IsAfter h before m w (length m / 128 + 1)
 after_tail h before m t v w long size held before_it e =
     after_next h before m v w _ (length m / 128) long before_it e
-    (rw (tail_at m t held) (sym (take-take 128 (tail_size (length m)) t (omega arith))))
+    (rw (tail_at m t held) (sym (take-take 128 (last_blocks_size (length m)) t (omega arith))))
 
 -- the second of them
-pub after_second : (h before m t v w : List ℕ) → length before ≡ 128 → length t ≡ 256 → IsTail t m → tail_size (length m) ≡ 256
+pub after_second : (h before m t v w : List ℕ) → length before ≡ 128 → length t ≡ 256 → IsTail t m → last_blocks_size (length m) ≡ 256
     → IsAfter h before m v (length m / 128 + 1) → w ≡ compress v (take 128 (drop 128 t)) → IsAfter h before m w (length m / 128 + 2)
 after_second h before m t v w long size held two before_it e =
     let q : ℕ = length m / 128 in
@@ -68,11 +68,11 @@ after_second h before m t v w long size held two before_it e =
     rw end at (after_next h before m v w _ (q + 1) long before_it e block)
 
 -- after the last of them
-pub after_all : (h before m t v : List ℕ) (i : ℕ) → length before ≡ 128 → length t ≡ 256 → IsTail t m → i * 128 ≡ length m / 128 * 128 + tail_size (length m)
+pub after_all : (h before m t v : List ℕ) (i : ℕ) → length before ≡ 128 → length t ≡ 256 → IsTail t m → i * 128 ≡ length m / 128 * 128 + last_blocks_size (length m)
     → IsAfter h before m v i → v ≡ final_hash h (before ++ m)
 after_all h before m t v i long size held end at =
     let q : ℕ = length m / 128 in
-    let behind : length (drop (q * 128) (rest m)) ≡ tail_size (length m) = ap length (tail_at m t held) ∙ length-take-le (tail_size (length m)) t (omega arith) in
+    let behind : length (drop (q * 128) (rest m)) ≡ last_blocks_size (length m) = ap length (tail_at m t held) ∙ length-take-le (last_blocks_size (length m)) t (omega arith) in
     let some : q * 128 ≤ length (rest m) = omega (arith, length-append m (padding (128 + length m))) in
     let all : length (rest m) ≡ i * 128 = omega (arith, length-drop (q * 128) (rest m)) in
     let blocks : length (before ++ rest m) / 128 ≡ i + 1 = omega (arith, length-append before (rest m)) in

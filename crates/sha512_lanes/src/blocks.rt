@@ -4,7 +4,7 @@ ghost use Rattle.std.specs.Prelude.{◌≡◌, ◌+◌, ◌*◌, ◌/◌, ◌<�
 ghost use Rattle.sha2.specs.Sha512.{padding};
 ghost use Rattle.hmac_kdf.specs.Hmac.{key_block, masked};
 ghost use Rattle.sha_lanes.specs.Lanes.{bytes_of};
-ghost use Rattle.sha512_lanes.specs.Tails.{tail_size};
+ghost use Rattle.sha512_lanes.specs.Tails.{last_blocks_size};
 
 // The padding's first bytes: a bit 1, then zeros (5.1.2).
 const PADDING: [u8; 128] = [
@@ -15,8 +15,8 @@ const PADDING: [u8; 128] = [
     0,
 ];
 
-/// The key's block (RFC 2104, section 2) with `pad` added to each of its bytes, bit by bit. The key isn't hashed, whatever
-/// the hash is, since it is shorter than a block.
+/// The key's block (RFC 2104, section 2) with `pad` added to each of its bytes, bit by bit. It is the same whatever the
+/// hash is, since the key is shorter than a block.
 pub fn masked_key(key: &[u8; 32], pad: u8) -> [u8; 128]
     ensures { (hash : List ℕ → List ℕ) → result ≡ masked pad (key_block hash 128 key.now) }
 {
@@ -29,8 +29,8 @@ pub fn masked_key(key: &[u8; 32], pad: u8) -> [u8; 128]
 
 /// How many bytes there are from the last whole block of a message to the end of its padding: two blocks where the
 /// length field has no room in the first.
-pub fn tail_size(length: usize) -> usize
-    ensures { result ≡ tail_size length }
+pub fn last_blocks_size(length: usize) -> usize
+    ensures { result ≡ last_blocks_size length }
 {
     (length % 128 + 17 + 127) / 128 * 128
 }
@@ -45,11 +45,11 @@ fn put(tail: &mut [u8; 256], at: usize, bytes: &[u8])
 
 // The last blocks of a message behind a block of 128 bytes: what is behind the message's whole blocks, and the padding.
 fn tail_of(message: &[u8]) -> [u8; 256]
-    ensures { take (tail_size (length message.now)) result
+    ensures { take (last_blocks_size (length message.now)) result
         ≡ drop (length message.now / 128 * 128) message.now ++ padding (128 + length message.now) }
 {
     let used = message.len() % 128;
-    let field = tail_size(message.len()) - 16;
+    let field = last_blocks_size(message.len()) - 16;
     let bit_length = (message.len() as u128 + 128) * 8;
     let mut tail = [0u8; 256];
     put(&mut tail, 0, &message[message.len() - used..]);
@@ -61,7 +61,8 @@ fn tail_of(message: &[u8]) -> [u8; 256]
 /// The last blocks of four messages, each of which stands behind a block of 128 bytes.
 pub fn tails_of(messages: [&[u8]; 4]) -> [[u8; 256]; 4]
     ensures long { (j : ℕ) → j < 4 → length (slice_index_or result j []) ≡ 256 }
-    ensures tails { (j : ℕ) → j < 4 → take (tail_size (length (bytes_of j messages.entry))) (slice_index_or result j [])
+    ensures tails { (j : ℕ) → j < 4
+        → take (last_blocks_size (length (bytes_of j messages.entry))) (slice_index_or result j [])
         ≡ drop (length (bytes_of j messages.entry) / 128 * 128) (bytes_of j messages.entry)
         ++ padding (128 + length (bytes_of j messages.entry)) }
 {

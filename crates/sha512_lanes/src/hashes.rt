@@ -4,7 +4,7 @@ ghost use Rattle.std.specs.Prelude.{◌≡◌, ◌+◌, ◌<◌, ◌≤◌, ◌+
 ghost use Rattle.sha2.specs.Sha512.{compress, digest_bytes, final_hash};
 ghost use Rattle.sha_lanes.specs.Lanes.{HaveOneLength, bytes_of, lane};
 
-use crate::blocks::{tail_size, tails_of};
+use crate::blocks::{last_blocks_size, tails_of};
 use crate::rounds::compress;
 use std::simd::prelude::*;
 
@@ -48,7 +48,7 @@ pub fn finished(state: [u64x4; 8], messages: [&[u8]; 4]) -> [u64x4; 8]
     }
     let tails = tails_of(messages);
     let last = compress_tails(v, &tails, 0);
-    if tail_size(size) == 128 {
+    if last_blocks_size(size) == 128 {
         return last;
     }
     compress_tails(last, &tails, 128)

@@ -37,7 +37,8 @@ fn hashes_under<const N: usize>(
     requires lengths { HaveOneLength messages }
     ensures { (j : ℕ) → j < 4 → slice_index_or result j []
         ≡ first_bytes N initial.now
-        (masked pad (key_block (first_bytes N initial.now) 128 (slice_index_or keys.now j [])) ++ bytes_of j messages.entry) }
+        (masked pad (key_block (first_bytes N initial.now) 128 (slice_index_or keys.now j []))
+        ++ bytes_of j messages.entry) }
 {
     let a = masked_key(&keys[0], pad);
     let b = masked_key(&keys[1], pad);

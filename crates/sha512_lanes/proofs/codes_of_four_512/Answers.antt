@@ -1,6 +1,5 @@
-use Rattle.std.proofs.Common.{◌≡◌, List, ℕ, [], slice_index_or, arith, ◌∙◌}
-use Rattle.std.proofs.lemmas.List.{take_all}
-use Rattle.sha2.specs.Sha512.{digest_bytes, final_hash, initial_hash_512, sha512}
+use Rattle.std.proofs.Common.{[], slice_index_or, ◌∙◌}
+use Rattle.sha2.specs.Sha512.{final_hash, initial_hash_512, sha512}
 use Rattle.hmac_kdf.specs.Hmac.{hmac, hmac512}
 use Rattle.sha_lanes.specs.Lanes.{bytes_of}
 use Rattle.sha512_lanes.proofs.HashLaws.{all_bytes}

@@ -42,7 +42,7 @@ KEYS = {
     "tag": (2, 9, "code", "tag key [32]", "SHA-256 (it ++ le64 (offset))", "range_keys/Keys/tag_key"),
     "first": (0.5, 10, "code", "key of AES-CBC, K1 of AES-XTS", "the first keylen / 8 bytes",
               "range_keys/Keys/first_part"),
-    "second": (1.5, 10, "code", "K2 of AES-XTS", "the keylen / 8 bytes behind them", "range_keys/Keys/second_part"),
+    "second": (1.5, 10, "code", "K2 of AES-XTS", "the keylen / 8 bytes after them", "range_keys/Keys/second_part"),
 }
 ARROWS = [("pass", "stretched"), ("salt", "stretched"), ("files", "user"), ("stretched", "user"), ("user", "wrapping"),
           ("user", "check"), ("wrapping", "slot"), ("check", "slot"), ("slot", "master"), ("master", "iv"),

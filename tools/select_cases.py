@@ -1,11 +1,13 @@
 #!/usr/bin/env python3
 """Selects the acceptance cases that run today, as data of the program geli_cases.
 
-    tools/select_cases.py CASES CRATE [--forms FORM...] [--drawers N] [--without NAME...]
+    tools/select_cases.py CASES CRATE [--check] [--forms FORM...] [--drawers N] [--without NAME...]
 
 CASES is the folder with the `.cases` and `.expected` files. Of each file the cases whose forms are built are written
 to CRATE/data/NAME.cases, unchanged and in their order, and their transcripts to CRATE/stdout; CRATE/args names the files.
-What is left out is counted on standard output.
+A program's data must lie in its crate, so the files stand twice; the first line of each copy names its source.
+What is left out is counted on standard output. With --check nothing is written: each file that isn't what would be
+written is named, and the status is 1 where there is one.
 
 FORM is a verb that is served, as a single command and as a line of a script; `attach-C` is `attach` with -C alone, and
 `script` the script itself. N is how many drawers a shelf may have. NAME is a file or a case that is left out, as too dear.
@@ -13,6 +15,7 @@ FORM is a verb that is served, as a single command and as a line of a script; `a
 
 import argparse
 import pathlib
+import sys
 
 # What is built today.
 FORMS = (
@@ -27,6 +30,8 @@ VERBS = (
     "attach backup delkey detach dump eject fill flush init kill list read reap restore resize resume "
     "setkey step submit sum suspend verify write"
 ).split(" ")
+# The first line of a copy; a line that begins with # is skipped.
+SOURCE = "# A copy, written by tools/select_cases.py: the source is cases/%s."
 # What words that are no command are answered; it is the same in every stage.
 USAGE = "out usage:"
 
@@ -127,13 +132,9 @@ class Selection:
                 words, given, offered = [], b"", 0
         return True
 
-    def write(self, folder, crate):
-        """Writes the data of the crate."""
-        args, stdout = [], []
-        data = crate / "data"
-        data.mkdir(exist_ok=True)
-        for old in data.glob("*.cases"):
-            old.unlink()
+    def files(self, folder, crate):
+        """The data of the crate: what each file is to hold. Counts what is selected."""
+        args, stdout, found = [], [], {}
         for path in sorted(folder.glob("*.cases")):
             cases = cases_of(path.read_text())
             transcripts = transcripts_of(path.with_suffix(".expected").read_text())
@@ -147,18 +148,41 @@ class Selection:
                     count += 1
             print(f"{path.stem}: {count} of {len(cases)}")
             if chosen:
-                (data / path.name).write_text("".join(line + "\n" for line in chosen))
+                found[crate / "data" / path.name] = [SOURCE % path.name, *chosen]
                 args.append(path.name)
-        (crate / "args").write_text("".join(name + "\n" for name in args))
-        (crate / "stdout").write_text("".join(line + "\n" for line in stdout))
+        found |= {crate / "args": args, crate / "stdout": stdout}
+        return {path: "".join(line + "\n" for line in lines) for path, lines in found.items()}
+
+
+def write(crate, files):
+    """Writes the data of the crate, and nothing else stays."""
+    (crate / "data").mkdir(exist_ok=True)
+    for old in (crate / "data").glob("*.cases"):
+        old.unlink()
+    for path, text in files.items():
+        path.write_text(text)
+
+
+def differing(crate, files):
+    """The files that aren't what they are to be, or are too many."""
+    changed = [path for path, text in files.items() if not path.exists() or path.read_text() != text]
+    return sorted([*changed, *(path for path in (crate / "data").glob("*.cases") if path not in files)])
 
 
 if __name__ == "__main__":
     parser = argparse.ArgumentParser(usage=__doc__)
     parser.add_argument("cases", type=pathlib.Path)
     parser.add_argument("crate", type=pathlib.Path)
+    parser.add_argument("--check", action="store_true")
     parser.add_argument("--forms", nargs="+", default=FORMS)
     parser.add_argument("--drawers", type=int, default=DRAWERS)
     parser.add_argument("--without", nargs="*", default=DEAR)
     given = parser.parse_args()
-    Selection(given.forms, given.drawers, given.without).write(given.cases, given.crate)
+    files = Selection(given.forms, given.drawers, given.without).files(given.cases, given.crate)
+    if not given.check:
+        write(given.crate, files)
+        sys.exit(0)
+    wrong = differing(given.crate, files)
+    for path in wrong:
+        print("%s isn't what is written from %s" % (path, given.cases))
+    sys.exit(1 if wrong else 0)

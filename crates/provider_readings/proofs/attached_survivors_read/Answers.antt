@@ -1,5 +1,0 @@
-use Rattle.provider_readings.proofs.Attaching.{reads}
-use Rattle.provider_readings.proofs.attached_survivors_read.Goals as goal
-
-pub returns : goal.returns
-returns g c = reads g.D.Disk.state

@@ -1,5 +1,0 @@
-use Rattle.queue_readings.proofs.Alone.{does_alone}
-use Rattle.queue_readings.proofs.a_job_alone_is_the_call_of_the_provider.Goals as goal
-
-pub returns : goal.returns
-returns c = does_alone

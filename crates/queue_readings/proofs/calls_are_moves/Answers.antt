@@ -1,5 +1,0 @@
-use Rattle.queue_readings.proofs.Moving.{played}
-use Rattle.queue_readings.proofs.calls_are_moves.Goals as goal
-
-pub returns : goal.returns
-returns c = played

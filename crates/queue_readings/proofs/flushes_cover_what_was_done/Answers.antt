@@ -1,5 +1,0 @@
-use Rattle.queue_readings.proofs.Calls.{covered}
-use Rattle.queue_readings.proofs.flushes_cover_what_was_done.Goals as goal
-
-pub returns : goal.returns
-returns c = covered

@@ -1,5 +1,0 @@
-use Rattle.queue_readings.proofs.Calls.{nothing_yet}
-use Rattle.queue_readings.proofs.plays_begin_empty.Goals as goal
-
-pub returns : goal.returns
-returns c = nothing_yet

@@ -1,5 +1,0 @@
-use Rattle.queue_readings.proofs.Calls.{written_between}
-use Rattle.queue_readings.proofs.writes_may_stand_between.Goals as goal
-
-pub returns : goal.returns
-returns c = written_between

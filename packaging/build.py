@@ -7,6 +7,9 @@ A run of rt holds the folders of its crate and of all crates below, so each crat
 over what was built of the others. What is proved of a library goes to its out/ in TREE, so a build that was broken off
 goes on there. The crate with the longest chain of others behind it comes first.
 
+At x86-64-v3 one word of the sources is another: AES goes by planes of 32 bytes (crates/aes_planes/src/width.rt). So
+the crates on aes_planes are proved for that level by themselves, and their libraries are kept in out/wide/ of TREE.
+
 Standard error says how far it is, standard output what rt says. GELI_JOBS is how many processors are used; without it,
 as many as there are, as far as there are 4 GB of free memory for each. The status is 0 where all was built.
 """
@@ -27,6 +30,9 @@ TOP = "geli_cli"
 PARTS = ("src", "specs", "proofs")
 BYTES_OF_JOB = 4_000_000_000
 MOST_JOBS_OF_CRATE = 4
+WIDE_LEVELS = ("x86-64-v3",)
+WIDTH_CRATE, WIDTH_FILE = "aes_planes", "src/width.rt"
+NARROW, WIDE = "WIDE: bool = false", "WIDE: bool = true"
 
 
 def say(text):
@@ -103,9 +109,18 @@ def held(folder):
         os.close(handle)
 
 
+def widen(file):
+    """Has a copy of the sources take sixteen blocks at a time."""
+    text = text_of(file)
+    if text.count(NARROW) != 1:
+        raise SystemExit(f"{file} doesn't say once: {NARROW}")
+    with open(file, "w", encoding="utf-8") as it:
+        it.write(text.replace(NARROW, WIDE))
+
+
 class Build:
-    def __init__(self, tree, program, levels, room):
-        self.tree, self.program, self.levels, self.room = tree, program, levels, room
+    def __init__(self, tree, program, level, room):
+        self.tree, self.program, self.level, self.room = tree, program, level, room
         self.uses = libraries_of(f"{tree}/crates.txt")
         self.crates = [*below(self.uses, TOP), TOP]
         self.seconds = {it: seconds_of(f"{tree}/crates/{it}") for it in self.crates}
@@ -116,20 +131,28 @@ class Build:
         self.lanes, self.began, self.took = processors(), time.monotonic(), {}
         self.is_ending, self.started = False, set()
 
+    def home(self, name):
+        """Returns the folder in whose out/ a library is kept."""
+        is_wide = self.level in WIDE_LEVELS and WIDTH_CRATE in [*below(self.uses, name), name]
+        return f"{self.tree}/out/wide/{name}" if is_wide else f"{self.tree}/crates/{name}"
+
     def take(self, name):
         """Copies a crate's files into the room, with the library that an earlier build left."""
-        source, to = f"{self.tree}/crates/{name}", f"{self.room}/built/{name}"
+        source, to, home = f"{self.tree}/crates/{name}", f"{self.room}/built/{name}", self.home(name)
         for part in PARTS:
             if os.path.isdir(f"{source}/{part}"):
                 shutil.copytree(f"{source}/{part}", f"{to}/{part}", symlinks=True)
-        if os.path.isfile(f"{source}/out/rlib/stamp"):
-            with held(source) as is_held:
+        if name == WIDTH_CRATE and self.level in WIDE_LEVELS:
+            widen(f"{to}/{WIDTH_FILE}")
+        os.makedirs(home, exist_ok=True)
+        if os.path.isfile(f"{home}/out/rlib/stamp"):
+            with held(home) as is_held:
                 if is_held:
-                    shutil.copytree(f"{source}/out/rlib", f"{to}/out/rlib", copy_function=link_or_copy)
+                    shutil.copytree(f"{home}/out/rlib", f"{to}/out/rlib", copy_function=link_or_copy)
 
     def give(self, name):
         """Puts a library that was built into the tree, for the next build."""
-        source, to = f"{self.room}/built/{name}/out/rlib", f"{self.tree}/crates/{name}"
+        source, to = f"{self.room}/built/{name}/out/rlib", self.home(name)
         with contextlib.suppress(OSError), held(to) as is_held:
             if is_held and text_of(f"{to}/out/rlib/stamp") != text_of(f"{source}/stamp"):
                 for old in (f"{to}/out/rlib.new", f"{to}/out/rlib"):
@@ -160,7 +183,7 @@ class Build:
         return status == 0
 
     def prove(self, name, jobs):
-        """Builds a library, or the program for each level, and returns whether it could."""
+        """Builds a library or the program, and returns whether it could."""
         is_built, words = False, ["--jobs", str(jobs)]
         with open(f"{self.room}/{name}.log", "w", encoding="utf-8") as log:
             try:
@@ -182,10 +205,9 @@ class Build:
 
     def link(self, folder, log, words):
         shutil.copytree(f"{self.tree}/crates/{TOP}/data", f"{folder}/data")
-        for level in self.levels:
-            if not self.rt(folder, log, "run", *words, f"--cpu={level}", "--", "dump", "data/a.img"):
-                return False
-            shutil.copy(f"{folder}/out/{TOP}", f"{self.program}-{level}")
+        if not self.rt(folder, log, "run", *words, f"--cpu={self.level}", "--", "dump", "data/a.img"):
+            return False
+        shutil.copy(f"{folder}/out/{TOP}", f"{self.program}-{self.level}")
         return True
 
     def tell(self, name):
@@ -256,9 +278,10 @@ def room_of(tree):
         shutil.rmtree(room, ignore_errors=True)
 
 
-def main(tree, program, *levels):
+def build_for(tree, program, level):
+    """Builds the program for a level, and returns whether it could."""
     with room_of(tree) as room:
-        build, signals = Build(tree, program, levels, room), (signal.SIGINT, signal.SIGTERM, signal.SIGHUP)
+        build, signals = Build(tree, program, level, room), (signal.SIGINT, signal.SIGTERM, signal.SIGHUP)
 
         def stop(number, _):
             for it in signals:
@@ -268,14 +291,18 @@ def main(tree, program, *levels):
 
         for it in signals:
             signal.signal(it, stop)
-        say(f"{len(build.crates)} crates are proved, up to {build.lanes} at a time")
+        say(f"{level}: {len(build.crates)} crates are proved, up to {build.lanes} at a time")
         failed = build.all()
         for name in [failed] if failed else build.crates:
             with contextlib.suppress(OSError), open(f"{room}/{name}.log", encoding="utf-8", errors="replace") as log:
                 print(f"== {name}", log.read(), sep="\n", end="")
         if failed:
             say(f"the crate {failed} was not proved")
-    return 1 if failed else 0
+    return not failed
+
+
+def main(tree, program, *levels):
+    return 0 if all(build_for(tree, program, level) for level in levels) else 1
 
 
 if __name__ == "__main__":

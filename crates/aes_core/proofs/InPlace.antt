@@ -1,9 +1,11 @@
 -- A slice whose blocks are replaced one after the other.
-use Rattle.std.proofs.Common.{◌≡◌, ℕ, zero, suc, ◌+◌, ◌-◌, ◌*◌, ◌<◌, ◌≤◌, List, ◌++◌, length, take, drop, refl, sym, ap, ◌∙◌, arith, add-one, append_assoc, length-append}
+use Rattle.std.proofs.Common.{◌≡◌, ℕ, zero, suc, ◌+◌, ◌-◌, ◌*◌, ◌<◌, ◌≤◌, List, ◌++◌, length, take, drop, inl, inr, refl, sym, ap, ◌∙◌, arith, add-one, append_assoc, length-append}
 use Rattle.std.proofs.lemmas.List.{take_at, drop_at, drop_all, append-nil, drop-drop, drop-take, take-take}
+use Rattle.std.proofs.lemmas.Bool.{cases_lt}
+use Rattle.std.proofs.lemmas.Simd.{length-chunk}
 use Rattle.std.specs.Simd.Lanes.{chunk}
 use Rattle.aes_core.specs.Blocks.{block, blocks}
-use Rattle.aes_core.proofs.BlockLists.{blocks-block, blocks-same}
+use Rattle.aes_core.proofs.BlockLists.{AreBlocks, block-blocks, blocks-block, blocks-same}
 use borrow.Rule.Slice.PartMut.{put_mid}
 
 -- the first j blocks of p are replaced by f 0, …, f (j - 1)
@@ -84,3 +86,17 @@ IsDone-more f p now ys s k j m h es ek ly same =
       long = ap length more ∙ omega (arith, length-append (blocks f j) (blocks (λ i. f (j + i)) m), long, ap length e, ly);
       is = (λ i. front i ++ (e i ++ back i)) ∙ sym (append_assoc (blocks f j) (blocks (λ i. f (j + i)) m) (drop (16 * (j + m)) p)) ∙ ap (λ (l : List ℕ). l ++ drop (16 * (j + m)) p) (sym more);
     }
+
+-- blocks that were written have 16 bytes
+pub part_blocks : (g : ℕ → List ℕ) (ys : List ℕ) (j m : ℕ) → length ys ≡ 16 * m → ((i : ℕ) → i < m → block ys i ≡ g (j + i)) → AreBlocks g j → AreBlocks g (j + m)
+part_blocks g ys j m ly same before n ln =
+    elim (cases_lt n j) [
+      | inl below ↦ before n below
+      | inr behind ↦
+          let at : j + (n - j) ≡ n = omega arith in
+          ap (λ (i : ℕ). length (g i)) (sym at) ∙ ap length (sym (same (n - j) (omega arith))) ∙ length-chunk (16 * (n - j)) 16 ys (omega arith)
+    ]
+
+-- all of sixteen blocks
+pub sixteen_done : (g : ℕ → List ℕ) (p now : List ℕ) → length p ≡ 256 → IsDone g p now 16 → AreBlocks g 16 → (j : ℕ) → j < 16 → block now j ≡ g j
+sixteen_done g p now len done are j lj = ap (λ (l : List ℕ). block l j) (IsDone-end g p now 16 len done) ∙ block-blocks g 16 j are lj

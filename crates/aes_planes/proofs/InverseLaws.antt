@@ -1,5 +1,5 @@
 -- The inverse cipher by rows.
-use Rattle.std.proofs.Common.{◌≡◌, ℕ, zero, suc, ◌+◌, ◌-◌, ◌*◌, ◌%◌, ◌<◌, List, [], ◌∷◌, map, get_or, length, bit_xor, refl, sym, ap, subst, ◌∙◌, arith, lit<, add-one}
+use Rattle.std.proofs.Common.{◌≡◌, ℕ, zero, suc, ◌+◌, ◌-◌, ◌*◌, ◌%◌, ◌<◌, List, [], ◌∷◌, map, get_or, length, slice_index_or, bit_xor, refl, sym, ap, subst, ◌∙◌, arith, lit<, add-one}
 use lib.Bits.{xor_assoc, xor_zero_r}
 use Rattle.std.proofs.lemmas.Nat.{xor_of_8}
 use Rattle.std.proofs.lemmas.Nat.Bits.{bit_at-lt}
@@ -14,8 +14,9 @@ use Rattle.aes_core.proofs.Boxes.{agree_at, inverse_sbox_entry}
 use Rattle.aes_core.proofs.Inverse.{times-xor, sum4, sum4-xor, sum4-rotated, IsState-xor, IsState-bytes_by, AreRoundKeys}
 use Rattle.aes_planes.specs.Circuit.{run, outputs, inverse_sbox_gates, inverse_sbox_outputs}
 use Rattle.aes_planes.specs.Planes.{vector_ops, planes_of, rows, unshift_in, unshift_between, opposite_lane, opposite_row, mixed_rows, quadrupled_planes, turned, half_inverse, half_inverse_sub}
-use Rattle.aes_planes.specs.Blocks.{from_bits, bit_in, block_at, vector_at, AreStates, AreOf, added}
+use Rattle.aes_planes.specs.Blocks.{from_bits, bit_in, block_at, vector_at, AreStates, AreOf, AreKeys, added, key_at}
 use Rattle.aes_planes.specs.declared.vectors.Planes.{Planes}
+use Rattle.aes_planes.specs.declared.round_keys.KeyPlanes.{KeyPlanes}
 use Rattle.aes_planes.proofs.Truth.{bit_ops, bits_of, inverse_sbox_circuit}
 use Rattle.aes_planes.proofs.Hom.{Every, run-hom, outputs-hom}
 use Rattle.aes_planes.proofs.SubLaw.{bits_back, vector_hom, same_on_range, IsState-zeros}
@@ -296,3 +297,9 @@ inverse_end w m q s a c k r out h keys at e1 e2 hk e3 eo j lj =
     let b2 : block_at (planes_of c) j ≡ inverse_sub_bytes (inverse_shift_rows t) = ap (λ (ps : List (List ℕ)). block_at ps j) e2 ∙ ap rows b1 in
     vectors_are_blocks r out j lj (add_states c k r hc hk.states e3) eo
     ∙ add_law c k r j lj hc hk.states e3 ∙ (λ i. xor (b2 i) (hk.blocks j lj i))
+
+-- the round key of inverse round n + 1
+pub key_from_end : (w : List ℕ) (m n : ℕ) (keys : List KeyPlanes) → n < m → AreKeys w m keys → (d : KeyPlanes) → AreOf (rows (turned (round_key w (m - n)))) (key_at (slice_index_or keys (m - n) d))
+key_from_end w m n keys lt are d =
+    let e : m - n - 1 + 1 ≡ m - n = omega arith in
+    subst (λ (r : ℕ). AreOf (rows (turned (round_key w r))) (key_at (slice_index_or keys r d))) e (are.between (m - n - 1) (omega arith) d)

@@ -2,10 +2,12 @@
 
 ghost use Rattle.std.specs.Prelude.{◌≡◌, ◌<◌, ℕ, length, map};
 ghost use Rattle.aes_core.specs.Aes.{inverse_mix_columns};
+ghost use Rattle.aes_core.specs.Blocks.{block};
 ghost use Rattle.aes_planes.specs.Blocks.{AreStates, block_at};
-ghost use Rattle.aes_planes.specs.Planes.{planes_of, rows, next_row, opposite_row, mixed_rows, quadrupled_planes, AreLong};
+ghost use Rattle.aes_planes.specs.Planes.{planes_of, rows, next_row, opposite_row, mixed_rows, other_rows, quadrupled_planes, with_next_row, AreLong};
+ghost use Rattle.aes_planes.specs.Wide.{AreWide, side};
 
-use crate::vectors::{Planes, summed};
+use crate::vectors::{Planes, WidePlanes, summed, wide_summed};
 use std::simd::prelude::*;
 
 const NEXT: [usize; 16] = [4, 5, 6, 7, 8, 9, 10, 11, 12, 13, 14, 15, 0, 1, 2, 3];
@@ -116,4 +118,132 @@ pub fn inverse_mix_columns(q: Planes) -> Planes
 {
     let u = quadrupled(summed(q, opposites(q)));
     mix_columns(summed(q, u))
+}
+
+const WIDE_NEXT: [usize; 32] = [
+    4, 5, 6, 7, 8, 9, 10, 11, 12, 13, 14, 15, 0, 1, 2, 3, 20, 21, 22, 23, 24, 25, 26, 27, 28, 29,
+    30, 31, 16, 17, 18, 19,
+];
+
+const WIDE_OPPOSITE: [usize; 32] = [
+    8, 9, 10, 11, 12, 13, 14, 15, 0, 1, 2, 3, 4, 5, 6, 7, 24, 25, 26, 27, 28, 29, 30, 31, 16, 17,
+    18, 19, 20, 21, 22, 23,
+];
+
+#[inline(always)]
+fn wide_next(v: u8x32) -> u8x32
+    requires { length v ≡ 32 }
+    ensures sides { (i : ℕ) → i < 2 → block result i ≡ next_row (block v i) }
+    ensures long { length result ≡ 32 }
+{
+    v.swizzle(WIDE_NEXT)
+}
+
+#[inline(always)]
+fn wide_opposite(v: u8x32) -> u8x32
+    requires { length v ≡ 32 }
+    ensures sides { (i : ℕ) → i < 2 → block result i ≡ opposite_row (block v i) }
+    ensures long { length result ≡ 32 }
+{
+    v.swizzle(WIDE_OPPOSITE)
+}
+
+// What MixColumns makes of a plane: the sum of each byte and the next of its column, and that of the other three.
+#[derive(Clone, Copy)]
+struct RowSums {
+    with_next: u8x32,
+    others: u8x32,
+}
+
+#[inline(always)]
+fn sums(v: u8x32) -> RowSums
+    requires { length v ≡ 32 }
+    ensures with_next { (i : ℕ) → i < 2 → block result.with_next i ≡ with_next_row (block v i) }
+    ensures others { (i : ℕ) → i < 2 → block result.others i ≡ other_rows (block v i) }
+    ensures long { (length result.with_next ≡ 32) × (length result.others ≡ 32) }
+{
+    let next = wide_next(v);
+    let with_next = v ^ next;
+    let others = next ^ wide_opposite(with_next);
+    RowSums { with_next, others }
+}
+
+/// MixColumns of sixteen blocks, by rows.
+#[inline(always)]
+pub fn wide_mix_columns(q: WidePlanes) -> WidePlanes
+    requires { AreWide q }
+    ensures sides { (i : ℕ) → i < 2 → planes_of (side i result) ≡ mixed_rows (side i q) }
+    ensures wide { AreWide result }
+{
+    let s0 = sums(q.b0);
+    let s1 = sums(q.b1);
+    let s2 = sums(q.b2);
+    let s3 = sums(q.b3);
+    let s4 = sums(q.b4);
+    let s5 = sums(q.b5);
+    let s6 = sums(q.b6);
+    let s7 = sums(q.b7);
+    WidePlanes {
+        b7: s7.others ^ s6.with_next,
+        b6: s6.others ^ s5.with_next,
+        b5: s5.others ^ s4.with_next,
+        b4: s4.others ^ s3.with_next ^ s7.with_next,
+        b3: s3.others ^ s2.with_next ^ s7.with_next,
+        b2: s2.others ^ s1.with_next,
+        b1: s1.others ^ s0.with_next ^ s7.with_next,
+        b0: s0.others ^ s7.with_next,
+    }
+}
+
+// The bytes of sixteen blocks in the rows opposite.
+#[inline(always)]
+fn wide_opposites(q: WidePlanes) -> WidePlanes
+    requires { AreWide q }
+    ensures sides { (i : ℕ) → i < 2 → planes_of (side i result) ≡ map opposite_row (planes_of (side i q)) }
+    ensures wide { AreWide result }
+{
+    WidePlanes {
+        b7: wide_opposite(q.b7),
+        b6: wide_opposite(q.b6),
+        b5: wide_opposite(q.b5),
+        b4: wide_opposite(q.b4),
+        b3: wide_opposite(q.b3),
+        b2: wide_opposite(q.b2),
+        b1: wide_opposite(q.b1),
+        b0: wide_opposite(q.b0),
+    }
+}
+
+// Each byte of sixteen blocks times x squared.
+#[inline(always)]
+fn wide_quadrupled(q: WidePlanes) -> WidePlanes
+    requires { AreWide q }
+    ensures sides { (i : ℕ) → i < 2 → planes_of (side i result) ≡ quadrupled_planes (side i q) }
+    ensures wide { AreWide result }
+{
+    let both = q.b6 ^ q.b7;
+    WidePlanes {
+        b7: q.b5,
+        b6: q.b4,
+        b5: q.b3 ^ q.b7,
+        b4: q.b2 ^ both,
+        b3: q.b1 ^ q.b6,
+        b2: q.b0 ^ q.b7,
+        b1: both,
+        b0: q.b6,
+    }
+}
+
+/// InvMixColumns of sixteen blocks, by rows.
+#[inline(always)]
+pub fn wide_inverse_mix_columns(q: WidePlanes) -> WidePlanes
+    requires wide { AreWide q }
+    requires states { (i : ℕ) → i < 2 → AreStates (side i q) }
+    ensures states { (i : ℕ) → i < 2 → AreStates (side i result) }
+    ensures blocks { (i : ℕ) → i < 2 → (j : ℕ) → j < 8
+        → block_at (planes_of (side i result)) j ≡ rows (inverse_mix_columns (rows (block_at (planes_of (side i q)) j))) }
+    ensures wide { AreWide result }
+{
+    let u = wide_quadrupled(wide_summed(q, wide_opposites(q)));
+    wide_mix_columns(wide_summed(q, u))
 }

@@ -16,13 +16,16 @@ mod rows;
 mod sboxes;
 mod transposition;
 mod vectors;
+mod width;
 
 use aes_core::Schedule;
-pub use groups::{loaded, store};
+pub use groups::{loaded, pair, store, wide_loaded, wide_store};
 use round_keys::{KeyPlanes, schedule_planes};
-use rounds::{decipher, encipher};
+use rounds::{decipher, encipher, wide_decipher, wide_encipher};
 use std::marker::Model;
-pub use vectors::{Planes, summed};
+use vectors::sides_are_states;
+pub use vectors::{Planes, WidePlanes, summed, wide_summed};
+pub use width::WIDE;
 
 /// A key schedule with the bit planes of its round keys, which are made once. It is 2 KB large, and no copy of it is
 /// made by itself.
@@ -50,6 +53,7 @@ impl Model for SlicedSchedule {
 impl SlicedSchedule {
     ghost use Rattle.aes_core.specs.Schedule.{IsKey};
     ghost use Rattle.aes_planes.specs.Blocks.{AreStates, vector_at};
+    ghost use Rattle.aes_planes.specs.Wide.{AreWide, side};
 
     /// The planes of this schedule's round keys.
     pub fn new(schedule: &Schedule) -> SlicedSchedule
@@ -96,6 +100,32 @@ impl SlicedSchedule {
             self.schedule.rounds() - 1,
             q,
         )
+    }
+
+    /// Sixteen blocks enciphered, two in each vector.
+    #[inline(always)]
+    pub fn wide_encrypted(&self, q: WidePlanes) -> WidePlanes
+        requires { AreWide q }
+        ensures sides { (i : ℕ) → i < 2 → (j : ℕ) → j < 8 → vector_at (side i result) j ≡ encrypt self.now (vector_at (side i q) j) }
+        ensures wide { AreWide result }
+    {
+        self.schedule.is_of_a_key();
+        sides_are_states(q);
+        let between = self.schedule.rounds() - 2;
+        wide_encipher(self.schedule.round_keys(), &self.planes, between, q)
+    }
+
+    /// Sixteen blocks deciphered, two in each vector.
+    #[inline(always)]
+    pub fn wide_decrypted(&self, q: WidePlanes) -> WidePlanes
+        requires { AreWide q }
+        ensures sides { (i : ℕ) → i < 2 → (j : ℕ) → j < 8 → vector_at (side i result) j ≡ decrypt self.now (vector_at (side i q) j) }
+        ensures wide { AreWide result }
+    {
+        self.schedule.is_of_a_key();
+        sides_are_states(q);
+        let before = self.schedule.rounds() - 1;
+        wide_decipher(self.schedule.round_keys(), &self.planes, before, q)
     }
 
     /// A law: what a schedule was made from is a key, which has 16, 24 or 32 bytes.

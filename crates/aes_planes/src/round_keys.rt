@@ -3,15 +3,17 @@
 //! Each round key but the first has the constant of the S-box in each byte, since the circuits leave it out. The
 //! inverse cipher adds the same keys before the inverse S-box, whose circuit takes a byte with the constant.
 
-ghost use Rattle.std.specs.Prelude.{◌≡◌, ◌<◌};
+ghost use Rattle.std.specs.Prelude.{◌≡◌, ◌<◌, ℕ, length};
+ghost use Rattle.aes_core.specs.Blocks.{block};
 ghost use Rattle.aes_core.specs.Aes.{round_key};
 ghost use Rattle.aes_core.specs.State.{IsState};
 ghost use Rattle.aes_planes.specs.Blocks.{AreKeys, AreOf, added, plane_of, key_at};
 ghost use Rattle.aes_planes.specs.Planes.{planes_of, rows, turned};
+ghost use Rattle.aes_planes.specs.Wide.{AreWide, side};
 
 use crate::rows::in_rows;
 use crate::transposition::transposed;
-use crate::vectors::Planes;
+use crate::vectors::{Planes, WidePlanes};
 use std::simd::prelude::*;
 
 /// The planes of a round key as numbers, which stand aligned in memory, so that they are added with no load.
@@ -49,6 +51,40 @@ pub fn add_round_key(q: Planes, k: &KeyPlanes) -> Planes
         b2: q.b2 ^ plane(k.b2),
         b1: q.b1 ^ plane(k.b1),
         b0: q.b0 ^ plane(k.b0),
+    }
+}
+
+// Each lane of a vector of 16 twice.
+const TWICE: [usize; 32] = [
+    0, 1, 2, 3, 4, 5, 6, 7, 8, 9, 10, 11, 12, 13, 14, 15, 0, 1, 2, 3, 4, 5, 6, 7, 8, 9, 10, 11, 12,
+    13, 14, 15,
+];
+
+// A plane of a round key on both sides.
+#[inline(always)]
+fn wide_plane(k: u128) -> u8x32
+    ensures sides { (i : ℕ) → i < 2 → block result i ≡ plane_of k }
+    ensures long { length result ≡ 32 }
+{
+    plane(k).swizzle(TWICE)
+}
+
+/// AddRoundKey of sixteen blocks.
+#[inline(always)]
+pub fn wide_add_round_key(q: WidePlanes, k: &KeyPlanes) -> WidePlanes
+    requires { AreWide q }
+    ensures sides { (i : ℕ) → i < 2 → planes_of (side i result) ≡ added (side i q) (key_at k.now) }
+    ensures wide { AreWide result }
+{
+    WidePlanes {
+        b7: q.b7 ^ wide_plane(k.b7),
+        b6: q.b6 ^ wide_plane(k.b6),
+        b5: q.b5 ^ wide_plane(k.b5),
+        b4: q.b4 ^ wide_plane(k.b4),
+        b3: q.b3 ^ wide_plane(k.b3),
+        b2: q.b2 ^ wide_plane(k.b2),
+        b1: q.b1 ^ wide_plane(k.b1),
+        b0: q.b0 ^ wide_plane(k.b0),
     }
 }
 

@@ -3,10 +3,12 @@
 //! Between the first round and the last one a state stands by its rows, lane 4r + c for row r of column c, where the
 //! next row of MixColumns is one turn of all lanes. The change of order is part of the first and of the last shift.
 
-ghost use Rattle.std.specs.Prelude.{◌≡◌, length, map};
+ghost use Rattle.std.specs.Prelude.{◌≡◌, ◌<◌, ℕ, length, map};
+ghost use Rattle.aes_core.specs.Blocks.{block};
 ghost use Rattle.aes_planes.specs.Planes.{planes_of, shift_in, shift_between, shift_out, unshift_in, unshift_between, rows, AreLong};
+ghost use Rattle.aes_planes.specs.Wide.{AreWide, side};
 
-use crate::vectors::Planes;
+use crate::vectors::{Planes, WidePlanes};
 use std::simd::prelude::*;
 
 const SHIFT_IN: [usize; 16] = [0, 4, 8, 12, 5, 9, 13, 1, 10, 14, 2, 6, 15, 3, 7, 11];
@@ -20,6 +22,36 @@ const UNSHIFT_IN: [usize; 16] = [0, 4, 8, 12, 13, 1, 5, 9, 10, 14, 2, 6, 7, 11, 
 const UNSHIFT_BETWEEN: [usize; 16] = [0, 1, 2, 3, 7, 4, 5, 6, 10, 11, 8, 9, 13, 14, 15, 12];
 
 const ROWS: [usize; 16] = [0, 4, 8, 12, 1, 5, 9, 13, 2, 6, 10, 14, 3, 7, 11, 15];
+
+const WIDE_SHIFT_IN: [usize; 32] = [
+    0, 4, 8, 12, 5, 9, 13, 1, 10, 14, 2, 6, 15, 3, 7, 11, 16, 20, 24, 28, 21, 25, 29, 17, 26, 30,
+    18, 22, 31, 19, 23, 27,
+];
+
+const WIDE_SHIFT_BETWEEN: [usize; 32] = [
+    0, 1, 2, 3, 5, 6, 7, 4, 10, 11, 8, 9, 15, 12, 13, 14, 16, 17, 18, 19, 21, 22, 23, 20, 26, 27,
+    24, 25, 31, 28, 29, 30,
+];
+
+const WIDE_SHIFT_OUT: [usize; 32] = [
+    0, 5, 10, 15, 1, 6, 11, 12, 2, 7, 8, 13, 3, 4, 9, 14, 16, 21, 26, 31, 17, 22, 27, 28, 18, 23,
+    24, 29, 19, 20, 25, 30,
+];
+
+const WIDE_UNSHIFT_IN: [usize; 32] = [
+    0, 4, 8, 12, 13, 1, 5, 9, 10, 14, 2, 6, 7, 11, 15, 3, 16, 20, 24, 28, 29, 17, 21, 25, 26, 30,
+    18, 22, 23, 27, 31, 19,
+];
+
+const WIDE_UNSHIFT_BETWEEN: [usize; 32] = [
+    0, 1, 2, 3, 7, 4, 5, 6, 10, 11, 8, 9, 13, 14, 15, 12, 16, 17, 18, 19, 23, 20, 21, 22, 26, 27,
+    24, 25, 29, 30, 31, 28,
+];
+
+const WIDE_ROWS: [usize; 32] = [
+    0, 4, 8, 12, 1, 5, 9, 13, 2, 6, 10, 14, 3, 7, 11, 15, 16, 20, 24, 28, 17, 21, 25, 29, 18, 22,
+    26, 30, 19, 23, 27, 31,
+];
 
 #[inline(always)]
 fn moved_in(v: u8x16) -> u8x16
@@ -174,5 +206,173 @@ pub fn by_columns(q: Planes) -> Planes
         b2: in_rows(q.b2),
         b1: in_rows(q.b1),
         b0: in_rows(q.b0),
+    }
+}
+
+#[inline(always)]
+fn wide_moved_in(v: u8x32) -> u8x32
+    requires { length v ≡ 32 }
+    ensures sides { (i : ℕ) → i < 2 → block result i ≡ shift_in (block v i) }
+    ensures long { length result ≡ 32 }
+{
+    v.swizzle(WIDE_SHIFT_IN)
+}
+
+#[inline(always)]
+fn wide_moved_between(v: u8x32) -> u8x32
+    requires { length v ≡ 32 }
+    ensures sides { (i : ℕ) → i < 2 → block result i ≡ shift_between (block v i) }
+    ensures long { length result ≡ 32 }
+{
+    v.swizzle(WIDE_SHIFT_BETWEEN)
+}
+
+#[inline(always)]
+fn wide_moved_out(v: u8x32) -> u8x32
+    requires { length v ≡ 32 }
+    ensures sides { (i : ℕ) → i < 2 → block result i ≡ shift_out (block v i) }
+    ensures long { length result ≡ 32 }
+{
+    v.swizzle(WIDE_SHIFT_OUT)
+}
+
+#[inline(always)]
+fn wide_unmoved_in(v: u8x32) -> u8x32
+    requires { length v ≡ 32 }
+    ensures sides { (i : ℕ) → i < 2 → block result i ≡ unshift_in (block v i) }
+    ensures long { length result ≡ 32 }
+{
+    v.swizzle(WIDE_UNSHIFT_IN)
+}
+
+#[inline(always)]
+fn wide_unmoved_between(v: u8x32) -> u8x32
+    requires { length v ≡ 32 }
+    ensures sides { (i : ℕ) → i < 2 → block result i ≡ unshift_between (block v i) }
+    ensures long { length result ≡ 32 }
+{
+    v.swizzle(WIDE_UNSHIFT_BETWEEN)
+}
+
+#[inline(always)]
+fn wide_in_rows(v: u8x32) -> u8x32
+    requires { length v ≡ 32 }
+    ensures sides { (i : ℕ) → i < 2 → block result i ≡ rows (block v i) }
+    ensures long { length result ≡ 32 }
+{
+    v.swizzle(WIDE_ROWS)
+}
+
+// ShiftRows of sixteen blocks, from columns to rows.
+#[inline(always)]
+pub fn wide_first_shift(q: WidePlanes) -> WidePlanes
+    requires { AreWide q }
+    ensures sides { (i : ℕ) → i < 2 → planes_of (side i result) ≡ map shift_in (planes_of (side i q)) }
+    ensures wide { AreWide result }
+{
+    WidePlanes {
+        b7: wide_moved_in(q.b7),
+        b6: wide_moved_in(q.b6),
+        b5: wide_moved_in(q.b5),
+        b4: wide_moved_in(q.b4),
+        b3: wide_moved_in(q.b3),
+        b2: wide_moved_in(q.b2),
+        b1: wide_moved_in(q.b1),
+        b0: wide_moved_in(q.b0),
+    }
+}
+
+// ShiftRows of sixteen blocks, by rows.
+#[inline(always)]
+pub fn wide_middle_shift(q: WidePlanes) -> WidePlanes
+    requires { AreWide q }
+    ensures sides { (i : ℕ) → i < 2 → planes_of (side i result) ≡ map shift_between (planes_of (side i q)) }
+    ensures wide { AreWide result }
+{
+    WidePlanes {
+        b7: wide_moved_between(q.b7),
+        b6: wide_moved_between(q.b6),
+        b5: wide_moved_between(q.b5),
+        b4: wide_moved_between(q.b4),
+        b3: wide_moved_between(q.b3),
+        b2: wide_moved_between(q.b2),
+        b1: wide_moved_between(q.b1),
+        b0: wide_moved_between(q.b0),
+    }
+}
+
+// ShiftRows of sixteen blocks, from rows to columns.
+#[inline(always)]
+pub fn wide_last_shift(q: WidePlanes) -> WidePlanes
+    requires { AreWide q }
+    ensures sides { (i : ℕ) → i < 2 → planes_of (side i result) ≡ map shift_out (planes_of (side i q)) }
+    ensures wide { AreWide result }
+{
+    WidePlanes {
+        b7: wide_moved_out(q.b7),
+        b6: wide_moved_out(q.b6),
+        b5: wide_moved_out(q.b5),
+        b4: wide_moved_out(q.b4),
+        b3: wide_moved_out(q.b3),
+        b2: wide_moved_out(q.b2),
+        b1: wide_moved_out(q.b1),
+        b0: wide_moved_out(q.b0),
+    }
+}
+
+// InvShiftRows of sixteen blocks, from columns to rows.
+#[inline(always)]
+pub fn wide_first_unshift(q: WidePlanes) -> WidePlanes
+    requires { AreWide q }
+    ensures sides { (i : ℕ) → i < 2 → planes_of (side i result) ≡ map unshift_in (planes_of (side i q)) }
+    ensures wide { AreWide result }
+{
+    WidePlanes {
+        b7: wide_unmoved_in(q.b7),
+        b6: wide_unmoved_in(q.b6),
+        b5: wide_unmoved_in(q.b5),
+        b4: wide_unmoved_in(q.b4),
+        b3: wide_unmoved_in(q.b3),
+        b2: wide_unmoved_in(q.b2),
+        b1: wide_unmoved_in(q.b1),
+        b0: wide_unmoved_in(q.b0),
+    }
+}
+
+// InvShiftRows of sixteen blocks, by rows.
+#[inline(always)]
+pub fn wide_middle_unshift(q: WidePlanes) -> WidePlanes
+    requires { AreWide q }
+    ensures sides { (i : ℕ) → i < 2 → planes_of (side i result) ≡ map unshift_between (planes_of (side i q)) }
+    ensures wide { AreWide result }
+{
+    WidePlanes {
+        b7: wide_unmoved_between(q.b7),
+        b6: wide_unmoved_between(q.b6),
+        b5: wide_unmoved_between(q.b5),
+        b4: wide_unmoved_between(q.b4),
+        b3: wide_unmoved_between(q.b3),
+        b2: wide_unmoved_between(q.b2),
+        b1: wide_unmoved_between(q.b1),
+        b0: wide_unmoved_between(q.b0),
+    }
+}
+
+// Sixteen blocks from rows to columns.
+#[inline(always)]
+pub fn wide_by_columns(q: WidePlanes) -> WidePlanes
+    requires { AreWide q }
+    ensures sides { (i : ℕ) → i < 2 → planes_of (side i result) ≡ map rows (planes_of (side i q)) }
+    ensures wide { AreWide result }
+{
+    WidePlanes {
+        b7: wide_in_rows(q.b7),
+        b6: wide_in_rows(q.b6),
+        b5: wide_in_rows(q.b5),
+        b4: wide_in_rows(q.b4),
+        b3: wide_in_rows(q.b3),
+        b2: wide_in_rows(q.b2),
+        b1: wide_in_rows(q.b1),
+        b0: wide_in_rows(q.b0),
     }
 }

@@ -1,8 +1,11 @@
-//! Eight vectors of 16 bytes: eight blocks, or the planes of their bits.
+//! Eight vectors of 16 bytes, eight blocks or the planes of their bits; and eight of 32 bytes, for sixteen blocks.
 
-ghost use Rattle.std.specs.Prelude.{◌≡◌};
-ghost use Rattle.aes_planes.specs.Blocks.{added};
+ghost use Rattle.std.specs.Prelude.{◌≡◌, ◌<◌, ℕ, length};
+ghost use Rattle.aes_core.specs.Blocks.{block};
+ghost use Rattle.aes_core.specs.State.{IsState};
+ghost use Rattle.aes_planes.specs.Blocks.{AreStates, added};
 ghost use Rattle.aes_planes.specs.Planes.{planes_of};
+ghost use Rattle.aes_planes.specs.Wide.{AreWide, side};
 
 use std::simd::prelude::*;
 
@@ -34,4 +37,61 @@ pub fn summed(q: Planes, k: Planes) -> Planes
         b1: q.b1 ^ k.b1,
         b0: q.b0 ^ k.b0,
     }
+}
+
+/// Sixteen blocks, two in each vector: blocks 0 and 1 in `b0`, and 14 and 15 in `b7`. Or the planes of their bits, each
+/// with the plane of the blocks of even number before that of the others.
+#[derive(Clone, Copy)]
+pub struct WidePlanes {
+    pub b7: u8x32,
+    pub b6: u8x32,
+    pub b5: u8x32,
+    pub b4: u8x32,
+    pub b3: u8x32,
+    pub b2: u8x32,
+    pub b1: u8x32,
+    pub b0: u8x32,
+}
+
+/// The sum of two states of sixteen blocks.
+#[inline(always)]
+pub fn wide_summed(q: WidePlanes, k: WidePlanes) -> WidePlanes
+    requires first { AreWide q }
+    requires second { AreWide k }
+    ensures wide { AreWide result }
+    ensures sides { (i : ℕ) → i < 2 → planes_of (side i result) ≡ added (side i q) (side i k) }
+{
+    WidePlanes {
+        b7: q.b7 ^ k.b7,
+        b6: q.b6 ^ k.b6,
+        b5: q.b5 ^ k.b5,
+        b4: q.b4 ^ k.b4,
+        b3: q.b3 ^ k.b3,
+        b2: q.b2 ^ k.b2,
+        b1: q.b1 ^ k.b1,
+        b0: q.b0 ^ k.b0,
+    }
+}
+
+// A law: either half of a vector has bytes.
+#[inline(always)]
+fn halves_are_states(v: u8x32)
+    requires { length v ≡ 32 }
+    ensures { (i : ℕ) → i < 2 → IsState (block v i) }
+{}
+
+/// A law: either side of eight vectors has bytes.
+#[inline(always)]
+pub fn sides_are_states(q: WidePlanes)
+    requires { AreWide q }
+    ensures { (i : ℕ) → i < 2 → AreStates (side i q) }
+{
+    halves_are_states(q.b7);
+    halves_are_states(q.b6);
+    halves_are_states(q.b5);
+    halves_are_states(q.b4);
+    halves_are_states(q.b3);
+    halves_are_states(q.b2);
+    halves_are_states(q.b1);
+    halves_are_states(q.b0);
 }

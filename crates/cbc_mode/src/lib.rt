@@ -13,7 +13,7 @@ mod laws;
 use aes_core::Schedule;
 use aes_core::blocks::{Block, block_at, xor};
 use aes_planes::SlicedSchedule;
-use groups::{open_group, open_rest};
+use groups::{open_rest, open_sixteen};
 pub use laws::{cbc_keeps_lengths, cbc_opens_block_by_block};
 
 // The cipher text of one block, from the block of cipher text before it.
@@ -59,12 +59,12 @@ pub fn cbc_open_sliced(k: &SlicedSchedule, iv: &[u8; 16], block: &mut [u8])
     ensures { block.new ≡ cbc_open k.now iv.now block.old }
 {
     let mut before = *iv;
-    let groups = block.len() / 128;
+    let groups = block.len() / 256;
     for g in 0..groups {
-        let last = open_group(k, &before, &mut block[128 * g..128 * g + 128]);
+        let last = open_sixteen(k, &before, &mut block[256 * g..256 * g + 256]);
         before = last;
     }
-    open_rest(k, &before, &mut block[128 * groups..]);
+    open_rest(k, &before, &mut block[256 * groups..]);
 }
 
 /// A law: whatever is sealed opens to what it was, under every key and initial vector.

@@ -1,15 +1,19 @@
-//! XTS on eight blocks at a time (IEEE 1619, 5.3 and 5.4).
+//! XTS on sixteen blocks at a time, by planes of either width, and on eight (IEEE 1619, 5.3 and 5.4).
 
 ghost use Rattle.std.specs.Prelude.{◌≡◌, ◌<◌, ◌≤◌, ◌+◌, ◌*◌, ℕ, length};
 ghost use Rattle.std.specs.Int.{w128, to_le_bytes};
 ghost use Rattle.aes_core.specs.Aes.{encrypt, decrypt};
 ghost use Rattle.aes_core.specs.Blocks.{block};
 ghost use Rattle.aes_planes.specs.Blocks.{vector_at};
+ghost use Rattle.aes_planes.specs.Wide.{AreWide, side};
 ghost use Rattle.xts_mode.specs.Halves.{of_halves};
 ghost use Rattle.xts_mode.specs.Xts.{tweak_at, masked};
 
 use crate::doubling::doubled;
-use aes_planes::{Planes, SlicedSchedule, loaded, store, summed};
+use aes_planes::{
+    Planes, SlicedSchedule, WIDE, WidePlanes, loaded, pair, store, summed, wide_loaded, wide_store,
+    wide_summed,
+};
 use std::simd::prelude::*;
 
 // The tweaks of eight blocks, and the tweak of the block after them.
@@ -49,9 +53,9 @@ fn tweaks_from(t: u64x2) -> Tweaks
     }
 }
 
-/// Enciphers eight blocks in place, the first of which has this tweak. The answer is the tweak of the block after them.
+// Enciphers eight blocks in place, the first of which has this tweak. The answer is the tweak of the block after them.
 #[inline(never)]
-pub fn seal_group(k1: &SlicedSchedule, t: u64x2, group: &mut [u8]) -> u64x2
+fn seal_group(k1: &SlicedSchedule, t: u64x2, group: &mut [u8]) -> u64x2
     requires eight { length group.old ≡ 128 }
     requires long { length t ≡ 2 }
     ensures sealed { (j : ℕ) → j < 8 → block group.new j ≡ masked (encrypt k1.now) (of_halves t) group.old j }
@@ -64,9 +68,9 @@ pub fn seal_group(k1: &SlicedSchedule, t: u64x2, group: &mut [u8]) -> u64x2
     tweaks.next
 }
 
-/// Deciphers eight blocks in place, the first of which has this tweak. The answer is the tweak of the block after them.
+// Deciphers eight blocks in place, the first of which has this tweak. The answer is the tweak of the block after them.
 #[inline(never)]
-pub fn open_group(k1: &SlicedSchedule, t: u64x2, group: &mut [u8]) -> u64x2
+fn open_group(k1: &SlicedSchedule, t: u64x2, group: &mut [u8]) -> u64x2
     requires eight { length group.old ≡ 128 }
     requires long { length t ≡ 2 }
     ensures opened { (j : ℕ) → j < 8 → block group.new j ≡ masked (decrypt k1.now) (of_halves t) group.old j }
@@ -79,32 +83,230 @@ pub fn open_group(k1: &SlicedSchedule, t: u64x2, group: &mut [u8]) -> u64x2
     tweaks.next
 }
 
-/// Enciphers fewer than eight blocks in place, the first of which has this tweak.
-pub fn seal_rest(k1: &SlicedSchedule, t: u64x2, rest: &mut [u8])
-    requires few { length rest.old < 128 }
+// The tweaks of sixteen blocks, two in each vector, and the tweak of the block after them.
+#[derive(Clone, Copy)]
+struct WideTweaks {
+    masks: WidePlanes,
+    next: u64x2,
+}
+
+// Two tweaks, of which this is the first, as the bytes of two blocks.
+#[derive(Clone, Copy)]
+struct TwoTweaks {
+    mask: u8x32,
+    next: u64x2,
+}
+
+// This tweak and the one after it, and the tweak after these.
+#[inline(always)]
+fn two_tweaks(t: u64x2) -> TwoTweaks
+    requires { length t ≡ 2 }
+    ensures first { block result.mask 0 ≡ to_le_bytes w128 (of_halves t) }
+    ensures second { block result.mask 1 ≡ to_le_bytes w128 (tweak_at (of_halves t) 1) }
+    ensures next { of_halves result.next ≡ tweak_at (of_halves t) 2 }
+    ensures long { (length result.mask ≡ 32) × (length result.next ≡ 2) }
+{
+    let second = doubled(t);
+    TwoTweaks {
+        mask: pair(t.to_le_bytes(), second.to_le_bytes()),
+        next: doubled(second),
+    }
+}
+
+// The tweaks of sixteen blocks, the first of which has this one.
+#[inline(always)]
+fn wide_tweaks_from(t: u64x2) -> WideTweaks
+    requires { length t ≡ 2 }
+    ensures masks { (i : ℕ) → i < 2 → (j : ℕ) → j < 8 → vector_at (side i result.masks) j ≡ to_le_bytes w128 (tweak_at (of_halves t) (2 * j + i)) }
+    ensures wide { AreWide result.masks }
+    ensures next { of_halves result.next ≡ tweak_at (of_halves t) 16 }
+    ensures long { length result.next ≡ 2 }
+{
+    let w0 = two_tweaks(t);
+    let w1 = two_tweaks(w0.next);
+    let w2 = two_tweaks(w1.next);
+    let w3 = two_tweaks(w2.next);
+    let w4 = two_tweaks(w3.next);
+    let w5 = two_tweaks(w4.next);
+    let w6 = two_tweaks(w5.next);
+    let w7 = two_tweaks(w6.next);
+    WideTweaks {
+        masks: WidePlanes {
+            b7: w7.mask,
+            b6: w6.mask,
+            b5: w5.mask,
+            b4: w4.mask,
+            b3: w3.mask,
+            b2: w2.mask,
+            b1: w1.mask,
+            b0: w0.mask,
+        },
+        next: w7.next,
+    }
+}
+
+// Enciphers sixteen blocks in place by wide planes.
+#[inline(never)]
+fn seal_wide(k1: &SlicedSchedule, t: u64x2, group: &mut [u8]) -> u64x2
+    requires sixteen { length group.old ≡ 256 }
+    requires long { length t ≡ 2 }
+    ensures sealed { (j : ℕ) → j < 16 → block group.new j ≡ masked (encrypt k1.now) (of_halves t) group.old j }
+    ensures next { of_halves result ≡ tweak_at (of_halves t) 16 }
+    ensures long { length result ≡ 2 }
+{
+    let tweaks = wide_tweaks_from(t);
+    let before = wide_summed(wide_loaded(group), tweaks.masks);
+    wide_store(wide_summed(k1.wide_encrypted(before), tweaks.masks), group);
+    tweaks.next
+}
+
+// Enciphers sixteen blocks in place, eight after eight.
+fn seal_twice(k1: &SlicedSchedule, t: u64x2, group: &mut [u8]) -> u64x2
+    requires sixteen { length group.old ≡ 256 }
+    requires long { length t ≡ 2 }
+    ensures sealed { (j : ℕ) → j < 16 → block group.new j ≡ masked (encrypt k1.now) (of_halves t) group.old j }
+    ensures next { of_halves result ≡ tweak_at (of_halves t) 16 }
+    ensures long { length result ≡ 2 }
+{
+    let mut now = t;
+    for g in 0..2 {
+        now = seal_group(k1, now, &mut group[128 * g..128 * g + 128]);
+    }
+    now
+}
+
+/// Enciphers sixteen blocks in place, the first of which has this tweak. The answer is the tweak of the block after
+/// them.
+pub fn seal_sixteen(k1: &SlicedSchedule, t: u64x2, group: &mut [u8]) -> u64x2
+    requires sixteen { length group.old ≡ 256 }
+    requires long { length t ≡ 2 }
+    ensures sealed { (j : ℕ) → j < 16 → block group.new j ≡ masked (encrypt k1.now) (of_halves t) group.old j }
+    ensures next { of_halves result ≡ tweak_at (of_halves t) 16 }
+    ensures long { length result ≡ 2 }
+{
+    if WIDE {
+        seal_wide(k1, t, group)
+    } else {
+        seal_twice(k1, t, group)
+    }
+}
+
+// Deciphers sixteen blocks in place by wide planes.
+#[inline(never)]
+fn open_wide(k1: &SlicedSchedule, t: u64x2, group: &mut [u8]) -> u64x2
+    requires sixteen { length group.old ≡ 256 }
+    requires long { length t ≡ 2 }
+    ensures opened { (j : ℕ) → j < 16 → block group.new j ≡ masked (decrypt k1.now) (of_halves t) group.old j }
+    ensures next { of_halves result ≡ tweak_at (of_halves t) 16 }
+    ensures long { length result ≡ 2 }
+{
+    let tweaks = wide_tweaks_from(t);
+    let before = wide_summed(wide_loaded(group), tweaks.masks);
+    wide_store(wide_summed(k1.wide_decrypted(before), tweaks.masks), group);
+    tweaks.next
+}
+
+// Deciphers sixteen blocks in place, eight after eight.
+fn open_twice(k1: &SlicedSchedule, t: u64x2, group: &mut [u8]) -> u64x2
+    requires sixteen { length group.old ≡ 256 }
+    requires long { length t ≡ 2 }
+    ensures opened { (j : ℕ) → j < 16 → block group.new j ≡ masked (decrypt k1.now) (of_halves t) group.old j }
+    ensures next { of_halves result ≡ tweak_at (of_halves t) 16 }
+    ensures long { length result ≡ 2 }
+{
+    let mut now = t;
+    for g in 0..2 {
+        now = open_group(k1, now, &mut group[128 * g..128 * g + 128]);
+    }
+    now
+}
+
+/// Deciphers sixteen blocks in place, the first of which has this tweak. The answer is the tweak of the block after
+/// them.
+pub fn open_sixteen(k1: &SlicedSchedule, t: u64x2, group: &mut [u8]) -> u64x2
+    requires sixteen { length group.old ≡ 256 }
+    requires long { length t ≡ 2 }
+    ensures opened { (j : ℕ) → j < 16 → block group.new j ≡ masked (decrypt k1.now) (of_halves t) group.old j }
+    ensures next { of_halves result ≡ tweak_at (of_halves t) 16 }
+    ensures long { length result ≡ 2 }
+{
+    if WIDE {
+        open_wide(k1, t, group)
+    } else {
+        open_twice(k1, t, group)
+    }
+}
+
+// Enciphers at most eight blocks in place.
+fn seal_few(k1: &SlicedSchedule, t: u64x2, rest: &mut [u8])
+    requires few { length rest.old ≤ 128 }
     requires long { length t ≡ 2 }
     ensures { (j : ℕ) → 16 * j + 16 ≤ length rest.old → block rest.new j ≡ masked (encrypt k1.now) (of_halves t) rest.old j }
 {
-    if rest.is_empty() {
-        return;
-    }
     let mut group = [0u8; 128];
     group[..rest.len()].copy_from_slice(rest);
     seal_group(k1, t, &mut group);
     rest.copy_from_slice(&group[..rest.len()]);
 }
 
-/// Deciphers fewer than eight blocks in place, the first of which has this tweak.
-pub fn open_rest(k1: &SlicedSchedule, t: u64x2, rest: &mut [u8])
-    requires few { length rest.old < 128 }
+// Enciphers at most sixteen blocks in place.
+fn seal_many(k1: &SlicedSchedule, t: u64x2, rest: &mut [u8])
+    requires few { length rest.old ≤ 256 }
+    requires long { length t ≡ 2 }
+    ensures { (j : ℕ) → 16 * j + 16 ≤ length rest.old → block rest.new j ≡ masked (encrypt k1.now) (of_halves t) rest.old j }
+{
+    let mut group = [0u8; 256];
+    group[..rest.len()].copy_from_slice(rest);
+    seal_sixteen(k1, t, &mut group);
+    rest.copy_from_slice(&group[..rest.len()]);
+}
+
+/// Enciphers fewer than sixteen blocks in place, the first of which has this tweak.
+pub fn seal_rest(k1: &SlicedSchedule, t: u64x2, rest: &mut [u8])
+    requires few { length rest.old < 256 }
+    requires long { length t ≡ 2 }
+    ensures { (j : ℕ) → 16 * j + 16 ≤ length rest.old → block rest.new j ≡ masked (encrypt k1.now) (of_halves t) rest.old j }
+{
+    if rest.len() > 128 {
+        seal_many(k1, t, rest);
+    } else if !rest.is_empty() {
+        seal_few(k1, t, rest);
+    }
+}
+
+// Deciphers at most eight blocks in place.
+fn open_few(k1: &SlicedSchedule, t: u64x2, rest: &mut [u8])
+    requires few { length rest.old ≤ 128 }
     requires long { length t ≡ 2 }
     ensures { (j : ℕ) → 16 * j + 16 ≤ length rest.old → block rest.new j ≡ masked (decrypt k1.now) (of_halves t) rest.old j }
 {
-    if rest.is_empty() {
-        return;
-    }
     let mut group = [0u8; 128];
     group[..rest.len()].copy_from_slice(rest);
     open_group(k1, t, &mut group);
     rest.copy_from_slice(&group[..rest.len()]);
+}
+
+// Deciphers at most sixteen blocks in place.
+fn open_many(k1: &SlicedSchedule, t: u64x2, rest: &mut [u8])
+    requires few { length rest.old ≤ 256 }
+    requires long { length t ≡ 2 }
+    ensures { (j : ℕ) → 16 * j + 16 ≤ length rest.old → block rest.new j ≡ masked (decrypt k1.now) (of_halves t) rest.old j }
+{
+    let mut group = [0u8; 256];
+    group[..rest.len()].copy_from_slice(rest);
+    open_sixteen(k1, t, &mut group);
+    rest.copy_from_slice(&group[..rest.len()]);
+}
+
+/// Deciphers fewer than sixteen blocks in place, the first of which has this tweak.
+pub fn open_rest(k1: &SlicedSchedule, t: u64x2, rest: &mut [u8])
+    requires few { length rest.old < 256 }
+    requires long { length t ≡ 2 }
+    ensures { (j : ℕ) → 16 * j + 16 ≤ length rest.old → block rest.new j ≡ masked (decrypt k1.now) (of_halves t) rest.old j }
+{
+    if rest.len() > 128 {
+        open_many(k1, t, rest);
+    } else if !rest.is_empty() {
+        open_few(k1, t, rest);
+    }
 }

@@ -13,7 +13,7 @@ mod laws;
 use aes_core::Schedule;
 use aes_planes::SlicedSchedule;
 use doubling::{first_tweak, halves};
-use groups::{open_group, open_rest, seal_group, seal_rest};
+use groups::{open_rest, open_sixteen, seal_rest, seal_sixteen};
 pub use laws::{xts_goes_block_by_block, xts_keeps_lengths};
 
 /// Enciphers the whole blocks of one data unit in place (IEEE 1619, 5.3): `k1` is the key of the
@@ -35,11 +35,11 @@ pub fn xts_seal_sliced(k1: &SlicedSchedule, k2: &Schedule, tweak: u64, block: &m
     ensures taken_back { xts_open k1.now k2.now tweak block.new ≡ block.old }
 {
     let mut t = halves(first_tweak(k2, tweak));
-    let groups = block.len() / 128;
+    let groups = block.len() / 256;
     for g in 0..groups {
-        t = seal_group(k1, t, &mut block[128 * g..128 * g + 128]);
+        t = seal_sixteen(k1, t, &mut block[256 * g..256 * g + 256]);
     }
-    seal_rest(k1, t, &mut block[128 * groups..]);
+    seal_rest(k1, t, &mut block[256 * groups..]);
     // Opening takes it back since the schedule is that of a key.
     k1.is_of_a_key();
 }
@@ -61,11 +61,11 @@ pub fn xts_open_sliced(k1: &SlicedSchedule, k2: &Schedule, tweak: u64, block: &m
     ensures { block.new ≡ xts_open k1.now k2.now tweak block.old }
 {
     let mut t = halves(first_tweak(k2, tweak));
-    let groups = block.len() / 128;
+    let groups = block.len() / 256;
     for g in 0..groups {
-        t = open_group(k1, t, &mut block[128 * g..128 * g + 128]);
+        t = open_sixteen(k1, t, &mut block[256 * g..256 * g + 256]);
     }
-    open_rest(k1, t, &mut block[128 * groups..]);
+    open_rest(k1, t, &mut block[256 * groups..]);
 }
 
 /// A law: whatever is sealed opens to what it was, under every two keys and every tweak.

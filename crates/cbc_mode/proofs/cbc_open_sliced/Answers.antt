@@ -16,16 +16,16 @@ pub loop-g-preserved : goal.loop-g-preserved
 loop-g-preserved c =
     let done = c.loop-g.invariant.done in
     record {
-      long = c.open_group-last.ensures.long;
-      chain = group_chain c.args.k.now c.args.iv.now c.args.block.now c.loop-g.block c.open_group-last.result _ _ c.loop-g.g c.told-iv done (omega arith) (omega arith) c.open_group-last.ensures.last;
-      done = group_step c.args.k.now c.args.iv.now c.args.block.now c.loop-g.block c.open_group-last.new.group c.loop-g.before _ _ c.loop-g.g c.told-iv c.loop-g.invariant.long c.loop-g.invariant.chain done (omega arith) (omega arith) (omega arith) c.open_group-last.ensures.opened;
+      long = c.open_sixteen-last.ensures.long;
+      chain = group_chain c.args.k.now c.args.iv.now c.args.block.now c.loop-g.block c.open_sixteen-last.result _ _ c.loop-g.g c.told-iv done (omega arith) (omega arith) c.open_sixteen-last.ensures.last;
+      done = group_step c.args.k.now c.args.iv.now c.args.block.now c.loop-g.block c.open_sixteen-last.new.group c.loop-g.before _ _ c.loop-g.g c.told-iv c.loop-g.invariant.long c.loop-g.invariant.chain done (omega arith) (omega arith) (omega arith) c.open_sixteen-last.ensures.opened;
     }
 
 pub returns : goal.returns
 returns c =
     let p = c.args.block.now in
-    let s : ℕ = 128 * (length p / 128) in
-    let end : c.loop-g.g ≡ length p / 128 = omega arith in
+    let s : ℕ = 256 * (length p / 256) in
+    let end : c.loop-g.g ≡ length p / 256 = omega arith in
     let whole = c.requires in
     let done = rest_step c.args.k.now c.args.iv.now p c.loop-g.block c.open_rest.new.rest c.loop-g.before s (length c.loop-g.block - s) c.loop-g.g c.told-iv c.loop-g.invariant.long c.loop-g.invariant.chain c.loop-g.invariant.done (omega arith) (omega arith) (omega arith) whole (omega arith) (omega arith) c.open_rest.ensures in
     IsDone-end (opened c.args.k.now c.args.iv.now p) p _ (length p / 16) (omega arith) done

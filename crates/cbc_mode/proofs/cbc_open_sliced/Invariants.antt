@@ -7,6 +7,6 @@ use Rattle.cbc_mode.proofs.cbc_open_sliced.Given as goal
 abbrev pub invariant-loop-g : goal.invariant-loop-g
 invariant-loop-g l = record {
   long : length l.before ≡ 16;
-  chain : l.before ≡ block (l.iv ++ l.fn.block) (8 * l.g);
-  done : IsDone (opened l.k l.iv l.fn.block) l.fn.block l.block (8 * l.g);
+  chain : l.before ≡ block (l.iv ++ l.fn.block) (16 * l.g);
+  done : IsDone (opened l.k l.iv l.fn.block) l.fn.block l.block (16 * l.g);
 }

@@ -8,6 +8,6 @@ use Rattle.xts_mode.proofs.xts_open_sliced.Given as goal
 abbrev pub invariant-loop-g : goal.invariant-loop-g
 invariant-loop-g l = record {
   long : length l.t ≡ 2;
-  at : of_halves l.t ≡ tweak_at (first_tweak l.k2 l.tweak) (8 * l.g);
-  done : IsDone (masked (decrypt l.k1) (first_tweak l.k2 l.tweak) l.fn.block) l.fn.block l.block (8 * l.g);
+  at : of_halves l.t ≡ tweak_at (first_tweak l.k2 l.tweak) (16 * l.g);
+  done : IsDone (masked (decrypt l.k1) (first_tweak l.k2 l.tweak) l.fn.block) l.fn.block l.block (16 * l.g);
 }

@@ -21,11 +21,11 @@ pub loop-g-preserved : goal.loop-g-preserved
 loop-g-preserved c =
     let t = first_tweak c.args.k2.now c.args.tweak in
     let at = c.loop-g.invariant.at in
-    let more : 8 * c.loop-g.g + 8 ≡ 8 * (c.loop-g.g + 1) = omega arith in
+    let more : 16 * c.loop-g.g + 16 ≡ 16 * (c.loop-g.g + 1) = omega arith in
     record {
-      long = c.seal_group-t.ensures.long;
-      at = c.seal_group-t.ensures.next ∙ ap (λ (x : ℕ). tweak_at x 8) at ∙ tweak_at-add t (8 * c.loop-g.g) 8 ∙ ap (tweak_at t) more;
-      done = group_step (encrypt c.args.k1.now) c.args.block.now c.loop-g.block c.seal_group-t.new.group t (of_halves c.loop-g.t) _ _ c.loop-g.g at c.loop-g.invariant.done (omega arith) (omega arith) (omega arith) c.seal_group-t.ensures.sealed;
+      long = c.seal_sixteen-t.ensures.long;
+      at = c.seal_sixteen-t.ensures.next ∙ ap (λ (x : ℕ). tweak_at x 16) at ∙ tweak_at-add t (16 * c.loop-g.g) 16 ∙ ap (tweak_at t) more;
+      done = group_step (encrypt c.args.k1.now) c.args.block.now c.loop-g.block c.seal_sixteen-t.new.group t (of_halves c.loop-g.t) _ _ c.loop-g.g at c.loop-g.invariant.done (omega arith) (omega arith) (omega arith) c.seal_sixteen-t.ensures.sealed;
       bytes = c.loop-g.invariant.bytes;
     }
 
@@ -34,8 +34,8 @@ returns-clause-sealed c =
     let p = c.args.block.now in
     let t = first_tweak c.args.k2.now c.args.tweak in
     let f = masked (encrypt c.args.k1.now) t p in
-    let s : ℕ = 128 * (length p / 128) in
-    let end : c.loop-g.g ≡ length p / 128 = omega arith in
+    let s : ℕ = 256 * (length p / 256) in
+    let end : c.loop-g.g ≡ length p / 256 = omega arith in
     let whole = c.requires in
     let done = rest_step (encrypt c.args.k1.now) p c.loop-g.block c.seal_rest.new.rest t (of_halves c.loop-g.t) s (length c.loop-g.block - s) c.loop-g.g c.loop-g.invariant.at c.loop-g.invariant.done (omega arith) (omega arith) (omega arith) whole (omega arith) (omega arith) c.seal_rest.ensures in
     let is = IsDone-end f p _ (length p / 16) (omega arith) done in
@@ -46,8 +46,8 @@ returns-clause-taken_back c =
     let p = c.args.block.now in
     let t = first_tweak c.args.k2.now c.args.tweak in
     let f = masked (encrypt c.args.k1.now) t p in
-    let s : ℕ = 128 * (length p / 128) in
-    let end : c.loop-g.g ≡ length p / 128 = omega arith in
+    let s : ℕ = 256 * (length p / 256) in
+    let end : c.loop-g.g ≡ length p / 256 = omega arith in
     let whole = c.requires in
     let done = rest_step (encrypt c.args.k1.now) p c.loop-g.block c.seal_rest.new.rest t (of_halves c.loop-g.t) s (length c.loop-g.block - s) c.loop-g.g c.loop-g.invariant.at c.loop-g.invariant.done (omega arith) (omega arith) (omega arith) whole (omega arith) (omega arith) c.seal_rest.ensures in
     let is = IsDone-end f p _ (length p / 16) (omega arith) done in

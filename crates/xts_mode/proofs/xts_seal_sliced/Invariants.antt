@@ -9,7 +9,7 @@ use Rattle.xts_mode.proofs.xts_seal_sliced.Given as goal
 abbrev pub invariant-loop-g : goal.invariant-loop-g
 invariant-loop-g l = record {
   long : length l.t ≡ 2;
-  at : of_halves l.t ≡ tweak_at (first_tweak l.k2 l.tweak) (8 * l.g);
-  done : IsDone (masked (encrypt l.k1) (first_tweak l.k2 l.tweak) l.fn.block) l.fn.block l.block (8 * l.g);
+  at : of_halves l.t ≡ tweak_at (first_tweak l.k2 l.tweak) (16 * l.g);
+  done : IsDone (masked (encrypt l.k1) (first_tweak l.k2 l.tweak) l.fn.block) l.fn.block l.block (16 * l.g);
   bytes : AreBytes l.fn.block;
 }

@@ -1,17 +1,7 @@
-use Rattle.std.proofs.Common.{◌≡◌, ℕ, ◌+◌, ◌-◌, ◌<◌, List, slice_index_or, arith, subst}
-use Rattle.aes_core.specs.Aes.{round_key}
-use Rattle.aes_planes.specs.Planes.{rows, turned}
-use Rattle.aes_planes.specs.Blocks.{AreOf, AreKeys, key_at}
-use Rattle.aes_planes.specs.declared.round_keys.KeyPlanes.{KeyPlanes}
+use Rattle.std.proofs.Common.{◌≡◌, ℕ, arith, subst}
 use Rattle.aes_planes.proofs.BlockLaws.{add_states}
-use Rattle.aes_planes.proofs.InverseLaws.{IsInverseAt, inverse_start, inverse_step, inverse_end, inverse_sub_states}
+use Rattle.aes_planes.proofs.InverseLaws.{IsInverseAt, inverse_start, inverse_step, inverse_end, inverse_sub_states, key_from_end}
 use Rattle.aes_planes.proofs.rounds.decipher.Goals as goal
-
--- the round key of inverse round n + 1
-key_from_end : (w : List ℕ) (m n : ℕ) (keys : List KeyPlanes) → n < m → AreKeys w m keys → (d : KeyPlanes) → AreOf (rows (turned (round_key w (m - n)))) (key_at (slice_index_or keys (m - n) d))
-key_from_end w m n keys lt are d =
-    let e : m - n - 1 + 1 ≡ m - n = omega arith in
-    subst (λ (r : ℕ). AreOf (rows (turned (round_key w r))) (key_at (slice_index_or keys r d))) e (are.between (m - n - 1) (omega arith) d)
 
 pub loop-n-init : goal.loop-n-init
 loop-n-init c =

@@ -2,11 +2,11 @@ use Rattle.std.proofs.Common.{ℕ, List, ◌++◌, length, drop, replicate, ap}
 use Rattle.aes_core.specs.Aes.{decrypt}
 use Rattle.xts_mode.specs.Halves.{of_halves}
 use Rattle.xts_mode.proofs.GroupLaws.{rest_masked}
-use Rattle.xts_mode.proofs.groups.open_rest.Goals as goal
+use Rattle.xts_mode.proofs.groups.open_few.Goals as goal
 
 pub returns : goal.returns
 returns c =
     λ j le.
     let behind : List ℕ = drop (length c.args.rest.now) (replicate 128 0) in
-    rest_masked (decrypt c.args.k1.now) c.args.rest.now behind _ c.open_group.new.group c.copy_from_slice-2.new.self (of_halves c.args.t) j (ap (λ (l : List ℕ). l ++ behind) c.copy_from_slice.ensures.after)
+    rest_masked (decrypt c.args.k1.now) c.args.rest.now behind _ c.open_group.new.group c.copy_from_slice-2.new.self (of_halves c.args.t) j 8 (ap (λ (l : List ℕ). l ++ behind) c.copy_from_slice.ensures.after)
     c.copy_from_slice-2.ensures.after c.open_group.ensures.opened c.requires.few le

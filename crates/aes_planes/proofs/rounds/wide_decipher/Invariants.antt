@@ -1,0 +1,7 @@
+use Rattle.std.proofs.Common.{ℕ, ◌<◌}
+use Rattle.aes_planes.specs.Wide.{AreWide, side}
+use Rattle.aes_planes.proofs.InverseLaws.{IsInverseAt}
+use Rattle.aes_planes.proofs.rounds.wide_decipher.Given as goal
+
+abbrev pub invariant-loop-n : goal.invariant-loop-n
+invariant-loop-n l = AreWide l.s × ((i : ℕ) → i < 2 → IsInverseAt l.fn.round_keys l.fn.count (side i l.fn.q) (side i l.s) l.n)

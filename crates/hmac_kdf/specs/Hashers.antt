@@ -2,7 +2,8 @@
 use Rattle.std.specs.Prelude.{ℕ, List, ◌++◌}
 use Rattle.sha2.specs.Sha256.{sha256}
 use Rattle.sha2.specs.Sha512.{sha384, sha512}
-use Rattle.sha2.specs.Hashers.{Holds256, Holds384, Holds512}
+use Rattle.sha2.specs.Hashers.{Holds384, Holds512}
+use Rattle.sha_stream.specs.Hasher.{Holds256}
 use Rattle.hmac_kdf.specs.Hmac.{key_block, masked}
 use Rattle.hmac_kdf.specs.declared.mac256.Hmac256.{Hmac256}
 use Rattle.hmac_kdf.specs.declared.mac384.Hmac384.{Hmac384}

@@ -4,7 +4,7 @@ use Rattle.std.proofs.lemmas.Simd.{Each1-get_or}
 use Rattle.std.specs.Int.{w64, bit_not, rotate_right}
 use Rattle.std.specs.Simd.Lanes.{zip2, Each1}
 use Rattle.sha2.specs.Sha512.{ch}
-use Rattle.sha_lanes.proofs.LaneLaws.{below_four, four_words}
+use Rattle.sha_stream.proofs.LaneLaws.{below_four, four_words}
 use mir.Val.{Fits}
 
 -- each lane is a word

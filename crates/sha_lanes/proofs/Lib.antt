@@ -1,4 +1,3 @@
 pub mod BlockLaws
 pub mod HashLaws
 pub mod LaneLaws
-pub mod RotationLaws

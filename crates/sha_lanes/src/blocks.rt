@@ -6,12 +6,7 @@ ghost use Rattle.hmac_kdf.specs.Hmac.{key_block, masked};
 ghost use Rattle.sha_lanes.specs.Lanes.{bytes_of};
 ghost use Rattle.sha_lanes.specs.Tails.{tail_size};
 
-// The padding's first bytes: a bit 1, then zeros (5.1.1).
-const PADDING: [u8; 64] = [
-    0x80, 0, 0, 0, 0, 0, 0, 0, 0, 0, 0, 0, 0, 0, 0, 0, 0, 0, 0, 0, 0, 0, 0, 0, 0, 0, 0, 0, 0, 0, 0,
-    0, 0, 0, 0, 0, 0, 0, 0, 0, 0, 0, 0, 0, 0, 0, 0, 0, 0, 0, 0, 0, 0, 0, 0, 0, 0, 0, 0, 0, 0, 0, 0,
-    0,
-];
+use sha_stream::constants::PADDING;
 
 /// The key's block (RFC 2104, section 2) with `pad` added to each of its bytes, bit by bit.
 pub fn masked_key(key: &[u8; 32], pad: u8) -> [u8; 64]

@@ -9,7 +9,6 @@ ghost use Rattle.hmac_kdf.specs.Hmac.{hmac256, key_block, masked};
 ghost use Rattle.sha_lanes.specs.Lanes.{HaveOneLength, bytes_of};
 
 mod blocks;
-mod constants;
 mod hashes;
 mod rounds;
 mod words;

@@ -1,6 +1,6 @@
 use Rattle.std.proofs.Common.{◌≡◌, ℕ, ◌<◌, List, [], ◌∷◌, ◌++◌, length, slice_index_or, ap, arith, refl, sym, ◌∙◌}
 use Rattle.hmac_kdf.specs.Hmac.{key_block, masked}
-use Rattle.sha_lanes.proofs.LaneLaws.{below_four}
+use Rattle.sha_stream.proofs.LaneLaws.{below_four}
 use Rattle.sha512_lanes.specs.Hashes.{first_bytes}
 use Rattle.sha512_lanes.proofs.HashLaws.{length_first_bytes}
 use Rattle.sha512_lanes.proofs.codes.Goals as goal

@@ -2,7 +2,7 @@ use Rattle.std.proofs.Common.{◌≡◌, ℕ, List, [], ◌∷◌, length, slice
 use Rattle.std.proofs.lemmas.List.{take_all}
 use Rattle.sha2.specs.Sha512.{digest_bytes}
 use Rattle.hmac_kdf.specs.Hmac.{key_block, masked}
-use Rattle.sha_lanes.proofs.LaneLaws.{below_four}
+use Rattle.sha_stream.proofs.LaneLaws.{below_four}
 use Rattle.sha512_lanes.specs.Hashes.{first_bytes}
 use Rattle.sha512_lanes.proofs.hashes_under.Goals as goal
 

@@ -2,7 +2,7 @@ use Rattle.std.proofs.Common.{◌≡◌, ℕ, ◌<◌, List, [], ◌∷◌, ◌+
 use Rattle.sha2.specs.Sha256.{sha256}
 use Rattle.sha2.proofs.Facts256.{length-sha256}
 use Rattle.hmac_kdf.specs.Hmac.{hmac256, key_block, masked}
-use Rattle.sha_lanes.proofs.LaneLaws.{below_four}
+use Rattle.sha_stream.proofs.LaneLaws.{below_four}
 use Rattle.sha_lanes.proofs.codes_of_four.Goals as goal
 
 pub hashes_under-requires-2 : goal.hashes_under-requires-2

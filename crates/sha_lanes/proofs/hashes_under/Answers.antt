@@ -2,7 +2,7 @@ use Rattle.std.proofs.Common.{◌≡◌, ℕ, List, [], ◌∷◌, length, slice
 use Rattle.std.proofs.lemmas.List.{take_all}
 use Rattle.sha2.specs.Sha256.{digest_bytes, initial_hash_256, sha256}
 use Rattle.hmac_kdf.specs.Hmac.{key_block, masked}
-use Rattle.sha_lanes.proofs.LaneLaws.{below_four}
+use Rattle.sha_stream.proofs.LaneLaws.{below_four}
 use Rattle.sha_lanes.proofs.hashes_under.Goals as goal
 
 pub returns : goal.returns

@@ -1,6 +1,7 @@
 use Rattle.std.proofs.Common.{ap, sym, ◌∙◌, ◌+◌, arith, List, ℕ}
 use Rattle.sha2.specs.Sha512.{word_at}
-use Rattle.sha_lanes.proofs.LaneLaws.{below_four, bytes_of_is}
+use Rattle.sha_stream.proofs.LaneLaws.{below_four}
+use Rattle.sha_lanes.proofs.LaneLaws.{bytes_of_is}
 use Rattle.sha512_lanes.proofs.rounds.words_at.Goals as goal
 
 pub load-requires : goal.load-requires

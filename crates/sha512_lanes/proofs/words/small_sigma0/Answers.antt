@@ -1,6 +1,6 @@
 use Rattle.std.proofs.Common.{ℕ, ◌/◌, ◌^◌, ap, arith, bit_xor, slice_index}
 use Rattle.sha512_lanes.proofs.LaneLaws.{lane_fits}
-use Rattle.sha_lanes.proofs.RotationLaws.{rotated_two}
+use Rattle.sha_stream.proofs.RotationLaws.{rotated_two}
 use Rattle.sha512_lanes.proofs.words.small_sigma0.Goals as goal
 
 pub returns : goal.returns

@@ -1,4 +1,4 @@
-use Rattle.sha_lanes.proofs.LaneLaws.{sum_shifted_lanes}
+use Rattle.sha_stream.proofs.LaneLaws.{sum_shifted_lanes}
 use Rattle.sha512_lanes.proofs.words.sum_shifted.Goals as goal
 
 pub returns : goal.returns

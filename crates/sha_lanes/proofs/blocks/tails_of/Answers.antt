@@ -1,6 +1,7 @@
 use Rattle.std.proofs.Common.{arith, sym, subst}
 use Rattle.sha_lanes.proofs.BlockLaws.{IsTail}
-use Rattle.sha_lanes.proofs.LaneLaws.{below_four, bytes_of_is}
+use Rattle.sha_stream.proofs.LaneLaws.{below_four}
+use Rattle.sha_lanes.proofs.LaneLaws.{bytes_of_is}
 use Rattle.sha_lanes.proofs.blocks.tails_of.Goals as goal
 
 pub returns : goal.returns

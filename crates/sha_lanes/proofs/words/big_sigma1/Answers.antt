@@ -1,6 +1,6 @@
 use Rattle.std.proofs.Common.{slice_index, arith}
-use Rattle.sha_lanes.proofs.LaneLaws.{lane_fits}
-use Rattle.sha_lanes.proofs.RotationLaws.{rotated_three}
+use Rattle.sha_stream.proofs.LaneLaws.{lane_fits}
+use Rattle.sha_stream.proofs.RotationLaws.{rotated_three}
 use Rattle.sha_lanes.proofs.words.big_sigma1.Goals as goal
 
 pub returns : goal.returns

@@ -1,7 +1,7 @@
 use Rattle.std.proofs.Common.{ℕ, ◌/◌, ◌^◌, ap, arith, bit_xor, slice_index}
-use Rattle.sha_lanes.proofs.LaneLaws.{lane_fits}
-use Rattle.sha_lanes.proofs.RotationLaws.{rotated_two}
-use Rattle.sha_lanes.proofs.words.small_sigma1.Goals as goal
+use Rattle.sha_stream.proofs.LaneLaws.{lane_fits}
+use Rattle.sha_stream.proofs.RotationLaws.{rotated_two}
+use Rattle.sha_stream.proofs.words.small_sigma1.Goals as goal
 
 pub returns : goal.returns
 returns c j h =

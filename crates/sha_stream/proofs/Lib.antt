@@ -1,0 +1,4 @@
+pub mod LaneLaws
+pub mod RotationLaws
+mod ScheduleLaws
+pub mod ShortForms

@@ -10,10 +10,10 @@ use Rattle.disk_layers.specs.declared.layer.Layer.TheVariants.{Join, Plain}
 use Rattle.disk_layers.specs.Names.{IsJoin}
 
 -- a byte that isn't a colon
-abbrev pub IsOther : ℕ → Type 0
+abbrev IsOther : ℕ → Type 0
 IsOther byte = byte ≢ 58
 
-abbrev pub is_colon : ℕ → Bool
+abbrev is_colon : ℕ → Bool
 is_colon byte = byte == 58
 
 -- the first colon of some bytes stands between these
@@ -55,7 +55,7 @@ not_colon : (b : Bool) (byte : ℕ) → (byte == 58) ≡ b → IsOther byte → 
 not_colon true byte here other = absurd (other (eqb-true byte 58 here))
 not_colon false byte here other = refl
 
-pub position_behind : (i : ℕ) (first second : List ℕ) → All IsOther first → position_from is_colon i (first ++ 58 ∷ second) ≡ Some (i + length first)
+position_behind : (i : ℕ) (first second : List ℕ) → All IsOther first → position_from is_colon i (first ++ 58 ∷ second) ≡ Some (i + length first)
 position_behind i [] second others = let at : i ≡ i + 0 = omega arith in ap Some at
 position_behind i (byte ∷ first) second others =
     let at : i + 1 + length first ≡ i + length (byte ∷ first) = omega arith in
@@ -67,7 +67,7 @@ position_behind i (byte ∷ first) second others =
 begins : (name rest : List ℕ) → pointwise nat_eq (take 5 name) (codes "join:") ≡ true → rest ≡ drop 5 name → name ≡ codes "join:" ++ rest
 begins name rest same is = sym (take-append-drop 5 name) ∙ (λ i. same_text (take 5 name) (codes "join:") (sym same) i ++ sym is i)
 
-pub is_join : (name rest : List ℕ) (at middle : ℕ) → pointwise nat_eq (take 5 name) (codes "join:") ≡ true → rest ≡ drop 5 name → position_from is_colon 0 rest ≡ Some at
+is_join : (name rest : List ℕ) (at middle : ℕ) → pointwise nat_eq (take 5 name) (codes "join:") ≡ true → rest ≡ drop 5 name → position_from is_colon 0 rest ≡ Some at
     → 0 < at → at + 1 < length rest → middle ≡ 5 + at → IsJoin middle name
 is_join name rest at middle same is found some more place =
     let parts = split 0 at rest found in
@@ -94,7 +94,7 @@ pub record IsRest (rest : List ℕ) (middle : ℕ) : Type 0 where
 pub drop_front : (first second : List ℕ) → drop 5 (codes "join:" ++ first ++ 58 ∷ second) ≡ first ++ 58 ∷ second
 drop_front first second = refl
 
-pub rest_of : (name rest : List ℕ) (middle : ℕ) → rest ≡ drop 5 name → IsJoin middle name → IsRest rest middle
+rest_of : (name rest : List ℕ) (middle : ℕ) → rest ≡ drop 5 name → IsJoin middle name → IsRest rest middle
 rest_of name rest middle is join =
     let none : 0 + length join.first ≡ length join.first = omega arith in
     let split = is ∙ ap (drop 5) join.is ∙ drop_front join.first join.second in
@@ -140,15 +140,6 @@ no_join-none name rest middle is found join =
     let r = rest_of name rest middle is join in
     let there : None ≡ Some r.at = found ∙ r.found in
     cc there
-
-front_is : (first second : List ℕ) → pointwise nat_eq (take 5 (codes "join:" ++ first ++ 58 ∷ second)) (codes "join:") ≡ true
-front_is first second = refl
-
-pub no_join-front : (name : List ℕ) (middle : ℕ) → pointwise nat_eq (take 5 name) (codes "join:") ≡ false → IsJoin middle name → ⊥
-no_join-front name middle other join =
-    let P : List ℕ → Type 0 = λ l. pointwise nat_eq (take 5 l) (codes "join:") ≡ false in
-    let e : true ≡ false = sym (front_is join.first join.second) ∙ subst P join.is other in
-    cc e
 
 -- a name that asks for nothing
 pub plain : {name : List ℕ} {middle : ℕ} → (IsJoin middle name → ⊥) → ((Plain ≡ Join middle) → IsJoin middle name) × (IsJoin middle name → Plain ≡ Join middle)

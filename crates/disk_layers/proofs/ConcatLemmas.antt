@@ -57,7 +57,7 @@ module _ (size n : ℕ) where
       let same = eqb-true m n test in let behind = ltb-false m size is in absurd (omega arith)
   first-write false false m new values events small is test rest = rest values
 
-  pub kept-first : (events : List Event) (values : List (List ℕ)) → n < size → kept_after (first_events size events) n values ≡ kept_after events n values
+  kept-first : (events : List Event) (values : List (List ℕ)) → n < size → kept_after (first_events size events) n values ≡ kept_after events n values
   kept-first [] values small = refl
   kept-first (Write m new ∷ events) values small = first-write (nat_lt m size) (m == n) m new values events small refl refl (λ old. kept-first events old small)
   kept-first (Flush ∷ events) values small = kept-first events (last_of values ∷ []) small
@@ -76,7 +76,7 @@ module _ (size n : ℕ) where
       ap (λ (b : Bool). kept_after (second_events size events) (n - size) (cond b (values ++ new ∷ []) values)) (same_test here m behind (ltb-false m size is) test)
       ∙ rest (cond here (values ++ new ∷ []) values)
 
-  pub kept-second : (events : List Event) (values : List (List ℕ)) → size ≤ n → kept_after (second_events size events) (n - size) values ≡ kept_after events n values
+  kept-second : (events : List Event) (values : List (List ℕ)) → size ≤ n → kept_after (second_events size events) (n - size) values ≡ kept_after events n values
   kept-second [] values behind = refl
   kept-second (Write m new ∷ events) values behind = second-write (nat_lt m size) (m == n) m new values events behind refl refl (λ old. kept-second events old behind)
   kept-second (Flush ∷ events) values behind = kept-second events (last_of values ∷ []) behind

@@ -1,11 +1,5 @@
 pub mod Colons
 pub mod WaitingLemmas
-pub mod OpenedLemmas
-pub mod OpenedKept
-pub mod UponLemmas
-pub mod OpenedImages
 pub mod ConcatLemmas
-pub mod Above
 pub mod Cuts
-pub mod ReadsAbove
 pub mod Runs

@@ -105,7 +105,7 @@ drop-least (suc m) zero (sector ∷ sectors) is = absurd (omega arith)
 drop-least (suc m) (suc k) (sector ∷ sectors) is = drop-least m k sectors (omega arith)
 
 module _ (size n k : ℕ) (bytes : List ℕ) where
-  pub first-run : k ≡ min (size - n) (length bytes / 512) → first_events size (write_events n bytes) ≡ write_events n (take (512 * k) bytes)
+  first-run : k ≡ min (size - n) (length bytes / 512) → first_events size (write_events n bytes) ≡ write_events n (take (512 * k) bytes)
   first-run is =
       let count : ℕ = length bytes / 512 in
       let few : k ≤ count = omega arith in
@@ -114,7 +114,7 @@ module _ (size n k : ℕ) (bytes : List ℕ) where
       ∙ ap (writes_from n) (take-least (size - n) k (parts 512 count bytes) (omega (arith, length-parts 512 count bytes)) ∙ take-parts 512 k count bytes few)
       ∙ sym (ap (λ (m : ℕ). writes_from n (parts 512 m (take (512 * k) bytes))) many)
 
-  pub second-run : k ≡ min (size - n) (length bytes / 512) → second_events size (write_events n bytes) ≡ write_events (n - size) (drop (512 * k) bytes)
+  second-run : k ≡ min (size - n) (length bytes / 512) → second_events size (write_events n bytes) ≡ write_events (n - size) (drop (512 * k) bytes)
   second-run is =
       let count : ℕ = length bytes / 512 in
       let left : length (drop (512 * k) bytes) / 512 ≡ count - k = omega (arith, length-drop (512 * k) bytes) in
@@ -125,7 +125,7 @@ module _ (size n k : ℕ) (bytes : List ℕ) where
 -- ---- what was done, by what each of the two did
 
 module _ {A B : Type 0} (a : A → DiskState) (b : B → DiskState) (size n k : ℕ) (bytes : List ℕ) (old new : A) (old_second new_second : B) where
-  pub first-did : size ≡ (a old).size → k ≡ min (size - n) (length bytes / 512) → Does a (write_events n (take (512 * k) bytes)) old new → Does a (first_events (a old).size (write_events n bytes)) old new
+  first-did : size ≡ (a old).size → k ≡ min (size - n) (length bytes / 512) → Does a (write_events n (take (512 * k) bytes)) old new → Does a (first_events (a old).size (write_events n bytes)) old new
   first-did same is did = subst (λ (m : ℕ). Does a (first_events m (write_events n bytes)) old new) same (subst (λ (events : List Event). Does a events old new) (sym (first-run size n k bytes is)) did)
 
   pub first-failed : (result : Result (Unit {0}) DiskFailed) → IsErr result → size ≡ (a old).size → k ≡ min (size - n) (length bytes / 512) → FailsToDo a (write_events n (take (512 * k) bytes)) old new

@@ -10,11 +10,11 @@ use Rattle.disk_layers.specs.declared.write_behind.Waiting.{Waiting}
 use Rattle.disk_layers.specs.Waiting.{StopsIn, last_after, last_waiting, write_of, writes_of}
 
 -- the writes that were looked at, behind their references
-abbrev pub seen : List (Bor Waiting) → List Waiting
+abbrev seen : List (Bor Waiting) → List Waiting
 seen writes = map (λ write. write.now) writes
 
 -- one more was looked at
-pub last_after-push : (n : ℕ) (writes : List (Bor Waiting)) (write : Bor Waiting) (found : Option (List ℕ))
+last_after-push : (n : ℕ) (writes : List (Bor Waiting)) (write : Bor Waiting) (found : Option (List ℕ))
     → last_after n (seen (writes ++ write ∷ [])) found ≡ cond (write.now.n == n) (Some write.now.bytes) (last_after n (seen writes) found)
 last_after-push n [] write found = refl
 last_after-push n (first ∷ writes) write found = last_after-push n writes write (cond (first.now.n == n) (Some first.now.bytes) found)
@@ -29,7 +29,7 @@ pub found_before : (n : ℕ) (writes : List (Bor Waiting)) (write : Bor Waiting)
 found_before n writes write found other before =
     before ∙ sym (last_after-push n writes write None ∙ ap (λ (b : Bool). cond b (Some write.now.bytes) (last_waiting n (seen writes))) (ne_eqb write.now.n n other))
 
-pub writes_of-append : (waiting more : List Waiting) → writes_of (waiting ++ more) ≡ writes_of waiting ++ writes_of more
+writes_of-append : (waiting more : List Waiting) → writes_of (waiting ++ more) ≡ writes_of waiting ++ writes_of more
 writes_of-append [] more = refl
 writes_of-append (write ∷ waiting) more = ap (λ (l : List Event). write_of write ∷ l) (writes_of-append waiting more)
 
@@ -39,21 +39,12 @@ pub record Wrote (all left : List Waiting) (old new : DiskState) : Type 0 where
   pub were : all ≡ done ++ left
   pub logs : Logs (writes_of done) old new
 
-pub Wrote-none : (all : List Waiting) (d : DiskState) → Wrote all all d d
-Wrote-none all d = record { done = []; were = refl; logs = Logs-nothing d }
-
 pub Wrote-one : (all left : List Waiting) (write : Waiting) {old middle new : DiskState} → Wrote all (write ∷ left) old middle → Logs (write_of write ∷ []) middle new → Wrote all left old new
 Wrote-one all left write wrote one = record {
   done = wrote.done ++ write ∷ [];
   were = wrote.were ∙ sym (append_assoc wrote.done (write ∷ []) left);
   logs = rw (writes_of-append wrote.done (write ∷ [])) (Logs-then (writes_of wrote.done) (write_of write ∷ []) wrote.logs one);
 }
-
-pub Wrote-all : (all : List Waiting) {old new : DiskState} → Wrote all [] old new → Logs (writes_of all) old new
-Wrote-all all {old} {new} wrote =
-    let are : wrote.done ≡ all = sym (append-nil wrote.done) ∙ sym wrote.were in
-    let P : List Waiting → Type 0 = λ done. Logs (writes_of done) old new in
-    subst P are wrote.logs
 
 pub StopsIn-wrote : (all left now : List Waiting) (write : Waiting) {old middle new : DiskState} → Wrote all (write ∷ left) old middle → now ≡ write ∷ left → FailsIn (write_of write ∷ []) middle new → StopsIn all now old new
 StopsIn-wrote all left now write {old} {middle} wrote is fails = record {
@@ -98,7 +89,7 @@ present_after-writes (write ∷ waiting) n found bytes =
     one_more false = refl
 
 -- after the writes that wait
-pub present-order : (c : Content) (waiting : List Waiting) (n : ℕ) → present (with_events (writes_of waiting) c) n ≡ unwrap_or (last_waiting n waiting) (present c n)
+present-order : (c : Content) (waiting : List Waiting) (n : ℕ) → present (with_events (writes_of waiting) c) n ≡ unwrap_or (last_waiting n waiting) (present c n)
 present-order c waiting n =
     present_after-append c.history (writes_of waiting) n (get_or c.base n []) ∙ present_after-writes waiting n None (present c n)
 

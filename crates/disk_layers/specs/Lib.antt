@@ -1,11 +1,7 @@
-pub mod Above
 pub mod Calls
 pub mod Concat
 pub mod ConcatDisk
 pub mod Names
-pub mod Opened
-pub mod OpenedFits
 pub mod Parts
-pub mod ProviderDisk
 pub mod Waiting
 pub mod WriteBehind

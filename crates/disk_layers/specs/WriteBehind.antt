@@ -10,8 +10,8 @@ use Rattle.disk_layers.specs.declared.write_behind.Waiting.{Waiting}
 use Rattle.disk_layers.specs.declared.write_behind.WriteBehind.{WriteBehind}
 use Rattle.disk_layers.specs.Waiting.{StopsIn, writes_of}
 
--- what the disk below tells of itself, the writes that wait, the first one first, how many may wait, and whether no call below
--- was refused
+-- what the disk below tells of itself, the writes that wait, the first one first, how many may wait, and whether no
+-- call below was refused
 pub record Behind : Type 0 where
   pub under : DiskState
   pub waiting : List Waiting
@@ -48,7 +48,8 @@ pub record RefusesRead (old new : Behind) : Type 0 where
   pub room : new.room ≡ old.room
   pub clean : new.clean ≡ false
 
--- what a read of sector n answers, where these bytes wait for it: the last of them, and nothing else happens; or what stands below
+-- what a read of sector n answers, where these bytes wait for it: the last of them, and nothing else happens; or what
+-- stands below
 abbrev pub ReadAnswers : Option (List ℕ) → ℕ → List ℕ → Behind → Behind → Result (Unit {0}) DiskFailed → Type 0
 ReadAnswers (Some last) n bytes old new result = (result ≡ Ok tt) × (bytes ≡ last) × (new ≡ old)
 ReadAnswers None n bytes old new (Ok done) = ReadsBelow n bytes old new

@@ -25,8 +25,8 @@ impl<A: Disk, B: Disk> Concat<A, B> {
         Concat { first, second }
     }
 
-    /// Reads sector `n`: sector `n` of the first, or behind that sector `n` minus its size of the second. The other is left
-    /// alone. `DiskFailed` comes only where that disk failed.
+    /// Reads sector `n`: sector `n` of the first, or behind that sector `n` minus its size of the second. The other is
+    /// left alone. `DiskFailed` comes only where that disk failed.
     pub fn read_at(&mut self, n: u64, into: &mut Sector) -> Result<(), DiskFailed>
         requires { n < (A.state self.old.first).size + (B.state self.old.second).size }
         ensures { AsksOne A.state B.state n into.new self.old.first self.new.first self.old.second self.new.second result }
@@ -39,8 +39,8 @@ impl<A: Disk, B: Disk> Concat<A, B> {
         }
     }
 
-    /// Writes sector `n`: sector `n` of the first, or behind that sector `n` minus its size of the second. The other is left
-    /// alone. `DiskFailed` comes only where that disk failed, and then the write was done or wasn't.
+    /// Writes sector `n`: sector `n` of the first, or behind that sector `n` minus its size of the second. The other is
+    /// left alone. `DiskFailed` comes only where that disk failed, and then the write was done or wasn't.
     pub fn write_at(&mut self, n: u64, from: &Sector) -> Result<(), DiskFailed>
         requires { n < (A.state self.old.first).size + (B.state self.old.second).size }
         ensures answer { WritesOne A.state B.state n from.now self.old.first self.new.first self.old.second self.new.second result }
@@ -67,8 +67,8 @@ impl<A: Disk, B: Disk> Concat<A, B> {
         write_some(&mut self.second, first.saturating_sub(size), behind)
     }
 
-    /// Flushes the first, and then the second. Where the first refuses, the second isn't called. `DiskFailed` comes only
-    /// where one of them failed.
+    /// Flushes the first, and then the second. Where the first refuses, the second isn't called. `DiskFailed` comes
+    /// only where one of them failed.
     pub fn flush_all(&mut self) -> Result<(), DiskFailed>
         ensures answer { FlushesBoth A.state B.state self.old.first self.new.first self.old.second self.new.second result }
         ensures logs { OnOk result (BothLog (Event.Flush ∷ []) (A.state self.old.first) (A.state self.new.first) (B.state self.old.second) (B.state self.new.second)) }
@@ -100,8 +100,8 @@ fn write_some<D: Disk>(disk: &mut D, first: u64, from: &[u8]) -> Result<(), Disk
     disk.write_sectors(first, from)
 }
 
-/// It tells its size, and the faults and reads of both disks. Its calls are `read_at`, `write_at` and `flush_all`; a run
-/// of sectors goes by one call of each disk that it reaches.
+/// It tells its size, and the faults and reads of both disks. Its calls are `read_at`, `write_at` and `flush_all`; a
+/// run of sectors goes by one call of each disk that it reaches.
 impl<A: Disk, B: Disk> Disk for Concat<A, B> {
     ghost use Rattle.disk_layers.specs.ConcatDisk.{disk_of};
     ghost use Rattle.block_traits.specs.Causes.{Counted};

@@ -1,79 +1,12 @@
-// What holds of layers, whatever the disks below.
-ghost use Rattle.std.specs.Prelude.{◌≡◌, ◌+◌, ◌-◌, ◌<◌, ◌≤◌, ℕ, List, [], ◌∷◌, ◌++◌, Result, map, length, Ok, Contains};
+// What holds of two disks as one and of writes that wait, whatever the disks below.
+ghost use Rattle.std.specs.Prelude.{◌≡◌, ◌+◌, ◌-◌, ◌<◌, ◌≤◌, ℕ, List, ◌++◌, Contains};
 ghost use Rattle.block_traits.specs.declared.disk.Event.{Event};
-ghost use Rattle.block_traits.specs.Content.{Content, IsSector, kept_after, kept_values, logged, present, with_events};
-ghost use Rattle.block_traits.specs.Crash.{IsAltered, IsImage, IsTorn};
+ghost use Rattle.block_traits.specs.Content.{Content, kept_after, kept_values, logged, with_events};
 ghost use Rattle.block_traits.specs.Disk.{DiskState};
-ghost use Rattle.eli_base.specs.Keying.{Keying};
-ghost use Rattle.provider.specs.Answers.{ReadAnswers, request};
-ghost use Rattle.provider.specs.Attached.{Attached};
-ghost use Rattle.provider.specs.declared.faults.ReadFault.{ReadFault};
-ghost use Rattle.provider_readings.specs.Attaching.{HasImage};
-ghost use Rattle.range_keys.specs.Ring.{IsKeying};
-ghost use Rattle.sealing.specs.Sectors.{IsSingle, reading};
-ghost use Rattle.readings.specs.Steps.{Step};
-ghost use Rattle.readings.specs.Survivors.{media};
-ghost use Rattle.disk_layers.specs.Above.{AreStepsOver, EnduresBelow, ReadsChosen, cells_above, content_below};
-ghost use Rattle.disk_layers.specs.declared.provider_disk.ProviderDisk.{ProviderDisk};
 ghost use Rattle.disk_layers.specs.declared.write_behind.Waiting.{Waiting};
 ghost use Rattle.disk_layers.specs.Concat.{BothLog, first_events, second_events};
-ghost use Rattle.disk_layers.specs.Opened.{KeepsLastData, MomentAbove, opened, opened_content, opened_sectors};
-ghost use Rattle.disk_layers.specs.ProviderDisk.{disk_of};
 ghost use Rattle.disk_layers.specs.Waiting.{writes_of};
 ghost use Rattle.disk_layers.specs.WriteBehind.{Behind, order};
-
-use block_traits::Disk;
-
-/// Under a keying of single device sectors a logical sector reads as its device sector opened, which depends on its number and
-/// its bytes alone.
-pub fn device_sectors_open_by_themselves()
-    ensures { (k : Keying) (n : ℕ) (bytes : List ℕ) → IsKeying k → IsSingle k → IsSector bytes →
-        reading k n (bytes ∷ []) ≡ Ok (opened k n bytes) }
-{}
-
-/// Each sector of a disk upon a provider holds what its sector below holds, opened; so do the values that it may hold if power
-/// fails, place by place.
-pub fn kept_values_are_opened()
-    ensures now { (k : Keying) (c : Content) (n : ℕ) → n + 1 < length c.base → present (opened_content k c) n ≡ opened k n (present c n) }
-    ensures kept { (k : Keying) (c : Content) (n : ℕ) → n + 1 < length c.base →
-        kept_values (opened_content k c) n ≡ map (opened k n) (kept_values c n) }
-{}
-
-/// Each moment of the disk below is one of the disk upon the provider.
-pub fn moments_are_opened()
-    ensures { (k : Keying) (c : Content) (t : ℕ) → MomentAbove k c t }
-{}
-
-/// If power fails, the image that is left below is, sector by sector, one that may be left of the disk upon the provider. So are torn
-/// and altered ones in which the last data sector below, the last sector of the disk upon the provider, holds a kept value.
-pub fn crash_images_are_opened()
-    ensures whole { (k : Keying) (c : Content) (choice : ℕ → ℕ) (image : List (List ℕ)) → IsImage c choice image →
-        IsImage (opened_content k c) choice (opened_sectors k image) }
-    ensures torn { (k : Keying) (c : Content) (image : List (List ℕ)) → IsKeying k → IsSingle k → KeepsLastData c image → IsTorn c image →
-        IsTorn (opened_content k c) (opened_sectors k image) }
-    ensures altered { (k : Keying) (c : Content) (image : List (List ℕ)) → IsKeying k → IsSingle k → KeepsLastData c image → IsAltered c image →
-        IsAltered (opened_content k c) (opened_sectors k image) }
-{}
-
-/// A provider that stands on a disk upon a provider keeps, if power fails below, all that is promised of one on any disk: where these
-/// events were logged below while these steps were done above, each logical sector of an image that is left after the first t events
-/// reads, opened by both, as the writings of its cells say.
-pub fn crashes_below_are_read_above()
-    ensures { (k j : Keying) (c : Content) (events : List Event) (steps : List Step) (t sector : ℕ) →
-        AreStepsOver k c events steps → IsKeying j → sector < media j (opened_content k c) → EnduresBelow k j c events steps t sector }
-{}
-
-/// A disk upon a provider on an image that survived has the opened image. A provider attached upon it then reads, again and again, as
-/// the writings say that the image below chose from the cells: those of the steps done above before the crash.
-pub fn survivors_below_are_read_above<D: Disk>()
-    ensures has { (image : List (List ℕ)) (p : ProviderDisk D) → HasImage image (D.state p.on.disk) → HasImage (opened_sectors p.on.keying image) (disk_of D.state p) }
-    ensures reads { (k : Keying) (c : Content) (events : List Event) (steps : List Step) (t : ℕ) (choice : ℕ → ℕ) (image : List (List ℕ))
-        (sector : ℕ) (into bytes : List ℕ) (old new : Attached (ProviderDisk D)) (answer : Result (Unit {0}) ReadFault) →
-        AreStepsOver k c events steps → IsKeying old.keying → IsImage (content_below c events t) choice image →
-        HasImage (opened_sectors k image) (disk_of D.state old.disk) → ReadAnswers (disk_of D.state) (request (disk_of D.state) old sector into) bytes old new answer →
-        ReadsChosen old.keying (request (disk_of D.state) old sector into) (cells_above k c events steps t) choice bytes answer (disk_of D.state old.disk) (disk_of D.state new.disk)
-        × HasImage (opened_sectors k image) (disk_of D.state new.disk) }
-{}
 
 /// Calls on two disks that are one, one after the other: each disk logged the events of its sectors among those of all.
 pub fn calls_on_both_add_up()
@@ -81,8 +14,8 @@ pub fn calls_on_both_add_up()
         BothLog events a middle_a b middle_b → BothLog more middle_a new_a middle_b new_b → BothLog (events ++ more) a new_a b new_b }
 {}
 
-/// What a sector of two disks that are one may hold if power fails after some events is what its sector of the first or of the
-/// second may hold.
+/// What a sector of two disks that are one may hold if power fails after some events is what its sector of the first or
+/// of the second may hold.
 pub fn sectors_keep_what_their_disk_keeps()
     ensures first { (size n : ℕ) (events : List Event) (c : Content) → n < size →
         kept_values (with_events (first_events size events) c) n ≡ kept_after events n (kept_values c n) }

@@ -11,12 +11,14 @@ pub enum Layer {
     Plain,
     /// Writes are kept back from the file of what follows `behind:`.
     Behind,
-    /// Two files as one: the first's name stands between `join:` and the byte `middle`, a colon, and the second's behind that.
+    /// Two files as one: the first's name stands between `join:` and the byte `middle`, a colon, and the second's
+    /// behind that.
     Join { middle: usize },
 }
 
-/// What the name of an image asks for. `Behind` exactly where it begins with `behind:` and has more; `Join` exactly where it
-/// begins with `join:` and a colon follows, the first of which is `middle` and has bytes on both sides; else `Plain`.
+/// What the name of an image asks for. `Behind` exactly where it begins with `behind:` and has more; `Join` exactly
+/// where it begins with `join:` and a colon follows, the first of which is `middle` and has bytes on both sides; else
+/// `Plain`.
 pub fn layer_of(name: &str) -> Layer
     ensures behind { (result ≡ Layer.Behind) ↔ IsBehind name.now }
     ensures join { (middle : ℕ) → (result ≡ Layer.Join middle) ↔ IsJoin middle name.now }

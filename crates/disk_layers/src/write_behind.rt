@@ -57,8 +57,8 @@ impl<D: Disk> WriteBehind<D> {
         })
     }
 
-    /// Reads sector `n`: the last write of it that waits, and nothing is done below; or else what stands below, which is read once.
-    /// `DiskFailed` comes only where the disk below failed.
+    /// Reads sector `n`: the last write of it that waits, and nothing is done below; or else what stands below, which
+    /// is read once. `DiskFailed` comes only where the disk below failed.
     pub fn read_at(&mut self, n: u64, into: &mut Sector) -> Result<(), DiskFailed>
         requires { n < (D.state self.old.under).size }
         ensures answer { ReadAnswers (last_waiting n self.old.waiting.items) n into.new (behind_of D.state self.old) (behind_of D.state self.new) result }
@@ -81,9 +81,9 @@ impl<D: Disk> WriteBehind<D> {
         }
     }
 
-    /// Puts a write behind those that wait. Where as many wait as there is room for, they are written below first, in their
-    /// order; else nothing is done below. `DiskFailed` comes only where the disk below failed: the write that it refused and those
-    /// behind it wait still, and this one isn't taken.
+    /// Puts a write behind those that wait. Where as many wait as there is room for, they are written below first, in
+    /// their order; else nothing is done below. `DiskFailed` comes only where the disk below failed: the write that it
+    /// refused and those behind it wait still, and this one isn't taken.
     pub fn write_at(&mut self, n: u64, from: &Sector) -> Result<(), DiskFailed>
         requires { n < (D.state self.old.under).size }
         ensures answer { WriteAnswers (record { n = n; bytes = from.now }) (behind_of D.state self.old) (behind_of D.state self.new) result }
@@ -98,8 +98,8 @@ impl<D: Disk> WriteBehind<D> {
         Ok(())
     }
 
-    /// Writes all that wait below, in their order, and then flushes below. `DiskFailed` comes only where the disk below failed:
-    /// a write that it refused and those behind it wait still.
+    /// Writes all that wait below, in their order, and then flushes below. `DiskFailed` comes only where the disk below
+    /// failed: a write that it refused and those behind it wait still.
     pub fn flush_all(&mut self) -> Result<(), DiskFailed>
         ensures answer { FlushAnswers (behind_of D.state self.old) (behind_of D.state self.new) result }
         ensures order { OnOk result (order (behind_of D.state self.new) ≡ logged (Event.Flush ∷ []) (order (behind_of D.state self.old))) }
@@ -200,7 +200,8 @@ fn last_of(waiting: &VecDeque<Waiting>, n: u64) -> Option<Sector>
     found
 }
 
-/// It tells the size and the faults of the disk below, and its own reads. Its calls are `read_at`, `write_at` and `flush_all`.
+/// It tells the size and the faults of the disk below, and its own reads. Its calls are `read_at`, `write_at` and
+/// `flush_all`.
 impl<D: Disk> Disk for WriteBehind<D> {
     ghost use Rattle.std.specs.Prelude.{◌/◌, ◌%◌, ◌+◌};
     ghost use Rattle.block_traits.specs.EachWritten.{EachWritten};

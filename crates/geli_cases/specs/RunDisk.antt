@@ -1,7 +1,7 @@
 -- What the disk of a drawer of a run tells.
 use Rattle.block_traits.specs.Disk.{DiskState}
 use Rattle.disk_layers.specs.ConcatDisk as concat
-use Rattle.disk_layers.specs.ProviderDisk as provider_disk
+use Rattle.provider_disk.specs.ProviderDisk as provider_disk
 use Rattle.disk_layers.specs.WriteBehind as write_behind
 use Rattle.geli_cases.specs.TracedDisk as traced
 use Rattle.geli_cases.specs.declared.run_disk.RunDisk.{RunDisk}

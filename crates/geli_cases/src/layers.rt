@@ -4,9 +4,10 @@ use crate::line::Line;
 use crate::run_disk::RunDisk;
 use crate::traced_disk::TracedDisk;
 use block_traits::{ByteList, Disk, Sector};
-use disk_layers::{Concat, ProviderDisk, WriteBehind};
+use disk_layers::{Concat, WriteBehind};
 use eli_metadata::{Metadata, check, decode, size_gate, slot_gate};
 use provider::Provider;
+use provider_disk::ProviderDisk;
 use std::alloc::Global;
 use user_key::{Components, PassPart, UserKey, derive};
 

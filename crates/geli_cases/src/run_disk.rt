@@ -3,7 +3,8 @@ ghost use Rattle.geli_cases.specs.RunDisk.{state_of};
 
 use crate::traced_disk::TracedDisk;
 use block_traits::{Disk, DiskFailed, Event, Sector};
-use disk_layers::{Concat, ProviderDisk, WriteBehind};
+use disk_layers::{Concat, WriteBehind};
+use provider_disk::ProviderDisk;
 
 /// The disk of a drawer of a run.
 #[derive(Drop)]

@@ -2,9 +2,10 @@
 use crate::common::{are_events, attached, made, read, write};
 use block_traits::{Disk, DiskFailed, Event, Sector};
 use crash_disk::{MemDisk, survivor_whole};
-use disk_layers::{Concat, Layer, ProviderDisk, WriteBehind, layer_of};
+use disk_layers::{Concat, Layer, WriteBehind, layer_of};
 use eli_base::{Auth, Cipher};
 use eli_metadata::Metadata;
+use provider_disk::ProviderDisk;
 use std::alloc::Global;
 use std::cell::Cell;
 use std::rc::Rc;

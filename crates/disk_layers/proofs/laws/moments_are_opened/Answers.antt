@@ -1,6 +1,0 @@
--- The first events, opened, are the first of those that are opened.
-use Rattle.disk_layers.proofs.OpenedImages.{moment_above}
-use Rattle.disk_layers.proofs.laws.moments_are_opened.Goals as goal
-
-pub returns : goal.returns
-returns c = moment_above

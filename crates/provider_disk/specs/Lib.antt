@@ -1,0 +1,4 @@
+pub mod Above
+pub mod Opened
+pub mod OpenedFits
+pub mod ProviderDisk

@@ -19,7 +19,6 @@ use Rattle.command_rows.specs.Becoming.{Becomes, BecomesAt, BecomesBy, BecomesSo
 use Rattle.command_rows.specs.DeleteKeys.{DeletesRow, NamesSlots, slot_of}
 use Rattle.command_rows.specs.Digits.{bytes_spelled}
 use Rattle.command_rows.specs.Gate.{ASuspended, AnAttached, AnIdle, AnyOne, Needs, NoIdle, NoSuspended, needs, refused_by}
-use Rattle.command_rows.specs.Grounds.{OpensWith}
 use Rattle.command_rows.specs.Killing.{DestroysMetadata, KillRow}
 use Rattle.command_rows.specs.NewProvider.{InitRow}
 use Rattle.command_rows.specs.Restoring.{RestoreRow, WritesBack}
@@ -31,9 +30,13 @@ use Rattle.command_rows.specs.Verifying.{FindsPlace, LoadsPlace, NeedsPlace, Nee
 use Rattle.command_rows.specs.Queueing.{NeedsNoRequests}
 use Rattle.range_keys.specs.Keys.{le64}
 use Rattle.command_rows.specs.Trying.{TryRow}
-use Rattle.command_rows.specs.Turn.{AttachesUnless, ChangesAt, GoesThrough, IsRefused, ReadRow, Serves, Turn, WriteRow, done_or, reach, takes_out}
+use Rattle.command_rows.specs.Turn.{ChangesAt, GoesThrough, IsRefused, Serves, Turn, reach, takes_out}
 use Rattle.command_rows.specs.Workloads.{FillRow, SumRow}
 use Rattle.command_rows.specs.World.{Attachment, Holding, Idle, IsAttached, IsSuspended, Kept, Reach, World}
+use Rattle.command_rows.specs.verbs.Attach.{AttachesUnless, OpensWith}
+use Rattle.command_rows.specs.verbs.Read.{ReadRow}
+use Rattle.command_rows.specs.verbs.Write.{WriteRow}
+use Rattle.command_rows.specs.Replies.{done_or}
 use Rattle.command_rows.proofs.Causing.{Step}
 use Rattle.command_rows.proofs.Events.{quiet_reading, same_disk}
 use Rattle.command_rows.proofs.Gate.{by_attachment, by_passed_gate, with_attached, with_suspended}
@@ -137,14 +140,14 @@ restore_stays line file force =
     (λ bytes. stays_then (WritesBack bytes force) _ (λ old answer new h. h.holding)
     (λ m old answer new h. same_reach old new h.1))
 
-place_stays : (restart : Bool) (line : List ℕ) (file : Span) → Stays (FindsPlace restart line file)
-place_stays true line file = λ old answer new h. same_reach old new h.1
-place_stays false line file = stays_then (LoadsPlace line file) _ (λ old answer new h. h.loads.holding) (λ found old answer new h. same_reach old new h.1)
+found_stays : (restart : Bool) (line : List ℕ) (file : Span) → Stays (FindsPlace restart line file)
+found_stays true line file = λ old answer new h. same_reach old new h.1
+found_stays false line file = stays_then (LoadsPlace line file) _ (λ old answer new h. h.loads.holding) (λ found old answer new h. same_reach old new h.1)
 
 pub verify_stays : (line : List ℕ) (file : Span) (count : ℕ) (restart : Bool) (a : Attachment) → Stays (VerifyRow line file count restart a)
 verify_stays line file count restart a =
     stays_then (NeedsTags a) _ (λ old answer new h. same_reach old new h.1)
-    (λ done. stays_then (FindsPlace restart line file) _ (place_stays restart line file)
+    (λ done. stays_then (FindsPlace restart line file) _ (found_stays restart line file)
     (λ place. stays_then (SweepsFrom a place count) _ (stays_then (NeedsPlace a place) _ (λ old answer new h. same_reach old new h.1) (λ inside old answer new h. h.holding))
     (λ part. stays_then (StoresBytes line file (le64 part.next)) _ (λ old answer new h. h.holding)
     (λ stored old answer new h. same_reach old new h.1))))

@@ -15,8 +15,11 @@ use Rattle.command_rows.specs.Causes.{AsksBytes, AsksSectors, HasCause, writes_d
 use Rattle.command_rows.specs.Digits.{bytes_spelled}
 use Rattle.command_rows.specs.Gate.{needs, refused_by}
 use Rattle.command_rows.specs.Steps.{DoesEvents, GoesOn, NeedsSectors, NeedsWhole, NeedsWritable, ReadsSectors, Then, WritesSectors, if_writable, whole_sectors}
-use Rattle.command_rows.specs.Turn.{DetachRow, FlushRow, ReadRow, WriteRow}
 use Rattle.command_rows.specs.World.{Attachment, IsAttached, Reach}
+use Rattle.command_rows.specs.verbs.Detach.{DetachRow}
+use Rattle.command_rows.specs.verbs.Flush.{FlushRow}
+use Rattle.command_rows.specs.verbs.Read.{ReadRow}
+use Rattle.command_rows.specs.verbs.Write.{WriteRow}
 use Rattle.command_rows.proofs.Gate.{by_gate_refusal}
 
 abbrev pub Step : Type 0 → Type 1
@@ -95,7 +98,7 @@ writable_why line command a old given middle is writes h = writable_by line comm
 sectors_why : (line : List ℕ) (prov : Span) (sector count : ℕ) (a : Attachment) (whole : ℕ) (old : Reach) (answer : Result (List ℕ) Refusal) (new : Reach) → old.holding ≡ IsAttached a
     → whole_sectors a.keying.sectorsize (count * a.keying.sectorsize) ≡ Ok whole → ReadsSectors a sector whole old answer new → Why line (commands.Read prov sector count) old answer new
 sectors_why line prov sector count a whole old (Ok bytes) new is wholly h = tt
-sectors_why line prov sector count a whole old (Err (refusals.Integrity offset)) new is wholly h = rw is (record { sectors = whole; whole = wholly; reads = h.reads.reads })
+sectors_why line prov sector count a whole old (Err (refusals.Integrity offset)) new is wholly h = rw is (record { first = sector; many = whole; are = (refl, wholly); reads = h.reads.reads })
 sectors_why line prov sector count a whole old (Err refusals.DeviceFault) new is wholly h = h.reads.fails.rose
 sectors_why line prov sector count a whole old (Err refusal) new is wholly h = absurd h.reads
 

@@ -39,11 +39,11 @@ use Rattle.command_rows.specs.Saving.{FindsLastSector}
 use Rattle.command_rows.specs.SetKey.{StoresKey}
 use Rattle.command_rows.specs.Steps.{Attaches, BacksUp, Decides, Detaches, Does, DoesEvents, GoesOn, LoadsComponents, LoadsFile, MakesProvider, ReadsLastSector, ReadsSectors, SectorsAnswer, StoreAnswers, StoresBytes, Then, if_writable, or_refusal, without_value}
 use Rattle.command_rows.specs.Suspending.{Suspends}
-use Rattle.command_rows.specs.Turn.{AttachesUnless}
 use Rattle.command_rows.specs.World.{Attachment, Reach}
 use Rattle.command_rows.proofs.Causing.{Step}
 use Rattle.command_rows.proofs.Plain.{PlainAnswer, PlainOption, change_plain, deletion_plain, early_plain, meta_plain, old_plain, plain_err, plain_some, restored_plain, sizes_plain}
 use Rattle.command_rows.specs.Grounds.{IsGround}
+use Rattle.command_rows.specs.verbs.Attach.{AttachesUnless}
 
 -- ---- refusals that are no failure of the cabinet or the entropy
 

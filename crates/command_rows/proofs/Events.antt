@@ -17,12 +17,17 @@ use Rattle.key_commands.specs.NewProvider.{Inits}
 use Rattle.key_commands.specs.declared.options.InitOptions.{InitOptions}
 use Rattle.provider.specs.Writing.{data_writes}
 use Rattle.user_key.specs.declared.components.Components.{Components}
-use Rattle.command_rows.specs.Histories.{BreaksOff, WritesData, WritesMetadata}
+use Rattle.command_rows.specs.Histories.{BreaksOff}
 use Rattle.command_rows.specs.NewProvider.{InitRow}
 use Rattle.command_rows.specs.Steps.{Admits, Attaches, BacksUp, Decides, DoesEvents, GoesOn, LoadsComponents, NeedsSectors, NeedsWhole, NeedsWritable, ReadsLastSector, ReadsSectors, Then, WritesSectors}
 use Rattle.command_rows.specs.Trying.{TryRow}
-use Rattle.command_rows.specs.Turn.{AttachRow, AttachesUnless, DetachRow, FlushRow, ReadRow, WriteRow}
 use Rattle.command_rows.specs.World.{Attachment, IsAttached, Reach}
+use Rattle.command_rows.specs.verbs.Write.{WriteRow, WritesData}
+use Rattle.command_rows.specs.Findings.{WritesMetadata}
+use Rattle.command_rows.specs.verbs.Attach.{AttachRow, AttachesUnless}
+use Rattle.command_rows.specs.verbs.Detach.{DetachRow}
+use Rattle.command_rows.specs.verbs.Flush.{FlushRow}
+use Rattle.command_rows.specs.verbs.Read.{ReadRow}
 
 -- ---- steps without events
 

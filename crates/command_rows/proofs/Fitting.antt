@@ -32,19 +32,36 @@ use Rattle.provider.specs.Reading.{ReadsAs}
 use Rattle.resize_kill.specs.Resizing.{old_place, old_refusal, size_refusal}
 use Rattle.user_key.specs.Derivation.{user_key}
 use Rattle.user_key.specs.declared.components.Components.{Components}
+use Rattle.command_rows.specs.Asks.{Asks, AsksBytesAtOnce, AsksForNone, AsksNothing, AsksSectorsFrom, FaultOf, QueueRefuses}
 use Rattle.command_rows.specs.Answer as answers
-use Rattle.command_rows.specs.Causes.{AsksBytes, AsksSectors, Caused, CausedAt, CausedBy, FindsFault, FindsInQueue, HasBadLength, HasCause, PassesEnd, may_lack_memory, needs_tags, writes_data}
+use Rattle.command_rows.specs.Causes.{Caused, CausedAt, CausedBy, FindsFault, FindsInQueue, HasBadLength, HasCause, PassesEnd, asks_of, may_lack_memory, needs_tags, writes_data}
 use Rattle.command_rows.specs.DeleteKeys.{named_slots, slot_of}
 use Rattle.command_rows.specs.Digits.{bytes_spelled}
-use Rattle.command_rows.specs.Fits.{FailsNowhere, FindsAt, FindsAttached, FindsBackup, FindsKey, FindsNew, FindsNewKey, FindsOldKey, FindsOldPlace, FindsSameKey, FindsSetkey, FindsSlots, Fits, FitsFill, FitsRead, FitsReap, FitsRow, FitsStep, FitsSubmit, FitsSum, FitsVerify, FitsWrite, NamesFile, NamesParts, SaysPlace, ShowsMetadata, ShowsMetadataAt}
+use Rattle.command_rows.specs.Fits.{FailsNowhere, FindsAt, Fits, FitsRow}
 use Rattle.command_rows.specs.Gate.{needs, refused_by}
-use Rattle.command_rows.specs.Grounds.{AreComponents, FindsBadFile, HasGround, HasMetadata, IsFile, IsReadAs, LacksMetadata, OpensAnother, RefusesAttach, RefusesBackup, RefusesChange, RefusesDelkey, RefusesFile, RefusesFiles, RefusesLong, RefusesNew, RefusesNewKey, RefusesNext, RefusesOldKey, RefusesOldPlace, RefusesPlace, RefusesResume, RefusesSetkey, RefusesSlots, RefusesTrial, SaysTooFar}
+use Rattle.command_rows.specs.Grounds.{FindsBadFile, HasGround}
 use Rattle.command_rows.specs.SetKey.{if_there, opened_by, usable}
 use Rattle.command_rows.specs.Steps.{admitted, tried, whole_sectors}
 use Rattle.command_rows.specs.Suspending.{same_key}
 use Rattle.command_rows.specs.Turn.{Turn, reach}
 use Rattle.command_rows.specs.Verifying.{place_in, place_size}
 use Rattle.command_rows.specs.World.{AttachedWith, Attachment, DrawerState, Holding, Idle, IsAttached, IsSuspended, Kept, Reach, SuspendedWith, World, attachment_in, place_of}
+use Rattle.command_rows.specs.verbs.Setkey.{FindsAttached, FindsNewKey, FindsOldKey, FindsSetkey, RefusesChange, RefusesNewKey, RefusesNext, RefusesOldKey, RefusesSetkey}
+use Rattle.command_rows.specs.verbs.Restore.{FindsBackup, RefusesBackup}
+use Rattle.command_rows.specs.verbs.Attach.{FindsKey, RefusesAttach, RefusesTrial}
+use Rattle.command_rows.specs.verbs.Init.{FindsNew, RefusesNew}
+use Rattle.command_rows.specs.verbs.Resize.{FindsOldPlace, RefusesOldPlace}
+use Rattle.command_rows.specs.verbs.Resume.{FindsSameKey, OpensAnother, RefusesResume}
+use Rattle.command_rows.specs.verbs.Delkey.{FindsSlots, RefusesDelkey, RefusesSlots}
+use Rattle.command_rows.specs.verbs.Fill.{FitsFill}
+use Rattle.command_rows.specs.verbs.Read.{FitsRead}
+use Rattle.command_rows.specs.verbs.Reap.{FitsReap}
+use Rattle.command_rows.specs.verbs.Step.{FitsStep}
+use Rattle.command_rows.specs.verbs.Submit.{FitsSubmit}
+use Rattle.command_rows.specs.verbs.Sum.{FitsSum}
+use Rattle.command_rows.specs.verbs.Verify.{FitsVerify, RefusesLong, RefusesPlace, SaysPlace, SaysTooFar}
+use Rattle.command_rows.specs.verbs.Write.{FitsWrite}
+use Rattle.command_rows.specs.Findings.{AreComponents, HasMetadata, IsFile, IsReadAs, LacksMetadata, NamesFile, NamesParts, RefusesFile, RefusesFiles, ShowsMetadata, ShowsMetadataAt}
 use Rattle.command_rows.proofs.Gate.{with_attached, with_suspended}
 use Rattle.command_rows.proofs.LineCauses.{refusal_caused}
 use Rattle.command_rows.proofs.SweepPlaces.{eight_loaded, eight_says, is_inside}
@@ -230,8 +247,8 @@ record RulesOut (line : List ℕ) (command : Command) (old : Reach) : Type 0 whe
   readonly : IsTrue (writes_data command) → AttachedWith old.holding (λ a. a.readonly ≡ true) → ⊥
   range : (sector count there : ℕ) → AttachedWith old.holding (PassesEnd line command old.disk sector count there) → ⊥
   bytes : (given size : ℕ) → AttachedWith old.holding (HasBadLength line command given size) → ⊥
-  faults : (offset : ℕ) → AttachedWith old.holding (FindsFault command old.disk offset) → ⊥
-  requests : (refusal : Refusal) → AttachedWith old.holding (FindsInQueue command old.disk refusal) → ⊥
+  faults : (offset : ℕ) → AttachedWith old.holding (FindsFault line command old.disk offset) → ⊥
+  requests : (refusal : Refusal) → AttachedWith old.holding (FindsInQueue line command old.disk refusal) → ⊥
   files : (refusal : Refusal) (cabinet : CabinetState) → FindsBadFile line command old.holding old.cabinet refusal cabinet → ⊥
   ground : (refusal : Refusal) → HasGround line command old refusal → ⊥
 
@@ -273,31 +290,24 @@ never_both Fit Holds holding f never h = both_held Fit Holds (attachment_in hold
 
 -- ---- verbs that ask for no sectors
 
-record IsApart (line : List ℕ) (command : Command) : Type 0 where
-  writes : writes_data command ≡ false
-  bytes : (count : ℕ) (a : Attachment) → AsksBytes line command count a → ⊥
-  sectors : (first many : ℕ) (a : Attachment) → AsksSectors line command first many a → ⊥
-  faults : (disk : DiskState) (offset : ℕ) (a : Attachment) → FindsFault command disk offset a → ⊥
-  requests : (disk : DiskState) (refusal : Refusal) (a : Attachment) → FindsInQueue command disk refusal a → ⊥
-
-apart_out : (line : List ℕ) (command : Command) (old : Reach) → IsApart line command → refused_by (needs command) old.holding ≡ None
+apart_out : (line : List ℕ) (command : Command) (old : Reach) → writes_data command ≡ false → asks_of line command ≡ AsksNothing → refused_by (needs command) old.holding ≡ None
     → ((refusal : Refusal) (cabinet : CabinetState) → FindsBadFile line command old.holding old.cabinet refusal cabinet → ⊥) → ((refusal : Refusal) → HasGround line command old refusal → ⊥) → RulesOut line command old
-apart_out line command old apart gate files ground = record {
+apart_out line command old unwritten nothing gate files ground = record {
   gate = gate;
-  readonly = λ writes h. false_is_true (sym apart.writes ∙ writes);
-  range = λ sector count there h. never_holds _ old.holding (λ a over. apart.sectors sector count a over.asked) h;
-  bytes = λ given size h. never_holds _ old.holding (λ a bad. apart.bytes given a bad.asked) h;
-  faults = λ offset h. never_holds _ old.holding (λ a fault. apart.faults old.disk offset a fault) h;
-  requests = λ refusal h. never_holds _ old.holding (λ a found. apart.requests old.disk refusal a found) h;
+  readonly = λ writes h. false_is_true (sym unwritten ∙ writes);
+  range = λ sector count there h. never_holds _ old.holding (λ a over. subst (λ (asks : Asks). AsksSectorsFrom asks sector count a) nothing over.asked) h;
+  bytes = λ given size h. never_holds _ old.holding (λ a bad. subst (λ (asks : Asks). AsksBytesAtOnce asks given a) nothing bad.asked) h;
+  faults = λ offset h. never_holds _ old.holding (λ a fault. subst (λ (asks : Asks). FaultOf asks old.disk offset a) nothing fault) h;
+  requests = λ refusal h. never_holds _ old.holding (λ a found. subst (λ (asks : Asks). QueueRefuses asks old.disk refusal a) nothing found) h;
   files = files;
   ground = ground;
 }
 
 -- ---- `suspend`
 
-none_open : (prov : Span) (disk : DiskState) (refusal : Refusal) (a : Attachment) → a.queue ≡ [] → FindsInQueue (commands.Suspend prov) disk refusal a → ⊥
-none_open prov disk (refusals.RequestsOpen count) a none h = let none_there : count ≡ 0 = h.0 ∙ ap length none in omega (arith, none_there, h.1)
-none_open prov disk refusal a none h = h
+none_open : (disk : DiskState) (refusal : Refusal) (a : Attachment) → a.queue ≡ [] → QueueRefuses AsksForNone disk refusal a → ⊥
+none_open disk (refusals.RequestsOpen count) a none h = let none_there : count ≡ 0 = h.0 ∙ ap length none in omega (arith, none_there, h.1)
+none_open disk refusal a none h = h
 
 suspend_out : (line : List ℕ) (prov : Span) (old : Reach) → refused_by (needs (commands.Suspend prov)) old.holding ≡ None → AttachedWith old.holding (λ a. a.queue ≡ []) → RulesOut line (commands.Suspend prov) old
 suspend_out line prov old gate f = record {
@@ -306,7 +316,7 @@ suspend_out line prov old gate f = record {
   range = λ first many there h. never_holds _ old.holding (λ a over. over.asked) h;
   bytes = λ given size h. never_holds _ old.holding (λ a bad. bad.asked) h;
   faults = λ offset h. never_holds _ old.holding (λ a fault. fault) h;
-  requests = λ refusal h. never_both _ _ old.holding f (λ a none found. none_open prov old.disk refusal a none found) h;
+  requests = λ refusal h. never_both _ _ old.holding f (λ a none found. none_open old.disk refusal a none found) h;
   files = λ refusal cabinet h. h;
   ground = λ refusal h. h;
 }
@@ -315,6 +325,11 @@ suspend_out line prov old gate f = record {
 
 passes : (first many there sector sectors end : ℕ) → first ≡ sector → many ≡ sectors → there ≡ end → there < first + many → sector + sectors ≤ end → ⊥
 passes first many there sector sectors end first_is many_is there_is over within = omega arith
+
+-- a fault of the sectors that are read is one of those that are asked for
+read_at : (disk : DiskState) (a : Attachment) (first many sector count offset : ℕ) → first ≡ sector → many ≡ count → ReadsAs disk a.keying first many (Err offset) → ReadsAs disk a.keying sector count (Err offset)
+read_at disk a first many sector count offset first_is many_is h =
+    subst (λ (n : ℕ). ReadsAs disk a.keying n count (Err offset)) first_is (subst (λ (n : ℕ). ReadsAs disk a.keying first n (Err offset)) many_is h)
 
 read_out : (line : List ℕ) (prov : Span) (sector count : ℕ) (old : Reach) → refused_by (needs (commands.Read prov sector count)) old.holding ≡ None → AttachedWith old.holding (FitsRead sector count old.disk) → RulesOut line (commands.Read prov sector count) old
 read_out line prov sector count old gate f = record {
@@ -326,7 +341,7 @@ read_out line prov sector count old gate f = record {
       (λ a fits bad. let is : whole_sectors a.keying.sectorsize (count * a.keying.sectorsize) ≡ Err (refusals.BadLength given size) = subst (λ (n : ℕ). whole_sectors a.keying.sectorsize n ≡ Err (refusals.BadLength given size)) bad.asked bad.bad in
       not_both _ fits.sectors (refusals.BadLength given size) fits.whole is) h;
   faults = λ offset h. never_both _ _ old.holding f
-      (λ a fits fault. let same : fault.sectors ≡ fits.sectors = cc (fault.whole, fits.whole) in fits.right offset (subst (λ (n : ℕ). ReadsAs old.disk a.keying sector n (Err offset)) same fault.reads)) h;
+      (λ a fits fault. let same : fault.many ≡ fits.sectors = cc (fault.are.1, fits.whole) in fits.right offset (read_at old.disk a fault.first fault.many sector fits.sectors offset fault.are.0 same fault.reads)) h;
   requests = λ refusal h. never_holds _ old.holding (λ a found. found) h;
   files = λ refusal cabinet h. h;
   ground = λ refusal h. h;
@@ -365,7 +380,7 @@ sum_out line prov start count old gate f = record {
   readonly = λ writes h. false_is_true writes;
   range = λ first many there h. never_both _ _ old.holding f (λ a fits over. passes first many there start count (media a.keying old.disk) over.asked.0 over.asked.1 over.has over.passes fits.within) h;
   bytes = λ given size h. never_holds _ old.holding (λ a bad. bad.asked) h;
-  faults = λ offset h. never_both _ _ old.holding f (λ a fits fault. fits.right offset fault) h;
+  faults = λ offset h. never_both _ _ old.holding f (λ a fits fault. fits.right offset (read_at old.disk a fault.first fault.many start count offset fault.are.0 fault.are.1 fault.reads)) h;
   requests = λ refusal h. never_holds _ old.holding (λ a found. found) h;
   files = λ refusal cabinet h. h;
   ground = λ refusal h. h;
@@ -380,7 +395,7 @@ submit_out line prov job old gate f = record {
   range = λ first many there h. never_both _ _ old.holding f (λ a fits over. job_within line job old.disk a fits.fits first many there over.asked over.has over.passes) h;
   bytes = λ given size h. never_both _ _ old.holding f (λ a fits bad. job_whole line job old.disk a fits.fits given (refusals.BadLength given size) bad.asked bad.bad) h;
   faults = λ offset h. never_holds _ old.holding (λ a fault. fault) h;
-  requests = λ refusal h. never_both _ _ old.holding f (λ a fits found. room_left prov job old.disk refusal a fits.room found) h;
+  requests = λ refusal h. never_both _ _ old.holding f (λ a fits found. room_left line job old.disk refusal a fits.room found) h;
   files = λ refusal cabinet h. h;
   ground = λ refusal h. h;
 }
@@ -392,7 +407,7 @@ step_out line prov tag old gate f = record {
   range = λ first many there h. never_holds _ old.holding (λ a over. over.asked) h;
   bytes = λ given size h. never_holds _ old.holding (λ a bad. bad.asked) h;
   faults = λ offset h. never_holds _ old.holding (λ a fault. fault) h;
-  requests = λ refusal h. never_both _ _ old.holding f (λ a fits found. step_found prov tag old.disk refusal a fits found) h;
+  requests = λ refusal h. never_both _ _ old.holding f (λ a fits found. step_found tag old.disk refusal a fits found) h;
   files = λ refusal cabinet h. h;
   ground = λ refusal h. h;
 }
@@ -404,7 +419,7 @@ reap_out line prov tag old gate f = record {
   range = λ first many there h. never_holds _ old.holding (λ a over. over.asked) h;
   bytes = λ given size h. never_holds _ old.holding (λ a bad. bad.asked) h;
   faults = λ offset h. never_both _ _ old.holding f (λ a fits fault. reap_right tag old.disk offset a fits fault) h;
-  requests = λ refusal h. never_both _ _ old.holding f (λ a fits found. reap_found prov tag old.disk refusal a fits found) h;
+  requests = λ refusal h. never_both _ _ old.holding f (λ a fits found. reap_found tag old.disk refusal a fits found) h;
   files = λ refusal cabinet h. h;
   ground = λ refusal h. h;
 }
@@ -446,34 +461,34 @@ verify_place_out line file restart old refusal a f h =
 
 row_out : (line : List ℕ) (command : Command) (old : Reach) → refused_by (needs command) old.holding ≡ None → FitsRow line command old → RulesOut line command old
 row_out line (commands.Dump prov) old gate f =
-    apart_out line (commands.Dump prov) old (record { writes = refl; bytes = λ n a x. x; sectors = λ n k a x. x; faults = λ d n a x. x; requests = λ d r a x. x }) gate (λ refusal cabinet x. x) (λ refusal x. has_metadata old.disk f.m refusal f.shows x)
+    apart_out line (commands.Dump prov) old refl refl gate (λ refusal cabinet x. x) (λ refusal x. has_metadata old.disk f.m refusal f.shows x)
 row_out line (commands.Init prov cipher auth keylen sectorsize iterations autoresize fresh backup) old gate f =
-    apart_out line (commands.Init prov cipher auth keylen sectorsize iterations autoresize fresh backup) old (record { writes = refl; bytes = λ n a x. x; sectors = λ n k a x. x; faults = λ d n a x. x; requests = λ d r a x. x }) gate
+    apart_out line (commands.Init prov cipher auth keylen sectorsize iterations autoresize fresh backup) old refl refl gate
     (λ refusal cabinet x. no_bad_file line fresh f.parts old.cabinet refusal cabinet f.names x) (λ refusal x. init_fits line _ fresh old f refusal x)
 row_out line (commands.Attach prov only_check readonly slot words) old gate f =
-    apart_out line (commands.Attach prov only_check readonly slot words) old (record { writes = refl; bytes = λ n a x. x; sectors = λ n k a x. x; faults = λ d n a x. x; requests = λ d r a x. x }) gate
+    apart_out line (commands.Attach prov only_check readonly slot words) old refl refl gate
     (λ refusal cabinet x. no_bad_file line words f.parts old.cabinet refusal cabinet f.names x) (λ refusal x. attach_fits line slot readonly words old f refusal x)
 row_out line (commands.Setkey prov iterations slot words fresh) old gate f =
-    apart_out line (commands.Setkey prov iterations slot words fresh) old (record { writes = refl; bytes = λ n a x. x; sectors = λ n k a x. x; faults = λ d n a x. x; requests = λ d r a x. x }) gate
+    apart_out line (commands.Setkey prov iterations slot words fresh) old refl refl gate
     (λ refusal cabinet x. both_load (attachment_in old.holding) line iterations slot words fresh f.m old f.change refusal cabinet x) (λ refusal x. setkey_fits line iterations slot words fresh old f refusal x)
 row_out line (commands.Delkey prov all force slot) old gate f =
-    apart_out line (commands.Delkey prov all force slot) old (record { writes = refl; bytes = λ n a x. x; sectors = λ n k a x. x; faults = λ d n a x. x; requests = λ d r a x. x }) gate (λ refusal cabinet x. x)
+    apart_out line (commands.Delkey prov all force slot) old refl refl gate (λ refusal cabinet x. x)
     (λ refusal x. delkey_fits all force slot old f refusal x)
 row_out line (commands.Kill prov) old gate f =
-    apart_out line (commands.Kill prov) old (record { writes = refl; bytes = λ n a x. x; sectors = λ n k a x. x; faults = λ d n a x. x; requests = λ d r a x. x }) gate (λ refusal cabinet x. x) (λ refusal x. omega (arith, f, x.0))
+    apart_out line (commands.Kill prov) old refl refl gate (λ refusal cabinet x. x) (λ refusal x. omega (arith, f, x.0))
 row_out line (commands.Backup prov file) old gate f =
-    apart_out line (commands.Backup prov file) old (record { writes = refl; bytes = λ n a x. x; sectors = λ n k a x. x; faults = λ d n a x. x; requests = λ d r a x. x }) gate (λ refusal cabinet x. x)
+    apart_out line (commands.Backup prov file) old refl refl gate (λ refusal cabinet x. x)
     (λ refusal x. has_metadata old.disk f.m refusal f.shows x)
 row_out line (commands.Restore file prov force) old gate f =
-    apart_out line (commands.Restore file prov force) old (record { writes = refl; bytes = λ n a x. x; sectors = λ n k a x. x; faults = λ d n a x. x; requests = λ d r a x. x }) gate (λ refusal cabinet x. no_file_refused file_limit line file f.bytes old.cabinet refusal cabinet f.names x)
+    apart_out line (commands.Restore file prov force) old refl refl gate (λ refusal cabinet x. no_file_refused file_limit line file f.bytes old.cabinet refusal cabinet f.names x)
     (λ refusal x. restore_fits line file force old f refusal x)
 row_out line (commands.Resize prov oldsize) old gate f =
-    apart_out line (commands.Resize prov oldsize) old (record { writes = refl; bytes = λ n a x. x; sectors = λ n k a x. x; faults = λ d n a x. x; requests = λ d r a x. x }) gate (λ refusal cabinet x. x)
+    apart_out line (commands.Resize prov oldsize) old refl refl gate (λ refusal cabinet x. x)
     (λ refusal x. resize_fits oldsize old f refusal x)
 row_out line (commands.Detach prov) old gate f =
-    apart_out line (commands.Detach prov) old (record { writes = refl; bytes = λ n a x. x; sectors = λ n k a x. x; faults = λ d n a x. x; requests = λ d r a x. x }) gate (λ refusal cabinet x. x) (λ refusal x. x)
+    apart_out line (commands.Detach prov) old refl refl gate (λ refusal cabinet x. x) (λ refusal x. x)
 row_out line (commands.Flush prov) old gate f =
-    apart_out line (commands.Flush prov) old (record { writes = refl; bytes = λ n a x. x; sectors = λ n k a x. x; faults = λ d n a x. x; requests = λ d r a x. x }) gate (λ refusal cabinet x. x) (λ refusal x. x)
+    apart_out line (commands.Flush prov) old refl refl gate (λ refusal cabinet x. x) (λ refusal x. x)
 row_out line (commands.Read prov sector count) old gate f = read_out line prov sector count old gate f
 row_out line (commands.Write prov sector hex) old gate f = write_out line prov sector hex old gate f
 row_out line (commands.Fill prov seed start count) old gate f = fill_out line prov seed start count old gate f
@@ -483,10 +498,10 @@ row_out line (commands.Step prov tag) old gate f = step_out line prov tag old ga
 row_out line (commands.Reap prov tag) old gate f = reap_out line prov tag old gate f
 row_out line (commands.Suspend prov) old gate f = suspend_out line prov old gate f
 row_out line (commands.Resume prov words) old gate f =
-    apart_out line (commands.Resume prov words) old (record { writes = refl; bytes = λ n a x. x; sectors = λ n k a x. x; faults = λ d n a x. x; requests = λ d r a x. x }) gate
+    apart_out line (commands.Resume prov words) old refl refl gate
     (λ refusal cabinet x. with_suspended old.holding _ ⊥ (λ kept is finds. no_bad_file line words finds.key.parts old.cabinet refusal cabinet finds.key.names x) f) (λ refusal x. resume_fits line words old f refusal x)
 row_out line (commands.Verify prov file count restart) old gate f =
-    apart_out line (commands.Verify prov file count restart) old (record { writes = refl; bytes = λ n a x. x; sectors = λ n k a x. x; faults = λ d n a x. x; requests = λ d r a x. x }) gate
+    apart_out line (commands.Verify prov file count restart) old refl refl gate
     (λ refusal cabinet x. with_attached old.holding _ ⊥ (λ a is fits. verify_file_out line file restart old refusal cabinet a fits x) f)
     (λ refusal x. never_both _ _ old.holding f (λ a fits bad. verify_place_out line file restart old refusal a fits bad) x)
 row_out line command old gate f = absurd f

@@ -19,10 +19,12 @@ use Rattle.user_key.specs.Derivation.{user_key}
 use Rattle.user_key.specs.declared.components.Components.{Components}
 use Rattle.command_rows.specs.Causes.{may_lack_memory}
 use Rattle.command_rows.specs.DeleteKeys.{DelkeyRow, NamesSlots, TakesKeysOut, named_slots, slot_of}
-use Rattle.command_rows.specs.Grounds.{AreComponents, HasMetadata, LacksMetadata, RefusesFiles, RefusesNewKey, RefusesNext, RefusesOldKey, RefusesSlots}
 use Rattle.command_rows.specs.SetKey.{IsUsed, NeedsSlot, OpensSlot, SetkeyAttachedRow, SetkeyIdleRow, SetkeyRow, SetsOpened, StoresKey, if_there, opened_by, usable}
 use Rattle.command_rows.specs.Steps.{Admits, LoadsComponents, ReadsLastSector, Then, admitted, without_value}
 use Rattle.command_rows.specs.World.{Reach}
+use Rattle.command_rows.specs.Findings.{AreComponents, HasMetadata, LacksMetadata, RefusesFiles}
+use Rattle.command_rows.specs.verbs.Setkey.{RefusesNewKey, RefusesNext, RefusesOldKey}
+use Rattle.command_rows.specs.verbs.Delkey.{RefusesSlots}
 use Rattle.command_rows.proofs.Causing.{Why, then_since, then_why}
 use Rattle.command_rows.proofs.Grounding.{BadFiles, Grounds, Since, decides_why, loading_parts, loading_since, loading_why, plain_cause, reading_has, reading_since, reading_why, since_same}
 use Rattle.command_rows.proofs.Plain.{change_plain, deletion_plain, named_plain, opened_plain, or_plain, plain_some, there_plain}

@@ -17,10 +17,11 @@ use Rattle.key_commands.specs.NewKey.{KeyChange}
 use Rattle.key_commands.specs.Overwriting.{pass_events, pass_sectors}
 use Rattle.key_commands.specs.SetKey.{SetsKey}
 use Rattle.command_rows.specs.DeleteKeys.{DeletesRow, DelkeyRow, NamesSlots, TakesKeysOut, slot_of}
-use Rattle.command_rows.specs.Histories.{OverwritesKeys, StoresMetadata}
 use Rattle.command_rows.specs.SetKey.{IsUsed, NeedsSlot, OpensSlot, SetkeyAttachedRow, SetkeyIdleRow, SetkeyRow, StoresKey}
 use Rattle.command_rows.specs.Steps.{Admits, Decides, LoadsComponents, ReadsLastSector, Then, without_value}
 use Rattle.command_rows.specs.World.{Reach}
+use Rattle.command_rows.specs.verbs.Delkey.{OverwritesKeys}
+use Rattle.command_rows.specs.verbs.Setkey.{StoresMetadata}
 use Rattle.command_rows.proofs.Events.{Did, Quiet, Step, did_then, nothing_done, quiet_loading, quiet_reading, same_disk}
 use Rattle.command_rows.proofs.Gate.{by_attachment}
 

@@ -7,7 +7,7 @@ use Rattle.eli_base.specs.declared.refusals.Refusal.{Refusal}
 use Rattle.eli_base.specs.declared.refusals.Refusal.TheVariants as refusals
 use Rattle.command_rows.specs.Answer as answers
 use Rattle.command_rows.specs.Causes.{Caused, CausedAt, HasCause}
-use Rattle.command_rows.specs.Turn.{ChangesAt, GoesThrough, ListsAs, Serves, Turn, digest_or, done_or, dump_or, left_or, payload_or, reach, verified_or, reaped_or, tag_or}
+use Rattle.command_rows.specs.Turn.{ChangesAt, GoesThrough, ListsAs, Serves, Turn, reach}
 use Rattle.command_rows.specs.World.{DrawerState, Reach, World}
 use Rattle.command_rows.proofs.Causing.{Why, detach_why, flush_why, gate_why, read_why, write_why}
 use Rattle.command_rows.proofs.KeyCauses.{delkey_why, setkey_why}
@@ -22,6 +22,7 @@ use Rattle.command_rows.proofs.Gate.{by_gate, with_attached, with_suspended}
 use Rattle.command_rows.proofs.Turns.{by_turn}
 use Rattle.command_rows.proofs.Replies.{Replying, digest_replying, done_replying, dump_replying, left_replying, payload_replying, reaped_replying, refused_by_row, verified_replying, tag_replying}
 use Rattle.command_rows.specs.Answer.{Answer}
+use Rattle.command_rows.specs.Replies.{digest_or, done_or, dump_or, left_or, payload_or, reaped_or, tag_or, verified_or}
 
 -- ---- the lines
 

@@ -11,9 +11,13 @@ use Rattle.eli_base.specs.declared.refusals.Refusal.{Refusal}
 use Rattle.command_rows.specs.Answer.{Answer}
 use Rattle.command_rows.specs.Answer as answers
 use Rattle.command_rows.specs.Digits.{bytes_spelled}
-use Rattle.command_rows.specs.Histories.{AreRowEvents, DoesNext, EventsBy, WritesData, WritesWorkload, stores_last}
-use Rattle.command_rows.specs.Turn.{GoesThrough, IsRefused, Serves, digest_or, done_or, dump_or, left_or, payload_or, verified_or, reaped_or, tag_or}
+use Rattle.command_rows.specs.Histories.{AreRowEvents, EventsBy, stores_last}
+use Rattle.command_rows.specs.Turn.{GoesThrough, IsRefused, Serves}
 use Rattle.command_rows.specs.World.{Holding, IsAttached, Reach}
+use Rattle.command_rows.specs.verbs.Step.{DoesNext}
+use Rattle.command_rows.specs.verbs.Write.{WritesData}
+use Rattle.command_rows.specs.verbs.Fill.{WritesWorkload}
+use Rattle.command_rows.specs.Replies.{digest_or, done_or, dump_or, left_or, payload_or, reaped_or, tag_or, verified_or}
 use Rattle.command_rows.proofs.Events.{Did, ResultEvents, detaches_did, flushes_did, init_did, nothing_done, quiet_attach_row, quiet_did, quiet_read_row, quiet_reading, same_disk, writes_did}
 use Rattle.command_rows.proofs.KeyEvents.{delkey_did, setkey_did}
 use Rattle.command_rows.proofs.PlaceEvents.{kill_did, quiet_backup_row, resize_did, restore_did}

@@ -16,7 +16,7 @@ use Rattle.key_components.specs.Files.{file_limit}
 use Rattle.resize_kill.specs.Killing.{Kills}
 use Rattle.resize_kill.specs.Resizing.{RefusesOld, RefusesSizes, Resizes, old_refusal, size_refusal}
 use Rattle.command_rows.specs.Causes.{HasCause}
-use Rattle.command_rows.specs.Grounds.{HoldsNone, IsGround, LacksMetadata, RefusesFile}
+use Rattle.command_rows.specs.Grounds.{IsGround}
 use Rattle.command_rows.specs.Killing.{DestroysMetadata, KillRow, Withdraws}
 use Rattle.command_rows.specs.Requests.{handed_out}
 use Rattle.command_rows.specs.Resizing.{ResizeRow}
@@ -24,6 +24,7 @@ use Rattle.command_rows.specs.Restoring.{RestoreRow, WritesBack}
 use Rattle.command_rows.specs.Saving.{BackupRow, FindsLastSector}
 use Rattle.command_rows.specs.Steps.{Decides, LoadsFile, StoresBytes, Then}
 use Rattle.command_rows.specs.World.{Reach}
+use Rattle.command_rows.specs.Findings.{HoldsNone, LacksMetadata, RefusesFile}
 use Rattle.command_rows.proofs.Causing.{Why, then_since, then_why}
 use Rattle.command_rows.proofs.Grounding.{Grounds, Since, loading_bytes, plain_cause, since_cabinet, storing_why, told_sym}
 use Rattle.command_rows.proofs.Plain.{meta_plain, old_plain, plain_err, plain_some, restored_plain, sizes_plain}

@@ -17,13 +17,15 @@ use Rattle.key_components.specs.Files.{file_limit}
 use Rattle.resize_kill.specs.Killing.{Kills, kill_events}
 use Rattle.resize_kill.specs.Resizing.{RefusesOld, RefusesSizes, Resizes, grown, move_events, old_place}
 use Rattle.resize_kill.specs.Trash.{trash_sectors}
-use Rattle.command_rows.specs.Histories.{MovesLast, OverwritesLast, WritesMetadata}
 use Rattle.command_rows.specs.Killing.{DestroysMetadata, KillRow, Withdraws}
 use Rattle.command_rows.specs.Resizing.{MovesMetadata, ResizeRow}
 use Rattle.command_rows.specs.Restoring.{RestoreRow, WritesBack}
 use Rattle.command_rows.specs.Saving.{BackupRow, FindsLastSector}
 use Rattle.command_rows.specs.Steps.{Decides, GoesOn, LoadsFile, StoresBytes, Then}
 use Rattle.command_rows.specs.World.{Reach}
+use Rattle.command_rows.specs.verbs.Resize.{MovesLast}
+use Rattle.command_rows.specs.verbs.Kill.{OverwritesLast}
+use Rattle.command_rows.specs.Findings.{WritesMetadata}
 use Rattle.command_rows.proofs.Events.{Did, Quiet, nothing_done, quiet_failure, quiet_then, same_disk}
 use Rattle.command_rows.proofs.KeyEvents.{DoesFrom, after_quiet}
 

@@ -17,12 +17,14 @@ use Rattle.key_commands.specs.declared.options.InitOptions.{InitOptions}
 use Rattle.user_key.specs.Derivation.{user_key}
 use Rattle.user_key.specs.declared.components.Components.{Components}
 use Rattle.command_rows.specs.Causes.{may_lack_memory}
-use Rattle.command_rows.specs.Grounds.{AreComponents, LacksMetadata, RefusesAttach, RefusesFiles, RefusesNew, RefusesTrial}
 use Rattle.command_rows.specs.NewProvider.{InitRow}
 use Rattle.command_rows.specs.Steps.{Admits, Attaches, BacksUp, LoadsComponents, MakesProvider, ReadsLastSector, Then, TriesKey, admitted, tried}
 use Rattle.command_rows.specs.Trying.{TryRow}
-use Rattle.command_rows.specs.Turn.{AttachRow, AttachesUnless, DumpRow}
 use Rattle.command_rows.specs.World.{Attachment, Reach}
+use Rattle.command_rows.specs.Findings.{AreComponents, LacksMetadata, RefusesFiles}
+use Rattle.command_rows.specs.verbs.Attach.{AttachRow, AttachesUnless, RefusesAttach, RefusesTrial}
+use Rattle.command_rows.specs.verbs.Init.{RefusesNew}
+use Rattle.command_rows.specs.verbs.Dump.{DumpRow}
 use Rattle.command_rows.proofs.Causing.{Why, then_since, then_why}
 use Rattle.command_rows.proofs.Grounding.{BadFiles, Grounds, Since, decides_why, loading_parts, loading_since, loading_why, plain_cause, reading_has, reading_since, reading_why, since_here, since_same, storing_why}
 use Rattle.command_rows.proofs.Plain.{early_plain, or_plain, plain_some, tried_plain}

@@ -23,7 +23,9 @@ use Rattle.command_words.specs.declared.spans.Span.{Span}
 use Rattle.eli_base.specs.declared.refusals.Refusal.{Refusal}
 use Rattle.eli_base.specs.declared.refusals.Refusal.TheVariants as refusals
 use Rattle.provider.specs.Attached.{media}
-use Rattle.command_rows.specs.Causes.{FindsInQueue, JobAsksSectors}
+use Rattle.command_rows.specs.verbs.Submit.{job_sectors}
+use Rattle.command_rows.specs.Asks.{AsksSectorsFrom, AsksToOpen}
+use Rattle.command_rows.specs.Causes.{FindsInQueue}
 use Rattle.command_rows.specs.Gate.{job_writes}
 use Rattle.command_rows.specs.Digits.{bytes_spelled}
 use Rattle.command_rows.specs.Queueing.{HasRequest, NeedsRequest, ReapRow, ReapsRequest, StepRow, StepsRequest, SubmitRow, Submits, reap_answer, step_refusal, submit_refusal}
@@ -42,7 +44,7 @@ passed jobs.Flush end first many there h = absurd h
 -- the job is that of the words
 record IsWorded (line : List ℕ) (asked : JobWords) (a : Attachment) (job : Job) : Type 0 where
   writes : IsWrite job → job_writes asked ≡ true
-  sectors : (end first many there : ℕ) → PassesEnd end job first many there → JobAsksSectors line asked first many a
+  sectors : (end first many there : ℕ) → PassesEnd end job first many there → AsksSectorsFrom (AsksToOpen (job_sectors line asked)) first many a
 
 tag_why : (line : List ℕ) (prov : Span) (asked : JobWords) (a : Attachment) (job : Job) (from : List ℕ) (queue : List Request) (old : Reach) (tag : Result ℕ SubmitFault) (new : Reach) → old.holding ≡ IsAttached a → IsWorded line asked a job
     → SubmitAnswers a.keying a.readonly old.disk job from a.queue queue tag → Why line (commands.Submit prov asked) old (or_refusal submit_refusal tag) new
@@ -87,7 +89,7 @@ submit_why line prov words.Flush a old answer new is h =
 
 -- there is no such request
 needs_why : (line : List ℕ) (command : Command) (a : Attachment) (tag : ℕ) (old : Reach) (given : Result (Unit {0}) Refusal) (middle : Reach) → old.holding ≡ IsAttached a
-    → ((¬ HasRequest a tag old.disk) → FindsInQueue command old.disk (refusals.NoRequest tag) a) → NeedsRequest a tag old given middle → Why line command old given middle
+    → ((¬ HasRequest a tag old.disk) → FindsInQueue line command old.disk (refusals.NoRequest tag) a) → NeedsRequest a tag old given middle → Why line command old given middle
 needs_why line command a tag old (Ok done) middle is lacks h = tt
 needs_why line command a tag old (Err (refusals.NoRequest named)) middle is lacks h = rw (h.0, is) (lacks h.1)
 needs_why line command a tag old (Err refusal) middle is lacks h = absurd h

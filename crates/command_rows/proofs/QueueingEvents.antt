@@ -13,10 +13,10 @@ use Rattle.command_words.specs.declared.commands.JobWords.TheVariants as words
 use Rattle.eli_base.specs.declared.refusals.Refusal.{Refusal}
 use Rattle.eli_base.specs.declared.refusals.Refusal.TheVariants as refusals
 use Rattle.command_rows.specs.Digits.{bytes_spelled}
-use Rattle.command_rows.specs.Histories.{DoesNext}
 use Rattle.command_rows.specs.Queueing.{NeedsRequest, ReapRow, StepRow, StepsRequest, SubmitRow, Submits, next_events, step_refusal}
 use Rattle.command_rows.specs.Steps.{NeedsWhole, or_refusal}
 use Rattle.command_rows.specs.World.{Attachment, IsAttached, Reach}
+use Rattle.command_rows.specs.verbs.Step.{DoesNext}
 use Rattle.command_rows.proofs.Events.{Did, Quiet, did_then, nothing_done, quiet_then, same_disk}
 
 -- ---- `submit`

@@ -5,19 +5,19 @@ use Rattle.bio_queue.specs.Owners.{IsOf}
 use Rattle.bio_queue.specs.Requests.{Request, left_of, request_with}
 use Rattle.bio_queue.specs.Answers.{HasBadUnit, IsAllDone, IsNotDone}
 use Rattle.block_traits.specs.Disk.{DiskState}
-use Rattle.command_words.specs.declared.commands.Command.TheVariants as commands
 use Rattle.command_words.specs.declared.commands.JobWords.{JobWords}
 use Rattle.command_words.specs.declared.commands.JobWords.TheVariants as words
-use Rattle.command_words.specs.declared.spans.Span.{Span}
 use Rattle.eli_base.specs.declared.refusals.Refusal.{Refusal}
 use Rattle.eli_base.specs.declared.refusals.Refusal.TheVariants as refusals
 use Rattle.provider.specs.Attached.{media}
-use Rattle.command_rows.specs.Causes.{FindsInQueue, HasReadFault, JobAsksBytes, JobAsksSectors}
 use Rattle.command_rows.specs.Gate.{job_writes}
-use Rattle.command_rows.specs.Fits.{FitsBytes, FitsJob, FitsReap, FitsStep}
 use Rattle.command_rows.specs.Queueing.{HasRequest}
 use Rattle.command_rows.specs.Steps.{whole_sectors}
 use Rattle.command_rows.specs.World.{Attachment}
+use Rattle.command_rows.specs.Asks.{AsksBytesAtOnce, AsksSectorsFrom, AsksToOpen, AsksToReap, AsksToStep, HasReadFault, QueueRefuses}
+use Rattle.command_rows.specs.verbs.Submit.{FitsBytes, FitsJob, job_sectors}
+use Rattle.command_rows.specs.verbs.Reap.{FitsReap}
+use Rattle.command_rows.specs.verbs.Step.{FitsStep}
 
 -- ---- `submit`
 
@@ -34,7 +34,7 @@ bytes_within sector bytes disk a f first many there first_is whole there_is over
     let same : many ≡ f.sectors = cc (whole, f.whole) in
     within_end sector f.sectors first many there (media a.keying disk) first_is same there_is over f.within
 
-pub job_within : (line : List ℕ) (asked : JobWords) (disk : DiskState) (a : Attachment) → FitsJob line asked disk a → (first many there : ℕ) → JobAsksSectors line asked first many a → there ≡ media a.keying disk → there < first + many → ⊥
+pub job_within : (line : List ℕ) (asked : JobWords) (disk : DiskState) (a : Attachment) → FitsJob line asked disk a → (first many there : ℕ) → AsksSectorsFrom (AsksToOpen (job_sectors line asked)) first many a → there ≡ media a.keying disk → there < first + many → ⊥
 job_within line (words.Read sector count) disk a f first many there asks is over = bytes_within sector _ disk a f first many there asks.0 asks.1 is over
 job_within line (words.Write sector hex) disk a f first many there asks is over = bytes_within sector _ disk a f.1 first many there asks.0 asks.1 is over
 job_within line words.Flush disk a f first many there asks is over = absurd asks
@@ -45,14 +45,14 @@ bytes_whole sector bytes disk a f given refusal is bad =
     let none : ⊥ = cc (same, f.whole) in
     none
 
-pub job_whole : (line : List ℕ) (asked : JobWords) (disk : DiskState) (a : Attachment) → FitsJob line asked disk a → (given : ℕ) (refusal : Refusal) → JobAsksBytes line asked given a → whole_sectors a.keying.sectorsize given ≡ Err refusal → ⊥
+pub job_whole : (line : List ℕ) (asked : JobWords) (disk : DiskState) (a : Attachment) → FitsJob line asked disk a → (given : ℕ) (refusal : Refusal) → AsksBytesAtOnce (AsksToOpen (job_sectors line asked)) given a → whole_sectors a.keying.sectorsize given ≡ Err refusal → ⊥
 job_whole line (words.Read sector count) disk a f given refusal asks bad = bytes_whole sector _ disk a f given refusal asks bad
 job_whole line (words.Write sector hex) disk a f given refusal asks bad = bytes_whole sector _ disk a f.1 given refusal asks bad
 job_whole line words.Flush disk a f given refusal asks bad = absurd asks
 
-pub room_left : (prov : Span) (asked : JobWords) (disk : DiskState) (refusal : Refusal) (a : Attachment) → length a.queue < 32 → FindsInQueue (commands.Submit prov asked) disk refusal a → ⊥
-room_left prov asked disk refusals.QueueFull a room h = omega arith
-room_left prov asked disk refusal a room h = absurd h
+pub room_left : (line : List ℕ) (asked : JobWords) (disk : DiskState) (refusal : Refusal) (a : Attachment) → length a.queue < 32 → QueueRefuses (AsksToOpen (job_sectors line asked)) disk refusal a → ⊥
+room_left line asked disk refusals.QueueFull a room h = omega arith
+room_left line asked disk refusal a room h = absurd h
 
 -- ---- `step` and `reap`
 
@@ -79,15 +79,15 @@ some_left a tag named left r same found none h =
     let some : 1 ≤ left = h.some in
     omega arith
 
-pub step_found : (prov : Span) (tag : ℕ) (disk : DiskState) (refusal : Refusal) (a : Attachment) → FitsStep tag disk a → FindsInQueue (commands.Step prov tag) disk refusal a → ⊥
-step_found prov tag disk (refusals.NoRequest named) a f h = is_served a named tag disk f.request h.0 f.found f.is_of h.1
-step_found prov tag disk (refusals.RequestDone named) a f h = none_left a named tag f.request h.0 f.found f.more h.1
-step_found prov tag disk refusal a f h = absurd h
+pub step_found : (tag : ℕ) (disk : DiskState) (refusal : Refusal) (a : Attachment) → FitsStep tag disk a → QueueRefuses (AsksToStep tag) disk refusal a → ⊥
+step_found tag disk (refusals.NoRequest named) a f h = is_served a named tag disk f.request h.0 f.found f.is_of h.1
+step_found tag disk (refusals.RequestDone named) a f h = none_left a named tag f.request h.0 f.found f.more h.1
+step_found tag disk refusal a f h = absurd h
 
-pub reap_found : (prov : Span) (tag : ℕ) (disk : DiskState) (refusal : Refusal) (a : Attachment) → FitsReap tag disk a → FindsInQueue (commands.Reap prov tag) disk refusal a → ⊥
-reap_found prov tag disk (refusals.NoRequest named) a f h = is_served a named tag disk f.request h.0 f.found f.is_of h.1
-reap_found prov tag disk (refusals.RequestNotDone named left) a f h = some_left a named tag left f.request h.0 f.found f.none h.1
-reap_found prov tag disk refusal a f h = absurd h
+pub reap_found : (tag : ℕ) (disk : DiskState) (refusal : Refusal) (a : Attachment) → FitsReap tag disk a → QueueRefuses (AsksToReap tag) disk refusal a → ⊥
+reap_found tag disk (refusals.NoRequest named) a f h = is_served a named tag disk f.request h.0 f.found f.is_of h.1
+reap_found tag disk (refusals.RequestNotDone named left) a f h = some_left a named tag left f.request h.0 f.found f.none h.1
+reap_found tag disk refusal a f h = absurd h
 
 pub reap_right : (tag : ℕ) (disk : DiskState) (offset : ℕ) (a : Attachment) → FitsReap tag disk a → HasReadFault tag offset a → ⊥
 reap_right tag disk offset a f h =

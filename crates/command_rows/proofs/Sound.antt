@@ -36,7 +36,7 @@ use Rattle.command_rows.specs.Saving.{BackupRow, FindsLastSector}
 use Rattle.command_rows.specs.SetKey.{IsUsed, NeedsSlot, OpensSlot, SetkeyAttachedRow, SetkeyIdleRow, SetkeyRow, StoresKey, if_there, opened_by, usable}
 use Rattle.command_rows.specs.Steps.{Admits, Attaches, BacksUp, Decides, Detaches, Does, GoesOn, LoadsComponents, LoadsFile, MakesProvider, NeedsSectors, NeedsWhole, NeedsWritable, ReadsLastSector, ReadsSectors, StoresBytes, Then, TriesKey, admitted, if_writable, in_range, tried, whole_sectors}
 use Rattle.command_rows.specs.Trying.{TryRow}
-use Rattle.command_rows.specs.Turn.{AttachRow, AttachesUnless, ChangesAt, DetachRow, DumpRow, FlushRow, GoesThrough, IsRefused, ListsAs, ReadRow, Replies, Serves, Turn, WriteRow, digest_or, done_or, dump_or, left_or, payload_or, reach, verified_or, reaped_or, tag_or}
+use Rattle.command_rows.specs.Turn.{ChangesAt, GoesThrough, IsRefused, ListsAs, Serves, Turn, reach}
 use Rattle.command_rows.specs.Verifying.{FindsPlace, LoadsPlace, NeedsPlace, NeedsTags, Sweeps, SweepsFrom, VerifyRow, if_inside, if_tagged, place_in}
 use Rattle.command_rows.specs.Queueing.{NeedsNoRequests, if_none_open}
 use Rattle.command_rows.specs.Suspending.{AttachesAgain, NeedsSameKey, ResumeRow, SuspendRow, Suspends, same_key}
@@ -50,8 +50,15 @@ use Rattle.std.specs.Prelude.{unwrap_or, ℤ}
 use Rattle.eli_metadata.specs.Checks.{Settings}
 use Rattle.range_keys.specs.Ring.{IsKeying}
 use Rattle.command_rows.specs.Steps.{Admits, BacksUp, Decides, GoesOn, LoadsComponents, MakesProvider, NeedsSectors, NeedsWhole, NeedsWritable, ReadsLastSector, ReadsSectors, Then}
-use Rattle.command_rows.specs.Turn.{AttachRow, AttachesUnless, ChangesAt, DetachRow, FlushRow, GoesThrough, ReadRow, Serves, WriteRow, reach}
+use Rattle.command_rows.specs.Turn.{ChangesAt, GoesThrough, Serves, reach}
 use Rattle.command_rows.specs.World.{Attachment, DrawerState, Holding, HoldsKeying, Idle, IsAttached, Kept, Reach, World}
+use Rattle.command_rows.specs.verbs.Attach.{AttachRow, AttachesUnless}
+use Rattle.command_rows.specs.verbs.Detach.{DetachRow}
+use Rattle.command_rows.specs.verbs.Dump.{DumpRow}
+use Rattle.command_rows.specs.verbs.Flush.{FlushRow}
+use Rattle.command_rows.specs.verbs.Read.{ReadRow}
+use Rattle.command_rows.specs.Replies.{Replies, digest_or, done_or, dump_or, left_or, payload_or, reaped_or, tag_or, verified_or}
+use Rattle.command_rows.specs.verbs.Write.{WriteRow}
 use Rattle.command_rows.proofs.Gate.{by_attachment, by_gate, with_attached, with_suspended}
 use Rattle.command_rows.proofs.Counting.{Counts, CountsResult, Later, Uncounted, UncountedAnswer, attaching_counts, backing_counts, by_plain, components_counts, decision_counts, deleting_counts, detaching_counts, does_counts, file_counts, finding_counts, killing_counts, making_counts, moving_counts, range_uncounted, reading_counts, sectors_counts, setting_counts, storing_counts, suspending_counts, then_counts, uncounted_step, unless_counts, whole_uncounted, withdrawing_counts, writable_uncounted, writing_counts}
 use Rattle.command_rows.proofs.Keyed.{GivesAttachment, attachment_keyed, try_gives}

@@ -8,8 +8,9 @@ use Rattle.eli_base.specs.declared.refusals.Refusal.{Refusal}
 use Rattle.command_rows.specs.Answer.{Answer}
 use Rattle.command_rows.specs.Answer as answers
 use Rattle.command_rows.specs.Stops.{ChangesMetadata, ChangesOrStays, LeavesOldOrNew, LeavesPlace, LeavesUnless}
-use Rattle.command_rows.specs.Turn.{ChangesAt, GoesThrough, IsRefused, Serves, Turn, done_or, reach, takes_out}
+use Rattle.command_rows.specs.Turn.{ChangesAt, GoesThrough, IsRefused, Serves, Turn, reach, takes_out}
 use Rattle.command_rows.specs.World.{Reach, World}
+use Rattle.command_rows.specs.Replies.{done_or}
 use Rattle.command_rows.proofs.Stopping.{Left, delkey_left, init_left, kill_left, resize_left, restore_left, setkey_left}
 use Rattle.command_rows.proofs.Untouched.{get-set}
 use Rattle.command_rows.proofs.Gate.{by_gate}

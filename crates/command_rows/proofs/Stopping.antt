@@ -36,15 +36,20 @@ use Rattle.resize_kill.specs.Resizing.{HoldsOneOf, KeepsOneOf, RefusesOld, Refus
 use Rattle.resize_kill.proofs.Destroyed.{gone-FailsIn, gone-Logs}
 use Rattle.resize_kill.proofs.Moved.{KeepsAlone-Moves, KeepsOneOf-Moves, KeepsOneOf-MovesPart}
 use Rattle.command_rows.specs.DeleteKeys.{DeletesRow, DelkeyRow, NamesSlots, TakesKeysOut, named_slots, slot_of}
-use Rattle.command_rows.specs.Grounds.{AreComponents, HasMetadata, IsFile}
 use Rattle.command_rows.specs.Killing.{KillRow, Withdraws}
 use Rattle.command_rows.specs.NewProvider.{InitRow}
 use Rattle.command_rows.specs.Resizing.{ResizeRow}
 use Rattle.command_rows.specs.Restoring.{RestoreRow}
 use Rattle.command_rows.specs.SetKey.{IsUsed, NeedsSlot, OpensSlot, SetkeyAttachedRow, SetkeyIdleRow, SetkeyRow, opened_by, or_wrong}
 use Rattle.command_rows.specs.Steps.{Admits, BacksUp, Decides, GoesOn, LoadsComponents, LoadsFile, ReadsLastSector, Then, without_value}
-use Rattle.command_rows.specs.Stops.{ClearsKeys, Destroys, MovesToEnd, PutsBack, PutsKey, PutsNew, WrapsKey, WrapsOpened}
 use Rattle.command_rows.specs.World.{Holding, Reach, attachment_in}
+use Rattle.command_rows.specs.Findings.{AreComponents, HasMetadata, IsFile}
+use Rattle.command_rows.specs.verbs.Delkey.{ClearsKeys}
+use Rattle.command_rows.specs.verbs.Kill.{Destroys}
+use Rattle.command_rows.specs.verbs.Resize.{MovesToEnd}
+use Rattle.command_rows.specs.verbs.Restore.{PutsBack}
+use Rattle.command_rows.specs.verbs.Setkey.{PutsKey, WrapsKey, WrapsOpened}
+use Rattle.command_rows.specs.verbs.Init.{PutsNew}
 use Rattle.command_rows.proofs.Events.{Step, quiet_failure, quiet_loading, quiet_reading, same_disk}
 use Rattle.command_rows.proofs.Grounding.{loading_bytes, loading_parts, reading_has}
 use Rattle.user_key.specs.Derivation.{user_key}

@@ -42,10 +42,14 @@ use Rattle.command_rows.specs.Steps.{Admits, Attaches, BacksUp, Decides, Detache
 use Rattle.command_rows.specs.Storing.{StoresAt, StoresItsFile, StoresNone, StoresOne, stored_file}
 use Rattle.command_rows.specs.Suspending.{NeedsSameKey, ResumeRow, SuspendRow, Suspends, same_key}
 use Rattle.command_rows.specs.Trying.{TryRow}
-use Rattle.command_rows.specs.Turn.{AttachRow, AttachesUnless, GoesThrough, ReadRow, Replies, Serves, Turn, WriteRow, reach}
+use Rattle.command_rows.specs.Turn.{GoesThrough, Serves, Turn, reach}
 use Rattle.command_rows.specs.Verifying.{FindsPlace, LoadsPlace, NeedsPlace, NeedsTags, Sweeps, SweepsFrom, VerifyRow, if_inside, if_tagged, place_in}
 use Rattle.command_rows.specs.Workloads.{FillRow, SumRow}
 use Rattle.command_rows.specs.World.{Attachment, Kept, Reach, World}
+use Rattle.command_rows.specs.verbs.Attach.{AttachRow, AttachesUnless}
+use Rattle.command_rows.specs.verbs.Read.{ReadRow}
+use Rattle.command_rows.specs.Replies.{Replies}
+use Rattle.command_rows.specs.verbs.Write.{WriteRow}
 use Rattle.command_rows.proofs.Causing.{Step}
 use Rattle.command_rows.proofs.Gate.{by_attachment, by_gate, with_attached, with_suspended}
 use Rattle.command_rows.proofs.Turns.{by_each_turn}

@@ -9,12 +9,15 @@ use Rattle.command_words.specs.declared.spans.Span.{Span}
 use Rattle.eli_base.specs.declared.refusals.Refusal.{Refusal}
 use Rattle.eli_metadata.specs.declared.metadata.Metadata.{Metadata}
 use Rattle.user_key.specs.declared.components.Components.{Components}
-use Rattle.command_rows.specs.Grounds.{HasGround, LacksMetadata, OpensWith, RefusesAttach, RefusesResume}
+use Rattle.command_rows.specs.Grounds.{HasGround}
 use Rattle.command_rows.specs.Steps.{Attaches, GoesOn, LoadsComponents, ReadsLastSector, admitted}
 use Rattle.command_rows.specs.Queueing.{NeedsNoRequests, if_none_open}
 use Rattle.command_rows.specs.Suspending.{AttachesAgain, NeedsSameKey, ResumeRow, SuspendRow, Suspends, same_key}
 use Rattle.command_rows.specs.Trying.{TryRow}
 use Rattle.command_rows.specs.World.{Attachment, IsAttached, IsSuspended, Kept, Reach}
+use Rattle.command_rows.specs.Findings.{LacksMetadata}
+use Rattle.command_rows.specs.verbs.Attach.{OpensWith, RefusesAttach}
+use Rattle.command_rows.specs.verbs.Resume.{RefusesResume}
 use Rattle.command_rows.proofs.Causing.{Step, Why, events_why, then_since, then_why}
 use Rattle.command_rows.proofs.Gate.{suspended}
 use Rattle.command_rows.proofs.Grounding.{decides_why, loading_parts, reading_has, reading_since, since_same}

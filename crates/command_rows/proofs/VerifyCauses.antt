@@ -11,10 +11,10 @@ use Rattle.provider.specs.Attached.{has_tags, media}
 use Rattle.range_keys.specs.Keys.{le64}
 use Rattle.verify_sweep.specs.Sweeping.{Sweep}
 use Rattle.command_rows.specs.Causes.{HasCause, may_lack_memory, needs_tags}
-use Rattle.command_rows.specs.Grounds.{RefusesPlace}
 use Rattle.command_rows.specs.Steps.{Decides, LoadsFile, StoresBytes, Then}
 use Rattle.command_rows.specs.Verifying.{FindsPlace, LoadsPlace, NeedsPlace, NeedsTags, PartAnswer, StoresPlace, Sweeps, SweepsFrom, SweptPart, VerifyRow, if_inside, if_tagged, place_in, place_size, unless_absent}
 use Rattle.command_rows.specs.World.{Attachment, IsAttached, Reach}
+use Rattle.command_rows.specs.verbs.Verify.{RefusesPlace}
 use Rattle.command_rows.proofs.Causing.{Why, then_since, then_why}
 use Rattle.command_rows.proofs.Gate.{attached}
 use Rattle.command_rows.proofs.Grounding.{decides_why, loading_bytes, storing_why}
@@ -73,12 +73,12 @@ place_why line prov file count false a old answer new is h =
     (λ found middle first next. decides_why line command old (place_in file.word found) middle answer new (place_plain file.word found)
     (λ refusal bad. attached old.holding ⊥ (RefusesPlace line file false old.disk old.cabinet.files refusal) a is (short_file line file a old found middle refusal first bad)) next) h
 
-inside_by : (place there : ℕ) (inside : Bool) → PlainAnswer {A = Unit {0}} (cond inside (Ok tt) (Err (refusals.BadPlace place there)))
-inside_by place there true = tt
-inside_by place there false = tt
+inside_found : (place there : ℕ) (inside : Bool) → PlainAnswer {A = Unit {0}} (cond inside (Ok tt) (Err (refusals.BadPlace place there)))
+inside_found place there true = tt
+inside_found place there false = tt
 
 pub inside_plain : (place there : ℕ) → PlainAnswer (if_inside place there)
-inside_plain place there = inside_by place there _
+inside_plain place there = inside_found place there _
 
 -- a place that isn't there was said by the file
 far_place : (line : List ℕ) (file : Span) (restart : Bool) (a : Attachment) (start : Reach) (disk : DiskState) (place : ℕ) (refusal : Refusal) → disk ≡ start.disk → (place ≡ 0) ⊎ OfFile restart line file start.cabinet.files place

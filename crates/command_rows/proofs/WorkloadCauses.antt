@@ -17,7 +17,7 @@ fill_why line prov seed start count a old answer new is h =
 
 reads_why : (line : List ℕ) (prov : Span) (start count : ℕ) (a : Attachment) (old : Reach) (answer : Result (List ℕ) Refusal) (new : Reach) → old.holding ≡ IsAttached a → ReadsSectors a start count old answer new → Why line (commands.Sum prov start count) old answer new
 reads_why line prov start count a old (Ok bytes) new is h = tt
-reads_why line prov start count a old (Err (refusals.Integrity offset)) new is h = rw is h.reads.reads
+reads_why line prov start count a old (Err (refusals.Integrity offset)) new is h = rw is (record { first = start; many = count; are = (refl, refl); reads = h.reads.reads })
 reads_why line prov start count a old (Err refusals.DeviceFault) new is h = h.reads.fails.rose
 reads_why line prov start count a old (Err refusal) new is h = absurd h.reads
 

@@ -1,10 +1,10 @@
 -- The events of `fill` and `sum`.
 use Rattle.std.proofs.Common.{ℕ, ap, false, Result}
 use Rattle.eli_base.specs.declared.refusals.Refusal.{Refusal}
-use Rattle.command_rows.specs.Histories.{WritesWorkload}
 use Rattle.command_rows.specs.Steps.{NeedsSectors, ReadsSectors}
 use Rattle.command_rows.specs.Workloads.{FillRow, SumRow, words_of, workload}
 use Rattle.command_rows.specs.World.{Attachment, IsAttached, Reach}
+use Rattle.command_rows.specs.verbs.Fill.{WritesWorkload}
 use Rattle.command_rows.proofs.Events.{Did, Quiet, quiet_sectors, quiet_then, same_disk, writable_did}
 
 pub fill_did : (seed start count : ℕ) (a : Attachment) (old : Reach) (answer : Result (Unit {0}) Refusal) (new : Reach) → FillRow seed start count a old answer new

@@ -1,9 +1,11 @@
 pub mod Answer
+pub mod Asks
 pub mod Becoming
 pub mod Causes
 pub mod Counts
 pub mod DeleteKeys
 pub mod Digits
+pub mod Findings
 pub mod Fits
 pub mod Gate
 pub mod Grounds
@@ -12,6 +14,7 @@ pub mod Killing
 pub mod NewProvider
 pub mod Opening
 pub mod Queueing
+pub mod Replies
 pub mod Requests
 pub mod Resizing
 pub mod Restoring
@@ -23,6 +26,8 @@ pub mod Storing
 pub mod Suspending
 pub mod Trying
 pub mod Turn
+pub mod Verb
 pub mod Verifying
 pub mod Workloads
 pub mod World
+pub mod verbs

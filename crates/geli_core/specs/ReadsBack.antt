@@ -15,8 +15,8 @@ use Rattle.readings.specs.Writes.{data_steps}
 use Rattle.command_rows.specs.Answer.{Answer}
 use Rattle.command_rows.specs.Answer as answers
 use Rattle.command_rows.specs.World.{Attachment, DrawerState, IsAttached, World, place_of}
-use Rattle.geli_core.specs.Kinds.{Kind}
-use Rattle.geli_core.specs.Kinds as kinds
+use Rattle.command_rows.specs.Verb.{Kind}
+use Rattle.command_rows.specs.Verb as kinds
 use Rattle.geli_core.specs.Placing.{DrawerPlays}
 use Rattle.geli_core.specs.Survivors.{SurvivesBy}
 use Rattle.geli_core.specs.Trace.{ServedLine}
@@ -62,16 +62,16 @@ IsDoneAsAsked tag k c m = IfSome (task_with tag m.tasks) (λ t. IsAmongSteps m.s
 -- the first that they say. A `reap` of a read is answered by the bytes of the writings that stood in its device sectors at its own steps, or by the first fault that
 -- they say; and when a write is reaped, each of its units was done.
 abbrev pub LineReads : Sep → World → List ServedLine → World → Kind → List ℕ → Option Answer → Type 0
-LineReads sep entry served start (kinds.Reads prov sector count) line (Some (answers.Payload bytes)) =
+LineReads sep entry served start (kinds.OfRead prov sector count) line (Some (answers.Payload bytes)) =
     StandsSo sep entry served start line prov (λ k c m. data_read k sector count (cell c m.steps) ≡ Ok bytes)
-LineReads sep entry served start (kinds.Reads prov sector count) line (Some (answers.Refused (refusals.Integrity offset))) =
+LineReads sep entry served start (kinds.OfRead prov sector count) line (Some (answers.Refused (refusals.Integrity offset))) =
     StandsSo sep entry served start line prov (λ k c m. data_read k sector count (cell c m.steps) ≡ Err offset)
-LineReads sep entry served start (kinds.Sums prov sector count) line (Some (answers.Digest digest)) =
+LineReads sep entry served start (kinds.OfSum prov sector count) line (Some (answers.Digest digest)) =
     StandsSo sep entry served start line prov (λ k c m. IsDigestOf (data_read k sector count (cell c m.steps)) digest)
-LineReads sep entry served start (kinds.Sums prov sector count) line (Some (answers.Refused (refusals.Integrity offset))) =
+LineReads sep entry served start (kinds.OfSum prov sector count) line (Some (answers.Refused (refusals.Integrity offset))) =
     StandsSo sep entry served start line prov (λ k c m. data_read k sector count (cell c m.steps) ≡ Err offset)
-LineReads sep entry served start (kinds.Reaps prov tag) line (Some (answers.Payload bytes)) = StandsSo sep entry served start line prov (ReadsAsAsked tag (Ok bytes))
-LineReads sep entry served start (kinds.Reaps prov tag) line (Some answers.Done) = StandsSo sep entry served start line prov (IsDoneAsAsked tag)
-LineReads sep entry served start (kinds.Reaps prov tag) line (Some (answers.Refused (refusals.Integrity offset))) =
+LineReads sep entry served start (kinds.OfReap prov tag) line (Some (answers.Payload bytes)) = StandsSo sep entry served start line prov (ReadsAsAsked tag (Ok bytes))
+LineReads sep entry served start (kinds.OfReap prov tag) line (Some answers.Done) = StandsSo sep entry served start line prov (IsDoneAsAsked tag)
+LineReads sep entry served start (kinds.OfReap prov tag) line (Some (answers.Refused (refusals.Integrity offset))) =
     StandsSo sep entry served start line prov (ReadsAsAsked tag (Err offset))
 LineReads sep entry served start kind line answer = Unit {0}

@@ -15,11 +15,11 @@ use Rattle.user_key.specs.Derivation.{user_key}
 use Rattle.user_key.specs.declared.components.UserKey.{UserKey}
 use Rattle.command_rows.specs.Answer.{Answer}
 use Rattle.command_rows.specs.Answer as answers
-use Rattle.command_rows.specs.Grounds.{OpensWith}
 use Rattle.command_rows.specs.Suspending.{kept_by}
 use Rattle.command_rows.specs.Turn.{reach}
 use Rattle.command_rows.specs.World.{Attachment, DrawerState, IsAmong, IsAttached, IsSuspended, Kept, Reach, World, place_of}
-use Rattle.geli_core.specs.Kinds.{Kind, Resumes}
+use Rattle.command_rows.specs.verbs.Attach.{OpensWith}
+use Rattle.command_rows.specs.Verb.{Kind, OfResume}
 use Rattle.geli_core.specs.Trace.{ServedLine, world_behind}
 
 -- ---- while a drawer is suspended
@@ -96,5 +96,5 @@ pub record ResumesSame (sep : Sep) (entry : World) (served : List ServedLine) (s
 
 -- a `resume` that is answered by Ok does
 abbrev pub LineResumes : Sep → World → List ServedLine → World → Kind → List ℕ → Option Answer → World → Type 0
-LineResumes sep entry served start (Resumes prov words) line (Some answers.Done) next = ResumesSame sep entry served start line prov words next
+LineResumes sep entry served start (OfResume prov words) line (Some answers.Done) next = ResumesSame sep entry served start line prov words next
 LineResumes sep entry served start kind line answer next = Unit {0}

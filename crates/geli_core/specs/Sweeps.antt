@@ -14,7 +14,8 @@ use Rattle.command_rows.specs.Answer.{Answer}
 use Rattle.command_rows.specs.Answer as answers
 use Rattle.command_rows.specs.Verifying.{ListsUnits}
 use Rattle.command_rows.specs.World.{Attachment, DrawerState, IsAttached, World, place_of}
-use Rattle.geli_core.specs.Kinds.{Kind, Sweeps, kind_read}
+use Rattle.command_rows.specs.Verb.{Kind, OfSweep}
+use Rattle.geli_core.specs.Kinds.{kind_read}
 use Rattle.geli_core.specs.Trace.{ServedLine}
 
 -- ---- a course of sweeps
@@ -50,7 +51,7 @@ pub record Asked : Type 0 where
 
 -- a line of the course is a `verify` that names the drawer and the file
 abbrev pub asked_by : Course → List ℕ → Kind → Option Asked
-asked_by course line (Sweeps prov file count restart) =
+asked_by course line (OfSweep prov file count restart) =
     if bytes_eq (bytes_at line prov) course.name && bytes_eq (bytes_at line file) course.file then Some (record { count = count; restart = restart }) else None
 asked_by course line kind = None
 

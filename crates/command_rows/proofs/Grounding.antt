@@ -76,9 +76,6 @@ pub record Since (start now : Reach) : Type 0 where
   pub misses : start.cabinet.misses ≤ now.cabinet.misses
   pub entropy : start.entropy.faults ≤ now.entropy.faults
 
-pub since_here : (old : Reach) → Since old old
-since_here old = record { size = refl; files = refl; disk = omega arith; cabinet = omega arith; misses = omega arith; entropy = omega arith }
-
 since_then : (start middle now : Reach) → Since start middle → Since middle now → Since start now
 since_then start middle now a b = record {
   size = b.size ∙ a.size;

@@ -38,7 +38,8 @@ use Rattle.geli_core.specs.Run.{ServesReading}
 use Rattle.geli_core.specs.Trace.{Run, ServedLine}
 use Rattle.geli_core.specs.Survivors.{HasNoRequests}
 use Rattle.geli_core.proofs.Drawn.{here_or}
-use Rattle.geli_core.proofs.Holdings.{KeepsRequests, serves_keeps}
+use Rattle.command_rows.proofs.Keeping.{KeepsRequests}
+use Rattle.geli_core.proofs.Holdings.{serves_keeps}
 use Rattle.geli_core.proofs.Keyings.{among_removed, line_keeps, put_back}
 use Rattle.geli_core.proofs.Playing.{keyed_by}
 use Rattle.geli_core.proofs.Requested.{reap_asks, step_asks, submit_asks}
@@ -104,7 +105,7 @@ serves_own line (commands.Reap prov tag) old said new h keyed own =
     by_gate line (commands.Reap prov tag) old said new _
     (λ row. with_attached old.holding _ _ (λ a is through. reap_own tag a old through.answer new is through.row own) row) (λ refusal is refused. unchanged_own old new refused.unchanged own) h
 serves_own line command old said new h keyed own =
-    others_own old.holding new.holding old.disk new.disk (serves_keeps line command old said new tt h) (line_did line command old said new h).logs.size own
+    others_own old.holding new.holding old.disk new.disk (serves_keeps line command old said new refl h) (line_did line command old said new h).logs.size own
 
 -- ---- lines
 

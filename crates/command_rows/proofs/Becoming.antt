@@ -14,9 +14,9 @@ use Rattle.std.proofs.Common.{Bool, Err, List, None, Ok, Option, Result, Some, [
 use Rattle.block_traits.specs.Disk.{Logs}
 use Rattle.command_rows.specs.Becoming.{Becomes, BecomesBy, changes_requests}
 use Rattle.command_rows.specs.Steps.{Admits, Attaches, GoesOn, LoadsComponents, ReadsLastSector, Then}
-use Rattle.command_rows.specs.Suspending.{AttachesAgain, ResumeRow}
 use Rattle.command_rows.specs.World.{Attachment, Holding, Idle, IsAttached, IsSuspended, Kept, Reach}
 use Rattle.command_rows.specs.verbs.Attach.{OpensWith}
+use Rattle.command_rows.specs.verbs.Resume.{AttachesAgain, ResumeRow}
 use Rattle.command_rows.proofs.QueueingSound.{HoldsSame}
 
 -- ---- steps and rows that leave what the drawer does as it is

@@ -1,4 +1,5 @@
--- Each step keeps the counts of the cabinet and the entropy from falling, and answers their failures only where they rose.
+-- Each step keeps the counts of the cabinet and the entropy from falling, and answers their failures only where they
+-- rose.
 use Rattle.std.specs.Prelude.{IfErr}
 use Rattle.block_traits.specs.Cabinet.{CabinetState}
 use Rattle.block_traits.specs.Disk.{DiskState}

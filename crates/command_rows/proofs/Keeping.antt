@@ -66,7 +66,8 @@ attached_new false a old (Err refusal) new none h = absurd h
 
 -- ---- a row
 
--- what the drawer does with its disk is as it was; or nothing is attached any more; or something is that wasn't before, with no open request
+-- what the drawer does with its disk is as it was; or nothing is attached any more; or something is that wasn't before,
+-- with no open request
 abbrev pub KeepsRequests : Holding → Holding → Type 0
 KeepsRequests old new = (new ≡ old) ⊎ (attachment_in new ≡ None) ⊎ ((attachment_in old ≡ None) × IsNew new)
 

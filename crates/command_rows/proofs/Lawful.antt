@@ -60,8 +60,8 @@ pub nothing_changed : (line : List ℕ) (told : Option Files) (holding : Holding
 nothing_changed line told holding (answers.Refused refusal) old new = inr tt
 nothing_changed line told holding said old new = tt
 
--- what holds of each line of a verb: why it's refused, what it logs, what it counts and keeps, that nothing refuses it where it finds what it
--- needs, what its drawer becomes, what its disk may hold at each moment, and what it stores
+-- what holds of each line of a verb: why it's refused, what it logs, what it counts and keeps, that nothing refuses it
+-- where it finds what it needs, what its drawer becomes, what its disk may hold at each moment, and what it stores
 pub record IsLawful (command : Command) : Type 0 where
   pub why : (line : List ℕ) (old : Reach) (refusal : Refusal) (new : Reach) → GoesThrough line command old (answers.Refused refusal) new → HasCause line command old refusal new
   pub did : (line : List ℕ) (old : Reach) (said : Answer) (new : Reach) → GoesThrough line command old said new → LineDid (AreRowEvents line command old.disk old.holding) (stores_last command) said old.disk new.disk

@@ -1,4 +1,5 @@
--- The rows of `submit`, `step` and `reap` count no failure of the cabinet or the entropy, and the provider stays attached with its keying.
+-- The rows of `submit`, `step` and `reap` count no failure of the cabinet or the entropy, and the provider stays
+-- attached with its keying.
 use Rattle.bio_queue.specs.Requests.{Request}
 use Rattle.eli_base.specs.declared.refusals.Refusal.{Refusal}
 use Rattle.eli_base.specs.declared.refusals.Refusal.TheVariants as refusals

@@ -1,4 +1,5 @@
--- Each row is made of sound steps: no count of the cabinet or the entropy falls, their failures are answered only where they rose, and what is attached keeps a keying that a provider may have.
+-- Each row is made of sound steps: no count of the cabinet or the entropy falls, their failures are answered only where
+-- they rose, and what is attached keeps a keying that a provider may have.
 use Rattle.block_traits.specs.Cabinet.{CabinetState}
 use Rattle.block_traits.specs.Streams.{EntropyState}
 use Rattle.block_traits.specs.declared.disk.Event.{Event}

@@ -41,23 +41,24 @@ asked_sectors (AsksToReap tag) = None
 asked_sectors AsksForNone = None
 
 -- so many bytes are asked for at once
-abbrev pub AreBytes : ℕ → Attachment → Sectors → Type 0
-AreBytes bytes a (Counted sector count) = bytes ≡ count * a.keying.sectorsize
-AreBytes bytes a (Spelled sector many) = bytes ≡ many
-AreBytes bytes a (Ranged start count) = ⊥
+abbrev pub IsOfBytes : ℕ → Attachment → Sectors → Type 0
+IsOfBytes bytes a (Counted sector count) = bytes ≡ count * a.keying.sectorsize
+IsOfBytes bytes a (Spelled sector many) = bytes ≡ many
+IsOfBytes bytes a (Ranged start count) = ⊥
 
 -- so many sectors are asked for from this one on
-abbrev pub AreSectors : ℕ → ℕ → Attachment → Sectors → Type 0
-AreSectors first many a (Counted sector count) = (first ≡ sector) × (whole_sectors a.keying.sectorsize (count * a.keying.sectorsize) ≡ Ok many)
-AreSectors first many a (Spelled sector bytes) = (first ≡ sector) × (whole_sectors a.keying.sectorsize bytes ≡ Ok many)
-AreSectors first many a (Ranged start count) = (first ≡ start) × (many ≡ count)
+abbrev pub IsOfSectors : ℕ → ℕ → Attachment → Sectors → Type 0
+IsOfSectors first many a (Counted sector count) = (first ≡ sector) × (whole_sectors a.keying.sectorsize (count * a.keying.sectorsize) ≡ Ok many)
+IsOfSectors first many a (Spelled sector bytes) = (first ≡ sector) × (whole_sectors a.keying.sectorsize bytes ≡ Ok many)
+IsOfSectors first many a (Ranged start count) = (first ≡ start) × (many ≡ count)
 
--- the same of whatever is asked
+-- bytes are asked for, so many
 abbrev pub AsksBytesAtOnce : Asks → ℕ → Attachment → Type 0
-AsksBytesAtOnce asks bytes a = MatchOption (asked_sectors asks) ⊥ (AreBytes bytes a)
+AsksBytesAtOnce asks bytes a = MatchOption (asked_sectors asks) ⊥ (IsOfBytes bytes a)
 
+-- sectors are asked for, so many from this one on
 abbrev pub AsksSectorsFrom : Asks → ℕ → ℕ → Attachment → Type 0
-AsksSectorsFrom asks first many a = MatchOption (asked_sectors asks) ⊥ (AreSectors first many a)
+AsksSectorsFrom asks first many a = MatchOption (asked_sectors asks) ⊥ (IsOfSectors first many a)
 
 -- ---- the tags
 
@@ -73,7 +74,7 @@ pub record HasReadFault (tag offset : ℕ) (a : Attachment) : Type 0 where
 pub record ReadsFault (sectors : Sectors) (disk : DiskState) (offset : ℕ) (a : Attachment) : Type 0 where
   pub first : ℕ
   pub many : ℕ
-  pub are : AreSectors first many a sectors
+  pub are : IsOfSectors first many a sectors
   pub reads : ReadsAs disk a.keying first many (Err offset)
 
 -- a unit that is read has another tag than its cipher text: the first one at this offset

@@ -12,10 +12,10 @@ use Rattle.sha2.specs.Sha256.{sha256}
 use Rattle.command_rows.specs.Answer.{Answer}
 use Rattle.command_rows.specs.Answer as answers
 use Rattle.command_rows.specs.Gate.{traits_of}
-use Rattle.command_rows.specs.Suspending.{kept_by}
 use Rattle.command_rows.specs.Turn.{reach, takes_out}
 use Rattle.command_rows.specs.World.{Attachment, DrawerState, Holding, Idle, IsAttached, IsSuspended, Kept, Reach, World, place_of}
 use Rattle.command_rows.specs.verbs.Attach.{OpensWith}
+use Rattle.command_rows.specs.verbs.Suspend.{kept_by}
 
 -- ---- idle
 

@@ -5,7 +5,6 @@ use Rattle.eli_metadata.specs.declared.metadata.Metadata.{Metadata}
 use Rattle.reply_text.specs.declared.rows.Row.{Row}
 use Rattle.command_rows.specs.Answer.{Answer}
 use Rattle.command_rows.specs.Answer as answers
-use Rattle.command_rows.specs.Verifying.{SweptPart}
 use Rattle.command_rows.specs.World.{Reach}
 
 abbrev pub done_or : Result (Unit {0}) Refusal → Answer
@@ -37,10 +36,6 @@ abbrev pub reaped_or : Result (Option (List ℕ)) Refusal → Answer
 reaped_or (Ok (Some bytes)) = answers.Payload bytes
 reaped_or (Ok None) = answers.Done
 reaped_or (Err refusal) = answers.Refused refusal
-
-abbrev pub verified_or : Result SweptPart Refusal → Answer
-verified_or (Ok part) = answers.Verified part.offsets part.next
-verified_or (Err refusal) = answers.Refused refusal
 
 -- the row was gone through, and what it answers is answered so
 pub record Replies {A : Type 0} (answer_to : Result A Refusal → Answer) (Row : Reach → Result A Refusal → Reach → Type 0) (old : Reach) (reply : Answer) (new : Reach) : Type 0 where

@@ -1,10 +1,11 @@
 -- What a command does to the world: the row of its verb at the drawer that it names (geli(8)).
-pub use Rattle.command_rows.specs.Replies.{Replies, digest_or, done_or, dump_or, left_or, payload_or, reaped_or, tag_or, verified_or}
+pub use Rattle.command_rows.specs.Replies.{Replies, digest_or, done_or, dump_or, left_or, payload_or, reaped_or, tag_or}
 pub use Rattle.command_rows.specs.verbs.Attach.{AttachRow, AttachesUnless}
 pub use Rattle.command_rows.specs.verbs.Detach.{DetachRow}
 pub use Rattle.command_rows.specs.verbs.Dump.{DumpRow}
 pub use Rattle.command_rows.specs.verbs.Flush.{FlushRow}
 pub use Rattle.command_rows.specs.verbs.Read.{ReadRow}
+pub use Rattle.command_rows.specs.verbs.Verify.{verified_or}
 pub use Rattle.command_rows.specs.verbs.Write.{WriteRow}
 use Rattle.std.specs.List.{remove}
 use Rattle.std.specs.Prelude.{Bool, List, MatchOption, None, Option, Some, false, is_some, map, slice_get, slice_set, true, ℕ, ◌≡◌}

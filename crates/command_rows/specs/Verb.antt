@@ -72,9 +72,11 @@ OneFlush line disk holding events = events ≡ Flush ∷ []
 abbrev pub NoChanges : List ℕ → Option Files → Holding → DiskState → Bool → DiskState → Type 0
 NoChanges line told holding old done new = Unit {0}
 
+-- it asks nothing
 abbrev pub asks_nothing : List ℕ → Asks
 asks_nothing line = AsksNothing
 
+-- nothing that is known is placed
 abbrev pub places_nothing : List ℕ → Places
 places_nothing line = PlacesNothing
 

@@ -9,7 +9,6 @@ use Rattle.command_words.specs.declared.spans.Span.{Span}
 use Rattle.queue_readings.specs.Tasks.{Flushes, Reads, Task, Work, Writes, task_with}
 use Rattle.readings.specs.Writes.{data_steps}
 use Rattle.command_rows.specs.Answer as answers
-use Rattle.command_rows.specs.Queueing.{ReapRow}
 use Rattle.command_rows.specs.Turn.{Replies, reach, reaped_or}
 use Rattle.command_rows.proofs.Gate.{attached}
 use Rattle.command_rows.specs.Verb.{Places, PlacesBytes, PlacesGenerated, PlacesNoMore, PlacesNothing, PlacesRequest, PlacesUnit}
@@ -35,6 +34,7 @@ use Rattle.queue_readings.proofs.Calls.{covered}
 use Rattle.readings.specs.Steps.{Flush, Step}
 use Rattle.command_rows.specs.Answer.{Answer}
 use Rattle.command_rows.specs.World.{AttachedWith, Attachment, DrawerState, HoldKeyings, IsAmong, World, attachment_in, place_of}
+use Rattle.command_rows.specs.verbs.Reap.{ReapRow}
 use Rattle.geli_core.specs.Placing.{DrawerPlaces, LinePlays, place_played, played_by}
 
 -- steps that were done stay the first

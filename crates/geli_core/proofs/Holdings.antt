@@ -1,5 +1,5 @@
--- What a line leaves attached: only `submit`, `step` and `reap` change the open requests of a drawer that stays attached, and
--- none is open where it wasn't attached before.
+-- What a line leaves attached: only `submit`, `step` and `reap` change the open requests of a drawer that stays
+-- attached, and none is open where it wasn't attached before.
 use Rattle.std.proofs.Common.{List, ap, false, inl, ℕ, ◌≡◌}
 use Rattle.command_words.specs.Places.{bytes_at}
 use Rattle.command_words.specs.declared.commands.Command.{Command}

@@ -26,10 +26,13 @@ use Rattle.range_keys.specs.Ring.{IsKeying}
 use Rattle.command_rows.specs.Answer.{Answer}
 use Rattle.command_rows.specs.Answer as answers
 use Rattle.command_rows.specs.Gate.{needs, refused_by}
-use Rattle.command_rows.specs.Queueing.{HasRequest, NeedsRequest, ReapRow, ReapsRequest, StepRow, StepsRequest, SubmitRow, reap_answer, step_refusal, with_queue}
+use Rattle.command_rows.specs.Queueing.{HasRequest, NeedsRequest, with_queue}
 use Rattle.command_rows.specs.Steps.{GoesOn, or_refusal}
 use Rattle.command_rows.specs.Turn.{ChangesAt, GoesThrough, Replies, Serves, TakesOut, Turn, left_or, reach, reaped_or}
 use Rattle.command_rows.specs.World.{AttachedWith, Attachment, DrawerState, HoldKeyings, Holding, HoldsKeying, IsAttached, Reach, World, attachment_in}
+use Rattle.command_rows.specs.verbs.Reap.{ReapRow, ReapsRequest, reap_answer}
+use Rattle.command_rows.specs.verbs.Step.{StepRow, StepsRequest, step_refusal}
+use Rattle.command_rows.specs.verbs.Submit.{SubmitRow}
 use Rattle.command_rows.proofs.Gate.{by_gate, with_attached}
 use Rattle.command_rows.proofs.Lines.{line_did}
 use Rattle.command_rows.proofs.Turns.{by_each_turn}

@@ -30,15 +30,18 @@ use Rattle.command_rows.specs.Answer as answers
 use Rattle.command_rows.specs.Digits.{bytes_spelled}
 use Rattle.command_rows.specs.Gate.{AnAttached, refused_by}
 use Rattle.command_rows.specs.Histories.{AreRowEvents, EventsBy, stores_last}
-use Rattle.command_rows.specs.Queueing.{ReapRow, StepRow, SubmitRow, next_events, reap_answer, step_refusal, submit_refusal, with_queue}
+use Rattle.command_rows.specs.Queueing.{with_queue}
 use Rattle.command_rows.specs.Steps.{or_refusal}
 use Rattle.command_rows.specs.Turn.{Replies, Serves, left_or, reaped_or, tag_or}
-use Rattle.command_rows.specs.Workloads.{generator, words_of, workload}
 use Rattle.command_rows.specs.World.{Attachment, Holding, HoldsKeying, Idle, IsAttached, IsSuspended, Reach, attachment_in}
 use Rattle.command_rows.proofs.Gate.{by_gate, with_attached}
 use Rattle.command_rows.proofs.Generated.{length-generated}
 use Rattle.command_rows.specs.Verb.{Places, PlacesNothing}
 use Rattle.command_rows.specs.verbs.{verb_of}
+use Rattle.command_rows.specs.verbs.Fill.{generator, words_of, workload}
+use Rattle.command_rows.specs.verbs.Reap.{ReapRow, reap_answer}
+use Rattle.command_rows.specs.verbs.Step.{StepRow, next_events, step_refusal}
+use Rattle.command_rows.specs.verbs.Submit.{SubmitRow, submit_refusal}
 use Rattle.command_rows.proofs.Keeping.{KeepsRequests}
 use Rattle.geli_core.specs.Placing.{command_played, goes_on, place_played, played_by}
 use Rattle.geli_core.proofs.Following.{Tracks, logged_fit, told_on, tracks_raw, tracks_write}

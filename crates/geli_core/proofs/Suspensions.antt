@@ -17,10 +17,10 @@ use Rattle.command_rows.specs.Answer.{Answer}
 use Rattle.command_rows.specs.Answer as answers
 use Rattle.command_rows.specs.Becoming as becoming
 use Rattle.command_rows.specs.Becoming.{Becomes, BecomesBy}
-use Rattle.command_rows.specs.Suspending.{ResumeRow}
 use Rattle.command_rows.specs.Turn.{ChangesAt, Replies, Serves, TakesOut, Turn, done_or, reach}
 use Rattle.command_rows.specs.World.{Attachment, DrawerState, Holding, IsAmong, IsSuspended, Kept, Reach, World, place_of}
 use Rattle.command_rows.specs.verbs.Attach.{OpensWith}
+use Rattle.command_rows.specs.verbs.Resume.{ResumeRow}
 use Rattle.command_rows.proofs.Becoming.{Resumes, resume_done}
 use Rattle.command_rows.proofs.Gate.{by_passed_gate, with_suspended}
 use Rattle.command_rows.proofs.Turns.{by_each_turn}

@@ -1,5 +1,5 @@
--- What lines do to a drawer, as steps on its disk: a write or a fill places the units of its logical sectors, a step of a request that was submitted does its next
--- unit, and whatever else a line logs is bytes that came in some other way.
+-- What lines do to a drawer, as steps on its disk: a write or a fill places the units of its logical sectors, a step of
+-- a request that was submitted does its next unit, and whatever else a line logs is bytes that came in some other way.
 use Rattle.std.specs.Prelude.{◌≡◌, ◌⊎◌, ℕ, ◌+◌, ◌/◌, List, [], ◌∷◌, ◌++◌, length, take, Bool, Option, Some, None}
 use Rattle.block_traits.specs.Content.{Content}
 use Rattle.block_traits.specs.Disk.{Logs}
@@ -22,8 +22,8 @@ use Rattle.command_rows.specs.Answer.{Answer}
 use Rattle.command_rows.specs.Answer as answers
 use Rattle.shelf.specs.Closing.{Closes}
 use Rattle.command_rows.specs.Digits.{bytes_spelled}
-use Rattle.command_rows.specs.Workloads.{words_of, workload}
 use Rattle.command_rows.specs.World.{Attachment, DrawerState, IsAmong, World, attachment_in}
+use Rattle.command_rows.specs.verbs.Fill.{words_of, workload}
 use Rattle.geli_core.specs.Histories.{ServesDrawer}
 use Rattle.geli_core.specs.Trace.{ServedLine, world_behind}
 
@@ -63,7 +63,8 @@ abbrev pub tasks_submitted : Answer → Work → List Task → List Task
 tasks_submitted (answers.Tag tag) work tasks = put_task (record { tag = tag; done = 0; work = work }) tasks
 tasks_submitted answer work tasks = tasks
 
--- the next unit of a request was done, or not where the disk failed. One that was open before the run isn't known: what it writes came in some other way
+-- the next unit of a request was done, or not where the disk failed. One that was open before the run isn't known: what
+-- it writes came in some other way
 abbrev pub request_steps : Keying → Option Task → List Event → List Step
 request_steps k None events = raw_steps events
 request_steps k (Some t) events = take (length events) (unit_steps k t.work t.done)
@@ -80,8 +81,8 @@ tasks_reaped (answers.Payload bytes) tag tasks = without_task tag tasks
 tasks_reaped (answers.Refused (refusals.Integrity offset)) tag tasks = without_task tag tasks
 tasks_reaped answer tag tasks = tasks
 
--- what a line that was answered so makes of the play of an attached drawer, by what its verb places and the events that it logged. What is placed is listed, so
--- that more is decided on.
+-- what a line that was answered so makes of the play of an attached drawer, by what its verb places and the events that
+-- it logged. What is placed is listed, so that more is decided on.
 abbrev pub place_played : List ℕ → Places → Keying → Option Content → Answer → List Event → Play → Play
 place_played line PlacesNothing k told answer events m = goes_on (raw_steps events) m.tasks m
 place_played line (PlacesBytes sector bytes) k told answer events m = goes_on (write_steps m.next k sector bytes events) m.tasks m
@@ -112,7 +113,8 @@ LinePlays told sep line answer old m next new = ((new ≡ old) × (next ≡ goes
 
 -- ---- lines
 
--- a drawer and its play while lines are served, where its disk told this content before the run: behind each line it is one of the drawers of the world there
+-- a drawer and its play while lines are served, where its disk told this content before the run: behind each line it is
+-- one of the drawers of the world there
 abbrev pub DrawerPlaces : Option Content → Sep → List ServedLine → DrawerState → Play → Play → DrawerState → Type 0
 DrawerPlaces told sep [] old m last new = (new ≡ old) × (last ≡ m)
 DrawerPlaces told sep (l ∷ lines) old m last new =

@@ -13,9 +13,9 @@ use Rattle.command_rows.specs.Gate.{needs}
 use Rattle.command_rows.specs.Grounds.{IsGround}
 use Rattle.command_rows.specs.Replies.{done_or}
 use Rattle.command_rows.specs.Requests.{handed_out}
-use Rattle.command_rows.specs.Saving.{BackupRow, FindsLastSector}
 use Rattle.command_rows.specs.Steps.{StoresBytes}
 use Rattle.command_rows.specs.World.{Reach}
+use Rattle.command_rows.specs.verbs.Backup.{BackupRow, FindsLastSector}
 use Rattle.command_rows.proofs.Becoming.{Stays, stays_quiet, stays_then}
 use Rattle.command_rows.proofs.Causing.{Why, then_why}
 use Rattle.command_rows.proofs.Counting.{Counts, Uncounted, UncountedAnswer, plain_uncounted, uncounted_step}

@@ -18,14 +18,13 @@ use Rattle.key_commands.specs.DeleteKeys.{DeletesKeys, Deletion, Overwrites}
 use Rattle.key_commands.specs.Overwriting.{HasNoKey, deletion_refusal, pass_events, pass_sectors}
 use Rattle.key_commands.specs.declared.overwriting.Which.{Which}
 use Rattle.key_commands.specs.declared.overwriting.Which.TheVariants as slots
-use Rattle.command_rows.specs.DeleteKeys.{DeletesRow, DelkeyRow, NamesSlots, TakesKeysOut, named_slots, slot_of}
 use Rattle.command_rows.specs.Findings.{HasMetadata, LacksMetadata}
 use Rattle.command_rows.specs.Gate.{needs}
 use Rattle.command_rows.specs.Replies.{done_or}
 use Rattle.command_rows.specs.Steps.{ReadsLastSector, Then, without_value}
 use Rattle.command_rows.specs.Stops.{ChangesMetadata}
 use Rattle.command_rows.specs.World.{Holding, Reach}
-use Rattle.command_rows.specs.verbs.Delkey.{ClearsKeys, FindsSlots, OverwritesKeys, RefusesDelkey, RefusesSlots}
+use Rattle.command_rows.specs.verbs.Delkey.{ClearsKeys, DeletesRow, DelkeyRow, FindsSlots, NamesSlots, OverwritesKeys, RefusesDelkey, RefusesSlots, TakesKeysOut, named_slots, slot_of}
 use Rattle.command_rows.proofs.Becoming.{Stays, same_reach, stays_so, stays_then}
 use Rattle.command_rows.proofs.Causing.{Why, then_since, then_why}
 use Rattle.command_rows.proofs.Counting.{Counts, CountsResult, Later, beside, by_plain, some_uncounted, uncounted_step}

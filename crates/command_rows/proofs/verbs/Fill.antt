@@ -10,9 +10,8 @@ use Rattle.command_rows.specs.Gate.{needs, refused_by}
 use Rattle.command_rows.specs.Replies.{done_or}
 use Rattle.command_rows.specs.Steps.{NeedsSectors, NeedsWritable}
 use Rattle.command_rows.specs.Storing.{StoresNone}
-use Rattle.command_rows.specs.Workloads.{FillRow, words_of, workload}
 use Rattle.command_rows.specs.World.{AttachedWith, Attachment, Holding, IsAttached, Reach}
-use Rattle.command_rows.specs.verbs.Fill.{FitsFill, WritesWorkload}
+use Rattle.command_rows.specs.verbs.Fill.{FillRow, FitsFill, WritesWorkload, words_of, workload}
 use Rattle.command_rows.proofs.Becoming.{Stays, same_reach, stays_so, stays_then}
 use Rattle.command_rows.proofs.Causing.{Why, writable_write_why}
 use Rattle.command_rows.proofs.Events.{Did, writable_did}

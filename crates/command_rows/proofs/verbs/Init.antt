@@ -30,12 +30,11 @@ use Rattle.user_key.specs.declared.components.UserKey.{UserKey}
 use Rattle.command_rows.specs.Causes.{may_lack_memory}
 use Rattle.command_rows.specs.Findings.{AreComponents, RefusesFiles, WritesMetadata}
 use Rattle.command_rows.specs.Gate.{needs}
-use Rattle.command_rows.specs.NewProvider.{InitRow}
 use Rattle.command_rows.specs.Replies.{done_or}
 use Rattle.command_rows.specs.Steps.{BacksUp, GoesOn, LoadsComponents, MakesProvider, Then}
 use Rattle.command_rows.specs.Stops.{ChangesMetadata}
 use Rattle.command_rows.specs.World.{Reach}
-use Rattle.command_rows.specs.verbs.Init.{FindsNew, PutsNew, RefusesNew}
+use Rattle.command_rows.specs.verbs.Init.{FindsNew, InitRow, PutsNew, RefusesNew}
 use Rattle.command_rows.proofs.Becoming.{Stays, stays_so, stays_then}
 use Rattle.command_rows.proofs.Causing.{Why, then_since, then_why}
 use Rattle.command_rows.proofs.Counting.{Counts, CountsResult, Later, beside, decision_counts, some_uncounted, storing_counts, uncounted_step}

@@ -11,11 +11,10 @@ use Rattle.resize_kill.proofs.Destroyed.{gone-FailsIn, gone-Logs}
 use Rattle.resize_kill.specs.Killing.{HoldsNoMetadata, Kills, kill_events}
 use Rattle.resize_kill.specs.Trash.{trash_sectors}
 use Rattle.command_rows.specs.Gate.{needs}
-use Rattle.command_rows.specs.Killing.{DestroysMetadata, KillRow, Withdraws}
 use Rattle.command_rows.specs.Replies.{done_or}
 use Rattle.command_rows.specs.Stops.{ChangesMetadata}
 use Rattle.command_rows.specs.World.{Idle, Reach, attachment_in}
-use Rattle.command_rows.specs.verbs.Kill.{Destroys, OverwritesLast}
+use Rattle.command_rows.specs.verbs.Kill.{Destroys, DestroysMetadata, KillRow, OverwritesLast, Withdraws}
 use Rattle.command_rows.proofs.Becoming.{becomes_as, same_reach, stays_next}
 use Rattle.command_rows.proofs.Causing.{Why, then_why}
 use Rattle.command_rows.proofs.Counting.{Counts, CountsResult, Later, UncountedAnswer, beside, uncounted_step}

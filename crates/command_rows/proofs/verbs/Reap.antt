@@ -15,11 +15,11 @@ use Rattle.command_rows.specs.Asks.{AsksToReap, HasReadFault, QueueRefuses}
 use Rattle.command_rows.specs.Becoming.{Becomes}
 use Rattle.command_rows.specs.Causes.{HasCause}
 use Rattle.command_rows.specs.Gate.{needs, refused_by}
-use Rattle.command_rows.specs.Queueing.{NeedsRequest, ReapRow, ReapsRequest, reap_answer}
+use Rattle.command_rows.specs.Queueing.{NeedsRequest}
 use Rattle.command_rows.specs.Replies.{reaped_or}
 use Rattle.command_rows.specs.Storing.{StoresNone}
 use Rattle.command_rows.specs.World.{AttachedWith, Attachment, IsAttached, Reach}
-use Rattle.command_rows.specs.verbs.Reap.{FitsReap}
+use Rattle.command_rows.specs.verbs.Reap.{FitsReap, ReapRow, ReapsRequest, reap_answer}
 use Rattle.command_rows.proofs.Becoming.{holds_same}
 use Rattle.command_rows.proofs.Causing.{Why, then_why}
 use Rattle.command_rows.proofs.Counting.{Counts, UncountedAnswer, then_counts, uncounted_step}

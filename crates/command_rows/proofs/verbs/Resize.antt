@@ -21,10 +21,9 @@ use Rattle.resize_kill.specs.Trash.{trash_sectors}
 use Rattle.command_rows.specs.Causes.{HasCause}
 use Rattle.command_rows.specs.Gate.{needs}
 use Rattle.command_rows.specs.Replies.{done_or}
-use Rattle.command_rows.specs.Resizing.{MovesMetadata, ResizeRow}
 use Rattle.command_rows.specs.Stops.{ChangesMetadata}
 use Rattle.command_rows.specs.World.{Reach}
-use Rattle.command_rows.specs.verbs.Resize.{FindsOldPlace, MovesLast, MovesToEnd, RefusesOldPlace}
+use Rattle.command_rows.specs.verbs.Resize.{FindsOldPlace, MovesLast, MovesMetadata, MovesToEnd, RefusesOldPlace, ResizeRow}
 use Rattle.command_rows.proofs.Becoming.{stays_so}
 use Rattle.command_rows.proofs.Causing.{Why}
 use Rattle.command_rows.proofs.Counting.{Counts, CountsResult, Later, beside, some_uncounted, uncounted_step}

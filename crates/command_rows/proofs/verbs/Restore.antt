@@ -25,11 +25,10 @@ use Rattle.command_rows.specs.Findings.{IsFile, NamesFile, RefusesFile, WritesMe
 use Rattle.command_rows.specs.Gate.{needs}
 use Rattle.command_rows.specs.Grounds.{IsGround}
 use Rattle.command_rows.specs.Replies.{done_or}
-use Rattle.command_rows.specs.Restoring.{RestoreRow, WritesBack}
 use Rattle.command_rows.specs.Steps.{Decides, GoesOn, LoadsFile, Then}
 use Rattle.command_rows.specs.Stops.{ChangesMetadata}
 use Rattle.command_rows.specs.World.{Reach}
-use Rattle.command_rows.specs.verbs.Restore.{FindsBackup, PutsBack, RefusesBackup}
+use Rattle.command_rows.specs.verbs.Restore.{FindsBackup, PutsBack, RefusesBackup, RestoreRow, WritesBack}
 use Rattle.command_rows.proofs.Becoming.{Stays, same_reach, stays_so, stays_then}
 use Rattle.command_rows.proofs.Causing.{Why, then_since, then_why}
 use Rattle.command_rows.proofs.Counting.{Counts, UncountedAnswer, file_counts, plain_uncounted, uncounted_step}

@@ -21,11 +21,10 @@ use Rattle.command_rows.specs.Grounds.{HasGround}
 use Rattle.command_rows.specs.Replies.{done_or}
 use Rattle.command_rows.specs.Steps.{Attaches, GoesOn, admitted, tried}
 use Rattle.command_rows.specs.Storing.{StoresNone}
-use Rattle.command_rows.specs.Suspending.{AttachesAgain, NeedsSameKey, ResumeRow, same_key}
 use Rattle.command_rows.specs.Trying.{TryRow}
 use Rattle.command_rows.specs.World.{Attachment, Holding, HoldsKeying, Idle, IsAttached, IsSuspended, Kept, Reach, SuspendedWith, attachment_in}
 use Rattle.command_rows.specs.verbs.Attach.{OpensWith, RefusesAttach}
-use Rattle.command_rows.specs.verbs.Resume.{FindsSameKey, OpensAnother, RefusesResume}
+use Rattle.command_rows.specs.verbs.Resume.{AttachesAgain, FindsSameKey, NeedsSameKey, OpensAnother, RefusesResume, ResumeRow, same_key}
 use Rattle.command_rows.proofs.Becoming.{becomes_as, same_reach, stays_quiet, try_stays}
 use Rattle.command_rows.proofs.Causing.{Why, then_since, then_why}
 use Rattle.command_rows.proofs.Counting.{Counts, attaching_counts, by_plain, then_counts}

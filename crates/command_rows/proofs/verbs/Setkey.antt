@@ -29,12 +29,11 @@ use Rattle.command_rows.specs.Causes.{may_lack_memory}
 use Rattle.command_rows.specs.Findings.{AreComponents, HasMetadata, LacksMetadata, RefusesFiles}
 use Rattle.command_rows.specs.Gate.{needs}
 use Rattle.command_rows.specs.Replies.{done_or}
-use Rattle.command_rows.specs.SetKey.{IsUsed, NeedsSlot, OpensSlot, SetkeyAttachedRow, SetkeyIdleRow, SetkeyRow, SetsOpened, StoresKey, if_there, opened_by, or_wrong, usable}
 use Rattle.command_rows.specs.Steps.{Admits, LoadsComponents, ReadsLastSector, Then, admitted, without_value}
 use Rattle.command_rows.specs.Stops.{ChangesMetadata}
 use Rattle.command_rows.specs.Storing.{StoresNone}
 use Rattle.command_rows.specs.World.{Attachment, Holding, HoldsKeying, IsAttached, Reach, attachment_in}
-use Rattle.command_rows.specs.verbs.Setkey.{FindsAttached, FindsNewKey, FindsOldKey, FindsSetkey, PutsKey, RefusesChange, RefusesNewKey, RefusesNext, RefusesOldKey, RefusesSetkey, StoresMetadata, WrapsKey, WrapsOpened}
+use Rattle.command_rows.specs.verbs.Setkey.{FindsAttached, FindsNewKey, FindsOldKey, FindsSetkey, IsUsed, NeedsSlot, OpensSlot, PutsKey, RefusesChange, RefusesNewKey, RefusesNext, RefusesOldKey, RefusesSetkey, SetkeyAttachedRow, SetkeyIdleRow, SetkeyRow, SetsOpened, StoresKey, StoresMetadata, WrapsKey, WrapsOpened, if_there, opened_by, or_wrong, usable}
 use Rattle.command_rows.proofs.Becoming.{Stays, same_reach, stays_so, stays_then}
 use Rattle.command_rows.proofs.Causing.{Why, then_since, then_why}
 use Rattle.command_rows.proofs.Counting.{Counts, CountsResult, Later, UncountedAnswer, by_plain, some_uncounted, uncounted_step}

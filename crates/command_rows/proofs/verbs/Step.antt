@@ -14,12 +14,12 @@ use Rattle.command_rows.specs.Asks.{AsksToStep, QueueRefuses}
 use Rattle.command_rows.specs.Becoming.{Becomes}
 use Rattle.command_rows.specs.Causes.{HasCause}
 use Rattle.command_rows.specs.Gate.{needs, refused_by}
-use Rattle.command_rows.specs.Queueing.{NeedsRequest, StepRow, StepsRequest, next_events, step_refusal}
+use Rattle.command_rows.specs.Queueing.{NeedsRequest}
 use Rattle.command_rows.specs.Replies.{left_or}
 use Rattle.command_rows.specs.Steps.{or_refusal}
 use Rattle.command_rows.specs.Storing.{StoresNone}
 use Rattle.command_rows.specs.World.{AttachedWith, Attachment, Holding, IsAttached, Reach}
-use Rattle.command_rows.specs.verbs.Step.{DoesNext, FitsStep}
+use Rattle.command_rows.specs.verbs.Step.{DoesNext, FitsStep, StepRow, StepsRequest, next_events, step_refusal}
 use Rattle.command_rows.proofs.Becoming.{holds_same}
 use Rattle.command_rows.proofs.Causing.{Why, then_why}
 use Rattle.command_rows.proofs.Counting.{Counts, UncountedAnswer, then_counts, uncounted_step}

@@ -22,12 +22,11 @@ use Rattle.command_rows.specs.Becoming.{Becomes}
 use Rattle.command_rows.specs.Causes.{HasCause}
 use Rattle.command_rows.specs.Digits.{bytes_spelled}
 use Rattle.command_rows.specs.Gate.{job_writes, needs, refused_by}
-use Rattle.command_rows.specs.Queueing.{SubmitRow, Submits, submit_refusal}
 use Rattle.command_rows.specs.Replies.{tag_or}
 use Rattle.command_rows.specs.Steps.{NeedsWhole, or_refusal, whole_sectors}
 use Rattle.command_rows.specs.Storing.{StoresNone}
 use Rattle.command_rows.specs.World.{AttachedWith, Attachment, IsAttached, Reach}
-use Rattle.command_rows.specs.verbs.Submit.{FitsBytes, FitsJob, FitsSubmit, job_sectors}
+use Rattle.command_rows.specs.verbs.Submit.{FitsBytes, FitsJob, FitsSubmit, SubmitRow, Submits, job_sectors, submit_refusal}
 use Rattle.command_rows.proofs.Becoming.{holds_same}
 use Rattle.command_rows.proofs.Causing.{Why, then_why, whole_why}
 use Rattle.command_rows.proofs.Counting.{Counts, UncountedAnswer, decision_counts, then_counts, uncounted_step, whole_uncounted}

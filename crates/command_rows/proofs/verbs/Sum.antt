@@ -12,9 +12,8 @@ use Rattle.command_rows.specs.Gate.{needs, refused_by}
 use Rattle.command_rows.specs.Replies.{digest_or}
 use Rattle.command_rows.specs.Steps.{Decides, NeedsSectors, ReadsSectors, Then}
 use Rattle.command_rows.specs.Storing.{StoresNone}
-use Rattle.command_rows.specs.Workloads.{SumRow}
 use Rattle.command_rows.specs.World.{AttachedWith, Attachment, IsAttached, Reach}
-use Rattle.command_rows.specs.verbs.Sum.{FitsSum}
+use Rattle.command_rows.specs.verbs.Sum.{FitsSum, SumRow}
 use Rattle.command_rows.proofs.Becoming.{Stays, same_reach, stays_so, stays_then}
 use Rattle.command_rows.proofs.Causing.{Why, range_why, then_why}
 use Rattle.command_rows.proofs.Events.{Quiet, quiet_did, quiet_sectors, quiet_then, same_disk}

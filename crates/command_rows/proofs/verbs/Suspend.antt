@@ -13,12 +13,11 @@ use Rattle.command_rows.specs.Asks.{AsksForNone, QueueRefuses}
 use Rattle.command_rows.specs.Becoming.{Becomes}
 use Rattle.command_rows.specs.Causes.{HasCause}
 use Rattle.command_rows.specs.Gate.{needs, refused_by}
-use Rattle.command_rows.specs.Queueing.{NeedsNoRequests, if_none_open}
 use Rattle.command_rows.specs.Replies.{done_or}
 use Rattle.command_rows.specs.Steps.{DoesEvents, GoesOn}
 use Rattle.command_rows.specs.Storing.{StoresNone}
-use Rattle.command_rows.specs.Suspending.{SuspendRow, Suspends, kept_by}
 use Rattle.command_rows.specs.World.{AttachedWith, Attachment, HoldsKeying, IsAttached, IsSuspended, Reach, attachment_in}
+use Rattle.command_rows.specs.verbs.Suspend.{NeedsNoRequests, SuspendRow, Suspends, if_none_open, kept_by}
 use Rattle.command_rows.proofs.Becoming.{becomes_as, same_reach}
 use Rattle.command_rows.proofs.Causing.{Why, events_why, then_why}
 use Rattle.command_rows.proofs.Counting.{Counts, UncountedAnswer, does_uncounted, uncounted_step}

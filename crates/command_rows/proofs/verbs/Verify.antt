@@ -19,12 +19,10 @@ use Rattle.command_rows.specs.Becoming.{Becomes}
 use Rattle.command_rows.specs.Causes.{HasCause, may_lack_memory, needs_tags}
 use Rattle.command_rows.specs.Findings.{IsFile}
 use Rattle.command_rows.specs.Gate.{needs}
-use Rattle.command_rows.specs.Replies.{verified_or}
 use Rattle.command_rows.specs.Steps.{Decides, LoadsFile, StoresBytes, Then}
 use Rattle.command_rows.specs.Storing.{StoresAt, StoresNone, StoresOne}
-use Rattle.command_rows.specs.Verifying.{FindsPlace, LoadsPlace, NeedsPlace, NeedsTags, PartAnswer, StoresPlace, Sweeps, SweepsFrom, SweptPart, VerifyRow, if_inside, if_tagged, place_in, place_size, unless_absent}
 use Rattle.command_rows.specs.World.{Attachment, IsAttached, Reach}
-use Rattle.command_rows.specs.verbs.Verify.{FitsVerify, RefusesLong, RefusesPlace, SaysPlace, SaysTooFar}
+use Rattle.command_rows.specs.verbs.Verify.{FindsPlace, FitsVerify, LoadsPlace, NeedsPlace, NeedsTags, PartAnswer, RefusesLong, RefusesPlace, SaysPlace, SaysTooFar, StoresPlace, Sweeps, SweepsFrom, SweptPart, VerifyRow, if_inside, if_tagged, place_in, place_size, unless_absent, verified_or}
 use Rattle.command_rows.proofs.Becoming.{Stays, same_reach, stays_so, stays_then}
 use Rattle.command_rows.proofs.Causing.{Step, Why, then_since, then_why}
 use Rattle.command_rows.proofs.Counting.{Counts, CountsResult, UncountedAnswer, by_plain, file_counts, uncounted_step}

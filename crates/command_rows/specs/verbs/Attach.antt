@@ -1,4 +1,4 @@
--- `attach`: a key is tried, and the provider is attached.
+-- `attach`: a key is tried, and the provider is attached (geli(8)).
 use Rattle.std.specs.Prelude.{Bool, Err, List, None, Ok, Option, Result, false, true, ℕ, ◌≡◌, ◌⊎◌}
 use Rattle.command_words.specs.declared.spans.KeyWords.{KeyWords}
 use Rattle.command_words.specs.declared.spans.Span.{Span}

@@ -1,4 +1,4 @@
--- `detach`: the drawer becomes idle, also where it was suspended.
+-- `detach`: the drawer becomes idle, also where it was suspended (geli(8)).
 use Rattle.std.specs.Prelude.{None, Result}
 use Rattle.command_words.specs.declared.spans.Span.{Span}
 use Rattle.eli_base.specs.declared.refusals.Refusal.{Refusal}

@@ -1,4 +1,4 @@
--- `dump`: the metadata are read.
+-- `dump`: the metadata are read (geli(8)).
 use Rattle.std.specs.Prelude.{None, Result}
 use Rattle.command_words.specs.declared.spans.Span.{Span}
 use Rattle.eli_base.specs.declared.refusals.Refusal.{Refusal}

@@ -1,5 +1,5 @@
--- `init`: a provider is made.
-use Rattle.std.specs.Prelude.{Bool, IsTrue, List, None, Option, Some, ℕ, ℤ, ◌≡◌}
+-- `init`: a provider is made, and its metadata are backed up (geli(8)).
+use Rattle.std.specs.Prelude.{Bool, IsTrue, List, None, Option, Result, Some, if◌then◌else◌, negsuc, pos, unwrap_or, ℕ, ℤ, ◌≡◌}
 use Rattle.block_traits.specs.Cabinet.{Files}
 use Rattle.block_traits.specs.Disk.{DiskState, last_sector}
 use Rattle.block_traits.specs.Moments.{KeepsAlone, KeepsOldOr}
@@ -17,10 +17,21 @@ use Rattle.key_commands.specs.declared.options.InitOptions.{InitOptions}
 use Rattle.user_key.specs.declared.components.Components.{Components}
 use Rattle.user_key.specs.declared.components.UserKey.{UserKey}
 use Rattle.command_rows.specs.Findings.{AreComponents, NamesParts, RefusesFiles, WritesMetadata}
-use Rattle.command_rows.specs.NewProvider.{InitRow, iterations_of}
 use Rattle.command_rows.specs.Replies.{Replies, done_or}
+use Rattle.command_rows.specs.Steps.{BacksUp, LoadsComponents, MakesProvider, Then}
 use Rattle.command_rows.specs.Verb.{OfOther, Verb, asks_nothing, places_nothing}
 use Rattle.command_rows.specs.World.{Reach}
+
+-- the iterations of a new key: none without a passphrase, else those that are given, or 100,000
+abbrev pub iterations_of : KeyWords → Option ℤ → ℤ
+iterations_of fresh given = if fresh.without then negsuc 0 else unwrap_or given (pos 100000)
+
+-- `init`, of an idle drawer: the files are loaded, the provider is made, and then the backup is stored
+abbrev pub InitRow : List ℕ → InitOptions → KeyWords → Option Span → Reach → Result (Unit {0}) Refusal → Reach → Type 0
+InitRow line options fresh backup old answer new =
+    Then (LoadsComponents line fresh)
+    (λ parts. Then (MakesProvider options parts)
+    (λ m. BacksUp line backup m)) old answer new
 
 -- `init`: a provider can be made
 pub record FindsNew (line : List ℕ) (options : InitOptions) (fresh : KeyWords) (old : Reach) : Type 0 where

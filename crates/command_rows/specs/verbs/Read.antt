@@ -18,8 +18,7 @@ ReadRow sector count a old answer new =
     (λ whole. Then (NeedsSectors a sector whole)
     (λ _. ReadsSectors a sector whole)) old answer new
 
--- requests on an attached provider: they are whole sectors that are there, the provider may be written, and the tags of
--- what is read fit
+-- the bytes are whole sectors that are there, and the tags fit
 pub record FitsRead (sector count : ℕ) (disk : DiskState) (a : Attachment) : Type 0 where
   pub sectors : ℕ
   pub whole : whole_sectors a.keying.sectorsize (count * a.keying.sectorsize) ≡ Ok sectors

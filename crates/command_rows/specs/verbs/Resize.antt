@@ -1,4 +1,4 @@
--- `resize`: the metadata move with an image that grew.
+-- `resize`: the metadata move with an image that grew (geli(8)).
 use Rattle.std.specs.Prelude.{Bool, IsTrue, List, None, Ok, Result, Some, length, ℕ, ◌≡◌, ◌⊎◌}
 use Rattle.block_traits.specs.Disk.{DiskState, last_sector}
 use Rattle.block_traits.specs.Moments.{KeepsAlone}
@@ -8,13 +8,22 @@ use Rattle.eli_base.specs.declared.refusals.Refusal.{Refusal}
 use Rattle.eli_metadata.specs.Format.{encoded}
 use Rattle.eli_metadata.specs.declared.metadata.MetaFault.{MetaFault}
 use Rattle.eli_metadata.specs.declared.metadata.Metadata.{Metadata}
-use Rattle.resize_kill.specs.Resizing.{KeepsOneOf, grown, move_events, old_place, old_refusal, size_refusal}
+use Rattle.resize_kill.specs.Resizing.{KeepsOneOf, Resizes, grown, move_events, old_place, old_refusal, size_refusal}
 use Rattle.resize_kill.specs.Trash.{random_size}
 use Rattle.command_rows.specs.Findings.{IsReadAs, ShowsMetadataAt}
 use Rattle.command_rows.specs.Replies.{Replies, done_or}
-use Rattle.command_rows.specs.Resizing.{ResizeRow}
 use Rattle.command_rows.specs.Verb.{NoBadFile, OfOther, Verb, asks_nothing, places_nothing}
 use Rattle.command_rows.specs.World.{Reach}
+
+-- the metadata move to the end of the image, which had so many bytes before, and all else stays
+pub record MovesMetadata (oldsize : ℕ) (old : Reach) (answer : Result (Unit {0}) Refusal) (new : Reach) : Type 0 where
+  pub resizes : Resizes oldsize old.disk old.entropy answer new.disk new.entropy
+  pub holding : new.holding ≡ old.holding
+  pub cabinet : new.cabinet ≡ old.cabinet
+
+-- `resize`, of an idle drawer
+abbrev pub ResizeRow : ℕ → Reach → Result (Unit {0}) Refusal → Reach → Type 0
+ResizeRow oldsize old answer new = MovesMetadata oldsize old answer new
 
 -- `resize`: the image grew, and the old place has metadata of the old size
 pub record FindsOldPlace (oldsize : ℕ) (old : Reach) : Type 0 where

@@ -1,6 +1,6 @@
--- `restore`: the metadata are written back from a file.
-use Rattle.std.specs.Prelude.{Bool, Err, IsTrue, List, None, Ok, Option, ℕ, ◌≡◌}
-use Rattle.backup_restore.specs.Restoring.{GivesMetadata, IsBackedUp, restored}
+-- `restore`: the metadata are written back from a file (geli(8)).
+use Rattle.std.specs.Prelude.{Bool, Err, IsTrue, List, None, Ok, Option, Result, ℕ, ◌≡◌}
+use Rattle.backup_restore.specs.Restoring.{GivesMetadata, IsBackedUp, Restores, restored}
 use Rattle.block_traits.specs.Cabinet.{Files}
 use Rattle.block_traits.specs.Disk.{DiskState, last_sector}
 use Rattle.block_traits.specs.Moments.{KeepsAlone, KeepsOldOr}
@@ -12,9 +12,22 @@ use Rattle.eli_metadata.specs.declared.metadata.Metadata.{Metadata}
 use Rattle.key_components.specs.Files.{file_limit}
 use Rattle.command_rows.specs.Findings.{IsFile, NamesFile, RefusesFile, WritesMetadata}
 use Rattle.command_rows.specs.Replies.{Replies, done_or}
-use Rattle.command_rows.specs.Restoring.{RestoreRow}
+use Rattle.command_rows.specs.Steps.{Decides, KeepsOutside, LoadsFile, Then}
 use Rattle.command_rows.specs.Verb.{OfOther, Verb, asks_nothing, places_nothing}
 use Rattle.command_rows.specs.World.{Reach}
+
+-- metadata are put into the last sector from a backup, and all else stays
+pub record WritesBack (bytes : List ℕ) (force : Bool) (old : Reach) (answer : Result Metadata Refusal) (new : Reach) : Type 0 where
+  pub restores : Restores bytes force old.disk answer new.disk
+  pub holding : new.holding ≡ old.holding
+  pub outside : KeepsOutside old new
+
+-- `restore`, of an idle drawer: the file is loaded, and its metadata are written
+abbrev pub RestoreRow : List ℕ → Span → Bool → Reach → Result (Unit {0}) Refusal → Reach → Type 0
+RestoreRow line file force old answer new =
+    Then (LoadsFile file_limit line file)
+    (λ bytes. Then (WritesBack bytes force)
+    (λ m. Decides (Ok tt))) old answer new
 
 -- `restore`: the file has metadata for the image
 pub record FindsBackup (line : List ℕ) (file : Span) (force : Bool) (old : Reach) : Type 0 where

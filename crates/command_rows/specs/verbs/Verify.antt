@@ -1,18 +1,131 @@
--- `verify`: the units of some logical sectors are checked.
+-- `verify`: the units of some logical sectors that fail are listed, and the place where the next part begins is stored
+-- in a file.
 use Rattle.std.specs.Int.{from_le_bytes, w64}
-use Rattle.std.specs.Prelude.{Bool, Err, List, None, Ok, Option, Some, false, length, true, ℕ, ◌≡◌, ◌≤◌, ◌⊎◌}
+use Rattle.std.specs.List.Sorted.{IsStrictlyIncreasing}
+use Rattle.std.specs.Prelude.{All, Bool, Contains, Err, List, None, Ok, Option, Result, Some, [], false, if◌then◌else◌, length, nat_le, nat_lt, true, ℕ, ◌*◌, ◌+◌, ◌↔◌, ◌≡◌, ◌≤◌, ◌⊎◌}
 use Rattle.block_traits.specs.Cabinet.{CabinetState, Files}
-use Rattle.block_traits.specs.Disk.{DiskState}
+use Rattle.block_traits.specs.Causes.{Counted}
+use Rattle.block_traits.specs.Content.{IsSector}
+use Rattle.block_traits.specs.Disk.{DiskState, Logs}
 use Rattle.command_words.specs.Places.{bytes_at}
 use Rattle.command_words.specs.declared.spans.Span.{Span}
+use Rattle.eli_base.specs.Keying.{Keying}
 use Rattle.eli_base.specs.declared.refusals.Refusal.{Refusal}
 use Rattle.eli_base.specs.declared.refusals.Refusal.TheVariants as refusals
 use Rattle.provider.specs.Attached.{has_tags, media}
+use Rattle.provider.specs.Reading.{StandFrom}
+use Rattle.provider.specs.Reads.{FailsAmong}
+use Rattle.range_keys.specs.Keys.{le64}
+use Rattle.sealing.specs.Sectors.{units}
+use Rattle.verify_sweep.specs.Parts.{sweep_at}
+use Rattle.verify_sweep.specs.Sweeping.{Fails, Sweep, failing_units, sectors_swept}
+use Rattle.command_rows.specs.Answer.{Answer}
+use Rattle.command_rows.specs.Answer as answers
 use Rattle.command_rows.specs.Findings.{IsFile, RefusesFile}
-use Rattle.command_rows.specs.Replies.{Replies, verified_or}
+use Rattle.command_rows.specs.Replies.{Replies}
+use Rattle.command_rows.specs.Steps.{Decides, KeepsOutside, LoadsFile, StoresBytes, Then}
 use Rattle.command_rows.specs.Verb.{NoChanges, NoEvents, OfSweep, Verb, asks_nothing, places_nothing}
-use Rattle.command_rows.specs.Verifying.{VerifyRow, if_inside, place_in, place_size}
-use Rattle.command_rows.specs.World.{AttachedWith, Attachment}
+use Rattle.command_rows.specs.World.{AttachedWith, Attachment, Reach}
+
+-- what a sweep comes to: the byte offsets of the units that fail, and the logical sector where the next one begins
+pub record SweptPart : Type 0 where
+  pub offsets : List ℕ
+  pub next : ℕ
+
+-- ---- the data are authenticated
+
+abbrev pub if_tagged : Bool → Result (Unit {0}) Refusal
+if_tagged true = Ok tt
+if_tagged false = Err refusals.NotAuthenticated
+
+abbrev pub NeedsTags : Attachment → Reach → Result (Unit {0}) Refusal → Reach → Type 0
+NeedsTags a old answer new = Decides (if_tagged (has_tags a.keying.auth)) old answer new
+
+-- ---- the place where the sweep begins
+
+-- the bytes of a place, which are the most that its file may have
+abbrev pub place_size : ℕ
+place_size = 8
+
+-- what was loaded, or nothing where there is no such file
+abbrev pub unless_absent : Result (List ℕ) Refusal → Result (Option (List ℕ)) Refusal
+unless_absent (Ok bytes) = Ok (Some bytes)
+unless_absent (Err (refusals.FileAbsent word)) = Ok None
+unless_absent (Err refusal) = Err refusal
+
+-- the file of the place is loaded, if there is one
+pub record LoadsPlace (line : List ℕ) (file : Span) (old : Reach) (answer : Result (Option (List ℕ)) Refusal) (new : Reach) : Type 0 where
+  pub loaded : Result (List ℕ) Refusal
+  pub loads : LoadsFile place_size line file old loaded new
+  pub answered : answer ≡ unless_absent loaded
+
+-- the number that the bytes of a file are, the least significant first; without a file it is the first sector
+abbrev pub place_in : ℕ → Option (List ℕ) → Result ℕ Refusal
+place_in word None = Ok 0
+place_in word (Some bytes) = if nat_lt (length bytes) place_size then Err (refusals.BadPlaceFile word (length bytes)) else Ok (from_le_bytes w64 bytes)
+
+-- the place that the file says; or the first sector, where the sweep begins anew, and then no file is loaded
+abbrev pub FindsPlace : Bool → List ℕ → Span → Reach → Result ℕ Refusal → Reach → Type 0
+FindsPlace true line file old answer new = Decides (Ok 0) old answer new
+FindsPlace false line file old answer new = Then (LoadsPlace line file) (λ found. Decides (place_in file.word found)) old answer new
+
+-- it is no further than the end of the last sector
+abbrev pub if_inside : ℕ → ℕ → Result (Unit {0}) Refusal
+if_inside place there = if nat_le place there then Ok tt else Err (refusals.BadPlace place there)
+
+abbrev pub NeedsPlace : Attachment → ℕ → Reach → Result (Unit {0}) Refusal → Reach → Type 0
+NeedsPlace a place old answer new = Decides (if_inside place (media a.keying old.disk)) old answer new
+
+-- ---- the sweep
+
+-- so many device sectors from number n on were read once, nothing was logged, and these are the offsets of those that
+-- fail
+pub record ListsUnits (k : Keying) (n count : ℕ) (offsets : List ℕ) (old new : DiskState) : Type 0 where
+  pub sectors : List (List ℕ)
+  pub all : length sectors ≡ count
+  pub whole : All IsSector sectors
+  pub stand : StandFrom old.content n count sectors
+  pub listed : offsets ≡ failing_units k n sectors
+  pub asked : Counted count old.reads new.reads
+  pub logs : Logs [] old new
+
+-- what that says of each unit: an offset is listed exactly where the unit there fails, of these device sectors as they
+-- were read, and once
+pub record ListsEachOnce (k : Keying) (n count : ℕ) (offsets : List ℕ) (old : DiskState) : Type 0 where
+  pub sectors : List (List ℕ)
+  pub all : length sectors ≡ count
+  pub stand : StandFrom old.content n count sectors
+  pub each : (offset : ℕ) → Contains offsets offset ↔ Fails k n sectors offset
+  pub once : IsStrictlyIncreasing offsets
+
+-- the units of the sectors that the sweep goes over are listed, or a read of one of them failed
+abbrev pub PartAnswer : Sweep → DiskState → Result SweptPart Refusal → DiskState → Type 0
+PartAnswer s old (Ok part) new = (part.next ≡ s.start + sectors_swept s) × ListsUnits s.keying (s.start * units s.keying) (sectors_swept s * units s.keying) part.offsets old new
+PartAnswer s old (Err refusals.DeviceFault) new = FailsAmong (sectors_swept s * units s.keying) old new
+PartAnswer s old (Err refusal) new = ⊥
+
+pub record Sweeps (a : Attachment) (place count : ℕ) (old : Reach) (answer : Result SweptPart Refusal) (new : Reach) : Type 0 where
+  pub sweeps : PartAnswer (sweep_at a.keying (media a.keying old.disk) place count) old.disk answer new.disk
+  pub holding : new.holding ≡ old.holding
+  pub outside : KeepsOutside old new
+
+-- from a place that is there
+abbrev pub SweepsFrom : Attachment → ℕ → ℕ → Reach → Result SweptPart Refusal → Reach → Type 0
+SweepsFrom a place count old answer new = Then (NeedsPlace a place) (λ _. Sweeps a place count) old answer new
+
+-- ---- the row
+
+-- the place of the next part is stored, and then the part is answered
+abbrev pub StoresPlace : List ℕ → Span → SweptPart → Reach → Result SweptPart Refusal → Reach → Type 0
+StoresPlace line file part old answer new = Then (StoresBytes line file (le64 part.next)) (λ _. Decides (Ok part)) old answer new
+
+-- `verify`, of an attached drawer: from the place on so many sectors are swept, or fewer, and the file is stored last
+abbrev pub VerifyRow : List ℕ → Span → ℕ → Bool → Attachment → Reach → Result SweptPart Refusal → Reach → Type 0
+VerifyRow line file count restart a old answer new =
+    Then (NeedsTags a)
+    (λ _. Then (FindsPlace restart line file)
+    (λ place. Then (SweepsFrom a place count)
+    (λ part. StoresPlace line file part))) old answer new
 
 -- `verify`: there is authentication, and unless the sweep begins anew the cabinet tells its files, of which the named
 -- one is absent or says a place that is there
@@ -48,6 +161,11 @@ pub record RefusesPlace (line : List ℕ) (file : Span) (restart : Bool) (disk :
   pub bytes : List ℕ
   pub named : IsFile place_size told line file bytes
   pub refused : (place_in file.word (Some bytes) ≡ Err refusal) ⊎ SaysTooFar file.word bytes (media a.keying disk) refusal
+
+-- the answer
+abbrev pub verified_or : Result SweptPart Refusal → Answer
+verified_or (Ok part) = answers.Verified part.offsets part.next
+verified_or (Err refusal) = answers.Refused refusal
 
 -- the verb
 abbrev pub verify_verb : Span → Span → ℕ → Bool → Verb

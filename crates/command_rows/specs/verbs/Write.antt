@@ -22,6 +22,7 @@ WriteRow sector bytes a old answer new =
     (λ _. Then (NeedsSectors a sector count)
     (λ _. WritesSectors a sector count bytes))) old answer new
 
+-- the provider may be written, and the bytes are whole sectors that are there
 pub record FitsWrite (sector : ℕ) (bytes : List ℕ) (disk : DiskState) (a : Attachment) : Type 0 where
   pub writable : a.readonly ≡ false
   pub sectors : ℕ

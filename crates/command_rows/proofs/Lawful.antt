@@ -1,5 +1,5 @@
 -- What is proved of each verb, as one value, and how a row says so by its answer.
-use Rattle.std.proofs.Common.{Bool, Err, List, None, Ok, Option, Result, false, inr, subst, true, ℕ, ◌≡◌}
+use Rattle.std.proofs.Common.{Bool, Err, List, None, Ok, Option, Result, false, inr, subst, ℕ, ◌≡◌}
 use Rattle.block_traits.specs.Cabinet.{Files}
 use Rattle.block_traits.specs.Disk.{DiskState, Logs}
 use Rattle.block_traits.specs.declared.disk.Event.{Event}

@@ -25,12 +25,12 @@ pub record ShowsMetadataAt (disk : DiskState) (place : ℕ) (m : Metadata) : Typ
   pub told : disk.content ≡ Some content
   pub read : metadata_in (present content place) ≡ Ok m
 
--- the last sector is
+-- the same of the last sector
 pub record ShowsMetadata (disk : DiskState) (m : Metadata) : Type 0 where
   pub enough : 2 ≤ disk.size
   pub shown : ShowsMetadataAt disk (last_sector disk) m
 
--- `dump` and `backup`
+-- it has metadata, as `dump` and `backup` need it
 pub record FindsMetadata (old : Reach) : Type 0 where
   pub m : Metadata
   pub shows : ShowsMetadata old.disk m

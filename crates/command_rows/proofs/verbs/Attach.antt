@@ -9,7 +9,7 @@ use Rattle.eli_base.specs.declared.refusals.Refusal.TheVariants as refusals
 use Rattle.command_rows.specs.Answer.{Answer}
 use Rattle.command_rows.specs.Becoming.{Becomes}
 use Rattle.command_rows.specs.Causes.{may_lack_memory}
-use Rattle.command_rows.specs.Gate.{AnIdle, needs, refused_by}
+use Rattle.command_rows.specs.Gate.{AnIdle, refused_by}
 use Rattle.command_rows.specs.Replies.{done_or}
 use Rattle.command_rows.specs.Steps.{GoesOn}
 use Rattle.command_rows.specs.Trying.{TryRow}

@@ -9,7 +9,6 @@ use Rattle.eli_base.specs.declared.refusals.Refusal.{Refusal}
 use Rattle.eli_base.specs.declared.refusals.Refusal.TheVariants as refusals
 use Rattle.eli_metadata.specs.Refusals.{refusal_of}
 use Rattle.command_rows.specs.Findings.{HoldsNone, LacksMetadata}
-use Rattle.command_rows.specs.Gate.{needs}
 use Rattle.command_rows.specs.Grounds.{IsGround}
 use Rattle.command_rows.specs.Replies.{done_or}
 use Rattle.command_rows.specs.Requests.{handed_out}

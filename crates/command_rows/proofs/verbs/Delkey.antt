@@ -19,7 +19,6 @@ use Rattle.key_commands.specs.Overwriting.{HasNoKey, deletion_refusal, pass_even
 use Rattle.key_commands.specs.declared.overwriting.Which.{Which}
 use Rattle.key_commands.specs.declared.overwriting.Which.TheVariants as slots
 use Rattle.command_rows.specs.Findings.{HasMetadata, LacksMetadata}
-use Rattle.command_rows.specs.Gate.{needs}
 use Rattle.command_rows.specs.Replies.{done_or}
 use Rattle.command_rows.specs.Steps.{ReadsLastSector, Then, without_value}
 use Rattle.command_rows.specs.Stops.{ChangesMetadata}

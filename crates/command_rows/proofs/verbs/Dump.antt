@@ -4,7 +4,6 @@ use Rattle.command_words.specs.declared.commands.Command.TheVariants as commands
 use Rattle.command_words.specs.declared.spans.Span.{Span}
 use Rattle.eli_base.specs.declared.refusals.Refusal.{Refusal}
 use Rattle.eli_metadata.specs.declared.metadata.Metadata.{Metadata}
-use Rattle.command_rows.specs.Gate.{needs}
 use Rattle.command_rows.specs.Replies.{dump_or}
 use Rattle.command_rows.specs.World.{Reach}
 use Rattle.command_rows.specs.verbs.Dump.{DumpRow}

@@ -29,7 +29,6 @@ use Rattle.user_key.specs.declared.components.KeyFault.{KeyFault}
 use Rattle.user_key.specs.declared.components.UserKey.{UserKey}
 use Rattle.command_rows.specs.Causes.{may_lack_memory}
 use Rattle.command_rows.specs.Findings.{AreComponents, RefusesFiles, WritesMetadata}
-use Rattle.command_rows.specs.Gate.{needs}
 use Rattle.command_rows.specs.Replies.{done_or}
 use Rattle.command_rows.specs.Steps.{BacksUp, GoesOn, LoadsComponents, MakesProvider, Then}
 use Rattle.command_rows.specs.Stops.{ChangesMetadata}

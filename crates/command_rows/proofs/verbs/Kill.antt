@@ -10,7 +10,6 @@ use Rattle.eli_base.specs.declared.refusals.Refusal.TheVariants as refusals
 use Rattle.resize_kill.proofs.Destroyed.{gone-FailsIn, gone-Logs}
 use Rattle.resize_kill.specs.Killing.{HoldsNoMetadata, Kills, kill_events}
 use Rattle.resize_kill.specs.Trash.{trash_sectors}
-use Rattle.command_rows.specs.Gate.{needs}
 use Rattle.command_rows.specs.Replies.{done_or}
 use Rattle.command_rows.specs.Stops.{ChangesMetadata}
 use Rattle.command_rows.specs.World.{Idle, Reach, attachment_in}

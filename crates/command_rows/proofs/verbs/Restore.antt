@@ -22,7 +22,6 @@ use Rattle.key_commands.proofs.Making.{KeepsAlone-replace}
 use Rattle.key_components.specs.Answers.{file_answer}
 use Rattle.key_components.specs.Files.{file_limit}
 use Rattle.command_rows.specs.Findings.{IsFile, NamesFile, RefusesFile, WritesMetadata}
-use Rattle.command_rows.specs.Gate.{needs}
 use Rattle.command_rows.specs.Grounds.{IsGround}
 use Rattle.command_rows.specs.Replies.{done_or}
 use Rattle.command_rows.specs.Steps.{Decides, GoesOn, LoadsFile, Then}

@@ -16,7 +16,6 @@ use Rattle.command_rows.specs.Answer.{Answer}
 use Rattle.command_rows.specs.Becoming.{Becomes}
 use Rattle.command_rows.specs.Causes.{HasCause}
 use Rattle.command_rows.specs.Findings.{LacksMetadata}
-use Rattle.command_rows.specs.Gate.{needs}
 use Rattle.command_rows.specs.Grounds.{HasGround}
 use Rattle.command_rows.specs.Replies.{done_or}
 use Rattle.command_rows.specs.Steps.{Attaches, GoesOn, admitted, tried}

@@ -27,7 +27,6 @@ use Rattle.user_key.specs.declared.components.KeyFault.{KeyFault}
 use Rattle.user_key.specs.declared.components.UserKey.{UserKey}
 use Rattle.command_rows.specs.Causes.{may_lack_memory}
 use Rattle.command_rows.specs.Findings.{AreComponents, HasMetadata, LacksMetadata, RefusesFiles}
-use Rattle.command_rows.specs.Gate.{needs}
 use Rattle.command_rows.specs.Replies.{done_or}
 use Rattle.command_rows.specs.Steps.{Admits, LoadsComponents, ReadsLastSector, Then, admitted, without_value}
 use Rattle.command_rows.specs.Stops.{ChangesMetadata}

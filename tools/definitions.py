@@ -14,7 +14,7 @@ from pathlib import Path
 
 ROOT = Path(__file__).resolve().parent.parent
 PAGES, LIST = ROOT / "docs/definitions", ROOT / "docs/DEFINITIONS.md"
-HEAD = re.compile(r"(?:abbrev |unfoldable )*pub (?:abbrev |unfoldable |record |data )*([^\s({:]+)(.*)")
+HEAD = re.compile(r"(?:abbrev |unfoldable )*pub (?!use )(?:abbrev |unfoldable |record |data )*([^\s({:]+)(.*)")
 PARTS = "-- ----"
 
 INTRODUCTION = """# The definitions
@@ -36,7 +36,7 @@ def crates():
 
 
 def files_of(crate):
-    files = sorted((ROOT / "crates" / crate / "specs").glob("*.antt"))
+    files = sorted((ROOT / "crates" / crate / "specs").rglob("*.antt"))
     return [file for file in files if file.name != "Lib.antt"]
 
 
@@ -98,7 +98,8 @@ def page(crate):
             "What the crate is for: [its page](../../crates/%s/README.md)." % crate]
     for file in files_of(crate):
         head, items = read(file)
-        text += ["", "## [%s](../../crates/%s/specs/%s)" % (file.name, crate, file.name), ""]
+        name = file.relative_to(ROOT / "crates" / crate / "specs")
+        text += ["", "## [%s](../../crates/%s/specs/%s)" % (name, crate, name), ""]
         text += [wrapped(shown(head)), ""] if head else []
         for name, comment, kind in items:
             if not name:

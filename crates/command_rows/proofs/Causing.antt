@@ -1,23 +1,17 @@
 -- Why each row is refused.
-use Rattle.std.proofs.Common.{◌≡◌, ◌∙◌, ℕ, ◌+◌, ◌*◌, List, [], ◌∷◌, length, refl, ap, sym, subst, arith, Bool, true, false, cond, Result, Ok, Err, ◌/◌, Some}
 use Rattle.std.specs.Prelude.{nat_le}
 use Rattle.std.proofs.lemmas.Bool.Decides.{nat_tests}
 use Rattle.block_traits.specs.declared.disk.Event.{Event}
-use Rattle.block_traits.specs.declared.disk.Event.TheVariants.{Flush}
-use Rattle.command_words.specs.Places.{bytes_at}
 use Rattle.command_words.specs.declared.commands.Command.{Command}
-use Rattle.command_words.specs.declared.commands.Command.TheVariants as commands
-use Rattle.command_words.specs.declared.spans.Span.{Span}
 use Rattle.eli_base.specs.declared.refusals.Refusal.{Refusal}
 use Rattle.eli_base.specs.declared.refusals.Refusal.TheVariants as refusals
 use Rattle.provider.specs.Attached.{media}
 use Rattle.command_rows.specs.Causes.{AsksBytes, AsksSectors, HasCause, writes_data}
-use Rattle.command_rows.specs.Digits.{bytes_spelled}
 use Rattle.command_rows.specs.Gate.{needs, refused_by}
-use Rattle.command_rows.specs.Steps.{DoesEvents, GoesOn, NeedsSectors, NeedsWhole, NeedsWritable, ReadsSectors, Then, WritesSectors, if_writable, whole_sectors}
-use Rattle.command_rows.specs.Turn.{DetachRow, FlushRow, ReadRow, WriteRow}
 use Rattle.command_rows.specs.World.{Attachment, IsAttached, Reach}
 use Rattle.command_rows.proofs.Gate.{by_gate_refusal}
+use Rattle.std.proofs.Common.{Bool, Err, List, Ok, Result, Some, ap, arith, cond, false, refl, subst, sym, true, ℕ, ◌+◌, ◌/◌, ◌∙◌, ◌≡◌}
+use Rattle.command_rows.specs.Steps.{DoesEvents, GoesOn, NeedsSectors, NeedsWhole, NeedsWritable, Then, WritesSectors, if_writable, whole_sectors}
 
 abbrev pub Step : Type 0 → Type 1
 Step A = Reach → Result A Refusal → Reach → Type 0
@@ -56,12 +50,6 @@ events_why line command events old (Ok done) new h = tt
 events_why line command events old (Err refusals.DeviceFault) new h = h.rose
 events_why line command events old (Err refusal) new h = absurd h
 
-pub flush_why : (line : List ℕ) (command : Command) (old : Reach) (answer : Result (Unit {0}) Refusal) (new : Reach) → FlushRow old answer new → Why line command old answer new
-flush_why line command old answer new h = events_why line command (Flush ∷ []) old answer new h.does
-
-pub detach_why : (line : List ℕ) (command : Command) (old : Reach) (answer : Result (Unit {0}) Refusal) (new : Reach) → DetachRow old answer new → Why line command old answer new
-detach_why line command old answer new h = events_why line command (Flush ∷ []) old answer new h.flushes
-
 -- the length
 whole_by : (line : List ℕ) (command : Command) (a : Attachment) (bytes : ℕ) (whole : Bool) (old : Reach) (given : Result ℕ Refusal) (middle : Reach) → old.holding ≡ IsAttached a
     → whole_sectors a.keying.sectorsize bytes ≡ cond whole (Ok (bytes / a.keying.sectorsize)) (Err (refusals.BadLength bytes a.keying.sectorsize)) → AsksBytes line command bytes a → given ≡ whole_sectors a.keying.sectorsize bytes → Why line command old given middle
@@ -92,28 +80,6 @@ writable_why line command a old given middle is writes h = writable_by line comm
 
 -- ---- reading and writing
 
-sectors_why : (line : List ℕ) (prov : Span) (sector count : ℕ) (a : Attachment) (whole : ℕ) (old : Reach) (answer : Result (List ℕ) Refusal) (new : Reach) → old.holding ≡ IsAttached a
-    → whole_sectors a.keying.sectorsize (count * a.keying.sectorsize) ≡ Ok whole → ReadsSectors a sector whole old answer new → Why line (commands.Read prov sector count) old answer new
-sectors_why line prov sector count a whole old (Ok bytes) new is wholly h = tt
-sectors_why line prov sector count a whole old (Err (refusals.Integrity offset)) new is wholly h = rw is (record { sectors = whole; whole = wholly; reads = h.reads.reads })
-sectors_why line prov sector count a whole old (Err refusals.DeviceFault) new is wholly h = h.reads.fails.rose
-sectors_why line prov sector count a whole old (Err refusal) new is wholly h = absurd h.reads
-
-range_read_why : (line : List ℕ) (prov : Span) (sector count : ℕ) (a : Attachment) (whole : ℕ) (old : Reach) (answer : Result (List ℕ) Refusal) (new : Reach) → old.holding ≡ IsAttached a
-    → whole_sectors a.keying.sectorsize (count * a.keying.sectorsize) ≡ Ok whole → Then (NeedsSectors a sector whole) (λ _. ReadsSectors a sector whole) old answer new → Why line (commands.Read prov sector count) old answer new
-range_read_why line prov sector count a whole old answer new is wholly h =
-    then_why line (commands.Read prov sector count) (NeedsSectors a sector whole) (λ _. ReadsSectors a sector whole) old answer new (λ given middle. range_why line (commands.Read prov sector count) a sector whole old given middle is (refl, wholly))
-    (λ done middle first next. subst (λ (r : Reach). Why line (commands.Read prov sector count) r answer new) first.1
-    (sectors_why line prov sector count a whole middle answer new (ap (λ (r : Reach). r.holding) first.1 ∙ is) wholly next)) h
-
-pub read_why : (line : List ℕ) (prov : Span) (sector count : ℕ) (a : Attachment) (old : Reach) (answer : Result (List ℕ) Refusal) (new : Reach) → old.holding ≡ IsAttached a
-    → ReadRow sector count a old answer new → Why line (commands.Read prov sector count) old answer new
-read_why line prov sector count a old answer new is h =
-    then_why line (commands.Read prov sector count) (NeedsWhole a (count * a.keying.sectorsize)) (λ whole. Then (NeedsSectors a sector whole) (λ _. ReadsSectors a sector whole)) old answer new
-    (λ given middle. whole_why line (commands.Read prov sector count) a (count * a.keying.sectorsize) old given middle is refl)
-    (λ whole middle first next. subst (λ (r : Reach). Why line (commands.Read prov sector count) r answer new) first.1
-    (range_read_why line prov sector count a whole middle answer new (ap (λ (r : Reach). r.holding) first.1 ∙ is) (sym first.0) next)) h
-
 range_write_why : (line : List ℕ) (command : Command) (sector count : ℕ) (bytes : List ℕ) (a : Attachment) (old : Reach) (answer : Result (Unit {0}) Refusal) (new : Reach) → old.holding ≡ IsAttached a → AsksSectors line command sector count a
     → Then (NeedsSectors a sector count) (λ _. WritesSectors a sector count bytes) old answer new → Why line command old answer new
 range_write_why line command sector count bytes a old answer new is asked h =
@@ -126,14 +92,3 @@ writable_write_why line command sector count bytes a old answer new is writes as
     then_why line command (NeedsWritable a) (λ _. Then (NeedsSectors a sector count) (λ _. WritesSectors a sector count bytes)) old answer new (λ given middle. writable_why line command a old given middle is writes)
     (λ done middle first next. subst (λ (r : Reach). Why line command r answer new) first.1
     (range_write_why line command sector count bytes a middle answer new (ap (λ (r : Reach). r.holding) first.1 ∙ is) asked next)) h
-
-pub write_why : (line : List ℕ) (prov : Span) (sector : ℕ) (hex : Span) (a : Attachment) (old : Reach) (answer : Result (Unit {0}) Refusal) (new : Reach) → old.holding ≡ IsAttached a
-    → WriteRow sector (bytes_spelled (bytes_at line hex)) a old answer new
-    → Why line (commands.Write prov sector hex) old answer new
-write_why line prov sector hex a old answer new is h =
-    let command : Command = commands.Write prov sector hex in
-    let bytes : List ℕ = bytes_spelled (bytes_at line hex) in
-    then_why line command (NeedsWhole a (length bytes)) (λ count. Then (NeedsWritable a) (λ _. Then (NeedsSectors a sector count) (λ _. WritesSectors a sector count bytes))) old answer new
-    (λ given middle. whole_why line command a (length bytes) old given middle is refl)
-    (λ count middle first next. subst (λ (r : Reach). Why line command r answer new) first.1
-    (writable_write_why line command sector count bytes a middle answer new (ap (λ (r : Reach). r.holding) first.1 ∙ is) refl (refl, sym first.0) next)) h

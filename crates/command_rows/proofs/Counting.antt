@@ -1,13 +1,10 @@
--- Each step keeps the counts of the cabinet and the entropy from falling, and answers their failures only where they rose.
-use Rattle.std.proofs.Common.{◌≡◌, ◌⊎◌, inl, inr, ℕ, ◌/◌, ◌≤◌, List, [], ◌∷◌, ap, sym, subst, arith, Bool, true, false, cond, Option, None, Some, Result, Ok, Err}
+-- Each step keeps the counts of the cabinet and the entropy from falling, and answers their failures only where they
+-- rose.
 use Rattle.std.specs.Prelude.{IfErr}
-use Rattle.backup_restore.specs.Restoring.{Restores, restored}
-use Rattle.backup_restore.specs.Saving.{Saves}
 use Rattle.block_traits.specs.Cabinet.{CabinetState}
 use Rattle.block_traits.specs.Disk.{DiskState}
 use Rattle.block_traits.specs.Streams.{EntropyState}
 use Rattle.block_traits.specs.declared.disk.Event.{Event}
-use Rattle.block_traits.specs.declared.disk.Event.TheVariants.{Flush}
 use Rattle.block_traits.proofs.Causes.{Rose-earlier}
 use Rattle.command_words.specs.declared.spans.KeyWords.{KeyWords}
 use Rattle.command_words.specs.declared.spans.Span.{Span}
@@ -17,33 +14,16 @@ use Rattle.eli_metadata.specs.Refusals.{read_refusal_of, refusal_of}
 use Rattle.eli_metadata.specs.declared.metadata.Metadata.{Metadata}
 use Rattle.eli_metadata.specs.declared.place.ReadMetaFault.{ReadMetaFault}
 use Rattle.eli_metadata.specs.declared.place.ReadMetaFault.TheVariants.{TooSmall, DeviceFault, Meta}
-use Rattle.key_commands.specs.DeleteKeys.{DeletesKeys, Deletion}
-use Rattle.key_commands.specs.NewKey.{KeyChange, change_refusal}
-use Rattle.key_commands.specs.NewProvider.{Inits}
-use Rattle.key_commands.specs.Options.{early_refusal}
-use Rattle.key_commands.specs.Overwriting.{deletion_refusal}
-use Rattle.key_commands.specs.SetKey.{SetsKey}
-use Rattle.key_commands.specs.declared.options.InitOptions.{InitOptions}
 use Rattle.key_components.specs.Answers.{MayRefuse, StopsAtFile}
 use Rattle.key_components.specs.Files.{file_limit}
-use Rattle.resize_kill.specs.Killing.{Kills}
-use Rattle.resize_kill.specs.Resizing.{RefusesOld, RefusesSizes, Resizes, old_refusal, size_refusal}
 use Rattle.user_key.specs.declared.components.Components.{Components}
 use Rattle.command_rows.specs.Counts.{CountsRefusal}
-use Rattle.command_rows.specs.DeleteKeys.{TakesKeysOut}
-use Rattle.command_rows.specs.Killing.{DestroysMetadata, Withdraws}
-use Rattle.command_rows.specs.Requests.{handed_out}
-use Rattle.command_rows.specs.Resizing.{MovesMetadata}
-use Rattle.command_rows.specs.Restoring.{WritesBack}
-use Rattle.command_rows.specs.Saving.{FindsLastSector}
-use Rattle.command_rows.specs.SetKey.{StoresKey}
-use Rattle.command_rows.specs.Steps.{Attaches, BacksUp, Decides, Detaches, Does, DoesEvents, GoesOn, LoadsComponents, LoadsFile, MakesProvider, ReadsLastSector, ReadsSectors, SectorsAnswer, StoreAnswers, StoresBytes, Then, if_writable, or_refusal, without_value}
-use Rattle.command_rows.specs.Suspending.{Suspends}
-use Rattle.command_rows.specs.Turn.{AttachesUnless}
 use Rattle.command_rows.specs.World.{Attachment, Reach}
 use Rattle.command_rows.proofs.Causing.{Step}
-use Rattle.command_rows.proofs.Plain.{PlainAnswer, PlainOption, change_plain, deletion_plain, early_plain, meta_plain, old_plain, plain_err, plain_some, restored_plain, sizes_plain}
 use Rattle.command_rows.specs.Grounds.{IsGround}
+use Rattle.std.proofs.Common.{Bool, Err, List, Ok, Option, Result, Some, ap, arith, cond, false, inl, inr, subst, sym, true, ℕ, ◌/◌, ◌≡◌, ◌≤◌}
+use Rattle.command_rows.specs.Steps.{Attaches, Decides, Does, DoesEvents, GoesOn, LoadsComponents, LoadsFile, ReadsLastSector, ReadsSectors, SectorsAnswer, StoreAnswers, StoresBytes, Then, if_writable, or_refusal}
+use Rattle.command_rows.proofs.Plain.{PlainAnswer, PlainOption, meta_plain, plain_some}
 
 -- ---- refusals that are no failure of the cabinet or the entropy
 
@@ -58,7 +38,7 @@ abbrev pub UncountedAnswer : {A : Type 0} → Result A Refusal → Type 0
 UncountedAnswer (Ok value) = Unit {0}
 UncountedAnswer (Err refusal) = Uncounted refusal
 
-plain_uncounted : (refusal : Refusal) → IsGround refusal → Uncounted refusal
+pub plain_uncounted : (refusal : Refusal) → IsGround refusal → Uncounted refusal
 plain_uncounted (refusals.CabinetFault word) h = absurd h
 plain_uncounted refusals.EntropyFault h = absurd h
 plain_uncounted (refusals.FileAbsent word) h = absurd h
@@ -69,7 +49,7 @@ pub by_plain : {A : Type 0} (answer : Result A Refusal) → PlainAnswer answer �
 by_plain (Ok value) h = tt
 by_plain (Err refusal) h = plain_uncounted refusal h
 
-some_uncounted : (found : Option Refusal) (refusal : Refusal) → PlainOption found → found ≡ Some refusal → Uncounted refusal
+pub some_uncounted : (found : Option Refusal) (refusal : Refusal) → PlainOption found → found ≡ Some refusal → Uncounted refusal
 some_uncounted found refusal plain is = plain_uncounted refusal (plain_some found refusal plain is)
 
 uncounted_counts : (cabinet : CabinetState) (entropy : EntropyState) (refusal : Refusal) (cabinet' : CabinetState) (entropy' : EntropyState) → Uncounted refusal → CountsRefusal cabinet entropy refusal cabinet' entropy'
@@ -102,7 +82,7 @@ later_then old middle new a b = record {
 }
 
 -- the cabinet stays
-beside : (old new : Reach) → new.cabinet ≡ old.cabinet → old.entropy.faults ≤ new.entropy.faults → Later old new
+pub beside : (old new : Reach) → new.cabinet ≡ old.cabinet → old.entropy.faults ≤ new.entropy.faults → Later old new
 beside old new cabinet entropy =
     let faults : new.cabinet.faults ≡ old.cabinet.faults = ap (λ (c : CabinetState). c.faults) cabinet in
     let misses : new.cabinet.misses ≡ old.cabinet.misses = ap (λ (c : CabinetState). c.misses) cabinet in
@@ -157,29 +137,15 @@ attaching_counts a old (Ok done) new h = uncounted_step {A = Unit {0}} old (Ok d
 attaching_counts a old (Err refusals.NoMemory) new h = uncounted_step {A = Unit {0}} old (Err refusals.NoMemory) new tt (ap (λ (r : Reach). r.cabinet) h) (ap (λ (r : Reach). r.entropy) h)
 attaching_counts a old (Err refusal) new h = absurd h
 
-pub unless_counts : (only_check : Bool) (a : Attachment) → Counts (AttachesUnless only_check a)
-unless_counts true a old answer new h = decision_counts {A = Unit {0}} (Ok tt) old answer new tt h
-unless_counts false a old answer new h = attaching_counts a old answer new h
-
-pub withdrawing_counts : Counts Withdraws
-withdrawing_counts old answer new h =
-    uncounted_step old answer new (subst (λ (r : Result (Unit {0}) Refusal). UncountedAnswer r) (sym h.0) tt) (ap (λ (r : Reach). r.cabinet) h.1) (ap (λ (r : Reach). r.entropy) h.1)
-
 -- ---- the disk
 
-does_uncounted : (events : List Event) (old : DiskState) (answer : Result (Unit {0}) Refusal) (new : DiskState) → DoesEvents events old answer new → UncountedAnswer answer
+pub does_uncounted : (events : List Event) (old : DiskState) (answer : Result (Unit {0}) Refusal) (new : DiskState) → DoesEvents events old answer new → UncountedAnswer answer
 does_uncounted events old (Ok done) new h = tt
 does_uncounted events old (Err refusals.DeviceFault) new h = tt
 does_uncounted events old (Err refusal) new h = absurd h
 
 pub does_counts : (events : List Event) → Counts (Does events)
 does_counts events old answer new h = uncounted_step old answer new (does_uncounted events old.disk answer new.disk h.does) h.outside.cabinet h.outside.entropy
-
-pub detaching_counts : Counts Detaches
-detaching_counts old answer new h = uncounted_step old answer new (does_uncounted (Flush ∷ []) old.disk answer new.disk h.flushes) h.outside.cabinet h.outside.entropy
-
-pub suspending_counts : (a : Attachment) → Counts (Suspends a)
-suspending_counts a old answer new h = uncounted_step old answer new (does_uncounted (Flush ∷ []) old.disk answer new.disk h.flushes) h.outside.cabinet h.outside.entropy
 
 sectors_uncounted : (a : Attachment) (sector count : ℕ) (old : DiskState) (answer : Result (List ℕ) Refusal) (new : DiskState) → SectorsAnswer a.keying sector count old answer new → UncountedAnswer answer
 sectors_uncounted a sector count old (Ok bytes) new h = tt
@@ -244,88 +210,3 @@ stored_counts line file bytes old new (Err refusal) h same = absurd h
 
 pub storing_counts : (line : List ℕ) (file : Span) (bytes : List ℕ) → Counts (StoresBytes line file bytes)
 storing_counts line file bytes old answer new h = stored_counts line file bytes old new answer h.stores h.entropy
-
-pub backing_counts : (line : List ℕ) (backup : Option Span) (m : Metadata) → Counts (BacksUp line backup m)
-backing_counts line None m old answer new h = decision_counts {A = Unit {0}} (Ok tt) old answer new tt h
-backing_counts line (Some span) m old answer new h = storing_counts line span _ old answer new h
-
-saved_uncounted : (old : DiskState) (before : List ℕ) (read : Result (Unit {0}) Refusal) (bytes : List ℕ) (new : DiskState) → Saves old before read bytes new → UncountedAnswer (handed_out bytes read)
-saved_uncounted old before (Ok done) bytes new h = tt
-saved_uncounted old before (Err (refusals.TooSmall size)) bytes new h = tt
-saved_uncounted old before (Err refusals.DeviceFault) bytes new h = tt
-saved_uncounted old before (Err refusal) bytes new h = subst (λ (r : Refusal). Uncounted r) (sym h.cause) (plain_uncounted (refusal_of h.fault) (meta_plain h.fault))
-
-pub finding_counts : Counts FindsLastSector
-finding_counts old answer new h =
-    uncounted_step old answer new (subst (λ (r : Result (List ℕ) Refusal). UncountedAnswer r) (sym h.finds.answered) (saved_uncounted old.disk h.finds.before h.finds.read h.finds.bytes new.disk h.finds.saves)) h.outside.cabinet h.outside.entropy
-
-restored_uncounted : (bytes : List ℕ) (force : Bool) (old : DiskState) (made : Result Metadata Refusal) (new : DiskState) → Restores bytes force old made new → UncountedAnswer made
-restored_uncounted bytes force old (Ok m) new h = tt
-restored_uncounted bytes force old (Err refusals.DeviceFault) new h = tt
-restored_uncounted bytes force old (Err refusal) new h = plain_uncounted refusal (plain_err (restored bytes force old.size) refusal (restored_plain bytes force old.size) h.cause)
-
-pub writing_counts : (bytes : List ℕ) (force : Bool) → Counts (WritesBack bytes force)
-writing_counts bytes force old answer new h = uncounted_step old answer new (restored_uncounted bytes force old.disk answer new.disk h.restores) h.outside.cabinet h.outside.entropy
-
--- ---- keys
-
-set_uncounted : (asked : KeyChange) (disk : DiskState) (made : Result Metadata Refusal) (disk' : DiskState) → SetsKey asked disk made disk' → UncountedAnswer (without_value made)
-set_uncounted asked disk (Ok m) disk' h = tt
-set_uncounted asked disk (Err refusals.DeviceFault) disk' h = tt
-set_uncounted asked disk (Err refusal) disk' h = some_uncounted (change_refusal asked) refusal (change_plain asked) h.cause
-
-pub setting_counts : (asked : KeyChange) → Counts (StoresKey asked)
-setting_counts asked old answer new h =
-    uncounted_step old answer new (subst (λ (r : Result (Unit {0}) Refusal). UncountedAnswer r) (sym h.answered) (set_uncounted asked old.disk h.made new.disk h.sets)) h.cabinet h.entropy
-
--- ---- rows that draw random bytes
-
-delete_counts : (asked : Deletion) (old new : Reach) (made : Result Metadata Refusal) → DeletesKeys asked old.disk old.entropy made new.disk new.entropy → new.cabinet ≡ old.cabinet → CountsResult old (without_value made) new × Later old new
-delete_counts asked old new (Ok m) h same = (tt, beside old new same h.draws.taken.later)
-delete_counts asked old new (Err refusals.DeviceFault) h same = (tt, beside old new same h.draws.taken.later)
-delete_counts asked old new (Err refusals.EntropyFault) h same = (h.none.rose, beside old new same h.none.later)
-delete_counts asked old new (Err refusal) h same =
-    uncounted_step {A = Unit {0}} old (Err refusal) new (some_uncounted (deletion_refusal asked.meta asked.which asked.force) refusal (deletion_plain asked.meta asked.which asked.force) h.cause) same h.entropy_unchanged
-
-pub deleting_counts : (asked : Deletion) → Counts (TakesKeysOut asked)
-deleting_counts asked old answer new h =
-    subst (λ (r : Result (Unit {0}) Refusal). CountsResult old r new × Later old new) (sym h.answered) (delete_counts asked old new h.made h.deletes h.cabinet)
-
-made_counts : (options : InitOptions) (parts : Components) (old new : Reach) (made : Result Metadata Refusal) → Inits options parts old.disk old.entropy made new.disk new.entropy → new.cabinet ≡ old.cabinet → CountsResult old made new × Later old new
-made_counts options parts old new (Ok m) h same = (tt, beside old new same h.makes.taken.later)
-made_counts options parts old new (Err refusals.DeviceFault) h same = (tt, beside old new same h.makes.taken.later)
-made_counts options parts old new (Err refusals.EntropyFault) h same = (h.none.rose, beside old new same h.none.later)
-made_counts options parts old new (Err refusal) h same =
-    uncounted_step {A = Metadata} old (Err refusal) new
-    (some_uncounted (early_refusal options parts old.disk.size) refusal (early_plain options parts old.disk.size) h.cause) same h.entropy_unchanged
-
-pub making_counts : (options : InitOptions) (parts : Components) → Counts (MakesProvider options parts)
-making_counts options parts old answer new h = made_counts options parts old new answer h.inits h.cabinet
-
-unmoved_counts : (oldsize : ℕ) (old new : Reach) (refusal : Refusal) → RefusesSizes oldsize old.disk old.entropy refusal new.disk new.entropy ⊎ RefusesOld oldsize old.disk old.entropy refusal new.disk new.entropy → new.cabinet ≡ old.cabinet
-    → CountsResult {A = Unit {0}} old (Err refusal) new × Later old new
-unmoved_counts oldsize old new refusal (inl h) same =
-    uncounted_step {A = Unit {0}} old (Err refusal) new
-    (some_uncounted (size_refusal old.disk.size oldsize) refusal (sizes_plain old.disk.size oldsize) h.cause) same h.entropy_unchanged
-unmoved_counts oldsize old new refusal (inr h) same =
-    uncounted_step {A = Unit {0}} old (Err refusal) new (some_uncounted (old_refusal h.finds.found oldsize) refusal (old_plain h.finds.found oldsize) h.finds.cause) same h.unchanged
-
-moved_counts : (oldsize : ℕ) (old new : Reach) (answer : Result (Unit {0}) Refusal) → Resizes oldsize old.disk old.entropy answer new.disk new.entropy → new.cabinet ≡ old.cabinet → CountsResult old answer new × Later old new
-moved_counts oldsize old new (Ok done) h same = (tt, beside old new same h.prepares.takes.taken.later)
-moved_counts oldsize old new (Err refusals.DeviceFault) (inl h) same = uncounted_step {A = Unit {0}} old (Err refusals.DeviceFault) new tt same h.unchanged
-moved_counts oldsize old new (Err refusals.DeviceFault) (inr h) same = (tt, beside old new same h.prepares.takes.taken.later)
-moved_counts oldsize old new (Err refusals.EntropyFault) h same = (h.none.rose, beside old new same h.none.later)
-moved_counts oldsize old new (Err refusal) h same = unmoved_counts oldsize old new refusal h same
-
-pub moving_counts : (oldsize : ℕ) → Counts (MovesMetadata oldsize)
-moving_counts oldsize old answer new h = moved_counts oldsize old new answer h.resizes h.cabinet
-
-killed_counts : (old new : Reach) (answer : Result (Unit {0}) Refusal) → Kills old.disk old.entropy answer new.disk new.entropy → new.cabinet ≡ old.cabinet → CountsResult old answer new × Later old new
-killed_counts old new (Ok done) h same = (tt, beside old new same h.takes.taken.later)
-killed_counts old new (Err refusals.DeviceFault) h same = (tt, beside old new same h.takes.taken.later)
-killed_counts old new (Err refusals.EntropyFault) h same = (h.none.rose, beside old new same h.none.later)
-killed_counts old new (Err (refusals.TooSmall size)) h same = uncounted_step {A = Unit {0}} old (Err (refusals.TooSmall size)) new tt same h.entropy_unchanged
-killed_counts old new (Err refusal) h same = absurd h
-
-pub killing_counts : Counts DestroysMetadata
-killing_counts old answer new h = killed_counts old new answer h.kills h.cabinet

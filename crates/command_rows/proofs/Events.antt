@@ -1,28 +1,20 @@
 -- The events of each row.
-use Rattle.std.proofs.Common.{◌≡◌, ℕ, ◌*◌, ◌/◌, List, [], ◌∷◌, length, take, refl, ap, sym, subst, arith, inl, inr, Bool, true, false, cond, Option, None, Some, Result, Ok, Err}
-use Rattle.std.specs.Prelude.{is_some}
 use Rattle.block_traits.specs.Disk.{DiskState, FailsIn, Logs}
 use Rattle.block_traits.specs.declared.disk.Event.{Event}
-use Rattle.block_traits.specs.declared.disk.Event.TheVariants.{Flush}
 use Rattle.block_traits.proofs.Logs.{Logs-nothing, Logs-then}
 use Rattle.command_words.specs.declared.spans.KeyWords.{KeyWords}
-use Rattle.command_words.specs.declared.spans.Span.{Span}
 use Rattle.eli_base.specs.declared.refusals.Refusal.{Refusal}
 use Rattle.eli_base.specs.declared.refusals.Refusal.TheVariants as refusals
-use Rattle.eli_metadata.specs.Place.{ReadsMetadata, replace_events}
 use Rattle.eli_metadata.specs.declared.metadata.Metadata.{Metadata}
 use Rattle.eli_metadata.specs.declared.place.ReadMetaFault.{ReadMetaFault}
 use Rattle.eli_metadata.specs.declared.place.ReadMetaFault.TheVariants.{TooSmall, DeviceFault, Meta}
-use Rattle.key_commands.specs.NewProvider.{Inits}
-use Rattle.key_commands.specs.declared.options.InitOptions.{InitOptions}
 use Rattle.provider.specs.Writing.{data_writes}
-use Rattle.user_key.specs.declared.components.Components.{Components}
-use Rattle.command_rows.specs.Histories.{BreaksOff, WritesData, WritesMetadata}
-use Rattle.command_rows.specs.NewProvider.{InitRow}
-use Rattle.command_rows.specs.Steps.{Admits, Attaches, BacksUp, Decides, DoesEvents, GoesOn, LoadsComponents, NeedsSectors, NeedsWhole, NeedsWritable, ReadsLastSector, ReadsSectors, Then, WritesSectors}
+use Rattle.command_rows.specs.Histories.{BreaksOff}
 use Rattle.command_rows.specs.Trying.{TryRow}
-use Rattle.command_rows.specs.Turn.{AttachRow, AttachesUnless, DetachRow, FlushRow, ReadRow, WriteRow}
-use Rattle.command_rows.specs.World.{Attachment, IsAttached, Reach}
+use Rattle.std.proofs.Common.{Bool, Err, List, Ok, Option, Result, [], ap, arith, false, inl, inr, refl, subst, sym, take, true, ℕ, ◌≡◌}
+use Rattle.eli_metadata.specs.Place.{ReadsMetadata}
+use Rattle.command_rows.specs.Steps.{Admits, Attaches, Decides, DoesEvents, GoesOn, LoadsComponents, NeedsSectors, NeedsWritable, ReadsLastSector, ReadsSectors, Then, WritesSectors}
+use Rattle.command_rows.specs.World.{Attachment, Reach}
 
 -- ---- steps without events
 
@@ -114,27 +106,11 @@ does_did events stores old (Err refusals.DeviceFault) new h = record {
 }
 does_did events stores old (Err refusal) new h = absurd h
 
-pub flushes_did : (old : Reach) (answer : Result (Unit {0}) Refusal) (new : Reach) → FlushRow old answer new → Did (λ events. events ≡ Flush ∷ []) false old.disk answer new.disk
-flushes_did old answer new h = does_did (Flush ∷ []) false old.disk answer new.disk h.does
-
-pub detaches_did : (old : Reach) (answer : Result (Unit {0}) Refusal) (new : Reach) → DetachRow old answer new → Did (λ events. events ≡ Flush ∷ []) false old.disk answer new.disk
-detaches_did old answer new h = does_did (Flush ∷ []) false old.disk answer new.disk h.flushes
-
 pub quiet_sectors : (a : Attachment) (sector count : ℕ) → Quiet (ReadsSectors a sector count)
 quiet_sectors a sector count old (Ok bytes) new h = h.reads.1
 quiet_sectors a sector count old (Err (refusals.Integrity offset)) new h = h.reads.logs
 quiet_sectors a sector count old (Err refusals.DeviceFault) new h = quiet_failure old.disk new.disk h.reads.fails
 quiet_sectors a sector count old (Err refusal) new h = absurd h.reads
-
-pub quiet_read_row : (sector count : ℕ) (a : Attachment) → Quiet (ReadRow sector count a)
-quiet_read_row sector count a =
-    quiet_then (NeedsWhole a (count * a.keying.sectorsize)) _ (λ old answer new h. same_disk old.disk new.disk (ap (λ (r : Reach). r.disk) h.1))
-    (λ whole. quiet_then (NeedsSectors a sector whole) _ (λ old answer new h. same_disk old.disk new.disk (ap (λ (r : Reach). r.disk) h.1))
-    (λ _. quiet_sectors a sector whole))
-
-counted : (size bytes count : ℕ) (whole : Bool) (refusal : Refusal) → Ok count ≡ cond whole (Ok (bytes / size)) (Err refusal) → count ≡ bytes / size
-counted size bytes count true refusal h = cc h
-counted size bytes count false refusal h = absurd (let no : ⊥ = cc h in no)
 
 last_did : (a : Attachment) (sector count : ℕ) (bytes : List ℕ) (old : Reach) (answer : Result (Unit {0}) Refusal) (new : Reach) → WritesSectors a sector count bytes old answer new
     → Did (λ found. found ≡ data_writes a.keying sector count bytes) false old.disk answer new.disk
@@ -153,25 +129,10 @@ writable_did a sector count bytes old answer new h =
     did_then (λ found. found ≡ data_writes a.keying sector count bytes) false (NeedsWritable a) (λ _. Then (NeedsSectors a sector count) (λ _. WritesSectors a sector count bytes)) old answer new
     (λ old answer new h. same_disk old.disk new.disk (ap (λ (r : Reach). r.disk) h.1)) (λ done middle first next. inside_did a sector count bytes middle answer new next) h
 
-pub writes_did : (a : Attachment) (sector : ℕ) (bytes : List ℕ) (old : Reach) (answer : Result (Unit {0}) Refusal) (new : Reach)
-    → WriteRow sector bytes a old answer new
-    → Did (WritesData (IsAttached a) sector bytes) false old.disk answer new.disk
-writes_did a sector bytes old answer new h =
-    did_then (WritesData (IsAttached a) sector bytes) false (NeedsWhole a (length bytes)) (λ count. Then (NeedsWritable a) (λ _. Then (NeedsSectors a sector count) (λ _. WritesSectors a sector count bytes))) old answer new
-    (λ old answer new h. same_disk old.disk new.disk (ap (λ (r : Reach). r.disk) h.1))
-    (λ count middle first next.
-    subst (λ (n : ℕ). Did (λ found. found ≡ data_writes a.keying sector n bytes) false middle.disk answer new.disk) (counted a.keying.sectorsize (length bytes) count _ _ first.0)
-    (writable_did a sector count bytes middle answer new next))
-    h
-
 pub quiet_attaching : (a : Attachment) → Quiet (Attaches a)
 quiet_attaching a old (Ok done) new h = same_disk old.disk new.disk (ap (λ (r : Reach). r.disk) h)
 quiet_attaching a old (Err refusals.NoMemory) new h = same_disk old.disk new.disk (ap (λ (r : Reach). r.disk) h)
 quiet_attaching a old (Err refusal) new h = absurd h
-
-quiet_unless : (only_check : Bool) (a : Attachment) → Quiet (AttachesUnless only_check a)
-quiet_unless true a old answer new h = same_disk old.disk new.disk (ap (λ (r : Reach). r.disk) h.1)
-quiet_unless false a old answer new h = quiet_attaching a old answer new h
 
 pub quiet_trial : (line : List ℕ) (slot : Option ℕ) (readonly : Bool) (words : KeyWords) → Quiet (TryRow line slot readonly words)
 quiet_trial line slot readonly words =
@@ -179,46 +140,3 @@ quiet_trial line slot readonly words =
     (λ m. quiet_then (Admits m slot) _ (λ old answer new h. same_disk old.disk new.disk (ap (λ (r : Reach). r.disk) h.1))
     (λ settings. quiet_then (LoadsComponents line words) _ (quiet_loading line words)
     (λ parts old answer new h. same_disk old.disk new.disk (ap (λ (r : Reach). r.disk) h.1))))
-
-pub quiet_attach_row : (line : List ℕ) (only_check readonly : Bool) (slot : Option ℕ) (words : KeyWords) → Quiet (AttachRow line only_check readonly slot words)
-quiet_attach_row line only_check readonly slot words =
-    quiet_then (TryRow line slot readonly words) _ (quiet_trial line slot readonly words)
-    (λ a. quiet_unless only_check a)
-
--- ---- `init`
-
--- the metadata were written, and then the backup was stored or refused
-stored_did : (line : List ℕ) (backup : Option Span) (m : Metadata) (start : DiskState) (old : Reach) (answer : Result (Unit {0}) Refusal) (new : Reach) → Logs (replace_events start m) start old.disk → BacksUp line backup m old answer new
-    → Did (WritesMetadata start) (is_some backup) start answer new.disk
-stored_did line None m start old answer new logs h =
-    rw (h.0, ap (λ (r : Reach). r.disk) h.1) (record { events = replace_events start m; logs = logs; are = record { m = m; are = refl } })
-stored_did line (Some span) m start old (Ok done) new logs h =
-    record { events = replace_events start m; logs = rw h.disk logs; are = record { m = m; are = refl } }
-stored_did line (Some span) m start old (Err (refusals.CabinetFault word)) new logs h =
-    record { events = replace_events start m; logs = rw h.disk logs; are = inr (record { m = m; are = refl }) }
-stored_did line (Some span) m start old (Err refusals.NoMemory) new logs h =
-    record { events = replace_events start m; logs = rw h.disk logs; are = inr (record { m = m; are = refl }) }
-stored_did line (Some span) m start old (Err refusal) new logs h = absurd h.stores
-
--- the provider was made, or it was refused
-made_did : (line : List ℕ) (options : InitOptions) (parts : Components) (backup : Option Span) (old : Reach) (made : Result Metadata Refusal) (middle : Reach) (answer : Result (Unit {0}) Refusal) (new : Reach)
-    → Inits options parts old.disk old.entropy made middle.disk middle.entropy → GoesOn (λ m. BacksUp line backup m) made middle answer new → Did (WritesMetadata old.disk) (is_some backup) old.disk answer new.disk
-made_did line options parts backup old (Ok m) middle answer new inits next = stored_did line backup m old.disk middle answer new inits.logs next
-made_did line options parts backup old (Err refusals.DeviceFault) middle answer new inits next =
-    rw (next.0, ap (λ (r : Reach). r.disk) next.1) (record {
-      events = take inits.fails.count (replace_events old.disk inits.m);
-      logs = inits.fails.logs;
-      are = inr (record { row = replace_events old.disk inits.m; is_row = record { m = inits.m; are = refl }; count = inits.fails.count; part = refl });
-    })
-made_did line options parts backup old (Err refusals.EntropyFault) middle answer new inits next =
-    rw (next.0, ap (λ (r : Reach). r.disk) next.1) (nothing_done _ (is_some backup) refusals.EntropyFault old.disk middle.disk (same_disk old.disk middle.disk inits.unchanged))
-made_did line options parts backup old (Err refusal) middle answer new inits next =
-    rw (next.0, ap (λ (r : Reach). r.disk) next.1) (nothing_done _ (is_some backup) refusal old.disk middle.disk (same_disk old.disk middle.disk inits.disk_unchanged))
-
-pub init_did : (line : List ℕ) (options : InitOptions) (fresh : KeyWords) (backup : Option Span) (old : Reach) (answer : Result (Unit {0}) Refusal) (new : Reach) → InitRow line options fresh backup old answer new
-    → Did (WritesMetadata old.disk) (is_some backup) old.disk answer new.disk
-init_did line options fresh backup old answer new h =
-    did_then (WritesMetadata old.disk) (is_some backup) (LoadsComponents line fresh) _ old answer new (quiet_loading line fresh)
-    (λ parts middle loads then.
-    subst (λ (d : DiskState). Did (WritesMetadata d) (is_some backup) middle.disk answer new.disk) loads.disk (made_did line options parts backup middle then.given then.middle answer new then.first.inits then.next))
-    h

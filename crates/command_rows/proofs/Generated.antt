@@ -5,7 +5,7 @@ use Rattle.std.proofs.lemmas.List.{take_all}
 use Rattle.rand_core.specs.Steps.{fill_via_u64, word_bytes}
 use Rattle.rand_pcg.specs.Lcg.{Lcg}
 use Rattle.rand_pcg.specs.Pcg.{pcg64}
-use Rattle.command_rows.specs.Workloads.{generated}
+use Rattle.command_rows.specs.verbs.Fill.{generated}
 
 -- the words of m and then of n more
 pub generated-more : (m n : ℕ) (g : Lcg)

@@ -21,9 +21,10 @@ use Rattle.key_components.specs.Key.{components_of}
 use Rattle.key_components.proofs.Causes.{StopsAtFile-cause, StopsAtFile-earlier}
 use Rattle.user_key.specs.declared.components.Components.{Components}
 use Rattle.command_rows.specs.Causes.{HasCause, may_lack_memory}
-use Rattle.command_rows.specs.Grounds.{AreComponents, FindsBadFile, HasGround, HasMetadata, HoldsNone, IsFile, IsGround, LacksMetadata, RefusesFiles}
+use Rattle.command_rows.specs.Grounds.{FindsBadFile, HasGround, IsGround}
 use Rattle.command_rows.specs.Steps.{Decides, LoadsComponents, LoadsFile, ReadsLastSector, StoreAnswers, or_refusal}
 use Rattle.command_rows.specs.World.{Reach}
+use Rattle.command_rows.specs.Findings.{AreComponents, HasMetadata, HoldsNone, IsFile, LacksMetadata, RefusesFiles}
 use Rattle.command_rows.proofs.Causing.{Why}
 use Rattle.command_rows.proofs.Plain.{PlainAnswer, meta_plain}
 
@@ -74,9 +75,6 @@ pub record Since (start now : Reach) : Type 0 where
   pub cabinet : start.cabinet.faults ≤ now.cabinet.faults
   pub misses : start.cabinet.misses ≤ now.cabinet.misses
   pub entropy : start.entropy.faults ≤ now.entropy.faults
-
-pub since_here : (old : Reach) → Since old old
-since_here old = record { size = refl; files = refl; disk = omega arith; cabinet = omega arith; misses = omega arith; entropy = omega arith }
 
 since_then : (start middle now : Reach) → Since start middle → Since middle now → Since start now
 since_then start middle now a b = record {

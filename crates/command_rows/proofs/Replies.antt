@@ -6,7 +6,8 @@ use Rattle.reply_text.specs.declared.reply.Reply.{Reply}
 use Rattle.reply_text.specs.declared.reply.Reply.TheVariants as replies
 use Rattle.command_rows.specs.Answer.{Answer, answer_of, answer_text}
 use Rattle.command_rows.specs.Answer as answers
-use Rattle.command_rows.specs.Turn.{digest_or, done_or, dump_or, left_or, payload_or, verified_or, reaped_or, tag_or}
+use Rattle.command_rows.specs.Replies.{digest_or, done_or, dump_or, left_or, payload_or, reaped_or, tag_or}
+use Rattle.command_rows.specs.verbs.Verify.{verified_or}
 
 -- it is no refusal
 abbrev pub IsServed : Answer → Type 0

@@ -4,8 +4,8 @@ use Rattle.std.proofs.lemmas.Slice.Eq.{bytes_eq-Decides}
 use Rattle.eli_base.specs.declared.refusals.Refusal.{Refusal}
 use Rattle.eli_base.specs.declared.refusals.Refusal.TheVariants as refusals
 use Rattle.sha2.specs.Sha256.{sha256}
-use Rattle.command_rows.specs.Suspending.{same_key}
 use Rattle.command_rows.specs.World.{Attachment, Kept}
+use Rattle.command_rows.specs.verbs.Resume.{same_key}
 
 abbrev by_test : Bool → Result (Unit {0}) Refusal
 by_test same = cond same (Ok tt) (Err refusals.DifferentKey)

@@ -1,38 +1,15 @@
 -- Why `suspend` and `resume` are refused.
-use Rattle.std.proofs.Common.{◌≡◌, ◌∙◌, ◌⊎◌, ℕ, ◌≤◌, List, [], ◌∷◌, length, arith, refl, ap, sym, subst, inl, inr, Bool, Option, None, Result, Ok, Err}
-use Rattle.bio_queue.specs.Requests.{Request}
-use Rattle.block_traits.specs.declared.disk.Event.TheVariants.{Flush}
-use Rattle.command_words.specs.declared.commands.Command.{Command}
-use Rattle.command_words.specs.declared.commands.Command.TheVariants as commands
 use Rattle.command_words.specs.declared.spans.KeyWords.{KeyWords}
-use Rattle.command_words.specs.declared.spans.Span.{Span}
 use Rattle.eli_base.specs.declared.refusals.Refusal.{Refusal}
 use Rattle.eli_metadata.specs.declared.metadata.Metadata.{Metadata}
 use Rattle.user_key.specs.declared.components.Components.{Components}
-use Rattle.command_rows.specs.Grounds.{HasGround, LacksMetadata, OpensWith, RefusesAttach, RefusesResume}
-use Rattle.command_rows.specs.Steps.{Attaches, GoesOn, LoadsComponents, ReadsLastSector, admitted}
-use Rattle.command_rows.specs.Queueing.{NeedsNoRequests, if_none_open}
-use Rattle.command_rows.specs.Suspending.{AttachesAgain, NeedsSameKey, ResumeRow, SuspendRow, Suspends, same_key}
 use Rattle.command_rows.specs.Trying.{TryRow}
-use Rattle.command_rows.specs.World.{Attachment, IsAttached, IsSuspended, Kept, Reach}
-use Rattle.command_rows.proofs.Causing.{Step, Why, events_why, then_since, then_why}
-use Rattle.command_rows.proofs.Gate.{suspended}
-use Rattle.command_rows.proofs.Grounding.{decides_why, loading_parts, reading_has, reading_since, since_same}
-use Rattle.command_rows.proofs.Plain.{same_plain}
-use Rattle.command_rows.proofs.ProviderCauses.{attaching_why, trial_why}
-
--- ---- `suspend`
-
-open_why : (line : List ℕ) (prov : Span) (a : Attachment) (queue : List Request) (old middle : Reach) → old.holding ≡ IsAttached a → a.queue ≡ queue → Why line (commands.Suspend prov) old (if_none_open queue) middle
-open_why line prov a [] old middle is are = tt
-open_why line prov a (r ∷ queue) old middle is are = let some : 1 ≤ length (r ∷ queue) = omega arith in rw is (ap length (sym are), some)
-
-pub suspend_why : (line : List ℕ) (prov : Span) (a : Attachment) (old : Reach) (answer : Result (Unit {0}) Refusal) (new : Reach) → old.holding ≡ IsAttached a → SuspendRow a old answer new → Why line (commands.Suspend prov) old answer new
-suspend_why line prov a old answer new is h =
-    let command : Command = commands.Suspend prov in
-    then_why line command (NeedsNoRequests a) (λ _. Suspends a) old answer new
-    (λ given middle first. subst (λ (r : Result (Unit {0}) Refusal). Why line command old r middle) (sym first.0) (open_why line prov a a.queue old middle is refl))
-    (λ done middle first next. subst (λ (r : Reach). Why line command r answer new) first.1 (events_why line command (Flush ∷ []) middle answer new next.flushes)) h
+use Rattle.std.proofs.Common.{Bool, Err, List, Ok, Option, Result, refl, subst, sym, ℕ, ◌∙◌, ◌≡◌}
+use Rattle.command_rows.specs.Steps.{GoesOn, LoadsComponents, ReadsLastSector, admitted}
+use Rattle.command_rows.specs.World.{Attachment, Reach}
+use Rattle.command_rows.specs.verbs.Attach.{OpensWith}
+use Rattle.command_rows.proofs.Causing.{Step}
+use Rattle.command_rows.proofs.Grounding.{loading_parts, reading_has, reading_since, since_same}
 
 -- ---- a key that was tried, and opens
 
@@ -66,28 +43,3 @@ trial_opens line slot readonly words old a new h =
       named = loading_parts line words old then.middle loaded.value loads.middle (since_same old h.middle then.middle since then.first.1).files parts;
       opens = sym loaded.next.0;
     }
-
--- ---- `resume`
-
-resume_ground : (line : List ℕ) (words : KeyWords) (kept : Kept) (prov : Span) (old : Reach) (refusal : Refusal) → old.holding ≡ IsSuspended kept → LacksMetadata old.disk refusal ⊎ RefusesAttach line None kept.readonly words old refusal
-    → HasGround line (commands.Resume prov words) old refusal
-resume_ground line words kept prov old refusal is (inl lacks) = inl lacks
-resume_ground line words kept prov old refusal is (inr refused) = inr (suspended old.holding (λ k. RefusesResume line words k old refusal) kept is (inl refused))
-
--- another key than that of the suspended provider is no key of its
-again_why : (line : List ℕ) (prov : Span) (words : KeyWords) (kept : Kept) (a : Attachment) (start old : Reach) (answer : Result (Unit {0}) Refusal) (new : Reach) → start.holding ≡ IsSuspended kept → OpensWith line None kept.readonly words start a
-    → AttachesAgain kept a old answer new → Why line (commands.Resume prov words) start answer new
-again_why line prov words kept a start old answer new is opens h =
-    let command : Command = commands.Resume prov words in
-    then_since line command start (NeedsSameKey kept a) (λ _. Attaches a) old answer new
-    (λ given middle first. decides_why line command start (same_key kept a) old given middle (same_plain kept a)
-    (λ refusal other. inr (suspended start.holding (λ k. RefusesResume line words k start refusal) kept is (inr (record { a = a; opens = opens; refused = other })))) first)
-    (λ done middle first next. attaching_why line command start a middle answer new refl next) h
-
-pub resume_why : (line : List ℕ) (prov : Span) (words : KeyWords) (kept : Kept) (old : Reach) (answer : Result (Unit {0}) Refusal) (new : Reach) → old.holding ≡ IsSuspended kept → ResumeRow line words kept old answer new
-    → Why line (commands.Resume prov words) old answer new
-resume_why line prov words kept old answer new is h =
-    let command : Command = commands.Resume prov words in
-    then_why line command (TryRow line None kept.readonly words) (λ a. AttachesAgain kept a) old answer new
-    (λ given middle first. trial_why line command None kept.readonly words old given middle refl (λ refusal cabinet bad. bad) (λ refusal ground. resume_ground line words kept prov old refusal is ground) first)
-    (λ a middle first next. again_why line prov words kept a old middle answer new is (trial_opens line None kept.readonly words old a middle first) next) h

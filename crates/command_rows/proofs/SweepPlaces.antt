@@ -9,10 +9,10 @@ use Rattle.command_words.specs.declared.spans.Span.{Span}
 use Rattle.eli_base.specs.declared.refusals.Refusal.{Refusal}
 use Rattle.eli_base.specs.declared.refusals.Refusal.TheVariants as refusals
 use Rattle.key_components.specs.Answers.{KeepsFiles, file_answer, refused}
-use Rattle.command_rows.specs.Grounds.{IsFile}
 use Rattle.command_rows.specs.Steps.{Decides, GoesOn, KeepsOutside, LoadsFile}
-use Rattle.command_rows.specs.Verifying.{FindsPlace, LoadsPlace, Sweeps, SweepsFrom, SweptPart, if_inside, place_in, place_size, unless_absent}
 use Rattle.command_rows.specs.World.{Attachment, Reach}
+use Rattle.command_rows.specs.Findings.{IsFile}
+use Rattle.command_rows.specs.verbs.Verify.{FindsPlace, LoadsPlace, Sweeps, SweepsFrom, SweptPart, if_inside, place_in, place_size, unless_absent}
 use Rattle.command_rows.proofs.Grounding.{loading_bytes}
 
 -- ---- the file

@@ -17,8 +17,8 @@ use Rattle.sealing.specs.Sectors.{units}
 use Rattle.verify_sweep.specs.Parts.{sweep_at}
 use Rattle.verify_sweep.specs.Sweeping.{sectors_swept}
 use Rattle.command_rows.specs.Steps.{Decides, GoesOn, LoadsFile, StoreAnswers, StoresBytes, Then}
-use Rattle.command_rows.specs.Verifying.{FindsPlace, ListsUnits, LoadsPlace, StoresPlace, Sweeps, SweepsFrom, SweptPart, VerifyRow, if_inside, if_tagged, place_in, place_size, unless_absent}
 use Rattle.command_rows.specs.World.{Attachment, Reach}
+use Rattle.command_rows.specs.verbs.Verify.{FindsPlace, ListsUnits, LoadsPlace, StoresPlace, Sweeps, SweepsFrom, SweptPart, VerifyRow, if_inside, if_tagged, place_in, place_size, unless_absent}
 use Rattle.command_rows.proofs.SweepPlaces.{eight_loaded, eight_says, from_stays, place_stays}
 
 -- ---- what was loaded

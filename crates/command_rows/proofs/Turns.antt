@@ -26,8 +26,8 @@ by_provider : (line : List ℕ) (command : Command) (old : World) (answer : Answ
 by_provider line command old answer new None Unnamed Placed listed unknown left changed h = listed h
 by_provider line command old answer new (Some prov) Unnamed Placed listed unknown left changed h = by_place line command old answer new (place_of (bytes_at line prov) old.drawers) Placed unknown left changed h
 
--- what holds of a line that names no drawer, and of one that names one, by the place of that: the drawers were listed, none has the name, the drawer was taken out, or it
--- went through its row
+-- what holds of a line that names no drawer, and of one that names one, by the place of that: the drawers were listed,
+-- none has the name, the drawer was taken out, or it went through its row
 pub by_turn : (line : List ℕ) (command : Command) (old : World) (answer : Answer) (new : World) (Unnamed : Type 0) (Placed : Option ℕ → Type 0) → (Lists old answer new → Unnamed) → (IsUnknown old answer new → Placed None)
     → ((n : ℕ) → takes_out command ≡ true → TakesOut old answer new n → Placed (Some n)) → ((n : ℕ) → takes_out command ≡ false → ChangesAt (Serves line command) old answer new n → Placed (Some n))
     → Turn line command old answer new → MatchOption (provider_of command) Unnamed (λ prov. Placed (place_of (bytes_at line prov) old.drawers))

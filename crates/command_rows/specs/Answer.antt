@@ -7,8 +7,8 @@ use Rattle.reply_text.specs.declared.reply.Reply.{Reply}
 use Rattle.reply_text.specs.declared.reply.Reply.TheVariants as replies
 use Rattle.reply_text.specs.declared.rows.Row.{Row}
 
--- it was done; bytes that were read; a digest; the drawers; the metadata; the tag of a request; the units that are left of one;
--- the offsets of the units that fail, and where the next sweep begins; or it was refused
+-- it was done; bytes that were read; a digest; the drawers; the metadata; the tag of a request; the units that are left
+-- of one; the offsets of the units that fail, and where the next sweep begins; or it was refused
 pub data Answer : Type 0 where
   Done : Answer
   Payload : List ℕ → Answer

@@ -1,5 +1,6 @@
--- What a line makes of what a drawer does with its disk: by which verbs the drawer becomes idle, attached and suspended, and with what.
-use Rattle.std.specs.Prelude.{◌≡◌, ◌⊎◌, ℕ, Bool, true, false, IsTrue, List, [], ◌∷◌, Option, Some, None, slice_get, MatchOption}
+-- What a line makes of what a drawer does with its disk: by which verbs the drawer becomes idle, attached and
+-- suspended, and with what.
+use Rattle.std.specs.Prelude.{Bool, IsTrue, List, MatchOption, None, Option, Some, [], false, slice_get, true, ℕ, ◌∷◌, ◌≡◌, ◌⊎◌}
 use Rattle.block_traits.specs.Disk.{FailsIn, Logs}
 use Rattle.block_traits.specs.declared.disk.Event.TheVariants.{Flush}
 use Rattle.command_words.specs.Places.{bytes_at, provider_of}
@@ -11,10 +12,10 @@ use Rattle.sha2.specs.Sha256.{sha256}
 use Rattle.command_rows.specs.Answer.{Answer}
 use Rattle.command_rows.specs.Answer as answers
 use Rattle.command_rows.specs.Gate.{traits_of}
-use Rattle.command_rows.specs.Grounds.{OpensWith}
-use Rattle.command_rows.specs.Suspending.{kept_by}
 use Rattle.command_rows.specs.Turn.{reach, takes_out}
 use Rattle.command_rows.specs.World.{Attachment, DrawerState, Holding, Idle, IsAttached, IsSuspended, Kept, Reach, World, place_of}
+use Rattle.command_rows.specs.verbs.Attach.{OpensWith}
+use Rattle.command_rows.specs.verbs.Suspend.{kept_by}
 
 -- ---- idle
 
@@ -28,7 +29,8 @@ lets_go command = (traits_of command).lets_go
 abbrev pub changes_requests : Command → Bool
 changes_requests command = (traits_of command).changes_requests
 
--- it was attached before, with the same slot, keying and read-only state; and but for `submit`, `step` and `reap` the same requests are open
+-- it was attached before, with the same slot, keying and read-only state; and but for `submit`, `step` and `reap` the
+-- same requests are open
 pub record StaysAttached (command : Command) (a : Attachment) (old : Holding) : Type 0 where
   pub before : Attachment
   pub was : old ≡ IsAttached before
@@ -48,7 +50,8 @@ pub record IsOpened (line : List ℕ) (command : Command) (a : Attachment) (old 
   pub was : old.holding ≡ Idle
   pub opens : OpensWith line slot readonly words old a
 
--- it was suspended, and `resume` was done, with a key that opens the master key of which the digest was kept; the disk logged nothing
+-- it was suspended, and `resume` was done, with a key that opens the master key of which the digest was kept; the disk
+-- logged nothing
 pub record IsResumed (line : List ℕ) (command : Command) (a : Attachment) (old : Reach) (answer : Answer) (new : Reach) : Type 0 where
   pub prov : Span
   pub words : KeyWords

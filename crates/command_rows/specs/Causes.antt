@@ -1,26 +1,20 @@
 -- Why a line is refused, whatever its row.
-use Rattle.std.specs.Prelude.{◌≡◌, ℕ, ◌+◌, ◌*◌, ◌<◌, ◌≤◌, List, length, Bool, true, false, IsTrue, MatchOption, Option, Some, Ok, Err, slice_get}
-use Rattle.bio_queue.specs.Answers.{HasBadUnit, IsAllDone, IsNotDone}
-use Rattle.bio_queue.specs.Requests.{Request, left_of, request_with}
+use Rattle.std.specs.Prelude.{Bool, Err, IsTrue, List, MatchOption, Option, Some, false, slice_get, true, ℕ, ◌+◌, ◌<◌, ◌≡◌}
 use Rattle.block_traits.specs.Causes.{Rose}
 use Rattle.block_traits.specs.Disk.{DiskState}
 use Rattle.command_words.specs.Places.{bytes_at, provider_of}
 use Rattle.command_words.specs.declared.commands.Command.{Command}
-use Rattle.command_words.specs.declared.commands.Command.TheVariants as commands
-use Rattle.command_words.specs.declared.commands.JobWords.{JobWords}
-use Rattle.command_words.specs.declared.commands.JobWords.TheVariants as jobs
 use Rattle.command_words.specs.declared.spans.Span.{Span}
 use Rattle.eli_base.specs.declared.refusals.Refusal.{Refusal}
 use Rattle.eli_base.specs.declared.refusals.Refusal.TheVariants as refusals
 use Rattle.provider.specs.Attached.{has_tags, media}
-use Rattle.provider.specs.Reading.{ReadsAs}
-use Rattle.command_rows.specs.Digits.{bytes_spelled}
+use Rattle.command_rows.specs.Asks.{Asks, AsksBytesAtOnce, AsksSectorsFrom, FaultOf, QueueRefuses}
 use Rattle.command_rows.specs.Gate.{needs, refused_by, traits_of}
 use Rattle.command_rows.specs.Grounds.{FindsBadFile, HasGround, IsGround}
-use Rattle.command_rows.specs.Queueing.{HasRequest}
 use Rattle.command_rows.specs.Steps.{whole_sectors}
 use Rattle.command_rows.specs.Turn.{reach}
 use Rattle.command_rows.specs.World.{AttachedWith, Attachment, DrawerState, Reach, World, place_of}
+use Rattle.command_rows.specs.verbs.{verb_of}
 
 -- whether a command may answer that there was no memory
 abbrev pub may_lack_memory : Command → Bool
@@ -34,33 +28,17 @@ writes_data command = (traits_of command).writes_data
 abbrev pub needs_tags : Command → Bool
 needs_tags command = (traits_of command).needs_tags
 
--- the bytes that a request asks for are so many
-abbrev pub JobAsksBytes : List ℕ → JobWords → ℕ → Attachment → Type 0
-JobAsksBytes line (jobs.Read sector count) bytes a = bytes ≡ count * a.keying.sectorsize
-JobAsksBytes line (jobs.Write sector hex) bytes a = bytes ≡ length (bytes_spelled (bytes_at line hex))
-JobAsksBytes line jobs.Flush bytes a = ⊥
+-- what a line asks of an attached provider
+abbrev pub asks_of : List ℕ → Command → Asks
+asks_of line command = (verb_of command).asks line
 
 -- the bytes that a line asks for at once are so many
 abbrev pub AsksBytes : List ℕ → Command → ℕ → Attachment → Type 0
-AsksBytes line (commands.Read prov sector count) bytes a = bytes ≡ count * a.keying.sectorsize
-AsksBytes line (commands.Write prov sector hex) bytes a = bytes ≡ length (bytes_spelled (bytes_at line hex))
-AsksBytes line (commands.Submit prov job) bytes a = JobAsksBytes line job bytes a
-AsksBytes line command bytes a = ⊥
-
--- the sectors that a request asks for are so many from this one on
-abbrev pub JobAsksSectors : List ℕ → JobWords → ℕ → ℕ → Attachment → Type 0
-JobAsksSectors line (jobs.Read sector count) first many a = (first ≡ sector) × (whole_sectors a.keying.sectorsize (count * a.keying.sectorsize) ≡ Ok many)
-JobAsksSectors line (jobs.Write sector hex) first many a = (first ≡ sector) × (whole_sectors a.keying.sectorsize (length (bytes_spelled (bytes_at line hex))) ≡ Ok many)
-JobAsksSectors line jobs.Flush first many a = ⊥
+AsksBytes line command bytes a = AsksBytesAtOnce (asks_of line command) bytes a
 
 -- the sectors that a line asks for are so many from this one on
 abbrev pub AsksSectors : List ℕ → Command → ℕ → ℕ → Attachment → Type 0
-AsksSectors line (commands.Read prov sector count) first many a = (first ≡ sector) × (whole_sectors a.keying.sectorsize (count * a.keying.sectorsize) ≡ Ok many)
-AsksSectors line (commands.Write prov sector hex) first many a = (first ≡ sector) × (whole_sectors a.keying.sectorsize (length (bytes_spelled (bytes_at line hex))) ≡ Ok many)
-AsksSectors line (commands.Fill prov seed start count) first many a = (first ≡ start) × (many ≡ count)
-AsksSectors line (commands.Sum prov start count) first many a = (first ≡ start) × (many ≡ count)
-AsksSectors line (commands.Submit prov job) first many a = JobAsksSectors line job first many a
-AsksSectors line command first many a = ⊥
+AsksSectors line command first many a = AsksSectorsFrom (asks_of line command) first many a
 
 -- the bytes are no whole sectors, or too many
 pub record HasBadLength (line : List ℕ) (command : Command) (given size : ℕ) (a : Attachment) : Type 0 where
@@ -73,34 +51,13 @@ pub record PassesEnd (line : List ℕ) (command : Command) (disk : DiskState) (s
   pub has : there ≡ media a.keying disk
   pub passes : there < sector + count
 
--- the sectors that a line reads, whole ones of the attached provider, have a first fault at this offset
-pub record ReadsFault (a : Attachment) (sector count : ℕ) (disk : DiskState) (offset : ℕ) : Type 0 where
-  pub sectors : ℕ
-  pub whole : whole_sectors a.keying.sectorsize (count * a.keying.sectorsize) ≡ Ok sectors
-  pub reads : ReadsAs disk a.keying sector sectors (Err offset)
+-- a unit that a line reads has another tag than its cipher text: the first one at this offset
+abbrev pub FindsFault : List ℕ → Command → DiskState → ℕ → Attachment → Type 0
+FindsFault line command disk offset a = FaultOf (asks_of line command) disk offset a
 
--- the request with this tag is done, and has a unit that was read with another tag than its cipher text: the first one at this offset
-pub record HasReadFault (tag offset : ℕ) (a : Attachment) : Type 0 where
-  pub request : Request
-  pub found : request_with tag a.queue ≡ Some request
-  pub none : left_of request ≡ 0
-  pub bad : HasBadUnit a.keying request.job request.device offset
-
-abbrev pub FindsFault : Command → DiskState → ℕ → Attachment → Type 0
-FindsFault (commands.Read prov sector count) disk offset a = ReadsFault a sector count disk offset
-FindsFault (commands.Sum prov start count) disk offset a = ReadsAs disk a.keying start count (Err offset)
-FindsFault (commands.Reap prov tag) disk offset a = HasReadFault tag offset a
-FindsFault command disk offset a = ⊥
-
--- for this a line is refused by the open requests: as many are open as may be, none has the tag, units are left of it, or none is
-abbrev pub FindsInQueue : Command → DiskState → Refusal → Attachment → Type 0
-FindsInQueue (commands.Submit prov job) disk refusals.QueueFull a = length a.queue ≡ 32
-FindsInQueue (commands.Step prov named) disk (refusals.NoRequest tag) a = (tag ≡ named) × (¬ HasRequest a tag disk)
-FindsInQueue (commands.Step prov named) disk (refusals.RequestDone tag) a = (tag ≡ named) × IsAllDone tag a.queue
-FindsInQueue (commands.Reap prov named) disk (refusals.NoRequest tag) a = (tag ≡ named) × (¬ HasRequest a tag disk)
-FindsInQueue (commands.Reap prov named) disk (refusals.RequestNotDone tag left) a = (tag ≡ named) × IsNotDone tag left a.queue
-FindsInQueue (commands.Suspend prov) disk (refusals.RequestsOpen count) a = (count ≡ length a.queue) × (1 ≤ count)
-FindsInQueue command disk refusal a = ⊥
+-- for this a line is refused by the open requests
+abbrev pub FindsInQueue : List ℕ → Command → DiskState → Refusal → Attachment → Type 0
+FindsInQueue line command disk refusal a = QueueRefuses (asks_of line command) disk refusal a
 
 -- the cause of a refusal of a line that names a drawer, by what the line reached before and after
 abbrev pub HasCause : List ℕ → Command → Reach → Refusal → Reach → Type 0
@@ -111,7 +68,7 @@ HasCause line command old refusals.NotSuspended new = refused_by (needs command)
 HasCause line command old refusals.ReadOnly new = IsTrue (writes_data command) × AttachedWith old.holding (λ a. a.readonly ≡ true)
 HasCause line command old (refusals.OutOfRange sector count there) new = AttachedWith old.holding (PassesEnd line command old.disk sector count there)
 HasCause line command old (refusals.BadLength given size) new = AttachedWith old.holding (HasBadLength line command given size)
-HasCause line command old (refusals.Integrity offset) new = AttachedWith old.holding (FindsFault command old.disk offset)
+HasCause line command old (refusals.Integrity offset) new = AttachedWith old.holding (FindsFault line command old.disk offset)
 HasCause line command old refusals.NotAuthenticated new = IsTrue (needs_tags command) × AttachedWith old.holding (λ a. has_tags a.keying.auth ≡ false)
 HasCause line command old refusals.DeviceFault new = Rose old.disk.faults new.disk.faults
 HasCause line command old refusals.EntropyFault new = Rose old.entropy.faults new.entropy.faults
@@ -119,11 +76,11 @@ HasCause line command old (refusals.CabinetFault word) new = Rose old.cabinet.fa
 HasCause line command old (refusals.FileAbsent word) new = FindsBadFile line command old.holding old.cabinet (refusals.FileAbsent word) new.cabinet
 HasCause line command old (refusals.FileTooLong word limit) new = FindsBadFile line command old.holding old.cabinet (refusals.FileTooLong word limit) new.cabinet
 HasCause line command old refusals.NoMemory new = IsTrue (may_lack_memory command)
-HasCause line command old refusals.QueueFull new = AttachedWith old.holding (FindsInQueue command old.disk refusals.QueueFull)
-HasCause line command old (refusals.NoRequest tag) new = AttachedWith old.holding (FindsInQueue command old.disk (refusals.NoRequest tag))
-HasCause line command old (refusals.RequestNotDone tag left) new = AttachedWith old.holding (FindsInQueue command old.disk (refusals.RequestNotDone tag left))
-HasCause line command old (refusals.RequestDone tag) new = AttachedWith old.holding (FindsInQueue command old.disk (refusals.RequestDone tag))
-HasCause line command old (refusals.RequestsOpen count) new = AttachedWith old.holding (FindsInQueue command old.disk (refusals.RequestsOpen count))
+HasCause line command old refusals.QueueFull new = AttachedWith old.holding (FindsInQueue line command old.disk refusals.QueueFull)
+HasCause line command old (refusals.NoRequest tag) new = AttachedWith old.holding (FindsInQueue line command old.disk (refusals.NoRequest tag))
+HasCause line command old (refusals.RequestNotDone tag left) new = AttachedWith old.holding (FindsInQueue line command old.disk (refusals.RequestNotDone tag left))
+HasCause line command old (refusals.RequestDone tag) new = AttachedWith old.holding (FindsInQueue line command old.disk (refusals.RequestDone tag))
+HasCause line command old (refusals.RequestsOpen count) new = AttachedWith old.holding (FindsInQueue line command old.disk (refusals.RequestsOpen count))
 HasCause line command old refusal new = IsGround refusal × HasGround line command old refusal
 
 -- the same of the drawer at a place

@@ -1,4 +1,5 @@
--- The counts of the cabinet and the entropy through a line: none falls, and a failure of theirs is answered only where its count rose.
+-- The counts of the cabinet and the entropy through a line: none falls, and a failure of theirs is answered only where
+-- its count rose.
 use Rattle.std.specs.Prelude.{◌≡◌, ◌⊎◌, ◌≤◌}
 use Rattle.block_traits.specs.Cabinet.{CabinetState}
 use Rattle.block_traits.specs.Causes.{Rose}
@@ -10,8 +11,8 @@ use Rattle.command_rows.specs.Answer.{Answer}
 use Rattle.command_rows.specs.Answer as answers
 use Rattle.command_rows.specs.World.{World}
 
--- Where this is refused, the count of such failures rose. That a passphrase is longer than its own limit is no miss of the cabinet. Each refusal is
--- named, so that a new one has to be decided on.
+-- Where this is refused, the count of such failures rose. That a passphrase is longer than its own limit is no miss of
+-- the cabinet. Each refusal is named, so that a new one has to be decided on.
 abbrev pub CountsRefusal : CabinetState → EntropyState → Refusal → CabinetState → EntropyState → Type 0
 CountsRefusal cabinet entropy (refusals.Usage word reason) cabinet' entropy' = Unit {0}
 CountsRefusal cabinet entropy refusals.UnknownProvider cabinet' entropy' = Unit {0}

@@ -1,10 +1,10 @@
 -- The steps of which commands consist. A step answers a value or a refusal, and may change what the command reaches.
-use Rattle.std.specs.Prelude.{◌≡◌, ℕ, ◌+◌, ◌*◌, ◌/◌, ◌%◌, ◌≤◌, nat_le, Bool, true, false, ◌&&◌, ◌||◌, List, [], ◌∷◌, ◌++◌, length, Option, Some, None, IfOk, IfErr, IfSome, Result, Ok, Err, if◌then◌else◌, ◌==◌}
+use Rattle.std.specs.Prelude.{Bool, Err, IfErr, IfOk, IfSome, List, None, Ok, Option, Result, Some, [], false, if◌then◌else◌, length, nat_le, true, ℕ, ◌%◌, ◌&&◌, ◌*◌, ◌++◌, ◌+◌, ◌/◌, ◌==◌, ◌||◌, ◌∷◌, ◌≡◌, ◌≤◌}
 use Rattle.block_traits.specs.Cabinet.{CabinetState, stored}
 use Rattle.block_traits.specs.Causes.{Counted, Rose}
+use Rattle.block_traits.specs.Disk.{DiskState, FailsIn, Logs}
 use Rattle.block_traits.specs.declared.cabinet.StoreFault.{StoreFault}
 use Rattle.block_traits.specs.declared.cabinet.StoreFault.TheVariants as store
-use Rattle.block_traits.specs.Disk.{DiskState, FailsIn, Logs}
 use Rattle.block_traits.specs.declared.disk.Event.{Event}
 use Rattle.block_traits.specs.declared.disk.Event.TheVariants.{Flush}
 use Rattle.command_words.specs.Places.{bytes_at}
@@ -19,8 +19,8 @@ use Rattle.eli_metadata.specs.Checks.{Settings, size_matches, slot_matches, supp
 use Rattle.eli_metadata.specs.Format.{encoded}
 use Rattle.eli_metadata.specs.Place.{ReadsMetadata}
 use Rattle.eli_metadata.specs.Refusals.{read_refusal_of, refusal_of}
-use Rattle.eli_metadata.specs.declared.metadata.Metadata.{Metadata}
 use Rattle.eli_metadata.specs.declared.metadata.MetaFault.{MetaFault}
+use Rattle.eli_metadata.specs.declared.metadata.Metadata.{Metadata}
 use Rattle.eli_metadata.specs.declared.place.ReadMetaFault.{ReadMetaFault}
 use Rattle.key_commands.specs.NewProvider.{Inits}
 use Rattle.key_commands.specs.declared.options.InitOptions.{InitOptions}
@@ -30,12 +30,12 @@ use Rattle.provider.specs.Attached.{media, opened}
 use Rattle.provider.specs.Reading.{ReadsAs}
 use Rattle.provider.specs.Reads.{RunFails, RunFault}
 use Rattle.provider.specs.Writing.{data_writes}
-use Rattle.user_key.specs.Refusals.{key_refusal_of}
+use Rattle.sealing.specs.Sectors.{units}
 use Rattle.user_key.specs.Derivation.{user_key}
+use Rattle.user_key.specs.Refusals.{key_refusal_of}
 use Rattle.user_key.specs.declared.components.Components.{Components}
 use Rattle.user_key.specs.declared.components.KeyFault.{KeyFault}
 use Rattle.user_key.specs.declared.components.UserKey.{UserKey}
-use Rattle.sealing.specs.Sectors.{units}
 use Rattle.command_rows.specs.World.{Attachment, Idle, IsAttached, Reach}
 
 -- ---- one step after another
@@ -247,8 +247,8 @@ in_range sector count there = if nat_le (sector + count) there then Ok tt else E
 abbrev pub NeedsSectors : Attachment → ℕ → ℕ → Reach → Result (Unit {0}) Refusal → Reach → Type 0
 NeedsSectors a sector count old answer new = Decides (in_range sector count (media a.keying old.disk)) old answer new
 
--- what the sectors read as, where the disk tells that, each unit of which was read once; or the first unit whose tag differs; or the disk failed, all units before
--- having been accepted
+-- what the sectors read as, where the disk tells that, each unit of which was read once; or the first unit whose tag
+-- differs; or the disk failed, all units before having been accepted
 abbrev pub SectorsAnswer : Keying → ℕ → ℕ → DiskState → Result (List ℕ) Refusal → DiskState → Type 0
 SectorsAnswer k sector count old (Ok bytes) new =
     (length bytes ≡ count * k.sectorsize) × Logs [] old new × ReadsAs old k sector count (Ok bytes) × Counted (count * units k) old.reads new.reads

@@ -1,147 +1,33 @@
--- What a command does to the world: the rows of its verb (geli(8)).
-use Rattle.std.specs.Prelude.{◌≡◌, ℕ, ◌*◌, Bool, true, false, List, [], ◌∷◌, map, length, Option, Some, None, MatchOption, is_some, Result, Ok, Err, slice_get, slice_set}
+-- What a command does to the world: the row of its verb at the drawer that it names (geli(8)).
+pub use Rattle.command_rows.specs.Replies.{Replies, digest_or, done_or, dump_or, left_or, payload_or, reaped_or, tag_or}
+pub use Rattle.command_rows.specs.verbs.Attach.{AttachRow, AttachesUnless}
+pub use Rattle.command_rows.specs.verbs.Detach.{DetachRow}
+pub use Rattle.command_rows.specs.verbs.Dump.{DumpRow}
+pub use Rattle.command_rows.specs.verbs.Flush.{FlushRow}
+pub use Rattle.command_rows.specs.verbs.Read.{ReadRow}
+pub use Rattle.command_rows.specs.verbs.Verify.{verified_or}
+pub use Rattle.command_rows.specs.verbs.Write.{WriteRow}
 use Rattle.std.specs.List.{remove}
-use Rattle.block_traits.specs.declared.disk.Event.{Event}
-use Rattle.block_traits.specs.declared.disk.Event.TheVariants.{Flush}
+use Rattle.std.specs.Prelude.{Bool, List, MatchOption, None, Option, Some, false, is_some, map, slice_get, slice_set, true, ℕ, ◌≡◌}
 use Rattle.block_traits.specs.Disk.{DiskState, IsHistory}
+use Rattle.block_traits.specs.declared.disk.Event.{Event}
 use Rattle.command_words.specs.Places.{bytes_at, provider_of}
 use Rattle.command_words.specs.declared.commands.Command.{Command}
-use Rattle.command_words.specs.declared.commands.Command.TheVariants as commands
-use Rattle.command_words.specs.declared.spans.KeyWords.{KeyWords}
 use Rattle.eli_base.specs.declared.refusals.Refusal.{Refusal}
 use Rattle.eli_base.specs.declared.refusals.Refusal.TheVariants as refusals
-use Rattle.eli_metadata.specs.declared.metadata.Metadata.{Metadata}
-use Rattle.key_commands.specs.declared.options.InitOptions.{InitOptions}
 use Rattle.provider.specs.Attached.{media}
 use Rattle.reply_text.specs.declared.rows.Row.{Row}
 use Rattle.command_rows.specs.Answer.{Answer}
 use Rattle.command_rows.specs.Answer as answers
-use Rattle.command_rows.specs.DeleteKeys.{DelkeyRow}
-use Rattle.command_rows.specs.Digits.{bytes_spelled}
 use Rattle.command_rows.specs.Gate.{needs, refused_by, traits_of}
-use Rattle.command_rows.specs.Killing.{KillRow}
-use Rattle.command_rows.specs.NewProvider.{InitRow, iterations_of}
-use Rattle.command_rows.specs.Queueing.{ReapRow, StepRow, SubmitRow}
-use Rattle.command_rows.specs.Resizing.{ResizeRow}
-use Rattle.command_rows.specs.Restoring.{RestoreRow}
-use Rattle.command_rows.specs.Saving.{BackupRow}
-use Rattle.command_rows.specs.SetKey.{SetkeyRow}
-use Rattle.command_rows.specs.Steps.{Attaches, Decides, Detaches, Does, NeedsSectors, NeedsWhole, NeedsWritable, ReadsLastSector, ReadsSectors, Then, WritesSectors}
-use Rattle.command_rows.specs.Verifying.{SweptPart, VerifyRow}
-use Rattle.command_rows.specs.Suspending.{ResumeRow, SuspendRow}
-use Rattle.command_rows.specs.Trying.{TryRow}
-use Rattle.command_rows.specs.Workloads.{FillRow, SumRow}
-use Rattle.command_rows.specs.World.{AttachedWith, Attachment, DrawerState, Holding, Idle, IsAttached, IsSuspended, Reach, SuspendedWith, World, is_idle, place_of}
+use Rattle.command_rows.specs.World.{DrawerState, Holding, Idle, IsAttached, IsSuspended, Reach, World, is_idle, place_of}
+use Rattle.command_rows.specs.verbs.{verb_of}
 
--- ---- the rows
-
--- `dump`: the metadata are read
-abbrev pub DumpRow : Reach → Result Metadata Refusal → Reach → Type 0
-DumpRow old answer new = ReadsLastSector old answer new
-
--- what follows the trial of a key: nothing with `-C`, else the provider is attached
-abbrev pub AttachesUnless : Bool → Attachment → Reach → Result (Unit {0}) Refusal → Reach → Type 0
-AttachesUnless true a old answer new = Decides (Ok tt) old answer new
-AttachesUnless false a old answer new = Attaches a old answer new
-
--- `attach`, of an idle drawer
-abbrev pub AttachRow : List ℕ → Bool → Bool → Option ℕ → KeyWords → Reach → Result (Unit {0}) Refusal → Reach → Type 0
-AttachRow line only_check readonly slot words old answer new =
-    Then (TryRow line slot readonly words)
-    (λ a. AttachesUnless only_check a) old answer new
-
--- `detach`, of an attached drawer
-abbrev pub DetachRow : Reach → Result (Unit {0}) Refusal → Reach → Type 0
-DetachRow old answer new = Detaches old answer new
-
--- `flush`, of an attached drawer
-abbrev pub FlushRow : Reach → Result (Unit {0}) Refusal → Reach → Type 0
-FlushRow old answer new = Does (Flush ∷ []) old answer new
-
--- `read` of so many sectors, of an attached drawer
-abbrev pub ReadRow : ℕ → ℕ → Attachment → Reach → Result (List ℕ) Refusal → Reach → Type 0
-ReadRow sector count a old answer new =
-    Then (NeedsWhole a (count * a.keying.sectorsize))
-    (λ whole. Then (NeedsSectors a sector whole)
-    (λ _. ReadsSectors a sector whole)) old answer new
-
--- `write` of these bytes, of an attached drawer
-abbrev pub WriteRow : ℕ → List ℕ → Attachment → Reach → Result (Unit {0}) Refusal → Reach → Type 0
-WriteRow sector bytes a old answer new =
-    Then (NeedsWhole a (length bytes))
-    (λ count. Then (NeedsWritable a)
-    (λ _. Then (NeedsSectors a sector count)
-    (λ _. WritesSectors a sector count bytes))) old answer new
-
--- ---- the answers
-
-abbrev pub done_or : Result (Unit {0}) Refusal → Answer
-done_or (Ok done) = answers.Done
-done_or (Err refusal) = answers.Refused refusal
-
-abbrev pub dump_or : Result Metadata Refusal → Answer
-dump_or (Ok m) = answers.Dump m
-dump_or (Err refusal) = answers.Refused refusal
-
-abbrev pub payload_or : Result (List ℕ) Refusal → Answer
-payload_or (Ok bytes) = answers.Payload bytes
-payload_or (Err refusal) = answers.Refused refusal
-
-abbrev pub digest_or : Result (List ℕ) Refusal → Answer
-digest_or (Ok digest) = answers.Digest digest
-digest_or (Err refusal) = answers.Refused refusal
-
-abbrev pub tag_or : Result ℕ Refusal → Answer
-tag_or (Ok tag) = answers.Tag tag
-tag_or (Err refusal) = answers.Refused refusal
-
-abbrev pub left_or : Result ℕ Refusal → Answer
-left_or (Ok left) = answers.Left left
-left_or (Err refusal) = answers.Refused refusal
-
--- the bytes of a read that was reaped, or that it was done
-abbrev pub reaped_or : Result (Option (List ℕ)) Refusal → Answer
-reaped_or (Ok (Some bytes)) = answers.Payload bytes
-reaped_or (Ok None) = answers.Done
-reaped_or (Err refusal) = answers.Refused refusal
-
-abbrev pub verified_or : Result SweptPart Refusal → Answer
-verified_or (Ok part) = answers.Verified part.offsets part.next
-verified_or (Err refusal) = answers.Refused refusal
-
--- the row was gone through, and what it answers is answered so
-pub record Replies {A : Type 0} (answer_to : Result A Refusal → Answer) (Row : Reach → Result A Refusal → Reach → Type 0) (old : Reach) (reply : Answer) (new : Reach) : Type 0 where
-  pub answer : Result A Refusal
-  pub row : Row old answer new
-  pub replied : reply ≡ answer_to answer
+-- ---- the row
 
 -- the row of a command that names a drawer, which stays in the list, of a drawer that is such a one as the verb needs
 abbrev pub GoesThrough : List ℕ → Command → Reach → Answer → Reach → Type 0
-GoesThrough line (commands.Dump prov) old reply new = Replies dump_or DumpRow old reply new
-GoesThrough line (commands.Init prov cipher auth keylen sectorsize iterations autoresize fresh backup) old reply new =
-    let options : InitOptions = record { cipher = cipher; auth = auth; keylen = keylen; sectorsize = sectorsize; iterations = iterations_of fresh iterations; autoresize = autoresize } in
-    Replies done_or (InitRow line options fresh backup) old reply new
-GoesThrough line (commands.Attach prov only_check readonly slot words) old reply new = Replies done_or (AttachRow line only_check readonly slot words) old reply new
-GoesThrough line (commands.Detach prov) old reply new = Replies done_or DetachRow old reply new
-GoesThrough line (commands.Read prov sector count) old reply new = AttachedWith old.holding (λ a. Replies payload_or (ReadRow sector count a) old reply new)
-GoesThrough line (commands.Write prov sector hex) old reply new = AttachedWith old.holding (λ a. Replies done_or (WriteRow sector (bytes_spelled (bytes_at line hex)) a) old reply new)
-GoesThrough line (commands.Flush prov) old reply new = Replies done_or FlushRow old reply new
-GoesThrough line (commands.Setkey prov iterations slot words fresh) old reply new = Replies done_or (SetkeyRow line iterations slot words fresh) old reply new
-GoesThrough line (commands.Delkey prov all force slot) old reply new = Replies done_or (DelkeyRow all force slot) old reply new
-GoesThrough line (commands.Kill prov) old reply new = Replies done_or KillRow old reply new
-GoesThrough line (commands.Backup prov file) old reply new = Replies done_or (BackupRow line file) old reply new
-GoesThrough line (commands.Restore file prov force) old reply new = Replies done_or (RestoreRow line file force) old reply new
-GoesThrough line (commands.Resize prov oldsize) old reply new = Replies done_or (ResizeRow oldsize) old reply new
-GoesThrough line (commands.Fill prov seed start count) old reply new = AttachedWith old.holding (λ a. Replies done_or (FillRow seed start count a) old reply new)
-GoesThrough line (commands.Sum prov start count) old reply new = AttachedWith old.holding (λ a. Replies digest_or (SumRow start count a) old reply new)
-GoesThrough line (commands.Submit prov job) old reply new = AttachedWith old.holding (λ a. Replies tag_or (SubmitRow line job a) old reply new)
-GoesThrough line (commands.Step prov tag) old reply new = AttachedWith old.holding (λ a. Replies left_or (StepRow tag a) old reply new)
-GoesThrough line (commands.Reap prov tag) old reply new = AttachedWith old.holding (λ a. Replies reaped_or (ReapRow tag a) old reply new)
-GoesThrough line (commands.Suspend prov) old reply new = AttachedWith old.holding (λ a. Replies done_or (SuspendRow a) old reply new)
-GoesThrough line (commands.Resume prov words) old reply new = SuspendedWith old.holding (λ kept. Replies done_or (ResumeRow line words kept) old reply new)
-GoesThrough line (commands.Verify prov file count restart) old reply new = AttachedWith old.holding (λ a. Replies verified_or (VerifyRow line file count restart a) old reply new)
-GoesThrough line commands.List old reply new = ⊥
-GoesThrough line (commands.Eject prov) old reply new = ⊥
+GoesThrough line command old reply new = (verb_of command).goes_through line old reply new
 
 -- the drawer isn't such a one, and nothing changes
 pub record IsRefused (old : Reach) (reply : Answer) (new : Reach) (refusal : Refusal) : Type 0 where
@@ -200,7 +86,8 @@ pub record IsUnknown (old : World) (reply : Answer) (new : World) : Type 0 where
 abbrev pub takes_out : Command → Bool
 takes_out command = (traits_of command).takes_out
 
--- the drawer at a place is taken out with its disk, attached or not, and those behind it move up; of a disk that is gone nothing is said
+-- the drawer at a place is taken out with its disk, attached or not, and those behind it move up; of a disk that is
+-- gone nothing is said
 pub record TakesOut (old : World) (reply : Answer) (new : World) (place : ℕ) : Type 0 where
   pub before : DrawerState
   pub found : slice_get old.drawers place ≡ Some before

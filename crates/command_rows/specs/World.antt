@@ -10,16 +10,16 @@ use Rattle.block_traits.specs.Streams.{EntropyState}
 use Rattle.eli_base.specs.Keying.{Keying}
 use Rattle.range_keys.specs.Ring.{IsKeying}
 
--- with what a provider is attached: the slot that gave the master key, the keying, whether it is only read, and the requests that are
--- open on it, in order of their tags
+-- with what a provider is attached: the slot that gave the master key, the keying, whether it is only read, and the
+-- requests that are open on it, in order of their tags
 pub record Attachment : Type 0 where
   pub slot : ℕ
   pub keying : Keying
   pub readonly : Bool
   pub queue : List Request
 
--- what is kept of a provider that is suspended: the bytes of a logical sector and how many there were, the slot that gave the master key, whether it is only read, and
--- the digest of the master key
+-- what is kept of a provider that is suspended: the bytes of a logical sector and how many there were, the slot that
+-- gave the master key, whether it is only read, and the digest of the master key
 pub record Kept : Type 0 where
   pub sectorsize : ℕ
   pub sectors : ℕ
@@ -97,7 +97,8 @@ pub record World : Type 0 where
   pub cabinet : CabinetState
   pub entropy : EntropyState
 
--- what a command may change where it names a drawer: its disk, what the drawer does with it, the cabinet and the entropy
+-- what a command may change where it names a drawer: its disk, what the drawer does with it, the cabinet and the
+-- entropy
 pub record Reach : Type 0 where
   pub disk : DiskState
   pub holding : Holding

@@ -20,8 +20,8 @@ ghost use Rattle.command_rows.specs.Stops.{LeavesOldOrNew};
 ghost use Rattle.command_rows.specs.Storing.{StoresItsFile};
 ghost use Rattle.command_rows.specs.Trying.{TryRow};
 ghost use Rattle.command_rows.specs.Turn.{Turn};
-ghost use Rattle.command_rows.specs.Verifying.{ListsEachOnce, ListsUnits};
 ghost use Rattle.command_rows.specs.World.{Attachment, Reach, World};
+ghost use Rattle.command_rows.specs.verbs.Verify.{ListsEachOnce, ListsUnits};
 ghost use Rattle.user_key.specs.declared.components.Components.{Components};
 
 use command_words::KeyWords;

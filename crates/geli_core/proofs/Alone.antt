@@ -25,9 +25,12 @@ use Rattle.queue_readings.specs.Tasks.{job_of, work_of}
 use Rattle.queue_readings.proofs.Alone.{does_alone}
 use Rattle.range_keys.specs.Ring.{IsKeying}
 use Rattle.command_rows.specs.Digits.{bytes_spelled}
-use Rattle.command_rows.specs.Queueing.{ReapRow, ReapsRequest, StepRow, reap_answer, step_refusal, submit_refusal, with_queue}
+use Rattle.command_rows.specs.Queueing.{with_queue}
 use Rattle.command_rows.specs.Steps.{or_refusal}
 use Rattle.command_rows.specs.World.{Attachment, IsAttached, Reach}
+use Rattle.command_rows.specs.verbs.Reap.{ReapRow, ReapsRequest, reap_answer}
+use Rattle.command_rows.specs.verbs.Step.{StepRow, step_refusal}
+use Rattle.command_rows.specs.verbs.Submit.{submit_refusal}
 use Rattle.geli_core.specs.Placing.{work_in}
 use Rattle.geli_core.specs.Requests.{DoesAsLine, IsDoneAlone, StepsDone}
 use Rattle.geli_core.proofs.Owning.{at_attached}

@@ -9,9 +9,10 @@ use Rattle.command_words.specs.declared.spans.Span.{Span}
 use Rattle.queue_readings.specs.Tasks.{Flushes, Reads, Task, Work, Writes, task_with}
 use Rattle.readings.specs.Writes.{data_steps}
 use Rattle.command_rows.specs.Answer as answers
-use Rattle.command_rows.specs.Queueing.{ReapRow}
 use Rattle.command_rows.specs.Turn.{Replies, reach, reaped_or}
 use Rattle.command_rows.proofs.Gate.{attached}
+use Rattle.command_rows.specs.Verb.{Places, PlacesBytes, PlacesGenerated, PlacesNoMore, PlacesNothing, PlacesRequest, PlacesUnit}
+use Rattle.command_rows.specs.verbs.{verb_of}
 use Rattle.geli_core.specs.ReadsBack.{IsAmongSteps, IsDoneAsAsked}
 use Rattle.geli_core.specs.Requests.{CoversReaped, CoversWork}
 use Rattle.geli_core.specs.Run.{ServesReading}
@@ -33,7 +34,8 @@ use Rattle.queue_readings.proofs.Calls.{covered}
 use Rattle.readings.specs.Steps.{Flush, Step}
 use Rattle.command_rows.specs.Answer.{Answer}
 use Rattle.command_rows.specs.World.{AttachedWith, Attachment, DrawerState, HoldKeyings, IsAmong, World, attachment_in, place_of}
-use Rattle.geli_core.specs.Placing.{DrawerPlaces, LinePlays, command_played, played_by}
+use Rattle.command_rows.specs.verbs.Reap.{ReapRow}
+use Rattle.geli_core.specs.Placing.{DrawerPlaces, LinePlays, place_played, played_by}
 
 -- steps that were done stay the first
 record GrowsTo (m last : Play) : Type 0 where
@@ -43,17 +45,17 @@ record GrowsTo (m last : Play) : Type 0 where
 grows_then : (m next last : Play) → GrowsTo m next → GrowsTo next last → GrowsTo m last
 grows_then m next last a b = record { more = a.more ++ b.more; are = b.are ∙ ap (λ (l : List Step). l ++ b.more) a.are ∙ append_assoc m.steps a.more b.more }
 
-command_grows : (line : List ℕ) (command : Command) (k : Keying) (told : Option Content) (said : Answer) (events : List Event) (m : Play) → GrowsTo m (command_played line command k told said events m)
-command_grows line (commands.Write prov sector hex) k told said events m = record { more = _; are = refl }
-command_grows line (commands.Fill prov seed start count) k told said events m = record { more = _; are = refl }
-command_grows line (commands.Submit prov job) k told said events m = record { more = _; are = refl }
-command_grows line (commands.Step prov tag) k told said events m = record { more = _; are = refl }
-command_grows line (commands.Reap prov tag) k told said events m = record { more = _; are = refl }
-command_grows line command k told said events m = record { more = _; are = refl }
+place_grows : (line : List ℕ) (places : Places) (k : Keying) (told : Option Content) (said : Answer) (events : List Event) (m : Play) → GrowsTo m (place_played line places k told said events m)
+place_grows line PlacesNothing k told said events m = record { more = _; are = refl }
+place_grows line (PlacesBytes sector bytes) k told said events m = record { more = _; are = refl }
+place_grows line (PlacesGenerated seed start count) k told said events m = record { more = _; are = refl }
+place_grows line (PlacesRequest job) k told said events m = record { more = _; are = refl }
+place_grows line (PlacesUnit tag) k told said events m = record { more = _; are = refl }
+place_grows line (PlacesNoMore tag) k told said events m = record { more = _; are = refl }
 
 played_grows : (found : Option Attachment) (line : List ℕ) (command : Command) (told : Option Content) (said : Answer) (events : List Event) (m : Play) → GrowsTo m (played_by found line command told said events m)
 played_grows None line command told said events m = record { more = _; are = refl }
-played_grows (Some a) line command told said events m = command_grows line command a.keying told said events m
+played_grows (Some a) line command told said events m = place_grows line ((verb_of command).places line) a.keying told said events m
 
 line_grows : (told : Option Content) (sep : Sep) (line : List ℕ) (answer : Option Answer) (old : DrawerState) (m next : Play) (new : DrawerState) → LinePlays told sep line answer old m next new → GrowsTo m next
 line_grows told sep line answer old m next new (inl stays) = record { more = []; are = ap (λ (p : Play). p.steps) stays.1 }

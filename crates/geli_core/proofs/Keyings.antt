@@ -8,9 +8,9 @@ use Rattle.command_words.specs.declared.spans.Sep.{Sep}
 use Rattle.command_rows.specs.Answer.{Answer}
 use Rattle.command_rows.specs.Turn.{ChangesAt, Serves, TakesOut, Turn, reach}
 use Rattle.command_rows.specs.World.{DrawerState, HoldKeyings, HoldsKeying, IsAmong, World}
-use Rattle.command_rows.proofs.Sound.{serves_sound}
 use Rattle.command_rows.proofs.Turns.{by_each_turn}
 use Rattle.command_rows.proofs.Untouched.{get-set, get-set_other}
+use Rattle.command_rows.proofs.LineCounts.{serves_sound}
 use Rattle.command_words.specs.Reading.{reading}
 use Rattle.geli_core.specs.Run.{ServesLine, ServesReading}
 use Rattle.geli_core.proofs.Drawn.{here_or, same_some}

@@ -16,13 +16,13 @@ use Rattle.command_rows.specs.Causes.{Caused, CausedAt, CausedBy, may_lack_memor
 use Rattle.command_rows.specs.Fits.{FindsAt, Fits}
 use Rattle.command_rows.specs.Turn.{Turn}
 use Rattle.command_rows.specs.World.{World, place_of}
-use Rattle.command_rows.proofs.Becoming.{turn_becomes}
-use Rattle.command_rows.proofs.Sound.{turn_counts}
-use Rattle.command_rows.proofs.Storing.{turn_stores}
-use Rattle.command_rows.proofs.Fitting.{fits_refused}
 use Rattle.command_rows.proofs.LineCauses.{refusal_caused}
 use Rattle.command_rows.proofs.Stopped.{turn_leaves}
 use Rattle.command_rows.proofs.Untouched.{turn_only_steps}
+use Rattle.command_rows.proofs.LineBecomes.{turn_becomes}
+use Rattle.command_rows.proofs.LineCounts.{turn_counts}
+use Rattle.command_rows.proofs.LineFits.{fits_refused}
+use Rattle.command_rows.proofs.LineStores.{turn_stores}
 use Rattle.block_traits.specs.Streams.{SinkState}
 use Rattle.reply_text.specs.declared.print.WriteEnd.{WriteEnd}
 use Rattle.geli_core.specs.Laws.{IfRefused, KeepsLaws, LineKeepsLaws, ServesLawfully}

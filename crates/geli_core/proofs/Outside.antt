@@ -14,10 +14,10 @@ use Rattle.command_rows.specs.Answer.{Answer}
 use Rattle.command_rows.specs.Answer as answers
 use Rattle.command_rows.specs.Counts.{CountsAnswer, CountsFailures}
 use Rattle.command_rows.specs.World.{World}
-use Rattle.command_rows.proofs.Sound.{turn_counts}
 use Rattle.geli_core.specs.Bounds.{CountsOutside, RoseBy, how_many, is_cabinet_fault, is_entropy_fault, is_miss}
 use Rattle.geli_core.specs.Run.{ServesReading}
 use Rattle.geli_core.specs.Trace.{Run, ServedLine, answers_of}
+use Rattle.command_rows.proofs.LineCounts.{turn_counts}
 
 false_is : {P : Type 0} → false ≡ true → P
 false_is h = absurd (let none : ⊥ = cc h in none)

@@ -26,10 +26,13 @@ use Rattle.range_keys.specs.Ring.{IsKeying}
 use Rattle.command_rows.specs.Answer.{Answer}
 use Rattle.command_rows.specs.Answer as answers
 use Rattle.command_rows.specs.Gate.{needs, refused_by}
-use Rattle.command_rows.specs.Queueing.{HasRequest, NeedsRequest, ReapRow, ReapsRequest, StepRow, StepsRequest, SubmitRow, reap_answer, step_refusal, with_queue}
+use Rattle.command_rows.specs.Queueing.{HasRequest, NeedsRequest, with_queue}
 use Rattle.command_rows.specs.Steps.{GoesOn, or_refusal}
 use Rattle.command_rows.specs.Turn.{ChangesAt, GoesThrough, Replies, Serves, TakesOut, Turn, left_or, reach, reaped_or}
 use Rattle.command_rows.specs.World.{AttachedWith, Attachment, DrawerState, HoldKeyings, Holding, HoldsKeying, IsAttached, Reach, World, attachment_in}
+use Rattle.command_rows.specs.verbs.Reap.{ReapRow, ReapsRequest, reap_answer}
+use Rattle.command_rows.specs.verbs.Step.{StepRow, StepsRequest, step_refusal}
+use Rattle.command_rows.specs.verbs.Submit.{SubmitRow}
 use Rattle.command_rows.proofs.Gate.{by_gate, with_attached}
 use Rattle.command_rows.proofs.Lines.{line_did}
 use Rattle.command_rows.proofs.Turns.{by_each_turn}
@@ -38,7 +41,8 @@ use Rattle.geli_core.specs.Run.{ServesReading}
 use Rattle.geli_core.specs.Trace.{Run, ServedLine}
 use Rattle.geli_core.specs.Survivors.{HasNoRequests}
 use Rattle.geli_core.proofs.Drawn.{here_or}
-use Rattle.geli_core.proofs.Holdings.{KeepsRequests, serves_keeps}
+use Rattle.command_rows.proofs.Keeping.{KeepsRequests}
+use Rattle.geli_core.proofs.Holdings.{serves_keeps}
 use Rattle.geli_core.proofs.Keyings.{among_removed, line_keeps, put_back}
 use Rattle.geli_core.proofs.Playing.{keyed_by}
 use Rattle.geli_core.proofs.Requested.{reap_asks, step_asks, submit_asks}
@@ -104,7 +108,7 @@ serves_own line (commands.Reap prov tag) old said new h keyed own =
     by_gate line (commands.Reap prov tag) old said new _
     (λ row. with_attached old.holding _ _ (λ a is through. reap_own tag a old through.answer new is through.row own) row) (λ refusal is refused. unchanged_own old new refused.unchanged own) h
 serves_own line command old said new h keyed own =
-    others_own old.holding new.holding old.disk new.disk (serves_keeps line command old said new tt h) (line_did line command old said new h).logs.size own
+    others_own old.holding new.holding old.disk new.disk (serves_keeps line command old said new refl h) (line_did line command old said new h).logs.size own
 
 -- ---- lines
 

@@ -30,16 +30,22 @@ use Rattle.command_rows.specs.Answer as answers
 use Rattle.command_rows.specs.Digits.{bytes_spelled}
 use Rattle.command_rows.specs.Gate.{AnAttached, refused_by}
 use Rattle.command_rows.specs.Histories.{AreRowEvents, EventsBy, stores_last}
-use Rattle.command_rows.specs.Queueing.{ReapRow, StepRow, SubmitRow, next_events, reap_answer, step_refusal, submit_refusal, with_queue}
+use Rattle.command_rows.specs.Queueing.{with_queue}
 use Rattle.command_rows.specs.Steps.{or_refusal}
 use Rattle.command_rows.specs.Turn.{Replies, Serves, left_or, reaped_or, tag_or}
-use Rattle.command_rows.specs.Workloads.{generator, words_of, workload}
 use Rattle.command_rows.specs.World.{Attachment, Holding, HoldsKeying, Idle, IsAttached, IsSuspended, Reach, attachment_in}
 use Rattle.command_rows.proofs.Gate.{by_gate, with_attached}
 use Rattle.command_rows.proofs.Generated.{length-generated}
-use Rattle.geli_core.specs.Placing.{command_played, goes_on, played_by}
+use Rattle.command_rows.specs.Verb.{Places, PlacesNothing}
+use Rattle.command_rows.specs.verbs.{verb_of}
+use Rattle.command_rows.specs.verbs.Fill.{generator, words_of, workload}
+use Rattle.command_rows.specs.verbs.Reap.{ReapRow, reap_answer}
+use Rattle.command_rows.specs.verbs.Step.{StepRow, next_events, step_refusal}
+use Rattle.command_rows.specs.verbs.Submit.{SubmitRow, submit_refusal}
+use Rattle.command_rows.proofs.Keeping.{KeepsRequests}
+use Rattle.geli_core.specs.Placing.{command_played, goes_on, place_played, played_by}
 use Rattle.geli_core.proofs.Following.{Tracks, logged_fit, told_on, tracks_raw, tracks_write}
-use Rattle.geli_core.proofs.Holdings.{KeepsRequests, fill_keeps, serves_keeps, write_keeps}
+use Rattle.geli_core.proofs.Holdings.{fill_keeps, serves_keeps, write_keeps}
 use Rattle.geli_core.proofs.Queues.{within_none}
 use Rattle.geli_core.proofs.Requested.{reap_asks, reaped_as, step_asks, stepped_as, submit_asks, submitted_as, tracks_still}
 use Rattle.geli_core.proofs.Written.{bytes_spelled-bytes, generated-bytes, row_events, whole_words}
@@ -137,23 +143,9 @@ raw_follows Fresh c m old new d d' events (inr (inr (none, anew))) logs keyed f 
     subst (λ (h : Holding). Follows Fresh c (raw_played (attachment_in h) events m) h d') (sym anew.is)
     (rests_anew Fresh c m anew.attachment.keying anew.attachment.queue d d' events rest logs fits anew.none)
 
--- a command that logs such alone
-abbrev pub IsRaw : Command → Type 0
-IsRaw (commands.Write prov sector hex) = ⊥
-IsRaw (commands.Fill prov seed start count) = ⊥
-IsRaw (commands.Submit prov job) = ⊥
-IsRaw (commands.Step prov tag) = ⊥
-IsRaw (commands.Reap prov tag) = ⊥
-IsRaw command = Unit {0}
-
-played_raw : (found : Option Attachment) (line : List ℕ) (command : Command) (told : Option Content) (said : Answer) (events : List Event) (m : Play) → IsRaw command → raw_played found events m ≡ played_by found line command told said events m
-played_raw None line command told said events m raw = refl
-played_raw (Some a) line (commands.Write prov sector hex) told said events m raw = absurd raw
-played_raw (Some a) line (commands.Fill prov seed start count) told said events m raw = absurd raw
-played_raw (Some a) line (commands.Submit prov job) told said events m raw = absurd raw
-played_raw (Some a) line (commands.Step prov tag) told said events m raw = absurd raw
-played_raw (Some a) line (commands.Reap prov tag) told said events m raw = absurd raw
-played_raw (Some a) line command told said events m raw = refl
+played_raw : (found : Option Attachment) (line : List ℕ) (command : Command) (told : Option Content) (said : Answer) (events : List Event) (m : Play) → (verb_of command).places line ≡ PlacesNothing → raw_played found events m ≡ played_by found line command told said events m
+played_raw None line command told said events m nothing = refl
+played_raw (Some a) line command told said events m nothing = ap (λ (p : Places). place_played line p a.keying told said events m) (sym nothing)
 
 -- ---- `write` and `fill`
 
@@ -281,5 +273,5 @@ line_follows Fresh c m line (commands.Reap prov tag) said old new events h logs 
     (λ row. with_attached old.holding _ _ (λ a is through. reap_row Fresh c m line prov tag a said old new events is through logs (no_more said events of_line) f) row)
     (λ refusal is refused. refused_follows Fresh c m line (commands.Reap prov tag) said old new events (unattached old.holding refusal is) refused.unchanged logs f) h
 line_follows Fresh c m line command said old new events h logs of_line had keyed f =
-    subst (λ (p : Play). Follows Fresh c p new.holding new.disk) (played_raw (attachment_in new.holding) line command (Some c) said events m tt)
-    (raw_follows Fresh c m old.holding new.holding old.disk new.disk events (serves_keeps line command old said new tt h) logs keyed f)
+    subst (λ (p : Play). Follows Fresh c p new.holding new.disk) (played_raw (attachment_in new.holding) line command (Some c) said events m refl)
+    (raw_follows Fresh c m old.holding new.holding old.disk new.disk events (serves_keeps line command old said new refl h) logs keyed f)

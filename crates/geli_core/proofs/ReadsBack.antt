@@ -28,11 +28,11 @@ use Rattle.command_rows.proofs.Gate.{by_gate, by_gate_refusal, with_attached}
 use Rattle.command_rows.specs.Answer.{Answer}
 use Rattle.command_rows.specs.Answer as answers
 use Rattle.command_rows.specs.Steps.{Decides, GoesOn, SectorsAnswer, in_range, whole_sectors}
-use Rattle.command_rows.specs.Queueing.{ReapRow}
 use Rattle.command_rows.specs.Gate.{Needs, needs, refused_by}
 use Rattle.command_rows.specs.Turn.{ChangesAt, GoesThrough, IsUnknown, ReadRow, Replies, Serves, digest_or, payload_or, reach, reaped_or}
-use Rattle.command_rows.specs.Workloads.{SumRow}
 use Rattle.command_rows.specs.World.{AttachedWith, Attachment, DrawerState, HoldKeyings, Holding, HoldsKeying, IsAttached, Reach, World, place_of}
+use Rattle.command_rows.specs.verbs.Reap.{ReapRow}
+use Rattle.command_rows.specs.verbs.Sum.{SumRow}
 use Rattle.geli_core.specs.ReadsBack.{IsDigestOf, IsDoneAsAsked, LineReads, ReadsAsAsked, StandsSo}
 use Rattle.queue_readings.specs.Play.{Play}
 use Rattle.geli_core.specs.Run.{ServesReading}

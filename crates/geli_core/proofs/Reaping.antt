@@ -17,9 +17,9 @@ use Rattle.queue_readings.specs.Play.{IsFaulty, Play, Yields}
 use Rattle.queue_readings.specs.Tasks.{Flushes, Reads, Task, Work, Writes, task_with}
 use Rattle.readings.specs.Steps.{Step}
 use Rattle.command_rows.specs.Answer as answers
-use Rattle.command_rows.specs.Queueing.{ReapRow, reap_answer}
 use Rattle.command_rows.specs.Turn.{reaped_or}
 use Rattle.command_rows.specs.World.{Attachment, IsAttached, Reach}
+use Rattle.command_rows.specs.verbs.Reap.{ReapRow, reap_answer}
 use Rattle.geli_core.specs.ReadsBack.{IsAmongSteps, IsDoneAsAsked, ReadsAsAsked, ReadsAsTask}
 use Rattle.geli_core.proofs.Following.{Tracks, tracks_reaped, tracks_reaped_fault}
 use Rattle.geli_core.proofs.Playing.{Follows, tracked}

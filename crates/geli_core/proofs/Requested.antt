@@ -36,10 +36,13 @@ use Rattle.command_rows.specs.Answer.{Answer}
 use Rattle.command_rows.specs.Answer as answers
 use Rattle.command_rows.specs.Digits.{bytes_spelled}
 use Rattle.command_rows.specs.Histories.{EventsBy}
-use Rattle.command_rows.specs.Queueing.{NeedsRequest, ReapRow, ReapsRequest, StepRow, StepsRequest, SubmitRow, Submits, next_events, reap_answer, step_refusal, submit_refusal}
+use Rattle.command_rows.specs.Queueing.{NeedsRequest}
 use Rattle.command_rows.specs.Steps.{GoesOn, or_refusal, whole_sectors}
 use Rattle.command_rows.specs.Turn.{left_or, reaped_or, tag_or}
 use Rattle.command_rows.specs.World.{Attachment, Reach}
+use Rattle.command_rows.specs.verbs.Reap.{ReapRow, ReapsRequest, reap_answer}
+use Rattle.command_rows.specs.verbs.Step.{StepRow, StepsRequest, next_events, step_refusal}
+use Rattle.command_rows.specs.verbs.Submit.{SubmitRow, Submits, submit_refusal}
 use Rattle.geli_core.specs.Placing.{cells_after, goes_on, request_steps, tasks_reaped, tasks_stepped, tasks_submitted, work_in}
 use Rattle.geli_core.proofs.Following.{Tracks, the_same, tracks_broken, tracks_raw, tracks_reaped, tracks_reaped_fault, tracks_stepped, tracks_stepped_other, tracks_submitted, unit_events}
 use Rattle.geli_core.proofs.Written.{bytes_spelled-bytes, row_events}

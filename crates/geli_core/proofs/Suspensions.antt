@@ -17,14 +17,15 @@ use Rattle.command_rows.specs.Answer.{Answer}
 use Rattle.command_rows.specs.Answer as answers
 use Rattle.command_rows.specs.Becoming as becoming
 use Rattle.command_rows.specs.Becoming.{Becomes, BecomesBy}
-use Rattle.command_rows.specs.Grounds.{OpensWith}
-use Rattle.command_rows.specs.Suspending.{ResumeRow}
 use Rattle.command_rows.specs.Turn.{ChangesAt, Replies, Serves, TakesOut, Turn, done_or, reach}
 use Rattle.command_rows.specs.World.{Attachment, DrawerState, Holding, IsAmong, IsSuspended, Kept, Reach, World, place_of}
-use Rattle.command_rows.proofs.Becoming.{Resumes, resume_done, serves_becomes}
+use Rattle.command_rows.specs.verbs.Attach.{OpensWith}
+use Rattle.command_rows.specs.verbs.Resume.{ResumeRow}
+use Rattle.command_rows.proofs.Becoming.{Resumes, resume_done}
 use Rattle.command_rows.proofs.Gate.{by_passed_gate, with_suspended}
 use Rattle.command_rows.proofs.Turns.{by_each_turn}
 use Rattle.command_rows.proofs.Untouched.{get-set, get-set_other}
+use Rattle.command_rows.proofs.LineBecomes.{serves_becomes}
 use Rattle.geli_core.specs.Run.{ServesLine, ServesReading}
 use Rattle.geli_core.specs.Suspensions.{AreSuspended, HadMaster, LineResumes, OpensSlot, StaysSuspended, SuspendedBefore, SuspendedSince}
 use Rattle.geli_core.specs.Kinds.{kind_read}

@@ -27,8 +27,8 @@ use Rattle.command_rows.specs.Answer.{Answer}
 use Rattle.command_rows.specs.Answer as answers
 use Rattle.command_rows.specs.Gate.{AnAttached, refused_by}
 use Rattle.command_rows.specs.Turn.{ChangesAt, IsRefused, IsUnknown, Replies, Serves, Turn, reach, verified_or}
-use Rattle.command_rows.specs.Verifying.{FindsPlace, ListsUnits, SweptPart, VerifyRow}
 use Rattle.command_rows.specs.World.{AttachedWith, Attachment, DrawerState, Holding, IsAttached, Reach, World, place_of}
+use Rattle.command_rows.specs.verbs.Verify.{FindsPlace, ListsUnits, SweptPart, VerifyRow}
 use Rattle.command_rows.proofs.SweepPlaces.{starts_anew}
 use Rattle.command_rows.proofs.SweepRows.{HoldsPlace, SweptFrom, refused_leaves, swept, told_place}
 use Rattle.command_rows.proofs.Untouched.{get-set}

@@ -17,7 +17,7 @@ use Rattle.command_rows.specs.Answer.{Answer}
 use Rattle.command_rows.specs.Answer as answers
 use Rattle.command_rows.specs.Digits.{bytes_spelled, decoded}
 use Rattle.command_rows.specs.Histories.{AreFirst, BreaksOff, EventsBy}
-use Rattle.command_rows.specs.Workloads.{generated, words_of}
+use Rattle.command_rows.specs.verbs.Fill.{generated, words_of}
 
 -- ---- the events
 

@@ -1,12 +1,11 @@
--- What lines do to a drawer, as steps on its disk: a write or a fill places the units of its logical sectors, a step of a request that was submitted does its next
--- unit, and whatever else a line logs is bytes that came in some other way.
+-- What lines do to a drawer, as steps on its disk: a write or a fill places the units of its logical sectors, a step of
+-- a request that was submitted does its next unit, and whatever else a line logs is bytes that came in some other way.
 use Rattle.std.specs.Prelude.{◌≡◌, ◌⊎◌, ℕ, ◌+◌, ◌/◌, List, [], ◌∷◌, ◌++◌, length, take, Bool, Option, Some, None}
 use Rattle.block_traits.specs.Content.{Content}
 use Rattle.block_traits.specs.Disk.{Logs}
 use Rattle.block_traits.specs.declared.disk.Event.{Event}
 use Rattle.command_words.specs.Places.{bytes_at}
 use Rattle.command_words.specs.declared.commands.Command.{Command}
-use Rattle.command_words.specs.declared.commands.Command.TheVariants as commands
 use Rattle.command_words.specs.declared.commands.JobWords.{JobWords}
 use Rattle.command_words.specs.declared.commands.JobWords.TheVariants as words
 use Rattle.command_words.specs.declared.spans.Sep.{Sep}
@@ -17,12 +16,14 @@ use Rattle.queue_readings.specs.Tasks.{Flushes, Reads, Task, Work, Writes, excha
 use Rattle.readings.specs.Steps.{Step, cell}
 use Rattle.readings.specs.Writes.{data_steps, raw_steps}
 use Rattle.readings.specs.Writings.{Writing}
+use Rattle.command_rows.specs.Verb.{Places, PlacesBytes, PlacesGenerated, PlacesNoMore, PlacesNothing, PlacesRequest, PlacesUnit}
+use Rattle.command_rows.specs.verbs.{verb_of}
 use Rattle.command_rows.specs.Answer.{Answer}
 use Rattle.command_rows.specs.Answer as answers
 use Rattle.shelf.specs.Closing.{Closes}
 use Rattle.command_rows.specs.Digits.{bytes_spelled}
-use Rattle.command_rows.specs.Workloads.{words_of, workload}
 use Rattle.command_rows.specs.World.{Attachment, DrawerState, IsAmong, World, attachment_in}
+use Rattle.command_rows.specs.verbs.Fill.{words_of, workload}
 use Rattle.geli_core.specs.Histories.{ServesDrawer}
 use Rattle.geli_core.specs.Trace.{ServedLine, world_behind}
 
@@ -62,7 +63,8 @@ abbrev pub tasks_submitted : Answer → Work → List Task → List Task
 tasks_submitted (answers.Tag tag) work tasks = put_task (record { tag = tag; done = 0; work = work }) tasks
 tasks_submitted answer work tasks = tasks
 
--- the next unit of a request was done, or not where the disk failed. One that was open before the run isn't known: what it writes came in some other way
+-- the next unit of a request was done, or not where the disk failed. One that was open before the run isn't known: what
+-- it writes came in some other way
 abbrev pub request_steps : Keying → Option Task → List Event → List Step
 request_steps k None events = raw_steps events
 request_steps k (Some t) events = take (length events) (unit_steps k t.work t.done)
@@ -79,32 +81,20 @@ tasks_reaped (answers.Payload bytes) tag tasks = without_task tag tasks
 tasks_reaped (answers.Refused (refusals.Integrity offset)) tag tasks = without_task tag tasks
 tasks_reaped answer tag tasks = tasks
 
--- what a command that was answered so makes of the play of an attached drawer, by the events that it logged. Each command is listed, so that a later one is decided on.
-abbrev pub command_played : List ℕ → Command → Keying → Option Content → Answer → List Event → Play → Play
-command_played line (commands.Write prov sector hex) k told answer events m = goes_on (write_steps m.next k sector (bytes_spelled (bytes_at line hex)) events) m.tasks m
-command_played line (commands.Fill prov seed start count) k told answer events m = goes_on (fill_steps m.next k seed start count events) m.tasks m
-command_played line (commands.Submit prov job) k told answer events m = goes_on (raw_steps events) (tasks_submitted answer (work_in m.next k line job) m.tasks) m
-command_played line (commands.Step prov tag) k told answer events m =
+-- what a line that was answered so makes of the play of an attached drawer, by what its verb places and the events that
+-- it logged. What is placed is listed, so that more is decided on.
+abbrev pub place_played : List ℕ → Places → Keying → Option Content → Answer → List Event → Play → Play
+place_played line PlacesNothing k told answer events m = goes_on (raw_steps events) m.tasks m
+place_played line (PlacesBytes sector bytes) k told answer events m = goes_on (write_steps m.next k sector bytes events) m.tasks m
+place_played line (PlacesGenerated seed start count) k told answer events m = goes_on (fill_steps m.next k seed start count events) m.tasks m
+place_played line (PlacesRequest job) k told answer events m = goes_on (raw_steps events) (tasks_submitted answer (work_in m.next k line job) m.tasks) m
+place_played line (PlacesUnit tag) k told answer events m =
     let found = task_with tag m.tasks in goes_on (request_steps k found events) (tasks_stepped answer found k (cells_after told m.steps) m.tasks) m
-command_played line (commands.Reap prov tag) k told answer events m = goes_on (raw_steps events) (tasks_reaped answer tag m.tasks) m
-command_played line (commands.Dump prov) k told answer events m = goes_on (raw_steps events) m.tasks m
-command_played line (commands.Init prov cipher auth keylen sectorsize iterations autoresize fresh backup) k told answer events m = goes_on (raw_steps events) m.tasks m
-command_played line (commands.Attach prov only_check readonly slot key) k told answer events m = goes_on (raw_steps events) m.tasks m
-command_played line (commands.Detach prov) k told answer events m = goes_on (raw_steps events) m.tasks m
-command_played line (commands.Read prov sector count) k told answer events m = goes_on (raw_steps events) m.tasks m
-command_played line (commands.Flush prov) k told answer events m = goes_on (raw_steps events) m.tasks m
-command_played line (commands.Setkey prov iterations slot key fresh) k told answer events m = goes_on (raw_steps events) m.tasks m
-command_played line (commands.Delkey prov all force slot) k told answer events m = goes_on (raw_steps events) m.tasks m
-command_played line (commands.Kill prov) k told answer events m = goes_on (raw_steps events) m.tasks m
-command_played line (commands.Backup prov file) k told answer events m = goes_on (raw_steps events) m.tasks m
-command_played line (commands.Restore file prov force) k told answer events m = goes_on (raw_steps events) m.tasks m
-command_played line (commands.Resize prov oldsize) k told answer events m = goes_on (raw_steps events) m.tasks m
-command_played line (commands.Sum prov start count) k told answer events m = goes_on (raw_steps events) m.tasks m
-command_played line (commands.Eject prov) k told answer events m = goes_on (raw_steps events) m.tasks m
-command_played line (commands.Suspend prov) k told answer events m = goes_on (raw_steps events) m.tasks m
-command_played line (commands.Resume prov key) k told answer events m = goes_on (raw_steps events) m.tasks m
-command_played line (commands.Verify prov file count restart) k told answer events m = goes_on (raw_steps events) m.tasks m
-command_played line commands.List k told answer events m = goes_on (raw_steps events) m.tasks m
+place_played line (PlacesNoMore tag) k told answer events m = goes_on (raw_steps events) (tasks_reaped answer tag m.tasks) m
+
+-- the same of a command
+abbrev pub command_played : List ℕ → Command → Keying → Option Content → Answer → List Event → Play → Play
+command_played line command k told answer events m = place_played line ((verb_of command).places line) k told answer events m
 
 -- the same by what is attached after the line: where nothing is, no request is open
 abbrev pub played_by : Option Attachment → List ℕ → Command → Option Content → Answer → List Event → Play → Play
@@ -123,7 +113,8 @@ LinePlays told sep line answer old m next new = ((new ≡ old) × (next ≡ goes
 
 -- ---- lines
 
--- a drawer and its play while lines are served, where its disk told this content before the run: behind each line it is one of the drawers of the world there
+-- a drawer and its play while lines are served, where its disk told this content before the run: behind each line it is
+-- one of the drawers of the world there
 abbrev pub DrawerPlaces : Option Content → Sep → List ServedLine → DrawerState → Play → Play → DrawerState → Type 0
 DrawerPlaces told sep [] old m last new = (new ≡ old) × (last ≡ m)
 DrawerPlaces told sep (l ∷ lines) old m last new =

@@ -1,4 +1,5 @@
--- What you write is what you read: what the lines of a run that read logical sectors answer, from what its lines wrote before.
+-- What you write is what you read: what the lines of a run that read logical sectors answer, from what its lines wrote
+-- before.
 use Rattle.std.specs.Prelude.{◌≡◌, ℕ, List, Option, Some, IfSome, Result, Ok, Err, All, Contains, slice_get}
 use Rattle.block_traits.specs.Content.{Content}
 use Rattle.command_words.specs.Places.{bytes_at}
@@ -15,14 +16,15 @@ use Rattle.readings.specs.Writes.{data_steps}
 use Rattle.command_rows.specs.Answer.{Answer}
 use Rattle.command_rows.specs.Answer as answers
 use Rattle.command_rows.specs.World.{Attachment, DrawerState, IsAttached, World, place_of}
-use Rattle.geli_core.specs.Kinds.{Kind}
-use Rattle.geli_core.specs.Kinds as kinds
+use Rattle.command_rows.specs.Verb.{Kind}
+use Rattle.command_rows.specs.Verb as kinds
 use Rattle.geli_core.specs.Placing.{DrawerPlays}
 use Rattle.geli_core.specs.Survivors.{SurvivesBy}
 use Rattle.geli_core.specs.Trace.{ServedLine}
 
--- When a line comes that names this provider, behind these lines, its drawer is attached. It was there at entry, and did the steps of a play
--- since, line by line. Where its disk told its content at entry, this holds of the keying that is attached, of that content and of the play.
+-- When a line comes that names this provider, behind these lines, its drawer is attached. It was there at entry, and
+-- did the steps of a play since, line by line. Where its disk told its content at entry, this holds of the keying that
+-- is attached, of that content and of the play.
 pub record StandsSo (sep : Sep) (entry : World) (served : List ServedLine) (start : World) (line : List ℕ) (prov : Span) (Holds : Keying → Content → Play → Type 0) : Type 0 where
   pub place : ℕ
   pub named : place_of (bytes_at line prov) start.drawers ≡ Some place
@@ -45,7 +47,8 @@ ReadsAsTask k read (Reads sector count ws) = data_from k sector count ws ≡ rea
 ReadsAsTask k read (Writes number sector count bytes) = ⊥
 ReadsAsTask k read Flushes = ⊥
 
--- so does the request with this tag that was submitted in the run. One of a drawer that had open requests at entry may be one of those
+-- so does the request with this tag that was submitted in the run. One of a drawer that had open requests at entry may
+-- be one of those
 abbrev pub ReadsAsAsked : ℕ → Result (List ℕ) ℕ → Keying → Content → Play → Type 0
 ReadsAsAsked tag read k c m = IfSome (task_with tag m.tasks) (λ t. ReadsAsTask k read t.work)
 
@@ -58,20 +61,21 @@ IsAmongSteps steps k Flushes = Unit {0}
 abbrev pub IsDoneAsAsked : ℕ → Keying → Content → Play → Type 0
 IsDoneAsAsked tag k c m = IfSome (task_with tag m.tasks) (λ t. IsAmongSteps m.steps k t.work)
 
--- A `read` is answered by the bytes of its logical sectors, as the writings say that stand there last, and a `sum` by their SHA-256; or a fault at a byte offset by
--- the first that they say. A `reap` of a read is answered by the bytes of the writings that stood in its device sectors at its own steps, or by the first fault that
--- they say; and when a write is reaped, each of its units was done.
+-- A `read` is answered by the bytes of its logical sectors, as the writings say that stand there last, and a `sum` by
+-- their SHA-256; or a fault at a byte offset by the first that they say. A `reap` of a read is answered by the bytes of
+-- the writings that stood in its device sectors at its own steps, or by the first fault that they say; and when a write
+-- is reaped, each of its units was done.
 abbrev pub LineReads : Sep → World → List ServedLine → World → Kind → List ℕ → Option Answer → Type 0
-LineReads sep entry served start (kinds.Reads prov sector count) line (Some (answers.Payload bytes)) =
+LineReads sep entry served start (kinds.OfRead prov sector count) line (Some (answers.Payload bytes)) =
     StandsSo sep entry served start line prov (λ k c m. data_read k sector count (cell c m.steps) ≡ Ok bytes)
-LineReads sep entry served start (kinds.Reads prov sector count) line (Some (answers.Refused (refusals.Integrity offset))) =
+LineReads sep entry served start (kinds.OfRead prov sector count) line (Some (answers.Refused (refusals.Integrity offset))) =
     StandsSo sep entry served start line prov (λ k c m. data_read k sector count (cell c m.steps) ≡ Err offset)
-LineReads sep entry served start (kinds.Sums prov sector count) line (Some (answers.Digest digest)) =
+LineReads sep entry served start (kinds.OfSum prov sector count) line (Some (answers.Digest digest)) =
     StandsSo sep entry served start line prov (λ k c m. IsDigestOf (data_read k sector count (cell c m.steps)) digest)
-LineReads sep entry served start (kinds.Sums prov sector count) line (Some (answers.Refused (refusals.Integrity offset))) =
+LineReads sep entry served start (kinds.OfSum prov sector count) line (Some (answers.Refused (refusals.Integrity offset))) =
     StandsSo sep entry served start line prov (λ k c m. data_read k sector count (cell c m.steps) ≡ Err offset)
-LineReads sep entry served start (kinds.Reaps prov tag) line (Some (answers.Payload bytes)) = StandsSo sep entry served start line prov (ReadsAsAsked tag (Ok bytes))
-LineReads sep entry served start (kinds.Reaps prov tag) line (Some answers.Done) = StandsSo sep entry served start line prov (IsDoneAsAsked tag)
-LineReads sep entry served start (kinds.Reaps prov tag) line (Some (answers.Refused (refusals.Integrity offset))) =
+LineReads sep entry served start (kinds.OfReap prov tag) line (Some (answers.Payload bytes)) = StandsSo sep entry served start line prov (ReadsAsAsked tag (Ok bytes))
+LineReads sep entry served start (kinds.OfReap prov tag) line (Some answers.Done) = StandsSo sep entry served start line prov (IsDoneAsAsked tag)
+LineReads sep entry served start (kinds.OfReap prov tag) line (Some (answers.Refused (refusals.Integrity offset))) =
     StandsSo sep entry served start line prov (ReadsAsAsked tag (Err offset))
 LineReads sep entry served start kind line answer = Unit {0}

@@ -21,8 +21,10 @@ use Rattle.queue_readings.specs.Tasks.{Flushes, Reads, Work, Writes, job_of, tas
 use Rattle.readings.specs.Steps.{Flush, Step}
 use Rattle.readings.specs.Writes.{data_steps}
 use Rattle.command_rows.specs.Digits.{bytes_spelled}
-use Rattle.command_rows.specs.Queueing.{ReapRow, StepRow, SubmitRow}
 use Rattle.command_rows.specs.World.{AttachedWith, Attachment, DrawerState, Holding, IsAmong, Reach, World, attachment_in, place_of}
+use Rattle.command_rows.specs.verbs.Reap.{ReapRow}
+use Rattle.command_rows.specs.verbs.Step.{StepRow}
+use Rattle.command_rows.specs.verbs.Submit.{SubmitRow}
 use Rattle.geli_core.specs.Placing.{DrawerPlaces, DrawerPlays, work_in}
 use Rattle.geli_core.specs.Survivors.{HasNoRequests, SurvivesBy}
 use Rattle.geli_core.specs.Trace.{ServedLine}

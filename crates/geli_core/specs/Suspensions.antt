@@ -1,4 +1,5 @@
--- What the lines of a run do with suspended drawers: while a drawer is suspended its disk logs nothing, and it is attached again with the master key that it had.
+-- What the lines of a run do with suspended drawers: while a drawer is suspended its disk logs nothing, and it is
+-- attached again with the master key that it had.
 use Rattle.std.specs.Prelude.{◌≡◌, ◌⊎◌, ℕ, List, [], ◌∷◌, ◌++◌, Option, None, Some, Ok, slice_get}
 use Rattle.block_traits.specs.Disk.{FailsIn, Logs}
 use Rattle.block_traits.specs.declared.disk.Event.TheVariants.{Flush}
@@ -15,17 +16,17 @@ use Rattle.user_key.specs.Derivation.{user_key}
 use Rattle.user_key.specs.declared.components.UserKey.{UserKey}
 use Rattle.command_rows.specs.Answer.{Answer}
 use Rattle.command_rows.specs.Answer as answers
-use Rattle.command_rows.specs.Grounds.{OpensWith}
-use Rattle.command_rows.specs.Suspending.{kept_by}
 use Rattle.command_rows.specs.Turn.{reach}
 use Rattle.command_rows.specs.World.{Attachment, DrawerState, IsAmong, IsAttached, IsSuspended, Kept, Reach, World, place_of}
-use Rattle.geli_core.specs.Kinds.{Kind, Resumes}
+use Rattle.command_rows.specs.verbs.Attach.{OpensWith}
+use Rattle.command_rows.specs.Verb.{Kind, OfResume}
+use Rattle.command_rows.specs.verbs.Suspend.{kept_by}
 use Rattle.geli_core.specs.Trace.{ServedLine, world_behind}
 
 -- ---- while a drawer is suspended
 
--- The drawer is suspended all the time while lines are served, this is kept of it, and its disk logs nothing, whatever lines name it: behind each line it is one of
--- the drawers of the world there, under its name.
+-- The drawer is suspended all the time while lines are served, this is kept of it, and its disk logs nothing, whatever
+-- lines name it: behind each line it is one of the drawers of the world there, under its name.
 abbrev pub StaysSuspended : Kept → List ServedLine → DrawerState → DrawerState → Type 0
 StaysSuspended kept [] old new = (new ≡ old) × (old.holding ≡ IsSuspended kept)
 StaysSuspended kept (l ∷ lines) old new =
@@ -38,8 +39,8 @@ pub record SuspendedBefore (entry : World) (served : List ServedLine) (drawer : 
   pub there : IsAmong entry.drawers before
   pub stays : StaysSuspended kept served before drawer
 
--- One of the lines was a `suspend`, before which this was attached on the drawer. What is kept is that of its provider, the disk was flushed or failed in that, and it
--- has been suspended since.
+-- One of the lines was a `suspend`, before which this was attached on the drawer. What is kept is that of its provider,
+-- the disk was flushed or failed in that, and it has been suspended since.
 pub record SuspendedSince (sep : Sep) (entry : World) (served : List ServedLine) (drawer : DrawerState) (kept : Kept) (a : Attachment) : Type 0 where
   pub earlier : List ServedLine
   pub suspend : ServedLine
@@ -64,7 +65,8 @@ AreSuspended sep entry served now = (drawer : DrawerState) (kept : Kept) → IsA
 
 -- ---- `resume`
 
--- the key of which the words name the components opens a slot of the metadata on the disk to the master key that is attached
+-- the key of which the words name the components opens a slot of the metadata on the disk to the master key that is
+-- attached
 pub record OpensSlot (line : List ℕ) (words : KeyWords) (kept : Kept) (old : Reach) (a : Attachment) : Type 0 where
   pub found : OpensWith line None kept.readonly words old a
   pub key : UserKey
@@ -77,8 +79,9 @@ pub record HadMaster (sep : Sep) (entry : World) (served : List ServedLine) (dra
   pub since : SuspendedSince sep entry served drawer kept a
   pub same : (master ≡ a.keying.master) ⊎ AreCollision a.keying.master master
 
--- A drawer that was suspended when the line came is attached behind it, with a master key that the given key opens. Its digest is the one that was kept; and where the
--- drawer was suspended by one of the lines, it is the one that it had then, or the two collide under SHA-256.
+-- A drawer that was suspended when the line came is attached behind it, with a master key that the given key opens. Its
+-- digest is the one that was kept; and where the drawer was suspended by one of the lines, it is the one that it had
+-- then, or the two collide under SHA-256.
 pub record ResumesSame (sep : Sep) (entry : World) (served : List ServedLine) (start : World) (line : List ℕ) (prov : Span) (words : KeyWords) (next : World) : Type 0 where
   pub place : ℕ
   pub named : place_of (bytes_at line prov) start.drawers ≡ Some place
@@ -96,5 +99,5 @@ pub record ResumesSame (sep : Sep) (entry : World) (served : List ServedLine) (s
 
 -- a `resume` that is answered by Ok does
 abbrev pub LineResumes : Sep → World → List ServedLine → World → Kind → List ℕ → Option Answer → World → Type 0
-LineResumes sep entry served start (Resumes prov words) line (Some answers.Done) next = ResumesSame sep entry served start line prov words next
+LineResumes sep entry served start (OfResume prov words) line (Some answers.Done) next = ResumesSame sep entry served start line prov words next
 LineResumes sep entry served start kind line answer next = Unit {0}

@@ -12,9 +12,10 @@ use Rattle.sealing.specs.Sectors.{units}
 use Rattle.verify_sweep.specs.Parts.{cut_count, place_after, sectors_after}
 use Rattle.command_rows.specs.Answer.{Answer}
 use Rattle.command_rows.specs.Answer as answers
-use Rattle.command_rows.specs.Verifying.{ListsUnits}
 use Rattle.command_rows.specs.World.{Attachment, DrawerState, IsAttached, World, place_of}
-use Rattle.geli_core.specs.Kinds.{Kind, Sweeps, kind_read}
+use Rattle.command_rows.specs.Verb.{Kind, OfSweep}
+use Rattle.command_rows.specs.verbs.Verify.{ListsUnits}
+use Rattle.geli_core.specs.Kinds.{kind_read}
 use Rattle.geli_core.specs.Trace.{ServedLine}
 
 -- ---- a course of sweeps
@@ -50,7 +51,7 @@ pub record Asked : Type 0 where
 
 -- a line of the course is a `verify` that names the drawer and the file
 abbrev pub asked_by : Course → List ℕ → Kind → Option Asked
-asked_by course line (Sweeps prov file count restart) =
+asked_by course line (OfSweep prov file count restart) =
     if bytes_eq (bytes_at line prov) course.name && bytes_eq (bytes_at line file) course.file then Some (record { count = count; restart = restart }) else None
 asked_by course line kind = None
 
@@ -59,8 +60,9 @@ abbrev pub counts_with : List ℕ → Option Asked → Option Answer → List �
 counts_with counts (Some asked) (Some (answers.Verified offsets next)) = counts ++ asked.count ∷ []
 counts_with counts asked answer = counts
 
--- Behind parts with these counts, the first of which began at the first sector, a part goes from where they ended to `next`: the units that fail there are
--- listed. All together go over the sectors before `next`, each once; and where their counts, each cut to the sectors of a part, reach the end, so do they.
+-- Behind parts with these counts, the first of which began at the first sector, a part goes from where they ended to
+-- `next`: the units that fail there are listed. All together go over the sectors before `next`, each once; and where
+-- their counts, each cut to the sectors of a part, reach the end, so do they.
 pub record IsNextPart (course : Course) (counts : List ℕ) (count : ℕ) (offsets : List ℕ) (next : ℕ) (old new : World) : Type 0 where
   pub before : HasDrawer course old
   pub after : DrawerState

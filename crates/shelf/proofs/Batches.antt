@@ -23,7 +23,7 @@ use Rattle.sealing.specs.Sectors.{units}
 use Rattle.sha2.specs.Hashers.{Holds256}
 use Rattle.sha2.specs.declared.Sha256.{Sha256}
 use Rattle.command_rows.specs.Steps.{SectorsAnswer}
-use Rattle.command_rows.specs.Workloads.{generated, words_of}
+use Rattle.command_rows.specs.verbs.Fill.{generated, words_of}
 use Rattle.command_rows.proofs.Generated.{fill-whole, generated-more}
 
 -- ---- the size of a batch

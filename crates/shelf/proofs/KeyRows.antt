@@ -7,9 +7,9 @@ use Rattle.block_traits.specs.Disk.{DiskState}
 use Rattle.block_traits.specs.Streams.{EntropyState}
 use Rattle.command_words.specs.declared.spans.KeyWords.{KeyWords}
 use Rattle.eli_base.specs.declared.refusals.Refusal.{Refusal}
-use Rattle.command_rows.specs.DeleteKeys.{DeletesRow, DelkeyRow}
-use Rattle.command_rows.specs.SetKey.{SetkeyAttachedRow}
 use Rattle.command_rows.specs.World.{Attachment, Holding, Idle, IsAttached, reach_of}
+use Rattle.command_rows.specs.verbs.Delkey.{DeletesRow, DelkeyRow}
+use Rattle.command_rows.specs.verbs.Setkey.{SetkeyAttachedRow}
 
 -- on an attached drawer, which stays attached as it was
 pub setkey_attached_row : (line : List ℕ) (iterations : Option ℤ) (slot : Option ℕ) (fresh : KeyWords) (a a' : Attachment) (disk disk' : DiskState) (cabinet cabinet' : CabinetState) (entropy : EntropyState)

@@ -5,9 +5,9 @@ use Rattle.block_traits.specs.Disk.{DiskState}
 use Rattle.block_traits.specs.Streams.{EntropyState}
 use Rattle.command_words.specs.declared.spans.Span.{Span}
 use Rattle.eli_base.specs.declared.refusals.Refusal.{Refusal}
-use Rattle.command_rows.specs.Killing.{KillRow}
-use Rattle.command_rows.specs.Saving.{BackupRow}
 use Rattle.command_rows.specs.World.{Holding, Idle, reach_of}
+use Rattle.command_rows.specs.verbs.Backup.{BackupRow}
+use Rattle.command_rows.specs.verbs.Kill.{KillRow}
 
 -- it stays as it was
 pub backup_held_row : (line : List ℕ) (file : Span) (before after : Holding) (disk disk' : DiskState) (cabinet cabinet' : CabinetState) (entropy : EntropyState) (answer : Result (Unit {0}) Refusal) → after ≡ before

@@ -19,10 +19,13 @@ use Rattle.eli_base.specs.declared.refusals.Refusal.{Refusal}
 use Rattle.eli_base.specs.declared.refusals.Refusal.TheVariants as refusals
 use Rattle.provider.specs.Attached.{Attached, IsKept}
 use Rattle.command_rows.specs.Digits.{bytes_spelled}
-use Rattle.command_rows.specs.Queueing.{HasRequest, NeedsRequest, ReapRow, StepRow, SubmitRow, Submits, reap_answer, step_refusal, submit_refusal}
+use Rattle.command_rows.specs.Queueing.{HasRequest, NeedsRequest}
 use Rattle.command_rows.specs.Requests.{bytes_given}
 use Rattle.command_rows.specs.Steps.{NeedsWhole, or_refusal, whole_sectors}
 use Rattle.command_rows.specs.World.{IsAttached}
+use Rattle.command_rows.specs.verbs.Reap.{ReapRow, reap_answer}
+use Rattle.command_rows.specs.verbs.Step.{StepRow, step_refusal}
+use Rattle.command_rows.specs.verbs.Submit.{SubmitRow, Submits, submit_refusal}
 use Rattle.shelf.specs.Queueing.{count_given}
 use Rattle.shelf.specs.Shelved.{attachment_of}
 use Rattle.shelf.proofs.Rows.{Then-goes_on, Then-refused}

@@ -13,9 +13,9 @@ use Rattle.suspend.specs.Suspension.{Suspension}
 use Rattle.suspend.specs.declared.faults.ResumeFault.{ResumeFault}
 use Rattle.suspend.specs.declared.faults.ResumeFault.TheVariants as resume
 use Rattle.command_rows.specs.Steps.{Attaches, GoesOn, attachment_by}
-use Rattle.command_rows.specs.Suspending.{AttachesAgain, ResumeRow, same_key}
 use Rattle.command_rows.specs.Trying.{TryRow}
 use Rattle.command_rows.specs.World.{Attachment, IsAttached, IsSuspended, Kept, Reach, reach_of}
+use Rattle.command_rows.specs.verbs.Resume.{AttachesAgain, ResumeRow, same_key}
 use Rattle.command_rows.proofs.SameKey.{other_is_refused, same_is_key}
 use Rattle.shelf.specs.Resuming.{resume_refusal}
 use Rattle.shelf.specs.Shelved.{attachment_of, kept_of}

@@ -4,9 +4,8 @@ use Rattle.bio_queue.specs.Requests.{Request}
 use Rattle.block_traits.specs.Disk.{DiskState}
 use Rattle.eli_base.specs.declared.refusals.Refusal.{Refusal}
 use Rattle.eli_base.specs.declared.refusals.Refusal.TheVariants as refusals
-use Rattle.command_rows.specs.Queueing.{if_none_open}
-use Rattle.command_rows.specs.Suspending.{SuspendRow, Suspends, kept_by}
 use Rattle.command_rows.specs.World.{Attachment, IsSuspended, Reach}
+use Rattle.command_rows.specs.verbs.Suspend.{SuspendRow, Suspends, if_none_open, kept_by}
 use Rattle.provider.specs.Attached.{Attached}
 use Rattle.shelf.specs.Shelved.{attachment_of, kept_of}
 use Rattle.suspend.specs.Suspension.{KeepsOf, Suspension}

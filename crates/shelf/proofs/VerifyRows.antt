@@ -25,8 +25,8 @@ use Rattle.verify_sweep.specs.Parts.{sweep_at}
 use Rattle.verify_sweep.specs.Sweeping.{ListsFailing, failing_units, faults_in, le64s, pieces_read, sectors_swept}
 use Rattle.verify_sweep.specs.declared.sweeping.Swept.{Swept}
 use Rattle.command_rows.specs.Steps.{StoresBytes, Then}
-use Rattle.command_rows.specs.Verifying.{FindsPlace, ListsUnits, LoadsPlace, NeedsPlace, NeedsTags, StoresPlace, SweepsFrom, SweptPart, VerifyRow, if_inside, if_tagged, place_in, place_size, unless_absent}
 use Rattle.command_rows.specs.World.{Holding, Reach, reach_of}
+use Rattle.command_rows.specs.verbs.Verify.{FindsPlace, ListsUnits, LoadsPlace, NeedsPlace, NeedsTags, StoresPlace, SweepsFrom, SweptPart, VerifyRow, if_inside, if_tagged, place_in, place_size, unless_absent}
 use Rattle.command_rows.proofs.SweepPlaces.{is_inside}
 use Rattle.shelf.specs.Shelved.{attachment_of}
 use Rattle.shelf.specs.Verifying.{swept_part, without_file}

@@ -12,7 +12,8 @@ use Rattle.provider.specs.Attached.{Attached, IsKept, media}
 use Rattle.provider.specs.Writing.{data_writes}
 use Rattle.rand_pcg.specs.Lcg.{Lcg}
 use Rattle.command_rows.specs.Steps.{DoesEvents, NeedsSectors, NeedsWritable, ReadsSectors, if_writable, in_range, or_refusal}
-use Rattle.command_rows.specs.Workloads.{FillRow, SumAnswer, SumRow, generated, generator, words_of, workload}
+use Rattle.command_rows.specs.verbs.Fill.{FillRow, generated, generator, words_of, workload}
+use Rattle.command_rows.specs.verbs.Sum.{SumAnswer, SumRow}
 use Rattle.shelf.specs.Shelved.{attachment_of}
 use Rattle.shelf.proofs.Rows.{Then-goes_on, Then-refused}
 use Rattle.shelf.proofs.Sectors.{at, kept_holding}

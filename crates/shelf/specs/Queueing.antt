@@ -4,7 +4,7 @@ use Rattle.bio_queue.specs.declared.faults.ReapFault.{ReapFault}
 use Rattle.bio_queue.specs.declared.job.Reaped.{Reaped}
 use Rattle.bio_queue.specs.declared.job.Reaped.TheVariants.{Bytes, Written, Flushed}
 use Rattle.eli_base.specs.declared.refusals.Refusal.{Refusal}
-use Rattle.command_rows.specs.Queueing.{reap_refusal}
+use Rattle.command_rows.specs.verbs.Reap.{reap_refusal}
 
 -- those of a read; other requests have none
 abbrev pub count_given : ℕ → Result Reaped ReapFault → Result (Option ℕ) Refusal

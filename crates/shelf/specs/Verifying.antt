@@ -2,9 +2,9 @@
 use Rattle.std.specs.Prelude.{List, ℕ, Result, Ok, Err}
 use Rattle.eli_base.specs.declared.refusals.Refusal.{Refusal}
 use Rattle.eli_base.specs.declared.refusals.Refusal.TheVariants as refusals
-use Rattle.command_rows.specs.Verifying.{SweptPart}
 use Rattle.reply_text.specs.Text.{numbers_in}
 use Rattle.verify_sweep.specs.declared.sweeping.Swept.{Swept}
+use Rattle.command_rows.specs.verbs.Verify.{SweptPart}
 
 -- the offsets that stand there, and where the next part begins; or the refusal
 abbrev pub swept_part : List ℕ → Result Swept Refusal → Result SweptPart Refusal

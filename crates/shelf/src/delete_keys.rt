@@ -2,8 +2,8 @@
 
 ghost use Rattle.std.specs.Prelude.{◌≡◌};
 ghost use Rattle.block_traits.specs.Cabinet.{CabinetState};
-ghost use Rattle.command_rows.specs.DeleteKeys.{DeletesRow, named_slots};
 ghost use Rattle.command_rows.specs.World.{Holding, reach_of};
+ghost use Rattle.command_rows.specs.verbs.Delkey.{DeletesRow, named_slots};
 
 use crate::reading::read_last;
 use block_traits::{Entropy, MetaPlace};

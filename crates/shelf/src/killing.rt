@@ -1,8 +1,8 @@
 //! `geli kill`: the metadata are destroyed (geli(8)).
 
 ghost use Rattle.block_traits.specs.Cabinet.{CabinetState};
-ghost use Rattle.command_rows.specs.Killing.{KillRow};
 ghost use Rattle.command_rows.specs.World.{Holding, Idle, reach_of};
+ghost use Rattle.command_rows.specs.verbs.Kill.{KillRow};
 
 use block_traits::{Disk, Entropy};
 use eli_base::Refusal;

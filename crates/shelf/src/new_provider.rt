@@ -4,9 +4,9 @@ ghost use Rattle.std.specs.Prelude.{◌≡◌, IfSome, length};
 ghost use Rattle.block_traits.specs.Disk.{DiskState};
 ghost use Rattle.block_traits.specs.Streams.{EntropyState};
 ghost use Rattle.command_words.specs.Places.{IsWithin, KeyIsWithin};
-ghost use Rattle.command_rows.specs.NewProvider.{InitRow, iterations_of};
 ghost use Rattle.command_rows.specs.Steps.{BacksUp};
 ghost use Rattle.command_rows.specs.World.{Holding, Idle, reach_of};
+ghost use Rattle.command_rows.specs.verbs.Init.{InitRow, iterations_of};
 
 use crate::saving::store_at;
 use block_traits::{Cabinet, Disk, Entropy};

@@ -2,8 +2,8 @@
 
 ghost use Rattle.std.specs.Prelude.{◌≡◌, ◌≤◌, ◌%◌};
 ghost use Rattle.block_traits.specs.Cabinet.{CabinetState};
-ghost use Rattle.command_rows.specs.Resizing.{ResizeRow};
 ghost use Rattle.command_rows.specs.World.{Idle, reach_of};
+ghost use Rattle.command_rows.specs.verbs.Resize.{ResizeRow};
 
 use block_traits::{Disk, Entropy};
 use eli_base::Refusal;

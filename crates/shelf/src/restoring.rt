@@ -3,8 +3,8 @@
 ghost use Rattle.std.specs.Prelude.{◌≡◌, length};
 ghost use Rattle.block_traits.specs.Streams.{EntropyState};
 ghost use Rattle.command_words.specs.Places.{IsWithin};
-ghost use Rattle.command_rows.specs.Restoring.{RestoreRow};
 ghost use Rattle.command_rows.specs.World.{Idle, reach_of};
+ghost use Rattle.command_rows.specs.verbs.Restore.{RestoreRow};
 
 use block_traits::{Cabinet, Disk};
 use command_words::Span;

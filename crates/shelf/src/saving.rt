@@ -4,9 +4,9 @@ ghost use Rattle.std.specs.Prelude.{◌≡◌, length};
 ghost use Rattle.block_traits.specs.Disk.{DiskState};
 ghost use Rattle.block_traits.specs.Streams.{EntropyState};
 ghost use Rattle.command_words.specs.Places.{IsWithin};
-ghost use Rattle.command_rows.specs.Saving.{BackupRow};
 ghost use Rattle.command_rows.specs.Steps.{StoresBytes, store_refusal};
 ghost use Rattle.command_rows.specs.World.{Holding, reach_of};
+ghost use Rattle.command_rows.specs.verbs.Backup.{BackupRow};
 
 use block_traits::{Cabinet, MetaPlace, StoreFault};
 use command_words::Span;

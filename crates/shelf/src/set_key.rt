@@ -6,8 +6,8 @@ ghost use Rattle.block_traits.specs.Streams.{EntropyState};
 ghost use Rattle.command_words.specs.Places.{KeyIsWithin};
 ghost use Rattle.eli_metadata.specs.Checks.{settings_of, supported};
 ghost use Rattle.key_commands.specs.NewKey.{KeyChange};
-ghost use Rattle.command_rows.specs.SetKey.{SetkeyAttachedRow, SetkeyIdleRow, StoresKey, if_there, opened_by, usable};
 ghost use Rattle.command_rows.specs.World.{Holding, reach_of};
+ghost use Rattle.command_rows.specs.verbs.Setkey.{SetkeyAttachedRow, SetkeyIdleRow, StoresKey, if_there, opened_by, usable};
 ghost use Rattle.user_key.specs.Derivation.{user_key};
 
 use crate::reading::read_last;

@@ -2,8 +2,8 @@
 
 ghost use Rattle.block_traits.specs.Cabinet.{CabinetState};
 ghost use Rattle.block_traits.specs.Streams.{EntropyState};
-ghost use Rattle.command_rows.specs.Suspending.{SuspendRow};
 ghost use Rattle.command_rows.specs.World.{IsAttached, reach_of};
+ghost use Rattle.command_rows.specs.verbs.Suspend.{SuspendRow};
 ghost use Rattle.shelf.specs.Shelved.{attachment_of, disk_in, holding_of};
 
 use crate::Held;

@@ -8,8 +8,8 @@ ghost use Rattle.block_traits.specs.Streams.{EntropyState};
 ghost use Rattle.command_words.specs.Places.{IsWithin};
 ghost use Rattle.provider.specs.Attached.{has_tags};
 ghost use Rattle.command_rows.specs.Steps.{request_limit};
-ghost use Rattle.command_rows.specs.Verifying.{FindsPlace, SweepsFrom, VerifyRow, place_in, place_size};
 ghost use Rattle.command_rows.specs.World.{Holding, IsAttached, reach_of};
+ghost use Rattle.command_rows.specs.verbs.Verify.{FindsPlace, SweepsFrom, VerifyRow, place_in, place_size};
 ghost use Rattle.shelf.specs.Shelved.{attachment_of};
 ghost use Rattle.shelf.specs.Verifying.{swept_part, without_file};
 

@@ -10,8 +10,9 @@ ghost use Rattle.provider.specs.Attached.{IsKept, media};
 ghost use Rattle.provider.specs.Writing.{data_writes};
 ghost use Rattle.command_rows.specs.Requests.{handed_out};
 ghost use Rattle.command_rows.specs.Steps.{SectorsAnswer, in_range, request_limit};
-ghost use Rattle.command_rows.specs.Workloads.{FillRow, SumAnswer, SumRow, generated, words_of};
 ghost use Rattle.command_rows.specs.World.{IsAttached, reach_of};
+ghost use Rattle.command_rows.specs.verbs.Fill.{FillRow, generated, words_of};
+ghost use Rattle.command_rows.specs.verbs.Sum.{SumAnswer, SumRow};
 ghost use Rattle.shelf.specs.Shelved.{attachment_of};
 
 use crate::requests::flush_answer;

@@ -4,12 +4,12 @@ use Rattle.eli_base.specs.Units.{media_sectors}
 use Rattle.eli_base.specs.declared.refusals.Refusal.{Refusal}
 use Rattle.eli_base.specs.declared.refusals.Refusal.TheVariants as refusals
 use Rattle.eli_metadata.specs.declared.metadata.Metadata.{Metadata}
-use Rattle.command_rows.specs.Killing.{Withdraws}
-use Rattle.command_rows.specs.SetKey.{IsUsed, usable}
 use Rattle.command_rows.specs.Steps.{Admits, Attaches, Decides, NeedsSectors, admitted, in_range}
 use Rattle.command_rows.specs.Turn.{AttachesUnless}
-use Rattle.command_rows.specs.Verifying.{NeedsPlace, if_inside}
 use Rattle.command_rows.specs.World.{Attachment, Holding, Idle, IsAttached, Reach}
+use Rattle.command_rows.specs.verbs.Kill.{Withdraws}
+use Rattle.command_rows.specs.verbs.Setkey.{IsUsed, usable}
+use Rattle.command_rows.specs.verbs.Verify.{NeedsPlace, if_inside}
 use Rattle.turn_determinism.proofs.Alike.{Alike}
 use Rattle.turn_determinism.proofs.Steps.{Both, HasMemory, Later, Settled, Sure, settled, settled_still, still_later}
 

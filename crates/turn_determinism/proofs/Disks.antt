@@ -19,8 +19,8 @@ use Rattle.provider.specs.Reading.{ReadsAs, ReadsFrom, data_reading}
 use Rattle.provider.specs.Writing.{data_writes}
 use Rattle.sealing.specs.Sectors.{units}
 use Rattle.command_rows.specs.Steps.{Detaches, Does, DoesEvents, ReadsLastSector, ReadsSectors, SectorsAnswer, WritesSectors, or_refusal}
-use Rattle.command_rows.specs.Suspending.{Suspends, kept_by}
 use Rattle.command_rows.specs.World.{Attachment, IsSuspended, Reach}
+use Rattle.command_rows.specs.verbs.Suspend.{Suspends, kept_by}
 use Rattle.turn_determinism.specs.Same.{IsSameCount}
 use Rattle.turn_determinism.proofs.Alike.{Alike, AlikeDisk, counted_same, given_by, logs_alike, still_cabinet, still_disk, still_entropy, uncounted_same}
 use Rattle.turn_determinism.proofs.Steps.{Both, Later, Settled, Sure, same_cabinet_later, same_disk_later, same_entropy_later, settled}

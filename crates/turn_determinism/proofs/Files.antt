@@ -15,8 +15,8 @@ use Rattle.key_components.specs.Files.{file_limit}
 use Rattle.key_components.specs.Key.{components_of}
 use Rattle.user_key.specs.declared.components.Components.{Components}
 use Rattle.command_rows.specs.Steps.{BacksUp, Decides, LoadsComponents, LoadsFile, StoreAnswers, StoresBytes, StoresFile}
-use Rattle.command_rows.specs.Verifying.{FindsPlace, LoadsPlace, place_in, place_size, unless_absent}
 use Rattle.command_rows.specs.World.{Reach}
+use Rattle.command_rows.specs.verbs.Verify.{FindsPlace, LoadsPlace, place_in, place_size, unless_absent}
 use Rattle.turn_determinism.specs.Same.{IsSameCount, LoadsUnlessMissed}
 use Rattle.turn_determinism.proofs.Alike.{Alike, AlikeCabinet, counted_same, keeps_alike, still_disk, still_entropy, stored_alike, uncounted_same}
 use Rattle.turn_determinism.proofs.Deciding.{decides_sure}

@@ -23,11 +23,11 @@ use Rattle.user_key.specs.Derivation.{user_key}
 use Rattle.user_key.specs.declared.components.Components.{Components}
 use Rattle.user_key.specs.declared.components.KeyFault.{KeyFault}
 use Rattle.user_key.specs.declared.components.UserKey.{UserKey}
-use Rattle.command_rows.specs.DeleteKeys.{TakesKeysOut}
-use Rattle.command_rows.specs.Restoring.{WritesBack}
-use Rattle.command_rows.specs.SetKey.{StoresKey}
 use Rattle.command_rows.specs.Steps.{MakesProvider, without_value}
 use Rattle.command_rows.specs.World.{Reach}
+use Rattle.command_rows.specs.verbs.Delkey.{TakesKeysOut}
+use Rattle.command_rows.specs.verbs.Restore.{WritesBack}
+use Rattle.command_rows.specs.verbs.Setkey.{StoresKey}
 use Rattle.turn_determinism.proofs.Alike.{AlikeDisk, AlikeEntropy, logs_alike, still_cabinet, still_disk, still_entropy, takes_alike, takes_same, uncounted_same}
 use Rattle.turn_determinism.proofs.Disks.{beside_later, beside_settled, same_holding, same_loads}
 use Rattle.turn_determinism.proofs.Steps.{Both, Later, Settled, Sure, same_cabinet_later, same_disk_later, same_entropy_later, settled}

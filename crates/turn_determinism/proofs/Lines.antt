@@ -13,19 +13,23 @@ use Rattle.command_rows.specs.Answer.{Answer}
 use Rattle.command_rows.specs.Answer as answers
 use Rattle.command_rows.specs.Digits.{bytes_spelled}
 use Rattle.command_rows.specs.Gate.{needs, refused_by}
-use Rattle.command_rows.specs.DeleteKeys.{DelkeyRow}
-use Rattle.command_rows.specs.Killing.{KillRow}
-use Rattle.command_rows.specs.NewProvider.{InitRow, iterations_of}
-use Rattle.command_rows.specs.Queueing.{ReapRow, StepRow, SubmitRow}
-use Rattle.command_rows.specs.Resizing.{ResizeRow}
-use Rattle.command_rows.specs.Restoring.{RestoreRow}
-use Rattle.command_rows.specs.Saving.{BackupRow}
-use Rattle.command_rows.specs.SetKey.{SetkeyRow}
-use Rattle.command_rows.specs.Suspending.{ResumeRow, SuspendRow}
 use Rattle.command_rows.specs.Turn.{AttachRow, DetachRow, DumpRow, FlushRow, GoesThrough, IsRefused, ReadRow, Replies, Serves, WriteRow, digest_or, done_or, dump_or, left_or, payload_or, reaped_or, tag_or, verified_or}
-use Rattle.command_rows.specs.Verifying.{VerifyRow}
-use Rattle.command_rows.specs.Workloads.{FillRow, SumRow}
 use Rattle.command_rows.specs.World.{AttachedWith, Attachment, Holding, Kept, Reach, SuspendedWith, attachment_in, kept_in}
+use Rattle.command_rows.specs.verbs.Backup.{BackupRow}
+use Rattle.command_rows.specs.verbs.Delkey.{DelkeyRow}
+use Rattle.command_rows.specs.verbs.Fill.{FillRow}
+use Rattle.command_rows.specs.verbs.Init.{InitRow, iterations_of}
+use Rattle.command_rows.specs.verbs.Kill.{KillRow}
+use Rattle.command_rows.specs.verbs.Reap.{ReapRow}
+use Rattle.command_rows.specs.verbs.Resize.{ResizeRow}
+use Rattle.command_rows.specs.verbs.Restore.{RestoreRow}
+use Rattle.command_rows.specs.verbs.Resume.{ResumeRow}
+use Rattle.command_rows.specs.verbs.Setkey.{SetkeyRow}
+use Rattle.command_rows.specs.verbs.Step.{StepRow}
+use Rattle.command_rows.specs.verbs.Submit.{SubmitRow}
+use Rattle.command_rows.specs.verbs.Sum.{SumRow}
+use Rattle.command_rows.specs.verbs.Suspend.{SuspendRow}
+use Rattle.command_rows.specs.verbs.Verify.{VerifyRow}
 use Rattle.command_rows.proofs.Replies.{Replying, digest_replying, done_replying, dump_replying, left_replying, payload_replying, reaped_replying, tag_replying, verified_replying}
 use Rattle.turn_determinism.specs.Quiet as quiet
 use Rattle.turn_determinism.specs.Same.{IsSameCount, LoadsAsMany, LoadsUnlessMissed}

@@ -22,12 +22,12 @@ use Rattle.resize_kill.specs.Trash.{TakesTrash, random_size}
 use Rattle.sealing.specs.Sectors.{units}
 use Rattle.verify_sweep.specs.Parts.{sweep_at}
 use Rattle.verify_sweep.specs.Sweeping.{Sweep, failing_units, sectors_swept}
-use Rattle.command_rows.specs.Killing.{DestroysMetadata}
 use Rattle.command_rows.specs.Requests.{handed_out}
-use Rattle.command_rows.specs.Resizing.{MovesMetadata}
-use Rattle.command_rows.specs.Saving.{FindsLastSector}
-use Rattle.command_rows.specs.Verifying.{PartAnswer, SweptPart, Sweeps}
 use Rattle.command_rows.specs.World.{Attachment, Reach}
+use Rattle.command_rows.specs.verbs.Backup.{FindsLastSector}
+use Rattle.command_rows.specs.verbs.Kill.{DestroysMetadata}
+use Rattle.command_rows.specs.verbs.Resize.{MovesMetadata}
+use Rattle.command_rows.specs.verbs.Verify.{PartAnswer, Sweeps, SweptPart}
 use Rattle.turn_determinism.proofs.Alike.{AlikeDisk, counted_same, given_by, logs_alike, still_disk, still_entropy, takes_alike, takes_same}
 use Rattle.turn_determinism.proofs.Disks.{beside_later, beside_settled, same_holding}
 use Rattle.turn_determinism.proofs.Keys.{drawing_later, drawing_settled, refusal_same, unread_alike, unrefused}

@@ -22,9 +22,12 @@ use Rattle.eli_base.specs.Units.{media_sectors}
 use Rattle.eli_base.specs.declared.refusals.Refusal.{Refusal}
 use Rattle.eli_base.specs.declared.refusals.Refusal.TheVariants as refusals
 use Rattle.provider.specs.Attached.{media}
-use Rattle.command_rows.specs.Queueing.{NeedsRequest, ReapsRequest, StepsRequest, Submits, reap_answer, step_refusal, submit_refusal, with_queue}
+use Rattle.command_rows.specs.Queueing.{NeedsRequest, with_queue}
 use Rattle.command_rows.specs.Steps.{or_refusal}
 use Rattle.command_rows.specs.World.{Attachment, IsAttached, Reach}
+use Rattle.command_rows.specs.verbs.Reap.{ReapsRequest, reap_answer}
+use Rattle.command_rows.specs.verbs.Step.{StepsRequest, step_refusal}
+use Rattle.command_rows.specs.verbs.Submit.{Submits, submit_refusal}
 use Rattle.turn_determinism.specs.Same.{IsSameCount}
 use Rattle.turn_determinism.proofs.Alike.{AlikeDisk, counted_same, given_by, logs_alike, still_disk, uncounted_same}
 use Rattle.turn_determinism.proofs.Deciding.{held_settled}

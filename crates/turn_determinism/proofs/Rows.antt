@@ -15,21 +15,26 @@ use Rattle.provider.specs.Attached.{has_tags}
 use Rattle.range_keys.specs.Keys.{le64}
 use Rattle.sha2.specs.Sha256.{sha256}
 use Rattle.user_key.specs.Derivation.{user_key}
-use Rattle.command_rows.specs.DeleteKeys.{DeletesRow, DelkeyRow, NamesSlots, named_slots, slot_of}
 use Rattle.command_rows.specs.Digits.{bytes_spelled}
-use Rattle.command_rows.specs.Killing.{KillRow, DestroysMetadata, Withdraws}
-use Rattle.command_rows.specs.NewProvider.{InitRow}
-use Rattle.command_rows.specs.Queueing.{NeedsNoRequests, NeedsRequest, ReapRow, ReapsRequest, StepRow, StepsRequest, SubmitRow, Submits, if_none_open}
-use Rattle.command_rows.specs.Restoring.{RestoreRow, WritesBack}
-use Rattle.command_rows.specs.Saving.{BackupRow, FindsLastSector}
-use Rattle.command_rows.specs.SetKey.{IsUsed, NeedsSlot, OpensSlot, SetkeyAttachedRow, SetkeyIdleRow, SetkeyRow, if_there, opened_by}
+use Rattle.command_rows.specs.Queueing.{NeedsRequest}
 use Rattle.command_rows.specs.Steps.{Admits, Attaches, BacksUp, Decides, LoadsComponents, LoadsFile, MakesProvider, NeedsSectors, NeedsWhole, NeedsWritable, ReadsLastSector, ReadsSectors, StoresBytes, Then, TriesKey, WritesSectors, if_writable, tried, whole_sectors}
-use Rattle.command_rows.specs.Suspending.{AttachesAgain, NeedsSameKey, ResumeRow, SuspendRow, Suspends, same_key}
 use Rattle.command_rows.specs.Trying.{TryRow}
 use Rattle.command_rows.specs.Turn.{AttachRow, AttachesUnless, ReadRow, WriteRow}
-use Rattle.command_rows.specs.Verifying.{FindsPlace, NeedsPlace, NeedsTags, StoresPlace, Sweeps, SweepsFrom, VerifyRow, if_tagged}
-use Rattle.command_rows.specs.Workloads.{FillRow, SumRow, words_of, workload}
 use Rattle.command_rows.specs.World.{Attachment, Holding, Kept, Reach, attachment_in}
+use Rattle.command_rows.specs.verbs.Backup.{BackupRow, FindsLastSector}
+use Rattle.command_rows.specs.verbs.Delkey.{DeletesRow, DelkeyRow, NamesSlots, named_slots, slot_of}
+use Rattle.command_rows.specs.verbs.Fill.{FillRow, words_of, workload}
+use Rattle.command_rows.specs.verbs.Init.{InitRow}
+use Rattle.command_rows.specs.verbs.Kill.{DestroysMetadata, KillRow, Withdraws}
+use Rattle.command_rows.specs.verbs.Reap.{ReapRow, ReapsRequest}
+use Rattle.command_rows.specs.verbs.Restore.{RestoreRow, WritesBack}
+use Rattle.command_rows.specs.verbs.Resume.{AttachesAgain, NeedsSameKey, ResumeRow, same_key}
+use Rattle.command_rows.specs.verbs.Setkey.{IsUsed, NeedsSlot, OpensSlot, SetkeyAttachedRow, SetkeyIdleRow, SetkeyRow, if_there, opened_by}
+use Rattle.command_rows.specs.verbs.Step.{StepRow, StepsRequest}
+use Rattle.command_rows.specs.verbs.Submit.{SubmitRow, Submits}
+use Rattle.command_rows.specs.verbs.Sum.{SumRow}
+use Rattle.command_rows.specs.verbs.Suspend.{NeedsNoRequests, SuspendRow, Suspends, if_none_open}
+use Rattle.command_rows.specs.verbs.Verify.{FindsPlace, NeedsPlace, NeedsTags, StoresPlace, Sweeps, SweepsFrom, VerifyRow, if_tagged}
 use Rattle.turn_determinism.proofs.Deciding.{admits_sure, attaches_sure, decides_sure, place_sure, sectors_sure, unless_sure, used_sure, withdraws_sure}
 use Rattle.turn_determinism.proofs.Disks.{reads_last_sure, reads_sectors_sure, suspends_sure, writes_sure}
 use Rattle.turn_determinism.proofs.Files.{backs_up_sure, components_sure, file_sure, finds_place_sure, stores_sure}

@@ -14,8 +14,8 @@ use Rattle.command_rows.specs.Fits.{FailsNowhere}
 use Rattle.command_rows.specs.Turn.{ChangesAt, IsUnknown, Lists, ListsAs, Serves, ServesAt, TakesOut, Turn, TurnOf, entry_by, entry_of, reach, takes_out}
 use Rattle.command_rows.specs.World.{DrawerState, Holding, Idle, IsAttached, IsSuspended, Reach, World, place_of}
 use Rattle.command_rows.proofs.Lines.{line_did}
-use Rattle.command_rows.proofs.Sound.{turn_counts}
 use Rattle.command_rows.proofs.Untouched.{get-set}
+use Rattle.command_rows.proofs.LineCounts.{turn_counts}
 use Rattle.turn_determinism.specs.Quiet.{HasMemory, IsQuiet, StaysQuietAt}
 use Rattle.turn_determinism.specs.Same.{AreSameDrawers, IsSameDrawer, IsSameTurn, IsSameWorld}
 use Rattle.turn_determinism.specs.Told.{IsTold, TellsAt}

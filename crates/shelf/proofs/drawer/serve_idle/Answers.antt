@@ -3,8 +3,8 @@ use Rattle.std.proofs.lemmas.Int.{to_z-of_z}
 use Rattle.std.specs.Int.{w32}
 use Rattle.std.specs.Prelude.{FitsSigned, ℤ}
 use Rattle.key_commands.specs.declared.options.InitOptions.{InitOptions}
-use Rattle.command_rows.specs.NewProvider.{InitRow}
 use Rattle.command_rows.specs.World.{Idle, reach_of}
+use Rattle.command_rows.specs.verbs.Init.{InitRow}
 use Rattle.shelf.proofs.drawer.serve_idle.Goals as goal
 
 pub returns-in-Attach-clause-serves : goal.returns-in-Attach-clause-serves

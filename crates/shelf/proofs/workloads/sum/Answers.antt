@@ -1,8 +1,8 @@
 use Rattle.std.proofs.Common.{◌≡◌, ℕ, ◌+◌, ◌-◌, arith, subst}
 use Rattle.std.proofs.lemmas.Result.{err_from_is_err_and}
-use Rattle.command_rows.specs.Workloads.{SumAnswer}
 use Rattle.shelf.proofs.WorkloadRows.{sum_passes, sum_reads}
 use Rattle.shelf.proofs.workloads.sum.Goals as goal
+use Rattle.command_rows.specs.verbs.Sum.{SumAnswer}
 
 pub returns-in_err-check_range : goal.returns-in_err-check_range
 returns-in_err-check_range g c =

@@ -1,11 +1,14 @@
--- The row of `backup`: the metadata are stored in a file (geli(8)).
-use Rattle.std.specs.Prelude.{◌≡◌, ℕ, List, Result}
+-- `backup`: the metadata are stored in a file (geli(8)).
+use Rattle.std.specs.Prelude.{List, Result, Some, ℕ, ◌≡◌}
 use Rattle.backup_restore.specs.Saving.{Saves}
 use Rattle.block_traits.specs.Disk.{DiskState}
 use Rattle.command_words.specs.declared.spans.Span.{Span}
 use Rattle.eli_base.specs.declared.refusals.Refusal.{Refusal}
+use Rattle.command_rows.specs.Findings.{FindsMetadata, LacksMetadata}
+use Rattle.command_rows.specs.Replies.{Replies, done_or}
 use Rattle.command_rows.specs.Requests.{handed_out}
 use Rattle.command_rows.specs.Steps.{KeepsOutside, StoresBytes, Then}
+use Rattle.command_rows.specs.Verb.{NoBadFile, NoChanges, NoEvents, OfOther, Verb, asks_nothing, places_nothing}
 use Rattle.command_rows.specs.World.{Reach}
 
 -- the last sector was read, into a place that had other bytes before; it is answered where it has metadata
@@ -25,3 +28,18 @@ pub record FindsLastSector (old : Reach) (answer : Result (List ℕ) Refusal) (n
 -- `backup`: the last sector is read, and then stored in a file
 abbrev pub BackupRow : List ℕ → Span → Reach → Result (Unit {0}) Refusal → Reach → Type 0
 BackupRow line file old answer new = Then FindsLastSector (λ bytes. StoresBytes line file bytes) old answer new
+
+-- the verb
+abbrev pub backup_verb : Span → Span → Verb
+backup_verb prov file = record {
+  goes_through = λ line old reply new. Replies done_or (BackupRow line file) old reply new;
+  fits = λ line old. FindsMetadata old;
+  grounds = λ line old refusal. LacksMetadata old.disk refusal;
+  bad_file = NoBadFile;
+  events = NoEvents;
+  changes = NoChanges;
+  stored_file = Some file;
+  asks = asks_nothing;
+  places = places_nothing;
+  kind = OfOther;
+}

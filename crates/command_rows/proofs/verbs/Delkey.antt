@@ -1,0 +1,256 @@
+-- That `delkey` is lawful.
+use Rattle.std.proofs.Common.{Bool, Err, List, None, Ok, Option, Result, Some, ap, cond, false, inl, inr, refl, subst, sym, take, true, ℕ, ◌-◌, ◌∙◌, ◌≡◌, ◌⊎◌}
+use Rattle.std.specs.Option.{option_or}
+use Rattle.block_traits.proofs.Causes.{Rose-earlier}
+use Rattle.block_traits.specs.Disk.{DiskState}
+use Rattle.block_traits.specs.Moments.{HoldsOldOr, HoldsOnceFlushed}
+use Rattle.block_traits.specs.Overwriting.{overwrite_events}
+use Rattle.block_traits.specs.Streams.{EntropyState}
+use Rattle.command_words.specs.declared.commands.Command.{Command}
+use Rattle.command_words.specs.declared.commands.Command.TheVariants as commands
+use Rattle.command_words.specs.declared.spans.Span.{Span}
+use Rattle.eli_base.specs.declared.refusals.Refusal.{Refusal}
+use Rattle.eli_base.specs.declared.refusals.Refusal.TheVariants as refusals
+use Rattle.eli_metadata.specs.Format.{encoded}
+use Rattle.eli_metadata.specs.declared.metadata.Metadata.{Metadata}
+use Rattle.key_commands.proofs.Passes.{HasOtherKeys-Deletes, KeepsAlone-Deletes, Overwrites-Deletes, Overwrites-DeletesPart}
+use Rattle.key_commands.specs.DeleteKeys.{DeletesKeys, Deletion, Overwrites}
+use Rattle.key_commands.specs.Overwriting.{HasNoKey, deletion_refusal, pass_events, pass_sectors}
+use Rattle.key_commands.specs.declared.overwriting.Which.{Which}
+use Rattle.key_commands.specs.declared.overwriting.Which.TheVariants as slots
+use Rattle.command_rows.specs.Findings.{HasMetadata, LacksMetadata}
+use Rattle.command_rows.specs.Replies.{done_or}
+use Rattle.command_rows.specs.Steps.{ReadsLastSector, Then, without_value}
+use Rattle.command_rows.specs.Stops.{ChangesMetadata}
+use Rattle.command_rows.specs.World.{Holding, Reach}
+use Rattle.command_rows.specs.verbs.Delkey.{ClearsKeys, DeletesRow, DelkeyRow, FindsSlots, NamesSlots, OverwritesKeys, RefusesDelkey, RefusesSlots, TakesKeysOut, named_slots, slot_of}
+use Rattle.command_rows.proofs.Becoming.{Stays, same_reach, stays_so, stays_then}
+use Rattle.command_rows.proofs.Causing.{Why, then_since, then_why}
+use Rattle.command_rows.proofs.Counting.{Counts, CountsResult, Later, beside, by_plain, some_uncounted, uncounted_step}
+use Rattle.command_rows.proofs.Events.{Did, nothing_done, quiet_reading, same_disk}
+use Rattle.command_rows.proofs.Fitting.{apart_out, false_is_true, has_metadata, has_same, not_both, not_some}
+use Rattle.command_rows.proofs.Grounding.{Grounds, Since, decides_why, plain_cause, reading_has, reading_since, reading_why, since_same}
+use Rattle.command_rows.proofs.KeyEvents.{DoesFrom, after_quiet, quiet_same}
+use Rattle.command_rows.proofs.Lawful.{IsLawful, done_left, reply_line, row_refused}
+use Rattle.command_rows.proofs.Plain.{PlainAnswer, PlainOption, plain_some}
+use Rattle.command_rows.proofs.Replies.{done_replying}
+use Rattle.command_rows.proofs.Sound.{Sound, reading_sound, sound_decision, sound_reply, sound_step, sound_then}
+use Rattle.command_rows.proofs.Stopping.{Change, Left, Same, alone_from, before_all, early_decision, early_reading, left_then, moments_from, not_done}
+use Rattle.command_rows.proofs.Storing.{Unstored, decision_unstored, reading_unstored, same_files, unstored_reply, unstored_then}
+
+same_passes : (disk start : DiskState) (asked : Deletion) (random : List ℕ) → disk.size ≡ start.size → pass_events disk asked.meta asked.which random ≡ pass_events start asked.meta asked.which random
+same_passes disk start asked random size = ap (λ (n : ℕ). overwrite_events (n - 1) (pass_sectors asked.meta asked.which random)) size
+
+deleted_did : (asked : Deletion) (start disk : DiskState) (entropy : EntropyState) (made : Result Metadata Refusal) (disk' : DiskState) (entropy' : EntropyState) (answer : Result (Unit {0}) Refusal) → disk.size ≡ start.size
+    → DeletesKeys asked disk entropy made disk' entropy' → answer ≡ without_value made → Did (OverwritesKeys start) false disk answer disk'
+deleted_did asked start disk entropy (Ok m) disk' entropy' answer size h is =
+    rw is (record {
+      events = pass_events disk asked.meta asked.which h.random;
+      logs = h.logs;
+      are = record { m = asked.meta; which = asked.which; random = h.random; size = h.draws.size; are = same_passes disk start asked h.random size };
+    })
+deleted_did asked start disk entropy (Err refusals.DeviceFault) disk' entropy' answer size h is =
+    rw is (record {
+      events = take h.fails.count (pass_events disk asked.meta asked.which h.random);
+      logs = h.fails.logs;
+      are = inr (record {
+        row = pass_events disk asked.meta asked.which h.random;
+        is_row = record { m = asked.meta; which = asked.which; random = h.random; size = h.draws.size; are = same_passes disk start asked h.random size };
+        count = h.fails.count;
+        part = refl;
+      });
+    })
+deleted_did asked start disk entropy (Err refusals.EntropyFault) disk' entropy' answer size h is =
+    rw is (nothing_done (OverwritesKeys start) false refusals.EntropyFault disk disk' (same_disk disk disk' h.unchanged))
+deleted_did asked start disk entropy (Err refusal) disk' entropy' answer size h is = rw is (nothing_done (OverwritesKeys start) false refusal disk disk' (same_disk disk disk' h.disk_unchanged))
+
+deletes_did : (start : DiskState) (asked : Deletion) → DoesFrom (OverwritesKeys start) start (TakesKeysOut asked)
+deletes_did start asked old answer new size h = deleted_did asked start old.disk old.entropy h.made new.disk new.entropy answer size h.deletes h.answered
+
+deletes_row_did : (start : DiskState) (all force : Bool) (slot : Option ℕ) → DoesFrom (OverwritesKeys start) start (DeletesRow all force slot)
+deletes_row_did start all force slot =
+    after_quiet (OverwritesKeys start) start ReadsLastSector _ quiet_reading
+    (λ m. after_quiet (OverwritesKeys start) start (NamesSlots all slot) _ (λ old answer new h. quiet_same old _ answer new h)
+    (λ which. deletes_did start (record { meta = m; which = which; force = force })))
+
+pub delkey_did : (all force : Bool) (slot : Option ℕ) (old : Reach) (answer : Result (Unit {0}) Refusal) (new : Reach) → DelkeyRow all force slot old answer new → Did (OverwritesKeys old.disk) false old.disk answer new.disk
+delkey_did all force slot old answer new h = deletes_row_did old.disk all force (option_or slot (slot_of old.holding)) old answer new refl h
+
+pub named_plain : (all : Bool) (slot : Option ℕ) → PlainAnswer (named_slots all slot)
+named_plain true slot = tt
+named_plain false (Some slot) = tt
+named_plain false None = tt
+
+deletion_by : (one two three : Bool) (slot : ℕ) → PlainOption (cond one (Some (refusals.KeyNumberOutOfRange slot)) (cond two (Some (refusals.KeyNotSet slot)) (cond three (Some (refusals.LastKey slot)) None)))
+deletion_by true two three slot = tt
+deletion_by false true three slot = tt
+deletion_by false false true slot = tt
+deletion_by false false false slot = tt
+
+pub deletion_plain : (m : Metadata) (which : Which) (force : Bool) → PlainOption (deletion_refusal m which force)
+deletion_plain m slots.All force = tt
+deletion_plain m (slots.One slot) force = deletion_by _ _ _ slot
+
+delete_counts : (asked : Deletion) (old new : Reach) (made : Result Metadata Refusal) → DeletesKeys asked old.disk old.entropy made new.disk new.entropy → new.cabinet ≡ old.cabinet → CountsResult old (without_value made) new × Later old new
+delete_counts asked old new (Ok m) h same = (tt, beside old new same h.draws.taken.later)
+delete_counts asked old new (Err refusals.DeviceFault) h same = (tt, beside old new same h.draws.taken.later)
+delete_counts asked old new (Err refusals.EntropyFault) h same = (h.none.rose, beside old new same h.none.later)
+delete_counts asked old new (Err refusal) h same =
+    uncounted_step {A = Unit {0}} old (Err refusal) new (some_uncounted (deletion_refusal asked.meta asked.which asked.force) refusal (deletion_plain asked.meta asked.which asked.force) h.cause) same h.entropy_unchanged
+
+pub deleting_counts : (asked : Deletion) → Counts (TakesKeysOut asked)
+deleting_counts asked old answer new h =
+    subst (λ (r : Result (Unit {0}) Refusal). CountsResult old r new × Later old new) (sym h.answered) (delete_counts asked old new h.made h.deletes h.cabinet)
+
+naming_sound : (all : Bool) (slot : Option ℕ) → Sound (NamesSlots all slot)
+naming_sound all slot = sound_decision (λ r. named_slots all slot) (λ r. by_plain (named_slots all slot) (named_plain all slot))
+
+deleting_sound : (asked : Deletion) → Sound (TakesKeysOut asked)
+deleting_sound asked = sound_step (TakesKeysOut asked) (deleting_counts asked) (λ old answer new h. h.holding)
+
+deletes_sound : (all force : Bool) (slot : Option ℕ) → Sound (DeletesRow all force slot)
+deletes_sound all force slot =
+    sound_then ReadsLastSector _ reading_sound
+    (λ m. sound_then (NamesSlots all slot) _ (naming_sound all slot)
+    (λ which. deleting_sound (record { meta = m; which = which; force = force })))
+
+delkey_sound : (all force : Bool) (slot : Option ℕ) → Sound (DelkeyRow all force slot)
+delkey_sound all force slot = record {
+  counts = λ old answer new h. (deletes_sound all force (option_or slot (slot_of old.holding))).counts old answer new h;
+  keeps = λ old answer new h. (deletes_sound all force (option_or slot (slot_of old.holding))).keeps old answer new h;
+}
+
+pub deletes_stays : (all force : Bool) (slot : Option ℕ) → Stays (DeletesRow all force slot)
+deletes_stays all force slot =
+    stays_then ReadsLastSector _ (λ old answer new h. h.holding)
+    (λ m. stays_then (NamesSlots all slot) _ (λ old answer new h. same_reach old new h.1)
+    (λ which old answer new h. h.holding))
+
+deletes_why : (line : List ℕ) (command : Command) (asked : Deletion) (start old : Reach) (made : Result Metadata Refusal) (new : Reach) → Grounds line command start (λ refusal. deletion_refusal asked.meta asked.which asked.force ≡ Some refusal) → Since start old
+    → DeletesKeys asked old.disk old.entropy made new.disk new.entropy → Why line command start (without_value made) new
+deletes_why line command asked start old (Ok m) new ground since h = tt
+deletes_why line command asked start old (Err refusals.DeviceFault) new ground since h = Rose-earlier start.disk.faults old.disk.faults new.disk.faults since.disk h.fails.rose
+deletes_why line command asked start old (Err refusals.EntropyFault) new ground since h = Rose-earlier start.entropy.faults old.entropy.faults new.entropy.faults since.entropy h.none.rose
+deletes_why line command asked start old (Err refusal) new ground since h =
+    plain_cause line command start refusal new (plain_some (deletion_refusal asked.meta asked.which asked.force) refusal (deletion_plain asked.meta asked.which asked.force) h.cause) (ground refusal h.cause)
+
+takes_why : (line : List ℕ) (command : Command) (asked : Deletion) (start old : Reach) (answer : Result (Unit {0}) Refusal) (new : Reach) → Grounds line command start (λ refusal. deletion_refusal asked.meta asked.which asked.force ≡ Some refusal) → Since start old
+    → TakesKeysOut asked old answer new → Why line command start answer new
+takes_why line command asked start old answer new ground since h =
+    subst (λ (r : Result (Unit {0}) Refusal). Why line command start r new) (sym h.answered) (deletes_why line command asked start old h.made new ground since h.deletes)
+
+names_why : (line : List ℕ) (command : Command) (all force : Bool) (slot : Option ℕ) (m : Metadata) (start old : Reach) (answer : Result (Unit {0}) Refusal) (new : Reach)
+    → Grounds line command start (λ refusal. (named_slots all slot ≡ Err refusal) ⊎ RefusesSlots all force slot m refusal) → Since start old
+    → Then (NamesSlots all slot) (λ which. TakesKeysOut (record { meta = m; which = which; force = force })) old answer new → Why line command start answer new
+names_why line command all force slot m start old answer new ground since h =
+    then_since line command start (NamesSlots all slot) (λ which. TakesKeysOut (record { meta = m; which = which; force = force })) old answer new
+    (λ given middle first. decides_why line command start (named_slots all slot) old given middle (named_plain all slot) (λ refusal is. ground refusal (inl is)) first)
+    (λ which middle first next. takes_why line command _ start middle answer new (λ refusal is. ground refusal (inr (record { which = which; names = sym first.0; refused = is }))) (since_same start old middle since first.1) next) h
+
+pub delkey_why : (line : List ℕ) (prov : Span) (all force : Bool) (slot : Option ℕ) (old : Reach) (answer : Result (Unit {0}) Refusal) (new : Reach) → DelkeyRow all force slot old answer new → Why line (commands.Delkey prov all force slot) old answer new
+delkey_why line prov all force slot old answer new h =
+    let command : Command = commands.Delkey prov all force slot in
+    let named : Option ℕ = option_or slot (slot_of old.holding) in
+    then_why line command ReadsLastSector (λ m. Then (NamesSlots all named) (λ which. TakesKeysOut (record { meta = m; which = which; force = force }))) old answer new
+    (λ given middle first. reading_why line command old given middle (λ refusal lacks. inl lacks) first)
+    (λ m middle first next. names_why line command all force named m old middle answer new (λ refusal refused. inr (record { m = m; found = reading_has old m middle first; refused = refused })) (reading_since old m middle first) next) h
+
+slots_by : (all force : Bool) (slot : Option ℕ) (old : Reach) (f : FindsSlots all force slot old) (refusal : Refusal) → (named_slots all slot ≡ Err refusal) ⊎ RefusesSlots all force slot f.m refusal → ⊥
+slots_by all force slot old f refusal (inl h) = not_both _ f.which refusal f.names h
+slots_by all force slot old f refusal (inr h) =
+    let which : h.which ≡ f.which = cc (h.names, f.names) in
+    not_some _ refusal f.served (subst (λ (w : Which). deletion_refusal f.m w force ≡ Some refusal) which h.refused)
+
+delkey_fits : (all force : Bool) (slot : Option ℕ) (old : Reach) (f : FindsSlots all force (option_or slot (slot_of old.holding)) old) (refusal : Refusal) → LacksMetadata old.disk refusal ⊎ RefusesDelkey all force slot old refusal → ⊥
+delkey_fits all force slot old f refusal (inl h) = has_metadata old.disk f.m refusal f.shows h
+delkey_fits all force slot old f refusal (inr h) =
+    let named : Option ℕ = option_or slot (slot_of old.holding) in
+    slots_by all force named old f refusal
+    (subst (λ (m : Metadata). (named_slots all named ≡ Err refusal) ⊎ RefusesSlots all force named m refusal) (has_same old.disk f.m h.m f.shows h.found) h.refused)
+
+deleted_left : (holding : Holding) (all force : Bool) (slot : Option ℕ) (asked : Deletion) (start disk : DiskState) (entropy : EntropyState) (made : Result Metadata Refusal) (disk' : DiskState) (entropy' : EntropyState)
+    (answer : Result (Unit {0}) Refusal) → Same start disk → HasMetadata start asked.meta → named_slots all (option_or slot (slot_of holding)) ≡ Ok asked.which → asked.force ≡ force
+    → DeletesKeys asked disk entropy made disk' entropy' → answer ≡ without_value made → Left (ClearsKeys holding all force slot) start answer disk'
+deleted_left holding all force slot asked start disk entropy (Ok m) disk' entropy' answer same found named forced h is =
+    let overwrites : Overwrites asked disk disk' = Overwrites-Deletes asked disk entropy m disk' entropy' h in
+    rw is (record {
+      asked = asked;
+      found = found;
+      named = named;
+      forced = forced;
+      kept = moments_from (λ n. HoldsOldOr (HasNoKey asked.meta asked.which) n) start disk disk'.content same overwrites.kept;
+      flushed = moments_from (λ n. HoldsOnceFlushed (HasNoKey asked.meta asked.which) n) start disk disk'.content same overwrites.flushed;
+      cleared = λ done. record {
+        m = m;
+        without = h.without;
+        usable = HasOtherKeys-Deletes asked disk entropy m disk' entropy' h;
+        alone = alone_from (encoded m) start disk disk'.content same (KeepsAlone-Deletes asked disk entropy m disk' entropy' h);
+      };
+    })
+deleted_left holding all force slot asked start disk entropy (Err refusals.DeviceFault) disk' entropy' answer same found named forced h is =
+    let overwrites : Overwrites asked disk disk' = Overwrites-DeletesPart asked disk entropy disk' entropy' h in
+    rw is (inr (record {
+      asked = asked;
+      found = found;
+      named = named;
+      forced = forced;
+      kept = moments_from (λ n. HoldsOldOr (HasNoKey asked.meta asked.which) n) start disk disk'.content same overwrites.kept;
+      flushed = moments_from (λ n. HoldsOnceFlushed (HasNoKey asked.meta asked.which) n) start disk disk'.content same overwrites.flushed;
+      cleared = λ done. not_done done;
+    }))
+deleted_left holding all force slot asked start disk entropy (Err refusals.EntropyFault) disk' entropy' answer same found named forced h is =
+    rw is (inl (ap (λ (d : DiskState). d.content) h.unchanged ∙ same.content))
+deleted_left holding all force slot asked start disk entropy (Err refusal) disk' entropy' answer same found named forced h is =
+    rw is (inl (ap (λ (d : DiskState). d.content) h.disk_unchanged ∙ same.content))
+
+deletes_left : (holding : Holding) (all force : Bool) (slot : Option ℕ) (asked : Deletion) (start : DiskState) (old : Reach) (answer : Result (Unit {0}) Refusal) (new : Reach) → Same start old.disk
+    → HasMetadata start asked.meta → named_slots all (option_or slot (slot_of holding)) ≡ Ok asked.which → asked.force ≡ force
+    → TakesKeysOut asked old answer new → Left (ClearsKeys holding all force slot) start answer new.disk
+deletes_left holding all force slot asked start old answer new same found named forced h =
+    deleted_left holding all force slot asked start old.disk old.entropy h.made new.disk new.entropy answer same found named forced h.deletes h.answered
+
+delkey_by_left : (holding : Holding) (all force : Bool) (slot : Option ℕ) (old : Reach) (answer : Result (Unit {0}) Refusal) (new : Reach) → DeletesRow all force (option_or slot (slot_of holding)) old answer new
+    → Left (ClearsKeys holding all force slot) old.disk answer new.disk
+delkey_by_left holding all force slot old answer new h =
+    let Changes : Change = ClearsKeys holding all force slot in
+    left_then Changes old ReadsLastSector _ old answer new (before_all old) early_reading
+    (λ m r1 b1 f1 n1. left_then Changes old (NamesSlots all (option_or slot (slot_of holding))) _ r1 answer new b1 (λ o a n q. early_decision o _ a n q)
+    (λ which r2 b2 f2 n2.
+    let asked : Deletion = record { meta = m; which = which; force = force } in
+    deletes_left holding all force slot asked old.disk r2 answer new b2.same (reading_has old m r1 f1) (sym f2.0) refl n2)
+    n1) h
+
+pub delkey_left : (all force : Bool) (slot : Option ℕ) (old : Reach) (answer : Result (Unit {0}) Refusal) (new : Reach) → DelkeyRow all force slot old answer new → Left (ClearsKeys old.holding all force slot) old.disk answer new.disk
+delkey_left all force slot old answer new h = delkey_by_left old.holding all force slot old answer new h
+
+naming_unstored : (all : Bool) (slot : Option ℕ) → Unstored (NamesSlots all slot)
+naming_unstored all slot = decision_unstored (λ r. named_slots all slot)
+
+deleting_unstored : (asked : Deletion) → Unstored (TakesKeysOut asked)
+deleting_unstored asked old answer new h = same_files old.cabinet new.cabinet h.cabinet
+
+deletes_row : (all force : Bool) (slot : Option ℕ) → Unstored (DeletesRow all force slot)
+deletes_row all force slot =
+    unstored_then ReadsLastSector _ reading_unstored
+    (λ m. unstored_then (NamesSlots all slot) _ (naming_unstored all slot)
+    (λ which. deleting_unstored (record { meta = m; which = which; force = force })))
+
+delkey_row : (all force : Bool) (slot : Option ℕ) → Unstored (DelkeyRow all force slot)
+delkey_row all force slot old answer new h = deletes_row all force (option_or slot (slot_of old.holding)) old answer new h
+
+pub delkey_lawful : (prov : Span) (all : Bool) (force : Bool) (slot : Option ℕ) → IsLawful (commands.Delkey prov all force slot)
+delkey_lawful prov all force slot = record {
+  why = λ line old refusal new h.
+      let command : Command = commands.Delkey prov all force slot in
+      row_refused line command done_or old h.answer new refusal done_replying h.replied (delkey_why line prov all force slot old h.answer new h.row);
+  did = λ line old said new h. reply_line done_or _ false h.answer said old.disk new.disk done_replying h.replied (delkey_did all force slot old h.answer new h.row);
+  sound = λ line old reply new h. sound_reply done_or _ old reply new done_replying (delkey_sound all force slot) h;
+  out = λ line old gate f.
+      apart_out line (commands.Delkey prov all force slot) old refl refl gate (λ refusal cabinet x. x)
+      (λ refusal x. delkey_fits all force slot old f refusal x);
+  tags = λ line old f needs h. false_is_true needs;
+  becomes = λ line old said new gate h. stays_so line (commands.Delkey prov all force slot) old said new gate refl (deletes_stays all force (option_or slot (slot_of old.holding)) old h.answer new h.row);
+  keeps = λ line old reply new gate other h. inl (deletes_stays all force (option_or slot (slot_of old.holding)) old h.answer new h.row);
+  left = λ line old said new h. done_left (ChangesMetadata line (commands.Delkey prov all force slot) old.cabinet.files old.holding) old.disk h.answer said new.disk h.replied (delkey_left all force slot old h.answer new h.row);
+  stores = λ line old reply new h. unstored_reply _ _ old reply new (delkey_row all force slot) h;
+}

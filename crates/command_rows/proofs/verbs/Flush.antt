@@ -1,0 +1,41 @@
+-- That `flush` is lawful.
+use Rattle.std.proofs.Common.{List, Result, [], false, refl, ℕ, ◌∷◌, ◌≡◌}
+use Rattle.block_traits.specs.declared.disk.Event.TheVariants.{Flush}
+use Rattle.command_words.specs.declared.commands.Command.{Command}
+use Rattle.command_words.specs.declared.commands.Command.TheVariants as commands
+use Rattle.command_words.specs.declared.spans.Span.{Span}
+use Rattle.eli_base.specs.declared.refusals.Refusal.{Refusal}
+use Rattle.command_rows.specs.Replies.{done_or}
+use Rattle.command_rows.specs.World.{Reach}
+use Rattle.command_rows.specs.verbs.Flush.{FlushRow}
+use Rattle.command_rows.proofs.Becoming.{stays_so}
+use Rattle.command_rows.proofs.Causing.{Why, events_why}
+use Rattle.command_rows.proofs.Events.{Did, does_did}
+use Rattle.command_rows.proofs.Fitting.{apart_out, false_is_true}
+use Rattle.command_rows.proofs.Lawful.{IsLawful, nothing_changed, reply_line, row_refused}
+use Rattle.command_rows.proofs.Replies.{done_replying}
+use Rattle.command_rows.proofs.Sound.{Sound, doing_sound, sound_reply}
+use Rattle.command_rows.proofs.Storing.{doing_unstored, unstored_reply}
+use Rattle.command_rows.proofs.Keeping.{row_keeps}
+
+pub flush_why : (line : List ℕ) (command : Command) (old : Reach) (answer : Result (Unit {0}) Refusal) (new : Reach) → FlushRow old answer new → Why line command old answer new
+flush_why line command old answer new h = events_why line command (Flush ∷ []) old answer new h.does
+
+pub flushes_did : (old : Reach) (answer : Result (Unit {0}) Refusal) (new : Reach) → FlushRow old answer new → Did (λ events. events ≡ Flush ∷ []) false old.disk answer new.disk
+flushes_did old answer new h = does_did (Flush ∷ []) false old.disk answer new.disk h.does
+
+flush_sound : Sound FlushRow
+flush_sound = doing_sound (Flush ∷ [])
+
+pub flush_lawful : (prov : Span) → IsLawful (commands.Flush prov)
+flush_lawful prov = record {
+  why = λ line old refusal new h. row_refused line (commands.Flush prov) done_or old h.answer new refusal done_replying h.replied (flush_why line (commands.Flush prov) old h.answer new h.row);
+  did = λ line old said new h. reply_line done_or _ false h.answer said old.disk new.disk done_replying h.replied (flushes_did old h.answer new h.row);
+  sound = λ line old reply new h. sound_reply done_or FlushRow old reply new done_replying flush_sound h;
+  out = λ line old gate f. apart_out line (commands.Flush prov) old refl refl gate (λ refusal cabinet x. x) (λ refusal x. x);
+  tags = λ line old f needs h. false_is_true needs;
+  becomes = λ line old said new gate h. stays_so line (commands.Flush prov) old said new gate refl h.row.holding;
+  keeps = λ line old reply new gate other h. row_keeps done_or _ old reply new (λ old answer new h. h.holding) h;
+  left = λ line old said new h. nothing_changed line old.cabinet.files old.holding said old.disk new.disk;
+  stores = λ line old reply new h. unstored_reply _ _ old reply new (doing_unstored (Flush ∷ [])) h;
+}

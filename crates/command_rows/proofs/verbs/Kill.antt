@@ -1,0 +1,134 @@
+-- That `kill` is lawful.
+use Rattle.std.proofs.Common.{Err, List, Ok, Result, ap, arith, false, inl, inr, refl, subst, sym, take, ℕ, ◌-◌, ◌∙◌, ◌≡◌}
+use Rattle.block_traits.specs.Disk.{DiskState}
+use Rattle.block_traits.specs.Overwriting.{overwrite_events}
+use Rattle.block_traits.specs.Streams.{EntropyState}
+use Rattle.command_words.specs.declared.commands.Command.TheVariants as commands
+use Rattle.command_words.specs.declared.spans.Span.{Span}
+use Rattle.eli_base.specs.declared.refusals.Refusal.{Refusal}
+use Rattle.eli_base.specs.declared.refusals.Refusal.TheVariants as refusals
+use Rattle.resize_kill.proofs.Destroyed.{gone-FailsIn, gone-Logs}
+use Rattle.resize_kill.specs.Killing.{HoldsNoMetadata, Kills, kill_events}
+use Rattle.resize_kill.specs.Trash.{trash_sectors}
+use Rattle.command_rows.specs.Replies.{done_or}
+use Rattle.command_rows.specs.Stops.{ChangesMetadata}
+use Rattle.command_rows.specs.World.{Idle, Reach, attachment_in}
+use Rattle.command_rows.specs.verbs.Kill.{Destroys, DestroysMetadata, KillRow, OverwritesLast, Withdraws}
+use Rattle.command_rows.proofs.Becoming.{becomes_as, same_reach, stays_next}
+use Rattle.command_rows.proofs.Causing.{Why, then_why}
+use Rattle.command_rows.proofs.Counting.{Counts, CountsResult, Later, UncountedAnswer, beside, uncounted_step}
+use Rattle.command_rows.proofs.Events.{Did, Quiet, nothing_done, same_disk}
+use Rattle.command_rows.proofs.Fitting.{apart_out, false_is_true}
+use Rattle.command_rows.proofs.KeyEvents.{DoesFrom, after_quiet}
+use Rattle.command_rows.proofs.Lawful.{IsLawful, done_left, reply_line, row_refused}
+use Rattle.command_rows.proofs.Replies.{done_replying}
+use Rattle.command_rows.proofs.Sound.{Sound, idles, sound_reply, sound_step, sound_then}
+use Rattle.command_rows.proofs.Stopping.{Early, Left, Same, before_all, left_then, moments_from}
+use Rattle.command_rows.proofs.Storing.{Unstored, same_files, unstored_reply, unstored_then}
+
+same_killing : (disk start : DiskState) (random : List ℕ) → disk.size ≡ start.size → kill_events disk random ≡ kill_events start random
+same_killing disk start random size = ap (λ (n : ℕ). overwrite_events (n - 1) (trash_sectors random)) size
+
+killed_did : (start disk : DiskState) (entropy : EntropyState) (answer : Result (Unit {0}) Refusal) (disk' : DiskState) (entropy' : EntropyState) → disk.size ≡ start.size → Kills disk entropy answer disk' entropy'
+    → Did (OverwritesLast start) false disk answer disk'
+killed_did start disk entropy (Ok done) disk' entropy' size h =
+    record { events = kill_events disk h.random; logs = h.logs; are = record { random = h.random; size = h.takes.size; are = same_killing disk start h.random size } }
+killed_did start disk entropy (Err refusals.DeviceFault) disk' entropy' size h =
+    record {
+      events = take h.fails.count (kill_events disk h.random);
+      logs = h.fails.logs;
+      are = inr (record {
+        row = kill_events disk h.random;
+        is_row = record { random = h.random; size = h.takes.size; are = same_killing disk start h.random size };
+        count = h.fails.count;
+        part = refl;
+      });
+    }
+killed_did start disk entropy (Err refusals.EntropyFault) disk' entropy' size h = nothing_done (OverwritesLast start) false refusals.EntropyFault disk disk' (same_disk disk disk' h.unchanged)
+killed_did start disk entropy (Err (refusals.TooSmall bytes)) disk' entropy' size h = nothing_done (OverwritesLast start) false (refusals.TooSmall bytes) disk disk' (same_disk disk disk' h.disk_unchanged)
+killed_did start disk entropy (Err refusal) disk' entropy' size h = absurd h
+
+kills_did : (start : DiskState) → DoesFrom (OverwritesLast start) start DestroysMetadata
+kills_did start old answer new size h = killed_did start old.disk old.entropy answer new.disk new.entropy size h.kills
+
+quiet_withdrawal : Quiet Withdraws
+quiet_withdrawal old answer new h = same_disk old.disk new.disk (ap (λ (r : Reach). r.disk) h.1)
+
+pub kill_did : (old : Reach) (answer : Result (Unit {0}) Refusal) (new : Reach) → KillRow old answer new → Did (OverwritesLast old.disk) false old.disk answer new.disk
+kill_did old answer new h = after_quiet (OverwritesLast old.disk) old.disk Withdraws _ quiet_withdrawal (λ done. kills_did old.disk) old answer new refl h
+
+pub withdrawing_counts : Counts Withdraws
+withdrawing_counts old answer new h =
+    uncounted_step old answer new (subst (λ (r : Result (Unit {0}) Refusal). UncountedAnswer r) (sym h.0) tt) (ap (λ (r : Reach). r.cabinet) h.1) (ap (λ (r : Reach). r.entropy) h.1)
+
+killed_counts : (old new : Reach) (answer : Result (Unit {0}) Refusal) → Kills old.disk old.entropy answer new.disk new.entropy → new.cabinet ≡ old.cabinet → CountsResult old answer new × Later old new
+killed_counts old new (Ok done) h same = (tt, beside old new same h.takes.taken.later)
+killed_counts old new (Err refusals.DeviceFault) h same = (tt, beside old new same h.takes.taken.later)
+killed_counts old new (Err refusals.EntropyFault) h same = (h.none.rose, beside old new same h.none.later)
+killed_counts old new (Err (refusals.TooSmall size)) h same = uncounted_step {A = Unit {0}} old (Err (refusals.TooSmall size)) new tt same h.entropy_unchanged
+killed_counts old new (Err refusal) h same = absurd h
+
+pub killing_counts : Counts DestroysMetadata
+killing_counts old answer new h = killed_counts old new answer h.kills h.cabinet
+
+kills_why : (line : List ℕ) (prov : Span) (old : Reach) (answer : Result (Unit {0}) Refusal) (new : Reach) → Kills old.disk old.entropy answer new.disk new.entropy → Why line (commands.Kill prov) old answer new
+kills_why line prov old (Ok done) new h = tt
+kills_why line prov old (Err refusals.DeviceFault) new h = h.fails.rose
+kills_why line prov old (Err refusals.EntropyFault) new h = h.none.rose
+kills_why line prov old (Err (refusals.TooSmall size)) new h = (tt, (h.small, ap (λ (n : ℕ). refusals.TooSmall n) h.bytes))
+kills_why line prov old (Err refusal) new h = absurd h
+
+-- detaching first leaves the disk and the entropy as they are
+pub kill_why : (line : List ℕ) (prov : Span) (old : Reach) (answer : Result (Unit {0}) Refusal) (new : Reach) → KillRow old answer new → Why line (commands.Kill prov) old answer new
+kill_why line prov old answer new h =
+    then_why line (commands.Kill prov) Withdraws (λ _. DestroysMetadata) old answer new (λ given middle first. rw first.0 tt)
+    (λ done middle first next. kills_why line prov old answer new (subst (λ (r : Reach). Kills r.disk r.entropy answer new.disk new.entropy) first.1 next.kills)) h
+
+killing_sound : Sound DestroysMetadata
+killing_sound = sound_step DestroysMetadata killing_counts (λ old answer new h. h.holding)
+
+withdrawing_sound : Sound Withdraws
+withdrawing_sound = record { counts = withdrawing_counts; keeps = λ old answer new h had. idles new.holding (ap (λ (r : Reach). r.holding) h.1) }
+
+kill_sound : Sound KillRow
+kill_sound = sound_then Withdraws _ withdrawing_sound (λ done. killing_sound)
+
+pub kill_idles : (old : Reach) (answer : Result (Unit {0}) Refusal) (new : Reach) → KillRow old answer new → new.holding ≡ Idle
+kill_idles old answer new h = stays_next (λ _. DestroysMetadata) h.given h.middle answer new (λ done old answer new d. d.holding) h.next ∙ same_reach _ h.middle h.first.1
+
+killed_left : (start disk : DiskState) (entropy : EntropyState) (answer : Result (Unit {0}) Refusal) (disk' : DiskState) (entropy' : EntropyState) → Same start disk → Kills disk entropy answer disk' entropy' → Left Destroys start answer disk'
+killed_left start disk entropy (Ok done) disk' entropy' same h = moments_from (λ n. HoldsNoMetadata n) start disk disk'.content same (gone-Logs h.random disk disk' h.logs)
+killed_left start disk entropy (Err refusals.DeviceFault) disk' entropy' same h = inr (moments_from (λ n. HoldsNoMetadata n) start disk disk'.content same (gone-FailsIn h.random disk disk' h.fails))
+killed_left start disk entropy (Err refusals.EntropyFault) disk' entropy' same h = inl (ap (λ (d : DiskState). d.content) h.unchanged ∙ same.content)
+killed_left start disk entropy (Err (refusals.TooSmall bytes)) disk' entropy' same h = inl (ap (λ (d : DiskState). d.content) h.disk_unchanged ∙ same.content)
+killed_left start disk entropy (Err refusal) disk' entropy' same h = absurd h
+
+early_withdrawal : Early Withdraws
+early_withdrawal old answer new h = record { quiet = same_disk old.disk new.disk (ap (λ (r : Reach). r.disk) h.1); files = ap (λ (r : Reach). r.cabinet.files) h.1 }
+
+pub kill_left : (old : Reach) (answer : Result (Unit {0}) Refusal) (new : Reach) → KillRow old answer new → Left Destroys old.disk answer new.disk
+kill_left old answer new h =
+    left_then Destroys old Withdraws _ old answer new (before_all old) early_withdrawal
+    (λ done r1 b1 f1 n1. killed_left old.disk r1.disk r1.entropy answer new.disk new.entropy b1.same n1.kills) h
+
+killing_unstored : Unstored DestroysMetadata
+killing_unstored old answer new h = same_files old.cabinet new.cabinet h.cabinet
+
+withdrawing_unstored : Unstored Withdraws
+withdrawing_unstored old answer new h = same_files old.cabinet new.cabinet (ap (λ (r : Reach). r.cabinet) h.1)
+
+kill_row : Unstored KillRow
+kill_row = unstored_then Withdraws _ withdrawing_unstored (λ done. killing_unstored)
+
+pub kill_lawful : (prov : Span) → IsLawful (commands.Kill prov)
+kill_lawful prov = record {
+  why = λ line old refusal new h. row_refused line (commands.Kill prov) done_or old h.answer new refusal done_replying h.replied (kill_why line prov old h.answer new h.row);
+  did = λ line old said new h. reply_line done_or _ false h.answer said old.disk new.disk done_replying h.replied (kill_did old h.answer new h.row);
+  sound = λ line old reply new h. sound_reply done_or KillRow old reply new done_replying kill_sound h;
+  out = λ line old gate f. apart_out line (commands.Kill prov) old refl refl gate (λ refusal cabinet x. x) (λ refusal x. omega (arith, f, x.0));
+  tags = λ line old f needs h. false_is_true needs;
+  becomes = λ line old said new gate h. becomes_as line (commands.Kill prov) old said new Idle (kill_idles old h.answer new h.row) (inr refl);
+  keeps = λ line old reply new gate other h. inr (inl (ap attachment_in (kill_idles old h.answer new h.row)));
+  left = λ line old said new h. done_left (ChangesMetadata line (commands.Kill prov) old.cabinet.files old.holding) old.disk h.answer said new.disk h.replied (kill_left old h.answer new h.row);
+  stores = λ line old reply new h. unstored_reply _ _ old reply new kill_row h;
+}

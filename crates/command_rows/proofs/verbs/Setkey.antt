@@ -1,0 +1,516 @@
+-- That `setkey` is lawful.
+use Rattle.std.proofs.Common.{Bool, Err, List, None, Ok, Option, Result, Some, [], ap, cond, false, inl, inr, nat_le, refl, subst, sym, take, true, ℕ, ◌-◌, ◌∙◌, ◌∷◌, ◌≡◌, ◌⊎◌}
+use Rattle.std.specs.Prelude.{MatchOption, unwrap_or, ℤ}
+use Rattle.block_traits.proofs.Causes.{Rose-earlier}
+use Rattle.block_traits.specs.Cabinet.{CabinetState, Files}
+use Rattle.block_traits.specs.Disk.{DiskState, store_events}
+use Rattle.block_traits.specs.Moments.{HoldsOldOr}
+use Rattle.block_traits.specs.declared.disk.Event.TheVariants.{Flush, Write}
+use Rattle.command_words.specs.declared.commands.Command.{Command}
+use Rattle.command_words.specs.declared.commands.Command.TheVariants as commands
+use Rattle.command_words.specs.declared.spans.KeyWords.{KeyWords}
+use Rattle.command_words.specs.declared.spans.Span.{Span}
+use Rattle.eli_base.specs.declared.parameters.MasterKey.{MasterKey}
+use Rattle.eli_base.specs.declared.refusals.Refusal.{Refusal}
+use Rattle.eli_base.specs.declared.refusals.Refusal.TheVariants as refusals
+use Rattle.eli_metadata.proofs.Replaced.{KeepsAlone-store, KeepsOldOr-store, KeepsOldOr-store_part}
+use Rattle.eli_metadata.specs.Format.{encoded}
+use Rattle.eli_metadata.specs.Place.{IsSectorOf}
+use Rattle.eli_metadata.specs.declared.metadata.Metadata.{Metadata}
+use Rattle.key_commands.proofs.Changing.{HasNewKey-makes}
+use Rattle.key_commands.specs.NewKey.{KeyChange, change_refusal}
+use Rattle.key_commands.specs.Options.{key_refusal}
+use Rattle.key_commands.specs.SetKey.{SetsKey}
+use Rattle.user_key.specs.Derivation.{user_key}
+use Rattle.user_key.specs.declared.components.Components.{Components}
+use Rattle.user_key.specs.declared.components.KeyFault.{KeyFault}
+use Rattle.user_key.specs.declared.components.UserKey.{UserKey}
+use Rattle.command_rows.specs.Causes.{may_lack_memory}
+use Rattle.command_rows.specs.Findings.{AreComponents, HasMetadata, LacksMetadata, RefusesFiles}
+use Rattle.command_rows.specs.Replies.{done_or}
+use Rattle.command_rows.specs.Steps.{Admits, LoadsComponents, ReadsLastSector, Then, admitted, without_value}
+use Rattle.command_rows.specs.Stops.{ChangesMetadata}
+use Rattle.command_rows.specs.Storing.{StoresNone}
+use Rattle.command_rows.specs.World.{Attachment, Holding, HoldsKeying, IsAttached, Reach, attachment_in}
+use Rattle.command_rows.specs.verbs.Setkey.{FindsAttached, FindsNewKey, FindsOldKey, FindsSetkey, IsUsed, NeedsSlot, OpensSlot, PutsKey, RefusesChange, RefusesNewKey, RefusesNext, RefusesOldKey, RefusesSetkey, SetkeyAttachedRow, SetkeyIdleRow, SetkeyRow, SetsOpened, StoresKey, StoresMetadata, WrapsKey, WrapsOpened, if_there, opened_by, or_wrong, usable}
+use Rattle.command_rows.proofs.Becoming.{Stays, same_reach, stays_so, stays_then}
+use Rattle.command_rows.proofs.Causing.{Why, then_since, then_why}
+use Rattle.command_rows.proofs.Counting.{Counts, CountsResult, Later, UncountedAnswer, by_plain, some_uncounted, uncounted_step}
+use Rattle.command_rows.proofs.Events.{Did, nothing_done, quiet_loading, quiet_reading, same_disk}
+use Rattle.command_rows.proofs.Fitting.{apart_out, false_is_true, has_metadata, has_same, no_bad_file, not_both, not_some, parts_same}
+use Rattle.command_rows.proofs.Gate.{attached, by_attachment, unattached}
+use Rattle.command_rows.proofs.Grounding.{BadFiles, Grounds, Since, decides_why, loading_parts, loading_since, loading_why, plain_cause, reading_has, reading_since, reading_why, since_same}
+use Rattle.command_rows.proofs.KeyEvents.{DoesFrom, after_quiet, quiet_same}
+use Rattle.command_rows.proofs.Lawful.{IsLawful, done_left, reply_line, row_refused}
+use Rattle.command_rows.proofs.Plain.{PlainAnswer, PlainOption, key_option, key_plain, or_plain, plain_some}
+use Rattle.command_rows.proofs.Replies.{done_replying}
+use Rattle.command_rows.proofs.Sound.{Sound, admitting_sound, components_sound, reading_sound, sound_decision, sound_reply, sound_step, sound_then}
+use Rattle.command_rows.proofs.Stopping.{Change, Left, Same, alone_from, before_all, early_decision, early_loading, early_reading, left_then, moments_from, not_done}
+use Rattle.command_rows.proofs.Storing.{Unstored, admitting_unstored, components_unstored, decision_unstored, reading_unstored, same_files, unstored_reply, unstored_then}
+use Rattle.command_rows.proofs.Keeping.{row_keeps}
+
+same_store : (disk start : DiskState) (bytes : List ℕ) → disk.size ≡ start.size → store_events disk bytes ≡ store_events start bytes
+same_store disk start bytes size = ap (λ (n : ℕ). Write (n - 1) bytes ∷ Flush ∷ []) size
+
+stored_did : (asked : KeyChange) (start disk : DiskState) (made : Result Metadata Refusal) (disk' : DiskState) (answer : Result (Unit {0}) Refusal) → disk.size ≡ start.size → SetsKey asked disk made disk' → answer ≡ without_value made
+    → Did (StoresMetadata start) false disk answer disk'
+stored_did asked start disk (Ok m) disk' answer size h is =
+    rw is (record { events = store_events disk (encoded m); logs = h.logs; are = record { m = m; are = same_store disk start (encoded m) size } })
+stored_did asked start disk (Err refusals.DeviceFault) disk' answer size h is =
+    rw is (record {
+      events = take h.fails.count (store_events disk (encoded h.m));
+      logs = h.fails.logs;
+      are = inr (record { row = store_events disk (encoded h.m); is_row = record { m = h.m; are = same_store disk start (encoded h.m) size }; count = h.fails.count; part = refl });
+    })
+stored_did asked start disk (Err refusal) disk' answer size h is = rw is (nothing_done (StoresMetadata start) false refusal disk disk' (same_disk disk disk' h.unchanged))
+
+stores_did : (start : DiskState) (asked : KeyChange) → DoesFrom (StoresMetadata start) start (StoresKey asked)
+stores_did start asked old answer new size h = stored_did asked start old.disk h.made new.disk answer size h.sets h.answered
+
+setkey_idle_did : (start : DiskState) (line : List ℕ) (iterations : Option ℤ) (slot : Option ℕ) (words fresh : KeyWords) → DoesFrom (StoresMetadata start) start (SetkeyIdleRow line iterations slot words fresh)
+setkey_idle_did start line iterations slot words fresh =
+    after_quiet (StoresMetadata start) start ReadsLastSector _ quiet_reading
+    (λ m. after_quiet (StoresMetadata start) start (Admits m None) _ (λ old answer new h. quiet_same old _ answer new h)
+    (λ settings. after_quiet (StoresMetadata start) start (NeedsSlot slot) _ (λ old answer new h. quiet_same old _ answer new h)
+    (λ done. after_quiet (StoresMetadata start) start (LoadsComponents line words) _ (quiet_loading line words)
+    (λ parts. after_quiet (StoresMetadata start) start (LoadsComponents line fresh) _ (quiet_loading line fresh)
+    (λ next. after_quiet (StoresMetadata start) start (OpensSlot m parts) _ (λ old answer new h. quiet_same old _ answer new h)
+    (λ found. stores_did start (record { meta = m; master = found.0.bytes; slot = unwrap_or slot found.1; iterations = iterations; parts = next })))))))
+
+setkey_attached_did : (start : DiskState) (line : List ℕ) (iterations : Option ℤ) (slot : ℕ) (master : List ℕ) (fresh : KeyWords) → DoesFrom (StoresMetadata start) start (SetkeyAttachedRow line iterations slot master fresh)
+setkey_attached_did start line iterations slot master fresh =
+    after_quiet (StoresMetadata start) start ReadsLastSector _ quiet_reading
+    (λ m. after_quiet (StoresMetadata start) start (IsUsed m) _ (λ old answer new h. quiet_same old _ answer new h)
+    (λ settings. after_quiet (StoresMetadata start) start (NeedsSlot (Some slot)) _ (λ old answer new h. quiet_same old _ answer new h)
+    (λ done. after_quiet (StoresMetadata start) start (LoadsComponents line fresh) _ (quiet_loading line fresh)
+    (λ parts. stores_did start (record { meta = m; master = master; slot = slot; iterations = iterations; parts = parts })))))
+
+pub setkey_did : (line : List ℕ) (iterations : Option ℤ) (slot : Option ℕ) (words fresh : KeyWords) (old : Reach) (answer : Result (Unit {0}) Refusal) (new : Reach)
+    → SetkeyRow line iterations slot words fresh old answer new → Did (StoresMetadata old.disk) false old.disk answer new.disk
+setkey_did line iterations slot words fresh old answer new h =
+    by_attachment old.holding _ _ (Did (StoresMetadata old.disk) false old.disk answer new.disk) (λ is row. setkey_idle_did old.disk line iterations slot words fresh old answer new refl row)
+    (λ a is row. setkey_attached_did old.disk line iterations (unwrap_or slot a.slot) a.keying.master fresh old answer new refl row) h
+
+there_by : (slot : ℕ) (there : Bool) → PlainAnswer {A = Unit {0}} (cond there (Ok tt) (Err (refusals.KeyNumberOutOfRange slot)))
+there_by slot true = tt
+there_by slot false = tt
+
+pub there_plain : (slot : Option ℕ) → PlainAnswer (if_there slot)
+there_plain None = tt
+there_plain (Some slot) = there_by slot (nat_le slot 1)
+
+wrong_plain : (found : Option (MasterKey × ℕ)) → PlainAnswer (or_wrong found)
+wrong_plain None = tt
+wrong_plain (Some found) = tt
+
+pub opened_plain : (m : Metadata) (key : Result UserKey KeyFault) → PlainAnswer (opened_by m key)
+opened_plain m (Err fault) = key_plain fault
+opened_plain m (Ok key) = wrong_plain _
+
+change_by : (given : Bool) (key : Result UserKey KeyFault) → PlainOption (cond given (Some refusals.IterationsNeedOneKey) (key_refusal key))
+change_by true key = tt
+change_by false key = key_option key
+
+pub change_plain : (asked : KeyChange) → PlainOption (change_refusal asked)
+change_plain asked = change_by _ _
+
+set_uncounted : (asked : KeyChange) (disk : DiskState) (made : Result Metadata Refusal) (disk' : DiskState) → SetsKey asked disk made disk' → UncountedAnswer (without_value made)
+set_uncounted asked disk (Ok m) disk' h = tt
+set_uncounted asked disk (Err refusals.DeviceFault) disk' h = tt
+set_uncounted asked disk (Err refusal) disk' h = some_uncounted (change_refusal asked) refusal (change_plain asked) h.cause
+
+pub setting_counts : (asked : KeyChange) → Counts (StoresKey asked)
+setting_counts asked old answer new h =
+    uncounted_step old answer new (subst (λ (r : Result (Unit {0}) Refusal). UncountedAnswer r) (sym h.answered) (set_uncounted asked old.disk h.made new.disk h.sets)) h.cabinet h.entropy
+
+using_sound : (m : Metadata) → Sound (IsUsed m)
+using_sound m = sound_decision (λ r. usable m r.disk.size) (λ r. by_plain _ (or_plain _))
+
+slot_sound : (slot : Option ℕ) → Sound (NeedsSlot slot)
+slot_sound slot = sound_decision (λ r. if_there slot) (λ r. by_plain (if_there slot) (there_plain slot))
+
+opening_sound : (m : Metadata) (parts : Components) → Sound (OpensSlot m parts)
+opening_sound m parts = sound_decision (λ r. opened_by m (user_key parts m.salt m.iterations)) (λ r. by_plain _ (opened_plain m (user_key parts m.salt m.iterations)))
+
+setting_sound : (asked : KeyChange) → Sound (StoresKey asked)
+setting_sound asked = sound_step (StoresKey asked) (setting_counts asked) (λ old answer new h. h.holding)
+
+setkey_idle_sound : (line : List ℕ) (iterations : Option ℤ) (slot : Option ℕ) (words fresh : KeyWords) → Sound (SetkeyIdleRow line iterations slot words fresh)
+setkey_idle_sound line iterations slot words fresh =
+    sound_then ReadsLastSector _ reading_sound
+    (λ m. sound_then (Admits m None) _ (admitting_sound m None)
+    (λ settings. sound_then (NeedsSlot slot) _ (slot_sound slot)
+    (λ done. sound_then (LoadsComponents line words) _ (components_sound line words)
+    (λ parts. sound_then (LoadsComponents line fresh) _ (components_sound line fresh)
+    (λ next. sound_then (OpensSlot m parts) _ (opening_sound m parts)
+    (λ found. setting_sound (record { meta = m; master = found.0.bytes; slot = unwrap_or slot found.1; iterations = iterations; parts = next })))))))
+
+setkey_attached_sound : (line : List ℕ) (iterations : Option ℤ) (slot : ℕ) (master : List ℕ) (fresh : KeyWords) → Sound (SetkeyAttachedRow line iterations slot master fresh)
+setkey_attached_sound line iterations slot master fresh =
+    sound_then ReadsLastSector _ reading_sound
+    (λ m. sound_then (IsUsed m) _ (using_sound m)
+    (λ settings. sound_then (NeedsSlot (Some slot)) _ (slot_sound (Some slot))
+    (λ done. sound_then (LoadsComponents line fresh) _ (components_sound line fresh)
+    (λ parts. setting_sound (record { meta = m; master = master; slot = slot; iterations = iterations; parts = parts })))))
+
+setkey_sound : (line : List ℕ) (iterations : Option ℤ) (slot : Option ℕ) (words fresh : KeyWords) → Sound (SetkeyRow line iterations slot words fresh)
+setkey_sound line iterations slot words fresh = record {
+  counts = λ old answer new h. by_attachment old.holding _ _ (CountsResult old answer new × Later old new) (λ is row. (setkey_idle_sound line iterations slot words fresh).counts old answer new row)
+      (λ a is row. (setkey_attached_sound line iterations (unwrap_or slot a.slot) a.keying.master fresh).counts old answer new row) h;
+  keeps = λ old answer new h. by_attachment old.holding _ _ (HoldsKeying old.holding → HoldsKeying new.holding) (λ is row. (setkey_idle_sound line iterations slot words fresh).keeps old answer new row)
+      (λ a is row. (setkey_attached_sound line iterations (unwrap_or slot a.slot) a.keying.master fresh).keeps old answer new row) h;
+}
+
+setkey_idle_stays : (line : List ℕ) (iterations : Option ℤ) (slot : Option ℕ) (words fresh : KeyWords) → Stays (SetkeyIdleRow line iterations slot words fresh)
+setkey_idle_stays line iterations slot words fresh =
+    stays_then ReadsLastSector _ (λ old answer new h. h.holding)
+    (λ m. stays_then (Admits m None) _ (λ old answer new h. same_reach old new h.1)
+    (λ settings. stays_then (NeedsSlot slot) _ (λ old answer new h. same_reach old new h.1)
+    (λ done. stays_then (LoadsComponents line words) _ (λ old answer new h. h.holding)
+    (λ parts. stays_then (LoadsComponents line fresh) _ (λ old answer new h. h.holding)
+    (λ next. stays_then (OpensSlot m parts) _ (λ old answer new h. same_reach old new h.1)
+    (λ found old answer new h. h.holding))))))
+
+setkey_attached_stays : (line : List ℕ) (iterations : Option ℤ) (slot : ℕ) (master : List ℕ) (fresh : KeyWords) → Stays (SetkeyAttachedRow line iterations slot master fresh)
+setkey_attached_stays line iterations slot master fresh =
+    stays_then ReadsLastSector _ (λ old answer new h. h.holding)
+    (λ m. stays_then (IsUsed m) _ (λ old answer new h. same_reach old new h.1)
+    (λ settings. stays_then (NeedsSlot (Some slot)) _ (λ old answer new h. same_reach old new h.1)
+    (λ done. stays_then (LoadsComponents line fresh) _ (λ old answer new h. h.holding)
+    (λ parts old answer new h. h.holding))))
+
+pub setkey_stays : (line : List ℕ) (iterations : Option ℤ) (slot : Option ℕ) (words fresh : KeyWords) → Stays (SetkeyRow line iterations slot words fresh)
+setkey_stays line iterations slot words fresh old answer new h =
+    by_attachment old.holding _ _ (new.holding ≡ old.holding) (λ is row. setkey_idle_stays line iterations slot words fresh old answer new row)
+    (λ a is row. setkey_attached_stays line iterations (unwrap_or slot a.slot) a.keying.master fresh old answer new row) h
+
+sets_why : (line : List ℕ) (command : Command) (asked : KeyChange) (start old : Reach) (made : Result Metadata Refusal) (new : Reach) → Grounds line command start (λ refusal. change_refusal asked ≡ Some refusal) → Since start old
+    → SetsKey asked old.disk made new.disk → Why line command start (without_value made) new
+sets_why line command asked start old (Ok m) new ground since h = tt
+sets_why line command asked start old (Err refusals.DeviceFault) new ground since h = Rose-earlier start.disk.faults old.disk.faults new.disk.faults since.disk h.fails.rose
+sets_why line command asked start old (Err refusal) new ground since h =
+    plain_cause line command start refusal new (plain_some (change_refusal asked) refusal (change_plain asked) h.cause) (ground refusal h.cause)
+
+stores_why : (line : List ℕ) (command : Command) (asked : KeyChange) (start old : Reach) (answer : Result (Unit {0}) Refusal) (new : Reach) → Grounds line command start (λ refusal. change_refusal asked ≡ Some refusal) → Since start old
+    → StoresKey asked old answer new → Why line command start answer new
+stores_why line command asked start old answer new ground since h =
+    subst (λ (r : Result (Unit {0}) Refusal). Why line command start r new) (sym h.answered) (sets_why line command asked start old h.made new ground since h.sets)
+
+-- what is refused of an idle drawer, and which files
+abbrev ChangesIdle : List ℕ → Option ℤ → Option ℕ → KeyWords → KeyWords → Metadata → Reach → Refusal → Type 0
+ChangesIdle line iterations slot words fresh m old refusal =
+    (admitted m old.disk.size None ≡ Err refusal) ⊎ (if_there slot ≡ Err refusal) ⊎ RefusesOldKey line words m old refusal ⊎ RefusesNext line iterations slot words fresh m old refusal
+
+abbrev EitherFiles : List ℕ → KeyWords → KeyWords → CabinetState → Refusal → CabinetState → Type 0
+EitherFiles line words fresh old refusal new = RefusesFiles line words old refusal new ⊎ RefusesFiles line fresh old refusal new
+
+-- the files of both keys are loaded
+opens_why : (line : List ℕ) (command : Command) (iterations : Option ℤ) (slot : Option ℕ) (words fresh : KeyWords) (m : Metadata) (parts next_parts : Components) (start old : Reach) (answer : Result (Unit {0}) Refusal) (new : Reach)
+    → Grounds line command start (ChangesIdle line iterations slot words fresh m start) → AreComponents start.cabinet.files line words parts → AreComponents start.cabinet.files line fresh next_parts → Since start old
+    → Then (OpensSlot m parts) (λ found. SetsOpened line iterations slot m next_parts found) old answer new → Why line command start answer new
+opens_why line command iterations slot words fresh m parts next_parts start old answer new ground named next_named since h =
+    then_since line command start (OpensSlot m parts) (λ found. SetsOpened line iterations slot m next_parts found) old answer new
+    (λ given middle first. decides_why line command start (opened_by m (user_key parts m.salt m.iterations)) old given middle (opened_plain m _)
+    (λ refusal is. ground refusal (inr (inr (inl (record { parts = parts; named = named; refused = is }))))) first)
+    (λ found middle first next. stores_why line command _ start middle answer new
+    (λ refusal is. ground refusal (inr (inr (inr (record {
+      parts = parts;
+      named = named;
+      found = found;
+      opens = sym first.0;
+      refuses = record { parts = next_parts; named = next_named; refused = is };
+    }))))) (since_same start old middle since first.1) next) h
+
+fresh_why : (line : List ℕ) (command : Command) (iterations : Option ℤ) (slot : Option ℕ) (words fresh : KeyWords) (m : Metadata) (parts : Components) (start old : Reach) (answer : Result (Unit {0}) Refusal) (new : Reach) → may_lack_memory command ≡ true
+    → BadFiles line command start (EitherFiles line words fresh start.cabinet) → Grounds line command start (ChangesIdle line iterations slot words fresh m start) → AreComponents start.cabinet.files line words parts → Since start old
+    → Then (LoadsComponents line fresh) (λ next. Then (OpensSlot m parts) (λ found. SetsOpened line iterations slot m next found)) old answer new → Why line command start answer new
+fresh_why line command iterations slot words fresh m parts start old answer new memory bad ground named since h =
+    then_since line command start (LoadsComponents line fresh) (λ next. Then (OpensSlot m parts) (λ found. SetsOpened line iterations slot m next found)) old answer new
+    (λ given middle first. loading_why line command fresh start old given middle memory (λ refusal cabinet refuses. bad refusal cabinet (inr refuses)) since first)
+    (λ next_parts middle first next. opens_why line command iterations slot words fresh m parts next_parts start middle answer new ground named (loading_parts line fresh start old next_parts middle since.files first)
+    (loading_since line fresh start old (Ok next_parts) middle since first) next) h
+
+both_why : (line : List ℕ) (command : Command) (iterations : Option ℤ) (slot : Option ℕ) (words fresh : KeyWords) (m : Metadata) (start old : Reach) (answer : Result (Unit {0}) Refusal) (new : Reach) → may_lack_memory command ≡ true
+    → BadFiles line command start (EitherFiles line words fresh start.cabinet) → Grounds line command start (ChangesIdle line iterations slot words fresh m start) → Since start old
+    → Then (LoadsComponents line words) (λ parts. Then (LoadsComponents line fresh) (λ next. Then (OpensSlot m parts) (λ found. SetsOpened line iterations slot m next found))) old answer new → Why line command start answer new
+both_why line command iterations slot words fresh m start old answer new memory bad ground since h =
+    then_since line command start (LoadsComponents line words) (λ parts. Then (LoadsComponents line fresh) (λ next. Then (OpensSlot m parts) (λ found. SetsOpened line iterations slot m next found))) old answer new
+    (λ given middle first. loading_why line command words start old given middle memory (λ refusal cabinet refuses. bad refusal cabinet (inl refuses)) since first)
+    (λ parts middle first next. fresh_why line command iterations slot words fresh m parts start middle answer new memory bad ground (loading_parts line words start old parts middle since.files first)
+    (loading_since line words start old (Ok parts) middle since first) next) h
+
+slot_why : (line : List ℕ) (command : Command) (iterations : Option ℤ) (slot : Option ℕ) (words fresh : KeyWords) (m : Metadata) (start old : Reach) (answer : Result (Unit {0}) Refusal) (new : Reach) → may_lack_memory command ≡ true
+    → BadFiles line command start (EitherFiles line words fresh start.cabinet) → Grounds line command start (ChangesIdle line iterations slot words fresh m start) → Since start old
+    → Then (NeedsSlot slot) (λ _. Then (LoadsComponents line words) (λ parts. Then (LoadsComponents line fresh) (λ next. Then (OpensSlot m parts) (λ found. SetsOpened line iterations slot m next found)))) old answer new
+    → Why line command start answer new
+slot_why line command iterations slot words fresh m start old answer new memory bad ground since h =
+    then_since line command start (NeedsSlot slot) (λ _. Then (LoadsComponents line words) (λ parts. Then (LoadsComponents line fresh) (λ next. Then (OpensSlot m parts) (λ found. SetsOpened line iterations slot m next found)))) old answer new
+    (λ given middle first. decides_why line command start (if_there slot) old given middle (there_plain slot) (λ refusal is. ground refusal (inr (inl is))) first)
+    (λ done middle first next. both_why line command iterations slot words fresh m start middle answer new memory bad ground (since_same start old middle since first.1) next) h
+
+admits_why : (line : List ℕ) (command : Command) (iterations : Option ℤ) (slot : Option ℕ) (words fresh : KeyWords) (m : Metadata) (start old : Reach) (answer : Result (Unit {0}) Refusal) (new : Reach) → may_lack_memory command ≡ true
+    → BadFiles line command start (EitherFiles line words fresh start.cabinet) → Grounds line command start (ChangesIdle line iterations slot words fresh m start) → Since start old
+    → Then (Admits m None) (λ _. Then (NeedsSlot slot) (λ _. Then (LoadsComponents line words) (λ parts. Then (LoadsComponents line fresh) (λ next. Then (OpensSlot m parts) (λ found. SetsOpened line iterations slot m next found))))) old answer new
+    → Why line command start answer new
+admits_why line command iterations slot words fresh m start old answer new memory bad ground since h =
+    then_since line command start (Admits m None)
+    (λ _. Then (NeedsSlot slot) (λ _. Then (LoadsComponents line words) (λ parts. Then (LoadsComponents line fresh) (λ next. Then (OpensSlot m parts) (λ found. SetsOpened line iterations slot m next found))))) old answer new
+    (λ given middle first. decides_why line command start (admitted m old.disk.size None) old given middle (or_plain _)
+    (λ refusal is. ground refusal (inl (subst (λ (n : ℕ). admitted m n None ≡ Err refusal) since.size is))) first)
+    (λ settings middle first next. slot_why line command iterations slot words fresh m start middle answer new memory bad ground (since_same start old middle since first.1) next) h
+
+setkey_idle_why : (line : List ℕ) (command : Command) (iterations : Option ℤ) (slot : Option ℕ) (words fresh : KeyWords) (old : Reach) (answer : Result (Unit {0}) Refusal) (new : Reach) → may_lack_memory command ≡ true
+    → BadFiles line command old (EitherFiles line words fresh old.cabinet) → Grounds line command old (LacksMetadata old.disk) → ((m : Metadata) → HasMetadata old.disk m → Grounds line command old (ChangesIdle line iterations slot words fresh m old))
+    → SetkeyIdleRow line iterations slot words fresh old answer new → Why line command old answer new
+setkey_idle_why line command iterations slot words fresh old answer new memory bad lacks ground h =
+    then_why line command ReadsLastSector
+    (λ m. Then (Admits m None) (λ _. Then (NeedsSlot slot) (λ _. Then (LoadsComponents line words) (λ parts. Then (LoadsComponents line fresh) (λ next. Then (OpensSlot m parts) (λ found. SetsOpened line iterations slot m next found)))))) old answer new
+    (λ given middle first. reading_why line command old given middle lacks first)
+    (λ m middle first next. admits_why line command iterations slot words fresh m old middle answer new memory bad (ground m (reading_has old m middle first)) (reading_since old m middle first) next) h
+
+-- the metadata can be used, and there is a slot of that number
+puts_why : (line : List ℕ) (command : Command) (iterations : Option ℤ) (slot : ℕ) (master : List ℕ) (fresh : KeyWords) (m : Metadata) (start old : Reach) (answer : Result (Unit {0}) Refusal) (new : Reach) → may_lack_memory command ≡ true
+    → BadFiles line command start (RefusesFiles line fresh start.cabinet) → Grounds line command start (RefusesNewKey line iterations slot master fresh m start) → Since start old
+    → Then (LoadsComponents line fresh) (λ parts. StoresKey (record { meta = m; master = master; slot = slot; iterations = iterations; parts = parts })) old answer new → Why line command start answer new
+puts_why line command iterations slot master fresh m start old answer new memory bad ground since h =
+    then_since line command start (LoadsComponents line fresh) (λ parts. StoresKey (record { meta = m; master = master; slot = slot; iterations = iterations; parts = parts })) old answer new
+    (λ given middle first. loading_why line command fresh start old given middle memory bad since first)
+    (λ parts middle first next. stores_why line command _ start middle answer new
+    (λ refusal is. ground refusal (record { parts = parts; named = loading_parts line fresh start old parts middle since.files first; refused = is })) (loading_since line fresh start old (Ok parts) middle since first) next) h
+
+-- what is refused of an attached drawer, for this slot and master key
+abbrev ChangesAttached : List ℕ → Option ℤ → ℕ → List ℕ → KeyWords → Metadata → Reach → Refusal → Type 0
+ChangesAttached line iterations slot master fresh m old refusal = (usable m old.disk.size ≡ Err refusal) ⊎ (if_there (Some slot) ≡ Err refusal) ⊎ RefusesNewKey line iterations slot master fresh m old refusal
+
+place_why : (line : List ℕ) (command : Command) (iterations : Option ℤ) (slot : ℕ) (master : List ℕ) (fresh : KeyWords) (m : Metadata) (start old : Reach) (answer : Result (Unit {0}) Refusal) (new : Reach) → may_lack_memory command ≡ true
+    → BadFiles line command start (RefusesFiles line fresh start.cabinet) → Grounds line command start (ChangesAttached line iterations slot master fresh m start) → Since start old
+    → Then (NeedsSlot (Some slot)) (λ _. Then (LoadsComponents line fresh) (λ parts. StoresKey (record { meta = m; master = master; slot = slot; iterations = iterations; parts = parts }))) old answer new → Why line command start answer new
+place_why line command iterations slot master fresh m start old answer new memory bad ground since h =
+    then_since line command start (NeedsSlot (Some slot)) (λ _. Then (LoadsComponents line fresh) (λ parts. StoresKey (record { meta = m; master = master; slot = slot; iterations = iterations; parts = parts }))) old answer new
+    (λ given middle first. decides_why line command start (if_there (Some slot)) old given middle (there_plain (Some slot)) (λ refusal is. ground refusal (inr (inl is))) first)
+    (λ done middle first next. puts_why line command iterations slot master fresh m start middle answer new memory bad (λ refusal refuses. ground refusal (inr (inr refuses))) (since_same start old middle since first.1) next) h
+
+uses_why : (line : List ℕ) (command : Command) (iterations : Option ℤ) (slot : ℕ) (master : List ℕ) (fresh : KeyWords) (m : Metadata) (start old : Reach) (answer : Result (Unit {0}) Refusal) (new : Reach) → may_lack_memory command ≡ true
+    → BadFiles line command start (RefusesFiles line fresh start.cabinet) → Grounds line command start (ChangesAttached line iterations slot master fresh m start) → Since start old
+    → Then (IsUsed m) (λ _. Then (NeedsSlot (Some slot)) (λ _. Then (LoadsComponents line fresh) (λ parts. StoresKey (record { meta = m; master = master; slot = slot; iterations = iterations; parts = parts })))) old answer new
+    → Why line command start answer new
+uses_why line command iterations slot master fresh m start old answer new memory bad ground since h =
+    then_since line command start (IsUsed m) (λ _. Then (NeedsSlot (Some slot)) (λ _. Then (LoadsComponents line fresh) (λ parts. StoresKey (record { meta = m; master = master; slot = slot; iterations = iterations; parts = parts })))) old answer new
+    (λ given middle first. decides_why line command start (usable m old.disk.size) old given middle (or_plain _) (λ refusal is. ground refusal (inl (subst (λ (n : ℕ). usable m n ≡ Err refusal) since.size is))) first)
+    (λ settings middle first next. place_why line command iterations slot master fresh m start middle answer new memory bad ground (since_same start old middle since first.1) next) h
+
+setkey_attached_why : (line : List ℕ) (command : Command) (iterations : Option ℤ) (slot : ℕ) (master : List ℕ) (fresh : KeyWords) (old : Reach) (answer : Result (Unit {0}) Refusal) (new : Reach) → may_lack_memory command ≡ true
+    → BadFiles line command old (RefusesFiles line fresh old.cabinet) → Grounds line command old (LacksMetadata old.disk) → ((m : Metadata) → HasMetadata old.disk m → Grounds line command old (ChangesAttached line iterations slot master fresh m old))
+    → SetkeyAttachedRow line iterations slot master fresh old answer new → Why line command old answer new
+setkey_attached_why line command iterations slot master fresh old answer new memory bad lacks ground h =
+    then_why line command ReadsLastSector
+    (λ m. Then (IsUsed m) (λ _. Then (NeedsSlot (Some slot)) (λ _. Then (LoadsComponents line fresh) (λ parts. StoresKey (record { meta = m; master = master; slot = slot; iterations = iterations; parts = parts }))))) old answer new
+    (λ given middle first. reading_why line command old given middle lacks first)
+    (λ m middle first next. uses_why line command iterations slot master fresh m old middle answer new memory bad (ground m (reading_has old m middle first)) (reading_since old m middle first) next) h
+
+pub setkey_why : (line : List ℕ) (prov : Span) (iterations : Option ℤ) (slot : Option ℕ) (words fresh : KeyWords) (old : Reach) (answer : Result (Unit {0}) Refusal) (new : Reach) → SetkeyRow line iterations slot words fresh old answer new
+    → Why line (commands.Setkey prov iterations slot words fresh) old answer new
+setkey_why line prov iterations slot words fresh old answer new h =
+    let command : Command = commands.Setkey prov iterations slot words fresh in
+    by_attachment old.holding _ _ (Why line command old answer new)
+    (λ is row. setkey_idle_why line command iterations slot words fresh old answer new refl
+    (λ refusal cabinet bad. unattached old.holding _ _ is bad) (λ refusal lacks. inl lacks)
+    (λ m has refusal refused. inr (record { m = m; found = has; refused = unattached old.holding _ _ is refused })) row)
+    (λ a is row. setkey_attached_why line command iterations (unwrap_or slot a.slot) a.keying.master fresh old answer new refl
+    (λ refusal cabinet bad. attached old.holding _ _ a is bad) (λ refusal lacks. inl lacks)
+    (λ m has refusal refused. inr (record { m = m; found = has; refused = attached old.holding _ _ a is refused })) row) h
+
+new_key_fits : (line : List ℕ) (iterations : Option ℤ) (slot : ℕ) (master : List ℕ) (fresh : KeyWords) (m : Metadata) (old : Reach) (f : FindsNewKey line iterations slot master fresh m old) (refusal : Refusal)
+    → RefusesNewKey line iterations slot master fresh m old refusal → ⊥
+new_key_fits line iterations slot master fresh m old f refusal h =
+    let parts : h.parts ≡ f.parts = parts_same line fresh old.cabinet f.parts h.parts f.names h.named in
+    not_some _ refusal f.served (subst (λ (p : Components). change_refusal (record { meta = m; master = master; slot = slot; iterations = iterations; parts = p }) ≡ Some refusal) parts h.refused)
+
+old_key_fits : (line : List ℕ) (iterations : Option ℤ) (slot : Option ℕ) (words fresh : KeyWords) (m : Metadata) (old : Reach) (f : FindsOldKey line iterations slot words fresh m old) (refusal : Refusal)
+    → (admitted m old.disk.size None ≡ Err refusal) ⊎ (if_there slot ≡ Err refusal) ⊎ RefusesOldKey line words m old refusal ⊎ RefusesNext line iterations slot words fresh m old refusal → ⊥
+old_key_fits line iterations slot words fresh m old f refusal (inl h) = not_both _ f.settings refusal f.admits h
+old_key_fits line iterations slot words fresh m old f refusal (inr (inl h)) = not_both _ tt refusal f.there h
+old_key_fits line iterations slot words fresh m old f refusal (inr (inr (inl h))) =
+    let parts : h.parts ≡ f.parts = parts_same line words old.cabinet f.parts h.parts f.names h.named in
+    not_both _ f.found refusal f.opens (subst (λ (p : Components). opened_by m (user_key p m.salt m.iterations) ≡ Err refusal) parts h.refused)
+old_key_fits line iterations slot words fresh m old f refusal (inr (inr (inr h))) =
+    let parts : h.parts ≡ f.parts = parts_same line words old.cabinet f.parts h.parts f.names h.named in
+    let opens : opened_by m (user_key f.parts m.salt m.iterations) ≡ Ok h.found = subst (λ (p : Components). opened_by m (user_key p m.salt m.iterations) ≡ Ok h.found) parts h.opens in
+    let found : h.found ≡ f.found = cc (f.opens, opens) in
+    new_key_fits line iterations (unwrap_or slot f.found.1) f.found.0.bytes fresh m old f.next refusal
+    (subst (λ (k : MasterKey × ℕ). RefusesNewKey line iterations (unwrap_or slot k.1) k.0.bytes fresh m old refusal) found h.refuses)
+
+attached_fits : (line : List ℕ) (iterations : Option ℤ) (slot : Option ℕ) (words fresh : KeyWords) (a : Attachment) (m : Metadata) (old : Reach)
+    → FindsAttached line iterations (unwrap_or slot a.slot) a.keying.master fresh m old → (refusal : Refusal) → RefusesChange (IsAttached a) line iterations slot words fresh m old refusal → ⊥
+attached_fits line iterations slot words fresh a m old f refusal (inl h) = not_both _ f.settings refusal f.uses h
+attached_fits line iterations slot words fresh a m old f refusal (inr (inl h)) = not_both _ tt refusal f.there h
+attached_fits line iterations slot words fresh a m old f refusal (inr (inr h)) = new_key_fits line iterations (unwrap_or slot a.slot) a.keying.master fresh m old f.next refusal h
+
+-- by what is attached
+change_fits : (found : Option Attachment) (line : List ℕ) (iterations : Option ℤ) (slot : Option ℕ) (words fresh : KeyWords) (m : Metadata) (old : Reach)
+    → MatchOption found (FindsOldKey line iterations slot words fresh m old) (λ a. FindsAttached line iterations (unwrap_or slot a.slot) a.keying.master fresh m old) → (refusal : Refusal)
+    → MatchOption found
+    ((admitted m old.disk.size None ≡ Err refusal) ⊎ (if_there slot ≡ Err refusal) ⊎ RefusesOldKey line words m old refusal ⊎ RefusesNext line iterations slot words fresh m old refusal)
+    (λ a. (usable m old.disk.size ≡ Err refusal) ⊎ (if_there (Some (unwrap_or slot a.slot)) ≡ Err refusal) ⊎ RefusesNewKey line iterations (unwrap_or slot a.slot) a.keying.master fresh m old refusal) → ⊥
+change_fits None line iterations slot words fresh m old f refusal h = old_key_fits line iterations slot words fresh m old f refusal h
+change_fits (Some a) line iterations slot words fresh m old f refusal h = attached_fits line iterations slot words fresh a m old f refusal h
+
+setkey_fits : (line : List ℕ) (iterations : Option ℤ) (slot : Option ℕ) (words fresh : KeyWords) (old : Reach) (f : FindsSetkey line iterations slot words fresh old) (refusal : Refusal)
+    → LacksMetadata old.disk refusal ⊎ RefusesSetkey line iterations slot words fresh old refusal → ⊥
+setkey_fits line iterations slot words fresh old f refusal (inl h) = has_metadata old.disk f.m refusal f.shows h
+setkey_fits line iterations slot words fresh old f refusal (inr h) =
+    change_fits (attachment_in old.holding) line iterations slot words fresh f.m old f.change refusal
+    (subst (λ (m : Metadata). RefusesChange old.holding line iterations slot words fresh m old refusal) (has_same old.disk f.m h.m f.shows h.found) h.refused)
+
+both_load : (found : Option Attachment) (line : List ℕ) (iterations : Option ℤ) (slot : Option ℕ) (words fresh : KeyWords) (m : Metadata) (old : Reach)
+    → MatchOption found (FindsOldKey line iterations slot words fresh m old) (λ a. FindsAttached line iterations (unwrap_or slot a.slot) a.keying.master fresh m old) → (refusal : Refusal) (new : CabinetState)
+    → MatchOption found (RefusesFiles line words old.cabinet refusal new ⊎ RefusesFiles line fresh old.cabinet refusal new) (λ a. RefusesFiles line fresh old.cabinet refusal new) → ⊥
+both_load None line iterations slot words fresh m old f refusal new (inl h) = no_bad_file line words f.parts old.cabinet refusal new f.names h
+both_load None line iterations slot words fresh m old f refusal new (inr h) = no_bad_file line fresh f.next.parts old.cabinet refusal new f.next.names h
+both_load (Some a) line iterations slot words fresh m old f refusal new h = no_bad_file line fresh f.next.parts old.cabinet refusal new f.next.names h
+
+-- what a change of a key stands on
+record Begins (holding : Holding) (told : Option Files) (line : List ℕ) (iterations : Option ℤ) (slot : Option ℕ) (words fresh : KeyWords) (start : DiskState) (asked : KeyChange) : Type 0 where
+  found : HasMetadata start asked.meta
+  wraps : WrapsKey holding told line words slot asked
+  named : AreComponents told line fresh asked.parts
+  given : asked.iterations ≡ iterations
+
+stored_left : (holding : Holding) (told : Option Files) (line : List ℕ) (iterations : Option ℤ) (slot : Option ℕ) (words fresh : KeyWords) (asked : KeyChange) (start disk : DiskState) (made : Result Metadata Refusal) (disk' : DiskState)
+    (answer : Result (Unit {0}) Refusal) → Same start disk → Begins holding told line iterations slot words fresh start asked → SetsKey asked disk made disk' → answer ≡ without_value made
+    → Left (PutsKey holding told line iterations slot words fresh) start answer disk'
+stored_left holding told line iterations slot words fresh asked start disk (Ok m) disk' answer same begins h is =
+    rw is (record {
+      asked = asked;
+      found = begins.found;
+      wraps = begins.wraps;
+      named = begins.named;
+      given = begins.given;
+      m = m;
+      makes = h.makes;
+      usable = HasNewKey-makes asked m h.makes;
+      kept = moments_from (λ n. HoldsOldOr (IsSectorOf m) n) start disk disk'.content same (KeepsOldOr-store disk disk' m h.logs);
+      alone = λ done. alone_from (encoded m) start disk disk'.content same (KeepsAlone-store disk disk' m h.logs);
+    })
+stored_left holding told line iterations slot words fresh asked start disk (Err refusals.DeviceFault) disk' answer same begins h is =
+    rw is (inr (record {
+      asked = asked;
+      found = begins.found;
+      wraps = begins.wraps;
+      named = begins.named;
+      given = begins.given;
+      m = h.m;
+      makes = h.makes;
+      usable = HasNewKey-makes asked h.m h.makes;
+      kept = moments_from (λ n. HoldsOldOr (IsSectorOf h.m) n) start disk disk'.content same (KeepsOldOr-store_part disk disk' h.m h.fails);
+      alone = λ done. not_done done;
+    }))
+stored_left holding told line iterations slot words fresh asked start disk (Err refusal) disk' answer same begins h is =
+    rw is (inl (ap (λ (d : DiskState). d.content) h.unchanged ∙ same.content))
+
+opened_as : (found : MasterKey × ℕ) (o : Option (MasterKey × ℕ)) → Ok found ≡ or_wrong o → o ≡ Some found
+opened_as found None h = absurd (let no : ⊥ = cc h in no)
+opened_as found (Some other) h = cc h
+
+wraps_opened : (told : Option Files) (line : List ℕ) (words : KeyWords) (slot : Option ℕ) (asked : KeyChange) (parts : Components) (found : MasterKey × ℕ) (derived : Result UserKey KeyFault) → AreComponents told line words parts
+    → user_key parts asked.meta.salt asked.meta.iterations ≡ derived → Ok found ≡ opened_by asked.meta derived → asked.master ≡ found.0.bytes → asked.slot ≡ unwrap_or slot found.1
+    → WrapsOpened told line words slot asked
+wraps_opened told line words slot asked parts found (Err fault) named is h master target = absurd (let no : ⊥ = cc h in no)
+wraps_opened told line words slot asked parts found (Ok key) named is h master target =
+    record { parts = parts; named = named; key = key; derived = is; found = found; opens = opened_as found _ h; master = master; target = target }
+
+setkey_idle_left : (line : List ℕ) (iterations : Option ℤ) (slot : Option ℕ) (holding : Holding) (words fresh : KeyWords) (old : Reach) (answer : Result (Unit {0}) Refusal) (new : Reach) → attachment_in holding ≡ None
+    → SetkeyIdleRow line iterations slot words fresh old answer new → Left (PutsKey holding old.cabinet.files line iterations slot words fresh) old.disk answer new.disk
+setkey_idle_left line iterations slot holding words fresh old answer new is h =
+    let Changes : Change = PutsKey holding old.cabinet.files line iterations slot words fresh in
+    left_then Changes old ReadsLastSector _ old answer new (before_all old) early_reading
+    (λ m r1 b1 f1 n1. left_then Changes old (Admits m None) _ r1 answer new b1 (λ o a n q. early_decision o _ a n q)
+    (λ settings r2 b2 f2 n2. left_then Changes old (NeedsSlot slot) _ r2 answer new b2 (λ o a n q. early_decision o _ a n q)
+    (λ done r3 b3 f3 n3. left_then Changes old (LoadsComponents line words) _ r3 answer new b3 (early_loading line words)
+    (λ parts r4 b4 f4 n4. left_then Changes old (LoadsComponents line fresh) _ r4 answer new b4 (early_loading line fresh)
+    (λ next r5 b5 f5 n5. left_then Changes old (OpensSlot m parts) _ r5 answer new b5 (λ o a n q. early_decision o _ a n q)
+    (λ found r6 b6 f6 n6.
+    let asked : KeyChange = record { meta = m; master = found.0.bytes; slot = unwrap_or slot found.1; iterations = iterations; parts = next } in
+    let begins : Begins holding old.cabinet.files line iterations slot words fresh old.disk asked = record {
+      found = reading_has old m r1 f1;
+      wraps = unattached holding _ _ is (wraps_opened old.cabinet.files line words slot asked parts found (user_key parts m.salt m.iterations) (loading_parts line words old r3 parts r4 b3.files f4) refl f6.0 refl refl);
+      named = loading_parts line fresh old r4 next r5 b4.files f5;
+      given = refl;
+    } in
+    stored_left holding old.cabinet.files line iterations slot words fresh asked old.disk r6.disk n6.made new.disk answer b6.same begins n6.sets n6.answered)
+    n5) n4) n3) n2) n1) h
+
+setkey_attached_left : (line : List ℕ) (iterations : Option ℤ) (slot : Option ℕ) (holding : Holding) (target : ℕ) (master : List ℕ) (words fresh : KeyWords) (old : Reach) (answer : Result (Unit {0}) Refusal) (new : Reach)
+    → ((asked : KeyChange) → asked.master ≡ master → asked.slot ≡ target → WrapsKey holding old.cabinet.files line words slot asked)
+    → SetkeyAttachedRow line iterations target master fresh old answer new → Left (PutsKey holding old.cabinet.files line iterations slot words fresh) old.disk answer new.disk
+setkey_attached_left line iterations slot holding target master words fresh old answer new wraps h =
+    let Changes : Change = PutsKey holding old.cabinet.files line iterations slot words fresh in
+    left_then Changes old ReadsLastSector _ old answer new (before_all old) early_reading
+    (λ m r1 b1 f1 n1. left_then Changes old (IsUsed m) _ r1 answer new b1 (λ o a n q. early_decision o _ a n q)
+    (λ settings r2 b2 f2 n2. left_then Changes old (NeedsSlot (Some target)) _ r2 answer new b2 (λ o a n q. early_decision o _ a n q)
+    (λ done r3 b3 f3 n3. left_then Changes old (LoadsComponents line fresh) _ r3 answer new b3 (early_loading line fresh)
+    (λ parts r4 b4 f4 n4.
+    let asked : KeyChange = record { meta = m; master = master; slot = target; iterations = iterations; parts = parts } in
+    let begins : Begins holding old.cabinet.files line iterations slot words fresh old.disk asked =
+    record { found = reading_has old m r1 f1; wraps = wraps asked refl refl; named = loading_parts line fresh old r3 parts r4 b3.files f4; given = refl } in
+    stored_left holding old.cabinet.files line iterations slot words fresh asked old.disk r4.disk n4.made new.disk answer b4.same begins n4.sets n4.answered)
+    n3) n2) n1) h
+
+pub setkey_left : (line : List ℕ) (iterations : Option ℤ) (slot : Option ℕ) (words fresh : KeyWords) (old : Reach) (answer : Result (Unit {0}) Refusal) (new : Reach)
+    → SetkeyRow line iterations slot words fresh old answer new → Left (PutsKey old.holding old.cabinet.files line iterations slot words fresh) old.disk answer new.disk
+setkey_left line iterations slot words fresh old answer new h =
+    by_attachment old.holding _ _ (Left (PutsKey old.holding old.cabinet.files line iterations slot words fresh) old.disk answer new.disk)
+    (λ is row. setkey_idle_left line iterations slot old.holding words fresh old answer new is row)
+    (λ a is row. setkey_attached_left line iterations slot old.holding (unwrap_or slot a.slot) a.keying.master words fresh old answer new (λ asked master target. attached old.holding _ _ a is (master, target)) row) h
+
+using_unstored : (m : Metadata) → Unstored (IsUsed m)
+using_unstored m = decision_unstored (λ r. usable m r.disk.size)
+
+slot_unstored : (slot : Option ℕ) → Unstored (NeedsSlot slot)
+slot_unstored slot = decision_unstored (λ r. if_there slot)
+
+opening_unstored : (m : Metadata) (parts : Components) → Unstored (OpensSlot m parts)
+opening_unstored m parts = decision_unstored (λ r. opened_by m (user_key parts m.salt m.iterations))
+
+setting_unstored : (asked : KeyChange) → Unstored (StoresKey asked)
+setting_unstored asked old answer new h = same_files old.cabinet new.cabinet h.cabinet
+
+setkey_idle_row : (line : List ℕ) (iterations : Option ℤ) (slot : Option ℕ) (names fresh : KeyWords) → Unstored (SetkeyIdleRow line iterations slot names fresh)
+setkey_idle_row line iterations slot names fresh =
+    unstored_then ReadsLastSector _ reading_unstored
+    (λ m. unstored_then (Admits m None) _ (admitting_unstored m None)
+    (λ settings. unstored_then (NeedsSlot slot) _ (slot_unstored slot)
+    (λ done. unstored_then (LoadsComponents line names) _ (components_unstored line names)
+    (λ parts. unstored_then (LoadsComponents line fresh) _ (components_unstored line fresh)
+    (λ next. unstored_then (OpensSlot m parts) _ (opening_unstored m parts)
+    (λ found. setting_unstored (record { meta = m; master = found.0.bytes; slot = unwrap_or slot found.1; iterations = iterations; parts = next })))))))
+
+setkey_attached_row : (line : List ℕ) (iterations : Option ℤ) (slot : ℕ) (master : List ℕ) (fresh : KeyWords) → Unstored (SetkeyAttachedRow line iterations slot master fresh)
+setkey_attached_row line iterations slot master fresh =
+    unstored_then ReadsLastSector _ reading_unstored
+    (λ m. unstored_then (IsUsed m) _ (using_unstored m)
+    (λ settings. unstored_then (NeedsSlot (Some slot)) _ (slot_unstored (Some slot))
+    (λ done. unstored_then (LoadsComponents line fresh) _ (components_unstored line fresh)
+    (λ parts. setting_unstored (record { meta = m; master = master; slot = slot; iterations = iterations; parts = parts })))))
+
+setkey_row : (line : List ℕ) (iterations : Option ℤ) (slot : Option ℕ) (names fresh : KeyWords) → Unstored (SetkeyRow line iterations slot names fresh)
+setkey_row line iterations slot names fresh old answer new h =
+    by_attachment old.holding _ _ (StoresNone old.cabinet new.cabinet) (λ is row. setkey_idle_row line iterations slot names fresh old answer new row)
+    (λ a is row. setkey_attached_row line iterations (unwrap_or slot a.slot) a.keying.master fresh old answer new row) h
+
+pub setkey_lawful : (prov : Span) (iterations : Option ℤ) (slot : Option ℕ) (words : KeyWords) (fresh : KeyWords) → IsLawful (commands.Setkey prov iterations slot words fresh)
+setkey_lawful prov iterations slot words fresh = record {
+  why = λ line old refusal new h.
+      let command : Command = commands.Setkey prov iterations slot words fresh in
+      row_refused line command done_or old h.answer new refusal done_replying h.replied (setkey_why line prov iterations slot words fresh old h.answer new h.row);
+  did = λ line old said new h. reply_line done_or _ false h.answer said old.disk new.disk done_replying h.replied (setkey_did line iterations slot words fresh old h.answer new h.row);
+  sound = λ line old reply new h. sound_reply done_or _ old reply new done_replying (setkey_sound line iterations slot words fresh) h;
+  out = λ line old gate f.
+      apart_out line (commands.Setkey prov iterations slot words fresh) old refl refl gate
+      (λ refusal cabinet x. both_load (attachment_in old.holding) line iterations slot words fresh f.m old f.change refusal cabinet x) (λ refusal x. setkey_fits line iterations slot words fresh old f refusal x);
+  tags = λ line old f needs h. false_is_true needs;
+  becomes = λ line old said new gate h. stays_so line (commands.Setkey prov iterations slot words fresh) old said new gate refl (setkey_stays line iterations slot words fresh old h.answer new h.row);
+  keeps = λ line old reply new gate other h. row_keeps done_or _ old reply new (setkey_stays line iterations slot words fresh) h;
+  left = λ line old said new h. done_left (ChangesMetadata line (commands.Setkey prov iterations slot words fresh) old.cabinet.files old.holding) old.disk h.answer said new.disk h.replied (setkey_left line iterations slot words fresh old h.answer new h.row);
+  stores = λ line old reply new h. unstored_reply _ _ old reply new (setkey_row line iterations slot words fresh) h;
+}

@@ -1,0 +1,27 @@
+-- `detach`: the drawer becomes idle, also where it was suspended (geli(8)).
+use Rattle.std.specs.Prelude.{None, Result}
+use Rattle.command_words.specs.declared.spans.Span.{Span}
+use Rattle.eli_base.specs.declared.refusals.Refusal.{Refusal}
+use Rattle.command_rows.specs.Replies.{Replies, done_or}
+use Rattle.command_rows.specs.Steps.{Detaches}
+use Rattle.command_rows.specs.Verb.{NoBadFile, NoChanges, NoGround, OfOther, OneFlush, Verb, asks_nothing, places_nothing}
+use Rattle.command_rows.specs.World.{Reach}
+
+-- `detach`, of an attached drawer
+abbrev pub DetachRow : Reach → Result (Unit {0}) Refusal → Reach → Type 0
+DetachRow old answer new = Detaches old answer new
+
+-- the verb
+abbrev pub detach_verb : Span → Verb
+detach_verb prov = record {
+  goes_through = λ line old reply new. Replies done_or DetachRow old reply new;
+  fits = λ line old. Unit {0};
+  grounds = NoGround;
+  bad_file = NoBadFile;
+  events = OneFlush;
+  changes = NoChanges;
+  stored_file = None;
+  asks = asks_nothing;
+  places = places_nothing;
+  kind = OfOther;
+}

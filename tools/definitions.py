@@ -14,7 +14,7 @@ from pathlib import Path
 
 ROOT = Path(__file__).resolve().parent.parent
 PAGES, LIST = ROOT / "docs/definitions", ROOT / "docs/DEFINITIONS.md"
-HEAD = re.compile(r"(?:abbrev |unfoldable )*pub (?:abbrev |unfoldable |record |data )*([^\s({:]+)(.*)")
+HEAD = re.compile(r"(?:abbrev |unfoldable )*pub (?!use )(?:abbrev |unfoldable |record |data )*([^\s({:]+)(.*)")
 PARTS = "-- ----"
 
 INTRODUCTION = """# The definitions

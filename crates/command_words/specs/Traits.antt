@@ -33,20 +33,20 @@ abbrev pub letting_go : Needs → Traits
 letting_go wanted = record (plain wanted) { lets_go = true }
 
 -- one that only reads its image, where it is the one command of a run
-abbrev pub reading : Needs → Traits
-reading wanted = record (plain wanted) { only_reads = true }
+abbrev pub only_reading : Needs → Traits
+only_reading wanted = record (plain wanted) { only_reads = true }
 
 -- a request on an attached drawer, which stays attached whatever is answered
-abbrev pub request : Traits
-request = record (plain AnAttached) { is_request = true }
+abbrev pub requesting : Traits
+requesting = record (plain AnAttached) { is_request = true }
 
 -- one that is refused by a provider that is only read
 abbrev pub writing : Traits
-writing = record request { writes_data = true }
+writing = record requesting { writes_data = true }
 
 -- one that changes the requests that are open on its drawer
 abbrev pub queueing : Traits
-queueing = record request { changes_requests = true }
+queueing = record requesting { changes_requests = true }
 
 -- whether a request is refused by a provider that is only read
 abbrev pub job_writes : JobWords → Bool
@@ -61,22 +61,22 @@ submitting job = record queueing { lacks_memory = true; writes_data = job_writes
 -- what the verb of a command is
 abbrev pub traits_of : Command → Traits
 traits_of commands.List = allocating AnyOne
-traits_of (commands.Dump prov) = reading AnyOne
+traits_of (commands.Dump prov) = only_reading AnyOne
 traits_of (commands.Init prov cipher auth keylen sectorsize iterations autoresize fresh backup) =
     record (allocating AnIdle) { stores_last = is_some backup }
 traits_of (commands.Attach prov only_check readonly slot words) = record (allocating AnIdle) { only_reads = only_check }
 traits_of (commands.Detach prov) = letting_go NoIdle
-traits_of (commands.Read prov sector count) = request
+traits_of (commands.Read prov sector count) = requesting
 traits_of (commands.Write prov sector hex) = writing
-traits_of (commands.Flush prov) = request
+traits_of (commands.Flush prov) = requesting
 traits_of (commands.Setkey prov iterations slot words fresh) = allocating NoSuspended
 traits_of (commands.Delkey prov all force slot) = plain NoSuspended
 traits_of (commands.Kill prov) = letting_go AnyOne
-traits_of (commands.Backup prov file) = record (reading AnyOne) { lacks_memory = true }
+traits_of (commands.Backup prov file) = record (only_reading AnyOne) { lacks_memory = true }
 traits_of (commands.Restore file prov force) = allocating AnIdle
 traits_of (commands.Resize prov oldsize) = plain AnIdle
 traits_of (commands.Fill prov seed start count) = writing
-traits_of (commands.Sum prov start count) = request
+traits_of (commands.Sum prov start count) = requesting
 traits_of (commands.Eject prov) = record (plain AnyOne) { takes_out = true }
 traits_of (commands.Submit prov job) = submitting job
 traits_of (commands.Step prov tag) = queueing

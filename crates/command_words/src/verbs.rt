@@ -1,6 +1,6 @@
 // What each verb is: which drawer it needs, and what it may do with that.
 ghost use Rattle.std.specs.Prelude.{◌≡◌};
-ghost use Rattle.command_words.specs.Traits.{allocating, job_writes, letting_go, plain, queueing, reading, request};
+ghost use Rattle.command_words.specs.Traits.{allocating, job_writes, letting_go, only_reading, plain, queueing, requesting};
 ghost use Rattle.command_words.specs.Traits.{submitting, traits_of, writing};
 
 use crate::commands::{Command, JobWords};
@@ -86,8 +86,8 @@ fn letting_go(drawer: Needs) -> Traits
 }
 
 // One that only reads its image.
-fn reading(drawer: Needs) -> Traits
-    ensures { result ≡ reading drawer }
+fn only_reading(drawer: Needs) -> Traits
+    ensures { result ≡ only_reading drawer }
 {
     Traits {
         only_reads: true,
@@ -96,8 +96,8 @@ fn reading(drawer: Needs) -> Traits
 }
 
 // A request.
-fn request() -> Traits
-    ensures { result ≡ request }
+fn requesting() -> Traits
+    ensures { result ≡ requesting }
 {
     Traits {
         is_request: true,
@@ -111,7 +111,7 @@ fn writing() -> Traits
 {
     Traits {
         writes_data: true,
-        ..request()
+        ..requesting()
     }
 }
 
@@ -121,7 +121,7 @@ fn queueing() -> Traits
 {
     Traits {
         changes_requests: true,
-        ..request()
+        ..requesting()
     }
 }
 
@@ -153,7 +153,7 @@ impl Command {
     {
         match self {
             Command::List => allocating(Needs::AnyOne),
-            Command::Dump { .. } => reading(Needs::AnyOne),
+            Command::Dump { .. } => only_reading(Needs::AnyOne),
             Command::Init { backup, .. } => Traits {
                 stores_last: backup.is_some(),
                 ..allocating(Needs::AnIdle)
@@ -168,11 +168,11 @@ impl Command {
             Command::Kill { .. } => letting_go(Needs::AnyOne),
             Command::Backup { .. } => Traits {
                 lacks_memory: true,
-                ..reading(Needs::AnyOne)
+                ..only_reading(Needs::AnyOne)
             },
             Command::Restore { .. } => allocating(Needs::AnIdle),
             Command::Resize { .. } => plain(Needs::AnIdle),
-            Command::Read { .. } | Command::Flush { .. } | Command::Sum { .. } => request(),
+            Command::Read { .. } | Command::Flush { .. } | Command::Sum { .. } => requesting(),
             Command::Write { .. } | Command::Fill { .. } => writing(),
             Command::Eject { .. } => Traits {
                 takes_out: true,

@@ -23,13 +23,26 @@ IsBoundedJob line jobs.Flush = Unit {0}
 
 -- The numbers of a command lie within their bounds, and its digits are hexadecimal.
 abbrev pub IsBounded : List ℕ → Command → Type 0
+IsBounded line (commands.Init prov cipher auth keylen sectorsize iterations autoresize fresh backup) = Unit {0}
+IsBounded line (commands.Attach prov only_check readonly slot old) = Unit {0}
+IsBounded line (commands.Detach prov) = Unit {0}
+IsBounded line (commands.Setkey prov iterations slot old fresh) = Unit {0}
+IsBounded line (commands.Delkey prov all force slot) = Unit {0}
+IsBounded line (commands.Kill prov) = Unit {0}
+IsBounded line (commands.Backup prov file) = Unit {0}
+IsBounded line (commands.Restore file prov force) = Unit {0}
 IsBounded line (commands.Resize prov oldsize) = IsOldSize oldsize
+IsBounded line (commands.Dump prov) = Unit {0}
 IsBounded line (commands.Read prov sector count) = AreSectors 256 sector count
 IsBounded line (commands.Write prov sector hex) = (sector ≤ 9223372036854775807) × IsTrue (is_hexadecimal (bytes_at line hex))
+IsBounded line (commands.Flush prov) = Unit {0}
+IsBounded line commands.List = Unit {0}
 IsBounded line (commands.Fill prov seed start count) = AreSectors 9223372036854775807 start count
 IsBounded line (commands.Sum prov start count) = AreSectors 9223372036854775807 start count
+IsBounded line (commands.Eject prov) = Unit {0}
 IsBounded line (commands.Submit prov job) = IsBoundedJob line job
 IsBounded line (commands.Step prov tag) = tag ≤ 31
 IsBounded line (commands.Reap prov tag) = tag ≤ 31
+IsBounded line (commands.Suspend prov) = Unit {0}
+IsBounded line (commands.Resume prov old) = Unit {0}
 IsBounded line (commands.Verify prov file count restart) = (1 ≤ count) × (count ≤ 9223372036854775807)
-IsBounded line _ = Unit {0}

@@ -33,7 +33,8 @@ abbrev pub names_or : Option (List (List ℕ)) → List (List ℕ) → List (Lis
 names_or (Some names) others = names
 names_or None others = others
 
--- The images that words name: those of a script, or else the provider of the one command, if they are one and it has one.
+-- The images that words name: those of a script, or else the provider of the one command, if they are one and it has
+-- one.
 abbrev pub image_names : List (List ℕ) → List (List ℕ)
 image_names words =
     names_or (script_images words) (name_at (line_of words) (option_and_then provider_of (command_in (line_of words))))

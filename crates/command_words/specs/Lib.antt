@@ -10,3 +10,4 @@ pub mod Pass
 pub mod Places
 pub mod Bounds
 pub mod Images
+pub mod Traits

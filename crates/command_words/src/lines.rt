@@ -5,7 +5,8 @@ ghost use Rattle.command_words.specs.Cursor.{left};
 ghost use Rattle.command_words.specs.Pass.{provider_alone};
 ghost use Rattle.command_words.specs.Bounds.{IsBounded};
 ghost use Rattle.command_words.specs.Places.{CommandIsWithin, ProviderIsText};
-ghost use Rattle.command_words.specs.Reading.{reading, by_verb, settled, is_comment, complaint, command_at, job_at, command_in, excludes_itself, lacks_option, excludes_own, excludes, line_limit};
+ghost use Rattle.command_words.specs.Reading.{reading, by_verb, settled, is_comment, complaint, command_at, job_at, command_in};
+ghost use Rattle.command_words.specs.Reading.{excludes_itself, lacks_option, excludes_own, excludes, line_limit};
 
 use crate::commands::{Command, JobWords, Usage};
 use crate::cursor::Words;
@@ -16,8 +17,8 @@ use crate::spans::{KeyWords, Sep, Span};
 use crate::table::{JobName, Verb};
 use eli_base::Reason;
 
-// The most bytes of a line.
-const LINE_LIMIT: usize = 300_000;
+/// The most bytes of a line.
+pub const LINE_LIMIT: usize = 300_000;
 
 // Whether a line that begins with this word is a comment.
 fn starts_comment(sep: Sep, word: &[u8]) -> bool

@@ -17,14 +17,23 @@ use eli_base::Reason;
 /// What the operands of a line say.
 #[derive(Clone, Copy)]
 pub struct Operands {
+    /// The provider.
     pub prov: Span,
+    /// The file.
     pub file: Span,
+    /// The bytes of a write, in hexadecimal.
     pub digits: Span,
+    /// The seed of a generator.
     pub seed: u64,
+    /// The number of the first sector.
     pub sector: u64,
+    /// How many sectors a request has.
     pub few: u32,
+    /// How many sectors a workload or a sweep has.
     pub many: u64,
+    /// What is submitted.
     pub job: JobName,
+    /// The tag of a request.
     pub tag: u8,
 }
 

@@ -13,21 +13,37 @@ use eli_base::{Auth, Cipher, Reason};
 /// What the options of a line say.
 #[derive(Drop)]
 pub struct Settings {
+    /// `-a` of `init`.
     pub auth: Auth,
+    /// `-e`.
     pub cipher: Cipher,
+    /// `-i`.
     pub iterations: Option<i32>,
+    /// `-l`, in bits.
     pub keylen: u16,
+    /// `-s` of `init`, in bytes.
     pub sectorsize: u32,
+    /// `-s` of `resize`, in bytes.
     pub oldsize: Option<u64>,
+    /// `-n`.
     pub slot: Option<u8>,
+    /// `-B`, unless it is `none`.
     pub backup: Option<Span>,
+    /// Whether `-R` was not given.
     pub autoresize: bool,
+    /// `-C`.
     pub only_check: bool,
+    /// `-r` of `attach`.
     pub readonly: bool,
+    /// `-a` of `delkey`.
     pub all: bool,
+    /// `-f`.
     pub force: bool,
+    /// `-r` of `verify`.
     pub restart: bool,
+    /// `-k`, `-j` and `-p`.
     pub old_key: KeyWords,
+    /// `-K`, `-J` and `-P`.
     pub fresh_key: KeyWords,
 }
 

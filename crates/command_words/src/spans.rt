@@ -18,7 +18,7 @@ pub enum Sep {
 }
 
 impl Sep {
-    // Whether the byte stands between words.
+    /// Whether the byte stands between words.
     pub(crate) fn is_between(self, byte: u8) -> bool
         ensures { result ≡ is_between self byte }
     {
@@ -28,7 +28,7 @@ impl Sep {
         }
     }
 
-    // Whether the bytes from one separator to the next are a word.
+    /// Whether the bytes from one separator to the next are a word.
     pub(crate) fn is_word(self, piece: &[u8]) -> bool
         ensures { result ≡ is_word self piece.now }
     {
@@ -48,7 +48,7 @@ impl Sep {
         }
     }
 
-    // How many bytes stand before the first separator.
+    /// How many bytes stand before the first separator.
     pub(crate) fn part_len(self, bytes: &[u8]) -> usize
         ensures { result ≡ position_or_len (is_between self) bytes.now }
     {
@@ -168,6 +168,7 @@ pub struct KeyWords {
 }
 
 impl KeyWords {
+    /// A key of which no word says anything.
     pub(crate) fn new() -> KeyWords
         ensures files { result.files ≡ [] }
         ensures pass { result.pass ≡ [] }

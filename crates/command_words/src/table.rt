@@ -9,28 +9,51 @@ use crate::cursor::Words;
 /// The verbs of the command line.
 #[derive(Clone, Copy)]
 pub enum Verb {
+    /// `init`.
     Init,
+    /// `attach`.
     Attach,
+    /// `detach`.
     Detach,
+    /// `setkey`.
     Setkey,
+    /// `delkey`.
     Delkey,
+    /// `kill`.
     Kill,
+    /// `backup`.
     Backup,
+    /// `restore`.
     Restore,
+    /// `resize`.
     Resize,
+    /// `dump`.
     Dump,
+    /// `read`.
     Read,
+    /// `write`.
     Write,
+    /// `flush`.
     Flush,
+    /// `list`.
     List,
+    /// `fill`.
     Fill,
+    /// `sum`.
     Sum,
+    /// `eject`.
     Eject,
+    /// `submit`.
     Submit,
+    /// `step`.
     Step,
+    /// `reap`.
     Reap,
+    /// `suspend`.
     Suspend,
+    /// `resume`.
     Resume,
+    /// `verify`.
     Verify,
 }
 

@@ -1,4 +1,4 @@
-use Rattle.std.proofs.Common.{◌≡◌, ◌+◌, ◌++◌, map, get_or, refl}
+use Rattle.std.proofs.Common.{◌≡◌, ◌++◌, map, get_or, refl}
 use Rattle.std.specs.List.{range_with_len}
 use Rattle.aes_core.specs.Aes.{bytes_by}
 use Rattle.aes_core.specs.Blocks.{block}

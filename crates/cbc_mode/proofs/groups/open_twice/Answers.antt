@@ -28,10 +28,10 @@ loop-g-preserved c =
       long = c.open_group-next.ensures.long;
       chain = part_chain key iv p c.loop-g.group c.open_group-next.result _ _ j 7 c.told-before done (omega arith) (omega arith) c.open_group-next.ensures.last ∙ ap (block (iv ++ p)) last;
       done = subst (IsDone (opened key iv p) p _) more
-      (part_step key iv p c.loop-g.group c.open_group-next.new.group c.loop-g.last _ _ j 8 c.told-before c.loop-g.invariant.long c.loop-g.invariant.chain done (omega arith) (omega arith) (omega arith) c.open_group-next.ensures.opened);
+          (part_step key iv p c.loop-g.group c.open_group-next.new.group c.loop-g.last _ _ j 8 c.told-before c.loop-g.invariant.long c.loop-g.invariant.chain done (omega arith) (omega arith) (omega arith) c.open_group-next.ensures.opened);
       are = subst (AreBlocks (opened key iv p)) more
-      (part_blocks (opened key iv p) c.open_group-next.new.group j 8 (omega arith)
-      (part_same key iv p c.loop-g.group c.open_group-next.new.group c.loop-g.last _ _ j 8 c.told-before c.loop-g.invariant.long c.loop-g.invariant.chain done (omega arith) (omega arith) c.open_group-next.ensures.opened) c.loop-g.invariant.are);
+          (part_blocks (opened key iv p) c.open_group-next.new.group j 8 (omega arith)
+          (part_same key iv p c.loop-g.group c.open_group-next.new.group c.loop-g.last _ _ j 8 c.told-before c.loop-g.invariant.long c.loop-g.invariant.chain done (omega arith) (omega arith) c.open_group-next.ensures.opened) c.loop-g.invariant.are);
     }
 
 pub returns-clause-opened : goal.returns-clause-opened

@@ -1,4 +1,4 @@
-use Rattle.std.proofs.Common.{◌≡◌, ℕ, ◌+◌, ◌*◌, ◌<◌, List, ap, arith, subst, sym, ◌∙◌}
+use Rattle.std.proofs.Common.{◌≡◌, ℕ, ◌+◌, ◌*◌, List, ap, arith, subst, sym, ◌∙◌}
 use Rattle.aes_core.specs.Aes.{encrypt}
 use Rattle.aes_core.proofs.BlockLists.{AreBlocks}
 use Rattle.aes_core.proofs.InPlace.{IsDone, IsDone-start, part_blocks, sixteen_done}
@@ -29,10 +29,10 @@ loop-g-preserved c =
       long = c.seal_group-now.ensures.long;
       at = c.seal_group-now.ensures.next ∙ ap (λ (x : ℕ). tweak_at x 8) at ∙ tweak_at-add t j 8 ∙ ap (tweak_at t) more;
       done = subst (IsDone (masked f t p) p _) more
-      (part_step f p c.loop-g.group c.seal_group-now.new.group t (of_halves c.loop-g.now) _ _ j 8 at done (omega arith) (omega arith) (omega arith) c.seal_group-now.ensures.sealed);
+          (part_step f p c.loop-g.group c.seal_group-now.new.group t (of_halves c.loop-g.now) _ _ j 8 at done (omega arith) (omega arith) (omega arith) c.seal_group-now.ensures.sealed);
       are = subst (AreBlocks (masked f t p)) more
-      (part_blocks (masked f t p) c.seal_group-now.new.group j 8 (omega arith)
-      (part_same f p c.loop-g.group c.seal_group-now.new.group t (of_halves c.loop-g.now) _ _ j 8 at done (omega arith) (omega arith) c.seal_group-now.ensures.sealed) c.loop-g.invariant.are);
+          (part_blocks (masked f t p) c.seal_group-now.new.group j 8 (omega arith)
+          (part_same f p c.loop-g.group c.seal_group-now.new.group t (of_halves c.loop-g.now) _ _ j 8 at done (omega arith) (omega arith) c.seal_group-now.ensures.sealed) c.loop-g.invariant.are);
     }
 
 pub returns-clause-sealed : goal.returns-clause-sealed

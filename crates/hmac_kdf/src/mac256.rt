@@ -5,8 +5,8 @@ ghost use Rattle.sha2.specs.Sha256.{sha256};
 ghost use Rattle.hmac_kdf.specs.Hmac.{key_block, hmac256};
 
 use crate::block::{INNER_PAD, OUTER_PAD, filled_block, masked};
-use sha2::Digest;
 use sha_stream::Sha256;
+use sha2::Digest;
 
 // The bytes of a block of SHA-256.
 const BLOCK_SIZE: usize = 64;

@@ -20,8 +20,8 @@ use Rattle.rand_core.specs.Steps.{fill_via_u64}
 use Rattle.rand_pcg.specs.Lcg.{Lcg}
 use Rattle.rand_pcg.specs.Pcg.{pcg64}
 use Rattle.sealing.specs.Sectors.{units}
-use Rattle.sha2.specs.Hashers.{Holds256}
-use Rattle.sha2.specs.declared.Sha256.{Sha256}
+use Rattle.sha_stream.specs.Hasher.{Holds256}
+use Rattle.sha_stream.specs.declared.hasher.Sha256.{Sha256}
 use Rattle.command_rows.specs.Steps.{SectorsAnswer}
 use Rattle.command_rows.specs.verbs.Fill.{generated, words_of}
 use Rattle.command_rows.proofs.Generated.{fill-whole, generated-more}

@@ -22,7 +22,8 @@ use provider::{Provider, ReadFault};
 use rand_core::SeedableRng;
 use rand_core::utils::fill_bytes_via_u64;
 use rand_pcg::Pcg64;
-use sha2::{Digest, Sha256};
+use sha_stream::Sha256;
+use sha2::Digest;
 
 // Refuses sectors of which some aren't there.
 fn check_range<D: Disk>(provider: &Provider<D>, sector: u64, count: u64) -> Result<(), Refusal>

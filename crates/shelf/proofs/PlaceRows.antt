@@ -5,7 +5,9 @@ use Rattle.block_traits.specs.Disk.{DiskState}
 use Rattle.block_traits.specs.Streams.{EntropyState}
 use Rattle.command_words.specs.declared.spans.Span.{Span}
 use Rattle.eli_base.specs.declared.refusals.Refusal.{Refusal}
-use Rattle.command_rows.specs.World.{Holding, Idle, reach_of}
+use Rattle.command_rows.specs.Answer.{Answer}
+use Rattle.command_rows.specs.Turn.{Replies, done_or}
+use Rattle.command_rows.specs.World.{Holding, Reach, reach_of}
 use Rattle.command_rows.specs.verbs.Backup.{BackupRow}
 use Rattle.command_rows.specs.verbs.Kill.{KillRow}
 
@@ -17,7 +19,7 @@ backup_held_row line file before after disk disk' cabinet cabinet' entropy answe
     subst (λ (x : Holding). BackupRow line file (reach_of disk before cabinet entropy) answer (reach_of disk' x cabinet' entropy)) (sym kept) h
 
 -- the disk is the one that was held
-pub kill_held_row : {D : Type 0} (state : D → DiskState) (given before : D) (holding : Holding) (disk' : DiskState) (cabinet : CabinetState) (entropy entropy' : EntropyState) (answer : Result (Unit {0}) Refusal) → given ≡ before
-    → KillRow (reach_of (state given) holding cabinet entropy) answer (reach_of disk' Idle cabinet entropy') → KillRow (reach_of (state before) holding cabinet entropy) answer (reach_of disk' Idle cabinet entropy')
-kill_held_row {D} state given before holding disk' cabinet entropy entropy' answer is h =
-    subst (λ (d : D). KillRow (reach_of (state d) holding cabinet entropy) answer (reach_of disk' Idle cabinet entropy')) is h
+pub kill_held : {D : Type 0} (state : D → DiskState) (given before : D) (holding : Holding) (cabinet : CabinetState) (entropy : EntropyState) (reply : Answer) (new : Reach) → given ≡ before
+    → Replies done_or KillRow (reach_of (state given) holding cabinet entropy) reply new → Replies done_or KillRow (reach_of (state before) holding cabinet entropy) reply new
+kill_held {D} state given before holding cabinet entropy reply new is h =
+    subst (λ (d : D). Replies done_or KillRow (reach_of (state d) holding cabinet entropy) reply new) is h

@@ -10,7 +10,6 @@ use Rattle.shelf.specs.declared.drawer.Drawer.{Drawer}
 use Rattle.command_words.specs.declared.commands.Command.{Command}
 use Rattle.command_rows.specs.Answer.{Answer}
 use Rattle.command_rows.specs.Answer as answers
-use Rattle.shelf.specs.Buffers.{is_attached, is_attached_on}
 use Rattle.command_rows.specs.World.{DrawerState, Reach, World, place_of}
 use Rattle.shelf.specs.Shelved.{drawer_of, drawers_of, holding_of}
 use Rattle.command_rows.specs.Turn.{ChangesAt, Serves, ServesAt, reach, takes_out}
@@ -71,20 +70,3 @@ is_some-copied (Some x) = refl
 -- a buffer whose front was written whole
 pub whole_buffer : (new old : List ℕ) (len : ℕ) → length new ≡ len → take len (new ++ drop (length new) old) ≡ new
 whole_buffer new old len is = subst (λ (n : ℕ). take n (new ++ drop (length new) old) ≡ new) is (take-append_seam new (drop (length new) old))
-
--- whether a provider is attached on the drawer that has a name
-pub attached_there : {D : Type 0} (state : D → DiskState) (name : List ℕ) (drawers : List (Drawer D)) (place : ℕ) (drawer : Drawer D)
-    → place_of name (drawers_of state drawers) ≡ Some place → drawer ≡ get_or drawers place drawer → is_attached_on name (drawers_of state drawers) ≡ is_attached (holding_of drawer.held)
-attached_there state name [] place drawer found here = absurd (let no : ⊥ = cc found in no)
-attached_there {D} state name (d ∷ ds) place drawer found here =
-    step (bytes_eq d.name name) (place_of name (drawers_of state ds)) place found here (λ n is at. attached_there state name ds n drawer is at)
-  where
-    step : (same : Bool) (behind : Option ℕ) (place : ℕ) → cond same (Some 0) (option_map (λ n. n + 1) behind) ≡ Some place → drawer ≡ get_or (d ∷ ds) place drawer
-        → ((n : ℕ) → behind ≡ Some n → drawer ≡ get_or ds n drawer → is_attached_on name (drawers_of state ds) ≡ is_attached (holding_of drawer.held))
-        → cond same (is_attached (holding_of d.held)) (is_attached_on name (drawers_of state ds)) ≡ is_attached (holding_of drawer.held)
-    step true behind zero found here next = ap (λ (x : Drawer D). is_attached (holding_of x.held)) (sym here)
-    step true behind (suc n) found here next = absurd (let no : ⊥ = cc found in no)
-    step false None place found here next = absurd (let no : ⊥ = cc found in no)
-    step false (Some n) place found here next =
-        let is : place ≡ suc n = sym (cc found) ∙ add-one n in
-        next n refl (subst (λ (p : ℕ). drawer ≡ get_or (d ∷ ds) p drawer) is here)

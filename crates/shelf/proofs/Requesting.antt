@@ -5,12 +5,13 @@ use Rattle.command_words.specs.declared.commands.Command.{Command}
 use Rattle.command_words.specs.declared.commands.Command.TheVariants as commands
 use Rattle.eli_base.specs.declared.refusals.Refusal.{Refusal}
 use Rattle.command_rows.specs.Answer.{Answer}
-use Rattle.command_rows.specs.Gate.{AnAttached, needs, refused_by}
+use Rattle.command_words.specs.Traits.{needs, traits_of}
+use Rattle.command_words.specs.declared.verbs.Needs.TheVariants.{AnAttached}
+use Rattle.command_rows.specs.Gate.{refused_by}
 use Rattle.command_rows.specs.Turn.{GoesThrough, IsRefused, Serves, takes_out}
 use Rattle.command_rows.specs.World.{Attachment, IsAttached, Reach}
-use Rattle.shelf.specs.Buffers.{is_request}
 
-request_needs : (command : Command) → is_request command ≡ true → needs command ≡ AnAttached
+request_needs : (command : Command) → (traits_of command).is_request ≡ true → needs command ≡ AnAttached
 request_needs (commands.Read prov sector count) request = refl
 request_needs (commands.Write prov sector hex) request = refl
 request_needs (commands.Flush prov) request = refl
@@ -21,11 +22,11 @@ request_needs (commands.Step prov tag) request = refl
 request_needs (commands.Reap prov tag) request = refl
 request_needs command request = absurd (let no : ⊥ = cc request in no)
 
-pub request_stays : (command : Command) → is_request command ≡ true → takes_out command ≡ false
+pub request_stays : (command : Command) → (traits_of command).is_request ≡ true → takes_out command ≡ false
 request_stays (commands.Eject prov) request = absurd (let no : ⊥ = cc request in no)
 request_stays command request = refl
 
-pub request_serves : (line : List ℕ) (command : Command) (a : Attachment) (old : Reach) (reply : Answer) (new : Reach) → is_request command ≡ true → old.holding ≡ IsAttached a → GoesThrough line command old reply new
+pub request_serves : (line : List ℕ) (command : Command) (a : Attachment) (old : Reach) (reply : Answer) (new : Reach) → (traits_of command).is_request ≡ true → old.holding ≡ IsAttached a → GoesThrough line command old reply new
     → Serves line command old reply new
 request_serves line command a old reply new request attached goes =
     let none : refused_by (needs command) old.holding ≡ None = (λ i. refused_by (request_needs command request i) (attached i)) in

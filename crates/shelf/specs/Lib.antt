@@ -1,9 +1,9 @@
 pub mod Adding
-pub mod Buffers
 pub mod Closing
 pub mod Queueing
 pub mod Requests
 pub mod Resuming
 pub mod Shelved
 pub mod Trying
+pub mod Verbs
 pub mod Verifying

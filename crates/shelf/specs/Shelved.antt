@@ -1,10 +1,10 @@
 -- A shelf: its drawers, and the buffer of requests; and the drawers of the code as plain data.
-use Rattle.std.specs.Prelude.{ℕ, List, map}
+use Rattle.std.specs.Prelude.{ℕ, Bool, true, false, List, map}
 use Rattle.bio_queue.specs.Requests.{Request}
 use Rattle.block_traits.specs.Cabinet.{CabinetState}
 use Rattle.block_traits.specs.Disk.{DiskState}
 use Rattle.block_traits.specs.Streams.{EntropyState}
-use Rattle.command_rows.specs.World.{Attachment, DrawerState, Holding, Idle, IsAttached, IsSuspended, Kept, NamesDiffer, World}
+use Rattle.command_rows.specs.World.{Attachment, DrawerState, Holding, Idle, IsAttached, IsSuspended, Kept, NamesDiffer, Reach, World, reach_of}
 use Rattle.provider.specs.Attached.{Attached}
 use Rattle.shelf.specs.declared.drawer.Drawer.{Drawer}
 use Rattle.shelf.specs.declared.drawer.Held.{Held}
@@ -23,6 +23,10 @@ attachment_of queue p = record { slot = p.slot; keying = p.keying; readonly = p.
 abbrev pub kept_of : {D : Type 0} → Suspension D → Kept
 kept_of s = record { sectorsize = s.sectorsize; sectors = s.sectors; slot = s.slot; readonly = s.readonly; mark = s.mark }
 
+-- what a command reaches on a drawer where this provider is attached, with these open requests
+abbrev pub reach_on : {D : Type 0} → (D → DiskState) → List Request → Attached D → CabinetState → EntropyState → Reach
+reach_on state queue p cabinet entropy = reach_of (state p.disk) (IsAttached (attachment_of queue p)) cabinet entropy
+
 -- the disk in a drawer, and what the drawer does with it
 abbrev pub disk_in : {D : Type 0} → (D → DiskState) → Held D → DiskState
 disk_in state (held.Idle disk) = state disk
@@ -33,6 +37,16 @@ abbrev pub holding_of : {D : Type 0} → Held D → Holding
 holding_of (held.Idle disk) = Idle
 holding_of (held.Attached provider queue) = IsAttached (attachment_of queue provider)
 holding_of (held.Suspended suspended queue) = IsSuspended (kept_of suspended)
+
+-- what a command reaches on a drawer that holds this
+abbrev pub reach_in : {D : Type 0} → (D → DiskState) → Held D → CabinetState → EntropyState → Reach
+reach_in state held cabinet entropy = reach_of (disk_in state held) (holding_of held) cabinet entropy
+
+-- a provider is attached
+abbrev pub is_attached : Holding → Bool
+is_attached Idle = false
+is_attached (IsAttached a) = true
+is_attached (IsSuspended kept) = false
 
 abbrev pub drawer_of : {D : Type 0} → (D → DiskState) → Drawer D → DrawerState
 drawer_of state drawer = record { name = drawer.name; disk = disk_in state drawer.held; holding = holding_of drawer.held }

@@ -1,14 +1,14 @@
 // The drawers in order of adding.
-ghost use Rattle.std.specs.Prelude.{◌≡◌, false, ◌<◌, ◌≤◌, ℕ, List, map, ◌∷◌, ◌++◌, [], IfOk, IfSome, MatchResult, length, option_copied, vec_capacity, vec_len};
+ghost use Rattle.std.specs.Prelude.{◌≡◌, ◌<◌, ◌≤◌, ℕ, List, map, [], IfOk, IfSome, MatchResult, length, option_copied};
+ghost use Rattle.std.specs.Prelude.{vec_capacity, vec_len};
 ghost use Rattle.std.specs.List.{insert};
 ghost use Rattle.command_words.specs.Bounds.{IsBounded};
-ghost use Rattle.command_words.specs.Places.{CommandIsWithin, bytes_at, provider_of};
+ghost use Rattle.command_words.specs.Places.{CommandIsWithin};
 ghost use Rattle.shelf.specs.Adding.{Adds, RefusesToAdd};
 ghost use Rattle.reply_text.specs.Text.{FitsPayload};
 ghost use Rattle.command_rows.specs.Answer.{answer_of};
-ghost use Rattle.shelf.specs.Buffers.{is_attached_on, is_request, uses_buffer};
 ghost use Rattle.shelf.specs.Closing.{Closing, failures};
-ghost use Rattle.command_rows.specs.Turn.{ListsAs, Shows, Turn, entry_of, takes_out};
+ghost use Rattle.command_rows.specs.Turn.{ListsAs, Shows, Turn, entry_of};
 ghost use Rattle.command_rows.specs.World.{HoldKeyings, NamesDiffer, place_of};
 ghost use Rattle.shelf.specs.Shelved.{drawers_of, world_of};
 
@@ -48,13 +48,15 @@ pub enum AddFault {
 
 impl<D: Drop> Model for Drawers<D> {
     ghost use Rattle.std.specs.Prelude.{◌≡◌, false, ◌≤◌, vec_capacity, vec_len};
+    ghost use Rattle.command_rows.specs.Steps.{request_limit};
     ghost use Rattle.shelf.specs.Shelved.{DifferInName, Shelved};
 
     ghost Value = { Shelved D };
 
     ghost view = { λ shelf. record { drawers = shelf.drawers.items; buffer = shelf.buffer.items } };
 
-    ghost invariant = { λ shelf. (vec_len shelf.drawers ≤ 16) × (16 ≤ vec_capacity shelf.drawers) × (vec_len shelf.buffer ≡ 131072) × DifferInName shelf.drawers.items };
+    ghost invariant = { λ shelf. (vec_len shelf.drawers ≤ 16) × (16 ≤ vec_capacity shelf.drawers)
+        × (vec_len shelf.buffer ≡ request_limit) × DifferInName shelf.drawers.items };
 }
 
 impl<D: Disk> Drawers<D> {
@@ -72,8 +74,8 @@ impl<D: Disk> Drawers<D> {
     pub fn add(&mut self, name: &str, disk: D) -> Result<(), (D, AddFault)>
         ensures adds { MatchResult result
             (λ _. Adds name.now (D.state disk) (drawers_of D.state self.old.drawers) (drawers_of D.state self.new.drawers))
-            (λ refused. (refused.0 ≡ disk) × RefusesToAdd name.now refused.1 (drawers_of D.state self.old.drawers) × (self.new ≡ self.old)) }
-        ensures buffer { self.new.buffer ≡ self.old.buffer }
+            (λ refused. (refused.0 ≡ disk)
+            × RefusesToAdd name.now refused.1 (drawers_of D.state self.old.drawers) × (self.new ≡ self.old)) }
     {
         if self.drawers.len() >= ROOM {
             return Err((disk, AddFault::Full));
@@ -93,10 +95,9 @@ impl<D: Disk> Drawers<D> {
     }
 
     /// Serves a command, whose places are those of the line: `UnknownProvider` exactly where no drawer has the name of
-    /// its provider, and else what the drawer answers. The other drawers stay as they are. `list` answers an entry for each
-    /// drawer, or that there was no memory. `eject` takes the drawer out with its disk, of which nothing more is said. The buffer
-    /// of requests changes in `read`, `write`, `fill`, `sum`, `verify`, `submit` of a write and `reap` on an attached drawer alone; in
-    /// `reap` only where bytes of a read are given out, or refused.
+    /// its provider, and else what the drawer answers. The other drawers stay as they are. `list` answers an entry for
+    /// each drawer, or that there was no memory. `eject` takes the drawer out with its disk, of which nothing more is
+    /// said.
     pub fn serve<C: Cabinet, E: Entropy>(
         &mut self,
         line: &[u8],
@@ -110,9 +111,6 @@ impl<D: Disk> Drawers<D> {
             (world_of D.state self.old (C.state files.old) (E.state entropy.old)) (answer_of self.new.buffer result)
             (world_of D.state self.new (C.state files.new) (E.state entropy.new)) }
         ensures payload { FitsPayload (length self.new.buffer) result }
-        ensures buffer { uses_buffer command.now result ≡ false → self.new.buffer ≡ self.old.buffer }
-        ensures idle { IfSome (provider_of command.now) (λ prov. is_attached_on (bytes_at line.now prov) (drawers_of D.state self.old.drawers) ≡ false →
-            self.new.buffer ≡ self.old.buffer) }
     {
         let Some(prov) = command.provider() else {
             return self.list();
@@ -121,14 +119,15 @@ impl<D: Disk> Drawers<D> {
         let Some(place) = find(&self.drawers, name) else {
             return Reply::Refused(Refusal::UnknownProvider);
         };
-        if is_request(command) && self.drawers[place].is_attached() {
+        let traits = command.traits();
+        if traits.is_request && self.drawers[place].is_attached() {
             let buffer = self.buffer.as_mut_slice();
             let drawer = &mut self.drawers[place];
             return drawer.serve_request(line, command, buffer);
         }
         let alloc = *self.drawers.allocator();
         let drawer = self.drawers.remove(place);
-        if takes_out(command) {
+        if traits.takes_out {
             return Reply::Done;
         }
         let buffer = self.buffer.as_mut_slice();
@@ -155,10 +154,10 @@ impl<D: Disk> Drawers<D> {
         self.buffer.as_slice()
     }
 
-    /// Flushes the disk of each attached or suspended drawer, in order, and answers how many flushes failed. All drawers are idle then.
+    /// Flushes the disk of each attached or suspended drawer, in order, and answers how many flushes failed. All
+    /// drawers are idle then.
     pub fn close(&mut self) -> u32
         ensures closing { Closing (drawers_of D.state self.old.drawers) result (drawers_of D.state self.new.drawers) }
-        ensures buffer { self.new.buffer ≡ self.old.buffer }
     {
         close_all(&mut self.drawers)
     }
@@ -184,44 +183,6 @@ impl<D: Disk> Drawers<D> {
     {
         let place = find(&self.drawers, name.as_bytes())?;
         self.drawers[place].events()
-    }
-}
-
-// Whether the command takes the drawer that it names out of the list.
-fn takes_out(command: &Command) -> bool
-    ensures { result ≡ takes_out command.now }
-{
-    matches!(command, Command::Eject { .. })
-}
-
-// Whether the command is a request for sectors, or a step of one, after which an attached drawer is attached.
-fn is_request(command: &Command) -> bool
-    ensures { result ≡ is_request command.now }
-{
-    match command {
-        Command::Read { .. }
-        | Command::Write { .. }
-        | Command::Flush { .. }
-        | Command::Fill { .. }
-        | Command::Sum { .. }
-        | Command::Submit { .. }
-        | Command::Step { .. }
-        | Command::Reap { .. } => true,
-        Command::List
-        | Command::Dump { .. }
-        | Command::Init { .. }
-        | Command::Attach { .. }
-        | Command::Detach { .. }
-        | Command::Setkey { .. }
-        | Command::Delkey { .. }
-        | Command::Kill { .. }
-        | Command::Backup { .. }
-        | Command::Restore { .. }
-        | Command::Resize { .. }
-        | Command::Eject { .. }
-        | Command::Suspend { .. }
-        | Command::Resume { .. }
-        | Command::Verify { .. } => false,
     }
 }
 

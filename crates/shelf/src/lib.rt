@@ -9,6 +9,7 @@ mod killing;
 mod new_provider;
 mod queueing;
 mod reading;
+mod replies;
 mod requests;
 mod resizing;
 mod restoring;

@@ -1,22 +1,16 @@
 //! Requests in flight on an attached provider: they are submitted, done step by step, and reaped.
 
-ghost use Rattle.std.specs.Prelude.{◌≡◌, ◌≤◌, ℕ, false, IfOk, IfSome, List, MatchResult, length};
+ghost use Rattle.std.specs.Prelude.{◌≡◌, ◌≤◌, ℕ, IfOk, IfSome, List, MatchResult, length};
 ghost use Rattle.block_traits.specs.Cabinet.{CabinetState};
 ghost use Rattle.block_traits.specs.Streams.{EntropyState};
 ghost use Rattle.command_words.specs.Bounds.{IsBoundedJob};
 ghost use Rattle.command_words.specs.Places.{IsWithin, JobIsWithin, bytes_at};
-ghost use Rattle.command_rows.specs.Gate.{job_writes};
 ghost use Rattle.command_rows.specs.Digits.{SpellsBytes};
 ghost use Rattle.command_rows.specs.Queueing.{HasRequest};
 ghost use Rattle.command_rows.specs.Requests.{bytes_given};
 ghost use Rattle.command_rows.specs.Steps.{or_refusal, request_limit};
-ghost use Rattle.command_rows.specs.World.{IsAttached, reach_of};
-ghost use Rattle.command_rows.specs.verbs.Reap.{ReapRow};
-ghost use Rattle.command_rows.specs.verbs.Step.{StepRow, step_refusal};
-ghost use Rattle.command_rows.specs.verbs.Submit.{SubmitRow, submit_refusal};
-ghost use Rattle.shelf.specs.Buffers.{gives_out};
 ghost use Rattle.shelf.specs.Queueing.{count_given};
-ghost use Rattle.shelf.specs.Shelved.{attachment_of};
+ghost use Rattle.shelf.specs.Shelved.{attachment_of, reach_on};
 
 use crate::requests::{REQUEST_LIMIT, decode};
 use bio_queue::{Job, Queue, ReapFault, Reaped, StepFault, SubmitFault, requests_meet_conditions};
@@ -79,8 +73,8 @@ fn submit_read<D: Disk>(
 ) -> Result<u8, Refusal>
     ensures { (line : List ℕ) (cabinet : CabinetState) (entropy : EntropyState) →
         SubmitRow line (JobWords.Read sector count) (attachment_of queue.old provider.old)
-        (reach_of (D.state provider.old.disk) (IsAttached (attachment_of queue.old provider.old)) cabinet entropy) result
-        (reach_of (D.state provider.new.disk) (IsAttached (attachment_of queue.new provider.new)) cabinet entropy) }
+        (reach_on D.state queue.old provider.old cabinet entropy) result
+        (reach_on D.state queue.new provider.new cabinet entropy) }
 {
     let sectorsize = provider.sector_size();
     let given = u64::from(count) * u64::from(sectorsize);
@@ -105,8 +99,8 @@ fn submit_write<D: Disk>(
     requires room { length buffer.old ≡ request_limit }
     ensures { (cabinet : CabinetState) (entropy : EntropyState) →
         SubmitRow line.now (JobWords.Write sector hex) (attachment_of queue.old provider.old)
-        (reach_of (D.state provider.old.disk) (IsAttached (attachment_of queue.old provider.old)) cabinet entropy) result
-        (reach_of (D.state provider.new.disk) (IsAttached (attachment_of queue.new provider.new)) cabinet entropy) }
+        (reach_on D.state queue.old provider.old cabinet entropy) result
+        (reach_on D.state queue.new provider.new cabinet entropy) }
 {
     let given = decode(hex.bytes_in(line), buffer);
     let sectorsize = provider.sector_size();
@@ -122,8 +116,8 @@ fn submit_write<D: Disk>(
 fn submit_flush<D: Disk>(provider: &mut Provider<D>, queue: &mut Queue) -> Result<u8, Refusal>
     ensures { (line : List ℕ) (cabinet : CabinetState) (entropy : EntropyState) →
         SubmitRow line JobWords.Flush (attachment_of queue.old provider.old)
-        (reach_of (D.state provider.old.disk) (IsAttached (attachment_of queue.old provider.old)) cabinet entropy) result
-        (reach_of (D.state provider.new.disk) (IsAttached (attachment_of queue.new provider.new)) cabinet entropy) }
+        (reach_on D.state queue.old provider.old cabinet entropy) result
+        (reach_on D.state queue.new provider.new cabinet entropy) }
 {
     submit_answer(queue.submit(provider, &Job::Flush, &[]))
 }
@@ -139,11 +133,10 @@ pub fn submit<D: Disk>(
     requires within { JobIsWithin (length line.now) job.now }
     requires bounds { IsBoundedJob line.now job.now }
     requires room { length buffer.old ≡ request_limit }
-    ensures row { (cabinet : CabinetState) (entropy : EntropyState) →
+    ensures { (cabinet : CabinetState) (entropy : EntropyState) →
         SubmitRow line.now job.now (attachment_of queue.old provider.old)
-        (reach_of (D.state provider.old.disk) (IsAttached (attachment_of queue.old provider.old)) cabinet entropy) result
-        (reach_of (D.state provider.new.disk) (IsAttached (attachment_of queue.new provider.new)) cabinet entropy) }
-    ensures buffer { job_writes job.now ≡ false → buffer.new ≡ buffer.old }
+        (reach_on D.state queue.old provider.old cabinet entropy) result
+        (reach_on D.state queue.new provider.new cabinet entropy) }
 {
     match *job {
         JobWords::Read { sector, count } => submit_read(provider, queue, sector, count),
@@ -158,7 +151,8 @@ pub fn submit<D: Disk>(
 fn check_request<D: Disk>(provider: &Provider<D>, queue: &Queue, tag: u8) -> Result<(), Refusal>
     ensures { MatchResult result
         (λ _. HasRequest (attachment_of queue.now provider.now) tag (D.state provider.now.disk))
-        (λ refusal. (refusal ≡ Refusal.NoRequest tag) × ¬ HasRequest (attachment_of queue.now provider.now) tag (D.state provider.now.disk)) }
+        (λ refusal. (refusal ≡ Refusal.NoRequest tag)
+        × ¬ HasRequest (attachment_of queue.now provider.now) tag (D.state provider.now.disk)) }
 {
     if queue.has_request(provider, tag) {
         Ok(())
@@ -172,8 +166,8 @@ fn check_request<D: Disk>(provider: &Provider<D>, queue: &Queue, tag: u8) -> Res
 pub fn step<D: Disk>(provider: &mut Provider<D>, queue: &mut Queue, tag: u8) -> Result<u64, Refusal>
     ensures { (cabinet : CabinetState) (entropy : EntropyState) →
         StepRow tag (attachment_of queue.old provider.old)
-        (reach_of (D.state provider.old.disk) (IsAttached (attachment_of queue.old provider.old)) cabinet entropy) result
-        (reach_of (D.state provider.new.disk) (IsAttached (attachment_of queue.new provider.new)) cabinet entropy) }
+        (reach_on D.state queue.old provider.old cabinet entropy) result
+        (reach_on D.state queue.new provider.new cabinet entropy) }
 {
     check_request(provider, queue, tag)?;
     requests_meet_conditions();
@@ -181,7 +175,7 @@ pub fn step<D: Disk>(provider: &mut Provider<D>, queue: &mut Queue, tag: u8) -> 
 }
 
 /// Takes out the open request with this tag, whose units are all done. The bytes of a read are put to the front of the
-/// buffer, and their number is answered. Only bytes that are given out, or refused, change the buffer.
+/// buffer, and their number is answered.
 pub fn reap<D: Disk>(
     provider: &mut Provider<D>,
     queue: &mut Queue,
@@ -191,10 +185,9 @@ pub fn reap<D: Disk>(
     requires { length buffer.old ≡ request_limit }
     ensures row { (cabinet : CabinetState) (entropy : EntropyState) →
         ReapRow tag (attachment_of queue.old provider.old)
-        (reach_of (D.state provider.old.disk) (IsAttached (attachment_of queue.old provider.old)) cabinet entropy) (bytes_given buffer.new result)
-        (reach_of (D.state provider.new.disk) (IsAttached (attachment_of queue.new provider.new)) cabinet entropy) }
+        (reach_on D.state queue.old provider.old cabinet entropy) (bytes_given buffer.new result)
+        (reach_on D.state queue.new provider.new cabinet entropy) }
     ensures bound { IfOk result (λ given. IfSome given (λ bytes. bytes ≤ request_limit)) }
-    ensures buffer { gives_out result ≡ false → buffer.new ≡ buffer.old }
 {
     check_request(provider, queue, tag)?;
     requests_meet_conditions();

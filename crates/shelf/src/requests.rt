@@ -9,8 +9,7 @@ ghost use Rattle.command_rows.specs.Digits.{SpellsBytes, bytes_spelled};
 ghost use Rattle.command_rows.specs.Requests.{bytes_read, read_answer, write_refusal};
 ghost use Rattle.command_rows.specs.Steps.{or_refusal, request_limit};
 ghost use Rattle.command_rows.specs.Turn.{ReadRow, WriteRow};
-ghost use Rattle.command_rows.specs.World.{IsAttached, reach_of};
-ghost use Rattle.shelf.specs.Shelved.{attachment_of};
+ghost use Rattle.shelf.specs.Shelved.{attachment_of, reach_on};
 ghost use Rattle.shelf.specs.Requests.{digit_value};
 
 use block_traits::{Disk, DiskFailed};
@@ -72,8 +71,8 @@ pub fn read<D: Disk>(
     requires { length buffer.old ≡ request_limit }
     ensures row { (queue : List Request) (cabinet : CabinetState) (entropy : EntropyState) →
         ReadRow sector count (attachment_of queue provider.old)
-        (reach_of (D.state provider.old.disk) (IsAttached (attachment_of queue provider.old)) cabinet entropy) (bytes_read buffer.new result)
-        (reach_of (D.state provider.new.disk) (IsAttached (attachment_of queue provider.new)) cabinet entropy) }
+        (reach_on D.state queue provider.old cabinet entropy) (bytes_read buffer.new result)
+        (reach_on D.state queue provider.new cabinet entropy) }
     ensures bound { IfOk result (λ bytes. bytes ≤ request_limit) }
 {
     let sectorsize = provider.sector_size();
@@ -96,8 +95,8 @@ pub fn write<D: Disk>(
     requires room { length buffer.old ≡ request_limit }
     ensures { (queue : List Request) (cabinet : CabinetState) (entropy : EntropyState) →
         WriteRow sector (bytes_spelled digits.now) (attachment_of queue provider.old)
-        (reach_of (D.state provider.old.disk) (IsAttached (attachment_of queue provider.old)) cabinet entropy) result
-        (reach_of (D.state provider.new.disk) (IsAttached (attachment_of queue provider.new)) cabinet entropy) }
+        (reach_on D.state queue provider.old cabinet entropy) result
+        (reach_on D.state queue provider.new cabinet entropy) }
 {
     let given = decode(digits, buffer);
     let sectorsize = provider.sector_size();
@@ -128,8 +127,8 @@ fn digit_value(digit: u8) -> u8
     digit % 16 + 9 * (digit / 64)
 }
 
-// Puts the bytes that digits spell into room for just as many. No digit is asked whether it is one, so that many are taken
-// together.
+// Puts the bytes that digits spell into room for just as many. No digit is asked whether it is one, so that many are
+// taken together.
 fn decode_into(digits: &[u8], out: &mut [u8])
     requires spelled { IsOk (decode_of digits.now) }
     requires room { length digits.now ≡ 2 * length out.old }

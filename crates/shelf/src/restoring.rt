@@ -12,7 +12,8 @@ use eli_base::Refusal;
 use key_components::{FILE_LIMIT, load_file};
 use std::alloc::Global;
 
-/// Writes the metadata of the file at a place of the line to the disk of an idle drawer; where the sizes differ only if forced.
+/// Writes the metadata of the file at a place of the line to the disk of an idle drawer; where the sizes differ only if
+/// forced.
 pub fn restore<D: Disk, C: Cabinet>(
     alloc: Global,
     disk: &mut D,

@@ -8,7 +8,7 @@ ghost use Rattle.command_rows.specs.World.{IsSuspended, reach_of};
 ghost use Rattle.command_rows.specs.verbs.Resume.{AttachesAgain, ResumeRow};
 ghost use Rattle.command_words.specs.Places.{KeyIsWithin};
 ghost use Rattle.shelf.specs.Resuming.{resume_refusal};
-ghost use Rattle.shelf.specs.Shelved.{disk_in, holding_of, kept_of};
+ghost use Rattle.shelf.specs.Shelved.{kept_of, reach_in};
 ghost use Rattle.shelf.specs.Trying.{IsTrial, tried_in};
 
 use crate::Held;
@@ -42,7 +42,7 @@ fn take_up<D: Disk>(
     ensures { (cabinet : CabinetState) (entropy : EntropyState) →
         GoesOn (AttachesAgain (kept_of suspended)) (tried_in None suspended.readonly trial.now)
         (reach_of (D.state suspended.disk) (IsSuspended (kept_of suspended)) cabinet entropy) result.1
-        (reach_of (disk_in D.state result.0) (holding_of result.0) cabinet entropy) }
+        (reach_in D.state result.0 cabinet entropy) }
 {
     let Trial { meta, params, key } = trial;
     let mut queue = queue;
@@ -60,8 +60,8 @@ fn take_up<D: Disk>(
     }
 }
 
-/// Attaches the provider of a suspended drawer again, with no request open on it, in the room of a queue that was kept. With
-/// each refusal it is suspended as before.
+/// Attaches the provider of a suspended drawer again, with no request open on it, in the room of a queue that was kept.
+/// With each refusal it is suspended as before.
 pub fn resume<D: Disk, C: Cabinet>(
     alloc: Global,
     suspended: Suspended<D>,
@@ -74,7 +74,7 @@ pub fn resume<D: Disk, C: Cabinet>(
     ensures { (entropy : EntropyState) →
         ResumeRow line.now words.now (kept_of suspended)
         (reach_of (D.state suspended.disk) (IsSuspended (kept_of suspended)) (C.state files.old) entropy) result.1
-        (reach_of (disk_in D.state result.0) (holding_of result.0) (C.state files.new) entropy) }
+        (reach_in D.state result.0 (C.state files.new) entropy) }
 {
     rest_tells_all::<D>();
     let mut suspended = suspended;

@@ -1,23 +1,32 @@
 //! `geli setkey`: a key is put into a slot of a provider (geli(8)).
 
-ghost use Rattle.std.specs.Prelude.{◌≡◌, ◌<◌, ◌^◌, ℕ, IfOk, IsOk, MatchResult, Ok, Err, length};
+ghost use Rattle.std.specs.Prelude.{◌≡◌, ◌<◌, ◌^◌, ℕ, IfOk, IsOk, List, MatchResult, Ok, Err, length};
+ghost use Rattle.bio_queue.specs.Requests.{Request};
 ghost use Rattle.block_traits.specs.Cabinet.{CabinetState};
 ghost use Rattle.block_traits.specs.Streams.{EntropyState};
-ghost use Rattle.command_words.specs.Places.{KeyIsWithin};
+ghost use Rattle.command_words.specs.Places.{CommandIsWithin, KeyIsWithin};
+ghost use Rattle.command_rows.specs.Answer.{answer_of};
+ghost use Rattle.command_rows.specs.Turn.{GoesThrough};
 ghost use Rattle.eli_metadata.specs.Checks.{settings_of, supported};
 ghost use Rattle.key_commands.specs.NewKey.{KeyChange};
-ghost use Rattle.command_rows.specs.World.{Holding, reach_of};
+ghost use Rattle.command_rows.specs.World.{Holding, Idle, reach_of};
 ghost use Rattle.command_rows.specs.verbs.Setkey.{SetkeyAttachedRow, SetkeyIdleRow, StoresKey, if_there, opened_by, usable};
+ghost use Rattle.reply_text.specs.Text.{FitsPayload};
+ghost use Rattle.shelf.specs.Shelved.{reach_in, reach_on};
+ghost use Rattle.shelf.specs.Verbs.{IsSetkey};
 ghost use Rattle.user_key.specs.Derivation.{user_key};
 
+use crate::Held;
 use crate::reading::read_last;
+use crate::replies::done_or;
 use crate::trying::admit;
-use block_traits::{Cabinet, MetaPlace};
-use command_words::KeyWords;
+use block_traits::{Cabinet, Disk, LastSector, MetaPlace};
+use command_words::{Command, KeyWords};
 use eli_base::{MasterKey, Params, Refusal};
 use eli_metadata::{Metadata, check, size_gate};
 use key_components::load_components;
-use provider::opened;
+use provider::{Provider, opened, rest_tells_all};
+use reply_text::Reply;
 use std::alloc::Global;
 use user_key::{Components, derive};
 
@@ -75,7 +84,8 @@ fn store_key<P: MetaPlace>(
     ensures stores { (holding : Holding) (cabinet : CabinetState) (entropy : EntropyState) →
         let asked : KeyChange =
         record { meta = meta.now; master = master.now.bytes; slot = slot; iterations = iterations; parts = parts.now } in
-        StoresKey asked (reach_of (P.state place.old) holding cabinet entropy) result (reach_of (P.state place.new) holding cabinet entropy) }
+        StoresKey asked (reach_of (P.state place.old) holding cabinet entropy) result
+        (reach_of (P.state place.new) holding cabinet entropy) }
     ensures rest { P.rest place.new ≡ P.rest place.old }
 {
     match key_commands::setkey(place, meta, master, slot, iterations, parts) {
@@ -84,9 +94,9 @@ fn store_key<P: MetaPlace>(
     }
 }
 
-/// Puts a new key into the named slot of an idle provider, or else into that which the old key opens. The files of both
-/// keys are loaded once the metadata are admitted.
-pub fn setkey_idle<P: MetaPlace, C: Cabinet>(
+// Puts a new key into the named slot of an idle provider, or else into that which the old key opens. The files of both
+// keys are loaded once the metadata are admitted.
+fn setkey_idle<P: MetaPlace, C: Cabinet>(
     alloc: Global,
     place: &mut P,
     line: &[u8],
@@ -114,8 +124,8 @@ pub fn setkey_idle<P: MetaPlace, C: Cabinet>(
     store_key(place, &meta, &master, target, iterations, &next)
 }
 
-/// Puts a new key into a slot of an attached provider, which has the master key. No file of an old key is loaded.
-pub fn setkey_attached<P: MetaPlace, C: Cabinet>(
+// Puts a new key into a slot of an attached provider, which has the master key. No file of an old key is loaded.
+fn setkey_attached<P: MetaPlace, C: Cabinet>(
     alloc: Global,
     place: &mut P,
     line: &[u8],
@@ -137,4 +147,85 @@ pub fn setkey_attached<P: MetaPlace, C: Cabinet>(
     needs_slot(Some(slot))?;
     let parts = load_components(alloc, line, fresh, files)?;
     store_key(place, &meta, master, slot, iterations, &parts)
+}
+
+/// Serves `setkey` on the disk of an idle drawer.
+pub fn serve_setkey_idle<D: Disk, C: Cabinet>(
+    alloc: Global,
+    disk: D,
+    line: &[u8],
+    command: &Command,
+    files: &mut C,
+) -> (Held<D>, Reply)
+    requires verb { IsSetkey command.now }
+    requires within { CommandIsWithin (length line.now) command.now }
+    ensures serves { (entropy : EntropyState) (bytes : List ℕ) → GoesThrough line.now command.now
+        (reach_of (D.state disk) Idle (C.state files.old) entropy) (answer_of bytes result.1)
+        (reach_in D.state result.0 (C.state files.new) entropy) }
+    ensures payload { FitsPayload 0 result.1 }
+{
+    match command {
+        Command::Setkey {
+            iterations,
+            slot,
+            old,
+            fresh,
+            ..
+        } => {
+            let mut place = LastSector::new(disk);
+            let answer = setkey_idle(
+                alloc,
+                &mut place,
+                line,
+                *iterations,
+                *slot,
+                old,
+                fresh,
+                files,
+            );
+            (Held::Idle(place.into_disk()), done_or(answer))
+        }
+        _ => unreachable!(),
+    }
+}
+
+/// Serves `setkey` on an attached drawer, which stays attached.
+pub fn serve_setkey_attached<D: Disk, C: Cabinet>(
+    alloc: Global,
+    provider: &mut Provider<D>,
+    line: &[u8],
+    command: &Command,
+    files: &mut C,
+) -> Reply
+    requires verb { IsSetkey command.now }
+    requires within { CommandIsWithin (length line.now) command.now }
+    ensures serves { (queue : List Request) (entropy : EntropyState) (bytes : List ℕ) → GoesThrough line.now command.now
+        (reach_on D.state queue provider.old (C.state files.old) entropy) (answer_of bytes result)
+        (reach_on D.state queue provider.new (C.state files.new) entropy) }
+    ensures payload { FitsPayload 0 result }
+{
+    rest_tells_all();
+    match command {
+        Command::Setkey {
+            iterations,
+            slot,
+            fresh,
+            ..
+        } => {
+            let master = provider.master();
+            let target = slot.unwrap_or(provider.slot());
+            let answer = setkey_attached(
+                alloc,
+                provider,
+                line,
+                *iterations,
+                target,
+                &master,
+                fresh,
+                files,
+            );
+            done_or(answer)
+        }
+        _ => unreachable!(),
+    }
 }

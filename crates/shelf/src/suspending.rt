@@ -2,9 +2,7 @@
 
 ghost use Rattle.block_traits.specs.Cabinet.{CabinetState};
 ghost use Rattle.block_traits.specs.Streams.{EntropyState};
-ghost use Rattle.command_rows.specs.World.{IsAttached, reach_of};
-ghost use Rattle.command_rows.specs.verbs.Suspend.{SuspendRow};
-ghost use Rattle.shelf.specs.Shelved.{attachment_of, disk_in, holding_of};
+ghost use Rattle.shelf.specs.Shelved.{attachment_of, reach_in, reach_on};
 
 use crate::Held;
 use crate::requests::flush_answer;
@@ -13,14 +11,15 @@ use block_traits::Disk;
 use eli_base::Refusal;
 use provider::Provider;
 use suspend::Suspended;
+ghost use Rattle.command_rows.specs.verbs.Suspend.{SuspendRow};
 
-/// Suspends the provider, also where the flush of its disk fails; it is refused while requests are open. The room of the
-/// queue is kept, so that to resume it needs no more.
+/// Suspends the provider, also where the flush of its disk fails; it is refused while requests are open. The room of
+/// the queue is kept, so that to resume it needs no more.
 pub fn suspend<D: Disk>(provider: Provider<D>, queue: Queue) -> (Held<D>, Result<(), Refusal>)
     ensures { (cabinet : CabinetState) (entropy : EntropyState) →
         SuspendRow (attachment_of queue provider)
-        (reach_of (D.state provider.disk) (IsAttached (attachment_of queue provider)) cabinet entropy) result.1
-        (reach_of (disk_in D.state result.0) (holding_of result.0) cabinet entropy) }
+        (reach_on D.state queue provider cabinet entropy) result.1
+        (reach_in D.state result.0 cabinet entropy) }
 {
     let count = queue.len();
     if count > 0 {

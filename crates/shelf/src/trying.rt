@@ -58,8 +58,8 @@ fn make_key(meta: &Metadata, parts: &Components) -> Result<UserKey, Refusal>
     }
 }
 
-/// Makes the key that is to be tried on the provider of an idle drawer, by the slot that is named or else by any. The files of
-/// the key are loaded once the metadata are admitted.
+/// Makes the key that is to be tried on the provider of an idle drawer, by the slot that is named or else by any. The
+/// files of the key are loaded once the metadata are admitted.
 pub fn prepare<P: MetaPlace, C: Cabinet>(
     alloc: Global,
     place: &mut P,

@@ -1,24 +1,31 @@
 //! `geli verify`: the units that fail are listed in parts, and the place where the next part begins stands in a file.
 
 ghost use Rattle.std.specs.Prelude.{◌≡◌, ◌*◌, ◌≤◌, List, Some, IfOk, true, length};
+ghost use Rattle.command_words.specs.Bounds.{IsBounded};
 ghost use Rattle.bio_queue.specs.Requests.{Request};
 ghost use Rattle.block_traits.specs.Cabinet.{CabinetState};
 ghost use Rattle.block_traits.specs.Disk.{DiskState};
 ghost use Rattle.block_traits.specs.Streams.{EntropyState};
-ghost use Rattle.command_words.specs.Places.{IsWithin};
+ghost use Rattle.command_words.specs.Places.{CommandIsWithin, IsWithin};
+ghost use Rattle.command_rows.specs.Answer.{answer_of};
+ghost use Rattle.command_rows.specs.Turn.{GoesThrough};
+ghost use Rattle.reply_text.specs.Text.{FitsPayload};
 ghost use Rattle.provider.specs.Attached.{has_tags};
 ghost use Rattle.command_rows.specs.Steps.{request_limit};
-ghost use Rattle.command_rows.specs.World.{Holding, IsAttached, reach_of};
+ghost use Rattle.command_rows.specs.World.{Holding, reach_of};
 ghost use Rattle.command_rows.specs.verbs.Verify.{FindsPlace, SweepsFrom, VerifyRow, place_in, place_size};
-ghost use Rattle.shelf.specs.Shelved.{attachment_of};
+ghost use Rattle.shelf.specs.Shelved.{attachment_of, reach_on};
+ghost use Rattle.shelf.specs.Verbs.{IsVerify};
 ghost use Rattle.shelf.specs.Verifying.{swept_part, without_file};
 
+use crate::replies::verified_or;
 use crate::saving::store_at;
 use block_traits::{Cabinet, Disk};
-use command_words::Span;
+use command_words::{Command, Span};
 use eli_base::Refusal;
 use key_components::load_file;
 use provider::Provider;
+use reply_text::Reply;
 use std::alloc::Global;
 use verify_sweep::{Swept, sweep};
 
@@ -82,9 +89,10 @@ fn sweep_from<D: Disk>(
     requires tagged { has_tags provider.old.keying.auth ≡ true }
     requires some { 1 ≤ count }
     requires room { length buffer.old ≡ request_limit }
-    ensures row { (queue : List Request) (cabinet : CabinetState) (entropy : EntropyState) → SweepsFrom (attachment_of queue provider.old) place count
-        (reach_of (D.state provider.old.disk) (IsAttached (attachment_of queue provider.old)) cabinet entropy) (swept_part buffer.new result)
-        (reach_of (D.state provider.new.disk) (IsAttached (attachment_of queue provider.new)) cabinet entropy) }
+    ensures row { (queue : List Request) (cabinet : CabinetState) (entropy : EntropyState) →
+        SweepsFrom (attachment_of queue provider.old) place count
+        (reach_on D.state queue provider.old cabinet entropy) (swept_part buffer.new result)
+        (reach_on D.state queue provider.new cabinet entropy) }
     ensures bound { IfOk result (λ swept. 8 * swept.bad ≤ request_limit) }
 {
     let media = provider.sectors();
@@ -97,9 +105,10 @@ fn sweep_from<D: Disk>(
     }
 }
 
-/// Lists the units that fail at the front of the buffer, over so many logical sectors or fewer, and stores where the next part begins in
-/// the file at a place of the line. It begins where that file says, and loads none where it begins anew.
-pub fn verify<D: Disk, C: Cabinet>(
+// Lists the units that fail at the front of the buffer, over so many logical sectors or fewer, and stores where the
+// next part begins in the file at a place of the line. It begins where that file says, and loads none where it begins
+// anew.
+fn verify<D: Disk, C: Cabinet>(
     alloc: Global,
     provider: &mut Provider<D>,
     line: &[u8],
@@ -112,9 +121,10 @@ pub fn verify<D: Disk, C: Cabinet>(
     requires within { IsWithin (length line.now) file }
     requires some { 1 ≤ count }
     requires room { length buffer.old ≡ request_limit }
-    ensures row { (queue : List Request) (entropy : EntropyState) → VerifyRow line.now file count restart (attachment_of queue provider.old)
-        (reach_of (D.state provider.old.disk) (IsAttached (attachment_of queue provider.old)) (C.state files.old) entropy) (swept_part buffer.new result)
-        (reach_of (D.state provider.new.disk) (IsAttached (attachment_of queue provider.new)) (C.state files.new) entropy) }
+    ensures row { (queue : List Request) (entropy : EntropyState) →
+        VerifyRow line.now file count restart (attachment_of queue provider.old)
+        (reach_on D.state queue provider.old (C.state files.old) entropy) (swept_part buffer.new result)
+        (reach_on D.state queue provider.new (C.state files.new) entropy) }
     ensures bound { IfOk result (λ swept. 8 * swept.bad ≤ request_limit) }
 {
     if !provider.authenticated() {
@@ -124,4 +134,38 @@ pub fn verify<D: Disk, C: Cabinet>(
     let swept = sweep_from(provider, place, count, buffer)?;
     store_at(alloc, line, file, &swept.next.to_le_bytes(), files)?;
     Ok(swept)
+}
+
+/// Serves `verify` on an attached drawer, which stays attached.
+pub fn serve_verify<D: Disk, C: Cabinet>(
+    alloc: Global,
+    provider: &mut Provider<D>,
+    line: &[u8],
+    command: &Command,
+    buffer: &mut [u8],
+    files: &mut C,
+) -> Reply
+    requires verb { IsVerify command.now }
+    requires within { CommandIsWithin (length line.now) command.now }
+    requires bounds { IsBounded line.now command.now }
+    requires room { length buffer.old ≡ request_limit }
+    ensures serves { (queue : List Request) (entropy : EntropyState) → GoesThrough line.now command.now
+        (reach_on D.state queue provider.old (C.state files.old) entropy) (answer_of buffer.new result)
+        (reach_on D.state queue provider.new (C.state files.new) entropy) }
+    ensures payload { FitsPayload request_limit result }
+{
+    match command {
+        Command::Verify {
+            file,
+            count,
+            restart,
+            ..
+        } => {
+            let answer = verify(
+                alloc, provider, line, *file, *count, *restart, buffer, files,
+            );
+            verified_or(answer)
+        }
+        _ => unreachable!(),
+    }
 }

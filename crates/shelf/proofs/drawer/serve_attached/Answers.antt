@@ -1,11 +1,7 @@
-use Rattle.std.proofs.Common.{◌∙◌, refl, ap, ℕ, Some}
-use Rattle.std.specs.Prelude.{unwrap_or}
-use Rattle.std.specs.Option.{option_or}
+use Rattle.std.proofs.Common.{refl}
 use Rattle.command_rows.specs.World.{IsAttached}
 use Rattle.shelf.specs.Shelved.{attachment_of}
-use Rattle.shelf.specs.Verifying.{swept_part}
-use Rattle.shelf.proofs.KeyRows.{delkey_attached_row, setkey_attached_row}
-use Rattle.shelf.proofs.PlaceRows.{backup_held_row, kill_held_row}
+use Rattle.shelf.proofs.PlaceRows.{backup_held_row, kill_held}
 use Rattle.shelf.proofs.Sectors.{flushed, kept_holding}
 use Rattle.shelf.proofs.drawer.serve_attached.Goals as goal
 
@@ -32,56 +28,32 @@ returns-in-Detach-clause-serves g c = rw c.in-Detach.is (record {
   replied = c.done_or-in-Detach.ensures.reply _;
 })
 
-pub returns-in-Setkey-clause-serves : goal.returns-in-Setkey-clause-serves
-returns-in-Setkey-clause-serves g c =
-    let now = c.setkey_attached-answer.new.place in
-    let then = c.args.provider in
-    let told = c.rest_tells_all-in-Setkey.ensures now.keying then.keying now.slot then.slot now.readonly then.readonly c.setkey_attached-answer.ensures.rest in
-    rw c.in-Setkey.is (record {
-      answer = c.setkey_attached-answer.result;
-      row = setkey_attached_row _ c.in-Setkey.iterations c.in-Setkey.slot _ _ _ _ _ _ _ _ _ _ _
-          (c.unwrap_or-target.ensures ∙ ap (λ (n : ℕ). unwrap_or c.in-Setkey.slot n) c.slot.ensures) c.master-master.ensures
-          (kept_holding c.args.queue then now (record { keying = told.0; slot = told.1; readonly = told.2 })) (c.setkey_attached-answer.ensures.row _ _);
-      replied = c.done_or.ensures.reply _;
-    })
-
-pub returns-in-Delkey-clause-serves : goal.returns-in-Delkey-clause-serves
-returns-in-Delkey-clause-serves g c =
-    let now = c.delkey-answer.new.place in
-    let then = c.args.provider in
-    let told = c.rest_tells_all-in-Delkey.ensures now.keying then.keying now.slot then.slot now.readonly then.readonly c.delkey-answer.ensures.rest in
-    rw c.in-Delkey.is (record {
-      answer = c.delkey-answer.result;
-      row = delkey_attached_row _ _ c.in-Delkey.slot _ _ _ _ _ _ _ _ _
-          (c.or-slot.ensures ∙ ap (λ (n : ℕ). option_or c.in-Delkey.slot (Some n)) c.slot-in-Delkey.ensures)
-          (kept_holding c.args.queue then now (record { keying = told.0; slot = told.1; readonly = told.2 })) (c.delkey-answer.ensures.row _ _);
-      replied = c.done_or-in-Delkey.ensures.reply _;
-    })
-
-pub returns-in-Kill-clause-serves : goal.returns-in-Kill-clause-serves
-returns-in-Kill-clause-serves g c = rw c.in-Kill.is (record {
-  answer = c.kill-answer.result;
-  row = kill_held_row g.D.Disk.state _ _ _ _ _ _ _ _ c.withdraw-disk.ensures (c.kill-answer.ensures (IsAttached (attachment_of c.args.queue c.args.provider)) _);
-  replied = c.done_or-in-Kill.ensures.reply _;
-})
-
 pub returns-in-Backup-clause-serves : goal.returns-in-Backup-clause-serves
 returns-in-Backup-clause-serves g c =
     let now = c.backup-answer.new.place in
     let then = c.args.provider in
-    let told = c.rest_tells_all-in-Backup.ensures now.keying then.keying now.slot then.slot now.readonly then.readonly c.backup-answer.ensures.rest in
+    let told = c.rest_tells_all.ensures now.keying then.keying now.slot then.slot now.readonly then.readonly c.backup-answer.ensures.rest in
     rw c.in-Backup.is (record {
       answer = c.backup-answer.result;
       row = backup_held_row _ _ _ _ _ _ _ _ _ _ (kept_holding c.args.queue then now (record { keying = told.0; slot = told.1; readonly = told.2 })) (c.backup-answer.ensures.row _ _);
-      replied = c.done_or-in-Backup.ensures.reply _;
+      replied = c.done_or.ensures.reply _;
     })
 
 pub returns-in-Suspend-clause-serves : goal.returns-in-Suspend-clause-serves
 returns-in-Suspend-clause-serves g c = rw c.in-Suspend.is (record { answer = c.suspend-held.result.1; row = c.suspend-held.ensures _ _; replied = c.done_or-in-Suspend.ensures.reply _ })
 
+pub returns-then-traits-clause-serves : goal.returns-then-traits-clause-serves
+returns-then-traits-clause-serves g c = c.serve_sectors-reply.ensures.serves _ _
+
+pub returns-in-Setkey-clause-serves : goal.returns-in-Setkey-clause-serves
+returns-in-Setkey-clause-serves g c = c.serve_setkey_attached-reply.ensures.serves c.args.queue _ _
+
+pub returns-in-Delkey-clause-serves : goal.returns-in-Delkey-clause-serves
+returns-in-Delkey-clause-serves g c = c.serve_delkey_attached-reply.ensures.serves c.args.queue _ _
+
+pub returns-in-Kill-clause-serves : goal.returns-in-Kill-clause-serves
+returns-in-Kill-clause-serves g c = rw c.in-Kill.is
+    (kill_held g.D.Disk.state _ _ _ _ _ _ _ c.withdraw.ensures (c.kill.ensures.serves (IsAttached (attachment_of c.args.queue c.args.provider)) _ _))
+
 pub returns-in-Verify-clause-serves : goal.returns-in-Verify-clause-serves
-returns-in-Verify-clause-serves g c = rw c.in-Verify.is (record {
-  answer = swept_part c.verify-answer.new.buffer c.verify-answer.result;
-  row = c.verify-answer.ensures.row c.args.queue _;
-  replied = c.verified_or.ensures.reply c.verify-answer.new.buffer;
-})
+returns-in-Verify-clause-serves g c = c.serve_verify-reply.ensures.serves c.args.queue _

@@ -46,7 +46,7 @@ pub returns-in-Sum-clause-serves : goal.returns-in-Sum-clause-serves
 returns-in-Sum-clause-serves g c = rw c.in-Sum.is (λ cabinet entropy. record { answer = c.sum-answer.result; row = c.sum-answer.ensures c.args.queue.now cabinet entropy; replied = c.digest_or.ensures.reply _ })
 
 pub returns-in-Submit-clause-serves : goal.returns-in-Submit-clause-serves
-returns-in-Submit-clause-serves g c = rw c.in-Submit.is (λ cabinet entropy. record { answer = c.submit-answer.result; row = c.submit-answer.ensures.row cabinet entropy; replied = c.tag_or.ensures.reply _ })
+returns-in-Submit-clause-serves g c = rw c.in-Submit.is (λ cabinet entropy. record { answer = c.submit-answer.result; row = c.submit-answer.ensures cabinet entropy; replied = c.tag_or.ensures.reply _ })
 
 pub returns-in-Step-clause-serves : goal.returns-in-Step-clause-serves
 returns-in-Step-clause-serves g c = rw c.in-Step.is (λ cabinet entropy. record { answer = c.step-answer.result; row = c.step-answer.ensures cabinet entropy; replied = c.left_or.ensures.reply _ })

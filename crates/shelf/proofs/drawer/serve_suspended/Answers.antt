@@ -1,7 +1,7 @@
 use Rattle.std.proofs.Common.{refl}
 use Rattle.command_rows.specs.World.{IsSuspended}
 use Rattle.shelf.specs.Shelved.{kept_of}
-use Rattle.shelf.proofs.PlaceRows.{backup_held_row, kill_held_row}
+use Rattle.shelf.proofs.PlaceRows.{backup_held_row, kill_held}
 use Rattle.shelf.proofs.Sectors.{flushed}
 use Rattle.shelf.proofs.Suspensions.{kept_suspension}
 use Rattle.shelf.proofs.drawer.serve_suspended.Goals as goal
@@ -18,11 +18,8 @@ returns-in-Dump-clause-serves g c =
     })
 
 pub returns-in-Kill-clause-serves : goal.returns-in-Kill-clause-serves
-returns-in-Kill-clause-serves g c = rw c.in-Kill.is (λ bytes. record {
-  answer = c.kill-answer.result;
-  row = kill_held_row g.D.Disk.state _ _ _ _ _ _ _ _ c.withdraw-disk.ensures (c.kill-answer.ensures (IsSuspended (kept_of c.args.suspended)) _);
-  replied = c.done_or.ensures.reply bytes;
-})
+returns-in-Kill-clause-serves g c = rw c.in-Kill.is (λ bytes.
+    kill_held g.D.Disk.state _ _ _ _ _ _ _ c.withdraw.ensures (c.kill.ensures.serves (IsSuspended (kept_of c.args.suspended)) _ bytes))
 
 pub returns-in-Backup-clause-serves : goal.returns-in-Backup-clause-serves
 returns-in-Backup-clause-serves g c =
@@ -32,7 +29,7 @@ returns-in-Backup-clause-serves g c =
     rw c.in-Backup.is (λ bytes. record {
       answer = c.backup-answer.result;
       row = backup_held_row _ _ _ _ _ _ _ _ _ _ (kept_suspension then now told.0 told.1 told.2 told.3 told.4) (c.backup-answer.ensures.row _ _);
-      replied = c.done_or-in-Backup.ensures.reply bytes;
+      replied = c.done_or.ensures.reply bytes;
     })
 
 pub returns-in-Detach-clause-serves : goal.returns-in-Detach-clause-serves

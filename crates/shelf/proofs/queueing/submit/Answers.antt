@@ -6,8 +6,8 @@ submit_write-requires-clause-spelled g c =
     let bounds = rw c.in-Write.is at c.requires.bounds in
     spelled _ bounds.1
 
-pub returns-in-Read-clause-row : goal.returns-in-Read-clause-row
-returns-in-Read-clause-row g c = rw c.in-Read.is (c.submit_read.ensures c.args.line.now)
+pub returns-in-Read : goal.returns-in-Read
+returns-in-Read g c = rw c.in-Read.is (c.submit_read.ensures c.args.line.now)
 
-pub returns-in-Flush-clause-row : goal.returns-in-Flush-clause-row
-returns-in-Flush-clause-row g c = rw c.in-Flush.is (c.submit_flush.ensures c.args.line.now)
+pub returns-in-Flush : goal.returns-in-Flush
+returns-in-Flush g c = rw c.in-Flush.is (c.submit_flush.ensures c.args.line.now)

@@ -14,6 +14,7 @@ pub mod Requests
 pub mod Run
 pub mod Script
 pub mod Served
+pub mod Sites
 pub mod Status
 pub mod Suspensions
 pub mod Survivors

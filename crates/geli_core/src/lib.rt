@@ -9,6 +9,7 @@ mod laws;
 mod line;
 mod requests;
 mod serving;
+mod site;
 mod status;
 mod survivors;
 mod top_call;

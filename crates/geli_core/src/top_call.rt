@@ -6,12 +6,12 @@ ghost use Rattle.shelf.specs.Shelved.{world_of};
 ghost use Rattle.geli_core.specs.Lawful.{RunsLawfully};
 ghost use Rattle.geli_core.specs.Script.{PrintsUsage, RunsLine, RunsScript};
 ghost use Rattle.geli_core.specs.Served.{RunsUnless, Traced, site_of, whole_of};
+ghost use Rattle.geli_core.specs.Sites.{BorrowsAsBefore, site_now};
 ghost use Rattle.block_traits.specs.Streams.{SourceState};
 
 use crate::Status;
-use crate::ending::{close_and_print, end_script};
-use crate::feeding::{LINE_LIMIT, feed_source};
-use crate::serving::serve_and_print;
+use crate::feeding::LINE_LIMIT;
+use crate::site::Site;
 use block_traits::{Cabinet, Disk, Entropy, Sink, Source};
 use command_words::{Sep, command_in, joined, script_images};
 use reply_text::write_text;
@@ -23,8 +23,8 @@ const USAGE: &[u8] = b"usage: geli script IMAGE... or geli VERB ...\n";
 /// Does what the words of the command line ask for, on the disks of the shelf, and prints what is answered.
 ///
 /// `script` and one to sixteen different names read lines from the input to its end, and each is served and its answer
-/// printed before the next. All other words are one command, and the input isn't read. At the end the drawers are closed,
-/// and a refusal is printed for each flush that failed. Where the words are neither, the usage line is printed.
+/// printed before the next. All other words are one command, and the input isn't read. At the end the drawers are
+/// closed, and a refusal is printed for each flush that failed. Where the words are neither, the usage line is printed.
 pub fn geli_main<S: Source, K: Sink, C: Cabinet, E: Entropy>(
     alloc: Global,
     words: &[String],
@@ -60,73 +60,54 @@ pub fn run<S: Source, K: Sink, C: Cabinet, E: Entropy, D: Disk>(
     // What is said of crashes rests on what is attached at entry, and what is said of counts on names that differ.
     shelf.hold_keyings();
     shelf.names_differ();
+    let mut site = Site {
+        shelf,
+        output,
+        files,
+        entropy,
+    };
     match script_images(words) {
-        Some(_) => run_script(alloc, input, output, files, entropy, shelf),
-        None => run_command(alloc, words, output, files, entropy, shelf),
+        Some(_) => site.run_script(alloc, input),
+        None => site.run_command(alloc, words),
     }
 }
 
-// Runs a script.
-fn run_script<S: Source, K: Sink, C: Cabinet, E: Entropy, D: Disk>(
-    alloc: Global,
-    input: &mut S,
-    output: &mut K,
-    files: &mut C,
-    entropy: &mut E,
-    shelf: &mut Drawers<D>,
-) -> Status
-    ensures { RunsUnless (Traced RunsScript)
-        (whole_of (site_of (world_of D.state shelf.old (C.state files.old) (E.state entropy.old)) (K.state output.old)) (S.state input.old)) result
-        (whole_of (site_of (world_of D.state shelf.new (C.state files.new) (E.state entropy.new)) (K.state output.new)) (S.state input.new)) }
-{
-    let Ok(mut line) = Vec::with_capacity(alloc, LINE_LIMIT) else {
-        return Status::NoMemory;
-    };
-    let mut refused = false;
-    let ending = feed_source(
-        input,
-        shelf,
-        &mut line,
-        &mut refused,
-        output,
-        files,
-        entropy,
-    );
-    end_script(
-        shelf,
-        ending,
-        line.as_slice(),
-        refused,
-        output,
-        files,
-        entropy,
-    )
-}
+impl<K: Sink, C: Cabinet, E: Entropy, D: Disk> Site<'_, K, C, E, D> {
+    // Runs a script.
+    fn run_script<S: Source>(&mut self, alloc: Global, input: &mut S) -> Status
+        ensures same { BorrowsAsBefore self.old self.new }
+        ensures runs { RunsUnless (Traced RunsScript)
+            (whole_of (site_now K.state C.state E.state D.state self.old) (S.state input.old)) result
+            (whole_of (site_now K.state C.state E.state D.state self.new) (S.state input.new)) }
+    {
+        let Ok(mut line) = Vec::with_capacity(alloc, LINE_LIMIT) else {
+            return Status::NoMemory;
+        };
+        let mut refused = false;
+        let ending = self.feed_source(input, &mut line, &mut refused);
+        self.end_script(ending, line.as_slice(), refused)
+    }
 
-// Runs one command.
-fn run_command<K: Sink, C: Cabinet, E: Entropy, D: Disk>(
-    alloc: Global,
-    words: &[String],
-    output: &mut K,
-    files: &mut C,
-    entropy: &mut E,
-    shelf: &mut Drawers<D>,
-) -> Status
-    ensures { (source : SourceState) → RunsUnless (Traced (RunsLine (line_of (map string_bytes words.now)) (command_in (line_of (map string_bytes words.now)))))
-        (whole_of (site_of (world_of D.state shelf.old (C.state files.old) (E.state entropy.old)) (K.state output.old)) source) result
-        (whole_of (site_of (world_of D.state shelf.new (C.state files.new) (E.state entropy.new)) (K.state output.new)) source) }
-{
-    let Ok(line) = joined(alloc, words) else {
-        return Status::NoMemory;
-    };
-    let Some(_command) = command_in(&line) else {
-        return print_usage(output);
-    };
-    match serve_and_print(shelf, &line, Sep::Zeros, output, files, entropy) {
-        Ok(end) => close_and_print(shelf, end.is_refusal(), output),
-        Err(_) => {
-            shelf.close();
-            Status::WriteFault
+    // Runs one command.
+    fn run_command(&mut self, alloc: Global, words: &[String]) -> Status
+        ensures same { BorrowsAsBefore self.old self.new }
+        ensures runs { (source : SourceState) →
+            RunsUnless (Traced (RunsLine (line_of (map string_bytes words.now)) (command_in (line_of (map string_bytes words.now)))))
+            (whole_of (site_now K.state C.state E.state D.state self.old) source) result
+            (whole_of (site_now K.state C.state E.state D.state self.new) source) }
+    {
+        let Ok(line) = joined(alloc, words) else {
+            return Status::NoMemory;
+        };
+        let Some(_command) = command_in(&line) else {
+            return print_usage(self.output);
+        };
+        match self.serve_and_print(&line, Sep::Zeros) {
+            Ok(end) => self.close_and_print(end.is_refusal()),
+            Err(_) => {
+                self.shelf.close();
+                Status::WriteFault
+            }
         }
     }
 }

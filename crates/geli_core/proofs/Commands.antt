@@ -27,7 +27,7 @@ commanded false read command h = absurd (let no : ⊥ = cc in no)
 commanded true (Ok found) command h = ap Ok h
 commanded true (Err usage) command h = absurd (let no : ⊥ = cc in no)
 
-says : (line : List ℕ) (command : Command) → command_in line ≡ Some command → reading Zeros line ≡ Ok (Some command)
+pub says : (line : List ℕ) (command : Command) → command_in line ≡ Some command → reading Zeros line ≡ Ok (Some command)
 says line command h = commanded (nat_le (length line) line_limit) (reading Zeros line) command h
 
 -- the line was served, and then the drawers were closed
@@ -84,11 +84,10 @@ ran line command old middle new source (Some answer) end status answered serves 
 -- the command was served, printed, and the drawers closed
 pub ran_command : (line : List ℕ) (command : Command) (old middle new : SiteState) (source : SourceState) (end : LineEnd) (refused : Bool) (status : Status) → command_in line ≡ Some command
     → ServesAndPrints Zeros line old.world old.sink (Ok end) middle.world middle.sink → refused ≡ is_refusal end → ClosesAndPrints refused middle status new
-    → RunsUnless (Traced (RunsLine line (command_in line))) (whole_of old source) status (whole_of new source)
+    → RunsUnless (Traced (RunsLine line (Some command))) (whole_of old source) status (whole_of new source)
 ran_command line command old middle new source end refused status is s same c =
-    subst (λ (o : Option Command). RunsUnless (Traced (RunsLine line o)) (whole_of old source) status (whole_of new source)) (sym is)
-    (ran line command old middle new source s.answer end status
-    (subst (λ (r : Result (Option Command) Usage). ServesReading r line old.world s.answer middle.world) (says line command is) s.serves) s.serves s.prints (subst (λ (b : Bool). ClosesAndPrints b middle status new) same c))
+    ran line command old middle new source s.answer end status
+    (subst (λ (r : Result (Option Command) Usage). ServesReading r line old.world s.answer middle.world) (says line command is) s.serves) s.serves s.prints (subst (λ (b : Bool). ClosesAndPrints b middle status new) same c)
 
 broke : (line : List ℕ) (command : Command) (old middle new : SiteState) (source : SourceState) (answer : Option Answer) (end : WriteEnd) (failed : ℕ) → ServesReading (Ok (Some command)) line old.world answer middle.world
     → ServesLine Zeros line old.world answer middle.world → PrintsAnswer answer old.sink (Err end) middle.sink → ClosesWorld middle.world failed new.world → new.sink ≡ middle.sink
@@ -101,11 +100,10 @@ broke line command old middle new source (Some answer) end failed answered serve
 -- the command was served, and its answer was not printed
 pub broke_command : (line : List ℕ) (command : Command) (old middle new : SiteState) (source : SourceState) (end : WriteEnd) (failed : ℕ) → command_in line ≡ Some command
     → ServesAndPrints Zeros line old.world old.sink (Err end) middle.world middle.sink → ClosesWorld middle.world failed new.world → new.sink ≡ middle.sink
-    → RunsUnless (Traced (RunsLine line (command_in line))) (whole_of old source) WriteFault (whole_of new source)
+    → RunsUnless (Traced (RunsLine line (Some command))) (whole_of old source) WriteFault (whole_of new source)
 broke_command line command old middle new source end failed is s closes same =
-    subst (λ (o : Option Command). RunsUnless (Traced (RunsLine line o)) (whole_of old source) WriteFault (whole_of new source)) (sym is)
-    (broke line command old middle new source s.answer end failed
-    (subst (λ (r : Result (Option Command) Usage). ServesReading r line old.world s.answer middle.world) (says line command is) s.serves) s.serves s.prints closes same)
+    broke line command old middle new source s.answer end failed
+    (subst (λ (r : Result (Option Command) Usage). ServesReading r line old.world s.answer middle.world) (says line command is) s.serves) s.serves s.prints closes same
 
 -- ---- nothing was done
 
@@ -113,15 +111,14 @@ abbrev no_trace : Trace
 no_trace = record { sep = Blanks; lines = []; closing = None }
 
 -- the usage line was printed
-pub declined : (words : List (List ℕ)) (old new : SiteState) (source : SourceState) (status : Status) → command_in (line_of words) ≡ None → new.world ≡ old.world → PrintsUsage old.sink status new.sink
-    → RunsUnless (Traced (RunsLine (line_of words) (command_in (line_of words)))) (whole_of old source) status (whole_of new source)
-declined words old new source status none same prints =
-    subst (λ (o : Option Command). RunsUnless (Traced (RunsLine (line_of words) o)) (whole_of old source) status (whole_of new source)) (sym none) (by status prints)
+pub declined : (line : List ℕ) (old new : SiteState) (source : SourceState) (status : Status) → new.world ≡ old.world → PrintsUsage old.sink status new.sink
+    → RunsUnless (Traced (RunsLine line None)) (whole_of old source) status (whole_of new source)
+declined line old new source status same prints = by status prints
   where
-    by_prints : (status : Status) → PrintsUsage old.sink status new.sink → Traced (RunsLine (line_of words) None) (whole_of old source) status (whole_of new source)
+    by_prints : (status : Status) → PrintsUsage old.sink status new.sink → Traced (RunsLine line None) (whole_of old source) status (whole_of new source)
     by_prints status prints = record { trace = no_trace; is_trace = record { served = tt; closes = same }; runs = record { nothing = (refl, refl); source = refl; prints = prints } }
 
-    by : (status : Status) → PrintsUsage old.sink status new.sink → RunsUnless (Traced (RunsLine (line_of words) None)) (whole_of old source) status (whole_of new source)
+    by : (status : Status) → PrintsUsage old.sink status new.sink → RunsUnless (Traced (RunsLine line None)) (whole_of old source) status (whole_of new source)
     by NoMemory prints = absurd prints
     by BadWords prints = by_prints BadWords prints
     by WriteFault prints = by_prints WriteFault prints
@@ -133,8 +130,15 @@ declined words old new source status none same prints =
 
 -- ---- the words
 
+-- what the words say as one line
+pub run_as_said : (words : List (List ℕ)) (line : List ℕ) (said : Option Command) (old new : Whole) (status : Status) → line ≡ line_of words → command_in (line_of words) ≡ said
+    → RunsUnless (Traced (RunsLine line said)) old status new → RunsUnless (Traced (RunsAs None words)) old status new
+run_as_said words line said old new status here is h =
+    subst (λ (o : Option Command). RunsUnless (Traced (RunsLine (line_of words) o)) old status new) (sym is)
+    (subst (λ (l : List ℕ). RunsUnless (Traced (RunsLine l said)) old status new) here h)
+
 -- there was no memory
-nothing_done : (words : List (List ℕ)) (old new : Whole) → new ≡ old → Traced (Runs words) old NoMemory new
+pub nothing_done : (words : List (List ℕ)) (old new : Whole) → new ≡ old → Traced (Runs words) old NoMemory new
 nothing_done words old new same = record { trace = no_trace; is_trace = record { served = tt; closes = ap (λ (w : Whole). w.world) same }; runs = ((refl, refl), same) }
 
 traced_as : (words : List (List ℕ)) (asks : Option (List (List ℕ))) (old new : Whole) (status : Status) → script_images words ≡ asks → ((trace : Trace) → RunsAs (script_images words) words old trace status new → Runs words old trace status new)

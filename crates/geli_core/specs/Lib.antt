@@ -20,3 +20,4 @@ pub mod Suspensions
 pub mod Survivors
 pub mod Sweeps
 pub mod Trace
+pub mod Words

@@ -73,7 +73,12 @@ impl<K: Sink, C: Cabinet, E: Entropy, D: Disk> Site<'_, K, C, E, D> {
     }
 
     /// Looks at the bytes of a piece, up to the first at which it stops.
-    fn feed_piece(&mut self, line: &mut Vec<u8>, piece: &[u8], refused: &mut bool) -> Result<(), Stop>
+    fn feed_piece(
+        &mut self,
+        line: &mut Vec<u8>,
+        piece: &[u8],
+        refused: &mut bool,
+    ) -> Result<(), Stop>
         requires room { line_limit ≤ vec_capacity line.old }
         requires short { vec_len line.old ≤ line_limit }
         requires small { length piece.now ≤ piece_size }

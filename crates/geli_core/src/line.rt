@@ -33,11 +33,6 @@ pub fn serve_line<K: Sink, C: Cabinet, E: Entropy, D: Disk>(
         (world_of D.state shelf.new (C.state files.new) (E.state entropy.new))
         (K.state output.new) }
 {
-    let mut site = Site {
-        shelf,
-        output,
-        files,
-        entropy,
-    };
+    let mut site = Site::new(shelf, output, files, entropy);
     site.serve_and_print(line, sep)
 }

@@ -1,6 +1,9 @@
 // One line is read, served and printed.
 ghost use Rattle.std.specs.Prelude.{◌≡◌, ◌≤◌, ◌||◌, ℕ, List, Some, length};
-ghost use Rattle.command_words.specs.Reading.{line_limit};
+ghost use Rattle.command_words.specs.Bounds.{IsBounded};
+ghost use Rattle.command_words.specs.Places.{CommandIsWithin};
+ghost use Rattle.command_words.specs.Reading.{line_limit, reading};
+ghost use Rattle.command_words.specs.declared.spans.Sep.{Sep};
 ghost use Rattle.reply_text.specs.Text.{FitsPayload};
 ghost use Rattle.command_rows.specs.Answer.{answer_of};
 ghost use Rattle.geli_core.specs.Run.{PrintsAnswer, ServesAndPrints, end_of, is_refusal};
@@ -8,7 +11,7 @@ ghost use Rattle.geli_core.specs.Sites.{BorrowsAsBefore, site_now};
 
 use crate::site::Site;
 use block_traits::{Cabinet, Disk, Entropy, Sink};
-use command_words::{Sep, read_line};
+use command_words::{Command, Sep, read_line};
 use eli_base::Refusal;
 use reply_text::{Reply, WriteEnd, write_reply};
 
@@ -91,10 +94,26 @@ impl<K: Sink, C: Cabinet, E: Entropy, D: Disk> Site<'_, K, C, E, D> {
                     self.output,
                 )
             }
-            Ok(Some(command)) => {
-                let reply = self.shelf.serve(line, &command, self.files, self.entropy);
-                print(&reply, self.shelf.payload(), self.output)
-            }
+            Ok(Some(command)) => self.serve_command(line, &command),
         }
+    }
+
+    /// Serves a command of this line, and prints its reply.
+    pub(crate) fn serve_command(
+        &mut self,
+        line: &[u8],
+        command: &Command,
+    ) -> Result<LineEnd, WriteEnd>
+        requires within { CommandIsWithin (length line.now) command.now }
+        requires bounds { IsBounded line.now command.now }
+        ensures same { BorrowsAsBefore self.old self.new }
+        ensures serves { (sep : Sep) → reading sep line.now ≡ Ok (Some command.now) → ServesAndPrints sep line.now
+            (site_now K.state C.state E.state D.state self.old).world
+            (site_now K.state C.state E.state D.state self.old).sink result
+            (site_now K.state C.state E.state D.state self.new).world
+            (site_now K.state C.state E.state D.state self.new).sink }
+    {
+        let reply = self.shelf.serve(line, command, self.files, self.entropy);
+        print(&reply, self.shelf.payload(), self.output)
     }
 }

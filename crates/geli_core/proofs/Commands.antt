@@ -111,14 +111,14 @@ abbrev no_trace : Trace
 no_trace = record { sep = Blanks; lines = []; closing = None }
 
 -- the usage line was printed
-pub declined : (line : List ℕ) (old new : SiteState) (source : SourceState) (status : Status) → new.world ≡ old.world → PrintsUsage old.sink status new.sink
-    → RunsUnless (Traced (RunsLine line None)) (whole_of old source) status (whole_of new source)
-declined line old new source status same prints = by status prints
+pub declined : (line : List ℕ) (old new : Whole) (status : Status) → new.world ≡ old.world → new.source ≡ old.source → PrintsUsage old.sink status new.sink
+    → RunsUnless (Traced (RunsLine line None)) old status new
+declined line old new status world source prints = by status prints
   where
-    by_prints : (status : Status) → PrintsUsage old.sink status new.sink → Traced (RunsLine line None) (whole_of old source) status (whole_of new source)
-    by_prints status prints = record { trace = no_trace; is_trace = record { served = tt; closes = same }; runs = record { nothing = (refl, refl); source = refl; prints = prints } }
+    by_prints : (status : Status) → PrintsUsage old.sink status new.sink → Traced (RunsLine line None) old status new
+    by_prints status prints = record { trace = no_trace; is_trace = record { served = tt; closes = world }; runs = record { nothing = (refl, refl); source = source; prints = prints } }
 
-    by : (status : Status) → PrintsUsage old.sink status new.sink → RunsUnless (Traced (RunsLine line None)) (whole_of old source) status (whole_of new source)
+    by : (status : Status) → PrintsUsage old.sink status new.sink → RunsUnless (Traced (RunsLine line None)) old status new
     by NoMemory prints = absurd prints
     by BadWords prints = by_prints BadWords prints
     by WriteFault prints = by_prints WriteFault prints

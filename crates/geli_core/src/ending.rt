@@ -81,8 +81,8 @@ fn serve_last<K: Sink, C: Cabinet, E: Entropy, D: Disk>(
     Ok(either(refused, end.is_refusal()))
 }
 
-/// Ends a script whose bytes were looked at so far: at the end of the input the last line is served, and the refusals of
-/// the closing are printed.
+/// Ends a script whose bytes were looked at so far: at the end of the input the last line is served, and the refusals
+/// of the closing are printed.
 pub(crate) fn end_script<K: Sink, C: Cabinet, E: Entropy, D: Disk>(
     shelf: &mut Drawers<D>,
     ending: Ending,

@@ -24,9 +24,9 @@ pub struct NotShelved<D: Drop> {
     pub rest: Vec<D>,
 }
 
-/// Puts disks on a shelf, the disk at a place under the name of that place, and does over it what the words of the command line ask for.
-/// The shelf comes back as the run left it. A shelf that doesn't take all of them is a refusal: the disks come back as they were, and nothing
-/// was read, printed, stored or drawn.
+/// Puts disks on a shelf, the disk at a place under the name of that place, and does over it what the words of the
+/// command line ask for. The shelf comes back as the run left it. A shelf that doesn't take all of them is a refusal:
+/// the disks come back as they were, and nothing was read, printed, stored or drawn.
 pub fn run_images<S: Source, K: Sink, C: Cabinet, E: Entropy>(
     alloc: Global,
     words: &[String],

@@ -23,8 +23,8 @@ const USAGE: &[u8] = b"usage: geli script IMAGE... or geli VERB ...\n";
 /// Does what the words of the command line ask for, on the disks of the shelf, and prints what is answered.
 ///
 /// `script` and one to sixteen different names read lines from the input to its end, and each is served and its answer
-/// printed before the next. All other words are one command, and the input isn't read. At the end the drawers are closed,
-/// and a refusal is printed for each flush that failed. Where the words are neither, the usage line is printed.
+/// printed before the next. All other words are one command, and the input isn't read. At the end the drawers are
+/// closed, and a refusal is printed for each flush that failed. Where the words are neither, the usage line is printed.
 pub fn geli_main<S: Source, K: Sink, C: Cabinet, E: Entropy>(
     alloc: Global,
     words: &[String],

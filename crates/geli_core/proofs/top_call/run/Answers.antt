@@ -1,9 +1,11 @@
 use Rattle.std.proofs.Common.{◌∙◌, None, ap, refl, rules}
+use Rattle.block_traits.specs.Streams.{SinkState}
 use Rattle.command_words.specs.Images.{line_of}
 use Rattle.command_words.specs.Reading.{command_in}
 use Rattle.geli_core.proofs.Commands.{declined, run_as_said, runs_as}
 use Rattle.geli_core.proofs.Lawful.{runs_lawfully}
 use Rattle.geli_core.specs.Images.{outside_of, whole_with}
+use Rattle.geli_core.specs.Script.{Whole}
 use Rattle.shelf.specs.Shelved.{drawers_of}
 use Rattle.geli_core.proofs.top_call.run.Goals as goal
 
@@ -30,7 +32,7 @@ returns-in-Usage-clause-runs g c = λ words says.
     let said = rw c.in-Usage.is at says in
     let now = c.new-site.ensures.now in
     let prints = rw now.1 at c.print_usage.ensures in
-    let whole = λ sink. whole_with (drawers_of g.D.Disk.state c.args.shelf.now.drawers)
+    let whole : SinkState → Whole = λ sink. whole_with (drawers_of g.D.Disk.state c.args.shelf.now.drawers)
         (outside_of (g.C.Cabinet.state c.args.outside.now.files.now) (g.E.Entropy.state c.args.outside.now.entropy.now) (g.S.Source.state c.args.outside.now.input.now) sink) in
     let printed = declined (line_of words) (whole (g.K.Sink.state c.args.outside.now.output.now)) (whole (g.K.Sink.state c.print_usage.new.output)) c.print_usage.result refl refl prints in
     let lawful = runs_lawfully words _ _ c.print_usage.result (runs_as words None _ _ c.print_usage.result said.0 (run_as_said words (line_of words) None _ _ c.print_usage.result refl said.1 printed))

@@ -16,7 +16,7 @@ use Rattle.geli_core.specs.Bounds.{CountsOutside, RisesNamed, RisesUntilOut, Ros
 use Rattle.geli_core.proofs.Bounding.{closes_with_failures}
 use Rattle.geli_core.proofs.Counting.{run_rises_or}
 use Rattle.geli_core.proofs.Drawn.{same_some}
-use Rattle.geli_core.proofs.Outside.{run_counts}
+use Rattle.geli_core.proofs.OutsideCounts.{run_counts}
 
 -- ---- drawers that are closed
 

@@ -14,7 +14,7 @@ use Rattle.reply_text.proofs.Printing.{TookAll-nothing, TookAll-then}
 use Rattle.shelf.specs.Closing.{ClosesWorld}
 use Rattle.geli_core.specs.Run.{PrintsAnswer, ServesAndPrints, ServesLine, ServesReading, answers_text, any_refused, closing_answers, end_of, is_refusal, refuses, text_of}
 use Rattle.geli_core.specs.Script.{EndsCommand, Prints, PrintsUsage, Runs, RunsAs, RunsCommand, RunsLine, Whole}
-use Rattle.geli_core.specs.Served.{ClosesAndPrints, RunsUnless, Site, Traced, status_by, whole_of}
+use Rattle.geli_core.specs.Served.{ClosesAndPrints, RunsUnless, SiteState, Traced, status_by, whole_of}
 use Rattle.geli_core.specs.Trace.{Trace}
 use Rattle.geli_core.specs.declared.serving.LineEnd.{LineEnd}
 use Rattle.geli_core.specs.declared.status.Status.{Status}
@@ -27,11 +27,11 @@ commanded false read command h = absurd (let no : ⊥ = cc in no)
 commanded true (Ok found) command h = ap Ok h
 commanded true (Err usage) command h = absurd (let no : ⊥ = cc in no)
 
-says : (line : List ℕ) (command : Command) → command_in line ≡ Some command → reading Zeros line ≡ Ok (Some command)
+pub says : (line : List ℕ) (command : Command) → command_in line ≡ Some command → reading Zeros line ≡ Ok (Some command)
 says line command h = commanded (nat_le (length line) line_limit) (reading Zeros line) command h
 
 -- the line was served, and then the drawers were closed
-one_traced : (line : List ℕ) (old middle new : Site) (source : SourceState) (status : Status) (answer : Answer) (failed : ℕ) → ServesLine Zeros line old.world (Some answer) middle.world → ClosesWorld middle.world failed new.world → EndsCommand status
+one_traced : (line : List ℕ) (old middle new : SiteState) (source : SourceState) (status : Status) (answer : Answer) (failed : ℕ) → ServesLine Zeros line old.world (Some answer) middle.world → ClosesWorld middle.world failed new.world → EndsCommand status
     → Prints (Some answer ∷ []) failed old.sink status new.sink → Traced (RunsCommand line) (whole_of old source) status (whole_of new source)
 one_traced line old middle new source status answer failed serves closes ended prints = record {
   trace = record { sep = Zeros; lines = served_line line (Some answer) middle.world ∷ []; closing = Some failed };
@@ -40,7 +40,7 @@ one_traced line old middle new source status answer failed serves closes ended p
 }
 
 -- all was printed
-one_whole : (line : List ℕ) (command : Command) (old middle new : Site) (source : SourceState) (answer : Answer) (failed : ℕ) (all : Bool) → ServesLine Zeros line old.world (Some answer) middle.world
+one_whole : (line : List ℕ) (command : Command) (old middle new : SiteState) (source : SourceState) (answer : Answer) (failed : ℕ) (all : Bool) → ServesLine Zeros line old.world (Some answer) middle.world
     → ClosesWorld middle.world failed new.world → (refuses (Some answer) || any_refused (closing_answers failed)) ≡ all → TookAll (text_of (Some answer)) old.sink middle.sink
     → TookAll (answers_text (closing_answers failed)) middle.sink new.sink → RunsUnless (Traced (RunsLine line (Some command))) (whole_of old source) (status_by all) (whole_of new source)
 one_whole line command old middle new source answer failed false serves closes is first second =
@@ -48,7 +48,7 @@ one_whole line command old middle new source answer failed false serves closes i
 one_whole line command old middle new source answer failed true serves closes is first second =
     one_traced line old middle new source SomeRefused answer failed serves closes tt (is, TookAll-then (text_of (Some answer)) (answers_text (closing_answers failed)) first second)
 
-one_by : (line : List ℕ) (command : Command) (old middle new : Site) (source : SourceState) (answer : Answer) (end : LineEnd) (failed : ℕ) (status : Status) → ServesLine Zeros line old.world (Some answer) middle.world
+one_by : (line : List ℕ) (command : Command) (old middle new : SiteState) (source : SourceState) (answer : Answer) (end : LineEnd) (failed : ℕ) (status : Status) → ServesLine Zeros line old.world (Some answer) middle.world
     → ClosesWorld middle.world failed new.world → end ≡ end_of (Some answer) → TookAll (text_of (Some answer)) old.sink middle.sink
     → (status ≡ status_by (is_refusal end || any_refused (closing_answers failed))) × TookAll (answers_text (closing_answers failed)) middle.sink new.sink
     → RunsUnless (Traced (RunsLine line (Some command))) (whole_of old source) status (whole_of new source)
@@ -58,7 +58,7 @@ one_by line command old middle new source answer end failed status serves closes
     subst (λ (s : Status). RunsUnless (Traced (RunsLine line (Some command))) (whole_of old source) s (whole_of new source)) (sym p.0)
     (one_whole line command old middle new source answer failed _ serves closes same first p.1)
 
-one_command : (line : List ℕ) (command : Command) (old middle new : Site) (source : SourceState) (answer : Answer) (end : LineEnd) (status : Status) → ServesLine Zeros line old.world (Some answer) middle.world
+one_command : (line : List ℕ) (command : Command) (old middle new : SiteState) (source : SourceState) (answer : Answer) (end : LineEnd) (status : Status) → ServesLine Zeros line old.world (Some answer) middle.world
     → end ≡ end_of (Some answer) → TookAll (text_of (Some answer)) old.sink middle.sink → (c : ClosesAndPrints (is_refusal end) middle status new)
     → RunsUnless (Traced (RunsLine line (Some command))) (whole_of old source) status (whole_of new source)
 one_command line command old middle new source answer end WriteFault serves is first c = one_traced line old middle new source WriteFault answer c.failed serves c.closes tt (inr (record {
@@ -75,22 +75,21 @@ one_command line command old middle new source answer end NoMemory serves is fir
 one_command line command old middle new source answer end LineTooLong serves is first c = one_by line command old middle new source answer end c.failed LineTooLong serves c.closes is first c.prints
 one_command line command old middle new source answer end ScriptTooLong serves is first c = one_by line command old middle new source answer end c.failed ScriptTooLong serves c.closes is first c.prints
 
-ran : (line : List ℕ) (command : Command) (old middle new : Site) (source : SourceState) (answer : Option Answer) (end : LineEnd) (status : Status) → ServesReading (Ok (Some command)) line old.world answer middle.world
+ran : (line : List ℕ) (command : Command) (old middle new : SiteState) (source : SourceState) (answer : Option Answer) (end : LineEnd) (status : Status) → ServesReading (Ok (Some command)) line old.world answer middle.world
     → ServesLine Zeros line old.world answer middle.world → PrintsAnswer answer old.sink (Ok end) middle.sink → ClosesAndPrints (is_refusal end) middle status new
     → RunsUnless (Traced (RunsLine line (Some command))) (whole_of old source) status (whole_of new source)
 ran line command old middle new source None end status answered serves prints c = absurd answered
 ran line command old middle new source (Some answer) end status answered serves prints c = one_command line command old middle new source answer end status serves prints.0 prints.1 c
 
 -- the command was served, printed, and the drawers closed
-pub ran_command : (line : List ℕ) (command : Command) (old middle new : Site) (source : SourceState) (end : LineEnd) (refused : Bool) (status : Status) → command_in line ≡ Some command
+pub ran_command : (line : List ℕ) (command : Command) (old middle new : SiteState) (source : SourceState) (end : LineEnd) (refused : Bool) (status : Status) → command_in line ≡ Some command
     → ServesAndPrints Zeros line old.world old.sink (Ok end) middle.world middle.sink → refused ≡ is_refusal end → ClosesAndPrints refused middle status new
-    → RunsUnless (Traced (RunsLine line (command_in line))) (whole_of old source) status (whole_of new source)
+    → RunsUnless (Traced (RunsLine line (Some command))) (whole_of old source) status (whole_of new source)
 ran_command line command old middle new source end refused status is s same c =
-    subst (λ (o : Option Command). RunsUnless (Traced (RunsLine line o)) (whole_of old source) status (whole_of new source)) (sym is)
-    (ran line command old middle new source s.answer end status
-    (subst (λ (r : Result (Option Command) Usage). ServesReading r line old.world s.answer middle.world) (says line command is) s.serves) s.serves s.prints (subst (λ (b : Bool). ClosesAndPrints b middle status new) same c))
+    ran line command old middle new source s.answer end status
+    (subst (λ (r : Result (Option Command) Usage). ServesReading r line old.world s.answer middle.world) (says line command is) s.serves) s.serves s.prints (subst (λ (b : Bool). ClosesAndPrints b middle status new) same c)
 
-broke : (line : List ℕ) (command : Command) (old middle new : Site) (source : SourceState) (answer : Option Answer) (end : WriteEnd) (failed : ℕ) → ServesReading (Ok (Some command)) line old.world answer middle.world
+broke : (line : List ℕ) (command : Command) (old middle new : SiteState) (source : SourceState) (answer : Option Answer) (end : WriteEnd) (failed : ℕ) → ServesReading (Ok (Some command)) line old.world answer middle.world
     → ServesLine Zeros line old.world answer middle.world → PrintsAnswer answer old.sink (Err end) middle.sink → ClosesWorld middle.world failed new.world → new.sink ≡ middle.sink
     → Traced (RunsCommand line) (whole_of old source) WriteFault (whole_of new source)
 broke line command old middle new source None end failed answered serves part closes same = absurd answered
@@ -99,13 +98,12 @@ broke line command old middle new source (Some answer) end failed answered serve
     one_traced line old middle new source WriteFault answer failed serves closes tt (inl (record { printed = []; last = answer; are = refl; middle = old.sink; before = TookAll-nothing old.sink; part = here }))
 
 -- the command was served, and its answer was not printed
-pub broke_command : (line : List ℕ) (command : Command) (old middle new : Site) (source : SourceState) (end : WriteEnd) (failed : ℕ) → command_in line ≡ Some command
+pub broke_command : (line : List ℕ) (command : Command) (old middle new : SiteState) (source : SourceState) (end : WriteEnd) (failed : ℕ) → command_in line ≡ Some command
     → ServesAndPrints Zeros line old.world old.sink (Err end) middle.world middle.sink → ClosesWorld middle.world failed new.world → new.sink ≡ middle.sink
-    → RunsUnless (Traced (RunsLine line (command_in line))) (whole_of old source) WriteFault (whole_of new source)
+    → RunsUnless (Traced (RunsLine line (Some command))) (whole_of old source) WriteFault (whole_of new source)
 broke_command line command old middle new source end failed is s closes same =
-    subst (λ (o : Option Command). RunsUnless (Traced (RunsLine line o)) (whole_of old source) WriteFault (whole_of new source)) (sym is)
-    (broke line command old middle new source s.answer end failed
-    (subst (λ (r : Result (Option Command) Usage). ServesReading r line old.world s.answer middle.world) (says line command is) s.serves) s.serves s.prints closes same)
+    broke line command old middle new source s.answer end failed
+    (subst (λ (r : Result (Option Command) Usage). ServesReading r line old.world s.answer middle.world) (says line command is) s.serves) s.serves s.prints closes same
 
 -- ---- nothing was done
 
@@ -113,15 +111,14 @@ abbrev no_trace : Trace
 no_trace = record { sep = Blanks; lines = []; closing = None }
 
 -- the usage line was printed
-pub declined : (words : List (List ℕ)) (old new : Site) (source : SourceState) (status : Status) → command_in (line_of words) ≡ None → new.world ≡ old.world → PrintsUsage old.sink status new.sink
-    → RunsUnless (Traced (RunsLine (line_of words) (command_in (line_of words)))) (whole_of old source) status (whole_of new source)
-declined words old new source status none same prints =
-    subst (λ (o : Option Command). RunsUnless (Traced (RunsLine (line_of words) o)) (whole_of old source) status (whole_of new source)) (sym none) (by status prints)
+pub declined : (line : List ℕ) (old new : Whole) (status : Status) → new.world ≡ old.world → new.source ≡ old.source → PrintsUsage old.sink status new.sink
+    → RunsUnless (Traced (RunsLine line None)) old status new
+declined line old new status world source prints = by status prints
   where
-    by_prints : (status : Status) → PrintsUsage old.sink status new.sink → Traced (RunsLine (line_of words) None) (whole_of old source) status (whole_of new source)
-    by_prints status prints = record { trace = no_trace; is_trace = record { served = tt; closes = same }; runs = record { nothing = (refl, refl); source = refl; prints = prints } }
+    by_prints : (status : Status) → PrintsUsage old.sink status new.sink → Traced (RunsLine line None) old status new
+    by_prints status prints = record { trace = no_trace; is_trace = record { served = tt; closes = world }; runs = record { nothing = (refl, refl); source = source; prints = prints } }
 
-    by : (status : Status) → PrintsUsage old.sink status new.sink → RunsUnless (Traced (RunsLine (line_of words) None)) (whole_of old source) status (whole_of new source)
+    by : (status : Status) → PrintsUsage old.sink status new.sink → RunsUnless (Traced (RunsLine line None)) old status new
     by NoMemory prints = absurd prints
     by BadWords prints = by_prints BadWords prints
     by WriteFault prints = by_prints WriteFault prints
@@ -133,8 +130,15 @@ declined words old new source status none same prints =
 
 -- ---- the words
 
+-- what the words say as one line
+pub run_as_said : (words : List (List ℕ)) (line : List ℕ) (said : Option Command) (old new : Whole) (status : Status) → line ≡ line_of words → command_in (line_of words) ≡ said
+    → RunsUnless (Traced (RunsLine line said)) old status new → RunsUnless (Traced (RunsAs None words)) old status new
+run_as_said words line said old new status here is h =
+    subst (λ (o : Option Command). RunsUnless (Traced (RunsLine (line_of words) o)) old status new) (sym is)
+    (subst (λ (l : List ℕ). RunsUnless (Traced (RunsLine l said)) old status new) here h)
+
 -- there was no memory
-nothing_done : (words : List (List ℕ)) (old new : Whole) → new ≡ old → Traced (Runs words) old NoMemory new
+pub nothing_done : (words : List (List ℕ)) (old new : Whole) → new ≡ old → Traced (Runs words) old NoMemory new
 nothing_done words old new same = record { trace = no_trace; is_trace = record { served = tt; closes = ap (λ (w : Whole). w.world) same }; runs = ((refl, refl), same) }
 
 traced_as : (words : List (List ℕ)) (asks : Option (List (List ℕ))) (old new : Whole) (status : Status) → script_images words ≡ asks → ((trace : Trace) → RunsAs (script_images words) words old trace status new → Runs words old trace status new)

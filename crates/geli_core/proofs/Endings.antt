@@ -23,7 +23,7 @@ use Rattle.geli_core.specs.Lines.{CutsInto, last_line}
 use Rattle.geli_core.specs.Run.{FailsInLast, ServesAndPrints, ServesLine, answers_text, any_refused, closing_answers, is_refusal, refuses, text_of}
 use Rattle.geli_core.specs.Script.{MetEnd, MetNothing, MetRefusal, RunsScript, script_limit}
 use Rattle.command_rows.specs.World.{World}
-use Rattle.geli_core.specs.Served.{ClosesAndPrints, IsAllServed, IsAllUnprinted, IsServed, IsTaken, PrintsClosing, ServesAll, ServesLines, Site, StopsWithin, Traced, status_by, whole_of}
+use Rattle.geli_core.specs.Served.{ClosesAndPrints, IsAllServed, IsAllUnprinted, IsServed, IsTaken, PrintsClosing, ServesAll, ServesLines, SiteState, StopsWithin, Traced, status_by, whole_of}
 use Rattle.geli_core.specs.Trace.{Run, ServedLine, Trace, answers_of, lines_of}
 use Rattle.std.specs.List.{AllByRecursion}
 use Rattle.geli_core.specs.declared.feeding.Stop.TheVariants.{TooLong, Unprinted}
@@ -38,7 +38,7 @@ last_line-some (b ∷ bs) some = refl
 
 -- ---- the last line
 
-pub all_served-none : (bytes : List ℕ) (old new : Site) (rest : List ℕ) (refused : Bool) → rest ≡ [] → IsServed bytes old rest refused new → IsAllServed bytes old refused new
+pub all_served-none : (bytes : List ℕ) (old new : SiteState) (rest : List ℕ) (refused : Bool) → rest ≡ [] → IsServed bytes old rest refused new → IsAllServed bytes old refused new
 all_served-none bytes old new rest refused none h = record {
   serves = record {
     lines = lines_of h.serves.served;
@@ -53,7 +53,7 @@ all_served-none bytes old new rest refused none h = record {
   any = h.any;
 }
 
-serves_last : (bytes : List ℕ) (old middle new : Site) (line : List ℕ) (h : ServesLines bytes old line middle) (answer : Option Answer) → 1 ≤ length line → length line ≤ line_limit
+serves_last : (bytes : List ℕ) (old middle new : SiteState) (line : List ℕ) (h : ServesLines bytes old line middle) (answer : Option Answer) → 1 ≤ length line → length line ≤ line_limit
     → ServesLine Blanks line middle.world answer new.world → ServesAll bytes old new
 serves_last bytes old middle new line h answer some short serves =
     let l : ServedLine = served_line line answer new.world in
@@ -68,7 +68,7 @@ serves_last bytes old middle new line h answer some short serves =
       run = Run-more Blanks old.world middle.world h.served l h.run serves;
     }
 
-pub all_served-line : (bytes : List ℕ) (old middle new : Site) (line : List ℕ) (refused : Bool) (end : LineEnd) → 1 ≤ length line → length line ≤ line_limit → IsServed bytes old line refused middle
+pub all_served-line : (bytes : List ℕ) (old middle new : SiteState) (line : List ℕ) (refused : Bool) (end : LineEnd) → 1 ≤ length line → length line ≤ line_limit → IsServed bytes old line refused middle
     → ServesAndPrints Blanks line middle.world middle.sink (Ok end) new.world new.sink → IsAllServed bytes old (refused || is_refusal end) new
 unfolding serves_last
 all_served-line bytes old middle new line refused end some short h s = record {
@@ -78,7 +78,7 @@ all_served-line bytes old middle new line refused end some short h s = record {
   any = ap any_refused (answers_of-more h.serves.served (served_line line s.answer new.world)) ∙ refused_more (answers_of h.serves.served) s.answer refused end middle.sink new.sink h.any s.prints;
 }
 
-pub all_unprinted-line : (bytes : List ℕ) (old middle new : Site) (line : List ℕ) (refused : Bool) (failed : WriteEnd) → 1 ≤ length line → length line ≤ line_limit → IsServed bytes old line refused middle
+pub all_unprinted-line : (bytes : List ℕ) (old middle new : SiteState) (line : List ℕ) (refused : Bool) (failed : WriteEnd) → 1 ≤ length line → length line ≤ line_limit → IsServed bytes old line refused middle
     → ServesAndPrints Blanks line middle.world middle.sink (Err failed) new.world new.sink → IsAllUnprinted bytes old new
 unfolding serves_last
 all_unprinted-line bytes old middle new line refused failed some short h s = record {
@@ -102,7 +102,7 @@ any_all said failed refused was = list_any-append refuses said (closing_answers 
 abbrev script_trace : List ServedLine → ℕ → Trace
 script_trace served failed = record { sep = Blanks; lines = served; closing = Some failed }
 
-traced : (old middle new : Site) (source after : SourceState) (status : Status) (served : List ServedLine) (failed : ℕ) → Run Blanks old.world served middle.world → ClosesWorld middle.world failed new.world
+traced : (old middle new : SiteState) (source after : SourceState) (status : Status) (served : List ServedLine) (failed : ℕ) → Run Blanks old.world served middle.world → ClosesWorld middle.world failed new.world
     → RunsScript (whole_of old source) (script_trace served failed) status (whole_of new after) → Traced RunsScript (whole_of old source) status (whole_of new after)
 traced old middle new source after status served failed run closes runs = record {
   trace = script_trace served failed;
@@ -111,7 +111,7 @@ traced old middle new source after status served failed run closes runs = record
 }
 
 -- all was printed
-ended_by : (bytes : List ℕ) (old middle new : Site) (source after : SourceState) (h : ServesAll bytes old middle) (failed : ℕ) (all : Bool) → length bytes < script_limit → IsAtEnd after.left → MetEnd source after
+ended_by : (bytes : List ℕ) (old middle new : SiteState) (source after : SourceState) (h : ServesAll bytes old middle) (failed : ℕ) (all : Bool) → length bytes < script_limit → IsAtEnd after.left → MetEnd source after
     → source.left ≡ prepend_known bytes after.left → ClosesWorld middle.world failed new.world → any_refused (answers_of h.served ++ closing_answers failed) ≡ all
     → TookAll (answers_text (answers_of h.served ++ closing_answers failed)) old.sink new.sink → Traced RunsScript (whole_of old source) (status_by all) (whole_of new after)
 ended_by bytes old middle new source after h failed false small end met gave closes refused took = traced old middle new source after Done h.served failed h.run closes (record {
@@ -141,7 +141,7 @@ ended_by bytes old middle new source after h failed true small end met gave clos
   prints = (refused, took);
 })
 
-ended_whole : (bytes : List ℕ) (old middle new : Site) (source after : SourceState) (refused : Bool) (failed : ℕ) (status : Status) → IsAllServed bytes old refused middle → length bytes < script_limit → IsAtEnd after.left → MetEnd source after
+ended_whole : (bytes : List ℕ) (old middle new : SiteState) (source after : SourceState) (refused : Bool) (failed : ℕ) (status : Status) → IsAllServed bytes old refused middle → length bytes < script_limit → IsAtEnd after.left → MetEnd source after
     → source.left ≡ prepend_known bytes after.left → ClosesWorld middle.world failed new.world
     → (status ≡ status_by (refused || any_refused (closing_answers failed))) × TookAll (answers_text (closing_answers failed)) middle.sink new.sink
     → Traced RunsScript (whole_of old source) status (whole_of new after)
@@ -152,7 +152,7 @@ ended_whole bytes old middle new source after refused failed status h small end 
     subst (λ (s : Status). Traced RunsScript (whole_of old source) s (whole_of new after)) (sym p.0)
     (ended_by bytes old middle new source after h.serves failed all small end met gave closes (any_all (answers_of h.serves.served) failed refused h.any) took)
 
-ended_part : (bytes : List ℕ) (old middle new : Site) (source after : SourceState) (refused : Bool) (failed : ℕ) → IsAllServed bytes old refused middle → length bytes < script_limit → IsAtEnd after.left → MetEnd source after
+ended_part : (bytes : List ℕ) (old middle new : SiteState) (source after : SourceState) (refused : Bool) (failed : ℕ) → IsAllServed bytes old refused middle → length bytes < script_limit → IsAtEnd after.left → MetEnd source after
     → source.left ≡ prepend_known bytes after.left → ClosesWorld middle.world failed new.world → (1 ≤ failed) × TookPart (answers_text (closing_answers failed)) middle.sink new.sink
     → Traced RunsScript (whole_of old source) WriteFault (whole_of new after)
 ended_part bytes old middle new source after refused failed h small end met gave closes p = traced old middle new source after WriteFault h.serves.served failed h.serves.run closes (record {
@@ -169,7 +169,7 @@ ended_part bytes old middle new source after refused failed h small end met gave
   prints = inr (record { some = p.0; middle = middle.sink; before = h.printed; part = p.1 });
 })
 
-pub ended_script : (bytes : List ℕ) (old middle new : Site) (source after : SourceState) (refused : Bool) (status : Status) → IsAllServed bytes old refused middle → length bytes < script_limit → IsAtEnd after.left → MetEnd source after
+pub ended_script : (bytes : List ℕ) (old middle new : SiteState) (source after : SourceState) (refused : Bool) (status : Status) → IsAllServed bytes old refused middle → length bytes < script_limit → IsAtEnd after.left → MetEnd source after
     → source.left ≡ prepend_known bytes after.left → (c : ClosesAndPrints refused middle status new) → Traced RunsScript (whole_of old source) status (whole_of new after)
 ended_script bytes old middle new source after refused WriteFault h small end met gave c = ended_part bytes old middle new source after refused c.failed h small end met gave c.closes c.prints
 ended_script bytes old middle new source after refused Done h small end met gave c = ended_whole bytes old middle new source after refused c.failed Done h small end met gave c.closes c.prints
@@ -181,7 +181,7 @@ ended_script bytes old middle new source after refused LineTooLong h small end m
 ended_script bytes old middle new source after refused ScriptTooLong h small end met gave c = ended_whole bytes old middle new source after refused c.failed ScriptTooLong h small end met gave c.closes c.prints
 
 -- the last line was not printed
-pub ended_unprinted : (bytes : List ℕ) (old middle new : Site) (source after : SourceState) (failed : ℕ) → IsAllUnprinted bytes old middle → length bytes < script_limit → IsAtEnd after.left → MetEnd source after
+pub ended_unprinted : (bytes : List ℕ) (old middle new : SiteState) (source after : SourceState) (failed : ℕ) → IsAllUnprinted bytes old middle → length bytes < script_limit → IsAtEnd after.left → MetEnd source after
     → source.left ≡ prepend_known bytes after.left → ClosesWorld middle.world failed new.world → new.sink ≡ middle.sink → Traced RunsScript (whole_of old source) WriteFault (whole_of new after)
 ended_unprinted bytes old middle new source after failed h small end met gave closes same = traced old middle new source after WriteFault h.serves.served failed h.serves.run closes (record {
   sep = refl;
@@ -198,7 +198,7 @@ ended_unprinted bytes old middle new source after failed h small end met gave cl
 })
 
 -- the source failed
-pub ended_failed : (bytes : List ℕ) (old middle new : Site) (source after : SourceState) (rest : List ℕ) (refused : Bool) (failed : ℕ) → IsTaken bytes old source rest refused middle after → length bytes < script_limit → Rose source.faults after.faults → MetRefusal source after
+pub ended_failed : (bytes : List ℕ) (old middle new : SiteState) (source after : SourceState) (rest : List ℕ) (refused : Bool) (failed : ℕ) → IsTaken bytes old source rest refused middle after → length bytes < script_limit → Rose source.faults after.faults → MetRefusal source after
     → ClosesWorld middle.world failed new.world → new.sink ≡ middle.sink → Traced RunsScript (whole_of old source) ReadFault (whole_of new after)
 ended_failed bytes old middle new source after rest refused failed h small rose met closes same = traced old middle new source after ReadFault h.served.serves.served failed h.served.serves.run closes (record {
   sep = refl;
@@ -215,7 +215,7 @@ ended_failed bytes old middle new source after rest refused failed h small rose 
 })
 
 -- the limit was reached
-pub ended_full : (bytes : List ℕ) (old middle new : Site) (source after : SourceState) (rest : List ℕ) (refused : Bool) (failed : ℕ) → IsTaken bytes old source rest refused middle after → length bytes ≡ script_limit → MetNothing source after
+pub ended_full : (bytes : List ℕ) (old middle new : SiteState) (source after : SourceState) (rest : List ℕ) (refused : Bool) (failed : ℕ) → IsTaken bytes old source rest refused middle after → length bytes ≡ script_limit → MetNothing source after
     → ClosesWorld middle.world failed new.world → new.sink ≡ middle.sink → Traced RunsScript (whole_of old source) ScriptTooLong (whole_of new after)
 ended_full bytes old middle new source after rest refused failed h full met closes same = traced old middle new source after ScriptTooLong h.served.serves.served failed h.served.serves.run closes (record {
   sep = refl;
@@ -232,7 +232,7 @@ ended_full bytes old middle new source after rest refused failed h full met clos
 })
 
 -- a line was too long
-pub ended_long : (bytes : List ℕ) (old middle new : Site) (source after : SourceState) (failed : ℕ) → StopsWithin bytes old TooLong middle → length bytes ≤ script_limit → source.left ≡ prepend_known bytes after.left → MetNothing source after
+pub ended_long : (bytes : List ℕ) (old middle new : SiteState) (source after : SourceState) (failed : ℕ) → StopsWithin bytes old TooLong middle → length bytes ≤ script_limit → source.left ≡ prepend_known bytes after.left → MetNothing source after
     → ClosesWorld middle.world failed new.world → new.sink ≡ middle.sink → Traced RunsScript (whole_of old source) LineTooLong (whole_of new after)
 ended_long bytes old middle new source after failed h limit gave met closes same = traced old middle new source after LineTooLong h.stops.served.serves.served failed h.stops.served.serves.run closes (record {
   sep = refl;
@@ -249,7 +249,7 @@ ended_long bytes old middle new source after failed h limit gave met closes same
 })
 
 -- an answer was not printed
-pub ended_broken : (bytes : List ℕ) (old middle new : Site) (source after : SourceState) (failed : ℕ) → StopsWithin bytes old Unprinted middle → length bytes ≤ script_limit → source.left ≡ prepend_known bytes after.left → MetNothing source after
+pub ended_broken : (bytes : List ℕ) (old middle new : SiteState) (source after : SourceState) (failed : ℕ) → StopsWithin bytes old Unprinted middle → length bytes ≤ script_limit → source.left ≡ prepend_known bytes after.left → MetNothing source after
     → ClosesWorld middle.world failed new.world → new.sink ≡ middle.sink → Traced RunsScript (whole_of old source) WriteFault (whole_of new after)
 ended_broken bytes old middle new source after failed h limit gave met closes same =
     let failed_last = subst (λ (s : SinkState). FailsInLast (answers_of h.stops.serves.served) old.sink s) (sym same) h.stops.printed in

@@ -10,12 +10,13 @@ pub mod ImageNames
 pub mod Keyings
 pub mod Lawful
 pub mod LineLaws
-pub mod Outside
+pub mod OutsideCounts
 pub mod Bounded
 pub mod Pieces
 pub mod Placing
 pub mod ReadsBack
 pub mod Running
+pub mod Said
 pub mod Shelving
 pub mod SlotKeys
 pub mod Suspensions

@@ -2,7 +2,7 @@
 use Rattle.std.proofs.Common.{◌≡◌, ◌∙◌, ℕ, ◌+◌, ◌≤◌, ◌<◌, List, [], ◌∷◌, ◌++◌, length, take, drop, get_or, refl, ap, sym, subst, arith, length-drop, append_assoc, Option, None, Some}
 use Rattle.std.proofs.lemmas.List.{take-append-drop, take_more}
 use Rattle.std.specs.Io.KnownBytes.{prepend_known}
-use Rattle.geli_core.specs.Served.{IsServed, IsTaken, Site, StopsBy, StopsWithin}
+use Rattle.geli_core.specs.Served.{IsServed, IsTaken, SiteState, StopsBy, StopsWithin}
 use Rattle.command_words.specs.Reading.{line_limit}
 use Rattle.geli_core.specs.Script.{MetEnd, MetNothing, MetRefusal, piece_size}
 use Rattle.block_traits.specs.Causes.{Counted}
@@ -24,7 +24,7 @@ pub piece_more : (bytes piece : List ℕ) (n : ℕ) → n < length piece → byt
 piece_more bytes piece n small = ap (λ (l : List ℕ). bytes ++ l) (take_more piece n 0 small) ∙ sym (append_assoc bytes (take n piece) (get_or piece n 0 ∷ []))
 
 -- it stopped at a byte of a piece
-pub stops_at : (bytes piece : List ℕ) (n : ℕ) (old new : Site) (stop : Stop) → length piece ≤ piece_size → n < length piece → StopsBy ((bytes ++ take n piece) ++ get_or piece n 0 ∷ []) old stop new
+pub stops_at : (bytes piece : List ℕ) (n : ℕ) (old new : SiteState) (stop : Stop) → length piece ≤ piece_size → n < length piece → StopsBy ((bytes ++ take n piece) ++ get_or piece n 0 ∷ []) old stop new
     → StopsWithin (bytes ++ piece) old stop new
 stops_at bytes piece n old new stop few small stops = record {
   read = bytes ++ take (n + 1) piece;
@@ -35,7 +35,7 @@ stops_at bytes piece n old new stop few small stops = record {
 }
 
 -- a piece was taken, and its bytes were looked at
-pub IsTaken-piece : (bytes piece : List ℕ) (old middle new : Site) (start before after : SourceState) (rest rest' : List ℕ) (refused refused' : Bool) → IsTaken bytes old start rest refused middle before
+pub IsTaken-piece : (bytes piece : List ℕ) (old middle new : SiteState) (start before after : SourceState) (rest rest' : List ℕ) (refused refused' : Bool) → IsTaken bytes old start rest refused middle before
     → before.left ≡ prepend_known piece after.left → before.faults ≤ after.faults → length rest' ≤ line_limit → IsServed (bytes ++ piece) old rest' refused' new → IsTaken (bytes ++ piece) old start rest' refused' new after
 IsTaken-piece bytes piece old middle new start before after rest rest' refused refused' taken gave later short served = record {
   served = served;

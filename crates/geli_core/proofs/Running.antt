@@ -23,7 +23,7 @@ use Rattle.geli_core.specs.Trace.{Run, ServedLine, answers_of, lines_of}
 use Rattle.geli_core.specs.Run.{FailsInLast, PrintsAnswer, ServesAndPrints, ServesLine, ServesReading, answers_text, any_refused, end_of, is_refusal, refuses, text_of}
 use Rattle.geli_core.specs.declared.serving.LineEnd.{LineEnd}
 use Rattle.geli_core.specs.declared.serving.LineEnd.TheVariants.{Silent}
-use Rattle.geli_core.specs.Served.{IsServed, IsTooLong, IsUnprinted, ServesLines, Site}
+use Rattle.geli_core.specs.Served.{IsServed, IsTooLong, IsUnprinted, ServesLines, SiteState}
 
 -- a run goes on by a line
 pub Run-more : (sep : Sep) (old middle : World) (lines : List ServedLine) (l : ServedLine) → Run sep old lines middle → ServesLine sep l.line middle l.answer l.next → Run sep old (lines ++ l ∷ []) l.next
@@ -67,7 +67,7 @@ refuses-end (Some (answers.Left left)) = refl
 refuses-end (Some (answers.Verified offsets next)) = refl
 
 -- nothing was looked at
-pub IsServed-nothing : (site : Site) → IsServed [] site [] false site
+pub IsServed-nothing : (site : SiteState) → IsServed [] site [] false site
 IsServed-nothing site = record {
   serves = record { served = []; cut = record { whole = refl; each = tt; behind = tt }; short = tt; run = (tt, refl) };
   printed = TookAll-nothing site.sink;
@@ -75,7 +75,7 @@ IsServed-nothing site = record {
 }
 
 -- one more byte of a line
-pub IsServed-byte : (bytes : List ℕ) (old new : Site) (rest : List ℕ) (refused : Bool) (b : ℕ) → b ≢ newline → IsServed bytes old rest refused new
+pub IsServed-byte : (bytes : List ℕ) (old new : SiteState) (rest : List ℕ) (refused : Bool) (b : ℕ) → b ≢ newline → IsServed bytes old rest refused new
     → IsServed (bytes ++ b ∷ []) old (rest ++ b ∷ []) refused new
 IsServed-byte bytes old new rest refused b other h = record {
   serves = record {
@@ -106,7 +106,7 @@ abbrev pub served_line : List ℕ → Option Answer → World → ServedLine
 served_line line answer next = record { line = line; answer = answer; next = next }
 
 -- was served
-ServesLines-line : (bytes : List ℕ) (old middle new : Site) (line : List ℕ) (h : ServesLines bytes old line middle) (answer : Option Answer) → length line ≤ line_limit
+ServesLines-line : (bytes : List ℕ) (old middle new : SiteState) (line : List ℕ) (h : ServesLines bytes old line middle) (answer : Option Answer) → length line ≤ line_limit
     → ServesLine Blanks line middle.world answer new.world → ServesLines (bytes ++ newline ∷ []) old [] new
 ServesLines-line bytes old middle new line h answer short serves =
     let l : ServedLine = served_line line answer new.world in
@@ -143,7 +143,7 @@ refused_more said answer refused end middle new was is =
     any-more refuses said answer ∙ ap (λ (b : Bool). b || refuses answer) was
     ∙ ap (λ (b : Bool). refused || b) (refuses-end answer ∙ ap is_refusal (sym (ends_by answer end middle new is)))
 
-pub IsServed-line : (bytes : List ℕ) (old middle new : Site) (line : List ℕ) (refused : Bool) (end : LineEnd) → length line ≤ line_limit → IsServed bytes old line refused middle
+pub IsServed-line : (bytes : List ℕ) (old middle new : SiteState) (line : List ℕ) (refused : Bool) (end : LineEnd) → length line ≤ line_limit → IsServed bytes old line refused middle
     → ServesAndPrints Blanks line middle.world middle.sink (Ok end) new.world new.sink → IsServed (bytes ++ newline ∷ []) old [] (refused || is_refusal end) new
 unfolding ServesLines-line
 IsServed-line bytes old middle new line refused end short h s = record {
@@ -153,7 +153,7 @@ IsServed-line bytes old middle new line refused end short h s = record {
   any = ap any_refused (answers_of-more h.serves.served (served_line line s.answer new.world)) ∙ refused_more (answers_of h.serves.served) s.answer refused end middle.sink new.sink h.any s.prints;
 }
 
-pub IsUnprinted-line : (bytes : List ℕ) (old middle new : Site) (line : List ℕ) (refused : Bool) (failed : WriteEnd) → length line ≤ line_limit → IsServed bytes old line refused middle
+pub IsUnprinted-line : (bytes : List ℕ) (old middle new : SiteState) (line : List ℕ) (refused : Bool) (failed : WriteEnd) → length line ≤ line_limit → IsServed bytes old line refused middle
     → ServesAndPrints Blanks line middle.world middle.sink (Err failed) new.world new.sink → IsUnprinted (bytes ++ newline ∷ []) old new
 unfolding ServesLines-line
 IsUnprinted-line bytes old middle new line refused failed short h s = record {
@@ -162,7 +162,7 @@ IsUnprinted-line bytes old middle new line refused failed short h s = record {
       (failed_more (answers_of h.serves.served) s.answer failed old.sink middle.sink new.sink h.printed s.prints);
 }
 
-pub IsTooLong-byte : (bytes : List ℕ) (old new : Site) (rest : List ℕ) (refused : Bool) (b : ℕ) → b ≢ newline → length rest ≡ line_limit → IsServed bytes old rest refused new
+pub IsTooLong-byte : (bytes : List ℕ) (old new : SiteState) (rest : List ℕ) (refused : Bool) (b : ℕ) → b ≢ newline → length rest ≡ line_limit → IsServed bytes old rest refused new
     → IsTooLong (bytes ++ b ∷ []) old new
 IsTooLong-byte bytes old new rest refused b other full h = record {
   rest = rest ++ b ∷ [];

@@ -8,7 +8,7 @@ use Rattle.std.specs.Str.{bytes_eq}
 use Rattle.std.proofs.lemmas.Slice.Eq.{bytes_eq-Decides}
 use Rattle.block_traits.specs.Disk.{DiskState}
 use Rattle.command_rows.specs.World.{DrawerState, Idle, NamesDiffer, place_of}
-use Rattle.geli_core.specs.Images.{IsNotShelved, Outside, RunsOver, disks_of, idle_drawers, whole_with}
+use Rattle.geli_core.specs.Images.{IsNotShelved, OutsideState, RunsOver, disks_of, idle_drawers, whole_with}
 use Rattle.geli_core.specs.Lawful.{RunsLawfully}
 use Rattle.geli_core.specs.declared.status.Status.{Status}
 use Rattle.shelf.specs.Adding.{RefusesToAdd}
@@ -111,7 +111,7 @@ not_shelved Taken before drawer rest all is refuses = λ differ.
 not_shelved NoMemory before drawer rest all is refuses = tt
 
 -- the run from these drawers on, to those that are left
-pub runs_over : (words names : List (List ℕ)) (disks : List DiskState) (old : Outside) (status : Status) (left : List DrawerState) (new : Outside) (before : List DrawerState) → before ≡ idle_drawers names disks
+pub runs_over : (words names : List (List ℕ)) (disks : List DiskState) (old : OutsideState) (status : Status) (left : List DrawerState) (new : OutsideState) (before : List DrawerState) → before ≡ idle_drawers names disks
     → NamesDiffer (idle_drawers names disks) → RunsLawfully words (whole_with before old) status (whole_with left new) → RunsOver words names disks old status left new
 runs_over words names disks old status left new before is differ lawful =
     record { differ = differ; lawful = subst (λ (drawers : List DrawerState). RunsLawfully words (whole_with drawers old) status (whole_with left new)) is lawful }

@@ -6,7 +6,7 @@ use Rattle.std.specs.List.{AllByRecursion, flat_map}
 use Rattle.memchr.specs.Find.{IsFirstByte, is_byte}
 use Rattle.geli_core.specs.Lines.{IsOneLine, ended, newline}
 use Rattle.geli_core.specs.Trace.{lines_of}
-use Rattle.geli_core.specs.Served.{IsServed, Site}
+use Rattle.geli_core.specs.Served.{IsServed, SiteState}
 
 all_append : {X : Type 0} (P : X → Type 0) (xs ys : List X) → AllByRecursion P xs → AllByRecursion P ys → AllByRecursion P (xs ++ ys)
 all_append P [] ys all more = more
@@ -24,7 +24,7 @@ one_line (suc n) (b ∷ bytes) other =
     (other 0 (omega arith) (omega arith), one_line n bytes (λ k small short. other (suc k) (omega (arith, small)) (omega (arith, short))))
 
 -- a text without a newline is more of the line
-IsServed-text : (bytes : List ℕ) (old new : Site) (rest text : List ℕ) (refused : Bool) → IsOneLine text → IsServed bytes old rest refused new
+IsServed-text : (bytes : List ℕ) (old new : SiteState) (rest text : List ℕ) (refused : Bool) → IsOneLine text → IsServed bytes old rest refused new
     → IsServed (bytes ++ text) old (rest ++ text) refused new
 IsServed-text bytes old new rest text refused one h = record {
   serves = record {
@@ -48,7 +48,7 @@ take_twice (suc n) (suc m) [] fits = refl
 take_twice (suc n) (suc m) (x ∷ xs) fits = ap (λ (l : List ℕ). x ∷ l) (take_twice n m xs (omega (arith, fits)))
 
 -- the first bytes of the part of a piece before its first newline
-pub IsServed-part : (bytes piece : List ℕ) (place taken : ℕ) (part : List ℕ) (old new : Site) (rest : List ℕ) (refused : Bool)
+pub IsServed-part : (bytes piece : List ℕ) (place taken : ℕ) (part : List ℕ) (old new : SiteState) (rest : List ℕ) (refused : Bool)
     → IsOneLine part → part ≡ take (length part) (take (length piece - place) (drop place piece)) → taken ≤ length part
     → IsServed (bytes ++ take place piece) old rest refused new → IsServed (bytes ++ take (place + taken) piece) old (rest ++ take taken part) refused new
 IsServed-part bytes piece place taken part old new rest refused one cut fits h =

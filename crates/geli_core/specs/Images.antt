@@ -19,17 +19,17 @@ idle_drawers (name ∷ names) (disk ∷ disks) = record { name = name; disk = di
 idle_drawers names disks = []
 
 -- what a run reaches besides drawers
-pub record Outside : Type 0 where
+pub record OutsideState : Type 0 where
   pub cabinet : CabinetState
   pub entropy : EntropyState
   pub source : SourceState
   pub sink : SinkState
 
-abbrev pub outside_of : CabinetState → EntropyState → SourceState → SinkState → Outside
+abbrev pub outside_of : CabinetState → EntropyState → SourceState → SinkState → OutsideState
 outside_of cabinet entropy source sink = record { cabinet = cabinet; entropy = entropy; source = source; sink = sink }
 
 -- all that a run may change, with these drawers
-abbrev pub whole_with : List DrawerState → Outside → Whole
+abbrev pub whole_with : List DrawerState → OutsideState → Whole
 whole_with drawers outside = record {
   world = record { drawers = drawers; cabinet = outside.cabinet; entropy = outside.entropy };
   source = outside.source;
@@ -62,6 +62,6 @@ disks_back state refused = disks_on state refused.shelf ++ (one_or_none state re
 
 -- A run of the words over disks under names: at first there is a drawer for each name, in order, in which the disk of that place lies idle, and
 -- there is no other, nor one with the same name; of the run from these drawers to those that are left at last holds all that is said of runs.
-pub record RunsOver (words names : List (List ℕ)) (disks : List DiskState) (old : Outside) (status : Status) (left : List DrawerState) (new : Outside) : Type 0 where
+pub record RunsOver (words names : List (List ℕ)) (disks : List DiskState) (old : OutsideState) (status : Status) (left : List DrawerState) (new : OutsideState) : Type 0 where
   pub differ : NamesDiffer (idle_drawers names disks)
   pub lawful : RunsLawfully words (whole_with (idle_drawers names disks) old) status (whole_with left new)

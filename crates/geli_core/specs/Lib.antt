@@ -14,8 +14,10 @@ pub mod Requests
 pub mod Run
 pub mod Script
 pub mod Served
+pub mod Sites
 pub mod Status
 pub mod Suspensions
 pub mod Survivors
 pub mod Sweeps
 pub mod Trace
+pub mod Words

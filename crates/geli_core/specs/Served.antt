@@ -21,50 +21,50 @@ use Rattle.geli_core.specs.declared.feeding.Stop.{Stop}
 use Rattle.geli_core.specs.declared.feeding.Stop.TheVariants.{TooLong, Unprinted}
 
 -- what a script works on
-pub record Site : Type 0 where
+pub record SiteState : Type 0 where
   pub world : World
   pub sink : SinkState
 
-abbrev pub site_of : World → SinkState → Site
+abbrev pub site_of : World → SinkState → SiteState
 site_of world sink = record { world = world; sink = sink }
 
 -- the whole lines of these bytes were served, and nothing else
-pub record ServesLines (bytes : List ℕ) (old : Site) (rest : List ℕ) (new : Site) : Type 0 where
+pub record ServesLines (bytes : List ℕ) (old : SiteState) (rest : List ℕ) (new : SiteState) : Type 0 where
   pub served : List ServedLine
   pub cut : CutsInto bytes (lines_of served) rest
   pub short : AllByRecursion (λ line. length line ≤ line_limit) (lines_of served)
   pub run : Run Blanks old.world served new.world
 
 -- they were printed, and something was refused among them or not
-pub record IsServed (bytes : List ℕ) (old : Site) (rest : List ℕ) (refused : Bool) (new : Site) : Type 0 where
+pub record IsServed (bytes : List ℕ) (old : SiteState) (rest : List ℕ) (refused : Bool) (new : SiteState) : Type 0 where
   pub serves : ServesLines bytes old rest new
   pub printed : TookAll (answers_text (answers_of serves.served)) old.sink new.sink
   pub any : any_refused (answers_of serves.served) ≡ refused
 
 -- they were served, and the sink failed while they were printed
-pub record IsUnprinted (bytes : List ℕ) (old : Site) (new : Site) : Type 0 where
+pub record IsUnprinted (bytes : List ℕ) (old : SiteState) (new : SiteState) : Type 0 where
   pub serves : ServesLines bytes old [] new
   pub printed : FailsInLast (answers_of serves.served) old.sink new.sink
 
 -- the last of these bytes makes a line too long
-pub record IsTooLong (bytes : List ℕ) (old : Site) (new : Site) : Type 0 where
+pub record IsTooLong (bytes : List ℕ) (old : SiteState) (new : SiteState) : Type 0 where
   pub rest : List ℕ
   pub refused : Bool
   pub served : IsServed bytes old rest refused new
   pub long : length rest ≡ line_limit + 1
 
 -- why no more bytes are looked at
-abbrev pub StopsBy : List ℕ → Site → Stop → Site → Type 0
+abbrev pub StopsBy : List ℕ → SiteState → Stop → SiteState → Type 0
 StopsBy bytes old TooLong new = IsTooLong bytes old new
 StopsBy bytes old Unprinted new = IsUnprinted bytes old new
 
 -- one more byte was looked at
-abbrev pub FeedsByte : List ℕ → Site → Result (Unit {0}) Stop → List ℕ → Bool → Site → Type 0
+abbrev pub FeedsByte : List ℕ → SiteState → Result (Unit {0}) Stop → List ℕ → Bool → SiteState → Type 0
 FeedsByte bytes old (Ok done) rest refused new = IsServed bytes old rest refused new
 FeedsByte bytes old (Err stop) rest refused new = StopsBy bytes old stop new
 
 -- some of the bytes were looked at, and then it stopped
-pub record StopsWithin (bytes : List ℕ) (old : Site) (stop : Stop) (new : Site) : Type 0 where
+pub record StopsWithin (bytes : List ℕ) (old : SiteState) (stop : Stop) (new : SiteState) : Type 0 where
   pub read : List ℕ
   pub unread : List ℕ
   pub whole : bytes ≡ read ++ unread
@@ -72,34 +72,34 @@ pub record StopsWithin (bytes : List ℕ) (old : Site) (stop : Stop) (new : Site
   pub stops : StopsBy read old stop new
 
 -- a piece was looked at
-abbrev pub FeedsPiece : List ℕ → Site → Result (Unit {0}) Stop → List ℕ → Bool → Site → Type 0
+abbrev pub FeedsPiece : List ℕ → SiteState → Result (Unit {0}) Stop → List ℕ → Bool → SiteState → Type 0
 FeedsPiece bytes old (Ok done) rest refused new = IsServed bytes old rest refused new
 FeedsPiece bytes old (Err stop) rest refused new = StopsWithin bytes old stop new
 
 -- ---- the whole input
 
 -- these bytes of the source were looked at
-pub record IsTaken (bytes : List ℕ) (old : Site) (source : SourceState) (rest : List ℕ) (refused : Bool) (new : Site) (after : SourceState) : Type 0 where
+pub record IsTaken (bytes : List ℕ) (old : SiteState) (source : SourceState) (rest : List ℕ) (refused : Bool) (new : SiteState) (after : SourceState) : Type 0 where
   pub served : IsServed bytes old rest refused new
   pub gave : source.left ≡ prepend_known bytes after.left
   pub faults : source.faults ≤ after.faults
   pub short : length rest ≤ line_limit
 
 -- the input was looked at up to its end, up to a failure, or up to the limit; or it stopped before
-abbrev pub FeedsUpTo : List ℕ → Site → SourceState → Ending → List ℕ → Bool → Site → SourceState → Type 0
+abbrev pub FeedsUpTo : List ℕ → SiteState → SourceState → Ending → List ℕ → Bool → SiteState → SourceState → Type 0
 FeedsUpTo bytes old source AtEnd rest refused new after = IsTaken bytes old source rest refused new after × (length bytes < script_limit) × IsAtEnd after.left × MetEnd source after
 FeedsUpTo bytes old source SourceFailed rest refused new after = IsTaken bytes old source rest refused new after × (length bytes < script_limit) × Rose source.faults after.faults × MetRefusal source after
 FeedsUpTo bytes old source Full rest refused new after = IsTaken bytes old source rest refused new after × (length bytes ≡ script_limit) × MetNothing source after
 FeedsUpTo bytes old source (Stopped stop) rest refused new after = StopsWithin bytes old stop new × (length bytes ≤ script_limit) × (source.left ≡ prepend_known bytes after.left) × MetNothing source after
 
-pub record FeedsSource (old : Site) (source : SourceState) (ending : Ending) (rest : List ℕ) (refused : Bool) (new : Site) (after : SourceState) : Type 0 where
+pub record FeedsSource (old : SiteState) (source : SourceState) (ending : Ending) (rest : List ℕ) (refused : Bool) (new : SiteState) (after : SourceState) : Type 0 where
   pub bytes : List ℕ
   pub up_to : FeedsUpTo bytes old source ending rest refused new after
 
 -- ---- the end
 
 -- all lines of these bytes were served, also a last one without a newline
-pub record ServesAll (bytes : List ℕ) (old new : Site) : Type 0 where
+pub record ServesAll (bytes : List ℕ) (old new : SiteState) : Type 0 where
   pub lines : List (List ℕ)
   pub rest : List ℕ
   pub cut : CutsInto bytes lines rest
@@ -108,17 +108,17 @@ pub record ServesAll (bytes : List ℕ) (old new : Site) : Type 0 where
   pub short : AllByRecursion (λ line. length line ≤ line_limit) (lines_of served)
   pub run : Run Blanks old.world served new.world
 
-pub record IsAllServed (bytes : List ℕ) (old : Site) (refused : Bool) (new : Site) : Type 0 where
+pub record IsAllServed (bytes : List ℕ) (old : SiteState) (refused : Bool) (new : SiteState) : Type 0 where
   pub serves : ServesAll bytes old new
   pub printed : TookAll (answers_text (answers_of serves.served)) old.sink new.sink
   pub any : any_refused (answers_of serves.served) ≡ refused
 
-pub record IsAllUnprinted (bytes : List ℕ) (old new : Site) : Type 0 where
+pub record IsAllUnprinted (bytes : List ℕ) (old new : SiteState) : Type 0 where
   pub serves : ServesAll bytes old new
   pub printed : FailsInLast (answers_of serves.served) old.sink new.sink
 
 -- a last line without a newline was served, if there is one
-abbrev pub EndsLines : List ℕ → Site → Result Bool WriteEnd → Site → Type 0
+abbrev pub EndsLines : List ℕ → SiteState → Result Bool WriteEnd → SiteState → Type 0
 EndsLines bytes old (Ok refused) new = IsAllServed bytes old refused new
 EndsLines bytes old (Err failed) new = IsAllUnprinted bytes old new
 
@@ -132,12 +132,12 @@ abbrev pub PrintsClosing : Bool → ℕ → SinkState → Status → SinkState �
 PrintsClosing refused failed old WriteFault new = (1 ≤ failed) × TookPart (answers_text (closing_answers failed)) old new
 PrintsClosing refused failed old status new = (status ≡ status_by (refused || any_refused (closing_answers failed))) × TookAll (answers_text (closing_answers failed)) old new
 
-pub record ClosesAndPrints (refused : Bool) (old : Site) (status : Status) (new : Site) : Type 0 where
+pub record ClosesAndPrints (refused : Bool) (old : SiteState) (status : Status) (new : SiteState) : Type 0 where
   pub failed : ℕ
   pub closes : ClosesWorld old.world failed new.world
   pub prints : PrintsClosing refused failed old.sink status new.sink
 
-abbrev pub whole_of : Site → SourceState → Whole
+abbrev pub whole_of : SiteState → SourceState → Whole
 whole_of site source = record { world = site.world; source = source; sink = site.sink }
 
 -- there is a trace of the run, which went so by it

@@ -7,31 +7,32 @@ ghost use Rattle.geli_core.specs.Bounds.{ClosesWithFailures, CountsOutside, Keep
 ghost use Rattle.geli_core.specs.Trace.{IsTrace, Run, ServedLine, Trace, answers_of};
 ghost use Rattle.command_rows.specs.World.{DrawerState, NamesDiffer, World, place_of};
 
-/// Each refusal that the end of a run prints belongs to a drawer of its own, which was attached after the lines, and whose disk's count
-/// of faults rose while it was closed.
+/// Each refusal that the end of a run prints belongs to a drawer of its own, which was attached after the lines, and
+/// whose disk's count of faults rose while it was closed.
 pub fn a_closing_refusal_has_its_drawer()
     ensures { (entry exit : World) (trace : Trace) → IsTrace entry trace exit → ClosesWithFailures entry trace exit }
 {}
 
-/// Where no line takes a drawer out, the lines that name a drawer and are answered that its disk failed are at most as many as the count of
-/// faults of its disk rose by, unless that stands at its last value, 2^64 - 1.
+/// Where no line takes a drawer out, the lines that name a drawer and are answered that its disk failed are at most as
+/// many as the count of faults of its disk rose by, unless that stands at its last value, 2^64 - 1.
 pub fn device_faults_are_counted()
     ensures { (sep : Sep) (lines : List ServedLine) (old new : World) (name : List ℕ) (place : ℕ) (before : DrawerState) →
         Run sep old lines new → AllByRecursion (λ (l : ServedLine). KeepsAll (reading sep l.line)) lines → place_of name old.drawers ≡ Some place →
         slice_get old.drawers place ≡ Some before → RisesBy (device_faults sep name lines) before place new }
 {}
 
-/// The same of lines that may take drawers out, no two of which have one name. The drawer is there at last, perhaps in front of its place; or
-/// one of the lines takes it out, and the count of faults of its disk rose so before that line.
+/// The same of lines that may take drawers out, no two of which have one name. The drawer is there at last, perhaps in
+/// front of its place; or one of the lines takes it out, and the count of faults of its disk rose so before that line.
 pub fn device_faults_are_counted_until_eject()
     ensures { (sep : Sep) (lines : List ServedLine) (old new : World) (name : List ℕ) (place : ℕ) (before : DrawerState) →
         Run sep old lines new → NamesDiffer old.drawers → place_of name old.drawers ≡ Some place → slice_get old.drawers place ≡ Some before →
         RisesNamed (device_faults sep name lines) before name new ⊎ RisesUntilOut sep old lines (device_faults sep name lines) before name }
 {}
 
-/// The lines that are answered that the cabinet failed are at most as many as its count of faults rose by, and those that are answered that the
-/// entropy failed as that of the entropy. Those that are answered that a file was absent or longer than a file may be are at most as many
-/// as the cabinet's count of misses rose by. Each unless the count stands at its last value, 2^64 - 1.
+/// The lines that are answered that the cabinet failed are at most as many as its count of faults rose by, and those
+/// that are answered that the entropy failed as that of the entropy. Those that are answered that a file was absent or
+/// longer than a file may be are at most as many as the cabinet's count of misses rose by. Each unless the count stands
+/// at its last value, 2^64 - 1.
 pub fn outside_failures_are_counted()
     ensures { (sep : Sep) (lines : List ServedLine) (old new : World) → Run sep old lines new → CountsOutside (answers_of lines) old new }
 {}

@@ -1,16 +1,16 @@
 // The bytes of a script are looked at one by one, and each whole line is served.
 ghost use Rattle.std.specs.Prelude.{◌≡◌, ◌≤◌, ◌∷◌, ◌++◌, [], ℕ, List, false, length, take, vec_capacity, vec_len};
 ghost use Rattle.command_words.specs.Reading.{line_limit};
-ghost use Rattle.shelf.specs.Shelved.{world_of};
 ghost use Rattle.geli_core.specs.Lines.{IsOneLine};
 ghost use Rattle.geli_core.specs.Script.{piece_size};
-ghost use Rattle.geli_core.specs.Served.{FeedsByte, FeedsPiece, FeedsSource, IsServed, Site, site_of};
+ghost use Rattle.geli_core.specs.Served.{FeedsByte, FeedsPiece, FeedsSource, IsServed, SiteState};
+ghost use Rattle.geli_core.specs.Sites.{BorrowsAsBefore, site_now};
 
-use crate::serving::{either, serve_and_print};
+use crate::serving::either;
+use crate::site::Site;
 use block_traits::{Cabinet, Disk, Entropy, Sink, Source};
 use command_words::Sep;
 use memchr::memchr;
-use shelf::Drawers;
 
 /// The most bytes of a line.
 pub(crate) const LINE_LIMIT: usize = 300_000;
@@ -43,75 +43,100 @@ const PIECE: usize = 4_096;
 /// The number of bytes that is too many for a script.
 const SCRIPT_LIMIT: u64 = 1 << 40;
 
-/// Looks at one more byte. A newline ends the line, which is served and printed.
-pub(crate) fn feed_byte<K: Sink, C: Cabinet, E: Entropy, D: Disk>(
-    shelf: &mut Drawers<D>,
-    line: &mut Vec<u8>,
-    byte: u8,
-    refused: &mut bool,
-    output: &mut K,
-    files: &mut C,
-    entropy: &mut E,
-) -> Result<(), Stop>
-    requires room { line_limit ≤ vec_capacity line.old }
-    requires short { vec_len line.old ≤ line_limit }
-    ensures room { line_limit ≤ vec_capacity line.new }
-    ensures short { vec_len line.new ≤ line_limit }
-    ensures feeds { (bytes : List ℕ) (old : Site) →
-        IsServed bytes old line.old.items refused.old
-        (site_of (world_of D.state shelf.old (C.state files.old) (E.state entropy.old)) (K.state output.old)) →
-        FeedsByte (bytes ++ byte ∷ []) old result line.new.items refused.new
-        (site_of (world_of D.state shelf.new (C.state files.new) (E.state entropy.new)) (K.state output.new)) }
-{
-    if byte == b'\n' {
-        let served = serve_and_print(shelf, line.as_slice(), Sep::Blanks, output, files, entropy);
-        let end = match served {
-            Ok(end) => end,
-            Err(_) => return Err(Stop::Unprinted),
-        };
-        *refused = either(*refused, end.is_refusal());
-        line.clear();
-        return Ok(());
-    }
-    if line.len() >= LINE_LIMIT {
-        return Err(Stop::TooLong);
-    }
-    line.push_reserved(byte);
-    Ok(())
-}
-
-/// Looks at the bytes of a piece, up to the first at which it stops.
-pub(crate) fn feed_piece<K: Sink, C: Cabinet, E: Entropy, D: Disk>(
-    shelf: &mut Drawers<D>,
-    line: &mut Vec<u8>,
-    piece: &[u8],
-    refused: &mut bool,
-    output: &mut K,
-    files: &mut C,
-    entropy: &mut E,
-) -> Result<(), Stop>
-    requires room { line_limit ≤ vec_capacity line.old }
-    requires short { vec_len line.old ≤ line_limit }
-    requires small { length piece.now ≤ piece_size }
-    ensures room { line_limit ≤ vec_capacity line.new }
-    ensures short { vec_len line.new ≤ line_limit }
-    ensures feeds { (bytes : List ℕ) (old : Site) →
-        IsServed bytes old line.old.items refused.old
-        (site_of (world_of D.state shelf.old (C.state files.old) (E.state entropy.old)) (K.state output.old)) →
-        FeedsPiece (bytes ++ piece.now) old result line.new.items refused.new
-        (site_of (world_of D.state shelf.new (C.state files.new) (E.state entropy.new)) (K.state output.new)) }
-{
-    let mut place = 0;
-    'places: while place < piece.len() {
-        let taken = feed_text(line, plain_part(&piece[place..]));
-        if taken == 0 {
-            feed_byte(shelf, line, piece[place], refused, output, files, entropy)?;
-            place += 1;
-        } else {
-            place += taken;
+impl<K: Sink, C: Cabinet, E: Entropy, D: Disk> Site<'_, K, C, E, D> {
+    /// Looks at one more byte. A newline ends the line, which is served and printed.
+    fn feed_byte(&mut self, line: &mut Vec<u8>, byte: u8, refused: &mut bool) -> Result<(), Stop>
+        requires room { line_limit ≤ vec_capacity line.old }
+        requires short { vec_len line.old ≤ line_limit }
+        ensures same { BorrowsAsBefore self.old self.new }
+        ensures room { line_limit ≤ vec_capacity line.new }
+        ensures short { vec_len line.new ≤ line_limit }
+        ensures feeds { (bytes : List ℕ) (old : SiteState) →
+            IsServed bytes old line.old.items refused.old (site_now K.state C.state E.state D.state self.old) →
+            FeedsByte (bytes ++ byte ∷ []) old result line.new.items refused.new
+            (site_now K.state C.state E.state D.state self.new) }
+    {
+        if byte == b'\n' {
+            let end = match self.serve_and_print(line.as_slice(), Sep::Blanks) {
+                Ok(end) => end,
+                Err(_) => return Err(Stop::Unprinted),
+            };
+            *refused = either(*refused, end.is_refusal());
+            line.clear();
+            return Ok(());
         }
+        if line.len() >= LINE_LIMIT {
+            return Err(Stop::TooLong);
+        }
+        line.push_reserved(byte);
+        Ok(())
     }
-    Ok(())
+
+    /// Looks at the bytes of a piece, up to the first at which it stops.
+    fn feed_piece(
+        &mut self,
+        line: &mut Vec<u8>,
+        piece: &[u8],
+        refused: &mut bool,
+    ) -> Result<(), Stop>
+        requires room { line_limit ≤ vec_capacity line.old }
+        requires short { vec_len line.old ≤ line_limit }
+        requires small { length piece.now ≤ piece_size }
+        ensures same { BorrowsAsBefore self.old self.new }
+        ensures room { line_limit ≤ vec_capacity line.new }
+        ensures short { vec_len line.new ≤ line_limit }
+        ensures feeds { (bytes : List ℕ) (old : SiteState) →
+            IsServed bytes old line.old.items refused.old (site_now K.state C.state E.state D.state self.old) →
+            FeedsPiece (bytes ++ piece.now) old result line.new.items refused.new
+            (site_now K.state C.state E.state D.state self.new) }
+    {
+        let mut place = 0;
+        'places: while place < piece.len() {
+            let taken = feed_text(line, plain_part(&piece[place..]));
+            if taken == 0 {
+                self.feed_byte(line, piece[place], refused)?;
+                place += 1;
+            } else {
+                place += taken;
+            }
+        }
+        Ok(())
+    }
+
+    /// Takes the input piece by piece, and looks at its bytes.
+    #[tactic(auto, using(crate::proofs::Pieces::met_end, crate::proofs::Pieces::met_refusal))]
+    pub(crate) fn feed_source<S: Source>(
+        &mut self,
+        input: &mut S,
+        line: &mut Vec<u8>,
+        refused: &mut bool,
+    ) -> Ending
+        requires room { line_limit ≤ vec_capacity line.old }
+        requires empty { line.old.items ≡ [] }
+        requires nothing { refused.old ≡ false }
+        ensures same { BorrowsAsBefore self.old self.new }
+        ensures short { vec_len line.new ≤ line_limit }
+        ensures feeds { FeedsSource (site_now K.state C.state E.state D.state self.old)
+            (S.state input.old) result line.new.items refused.new
+            (site_now K.state C.state E.state D.state self.new) (S.state input.new) }
+    {
+        let mut piece = [0; PIECE];
+        let mut room = SCRIPT_LIMIT;
+        while room > 0 {
+            let most = (PIECE as u64).min(room) as usize;
+            let count = match input.take(&mut piece[..most]) {
+                Err(_) => return Ending::SourceFailed,
+                Ok(0) => return Ending::AtEnd,
+                Ok(count) => count,
+            };
+            let fed = self.feed_piece(line, &piece[..count], refused);
+            if let Err(stop) = fed {
+                return Ending::Stopped(stop);
+            }
+            room -= count as u64;
+        }
+        Ending::Full
+    }
 }
 
 // The bytes before the first newline.
@@ -125,7 +150,8 @@ fn plain_part(bytes: &[u8]) -> &[u8]
     }
 }
 
-// Puts the first bytes of a text without a newline behind those of the line, as far as it has room, and answers how many.
+// Puts the first bytes of a text without a newline behind those of the line, as far as it has room, and answers how
+// many.
 fn feed_text(line: &mut Vec<u8>, text: &[u8]) -> usize
     requires room { line_limit ≤ vec_capacity line.old }
     requires short { vec_len line.old ≤ line_limit }
@@ -139,51 +165,4 @@ fn feed_text(line: &mut Vec<u8>, text: &[u8]) -> usize
         Ok(()) => count,
         Err(_) => 0,
     }
-}
-
-/// Takes the input piece by piece, and looks at its bytes.
-#[tactic(auto, using(crate::proofs::Pieces::met_end, crate::proofs::Pieces::met_refusal))]
-pub(crate) fn feed_source<S: Source, K: Sink, C: Cabinet, E: Entropy, D: Disk>(
-    input: &mut S,
-    shelf: &mut Drawers<D>,
-    line: &mut Vec<u8>,
-    refused: &mut bool,
-    output: &mut K,
-    files: &mut C,
-    entropy: &mut E,
-) -> Ending
-    requires room { line_limit ≤ vec_capacity line.old }
-    requires empty { line.old.items ≡ [] }
-    requires nothing { refused.old ≡ false }
-    ensures short { vec_len line.new ≤ line_limit }
-    ensures feeds { FeedsSource
-        (site_of (world_of D.state shelf.old (C.state files.old) (E.state entropy.old)) (K.state output.old))
-        (S.state input.old) result line.new.items refused.new
-        (site_of (world_of D.state shelf.new (C.state files.new) (E.state entropy.new)) (K.state output.new))
-        (S.state input.new) }
-{
-    let mut piece = [0; PIECE];
-    let mut room = SCRIPT_LIMIT;
-    while room > 0 {
-        let most = (PIECE as u64).min(room) as usize;
-        let count = match input.take(&mut piece[..most]) {
-            Err(_) => return Ending::SourceFailed,
-            Ok(0) => return Ending::AtEnd,
-            Ok(count) => count,
-        };
-        let fed = feed_piece(
-            shelf,
-            line,
-            &piece[..count],
-            refused,
-            output,
-            files,
-            entropy,
-        );
-        if let Err(stop) = fed {
-            return Ending::Stopped(stop);
-        }
-        room -= count as u64;
-    }
-    Ending::Full
 }

@@ -1,12 +1,16 @@
 // The run over disks, which are put on a shelf under their names.
-ghost use Rattle.std.specs.Prelude.{◌≡◌, None, IfErr, IfOk, OnErr, OnOk, length, map, string_bytes};
+ghost use Rattle.std.specs.Prelude.{◌≡◌, ℕ, List, None, IfErr, IfOk, OnErr, OnOk, length, map, string_bytes};
 ghost use Rattle.command_words.specs.Images.{script_images};
 ghost use Rattle.command_rows.specs.World.{NamesDiffer};
 ghost use Rattle.geli_core.specs.Images.{IsNotShelved, RunsOver, disks_back, idle_drawers, outside_of};
+ghost use Rattle.geli_core.specs.Sites.{HasAsBefore, ReachesAsBefore, outside_now};
+ghost use Rattle.geli_core.specs.Words.{FitsItsLine, Says};
 ghost use Rattle.shelf.specs.Shelved.{drawers_of};
 
 use crate::Status;
+use crate::outside::Outside;
 use crate::top_call::{geli_main, run};
+use crate::words::Words;
 use block_traits::{Cabinet, Disk, Entropy, Sink, Source};
 use shelf::{AddFault, Drawers, Shelf};
 use std::alloc::Global;
@@ -24,9 +28,9 @@ pub struct NotShelved<D: Drop> {
     pub rest: Vec<D>,
 }
 
-/// Puts disks on a shelf, the disk at a place under the name of that place, and does over it what the words of the command line ask for.
-/// The shelf comes back as the run left it. A shelf that doesn't take all of them is a refusal: the disks come back as they were, and nothing
-/// was read, printed, stored or drawn.
+/// Puts disks on a shelf, the disk at a place under the name of that place, and does over it what the words of the
+/// command line ask for. The shelf comes back as the run left it. A shelf that doesn't take all of them is a refusal:
+/// the disks come back as they were, and nothing was read, printed, stored or drawn.
 pub fn run_images<S: Source, K: Sink, C: Cabinet, E: Entropy>(
     alloc: Global,
     words: &[String],
@@ -38,43 +42,48 @@ pub fn run_images<S: Source, K: Sink, C: Cabinet, E: Entropy>(
     entropy: &mut E,
 ) -> Result<(Status, Shelf), NotShelved<Box<dyn Disk>>>
     requires { length disks.items ≡ length names.now }
-    ensures runs { IfOk result (λ ran. RunsOver (map string_bytes words.now) (map string_bytes names.now) (map (⟦<Box<dyn Disk> as Disk>⟧).state disks.items)
+    ensures runs { IfOk result (λ ran. RunsOver (map string_bytes words.now) (map string_bytes names.now)
+        (map (⟦<Box<dyn Disk> as Disk>⟧).state disks.items)
         (outside_of (C.state files.old) (E.state entropy.old) (S.state input.old) (K.state output.old)) ran.0
         (drawers_of (⟦<Box<dyn Disk> as Disk>⟧).state ran.1.drawers)
         (outside_of (C.state files.new) (E.state entropy.new) (S.state input.new) (K.state output.new))) }
     ensures unread { OnOk result (script_images (map string_bytes words.now) ≡ None → input.new ≡ input.old) }
-    ensures refused { IfErr result (λ refused. IsNotShelved refused.fault (idle_drawers (map string_bytes names.now) (map (⟦<Box<dyn Disk> as Disk>⟧).state disks.items))) }
-    ensures kept { IfErr result (λ refused. disks_back (⟦<Box<dyn Disk> as Disk>⟧).state refused ≡ map (⟦<Box<dyn Disk> as Disk>⟧).state disks.items) }
-    ensures nothing { OnErr result ((input.new ≡ input.old) × (output.new ≡ output.old) × (files.new ≡ files.old) × (entropy.new ≡ entropy.old)) }
+    ensures refused { IfErr result (λ refused. IsNotShelved refused.fault
+        (idle_drawers (map string_bytes names.now) (map (⟦<Box<dyn Disk> as Disk>⟧).state disks.items))) }
+    ensures kept { IfErr result (λ refused.
+        disks_back (⟦<Box<dyn Disk> as Disk>⟧).state refused ≡ map (⟦<Box<dyn Disk> as Disk>⟧).state disks.items) }
+    ensures nothing { OnErr result ((input.new ≡ input.old) × (output.new ≡ output.old)
+        × (files.new ≡ files.old) × (entropy.new ≡ entropy.old)) }
 {
     let mut shelf = shelved(alloc, names, disks)?;
     let status = geli_main(alloc, words, input, output, files, entropy, &mut shelf);
     Ok((status, shelf))
 }
 
-/// The same over disks of any one type, without boxes.
+/// The same over disks of any one type, without boxes, of words that were read.
 pub fn run_over<S: Source, K: Sink, C: Cabinet, E: Entropy, D: Disk>(
     alloc: Global,
-    words: &[String],
+    said: &Words<'_>,
     names: &[String],
     disks: Vec<D>,
-    input: &mut S,
-    output: &mut K,
-    files: &mut C,
-    entropy: &mut E,
+    outside: &mut Outside<'_, S, K, C, E>,
 ) -> Result<(Status, Drawers<D>), NotShelved<D>>
-    requires { length disks.items ≡ length names.now }
-    ensures runs { IfOk result (λ ran. RunsOver (map string_bytes words.now) (map string_bytes names.now) (map D.state disks.items)
-        (outside_of (C.state files.old) (E.state entropy.old) (S.state input.old) (K.state output.old)) ran.0
-        (drawers_of D.state ran.1.drawers)
-        (outside_of (C.state files.new) (E.state entropy.new) (S.state input.new) (K.state output.new))) }
-    ensures unread { OnOk result (script_images (map string_bytes words.now) ≡ None → input.new ≡ input.old) }
-    ensures refused { IfErr result (λ refused. IsNotShelved refused.fault (idle_drawers (map string_bytes names.now) (map D.state disks.items))) }
+    requires fits { FitsItsLine said.now }
+    requires named { length disks.items ≡ length names.now }
+    ensures same { ReachesAsBefore outside.old outside.new }
+    ensures runs { IfOk result (λ ran. (words : List (List ℕ)) → Says words said.now →
+        RunsOver words (map string_bytes names.now) (map D.state disks.items)
+        (outside_now S.state K.state C.state E.state outside.old) ran.0 (drawers_of D.state ran.1.drawers)
+        (outside_now S.state K.state C.state E.state outside.new)) }
+    ensures unread { OnOk result ((words : List (List ℕ)) → Says words said.now → script_images words ≡ None →
+        outside.new.input.now ≡ outside.old.input.now) }
+    ensures refused { IfErr result (λ refused.
+        IsNotShelved refused.fault (idle_drawers (map string_bytes names.now) (map D.state disks.items))) }
     ensures kept { IfErr result (λ refused. disks_back D.state refused ≡ map D.state disks.items) }
-    ensures nothing { OnErr result ((input.new ≡ input.old) × (output.new ≡ output.old) × (files.new ≡ files.old) × (entropy.new ≡ entropy.old)) }
+    ensures nothing { OnErr result (HasAsBefore outside.old outside.new) }
 {
     let mut shelf = shelved(alloc, names, disks)?;
-    let status = run(alloc, words, input, output, files, entropy, &mut shelf);
+    let status = run(alloc, said, &mut shelf, outside);
     Ok((status, shelf))
 }
 
@@ -85,9 +94,11 @@ fn shelved<D: Disk>(
     disks: Vec<D>,
 ) -> Result<Drawers<D>, NotShelved<D>>
     requires { length disks.items ≡ length names.now }
-    ensures drawers { IfOk result (λ shelf. drawers_of D.state shelf.drawers ≡ idle_drawers (map string_bytes names.now) (map D.state disks.items)) }
+    ensures drawers { IfOk result (λ shelf.
+        drawers_of D.state shelf.drawers ≡ idle_drawers (map string_bytes names.now) (map D.state disks.items)) }
     ensures differ { OnOk result (NamesDiffer (idle_drawers (map string_bytes names.now) (map D.state disks.items))) }
-    ensures refused { IfErr result (λ refused. IsNotShelved refused.fault (idle_drawers (map string_bytes names.now) (map D.state disks.items))) }
+    ensures refused { IfErr result (λ refused.
+        IsNotShelved refused.fault (idle_drawers (map string_bytes names.now) (map D.state disks.items))) }
     ensures kept { IfErr result (λ refused. disks_back D.state refused ≡ map D.state disks.items) }
 {
     let Ok(mut shelf) = Drawers::new(alloc) else {

@@ -7,11 +7,14 @@ mod feeding;
 mod images;
 mod laws;
 mod line;
+mod outside;
 mod requests;
 mod serving;
+mod site;
 mod status;
 mod survivors;
 mod top_call;
+mod words;
 
 pub use bounds::{
     a_closing_refusal_has_its_drawer, device_faults_are_counted,
@@ -24,6 +27,7 @@ pub use laws::{
     a_run_without_failures_goes_to_its_end,
 };
 pub use line::serve_line;
+pub use outside::Outside;
 pub use requests::{
     flushes_cover_reaped_writes, missing_requests_are_refused, requests_alone_are_lines,
     requests_are_of_their_providers,
@@ -35,3 +39,4 @@ pub use survivors::{
     crashed_runs_attach_and_read, lines_keep_keyings, lines_survive_crashes, runs_survive_crashes,
 };
 pub use top_call::{geli_main, run};
+pub use words::{Words, read_words};

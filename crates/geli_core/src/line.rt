@@ -4,8 +4,8 @@ ghost use Rattle.command_words.specs.Reading.{line_limit};
 ghost use Rattle.shelf.specs.Shelved.{world_of};
 ghost use Rattle.geli_core.specs.Laws.{ServesLawfully};
 
-use crate::serving;
 use crate::serving::LineEnd;
+use crate::site::Site;
 use block_traits::{Cabinet, Disk, Entropy, Sink};
 use command_words::Sep;
 use reply_text::WriteEnd;
@@ -15,9 +15,9 @@ use shelf::Drawers;
 /// `Refused` exactly where the printed reply is a refusal. `WriteEnd` comes only where the sink failed; the line was
 /// served all the same.
 ///
-/// Of each such line holds, whatever its row, what the law `a_line_keeps_the_laws` says: why it's refused, that it is served where
-/// there is no cause of a refusal, which lines never answer want of memory, which drawer changes, and what its last sector may hold at
-/// each moment of a line that changes metadata, whenever power fails.
+/// Of each such line holds, whatever its row, what the law `a_line_keeps_the_laws` says: why it's refused, that it is
+/// served where there is no cause of a refusal, which lines never answer want of memory, which drawer changes, and what
+/// its last sector may hold at each moment of a line that changes metadata, whenever power fails.
 pub fn serve_line<K: Sink, C: Cabinet, E: Entropy, D: Disk>(
     shelf: &mut Drawers<D>,
     line: &[u8],
@@ -33,5 +33,6 @@ pub fn serve_line<K: Sink, C: Cabinet, E: Entropy, D: Disk>(
         (world_of D.state shelf.new (C.state files.new) (E.state entropy.new))
         (K.state output.new) }
 {
-    serving::serve_and_print(shelf, line, sep, output, files, entropy)
+    let mut site = Site::new(shelf, output, files, entropy);
+    site.serve_and_print(line, sep)
 }

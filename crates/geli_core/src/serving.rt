@@ -1,16 +1,19 @@
 // One line is read, served and printed.
 ghost use Rattle.std.specs.Prelude.{◌≡◌, ◌≤◌, ◌||◌, ℕ, List, Some, length};
-ghost use Rattle.command_words.specs.Reading.{line_limit};
+ghost use Rattle.command_words.specs.Bounds.{IsBounded};
+ghost use Rattle.command_words.specs.Places.{CommandIsWithin};
+ghost use Rattle.command_words.specs.Reading.{line_limit, reading};
+ghost use Rattle.command_words.specs.declared.spans.Sep.{Sep};
 ghost use Rattle.reply_text.specs.Text.{FitsPayload};
 ghost use Rattle.command_rows.specs.Answer.{answer_of};
-ghost use Rattle.shelf.specs.Shelved.{world_of};
 ghost use Rattle.geli_core.specs.Run.{PrintsAnswer, ServesAndPrints, end_of, is_refusal};
+ghost use Rattle.geli_core.specs.Sites.{BorrowsAsBefore, site_now};
 
+use crate::site::Site;
 use block_traits::{Cabinet, Disk, Entropy, Sink};
-use command_words::{Sep, read_line};
+use command_words::{Command, Sep, read_line};
 use eli_base::Refusal;
 use reply_text::{Reply, WriteEnd, write_reply};
-use shelf::Drawers;
 
 /// How a line ended.
 #[derive(Clone, Copy, Debug, PartialEq, Eq)]
@@ -68,37 +71,49 @@ fn print<K: Sink>(reply: &Reply, payload: &[u8], output: &mut K) -> Result<LineE
     Ok(end_of(reply))
 }
 
-/// Reads, serves and prints one line of at most 300,000 bytes.
-pub(crate) fn serve_and_print<K: Sink, C: Cabinet, E: Entropy, D: Disk>(
-    shelf: &mut Drawers<D>,
-    line: &[u8],
-    sep: Sep,
-    output: &mut K,
-    files: &mut C,
-    entropy: &mut E,
-) -> Result<LineEnd, WriteEnd>
-    requires { length line.now ≤ line_limit }
-    ensures { ServesAndPrints sep line.now
-        (world_of D.state shelf.old (C.state files.old) (E.state entropy.old))
-        (K.state output.old) result
-        (world_of D.state shelf.new (C.state files.new) (E.state entropy.new))
-        (K.state output.new) }
-{
-    let read = read_line(line, sep);
-    match read {
-        Ok(None) => Ok(LineEnd::Silent),
-        Err(usage) => {
-            let word = usage.word;
-            let reason = usage.reason;
-            print(
-                &Reply::Refused(Refusal::Usage { word, reason }),
-                &[],
-                output,
-            )
+impl<K: Sink, C: Cabinet, E: Entropy, D: Disk> Site<'_, K, C, E, D> {
+    /// Reads, serves and prints one line of at most 300,000 bytes.
+    pub(crate) fn serve_and_print(&mut self, line: &[u8], sep: Sep) -> Result<LineEnd, WriteEnd>
+        requires { length line.now ≤ line_limit }
+        ensures same { BorrowsAsBefore self.old self.new }
+        ensures serves { ServesAndPrints sep line.now
+            (site_now K.state C.state E.state D.state self.old).world
+            (site_now K.state C.state E.state D.state self.old).sink result
+            (site_now K.state C.state E.state D.state self.new).world
+            (site_now K.state C.state E.state D.state self.new).sink }
+    {
+        let read = read_line(line, sep);
+        match read {
+            Ok(None) => Ok(LineEnd::Silent),
+            Err(usage) => {
+                let word = usage.word;
+                let reason = usage.reason;
+                print(
+                    &Reply::Refused(Refusal::Usage { word, reason }),
+                    &[],
+                    self.output,
+                )
+            }
+            Ok(Some(command)) => self.serve_command(line, &command),
         }
-        Ok(Some(command)) => {
-            let reply = shelf.serve(line, &command, files, entropy);
-            print(&reply, shelf.payload(), output)
-        }
+    }
+
+    /// Serves a command of this line, and prints its reply.
+    pub(crate) fn serve_command(
+        &mut self,
+        line: &[u8],
+        command: &Command,
+    ) -> Result<LineEnd, WriteEnd>
+        requires within { CommandIsWithin (length line.now) command.now }
+        requires bounds { IsBounded line.now command.now }
+        ensures same { BorrowsAsBefore self.old self.new }
+        ensures serves { (sep : Sep) → reading sep line.now ≡ Ok (Some command.now) → ServesAndPrints sep line.now
+            (site_now K.state C.state E.state D.state self.old).world
+            (site_now K.state C.state E.state D.state self.old).sink result
+            (site_now K.state C.state E.state D.state self.new).world
+            (site_now K.state C.state E.state D.state self.new).sink }
+    {
+        let reply = self.shelf.serve(line, command, self.files, self.entropy);
+        print(&reply, self.shelf.payload(), self.output)
     }
 }

@@ -1,7 +1,7 @@
 // What whole runs over memory share: the objects that a run is given, and its words.
 use block_traits::{Disk, DiskFailed, Event, Sector};
 use crash_disk::{MemCabinet, MemDisk, MemEntropy, MemSink, MemSource};
-use geli_core::{Drawers, Status, run};
+use geli_core::{Drawers, Outside, Status, read_words, run};
 use std::alloc::Global;
 use std::cell::Cell;
 use std::rc::Rc;
@@ -98,15 +98,9 @@ impl World {
     ) -> Result<Status, Fail> {
         let words = words(alloc, line)?;
         let mut input = MemSource::new(alloc, input.as_bytes(), &[], &[])?;
-        Ok(run(
-            alloc,
-            &words,
-            &mut input,
-            output,
-            &mut self.files,
-            &mut self.entropy,
-            &mut self.shelf,
-        ))
+        let said = read_words(alloc, &words)?;
+        let mut outside = Outside::new(&mut input, output, &mut self.files, &mut self.entropy);
+        Ok(run(alloc, &said, &mut self.shelf, &mut outside))
     }
 }
 

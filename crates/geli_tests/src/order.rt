@@ -3,7 +3,7 @@
 use crate::common::words;
 use block_traits::{Sink, SinkFailed, Source, SourceFailed};
 use crash_disk::{MemCabinet, MemDisk, MemEntropy, MemSink, MemSource};
-use geli_core::{Drawers, run};
+use geli_core::{Drawers, Outside, read_words, run};
 use std::alloc::Global;
 use std::cell::Cell;
 use std::rc::Rc;
@@ -88,16 +88,9 @@ fn status_of(
     let mut entropy = MemEntropy::new(alloc, &[])?;
     let words = words(alloc, "script a.img")?;
     let mut files = MemCabinet::new(alloc);
-    Ok(run(
-        alloc,
-        &words,
-        source,
-        sink,
-        &mut files,
-        &mut entropy,
-        &mut shelf,
-    )
-    .number())
+    let said = read_words(alloc, &words)?;
+    let mut outside = Outside::new(source, sink, &mut files, &mut entropy);
+    Ok(run(alloc, &said, &mut shelf, &mut outside).number())
 }
 
 // Runs a script whose lines are given one a call, where these calls fail: its status, how often source and sink were

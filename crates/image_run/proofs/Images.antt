@@ -7,7 +7,7 @@ use Rattle.block_traits.specs.Streams.{EntropyState, SinkState, SourceState}
 use Rattle.command_rows.specs.World.{DrawerState}
 use Rattle.command_words.specs.Images.{image_names}
 use Rattle.image_run.specs.Program.{new_cabinet, new_entropy}
-use Rattle.geli_core.specs.Images.{Outside, RunsOver, outside_of}
+use Rattle.geli_core.specs.Images.{OutsideState, RunsOver, outside_of}
 use Rattle.geli_core.specs.declared.status.Status.{Status}
 
 pub names_at : {S : Type 0} (bytes : S → List ℕ) (names : List S) (i : ℕ) (name : S) → i < length names → get_or names i name ≡ name
@@ -35,7 +35,7 @@ entropy_with faults calls = record { left = None; faults = faults; calls = calls
 pub entropy_is_new : (faults calls : ℕ) → faults ≡ 0 → calls ≡ 0 → entropy_with faults calls ≡ new_entropy
 entropy_is_new faults calls a b = ap (λ (n : ℕ). entropy_with n calls) a ∙ ap (λ (n : ℕ). entropy_with 0 n) b
 
-pub over_new : (words names : List (List ℕ)) (disks : List DiskState) (cabinet : CabinetState) (entropy : EntropyState) (source : SourceState) (sink : SinkState) (status : Status) (left : List DrawerState) (new : Outside)
+pub over_new : (words names : List (List ℕ)) (disks : List DiskState) (cabinet : CabinetState) (entropy : EntropyState) (source : SourceState) (sink : SinkState) (status : Status) (left : List DrawerState) (new : OutsideState)
     → names ≡ image_names words → cabinet ≡ new_cabinet → entropy ≡ new_entropy → RunsOver words names disks (outside_of cabinet entropy source sink) status left new
     → RunsOver words (image_names words) disks (outside_of new_cabinet new_entropy source sink) status left new
 over_new words names disks cabinet entropy source sink status left new named fresh first runs =

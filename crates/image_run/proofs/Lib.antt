@@ -1,3 +1,4 @@
 mod Ended
 mod Images
+mod Saying
 mod Surviving

@@ -9,7 +9,7 @@ use Rattle.file_edge.specs.FileDisk as file
 use Rattle.file_edge.specs.Told.{Told}
 use Rattle.file_edge.specs.declared.file_disk.FileDisk.{FileDisk}
 use Rattle.geli_core.proofs.Drawn.{same_some}
-use Rattle.geli_core.specs.Images.{Outside, RunsOver, idle_drawers}
+use Rattle.geli_core.specs.Images.{OutsideState, RunsOver, idle_drawers}
 use Rattle.geli_core.specs.Survivors.{EnduresCrashes}
 use Rattle.geli_core.specs.declared.status.Status.{Status}
 use Rattle.image_layers.specs.Images.{TellsImage, state_of}
@@ -61,8 +61,8 @@ module _ {F : Type 0} {g : Ghosts (FileDisk F)} (told : F → Option Told) where
   in_file same (Join both) now steps tells grew endures = tt
 
   -- each drawer that a run left
-  pub survives_in_file : (same : (d : FileDisk F) → (g.state d).content ≡ (file.state_of told d).content) (words names : List (List ℕ)) (disks : List (ImageDisk F g)) (old : Outside) (status : Status)
-      (left : List DrawerState) (new : Outside) (run : RunsOver words names (map state_of disks) old status left new) → All (TellsImage told) disks → (drawer : DrawerState) (among : IsAmong left drawer)
+  pub survives_in_file : (same : (d : FileDisk F) → (g.state d).content ≡ (file.state_of told d).content) (words names : List (List ℕ)) (disks : List (ImageDisk F g)) (old : OutsideState) (status : Status)
+      (left : List DrawerState) (new : OutsideState) (run : RunsOver words names (map state_of disks) old status left new) → All (TellsImage told) disks → (drawer : DrawerState) (among : IsAmong left drawer)
       → SurvivesInFile told names disks drawer (run.lawful.exit drawer among).play.steps
   survives_in_file same words names disks old status left new run tell drawer among =
       let survives = run.lawful.exit drawer among in

@@ -10,7 +10,7 @@ use Rattle.block_traits.specs.Cabinet.{CabinetState}
 use Rattle.block_traits.specs.Streams.{EntropyState, SinkState, SourceState}
 use Rattle.block_traits.specs.declared.disk.Disk.{Ghosts}
 use Rattle.command_rows.specs.World.{DrawerState, IsAmong}
-use Rattle.command_words.specs.Images.{image_names, line_of}
+use Rattle.command_words.specs.Images.{image_names, line_of, script_images}
 use Rattle.command_words.specs.Reading.{command_in}
 use Rattle.command_words.specs.declared.commands.Command.{Command}
 use Rattle.command_words.specs.declared.commands.Command.TheVariants as commands
@@ -23,6 +23,8 @@ use Rattle.file_edge.specs.declared.found.Found.{Found}
 use Rattle.file_edge.specs.declared.random_file.RandomFile.{RandomFile}
 use Rattle.geli_core.specs.Images.{RunsOver, outside_of}
 use Rattle.geli_core.specs.declared.status.Status.{Status}
+use Rattle.geli_core.specs.declared.words.Words.{Words}
+use Rattle.geli_core.specs.declared.words.Words.TheVariants.{Script, One, Usage}
 use Rattle.image_layers.specs.Images.{AsksFirst, OpensImages, TellsImage, opening, state_of}
 use Rattle.image_layers.specs.declared.image_disks.ImageDisk.{ImageDisk}
 use Rattle.image_run.specs.Surviving.{SurvivesInFile}
@@ -39,9 +41,20 @@ reads_alone (Some (commands.Backup prov file)) = true
 reads_alone (Some (commands.Attach prov only_check readonly slot old)) = only_check
 reads_alone said = false
 
--- whether the images are to be changed, by the words
+-- whether images are to be changed: those of a script are, and else that of the command, but where it only reads
+abbrev pub changes_by : Option (List (List ℕ)) → Option Command → Bool
+changes_by (Some names) said = true
+changes_by None said = not (reads_alone said)
+
+-- the same of the images of the words
 abbrev pub changes_images : List (List ℕ) → Bool
-changes_images words = not (reads_alone (command_in (line_of words)))
+changes_images words = changes_by (script_images words) (command_in (line_of words))
+
+-- the same by what words say
+abbrev pub changes_said : Words → Bool
+changes_said (Script names) = true
+changes_said (One line command) = not (reads_alone (Some command))
+changes_said Usage = true
 
 -- where memory gave out before a run: nothing was asked but the first of the files of the images that the words name
 abbrev pub AsksPart : {O : Type 0} → (O → Option (List Asked)) → List (List ℕ) → O → O → Type 0
@@ -55,13 +68,17 @@ abbrev pub new_entropy : EntropyState
 new_entropy = record { left = None; faults = 0; calls = 0 }
 
 module _ {O F : Type 0} {g : Ghosts (FileDisk F)} (leads : O → List ℕ → Result Found Error → Type 0) (answers : O → OpenOptions → List ℕ → Result F Error → Type 0) (tells : F → Result Found Error → Type 0) (locks : F → Bool → Type 0) (ends : F → Option ℕ → Type 0) (log_of : O → Option (List Asked)) where
-  -- What a run begins with: the images that the words name are opened one after another, to be changed but where the command only reads, and then
-  -- the random bytes; nothing else is asked of what opens them.
-  pub record OpensAll (words : List (List ℕ)) (disks : List (ImageDisk F g)) (files : List FileId) (random : RandomFile F) (old new : O) : Type 0 where
+  -- What a run begins with: the images of these names are opened one after another, to be changed or not, and then the random bytes; nothing
+  -- else is asked of what opens them.
+  pub record OpensNamed (changes : Bool) (names : List (List ℕ)) (disks : List (ImageDisk F g)) (files : List FileId) (random : RandomFile F) (old new : O) : Type 0 where
     pub between : O
-    pub images : OpensImages leads answers tells locks ends log_of (changes_images words) (image_names words) disks (opening old []) (opening between files)
+    pub images : OpensImages leads answers tells locks ends log_of changes names disks (opening old []) (opening between files)
     pub device : OpensDevice answers between random
     pub asked : AsksDevice log_of between new
+
+  -- the same of the images that the words name, which are to be changed but where the command only reads
+  abbrev pub OpensAll : List (List ℕ) → List (ImageDisk F g) → List FileId → RandomFile F → O → O → Type 0
+  OpensAll words disks files random old new = OpensNamed (changes_images words) (image_names words) disks files random old new
 
 module _ {O F : Type 0} (g : Ghosts (FileDisk F)) (leads : O → List ℕ → Result Found Error → Type 0) (answers : O → OpenOptions → List ℕ → Result F Error → Type 0) (tells : F → Result Found Error → Type 0) (locks : F → Bool → Type 0) (ends : F → Option ℕ → Type 0) (log_of : O → Option (List Asked)) where
   -- all that a run begins with was opened, and nothing else was asked

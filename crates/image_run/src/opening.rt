@@ -1,15 +1,15 @@
 // What a run begins with: the images that its words name are opened, and then the random bytes.
-ghost use Rattle.std.specs.Prelude.{◌≡◌, [], All, IfErr, IfOk, OnErr, map, string_bytes};
-ghost use Rattle.command_words.specs.Images.{image_names, line_of};
-ghost use Rattle.command_words.specs.Reading.{command_in};
+ghost use Rattle.std.specs.Prelude.{◌≡◌, [], All, IfErr, IfOk, OnErr, Some, map, string_bytes};
+ghost use Rattle.geli_core.specs.Words.{FitsItsLine, image_names_of};
 ghost use Rattle.image_layers.specs.Images.{AsksFirst, OpensImages, TellsImage, opening};
-ghost use Rattle.image_run.specs.Program.{AsksPart, OpensAll, new_cabinet, new_entropy, reads_alone};
+ghost use Rattle.image_run.specs.Program.{OpensNamed, changes_said, new_cabinet, new_entropy, reads_alone};
 
 use block_traits::{Cabinet, Disk, Entropy, NoMemory};
-use command_words::{Command, ImageNames, command_in, images_of, joined};
+use command_words::Command;
 use file_edge::{FileCabinet, FileDisk, FileId, ImageFile, Opener, RandomFile, Reader};
+use geli_core::Words;
 use image_layers::{ImageDisk, open_image};
-use std::alloc::{AllocError, Global};
+use std::alloc::Global;
 
 /// The disks of images, and the files that the names led to.
 #[derive(Drop)]
@@ -43,19 +43,23 @@ where
     Ok(Images { disks, files })
 }
 
-// Whether the words are of a command that only reads its image.
-fn reads_alone(alloc: Global, words: &[String]) -> Result<bool, AllocError>
-    ensures { IfOk result (λ alone. alone ≡ reads_alone (command_in (line_of (map string_bytes words.now)))) }
+// Whether the images are to be changed: those of a script are, and else that of the command, but where it only reads.
+fn changes(said: &Words<'_>) -> bool
+    ensures { result ≡ changes_said said.now }
 {
-    Ok(is_reading(&command_in(&joined(alloc, words)?)))
+    match said {
+        Words::One { command, .. } => !is_reading(command),
+        Words::Script(_) | Words::Usage => true,
+    }
 }
 
-fn is_reading(command: &Option<Command>) -> bool
-    ensures { result ≡ reads_alone command.now }
+// Whether a command only reads its image.
+fn is_reading(command: &Command) -> bool
+    ensures { result ≡ reads_alone (Some command.now) }
 {
     match command {
-        Some(Command::Dump { .. } | Command::Backup { .. }) => true,
-        Some(Command::Attach { only_check, .. }) => *only_check,
+        Command::Dump { .. } | Command::Backup { .. } => true,
+        Command::Attach { only_check, .. } => *only_check,
         _ => false,
     }
 }
@@ -66,29 +70,31 @@ struct Ready<F: Reader>
 where
     FileDisk<F>: Disk,
 {
-    names: ImageNames,
+    names: Vec<String>,
     disks: Vec<ImageDisk<F>>,
     files: Vec<FileId>,
     entropy: RandomFile<F>,
 }
 
-// Opens the images that the words name, and then the random bytes. Nothing else is asked of the opener.
+// Opens the images that the words name, by what they say, and then the random bytes. Nothing else is asked of the opener.
 fn make_ready<O: Opener>(
     alloc: Global,
     opener: &mut O,
-    words: &[String],
+    said: &Words<'_>,
 ) -> Result<Ready<O::File>, NoMemory>
-    ensures names { IfOk result (λ ready. ready.names ≡ image_names (map string_bytes words.now)) }
-    ensures opens { IfOk result (λ ready. OpensAll O.leads O.answers O.File.tells O.File.locks O.File.ends O.asked (map string_bytes words.now)
+    requires { FitsItsLine said.now }
+    ensures names { IfOk result (λ ready. map string_bytes ready.names.items ≡ image_names_of said.now) }
+    ensures opens { IfOk result (λ ready. OpensNamed O.leads O.answers O.File.tells O.File.locks O.File.ends O.asked
+        (changes_said said.now) (image_names_of said.now)
         ready.disks.items ready.files.items ready.entropy opener.old opener.new) }
     ensures tells { IfOk result (λ ready. All (TellsImage O.File.told) ready.disks.items) }
     ensures faults { IfOk result (λ ready. ready.entropy.faults ≡ 0) }
     ensures calls { IfOk result (λ ready. ready.entropy.calls ≡ 0) }
-    ensures asked_part { OnErr result (AsksPart O.asked (map string_bytes words.now) opener.old opener.new) }
+    ensures asked_part { OnErr result
+        (AsksFirst O.asked (changes_said said.now) (image_names_of said.now) opener.old opener.new) }
 {
-    let names = images_of(alloc, words)?;
-    let changes = !reads_alone(alloc, words)?;
-    let Images { disks, files } = open_images(alloc, opener, changes, names.as_slice())?;
+    let names = said.images(alloc)?;
+    let Images { disks, files } = open_images(alloc, opener, changes(said), names.as_slice())?;
     Ok(Ready {
         names,
         disks,
@@ -103,29 +109,32 @@ pub(crate) struct Opened<O: Opener + Drop>
 where
     FileDisk<O::File>: Disk,
 {
-    pub(crate) names: ImageNames,
+    pub(crate) names: Vec<String>,
     pub(crate) disks: Vec<ImageDisk<O::File>>,
     pub(crate) files: FileCabinet<O>,
     pub(crate) entropy: RandomFile<O::File>,
 }
 
-/// Opens the images that the words name, and then the random bytes; no call was made of what is handed out. Where memory
-/// gave out the opener comes back.
+/// Opens the images that the words name, by what they say, and then the random bytes; no call was made of what is handed
+/// out. Where memory gave out the opener comes back.
 pub(crate) fn open_all<O: Opener + Drop>(
     alloc: Global,
     opener: O,
-    words: &[String],
+    said: &Words<'_>,
 ) -> Result<Opened<O>, (O, NoMemory)>
-    ensures names { IfOk result (λ opened. opened.names ≡ image_names (map string_bytes words.now)) }
-    ensures opens { IfOk result (λ opened. OpensAll O.leads O.answers O.File.tells O.File.locks O.File.ends O.asked (map string_bytes words.now)
+    requires { FitsItsLine said.now }
+    ensures names { IfOk result (λ opened. map string_bytes opened.names.items ≡ image_names_of said.now) }
+    ensures opens { IfOk result (λ opened. OpensNamed O.leads O.answers O.File.tells O.File.locks O.File.ends O.asked
+        (changes_said said.now) (image_names_of said.now)
         opened.disks.items opened.files.images.items opened.entropy opener opened.files.opener) }
     ensures tells { IfOk result (λ opened. All (TellsImage O.File.told) opened.disks.items) }
     ensures files { IfOk result (λ opened. (⟦<FileCabinet<O> as Cabinet>⟧).state opened.files ≡ new_cabinet) }
     ensures random { IfOk result (λ opened. (⟦<RandomFile<O::File> as Entropy>⟧).state opened.entropy ≡ new_entropy) }
-    ensures asked_part { IfErr result (λ refused. AsksPart O.asked (map string_bytes words.now) opener refused.0) }
+    ensures asked_part { IfErr result (λ refused.
+        AsksFirst O.asked (changes_said said.now) (image_names_of said.now) opener refused.0) }
 {
     let mut opener = opener;
-    match make_ready(alloc, &mut opener, words) {
+    match make_ready(alloc, &mut opener, said) {
         Ok(
             Ready {
                 names,

@@ -9,11 +9,11 @@ ghost use Rattle.shelf.specs.Shelved.{drawers_of};
 use crate::opening::{Opened, open_all};
 use block_traits::{Cabinet, Disk, NoMemory, Sink, Source};
 use file_edge::{FileCabinet, FileDisk, ImageFile, Opener};
-use geli_core::{AddFault, Drawers, Status, run_over};
+use geli_core::{AddFault, Drawers, Outside, Status, read_words, run_over};
 use image_layers::ImageDisk;
 use std::alloc::Global;
 
-/// Runs what the words ask for over the images that they name, and hands back the shelf with their disks, and the
+/// Reads the words once, runs what they ask for over the images that they name, and hands back the shelf with their disks, and the
 /// files, as the run left them. Each image is opened, in order, to be changed but where the command only reads, and then
 /// the random bytes, and nothing else. Or there was no memory for that: then neither was anything read nor printed, and
 /// the opener comes back. Words that aren't those of a script read nothing of the input.
@@ -33,22 +33,17 @@ pub fn run_files<O: Opener + Drop, S: Source, K: Sink>(
     ensures asked { IfErr result (λ refused. AsksPart O.asked (map string_bytes words.now) opener refused.0
         ⊎ HasOpened (⟦<FileDisk<O::File> as Disk>⟧) O.leads O.answers O.File.tells O.File.locks O.File.ends O.asked (map string_bytes words.now) opener refused.0) }
 {
+    let Ok(said) = read_words(alloc, words) else {
+        return Err((opener, NoMemory));
+    };
     let Opened {
         names,
         disks,
         mut files,
         mut entropy,
-    } = open_all(alloc, opener, words)?;
-    match run_over(
-        alloc,
-        words,
-        names.as_slice(),
-        disks,
-        input,
-        output,
-        &mut files,
-        &mut entropy,
-    ) {
+    } = open_all(alloc, opener, &said)?;
+    let mut outside = Outside::new(input, output, &mut files, &mut entropy);
+    match run_over(alloc, &said, names.as_slice(), disks, &mut outside) {
         Ok((status, shelf)) => Ok((status, shelf, files)),
         Err(refused) => Err((files.into_opener(), memory_fault(refused.fault))),
     }

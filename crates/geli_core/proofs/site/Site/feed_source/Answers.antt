@@ -1,15 +1,16 @@
-use Rattle.std.proofs.Common.{[], ◌++◌, ◌≤◌, ap, arith, length, length-append, length-take, refl, sym, take}
+use Rattle.std.proofs.Common.{[], ◌++◌, ◌≤◌, ap, arith, length, length-append, length-take, refl, rules, sym, take}
 use Rattle.std.proofs.lemmas.List.{take-append-le}
 use Rattle.geli_core.specs.Script.{script_limit}
 use Rattle.geli_core.proofs.Pieces.{IsTaken-piece, gave_piece, met_more, prepend_known-nothing}
 use Rattle.geli_core.proofs.Running.{IsServed-nothing}
-use Rattle.geli_core.proofs.feeding.feed_source.Goals as goal
+use Rattle.geli_core.proofs.site.Site.feed_source.Goals as goal
 
 pub loop-room-init : goal.loop-room-init
 loop-room-init g c =
     let none = ap length c.requires.empty in
     let ok = c.args.line.now.ok.0 in
     record {
+      same = (refl, refl, refl, refl);
       capacity = c.requires.room;
       short = omega arith;
       bytes = [];
@@ -53,6 +54,7 @@ loop-room-preserved g c =
     let most = c.min-most.ensures in
     let long = c.take.auto.into in
     record {
+      same = search (rules, c.in_default.ensures.same, inv.same);
       capacity = c.in_default.ensures.room;
       short = c.in_default.ensures.short;
       bytes = inv.bytes ++ take count into;

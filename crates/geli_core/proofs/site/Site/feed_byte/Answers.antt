@@ -1,18 +1,18 @@
 use Rattle.std.proofs.Common.{arith, length, ◌≡◌, ◌≤◌}
 use Rattle.command_words.specs.Reading.{line_limit}
 use Rattle.geli_core.proofs.Running.{IsServed-byte, IsServed-line, IsTooLong-byte, IsUnprinted-line}
-use Rattle.geli_core.proofs.feeding.feed_byte.Goals as goal
+use Rattle.geli_core.proofs.site.Site.feed_byte.Goals as goal
 
 pub returns-in-Err-clause-feeds : goal.returns-in-Err-clause-feeds
 returns-in-Err-clause-feeds g c =
     let short : length c.args.line.now.items ≤ line_limit = omega (arith, c.requires.short, c.args.line.now.ok.0) in
-    let served = rw c.as_slice.ensures.value at c.in-Err.ensures in
+    let served = rw c.as_slice.ensures.value at c.in-Err.ensures.serves in
     λ bytes old h. rw c.if-byte-eq10.true (IsUnprinted-line bytes old _ _ c.args.line.now.items c.args.refused.now _ short h served)
 
 pub returns-then-byte-eq10-clause-feeds : goal.returns-then-byte-eq10-clause-feeds
 returns-then-byte-eq10-clause-feeds g c =
     let short : length c.args.line.now.items ≤ line_limit = omega (arith, c.requires.short, c.args.line.now.ok.0) in
-    let served = rw c.as_slice.ensures.value at c.in-Ok.ensures in
+    let served = rw c.as_slice.ensures.value at c.in-Ok.ensures.serves in
     λ bytes old h. rw (c.if-byte-eq10.true, c.clear.ensures.items, c.either.ensures, c.is_refusal.ensures)
     (IsServed-line bytes old _ _ c.args.line.now.items c.args.refused.now c.in-Ok.end short h served)
 

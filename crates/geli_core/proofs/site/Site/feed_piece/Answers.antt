@@ -1,9 +1,9 @@
-use Rattle.std.proofs.Common.{◌++◌, ◌+◌, ◌≡◌, arith, take}
+use Rattle.std.proofs.Common.{◌++◌, ◌+◌, ◌≡◌, arith, rules, take}
 use Rattle.std.proofs.lemmas.List.{take_all}
 use Rattle.std.proofs.lemmas.Result.{err_from_is_err_and}
 use Rattle.geli_core.proofs.Pieces.{piece_more, stops_at}
 use Rattle.geli_core.proofs.Texts.{IsServed-part}
-use Rattle.geli_core.proofs.feeding.feed_piece.Goals as goal
+use Rattle.geli_core.proofs.site.Site.feed_piece.Goals as goal
 
 pub returns-in_err-feed_byte-clause-feeds : goal.returns-in_err-feed_byte-clause-feeds
 returns-in_err-feed_byte-clause-feeds g c =
@@ -26,6 +26,7 @@ places-preserved-then-taken-eq0 g c =
     let none = c.if-taken-eq0.true in
     let same : place + taken ≡ place = omega (arith, none) in
     record {
+      same = search (rules, c.in_ok-feed_byte.ensures.same, c.places.invariant.same);
       room = c.in_ok-feed_byte.ensures.room;
       short = c.in_ok-feed_byte.ensures.short;
       feeds = λ bytes old h.
@@ -40,6 +41,7 @@ places-preserved g c =
     let place = c.places.place in
     let taken = c.feed_text-taken.result in
     record {
+      same = c.places.invariant.same;
       room = c.feed_text-taken.ensures.room;
       short = c.feed_text-taken.ensures.short;
       feeds = λ bytes old h. rw c.feed_text-taken.ensures.items

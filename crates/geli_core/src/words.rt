@@ -1,0 +1,82 @@
+// What the words of the command line say, read once.
+ghost use Rattle.std.specs.Prelude.{◌≡◌, IfOk, length, map, string_bytes};
+ghost use Rattle.command_words.specs.Bounds.{IsBounded};
+ghost use Rattle.command_words.specs.Images.{name_at};
+ghost use Rattle.command_words.specs.Places.{CommandIsWithin, ProviderIsText, provider_of};
+ghost use Rattle.geli_core.specs.Words.{FitsItsLine, Says, image_names_of};
+
+use block_traits::NoMemory;
+use command_words::{Command, command_in, joined, script_images};
+use std::alloc::Global;
+use std::str;
+
+/// What the words of the command line say.
+#[derive(Drop)]
+pub enum Words<'a> {
+    /// A script, over images of these names.
+    Script(&'a [String]),
+    /// One command, with the line of the words.
+    One {
+        /// The words between zero bytes.
+        line: Vec<u8>,
+        /// The command that they say.
+        command: Command,
+    },
+    /// Neither.
+    Usage,
+}
+
+/// Reads the words of the command line: `script` and one to sixteen different names, or else one command.
+pub fn read_words(alloc: Global, words: &[String]) -> Result<Words<'_>, NoMemory>
+    ensures says { IfOk result (Says (map string_bytes words.now)) }
+    ensures fits { IfOk result FitsItsLine }
+{
+    if let Some(names) = script_images(words) {
+        return Ok(Words::Script(names));
+    }
+    let line = joined(alloc, words)?;
+    match command_in(&line) {
+        Some(command) => Ok(Words::One { line, command }),
+        None => Ok(Words::Usage),
+    }
+}
+
+impl Words<'_> {
+    /// The names of the images: those of the script, or the provider of the command, if it has one.
+    pub fn images(&self, alloc: Global) -> Result<Vec<String>, NoMemory>
+        requires { FitsItsLine self.now }
+        ensures { IfOk result (λ images. map string_bytes images.items ≡ image_names_of self.now) }
+    {
+        match self {
+            Words::Script(names) => copied(alloc, names),
+            Words::One { line, command } => provider_in(alloc, line, command),
+            Words::Usage => Ok(Vec::new(alloc)),
+        }
+    }
+}
+
+fn copied(alloc: Global, names: &[String]) -> Result<Vec<String>, NoMemory>
+    ensures { IfOk result (λ images. map string_bytes images.items ≡ map string_bytes names.now) }
+{
+    let mut images = Vec::new(alloc);
+    for name in names {
+        images.push(String::from_str(alloc, name.as_str())?)?;
+    }
+    Ok(images)
+}
+
+// The name of the provider, if the command has one.
+fn provider_in(alloc: Global, line: &[u8], command: &Command) -> Result<Vec<String>, NoMemory>
+    requires within { CommandIsWithin (length line.now) command.now }
+    requires text { ProviderIsText line.now command.now }
+    ensures { IfOk result (λ images. map string_bytes images.items ≡ name_at line.now (provider_of command.now)) }
+{
+    let mut images = Vec::new(alloc);
+    if let Some(span) = command.provider() {
+        match str::from_utf8(span.bytes_in(line)) {
+            Ok(name) => images.push(String::from_str(alloc, name)?)?,
+            Err(_) => unreachable!(),
+        }
+    }
+    Ok(images)
+}

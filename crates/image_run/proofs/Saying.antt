@@ -1,0 +1,17 @@
+-- What words say is what they ask to be opened.
+use Rattle.std.proofs.Common.{◌≡◌, ◌∙◌, ap, sym, List, ℕ, Bool, Option, None, Some}
+use Rattle.command_words.specs.Images.{line_of, script_images}
+use Rattle.command_words.specs.Reading.{command_in}
+use Rattle.command_words.specs.declared.commands.Command.{Command}
+use Rattle.geli_core.specs.Words.{Says}
+use Rattle.geli_core.specs.declared.words.Words.{Words}
+use Rattle.geli_core.specs.declared.words.Words.TheVariants.{Script, One, Usage}
+use Rattle.image_run.specs.Program.{changes_by, changes_images, changes_said}
+
+-- whether the images are to be changed
+pub same_changes : (words : List (List ℕ)) (said : Words) → Says words said → changes_said said ≡ changes_images words
+same_changes words (Script names) is = ap (λ (asks : Option (List (List ℕ))). changes_by asks (command_in (line_of words))) (sym is)
+same_changes words (One line command) is =
+    ap (λ (o : Option Command). changes_by None o) (sym is.2) ∙ ap (λ (asks : Option (List (List ℕ))). changes_by asks (command_in (line_of words))) (sym is.0)
+same_changes words Usage is =
+    ap (λ (o : Option Command). changes_by None o) (sym is.1) ∙ ap (λ (asks : Option (List (List ℕ))). changes_by asks (command_in (line_of words))) (sym is.0)

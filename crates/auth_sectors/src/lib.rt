@@ -54,8 +54,8 @@ pub fn seal_piece(ring: &mut KeyRing, offset: u64, plain: &[u8], out: &mut Secto
     zeros.fill(0);
 }
 
-/// Seals the plain bytes of four pieces of one length into their device sectors. The first stands at this byte offset of
-/// the device, and each other `step` bytes behind the one before it.
+/// Seals the plain bytes of four pieces of one length into their device sectors. The first stands at this byte offset
+/// of the device, and each other `step` bytes behind the one before it.
 pub fn seal_apart(
     ring: &mut KeyRing,
     offset: u64,
@@ -232,8 +232,8 @@ pub fn four_accepted(ring: &KeyRing, offset: u64, from: &[u8; 2048]) -> [bool; 4
     apart_accepted(ring, offset, 512, width, first, second, third, fourth)
 }
 
-/// Opens a piece that is accepted, of as many plain bytes as `out` has, from its device sector, which stands at this byte
-/// offset of the device. The tag isn't computed again.
+/// Opens a piece that is accepted, of as many plain bytes as `out` has, from its device sector, which stands at this
+/// byte offset of the device. The tag isn't computed again.
 pub fn open_accepted(ring: &mut KeyRing, offset: u64, from: &[u8], out: &mut [u8])
     requires sector { length from.now ≡ 512 }
     requires at_most { length out.old ≤ unit_bytes_of ring.old.keying.auth }

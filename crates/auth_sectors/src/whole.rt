@@ -7,8 +7,8 @@ ghost use Rattle.sealing.specs.Runs.{opened_run, sealed_run};
 use range_keys::KeyRing;
 use sealing::{open_run, seal_run};
 
-/// Enciphers the plain bytes of a piece into their place in its device sector, which is behind that of the tag, and puts
-/// zeros behind them.
+/// Enciphers the plain bytes of a piece into their place in its device sector, which is behind that of the tag, and
+/// puts zeros behind them.
 pub fn encipher(ring: &mut KeyRing, offset: u64, plain: &[u8], sector: &mut [u8])
     requires at_most { length plain.now ≤ unit_bytes_of ring.old.keying.auth }
     requires blocks { length plain.now % 16 ≡ 0 }

@@ -99,11 +99,22 @@ tag_tells k offset size sector code false long is tells =
     not_true (bytes_eq (kept_tag k sector) tag) (λ equal. let true_so = tells.1 (ap padded ((bytes_eq-Decides (kept_tag k sector) tag).0 equal) ∙ sym is) in absurd cc) in
     ap (λ (r : Result (List ℕ) ℕ). is_ok r) (cond-false (bytes_eq (kept_tag k sector) tag) (Ok (opened_run k offset text)) (Err offset) differs)
 
--- the same of a whole piece, whose cipher text is all that stands behind the tag
-pub whole_tells : (k : Keying) (offset : ℕ) (sector code : List ℕ) (same : Bool) → length sector ≡ 512 → code ≡ padded (tag_of k offset (drop (tag_bytes k.auth) sector))
-    → (IsTrue same ↔ (padded (kept_tag k sector) ≡ code)) → is_ok (opened_piece k offset (unit_bytes_of k.auth) sector) ≡ same
-whole_tells k offset sector code same long is tells =
-    tag_tells k offset (unit_bytes_of k.auth) sector code same long (is ∙ ap (λ (t : List ℕ). padded (tag_of k offset t)) (sym (whole_text k sector long))) tells
+-- the code that was computed of the cipher text where it stands
+pub code_in : (k : Keying) (offset tag size : ℕ) (sector code : List ℕ) → tag ≡ tag_bytes k.auth → code ≡ padded (tag_of k offset (take (tag + size - tag) (drop tag sector)))
+    → code ≡ padded (tag_of k offset (cipher_text_in k size sector))
+code_in k offset tag size sector code wide is =
+    let count : tag + size - tag ≡ size = omega arith in
+    is ∙ (λ i. padded (tag_of k offset (take (count i) (drop (wide i) sector))))
+
+-- what is deciphered of a piece that is accepted is what it reads as
+opens_if : (same : Bool) (plain : List ℕ) (offset : ℕ) → is_ok (cond same (Ok plain) (Err offset)) ≡ true → cond same (Ok plain) (Err offset) ≡ Ok plain
+opens_if true plain offset accepted = refl
+opens_if false plain offset accepted = absurd cc
+
+pub opens_accepted : (k : Keying) (offset size : ℕ) (sector plain : List ℕ) → is_ok (opened_piece k offset size sector) ≡ true → plain ≡ opened_run k offset (cipher_text_in k size sector)
+    → opened_piece k offset size sector ≡ Ok plain
+opens_accepted k offset size sector plain accepted is =
+    opens_if (bytes_eq (kept_tag k sector) (tag_of k offset (cipher_text_in k size sector))) (opened_run k offset (cipher_text_in k size sector)) offset accepted ∙ ap Ok (sym is)
 
 -- ---- the first fault among four
 

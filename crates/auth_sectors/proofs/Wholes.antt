@@ -1,10 +1,9 @@
 -- Whole pieces, each behind the one before it.
-use Rattle.std.proofs.Common.{◌≡◌, ℕ, ◌+◌, ◌-◌, ◌*◌, List, [], ◌∷◌, ◌++◌, length, take, drop, refl, sym, ap, ◌∙◌, arith, append-nil}
-use Rattle.std.proofs.lemmas.List.{take_at, drop_at, take_all, drop-drop, length-drop}
+use Rattle.std.proofs.Common.{◌≡◌, ℕ, ◌+◌, ◌-◌, ◌*◌, List, [], ◌∷◌, ◌++◌, length, take, drop, replicate, refl, sym, ap, ◌∙◌, arith}
+use Rattle.std.proofs.lemmas.List.{take_at, drop_at, take_all, drop-drop}
 use Rattle.block_traits.specs.Parts.{parts}
 use Rattle.eli_base.specs.Keying.{Keying}
 use Rattle.eli_base.specs.Units.{tag_bytes, unit_bytes_of}
-use Rattle.eli_base.proofs.Units.{tag_and_unit}
 use Rattle.range_keys.specs.Keys.{tag_key}
 use Rattle.sealing.specs.Pieces.{sealed_piece, tag_of}
 use Rattle.sealing.specs.Runs.{sealed_run}
@@ -12,23 +11,29 @@ use Rattle.sealing.proofs.Keys.{length-hmac_of}
 use Rattle.auth_sectors.specs.Tags.{padded}
 use Rattle.auth_sectors.proofs.Pieces.{front_of_code, sealed_parts}
 
--- a tag in front of cipher text that fills the device sector is the piece
-pub whole_piece : (k now later : Keying) (offset size : ℕ) (plain text code sector : List ℕ) → now ≡ k → later ≡ k → size ≡ tag_bytes k.auth → length text ≡ 512
-    → drop (tag_bytes now.auth) text ≡ sealed_run now offset plain → code ≡ padded (tag_of later offset (take (length text - size) (drop size text)))
-    → sector ≡ take size code ++ drop (length (take size code)) text → sector ≡ sealed_piece k offset plain
-whole_piece k now later offset size plain text code sector same still wide len sealed coded put =
-    let cipher_text : List ℕ = drop size text in
-    let all : take (length text - size) cipher_text ≡ cipher_text = take_all (length text - size) cipher_text (omega (arith, length-drop size text)) in
-    let tag : take size code ≡ tag_of k offset cipher_text =
-    front_of_code k later offset size cipher_text code still wide (coded ∙ ap (λ (l : List ℕ). padded (tag_of later offset l)) all) in
-    let long : length (take size code) ≡ size = ap (λ (l : List ℕ). length l) tag ∙ length-hmac_of k.auth (tag_key k offset) cipher_text ∙ sym wide in
-    let is : cipher_text ≡ sealed_run k offset plain =
-    ap (λ (n : ℕ). drop n text) (wide ∙ sym (ap (λ (j : Keying). tag_bytes j.auth) same)) ∙ sealed ∙ ap (λ (j : Keying). sealed_run j offset plain) same in
-    let full : 0 ≡ unit_bytes_of k.auth - length cipher_text = omega (arith, length-drop size text, tag_and_unit k.auth) in
+-- a tag in front of cipher text with zeros behind it is the piece
+pub piece_with_tag : (k now later : Keying) (offset size n : ℕ) (plain text code sector : List ℕ) → now ≡ k → later ≡ k → size ≡ tag_bytes k.auth → n ≡ length plain
+    → length (sealed_run now offset plain) ≡ length plain → drop (tag_bytes now.auth) text ≡ sealed_run now offset plain ++ replicate (unit_bytes_of now.auth - length plain) 0
+    → code ≡ padded (tag_of later offset (take (size + n - size) (drop size text))) → sector ≡ take size code ++ drop (length (take size code)) text
+    → sector ≡ sealed_piece k offset plain
+piece_with_tag k now later offset size n plain text code sector same still wide count long sealed coded put =
+    let run : List ℕ = sealed_run k offset plain in
+    let room : ℕ = unit_bytes_of k.auth - length plain in
+    let here : sealed_run now offset plain ≡ run = ap (λ (j : Keying). sealed_run j offset plain) same in
+    let behind : drop size text ≡ run ++ replicate room 0 =
+    ap (λ (m : ℕ). drop m text) (wide ∙ sym (ap (λ (j : Keying). tag_bytes j.auth) same)) ∙ sealed
+    ∙ (λ i. here i ++ replicate (unit_bytes_of (same i).auth - length plain) 0) in
+    let counted : length run ≡ length plain = ap (λ (l : List ℕ). length l) (sym here) ∙ long in
+    let some : size + n - size ≡ n = omega arith in
+    let cut : take (size + n - size) (drop size text) ≡ run =
+    (λ i. take (some i) (behind i)) ∙ take_at run (replicate room 0) n (counted ∙ sym count) in
+    let tag : take size code ≡ tag_of k offset run =
+    front_of_code k later offset size run code still wide (coded ∙ ap (λ (l : List ℕ). padded (tag_of later offset l)) cut) in
+    let front : length (take size code) ≡ size = ap (λ (l : List ℕ). length l) tag ∙ length-hmac_of k.auth (tag_key k offset) run ∙ sym wide in
     put
-    ∙ (λ i. take size code ++ drop (long i) text)
-    ∙ ap (λ (l : List ℕ). take size code ++ l) (sym (append-nil cipher_text))
-    ∙ sealed_parts k offset 0 plain (take size code) cipher_text [] tag is refl full
+    ∙ (λ i. take size code ++ drop (front i) text)
+    ∙ ap (λ (l : List ℕ). take size code ++ l) behind
+    ∙ sealed_parts k offset room plain (take size code) run (replicate room 0) tag refl refl (ap (λ (m : ℕ). unit_bytes_of k.auth - m) (sym counted))
 
 -- four device sectors are those of their bytes
 pub parts_of_four : (a b c d : List ℕ) → length a ≡ 512 → length b ≡ 512 → length c ≡ 512 → length d ≡ 512 → parts 512 4 (a ++ (b ++ (c ++ d))) ≡ a ∷ b ∷ c ∷ d ∷ []

@@ -5,7 +5,7 @@
 //! memory.
 #![tactic(auto)]
 
-ghost use Rattle.std.specs.Prelude.{◌≡◌, ◌≢◌, ◌+◌, ◌*◌, ◌%◌, ◌^◌, ◌<◌, ◌≤◌, Ok, Err, MatchResult, is_ok, length, map, replicate};
+ghost use Rattle.std.specs.Prelude.{◌≡◌, ◌≢◌, ◌+◌, ◌*◌, ◌%◌, ◌^◌, ◌<◌, ◌≤◌, [], ◌∷◌, Ok, Err, MatchResult, is_ok, length, map, replicate, true};
 ghost use Rattle.block_traits.specs.Parts.{parts};
 ghost use Rattle.eli_base.specs.Units.{unit_bytes_of};
 ghost use Rattle.sealing.specs.Pieces.{opened_piece, sealed_piece};
@@ -21,7 +21,7 @@ use eli_base::Auth;
 use range_keys::KeyRing;
 use sealing::{open_run, seal_run};
 use tags::{has_tag, is_same, padded, tag_of, tags_of_four};
-use whole::{decipher_whole, encipher_whole, put_tag};
+use whole::{decipher_whole, encipher, put_tag};
 
 /// That the tag in a device sector isn't that of its cipher text. Of both the first `length` bytes are the tag, and the
 /// rest is zeros.
@@ -54,6 +54,56 @@ pub fn seal_piece(ring: &mut KeyRing, offset: u64, plain: &[u8], out: &mut Secto
     zeros.fill(0);
 }
 
+/// Seals the plain bytes of four pieces of one length into their device sectors. The first stands at this byte offset
+/// of the device, and each other `step` bytes behind the one before it.
+pub fn seal_apart(
+    ring: &mut KeyRing,
+    offset: u64,
+    step: u64,
+    a: &[u8],
+    b: &[u8],
+    c: &[u8],
+    d: &[u8],
+    out: &mut [u8; 2048],
+)
+    requires on { ring.old.keying.auth ≢ Auth.Off }
+    requires at_most { length a.now ≤ unit_bytes_of ring.old.keying.auth }
+    requires blocks { length a.now % 16 ≡ 0 }
+    requires second { length b.now ≡ length a.now }
+    requires third { length c.now ≡ length a.now }
+    requires fourth { length d.now ≡ length a.now }
+    requires place { offset + 3 * step < 2 ^ 64 }
+    ensures sealed { parts 512 4 out.new
+        ≡ sealed_piece ring.old.keying offset a.now
+        ∷ sealed_piece ring.old.keying (offset + step) b.now
+        ∷ sealed_piece ring.old.keying (offset + 2 * step) c.now
+        ∷ sealed_piece ring.old.keying (offset + 3 * step) d.now ∷ [] }
+    ensures keying { ring.new.keying ≡ ring.old.keying }
+{
+    let size = ring.auth().tag_bytes();
+    let end = size + a.len();
+    let (first, rest) = out.split_at_mut(512);
+    let (second, rest) = rest.split_at_mut(512);
+    let (third, fourth) = rest.split_at_mut(512);
+    encipher(ring, offset, a, first);
+    encipher(ring, offset + step, b, second);
+    encipher(ring, offset + 2 * step, c, third);
+    encipher(ring, offset + 3 * step, d, fourth);
+    let tags = tags_of_four(
+        ring,
+        offset,
+        step,
+        &first[size..end],
+        &second[size..end],
+        &third[size..end],
+        &fourth[size..end],
+    );
+    put_tag(&tags[0][..size], first);
+    put_tag(&tags[1][..size], second);
+    put_tag(&tags[2][..size], third);
+    put_tag(&tags[3][..size], fourth);
+}
+
 /// Seals the plain bytes of four whole pieces into their device sectors, each behind the one before it.
 /// The first stands at this byte offset of the device.
 pub fn seal_four(ring: &mut KeyRing, offset: u64, plain: &[u8], out: &mut [u8; 2048])
@@ -63,27 +113,17 @@ pub fn seal_four(ring: &mut KeyRing, offset: u64, plain: &[u8], out: &mut [u8; 2
     ensures sealed { parts 512 4 out.new ≡ sealed_pieces ring.old.keying offset 4 plain.now }
     ensures keying { ring.new.keying ≡ ring.old.keying }
 {
-    let size = ring.auth().tag_bytes();
     let width = ring.auth().data_bytes();
-    let (first, rest) = out.split_at_mut(512);
-    let (second, rest) = rest.split_at_mut(512);
-    let (third, fourth) = rest.split_at_mut(512);
-    encipher_whole(ring, offset, &plain[..width], first);
-    encipher_whole(ring, offset + 512, &plain[width..2 * width], second);
-    encipher_whole(ring, offset + 1024, &plain[2 * width..3 * width], third);
-    encipher_whole(ring, offset + 1536, &plain[3 * width..], fourth);
-    let tags = tags_of_four(
+    seal_apart(
         ring,
         offset,
-        &first[size..],
-        &second[size..],
-        &third[size..],
-        &fourth[size..],
+        512,
+        &plain[..width],
+        &plain[width..2 * width],
+        &plain[2 * width..3 * width],
+        &plain[3 * width..],
+        out,
     );
-    put_tag(&tags[0][..size], first);
-    put_tag(&tags[1][..size], second);
-    put_tag(&tags[2][..size], third);
-    put_tag(&tags[3][..size], fourth);
 }
 
 /// Opens a piece of as many plain bytes as `out` has, from its device sector, which stands at this byte offset of the
@@ -135,6 +175,49 @@ pub fn piece_accepted(ring: &KeyRing, offset: u64, size: usize, from: &Sector) -
     has_tag(ring, from, &computed)
 }
 
+/// Which of four pieces of `size` plain bytes are accepted, each from its device sector. The first stands at this byte
+/// offset of the device, and each other `step` bytes behind the one before it. Nothing is deciphered.
+pub fn apart_accepted(
+    ring: &KeyRing,
+    offset: u64,
+    step: u64,
+    size: usize,
+    a: &[u8],
+    b: &[u8],
+    c: &[u8],
+    d: &[u8],
+) -> [bool; 4]
+    requires on { ring.now.keying.auth ≢ Auth.Off }
+    requires at_most { size ≤ unit_bytes_of ring.now.keying.auth }
+    requires first { length a.now ≡ 512 }
+    requires second { length b.now ≡ 512 }
+    requires third { length c.now ≡ 512 }
+    requires fourth { length d.now ≡ 512 }
+    requires place { offset + 3 * step < 2 ^ 64 }
+    ensures { result ≡ is_ok (opened_piece ring.now.keying offset size a.now)
+        ∷ is_ok (opened_piece ring.now.keying (offset + step) size b.now)
+        ∷ is_ok (opened_piece ring.now.keying (offset + 2 * step) size c.now)
+        ∷ is_ok (opened_piece ring.now.keying (offset + 3 * step) size d.now) ∷ [] }
+{
+    let tag = ring.auth().tag_bytes();
+    let end = tag + size;
+    let tags = tags_of_four(
+        ring,
+        offset,
+        step,
+        &a[tag..end],
+        &b[tag..end],
+        &c[tag..end],
+        &d[tag..end],
+    );
+    [
+        has_tag(ring, a, &tags[0]),
+        has_tag(ring, b, &tags[1]),
+        has_tag(ring, c, &tags[2]),
+        has_tag(ring, d, &tags[3]),
+    ]
+}
+
 /// Which of four whole pieces are accepted, each from the device sector behind that of the one before it. The first
 /// stands at this byte offset of the device. Nothing is deciphered.
 pub fn four_accepted(ring: &KeyRing, offset: u64, from: &[u8; 2048]) -> [bool; 4]
@@ -142,24 +225,26 @@ pub fn four_accepted(ring: &KeyRing, offset: u64, from: &[u8; 2048]) -> [bool; 4
     requires place { offset + 1536 < 2 ^ 64 }
     ensures { result ≡ map is_ok (opened_pieces ring.now.keying offset (parts 512 4 from.now)) }
 {
-    let size = ring.auth().tag_bytes();
+    let width = ring.auth().data_bytes();
     let (first, rest) = from.split_at(512);
     let (second, rest) = rest.split_at(512);
     let (third, fourth) = rest.split_at(512);
-    let tags = tags_of_four(
-        ring,
-        offset,
-        &first[size..],
-        &second[size..],
-        &third[size..],
-        &fourth[size..],
-    );
-    [
-        has_tag(ring, first, &tags[0]),
-        has_tag(ring, second, &tags[1]),
-        has_tag(ring, third, &tags[2]),
-        has_tag(ring, fourth, &tags[3]),
-    ]
+    apart_accepted(ring, offset, 512, width, first, second, third, fourth)
+}
+
+/// Opens a piece that is accepted, of as many plain bytes as `out` has, from its device sector, which stands at this
+/// byte offset of the device. The tag isn't computed again.
+pub fn open_accepted(ring: &mut KeyRing, offset: u64, from: &[u8], out: &mut [u8])
+    requires sector { length from.now ≡ 512 }
+    requires at_most { length out.old ≤ unit_bytes_of ring.old.keying.auth }
+    requires blocks { length out.old % 16 ≡ 0 }
+    requires accepted { is_ok (opened_piece ring.old.keying offset (length out.old) from.now) ≡ true }
+    ensures opened { opened_piece ring.old.keying offset (length out.old) from.now ≡ Ok out.new }
+    ensures keying { ring.new.keying ≡ ring.old.keying }
+{
+    let size = ring.auth().tag_bytes();
+    out.copy_from_slice(&from[size..size + out.len()]);
+    open_run(ring, offset, out);
 }
 
 /// Opens four whole pieces from their device sectors, each behind the one before it. The first stands at this byte
@@ -188,6 +273,7 @@ pub fn open_four(
     let tags = tags_of_four(
         ring,
         offset,
+        512,
         &first[size..],
         &second[size..],
         &third[size..],

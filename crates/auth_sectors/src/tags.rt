@@ -1,6 +1,6 @@
 //! Tags, in the first bytes of 64.
 
-ghost use Rattle.std.specs.Prelude.{◌≡◌, ◌≢◌, ◌↔◌, ◌+◌, ◌-◌, ◌^◌, ◌<◌, ◌≤◌, [], ◌∷◌, ◌++◌, IsTrue, get_or, length, replicate};
+ghost use Rattle.std.specs.Prelude.{◌≡◌, ◌≢◌, ◌↔◌, ◌+◌, ◌*◌, ◌-◌, ◌^◌, ◌<◌, ◌≤◌, [], ◌∷◌, ◌++◌, IsTrue, get_or, length, replicate};
 ghost use Rattle.sealing.specs.Pieces.{hmac_of, kept_tag, tag_of};
 ghost use Rattle.auth_sectors.specs.Tags.{padded};
 
@@ -88,30 +88,31 @@ fn codes_of_four(
 }
 
 /// The tags of four cipher texts of one length. The first is that of this byte offset, and each other is that of the
-/// device sector behind the one before it.
+/// offset `step` bytes behind the one before it.
 pub fn tags_of_four(
     ring: &KeyRing,
     offset: u64,
+    step: u64,
     first: &[u8],
     second: &[u8],
     third: &[u8],
     fourth: &[u8],
 ) -> [[u8; 64]; 4]
     requires on { ring.now.keying.auth ≢ Auth.Off }
-    requires place { offset + 1536 < 2 ^ 64 }
+    requires place { offset + 3 * step < 2 ^ 64 }
     requires second { length second.now ≡ length first.now }
     requires third { length third.now ≡ length first.now }
     requires fourth { length fourth.now ≡ length first.now }
     ensures { result ≡ padded (tag_of ring.now.keying offset first.now)
-        ∷ padded (tag_of ring.now.keying (offset + 512) second.now)
-        ∷ padded (tag_of ring.now.keying (offset + 1024) third.now)
-        ∷ padded (tag_of ring.now.keying (offset + 1536) fourth.now) ∷ [] }
+        ∷ padded (tag_of ring.now.keying (offset + step) second.now)
+        ∷ padded (tag_of ring.now.keying (offset + 2 * step) third.now)
+        ∷ padded (tag_of ring.now.keying (offset + 3 * step) fourth.now) ∷ [] }
 {
     let keys = [
         ring.tag_key_at(offset),
-        ring.tag_key_at(offset + 512),
-        ring.tag_key_at(offset + 1024),
-        ring.tag_key_at(offset + 1536),
+        ring.tag_key_at(offset + step),
+        ring.tag_key_at(offset + 2 * step),
+        ring.tag_key_at(offset + 3 * step),
     ];
     codes_of_four(ring.auth(), &keys, first, second, third, fourth)
 }

@@ -1,23 +1,29 @@
-//! A whole piece, whose cipher text fills its device sector behind the tag.
+//! A piece in its device sector: a tag, cipher text behind it, and zeros behind that.
 
-ghost use Rattle.std.specs.Prelude.{◌≡◌, ◌≤◌, ◌++◌, drop, length};
+ghost use Rattle.std.specs.Prelude.{◌≡◌, ◌-◌, ◌%◌, ◌≤◌, ◌++◌, drop, length, replicate};
 ghost use Rattle.eli_base.specs.Units.{tag_bytes, unit_bytes_of};
 ghost use Rattle.sealing.specs.Runs.{opened_run, sealed_run};
 
 use range_keys::KeyRing;
 use sealing::{open_run, seal_run};
 
-/// Enciphers the plain bytes of a whole piece into their place in its device sector, which is behind that of the tag.
-pub fn encipher_whole(ring: &mut KeyRing, offset: u64, plain: &[u8], sector: &mut [u8])
-    requires plain { length plain.now ≡ unit_bytes_of ring.old.keying.auth }
+/// Enciphers the plain bytes of a piece into their place in its device sector, which is behind that of the tag, and
+/// puts zeros behind them.
+pub fn encipher(ring: &mut KeyRing, offset: u64, plain: &[u8], sector: &mut [u8])
+    requires at_most { length plain.now ≤ unit_bytes_of ring.old.keying.auth }
+    requires blocks { length plain.now % 16 ≡ 0 }
     requires sector { length sector.old ≡ 512 }
-    ensures sealed { drop (tag_bytes ring.old.keying.auth) sector.new ≡ sealed_run ring.old.keying offset plain.now }
+    ensures sealed { drop (tag_bytes ring.old.keying.auth) sector.new
+        ≡ sealed_run ring.old.keying offset plain.now ++ replicate (unit_bytes_of ring.old.keying.auth - length plain.now) 0 }
+    ensures long { length (sealed_run ring.old.keying offset plain.now) ≡ length plain.now }
     ensures keying { ring.new.keying ≡ ring.old.keying }
 {
     let size = ring.auth().tag_bytes();
-    let text = &mut sector[size..];
+    let (_, rest) = sector.split_at_mut(size);
+    let (text, zeros) = rest.split_at_mut(plain.len());
     text.copy_from_slice(plain);
     seal_run(ring, offset, text);
+    zeros.fill(0);
 }
 
 /// Puts a tag in front of the cipher text.

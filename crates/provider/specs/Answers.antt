@@ -27,7 +27,7 @@ pub record Target : Type 0 where
   pub params : Params
   pub disk : DiskState
 
--- with what: a user key, the slot that is named, and whether the provider is to be only read
+-- with what: a user key, the slot that is named, and whether the provider is to be read-only
 pub record Means : Type 0 where
   pub key : List ℕ
   pub named : Option ℕ
@@ -123,7 +123,7 @@ pub record FailsWrite (k : Keying) (r : Request) (bytes : List ℕ) (old new : D
   pub in_range : IsInRange r
   pub fails : FailsIn (data_writes k r.sector r.count bytes) old new
 
--- what a write answers: a provider that is only read refuses each one, whatever its range
+-- what a write answers: a read-only provider refuses each one, whatever its range
 abbrev pub WriteAnswers : {D : Type 0} → (D → DiskState) → Request → List ℕ → Attached D → Attached D → Result (Unit {0}) WriteFault → Type 0
 WriteAnswers state r bytes old new (Ok done) = (old.readonly ≡ false) × IsWritten old.keying r bytes (state old.disk) (state new.disk)
 WriteAnswers state r bytes old new (Err write.ReadOnly) = (old.readonly ≡ true) × (new ≡ old)

@@ -9,7 +9,7 @@ use Rattle.eli_base.specs.Units.{media_sectors, units_per_sector}
 use Rattle.eli_metadata.specs.declared.metadata.Metadata.{Metadata}
 use Rattle.key_slots.specs.Slots.{IsFirstToOpen, Opens, numbered, unwrapped, unwrapped_any}
 
--- a disk, its keying, the slot of the metadata that gave the master key, and whether it is only read
+-- a disk, its keying, the slot of the metadata that gave the master key, and whether it is read-only
 pub record Attached (D : Type 0) : Type 0 where
   pub disk : D
   pub keying : Keying

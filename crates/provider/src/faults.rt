@@ -44,7 +44,7 @@ pub enum ReadFault {
 /// Why logical sectors weren't written.
 #[derive(Clone, Copy, Debug, PartialEq, Eq, Error)]
 pub enum WriteFault {
-    /// The provider is only read.
+    /// The provider is read-only.
     #[error("the provider is read-only")]
     ReadOnly,
     /// The request passes the end: its first sector, how many sectors it has, and how many there are.

@@ -38,7 +38,7 @@ fn media_on<D: Disk>(disk: &D, auth: Auth, sectorsize: u32) -> u64
 
 /// An attached provider, which has its disk.
 ///
-/// Contracts see the disk, the keying, the slot that gave the master key, and whether the provider is only read.
+/// Contracts see the disk, the keying, the slot that gave the master key, and whether the provider is read-only.
 // The bound is `Drop` and not `Disk`, so that the type may be named at a boxed disk.
 #[derive(Drop)]
 pub struct Provider<D: Drop> {
@@ -66,7 +66,7 @@ impl<D: Drop> Model for Provider<D> {
 
 impl<D: Disk> Provider<D> {
     /// Attaches the provider on this disk, whose metadata are `meta`: with the master key of the slot that is named, or
-    /// else of the first slot that `key` opens. It is only read where `readonly` or the metadata say so.
+    /// else of the first slot that `key` opens. It is read-only where `readonly` or the metadata say so.
     ///
     /// `params` are those that `check` gave of the metadata, and both gates let this disk and this slot through.
     ///
@@ -171,7 +171,7 @@ impl<D: Disk> Provider<D> {
         self.slot
     }
 
-    /// Whether the provider is only read.
+    /// Whether the provider is read-only.
     pub fn read_only(&self) -> bool
         ensures { result ≡ self.now.readonly }
     {
@@ -261,7 +261,7 @@ impl<D: Disk> Provider<D> {
     /// Writes logical sectors from number `sector` on, whose plain bytes are `from`; its length is a positive
     /// multiple of the sector size.
     ///
-    /// In this order: `ReadOnly`, exactly where the provider is only read; `OutOfRange`, exactly where the request
+    /// In this order: `ReadOnly`, exactly where the provider is read-only; `OutOfRange`, exactly where the request
     /// passes the end; and then no call of the disk is made. `DeviceFault` comes only where the device failed. The
     /// device sectors of the sealed bytes are written in ascending order, up to the first that fails. Nothing is
     /// read. The provider stays attached.
@@ -422,7 +422,7 @@ impl<D: Disk> Provider<D> {
     }
 }
 
-/// It has the disk's state, and keeps its keying, its slot and whether it is only read.
+/// It has the disk's state, and keeps its keying, its slot and whether it is read-only.
 impl<D: Disk> MetaPlace for Provider<D> {
     ghost state = { λ p. D.state p.disk };
 

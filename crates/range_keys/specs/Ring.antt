@@ -12,7 +12,8 @@ use Rattle.range_keys.specs.declared.expanded.RangeKey.{RangeKey}
 use Rattle.sha2.specs.Hashers.{Holds256}
 use Rattle.sha2.specs.declared.Sha256.{Sha256}
 
--- a ring, which gives the keys of one keying, and the numbers of the range keys that it keeps, the most recently used first
+-- a ring, which gives the keys of one keying, and the numbers of the range keys that it keeps, the most recently used
+-- first
 pub record Ring : Type 0 where
   pub keying : Keying
   pub numbers : List ℕ
@@ -25,8 +26,8 @@ pub record IsKeying (k : Keying) : Type 0 where
   pub at_most : k.sectorsize ≤ 65536
   pub whole : k.sectorsize % 512 ≡ 0
 
--- this is the key of which range keys are made, of this master key under these parameters; each kept key is that of its number; and
--- these hashers hold the bytes with which whatever initial vectors and tag keys are hashed of begins
+-- this is the key of which range keys are made, of this master key under these parameters; each kept key is that of its
+-- number; and these hashers hold the bytes with which whatever initial vectors and tag keys are hashed of begins
 pub record IsRing (params : Params) (master : MasterKey) (base : List ℕ) (kept : LruCache ℕ RangeKey) (of_vectors of_tags : Sha256) : Type 0 where
   pub ranges : base ≡ range_base params.version params.auth master.bytes
   pub keys : AreKept params.cipher params.keylen base kept

@@ -31,8 +31,8 @@ fn numbered_block(params: &Params) -> u64
 
 /// The keys of one provider, by byte offset on the device.
 ///
-/// Contracts see the keying that it was made for, which no call changes, and the numbers of the range keys that it keeps,
-/// the most recently used first.
+/// Contracts see the keying that it was made for, which no call changes, and the numbers of the range keys that it
+/// keeps, the most recently used first.
 #[derive(Drop)]
 pub struct KeyRing {
     params: Params,

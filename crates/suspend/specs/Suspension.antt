@@ -5,7 +5,7 @@ use Rattle.provider.specs.Attached.{Attached, media}
 use Rattle.sha2.specs.Sha256.{sha256}
 
 -- a disk, the bytes of a logical sector, how many there were, the slot that gave the master key, whether the provider
--- was only read, and the digest of the master key
+-- was read-only, and the digest of the master key
 pub record Suspension (D : Type 0) : Type 0 where
   pub disk : D
   pub sectorsize : ℕ

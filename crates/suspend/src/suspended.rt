@@ -99,7 +99,7 @@ impl<D: Disk> Suspended<D> {
         self.kept.slot
     }
 
-    /// Whether the provider was only read.
+    /// Whether the provider was read-only.
     pub fn read_only(&self) -> bool
         ensures { result ≡ self.now.readonly }
     {
@@ -145,7 +145,7 @@ impl<D: Disk> Suspended<D> {
 
     /// Attaches the provider again, by metadata of its disk: with the master key of the slot that is named, or else
     /// of the first slot that `key` opens, which has to be the master key that it had. Its keying is that of the
-    /// metadata. It is only read where it was so or the metadata say so.
+    /// metadata. It is read-only where it was so or the metadata say so.
     ///
     /// `params` are those that `check` gave of the metadata, and both gates let this disk and this slot through.
     ///

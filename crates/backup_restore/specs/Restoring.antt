@@ -6,7 +6,7 @@ use Rattle.eli_base.specs.declared.refusals.Refusal.{Refusal}
 use Rattle.eli_base.specs.declared.refusals.Refusal.TheVariants.{DeviceFault}
 use Rattle.eli_base.specs.declared.refusals.Refusal.TheVariants as refusals
 use Rattle.eli_metadata.specs.Checks.{size_matches}
-use Rattle.eli_metadata.specs.Format.{IsInRange, encoded, metadata_in}
+use Rattle.eli_metadata.specs.Format.{IsWhole, encoded, metadata_in}
 use Rattle.eli_metadata.specs.Place.{replace_events}
 use Rattle.eli_metadata.specs.Refusals.{refusal_of}
 use Rattle.eli_metadata.specs.declared.metadata.MetaFault.{MetaFault}
@@ -21,7 +21,8 @@ abbrev pub unless_fault : Result (Unit {0}) MetaFault → Metadata → Result Me
 unless_fault (Err fault) m = Err (refusal_of fault)
 unless_fault (Ok _) m = Ok m
 
--- the metadata of a backup for an image of so many device sectors: forced, the size becomes the image's; else it has to be it
+-- the metadata of a backup for an image of so many device sectors: forced, the size becomes the image's; else it has to
+-- be it
 abbrev pub fitted : Result Metadata MetaFault → Bool → ℕ → Result Metadata Refusal
 fitted (Err fault) force sectors = Err (refusal_of fault)
 fitted (Ok m) true sectors = Ok (record m { provsize = 512 * sectors })
@@ -38,19 +39,14 @@ restored bytes force sectors =
 abbrev pub AreBytes : List ℕ → Type 0
 AreBytes numbers = (k : ℕ) → slice_index numbers k < 256
 
--- each field of the metadata fits its type
-pub record FitsTypes (m : Metadata) : Type 0 where
-  pub range : IsInRange m
-  pub salt : length m.salt ≡ 64
-  pub mkeys : length m.mkeys ≡ 384
-
 -- these are the metadata of the bytes of a backup
 pub record GivesMetadata (bytes : List ℕ) (force : Bool) (sectors : ℕ) (m : Metadata) : Type 0 where
   pub given : AreBytes bytes
   pub served : restored bytes force sectors ≡ Ok m
-  pub fits : FitsTypes m
+  pub fits : IsWhole m
 
--- of what use metadata from a backup are: they are read again, and where they are not forced their sector is that of the backup
+-- of what use metadata from a backup are: they are read again, and where they are not forced their sector is that of
+-- the backup
 pub record IsBackedUp (bytes : List ℕ) (force : Bool) (m : Metadata) : Type 0 where
   pub again : metadata_in (encoded m) ≡ Ok m
   pub plain : IsFalse force → encoded m ≡ backed_up_sector bytes

@@ -1,4 +1,5 @@
-//! What follows of what `restore` did: of what use the metadata are, and what the last sector may hold whenever power fails.
+//! What follows of what `restore` did: of what use the metadata are, and what the last sector may hold whenever power
+//! fails.
 
 ghost use Rattle.std.specs.Prelude.{ℕ, Bool, List};
 ghost use Rattle.block_traits.specs.Disk.{DiskState, last_sector};

@@ -1,7 +1,7 @@
 //! Metadata that are put back from a backup.
 
 ghost use Rattle.std.specs.Prelude.{◌≡◌, ◌<◌, ◌≤◌, ◌^◌, OnOk, length};
-ghost use Rattle.backup_restore.specs.Restoring.{AreBytes, FitsTypes, Restores, backed_up_sector, restored};
+ghost use Rattle.backup_restore.specs.Restoring.{AreBytes, Restores, backed_up_sector, restored};
 
 use block_traits::{Disk, Sector};
 use eli_base::Refusal;
@@ -15,13 +15,6 @@ fn sector_of(bytes: &[u8]) -> Sector
     let mut sector = [0; 512];
     sector[..511].copy_from_slice(&bytes[..511]);
     sector
-}
-
-// All fields of metadata fit their types, so that what is written is read again.
-fn fits_types(meta: Metadata)
-    ensures { FitsTypes meta }
-{
-    let _ = meta;
 }
 
 // The metadata that a backup gives an image of so many device sectors, or its refusal.
@@ -70,7 +63,7 @@ pub fn restore<D: Disk>(disk: &mut D, bytes: &[u8], force: bool) -> Result<Metad
 {
     let sectors = disk.sectors();
     let meta = check(bytes, force, sectors)?;
-    fits_types(meta);
+    meta.fits_types();
     match replace_metadata(disk, &meta) {
         Ok(()) => Ok(meta),
         Err(_) => Err(Refusal::DeviceFault),

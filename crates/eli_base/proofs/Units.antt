@@ -11,12 +11,6 @@ tag_and_unit Sha256 = omega arith
 tag_and_unit Sha384 = omega arith
 tag_and_unit Sha512 = omega arith
 
-pub unit_at_least : (auth : Auth) → 448 ≤ unit_bytes_of auth
-unit_at_least Off = omega arith
-unit_at_least Sha256 = omega arith
-unit_at_least Sha384 = omega arith
-unit_at_least Sha512 = omega arith
-
 -- each unit is whole cipher blocks
 pub unit_whole : (auth : Auth) (size j : ℕ) → size % 512 ≡ 0 → min (unit_bytes_of auth) (size - unit_bytes_of auth * j) % 16 ≡ 0
 unit_whole Off size j whole = omega arith

@@ -4,3 +4,4 @@ pub mod Keying
 pub mod Units
 pub mod Geometry
 pub mod Refusals
+pub mod Requests

@@ -3,8 +3,8 @@ use Rattle.std.specs.Prelude.{ℕ, ◌+◌, ◌-◌, ◌*◌, ◌/◌}
 use Rattle.eli_base.specs.declared.algorithms.Auth.{Auth}
 use Rattle.eli_base.specs.declared.algorithms.Auth.TheVariants.{Off, Sha256, Sha384, Sha512}
 
--- The bytes of the tag with which each device sector begins: those of the code of HMAC with this hash (FIPS 180-4, figure 1),
--- and none without authentication. geli(8), "DATA AUTHENTICATION".
+-- The bytes of the tag with which each device sector begins: those of the code of HMAC with this hash (FIPS 180-4,
+-- figure 1), and none without authentication. geli(8), "DATA AUTHENTICATION".
 abbrev pub tag_bytes : Auth → ℕ
 tag_bytes Off = 0
 tag_bytes Sha256 = 32
@@ -15,7 +15,8 @@ tag_bytes Sha512 = 64
 abbrev pub unit_bytes_of : Auth → ℕ
 unit_bytes_of auth = 512 - tag_bytes auth
 
--- The device sectors of a logical sector of so many bytes, which are at least 1: its bytes divided by those of a unit, rounded up.
+-- The device sectors of a logical sector of so many bytes, which are at least 1: its bytes divided by those of a unit,
+-- rounded up.
 abbrev pub units_per_sector : Auth → ℕ → ℕ
 units_per_sector auth sectorsize = (sectorsize - 1) / unit_bytes_of auth + 1
 

@@ -13,5 +13,5 @@ mod refusals;
 pub use algorithms::{Auth, Cipher};
 pub use geometry::{GeoFault, Geometry, UnitSpan};
 pub use laws::units_without_authentication;
-pub use parameters::{MasterKey, Params, sector_size_ok};
+pub use parameters::{MasterKey, Params, REQUEST_LIMIT, sector_size_ok};
 pub use refusals::{Reason, Refusal};

@@ -6,6 +6,9 @@ ghost use Rattle.eli_base.specs.SectorSize.{is_sector_size};
 
 use crate::algorithms::{Auth, Cipher};
 
+/// The most bytes of a request.
+pub const REQUEST_LIMIT: u64 = 131_072;
+
 /// Whether `size` bytes are a logical sector, geli(8) `-s`: a power of two from 512 to 65,536.
 pub fn sector_size_ok(size: u32) -> bool
     ensures answer { result ≡ is_sector_size size }
@@ -35,7 +38,7 @@ pub struct Params {
     pub sectorsize: u32,
     /// The bytes of the image, metadata included.
     pub provsize: u64,
-    /// Whether the metadata asks for a provider that is only read.
+    /// Whether the metadata asks for a read-only provider.
     pub readonly: bool,
     pub ghost allowed: { IsTrue (allows_length cipher keylen) },
     pub ghost sized: { IsTrue (is_sector_size sectorsize) },

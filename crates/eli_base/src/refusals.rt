@@ -81,7 +81,7 @@ pub enum Refusal {
     PassphraseNeeded,
     /// The request passes the end of the media, all in logical sectors.
     OutOfRange { sector: u64, count: u64, media: u64 },
-    /// The provider is only read.
+    /// The provider is read-only.
     ReadOnly,
     /// The tag of the unit at this device byte offset differs.
     Integrity { offset: u64 },

@@ -1,6 +1,6 @@
--- The metadata sector as a list of 512 bytes: g_eli.h, struct g_eli_metadata and eli_metadata_decode, versions 5, 6 and 7.
--- Numbers are little-endian, and the fields are packed.
-use Rattle.std.specs.Prelude.{ℕ, ◌<◌, ◌^◌, FitsSigned, ℤ, List, [], ◌∷◌, ◌++◌, take, drop, slice_index, bit_and, Bool, ◌==◌, ◌&&◌, ◌||◌, if◌then◌else◌, Result, Ok, Err}
+-- The metadata sector as a list of 512 bytes: g_eli.h, struct g_eli_metadata and eli_metadata_decode, versions 5, 6 and
+-- 7. Numbers are little-endian, and the fields are packed.
+use Rattle.std.specs.Prelude.{◌≡◌, ℕ, ◌<◌, ◌^◌, FitsSigned, ℤ, List, [], ◌∷◌, ◌++◌, length, take, drop, slice_index, bit_and, Bool, ◌==◌, ◌&&◌, ◌||◌, if◌then◌else◌, Result, Ok, Err}
 use Rattle.std.specs.Int.{w32, cast_signed, cast_unsigned}
 use Rattle.std.specs.Str.{bytes_eq}
 use Rattle.byteorder.specs.Endian.{little_number, little_bytes}
@@ -66,6 +66,12 @@ pub record IsInRange (m : Metadata) : Type 0 where
   pub provsize : m.provsize < 2 ^ 64
   pub sectorsize : m.sectorsize < 2 ^ 32
   pub iterations : FitsSigned w32 m.iterations
+
+-- each field fits its type
+pub record IsWhole (m : Metadata) : Type 0 where
+  pub range : IsInRange m
+  pub salt : length m.salt ≡ 64
+  pub mkeys : length m.mkeys ≡ 384
 
 -- the n bytes of a number
 unfoldable pub number_bytes : ℕ → ℕ → List ℕ

@@ -1,6 +1,7 @@
 // The fields of the metadata, and what may be wrong with them.
 ghost use Rattle.std.specs.Prelude.{◌≡◌, ◌<◌};
 ghost use Rattle.eli_metadata.specs.Checks.{is_set};
+ghost use Rattle.eli_metadata.specs.Format.{IsWhole};
 ghost use Rattle.eli_metadata.specs.Refusals.{refusal_of};
 
 use eli_base::Refusal;
@@ -54,6 +55,13 @@ impl Metadata {
         ensures { result ≡ is_set self.now slot }
     {
         self.keys & (1 << slot) != 0
+    }
+
+    /// All fields fit their types, so that what is written is read again.
+    pub fn fits_types(self)
+        ensures { IsWhole self }
+    {
+        let _ = self;
     }
 }
 

@@ -26,13 +26,6 @@ module _ {O F : Type 0} {g : Ghosts (FileDisk F)} (leads : O → List ℕ → Re
   abbrev Image : List ℕ → ImageDisk F g → Opening O → Opening O → Type 0
   Image = OpensImage leads answers tells locks ends log_of changes
 
-  -- a disk for which writes wait
-  pub waits : (name rest : List ℕ) (disk : FileDisk F) (image : ImageDisk F g) (old new : Opening O) → IsBehindOf name rest → WaitsFor disk image → OpensOne leads answers tells locks ends log_of changes rest disk old new → Image name image old new
-  waits name rest disk (Behind behind) old new is for one =
-      record { rest = rest; behind = is; opens = subst (λ (d : FileDisk F). OpensOne leads answers tells locks ends log_of changes rest d old new) (sym for.0) one; none = for.1; most = for.2; unrefused = for.3 }
-  waits name rest disk (Plain other) old new is for one = absurd for
-  waits name rest disk (Join both) old new is for one = absurd for
-
   -- two disks as one, or none
   pub joined : (name left right : List ℕ) (first second : FileDisk F) (image : ImageDisk F g) (old new : Opening O) → IsJoinOf name left right → JoinsOrIsNone first second image
       → OpensBoth leads answers tells locks ends log_of changes left right first second old new → Image name image old new

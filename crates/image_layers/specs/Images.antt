@@ -80,8 +80,8 @@ abbrev pub opening : {O : Type 0} → O → List FileId → Opening O
 opening opener files = record { opener = opener; files = files }
 
 module _ {O F : Type 0} (leads : O → List ℕ → Result Found Error → Type 0) (answers : O → OpenOptions → List ℕ → Result F Error → Type 0) (tells : F → Result Found Error → Type 0) (locks : F → Bool → Type 0) (ends : F → Option ℕ → Type 0) (log_of : O → Option (List Asked)) (changes : Bool) where
-  -- the disk of the file of this name, opened beside the files so far: nothing else is asked of the opener, the file is one of
-  -- them from then on, and no call of the disk was made
+  -- the disk of the file of this name, opened beside the files so far: nothing else is asked of the opener, the file is
+  -- one of them from then on, and no call of the disk was made
   pub record OpensOne (name : List ℕ) (disk : FileDisk F) (old new : Opening O) : Type 0 where
     pub opens : OpensDisk tells locks ends old.files changes leads answers old.opener name disk
     pub asked : AsksDisk log_of old.opener changes name new.opener
@@ -96,8 +96,8 @@ module _ {O F : Type 0} (leads : O → List ℕ → Result Found Error → Type 
     pub one : OpensOne left first old between
     pub other : OpensOne right second between new
 
-  -- `behind:` and more: the disk of the file of what follows, for which 256 writes may wait and none does; no call below was
-  -- refused
+  -- `behind:` and more: the disk of the file of what follows, for which 256 writes may wait and none does; no call
+  -- below was refused
   pub record OpensBehind (name : List ℕ) (disk : FileDisk F) (waits room : ℕ) (clean : Bool) (old new : Opening O) : Type 0 where
     pub rest : List ℕ
     pub behind : IsBehindOf name rest

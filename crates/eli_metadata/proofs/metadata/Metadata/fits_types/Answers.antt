@@ -1,11 +1,11 @@
 use Rattle.std.proofs.Common.{rules, ◌≡◌, ◌<◌, ◌^◌, length}
 use Rattle.std.specs.Prelude.{FitsSigned}
 use Rattle.std.specs.Int.{w32}
-use Rattle.backup_restore.proofs.restoring.fits_types.Goals as goal
+use Rattle.eli_metadata.proofs.metadata.Metadata.fits_types.Goals as goal
 
 pub returns : goal.returns
 returns c =
-    let m = c.args.meta in
+    let m = c.args.self in
     let version : m.version < 2 ^ 32 = search rules in
     let flags : m.flags < 2 ^ 32 = search rules in
     let ealgo : m.ealgo < 2 ^ 16 = search rules in

@@ -16,7 +16,7 @@ use Rattle.bio_queue.specs.Sectors.{opened_data, opened_sectors, sealed_sectors}
 -- ---- parts of 512 bytes
 
 -- some parts, and then more
-pub parts-more : (m n : ℕ) (bytes : List ℕ) → parts 512 (m + n) bytes ≡ parts 512 m bytes ++ parts 512 n (drop (512 * m) bytes)
+parts-more : (m n : ℕ) (bytes : List ℕ) → parts 512 (m + n) bytes ≡ parts 512 m bytes ++ parts 512 n (drop (512 * m) bytes)
 parts-more zero n bytes =
     let count : zero + n ≡ n = omega arith in
     let none : 512 * zero ≡ 0 = omega arith in
@@ -29,17 +29,17 @@ parts-more (suc m) n bytes =
     ∙ ap (λ (b : List ℕ). parts 512 m (drop 512 bytes) ++ parts 512 n b) (drop-drop (512 * m) 512 bytes ∙ ap (λ (c : ℕ). drop c bytes) at))
 
 -- the first of them
-pub take-parts : (m n : ℕ) (bytes : List ℕ) → m ≤ n → take m (parts 512 n bytes) ≡ parts 512 m bytes
+take-parts : (m n : ℕ) (bytes : List ℕ) → m ≤ n → take m (parts 512 n bytes) ≡ parts 512 m bytes
 take-parts zero n bytes le = refl
 take-parts (suc m) zero bytes le = absurd (omega arith)
 take-parts (suc m) (suc n) bytes le = ap (λ (l : List (List ℕ)). take 512 bytes ∷ l) (take-parts m n (drop 512 bytes) (omega arith))
 
 -- and those behind them
-pub drop-parts : (m n : ℕ) (bytes : List ℕ) → drop m (parts 512 (m + n) bytes) ≡ parts 512 n (drop (512 * m) bytes)
+drop-parts : (m n : ℕ) (bytes : List ℕ) → drop m (parts 512 (m + n) bytes) ≡ parts 512 n (drop (512 * m) bytes)
 drop-parts m n bytes = ap (drop m) (parts-more m n bytes) ∙ drop_at (parts 512 m bytes) (parts 512 n (drop (512 * m) bytes)) m (length-parts 512 m bytes)
 
 -- a block of parts that is put behind others
-pub parts-put_block : (m n width at : ℕ) (bytes block : List ℕ) → at ≡ 512 * m → length block ≡ 512 * n → 512 * m ≤ length bytes
+parts-put_block : (m n width at : ℕ) (bytes block : List ℕ) → at ≡ 512 * m → length block ≡ 512 * n → 512 * m ≤ length bytes
     → parts 512 (m + n) (put_mid at width bytes block) ≡ parts 512 m bytes ++ parts 512 n block
 parts-put_block m n width at bytes block is long room =
     let now : List ℕ = put_mid at width bytes block in

@@ -7,7 +7,7 @@ use Rattle.bio_queue.specs.Requests.{AscendsFrom, IsLeastFree, Request, exchange
 
 -- ---- ascending tags
 
-pub ascends-weaker : (m n : ℕ) (queue : List Request) → m ≤ n → AscendsFrom n queue → AscendsFrom m queue
+ascends-weaker : (m n : ℕ) (queue : List Request) → m ≤ n → AscendsFrom n queue → AscendsFrom m queue
 ascends-weaker m n [] le h = tt
 ascends-weaker m n (x ∷ queue) le h = let low = h.0 in (omega arith, h.1, h.2)
 

@@ -3,6 +3,7 @@ use Rattle.std.specs.Prelude.{◌≡◌, ℕ, ◌+◌, ◌*◌, ◌<◌, ◌≤�
 use Rattle.block_traits.specs.Causes.{Counted}
 use Rattle.block_traits.specs.Disk.{DiskState, FailsIn, Gives, Logs}
 use Rattle.eli_base.specs.Keying.{Keying}
+use Rattle.eli_base.specs.Requests.{request_limit}
 use Rattle.provider.specs.Attached.{media}
 use Rattle.sealing.specs.Sectors.{units}
 use Rattle.bio_queue.specs.declared.faults.ReapFault.{ReapFault}
@@ -17,10 +18,6 @@ use Rattle.bio_queue.specs.declared.job.Reaped.{Reaped}
 use Rattle.bio_queue.specs.declared.job.Reaped.TheVariants.{Bytes, Written, Flushed}
 use Rattle.bio_queue.specs.Requests.{IsBelow, IsLeastFree, Request, exchanged, left_of, next_of, put_in, request_with, step_events, stepped, without}
 use Rattle.bio_queue.specs.Sectors.{opened_data, sealed_sectors}
-
--- the most bytes of a request
-abbrev pub request_limit : ℕ
-request_limit = 131072
 
 -- ---- submitting
 
@@ -46,7 +43,7 @@ device_of k Flush from = []
 abbrev pub asked : Keying → ℕ → Job → List ℕ → Request
 asked k tag job from = record { tag = tag; job = job; done = 0; units = units_of k job; device = device_of k job from }
 
--- a provider that is only read takes no write
+-- a read-only provider takes no write
 abbrev pub Takes : Bool → Job → Type 0
 Takes readonly (Read sector count) = Unit {0}
 Takes readonly (Write sector count) = readonly ≡ false
@@ -69,7 +66,7 @@ PassesEnd media (Read sector count) first many there = (media < sector + count) 
 PassesEnd media (Write sector count) first many there = (media < sector + count) × (first ≡ sector) × (many ≡ count) × (there ≡ media)
 PassesEnd media Flush first many there = ⊥
 
--- a provider that is only read or not, with so many logical sectors, takes the job
+-- a provider that is read-only or not, with so many logical sectors, takes the job
 pub record IsAdmitted (readonly : Bool) (media : ℕ) (job : Job) : Type 0 where
   pub takes : Takes readonly job
   pub in_range : IsInRange media job
@@ -95,7 +92,7 @@ pub record IsSubmitted (k : Keying) (readonly : Bool) (d : DiskState) (job : Job
   pub free : IsLeastFree tag old
   pub queue : new ≡ put_in (asked k tag job from) old
 
--- what submitting a job answers, by the keying of the provider, whether it is only read, and its disk
+-- what submitting a job answers, by the keying of the provider, whether it is read-only, and its disk
 abbrev pub SubmitAnswers : Keying → Bool → DiskState → Job → List ℕ → List Request → List Request → Result ℕ SubmitFault → Type 0
 SubmitAnswers k readonly d job from old new (Ok tag) = IsSubmitted k readonly d job from old new tag
 SubmitAnswers k readonly d job from old new (Err fault) = IsRefusedBy readonly (media k d) job (length old) fault × (new ≡ old)
@@ -126,7 +123,8 @@ pub record StepsOn (tag left : ℕ) (old new : List Request) (before after : Dis
   pub queue : new ≡ exchanged (stepped request bytes) old
   pub rest : left ≡ left_of (stepped request bytes)
 
--- the device failed at the next unit of the request with this tag: its event was logged or wasn't, and the unit isn't done
+-- the device failed at the next unit of the request with this tag: its event was logged or wasn't, and the unit isn't
+-- done
 pub record FailsStep (tag : ℕ) (old new : List Request) (before after : DiskState) : Type 0 where
   pub request : Request
   pub found : request_with tag old ≡ Some request
@@ -177,7 +175,8 @@ Gave k (Read sector count) device before after reaped =
 Gave k (Write sector count) device before after reaped = (reaped ≡ Written) × (after ≡ before)
 Gave k Flush device before after reaped = (reaped ≡ Flushed) × (after ≡ before)
 
--- a unit among the device sectors that a read was given has another tag than its cipher text: the first has this byte offset
+-- a unit among the device sectors that a read was given has another tag than its cipher text: the first has this byte
+-- offset
 abbrev pub HasBadUnit : Keying → Job → List (List ℕ) → ℕ → Type 0
 HasBadUnit k (Read sector count) device offset = opened_data k sector count device ≡ Err offset
 HasBadUnit k (Write sector count) device offset = ⊥

@@ -18,7 +18,8 @@ room_of (Read sector count) units = 512 * units
 room_of (Write sector count) units = 512 * units
 room_of Flush units = 0
 
--- no more units are done than there are, the first device sector is that of the job, and each unit of a read or a write has its bytes
+-- no more units are done than there are, the first device sector is that of the job, and each unit of a read or a write
+-- has its bytes
 pub record IsHeld (job : Job) (many all first bytes : ℕ) : Type 0 where
   pub within : many ≤ all
   pub place : first ≡ first_of job all

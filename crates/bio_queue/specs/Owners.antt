@@ -1,13 +1,15 @@
--- Requests that were made of a provider, as it still is: it would make them of their jobs, with as many units, in its sectors.
+-- Requests that were made of a provider, as it still is: it would make them of their jobs, with as many units, in its
+-- sectors.
 use Rattle.std.specs.Prelude.{◌≡◌, ℕ, ◌+◌, ◌*◌, ◌≤◌, List, [], ◌∷◌, IsSomeAnd}
 use Rattle.eli_base.specs.Keying.{Keying}
+use Rattle.eli_base.specs.Requests.{request_limit}
 use Rattle.sealing.specs.Sectors.{units}
-use Rattle.bio_queue.specs.Answers.{request_limit}
 use Rattle.bio_queue.specs.Requests.{Request, request_with}
 use Rattle.bio_queue.specs.declared.job.Job.{Job}
 use Rattle.bio_queue.specs.declared.job.Job.TheVariants.{Read, Write, Flush}
 
--- so many units are those of so many logical sectors from this one on, of a provider with this keying and so many logical sectors
+-- so many units are those of so many logical sectors from this one on, of a provider with this keying and so many
+-- logical sectors
 pub record IsMadeFor (k : Keying) (media sector count many : ℕ) : Type 0 where
   pub some : 1 ≤ count
   pub few : count * k.sectorsize ≤ request_limit

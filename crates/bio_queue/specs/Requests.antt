@@ -5,8 +5,8 @@ use Rattle.block_traits.specs.declared.disk.Event.TheVariants as event
 use Rattle.bio_queue.specs.declared.job.Job.{Job}
 use Rattle.bio_queue.specs.declared.job.Job.TheVariants.{Read, Write, Flush}
 
--- a request: its tag, what was asked, how many of its units are done, how many it has, and the device sectors of a write, or those of
--- a read that were read so far
+-- a request: its tag, what was asked, how many of its units are done, how many it has, and the device sectors of a
+-- write, or those of a read that were read so far
 pub record Request : Type 0 where
   pub tag : ℕ
   pub job : Job

@@ -4,7 +4,7 @@ use thiserror::Error;
 /// Why a job wasn't submitted.
 #[derive(Clone, Copy, Debug, PartialEq, Eq, Error)]
 pub enum SubmitFault {
-    /// The provider is only read.
+    /// The provider is read-only.
     #[error("the provider is read-only")]
     ReadOnly,
     /// The job passes the end: its first sector, how many sectors it has, and how many there are.

@@ -1,8 +1,9 @@
 // The requests that are open on a provider.
 ghost use Rattle.std.specs.Prelude.{◌≡◌, ◌↔◌, ◌+◌, ◌<◌, ◌≤◌, [], IfOk, IfSome, IsTrue, MatchResult, length, vec_capacity, vec_len};
 ghost use Rattle.std.specs.List.{insert};
+ghost use Rattle.eli_base.specs.Requests.{request_limit};
 ghost use Rattle.provider.specs.Attached.{IsKept, media};
-ghost use Rattle.bio_queue.specs.Answers.{CanBeReaped, CanStep, IsAdmitted, IsAsked, IsRefused, OnNoCall, ReapAnswers, StepAnswers, SubmitAnswers, request_limit};
+ghost use Rattle.bio_queue.specs.Answers.{CanBeReaped, CanStep, IsAdmitted, IsAsked, IsRefused, OnNoCall, ReapAnswers, StepAnswers, SubmitAnswers};
 ghost use Rattle.bio_queue.specs.Kept.{gap_from, place_of};
 ghost use Rattle.bio_queue.specs.Owners.{IsServed};
 ghost use Rattle.bio_queue.specs.Requests.{AscendsFrom, request_with};
@@ -84,7 +85,7 @@ impl Queue {
     /// Opens a request for a job, and answers the least tag that isn't in use. A write is sealed here, from its plain
     /// bytes `from`. No call of the disk is made, and the provider is as before.
     ///
-    /// In this order: `ReadOnly`, exactly where the provider is only read and the job is a write; `OutOfRange`,
+    /// In this order: `ReadOnly`, exactly where the provider is read-only and the job is a write; `OutOfRange`,
     /// exactly where the job passes the end; `QueueFull`, exactly where 32 requests are open; `NoMemory`. After a
     /// refusal the queue is as before.
     pub fn submit<D: Disk>(

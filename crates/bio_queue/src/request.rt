@@ -10,6 +10,7 @@ ghost use Rattle.bio_queue.specs.Owners.{IsMadeFor};
 use crate::opening::{open_all, seal_all};
 use crate::{Job, Reaped};
 use block_traits::{Disk, DiskFailed, NoMemory, Sector};
+use eli_base::REQUEST_LIMIT;
 use provider::{BadUnit, Provider};
 use std::alloc::Global;
 use std::marker::Model;
@@ -42,9 +43,6 @@ impl Model for OpenRequest {
     ghost invariant = { λ r. IsHeld r.job r.done r.units r.first (vec_len r.device) };
 }
 
-// The most bytes of a request.
-const LIMIT: u64 = 131_072;
-
 // Whether a provider would make so many units of so many logical sectors from this one on.
 fn is_made_for<D: Disk>(on: &Provider<D>, sector: u64, count: u32, units: u32) -> bool
     ensures { IsTrue result ↔ IsMadeFor on.now.keying (media on.now.keying (D.state on.now.disk)) sector count units }
@@ -52,7 +50,7 @@ fn is_made_for<D: Disk>(on: &Provider<D>, sector: u64, count: u32, units: u32) -
     let many = u64::from(count);
     let there = on.sectors();
     many >= 1
-        && many * u64::from(on.sector_size()) <= LIMIT
+        && many * u64::from(on.sector_size()) <= REQUEST_LIMIT
         && many <= there
         && sector <= there - many
         && u64::from(units) == many * on.units()
@@ -93,7 +91,8 @@ fn read_unit<D: Disk>(
 }
 
 impl OpenRequest {
-    ghost use Rattle.bio_queue.specs.Answers.{AsksReads, CanBeReaped, CanStep, Gave, HasBadUnit, IsAsked, IsGiven, IsInRange, asked, request_limit};
+    ghost use Rattle.bio_queue.specs.Answers.{AsksReads, CanBeReaped, CanStep, Gave, HasBadUnit, IsAsked, IsGiven, IsInRange, asked};
+    ghost use Rattle.eli_base.specs.Requests.{request_limit};
     ghost use Rattle.bio_queue.specs.Owners.{IsOf};
     ghost use Rattle.bio_queue.specs.Requests.{Request, left_of, next_of, step_events, stepped};
 

@@ -11,6 +11,7 @@ use Rattle.command_words.specs.Places.{bytes_at}
 use Rattle.command_words.specs.declared.spans.KeyWords.{KeyWords}
 use Rattle.command_words.specs.declared.spans.Span.{Span}
 use Rattle.eli_base.specs.Keying.{Keying}
+use Rattle.eli_base.specs.Requests.{request_limit}
 use Rattle.eli_base.specs.Units.{media_sectors}
 use Rattle.eli_base.specs.declared.parameters.MasterKey.{MasterKey}
 use Rattle.eli_base.specs.declared.refusals.Refusal.{Refusal}
@@ -219,10 +220,6 @@ pub record Detaches (old : Reach) (answer : Result (Unit {0}) Refusal) (new : Re
   pub outside : KeepsOutside old new
 
 -- ---- logical sectors are read and written
-
--- the most bytes of a request
-abbrev pub request_limit : ℕ
-request_limit = 131072
 
 -- so many bytes are whole logical sectors of so many bytes each, at least one and not too many: their number
 abbrev pub whole_sectors : ℕ → ℕ → Result ℕ Refusal

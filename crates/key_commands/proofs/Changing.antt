@@ -10,6 +10,7 @@ use Rattle.eli_base.specs.declared.algorithms.Cipher.{Cipher}
 use Rattle.eli_base.specs.declared.algorithms.Cipher.TheVariants.{AesCbc, AesXts}
 use Rattle.eli_base.specs.declared.refusals.Refusal.{Refusal}
 use Rattle.eli_base.specs.declared.refusals.Refusal.TheVariants as refusals
+use Rattle.eli_metadata.specs.Format.{IsWhole}
 use Rattle.eli_metadata.proofs.Laws.{metadata_in-encoded}
 use Rattle.eli_metadata.proofs.Supported.{said}
 use Rattle.eli_metadata.specs.Checks.{Settings, are_clear, is_set, named_slot_opens, slot_matches, supported}
@@ -28,7 +29,6 @@ use Rattle.user_key.specs.declared.components.PassPart.TheVariants.{Without, Mis
 use Rattle.user_key.specs.declared.components.UserKey.{UserKey}
 use Rattle.key_commands.specs.NewKey.{HasNewKey, IsAcceptedAs, IsAskedFor, KeepsSlot, KeyChange, MakesKey, change_refusal, is_only_key, iterations_of, new_iterations, new_user_key, with_key}
 use Rattle.key_commands.specs.Options.{key_refusal}
-use Rattle.key_commands.specs.Types.{IsWhole}
 
 -- ---- metadata that are checked have an allowed key length
 
@@ -181,7 +181,7 @@ neither true true either = refl
 neither true false either = elim either [ inl e ↦ absurd (cc) | inr e ↦ absurd (cc) ]
 
 -- where no count is given, or the one key is replaced, and the components make a key, nothing is refused
-pub change_refusal-none : (asked : KeyChange) (key : UserKey) → (is_some asked.iterations ≡ false) ⊎ (is_only_key asked.meta asked.slot ≡ true) → new_user_key asked ≡ Ok key
+change_refusal-none : (asked : KeyChange) (key : UserKey) → (is_some asked.iterations ≡ false) ⊎ (is_only_key asked.meta asked.slot ≡ true) → new_user_key asked ≡ Ok key
     → change_refusal asked ≡ None
 change_refusal-none asked key either made =
     ap (λ (test : Bool). cond test (Some refusals.IterationsNeedOneKey) (key_refusal (new_user_key asked)))

@@ -12,7 +12,7 @@ use Rattle.block_traits.proofs.Logs.{logged-append}
 use Rattle.block_traits.proofs.Overwritten.{KeepsAlone-overwrite}
 use Rattle.eli_base.specs.declared.refusals.Refusal.{Refusal}
 use Rattle.eli_base.specs.declared.refusals.Refusal.TheVariants.{EntropyFault, DeviceFault}
-use Rattle.eli_metadata.specs.Format.{encoded, is_served}
+use Rattle.eli_metadata.specs.Format.{IsWhole, encoded, is_served}
 use Rattle.eli_metadata.specs.Place.{replace_events}
 use Rattle.eli_metadata.specs.declared.metadata.Metadata.{Metadata}
 use Rattle.eli_metadata.proofs.Laws.{metadata_in-encoded}
@@ -20,7 +20,6 @@ use Rattle.key_commands.specs.NewProvider.{Inits, MakesMetadata, RefusesInit}
 use Rattle.key_commands.specs.NewMetadata.{metadata_of, new_metadata}
 use Rattle.key_commands.specs.Options.{early_refusal}
 use Rattle.key_commands.specs.Random.{Draws, filler_in, master_key_in, random_size, salt_in}
-use Rattle.key_commands.specs.Types.{IsWhole}
 use Rattle.key_commands.specs.Usable.{IsUsable, OpensFirst}
 use Rattle.key_commands.specs.declared.options.InitOptions.{InitOptions}
 use Rattle.key_commands.specs.declared.random.RandomParts.{RandomParts}

@@ -13,7 +13,7 @@ use Rattle.block_traits.specs.Streams.{EntropyState}
 use Rattle.eli_base.specs.declared.refusals.Refusal.{Refusal}
 use Rattle.eli_base.specs.declared.refusals.Refusal.TheVariants.{KeyNumberOutOfRange}
 use Rattle.eli_metadata.specs.Checks.{is_set}
-use Rattle.eli_metadata.specs.Format.{IsInRange, encoded, is_served, metadata_in}
+use Rattle.eli_metadata.specs.Format.{IsInRange, IsWhole, encoded, is_served, metadata_in}
 use Rattle.eli_metadata.specs.declared.metadata.Metadata.{Metadata}
 use Rattle.eli_metadata.proofs.Laws.{metadata_in-encoded}
 use Rattle.key_slots.specs.Slots.{SameSlot, slot_bytes, with_slot_bytes, without_slot}
@@ -21,7 +21,6 @@ use Rattle.key_slots.proofs.Changes.{bytes_same, bytes_other, clear_other}
 use Rattle.key_commands.specs.DeleteKeys.{Deletes, DeletesPart, Deletion, HasOtherKeys, Overwrites}
 use Rattle.key_commands.specs.NewKey.{KeepsSlot}
 use Rattle.key_commands.specs.Overwriting.{HasNoKey, IsThere, Names, deletion_refusal, filler_size, named_size, pass_events, pass_sectors, sector_without, without_keys}
-use Rattle.key_commands.specs.Types.{IsWhole}
 use Rattle.key_commands.specs.declared.overwriting.Which.{Which}
 use Rattle.key_commands.specs.declared.overwriting.Which.TheVariants as slots
 use Rattle.key_commands.proofs.Changing.{KeepsSlot-same}
@@ -121,7 +120,7 @@ there_by : (m : Metadata) (which : Which) (force : Bool) → deletion_refusal m 
 there_by m slots.All force served = tt
 there_by m (slots.One slot) force served = is_there slot (none_first (nat_lt 1 slot) (KeyNumberOutOfRange slot) _ served)
 
-pub IsThere-served : (asked : Deletion) → deletion_refusal asked.meta asked.which asked.force ≡ None → IsThere asked.which
+IsThere-served : (asked : Deletion) → deletion_refusal asked.meta asked.which asked.force ≡ None → IsThere asked.which
 IsThere-served asked served = there_by asked.meta asked.which asked.force served
 
 has_other_keys : (asked : Deletion) (m : Metadata) → IsThere asked.which → IsWhole asked.meta → m ≡ without_keys asked.meta asked.which (zeros (named_size asked.which)) → HasOtherKeys asked m

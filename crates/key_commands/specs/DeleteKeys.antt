@@ -7,12 +7,11 @@ use Rattle.block_traits.specs.Streams.{EntropyState, Takes, TakesNone}
 use Rattle.eli_base.specs.declared.refusals.Refusal.{Refusal}
 use Rattle.eli_base.specs.declared.refusals.Refusal.TheVariants.{EntropyFault, DeviceFault}
 use Rattle.eli_metadata.specs.Checks.{is_set}
-use Rattle.eli_metadata.specs.Format.{encoded, is_served, metadata_in}
+use Rattle.eli_metadata.specs.Format.{IsWhole, encoded, is_served, metadata_in}
 use Rattle.eli_metadata.specs.declared.metadata.Metadata.{Metadata}
 use Rattle.key_slots.specs.Slots.{slot_bytes}
 use Rattle.key_commands.specs.NewKey.{KeepsSlot}
 use Rattle.key_commands.specs.Overwriting.{HasNoKey, Names, deletion_refusal, filler_size, named_size, pass_events, without_keys}
-use Rattle.key_commands.specs.Types.{IsWhole}
 use Rattle.key_commands.specs.declared.overwriting.Which.{Which}
 
 -- what is asked for: the metadata as they were read, the slots that are named, and whether the last key may go
@@ -28,8 +27,8 @@ pub record DrawsFiller (asked : Deletion) (old : EntropyState) (random : List �
   pub size : length random ≡ filler_size asked.which
   pub taken : Takes random old new
 
--- at each moment each value that the last sector may hold is one from before or has the named slots clear, and from the first
--- flush on it is one of the latter
+-- at each moment each value that the last sector may hold is one from before or has the named slots clear, and from the
+-- first flush on it is one of the latter
 pub record Overwrites (asked : Deletion) (disk disk' : DiskState) : Type 0 where
   pub kept : KeepsOldOr (HasNoKey asked.meta asked.which) (last_sector disk) disk.content disk'.content
   pub flushed : AtEachMoment (HoldsOnceFlushed (HasNoKey asked.meta asked.which) (last_sector disk)) disk.content disk'.content
@@ -38,8 +37,8 @@ pub record Overwrites (asked : Deletion) (disk disk' : DiskState) : Type 0 where
 pub record IsWithout (asked : Deletion) (m : Metadata) : Type 0 where
   pub metadata : m ≡ without_keys asked.meta asked.which (zeros (named_size asked.which))
 
--- of what use the metadata are that are left: they are read again where their version is one that is read, the named slots are clear and
--- zeros, and the other slot is kept
+-- of what use the metadata are that are left: they are read again where their version is one that is read, the named
+-- slots are clear and zeros, and the other slot is kept
 pub record HasOtherKeys (asked : Deletion) (m : Metadata) : Type 0 where
   pub read : IsTrue (is_served m.version m.flags) → metadata_in (encoded m) ≡ Ok m
   pub clear : (s : ℕ) → Names asked.which s → is_set m s ≡ false

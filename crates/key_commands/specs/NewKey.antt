@@ -4,7 +4,7 @@ use Rattle.std.specs.Int.{is_negative}
 use Rattle.eli_base.specs.declared.refusals.Refusal.{Refusal}
 use Rattle.eli_base.specs.declared.refusals.Refusal.TheVariants.{IterationsNeedOneKey}
 use Rattle.eli_metadata.specs.Checks.{is_set, size_matches, slot_matches, supported}
-use Rattle.eli_metadata.specs.Format.{encoded, is_served, metadata_in}
+use Rattle.eli_metadata.specs.Format.{IsWhole, encoded, is_served, metadata_in}
 use Rattle.eli_metadata.specs.declared.metadata.Metadata.{Metadata}
 use Rattle.key_slots.specs.Slots.{Opens, OpensAsBefore, SameSlot, with_slot, wrapped}
 use Rattle.user_key.specs.Derivation.{user_key}
@@ -14,10 +14,10 @@ use Rattle.user_key.specs.declared.components.PassPart.{PassPart}
 use Rattle.user_key.specs.declared.components.PassPart.TheVariants.{Without, Missing, Given}
 use Rattle.user_key.specs.declared.components.UserKey.{UserKey}
 use Rattle.key_commands.specs.Options.{first_or_key}
-use Rattle.key_commands.specs.Types.{IsMasterKey, IsWhole}
+use Rattle.key_commands.specs.Types.{IsMasterKey}
 
--- what is asked for: the metadata as they were read, the master key, the slot that is to have it, the iterations where they
--- are given, and the components of the new user key
+-- what is asked for: the metadata as they were read, the master key, the slot that is to have it, the iterations where
+-- they are given, and the components of the new user key
 pub record KeyChange : Type 0 where
   pub meta : Metadata
   pub master : List ℕ
@@ -44,8 +44,8 @@ new_user_key asked = user_key asked.parts asked.meta.salt (iterations_of asked)
 abbrev pub is_only_key : Metadata → ℕ → Bool
 is_only_key m slot = bit_and m.keys 3 == 2 ^ slot
 
--- the first refusal that holds: iterations may be given only where the one key that is set is replaced, since the other key
--- was made by those that are kept
+-- the first refusal that holds: iterations may be given only where the one key that is set is replaced, since the other
+-- key was made by those that are kept
 abbrev pub change_refusal : KeyChange → Option Refusal
 change_refusal asked = first_or_key (
     (is_some asked.iterations && not (is_only_key asked.meta asked.slot), IterationsNeedOneKey)
@@ -57,8 +57,8 @@ with_key asked u =
     let m = asked.meta in
     with_slot (record m { iterations = iterations_of asked }) asked.slot (wrapped asked.master u m.keylen)
 
--- what new metadata keep of slot s: its bytes and its bit, what each user key opens it to, and, where it holds a key, the user
--- key that components make
+-- what new metadata keep of slot s: its bytes and its bit, what each user key opens it to, and, where it holds a key,
+-- the user key that components make
 pub record KeepsSlot (old new : Metadata) (s : ℕ) : Type 0 where
   pub same : SameSlot old new s
   pub opens : OpensAsBefore old new s
@@ -79,7 +79,8 @@ pub record IsAskedFor (asked : KeyChange) : Type 0 where
   pub there : asked.slot < 2
   pub master : IsMasterKey asked.master
 
--- nothing is refused, and these are the new metadata, of the user key that the components make under their salt and iterations
+-- nothing is refused, and these are the new metadata, of the user key that the components make under their salt and
+-- iterations
 pub record MakesKey (asked : KeyChange) (m : Metadata) : Type 0 where
   pub given : IsAskedFor asked
   pub served : change_refusal asked ≡ None
@@ -88,8 +89,8 @@ pub record MakesKey (asked : KeyChange) (m : Metadata) : Type 0 where
   pub metadata : m ≡ with_key asked key.bytes
   pub whole : IsWhole m
 
--- of what use new metadata are: they are read again where their version is one that is read, they are accepted, the slot opens to the
--- master key with the user key u, and the other slot is kept
+-- of what use new metadata are: they are read again where their version is one that is read, they are accepted, the
+-- slot opens to the master key with the user key u, and the other slot is kept
 pub record HasNewKey (asked : KeyChange) (m : Metadata) (u : List ℕ) : Type 0 where
   pub read : IsTrue (is_served m.version m.flags) → metadata_in (encoded m) ≡ Ok m
   pub accepted : IsAcceptedAs asked.meta m asked.slot

@@ -6,6 +6,7 @@ use Rattle.block_traits.specs.Streams.{EntropyState, Takes, TakesNone}
 use Rattle.block_traits.specs.declared.disk.Event.{Event}
 use Rattle.eli_base.specs.declared.refusals.Refusal.{Refusal}
 use Rattle.eli_base.specs.declared.refusals.Refusal.TheVariants.{EntropyFault, DeviceFault}
+use Rattle.eli_metadata.specs.Format.{IsWhole}
 use Rattle.eli_metadata.specs.Place.{replace_events}
 use Rattle.eli_metadata.specs.declared.metadata.Metadata.{Metadata}
 use Rattle.user_key.specs.Derivation.{user_key}
@@ -15,14 +16,13 @@ use Rattle.key_commands.specs.declared.options.InitOptions.{InitOptions}
 use Rattle.key_commands.specs.NewMetadata.{new_metadata}
 use Rattle.key_commands.specs.Options.{early_refusal}
 use Rattle.key_commands.specs.Random.{random_size, salt_in}
-use Rattle.key_commands.specs.Types.{IsWhole}
 
 -- the metadata in the last sector are replaced
 abbrev pub init_events : DiskState → Metadata → List Event
 init_events disk m = replace_events disk m
 
--- nothing is refused, the random bytes are taken, and the metadata are those that are made of them and of the user key of these
--- components
+-- nothing is refused, the random bytes are taken, and the metadata are those that are made of them and of the user key
+-- of these components
 pub record MakesMetadata (options : InitOptions) (parts : Components) (sectors : ℕ) (old : EntropyState) (m : Metadata) (new : EntropyState) : Type 0 where
   pub served : early_refusal options parts sectors ≡ None
   pub random : List ℕ

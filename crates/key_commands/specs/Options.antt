@@ -17,7 +17,8 @@ abbrev pub key_refusal : Result UserKey KeyFault → Option Refusal
 key_refusal (Ok key) = None
 key_refusal (Err fault) = Some (key_refusal_of fault)
 
--- of refusals in their order, each with its condition, the first whose condition holds, or else what the key is refused for
+-- of refusals in their order, each with its condition, the first whose condition holds, or else what the key is refused
+-- for
 abbrev pub first_or_key : List (Bool × Refusal) → Result UserKey KeyFault → Option Refusal
 first_or_key [] key = key_refusal key
 first_or_key ((holds, refusal) ∷ others) key = if holds then Some refusal else first_or_key others key

@@ -1,5 +1,5 @@
--- That the metadata of a new provider are of use: they are read again, a provider with them can be used, and a user key opens them
--- (g_eli.h, eli_metadata_decode and eli_metadata_crypto_supported; geli(8), init and attach).
+-- That the metadata of a new provider are of use: they are read again, a provider with them can be used, and a user key
+-- opens them (g_eli.h, eli_metadata_decode and eli_metadata_crypto_supported; geli(8), init and attach).
 use Rattle.std.specs.Prelude.{◌≡◌, ◌≤◌, ℕ, ◌*◌, List, false, None, Some, Ok}
 use Rattle.eli_base.specs.Units.{media_sectors}
 use Rattle.eli_metadata.specs.Checks.{Settings, supported, size_matches, slot_matches}
@@ -35,8 +35,8 @@ pub record OpensFirst (m : Metadata) (u master : List ℕ) : Type 0 where
   pub slot_0 : unwrapped m u 0 ≡ Some (record { bytes = master })
   pub any_slot : unwrapped_any m u ≡ Some (record { bytes = master }, 0)
 
--- the sector of the metadata is read as them, they are accepted, there is a whole logical sector beside them, and the user key
--- that the components make under their salt and their iterations opens them to this master key
+-- the sector of the metadata is read as them, they are accepted, there is a whole logical sector beside them, and the
+-- user key that the components make under their salt and their iterations opens them to this master key
 pub record IsUsable (options : InitOptions) (parts : Components) (sectors : ℕ) (m : Metadata) (key : UserKey) (master : List ℕ) : Type 0 where
   pub read : metadata_in (encoded m) ≡ Ok m
   pub accepted : IsAccepted options sectors m

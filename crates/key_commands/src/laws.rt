@@ -1,6 +1,6 @@
 // What holds of the metadata of a new provider, whatever the random bytes and the user key, and of metadata with a new
-// key or without some; and what follows of what `init`, `setkey` and `delkey` did: of what use the metadata are, and what the
-// last sector may hold whenever power fails.
+// key or without some; and what follows of what `init`, `setkey` and `delkey` did: of what use the metadata are, and
+// what the last sector may hold whenever power fails.
 ghost use Rattle.std.specs.Prelude.{◌≡◌, ◌≢◌, ◌<◌, ◌^◌, ◌⊎◌, ℕ, List, IsTrue, None, Ok, length};
 ghost use Rattle.std.specs.Int.{is_negative};
 ghost use Rattle.aes_core.specs.Schedule.{AreBytes};

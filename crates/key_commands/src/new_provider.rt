@@ -1,13 +1,12 @@
 // A new provider.
 ghost use Rattle.std.specs.Prelude.{◌≡◌, ◌<◌, ◌^◌, ◌+◌, ◌++◌};
+ghost use Rattle.eli_metadata.specs.Format.{IsWhole};
 ghost use Rattle.key_commands.specs.NewProvider.{Inits};
 ghost use Rattle.key_commands.specs.NewMetadata.{auth_flag, autoresize_flag, metadata_of};
-ghost use Rattle.key_commands.specs.Types.{IsWhole};
 ghost use Rattle.key_slots.specs.Slots.{IsKeyBits, wrapped};
 
 use crate::options::{InitOptions, check};
 use crate::random::{RandomParts, draw};
-use crate::types::fits_types;
 use block_traits::{Disk, Entropy};
 use eli_base::{Auth, Refusal};
 use eli_metadata::{FLAG_AUTH, FLAG_AUTORESIZE, Metadata, VERSION, put, replace_metadata};
@@ -58,7 +57,7 @@ fn metadata_of(options: &InitOptions, sectors: u64, random: &RandomParts, key: &
         salt: random.salt,
         mkeys: both_slots(&wrap(&random.master, key, options.keylen), &random.filler),
     };
-    fits_types(meta);
+    meta.fits_types();
     meta
 }
 

@@ -1,12 +1,11 @@
 // Slots that are cleared and overwritten.
 ghost use Rattle.std.specs.Prelude.{◌≡◌, ◌<◌, ◌≤◌, IfNone, length};
 ghost use Rattle.block_traits.specs.Overwriting.{zeros};
+ghost use Rattle.eli_metadata.specs.Format.{IsWhole};
 ghost use Rattle.eli_metadata.specs.Checks.{is_set};
 ghost use Rattle.key_commands.specs.Overwriting.{IsThere, IsThere-prop, deletion_refusal, filler_size, named_size, pass_sectors, without_keys};
-ghost use Rattle.key_commands.specs.Types.{IsWhole};
 
 use crate::set_key::is_only_key;
-use crate::types::fits_types;
 use block_traits::{Pass, Sector, passes};
 use eli_base::Refusal;
 use eli_metadata::{Metadata, encode};
@@ -93,7 +92,7 @@ pub fn cleared(meta: &Metadata, which: Which) -> Metadata
     ensures fields { result ≡ without_keys meta.now which (zeros (named_size which)) }
     ensures whole { IsWhole meta.now }
 {
-    fits_types(*meta);
+    meta.fits_types();
     without_keys(*meta, which, &ZEROS[..named_size(which)])
 }
 
@@ -130,7 +129,7 @@ pub fn pass_sectors(meta: &Metadata, which: Which, random: &[u8]) -> [Sector; 6]
     ensures sectors { result ≡ pass_sectors meta.now which random.now }
     ensures whole { IsWhole meta.now }
 {
-    fits_types(*meta);
+    meta.fits_types();
     let pass = Clearing { meta: *meta, which };
     passes(&pass, random)
 }

@@ -1,13 +1,14 @@
 // A new key in a slot.
 ghost use Rattle.std.specs.Prelude.{◌≡◌, ◌==◌, ◌<◌, ◌^◌, bit_and, IfErr, IfOk, IsOk, Some};
+ghost use Rattle.eli_metadata.specs.Format.{IsWhole};
 ghost use Rattle.eli_metadata.specs.Checks.{supported};
 ghost use Rattle.key_commands.specs.NewKey.{KeyChange, MakesKey, change_refusal, new_iterations};
 ghost use Rattle.key_commands.specs.SetKey.{SetsKey};
-ghost use Rattle.key_commands.specs.Types.{IsMasterKey, IsWhole};
+ghost use Rattle.key_commands.specs.Types.{IsMasterKey};
 ghost use Rattle.key_slots.specs.Slots.{IsKeyBits, with_slot, wrapped};
 
 use crate::storing::store;
-use crate::types::{fits_types, is_master_key};
+use crate::types::is_master_key;
 use block_traits::MetaPlace;
 use eli_base::{MasterKey, Refusal};
 use eli_metadata::Metadata;
@@ -56,8 +57,8 @@ fn with_key(
         ..*meta
     };
     put_slot(&mut new, slot, &wrap(master, key, meta.keylen));
-    fits_types(new);
-    fits_types(*meta);
+    new.fits_types();
+    meta.fits_types();
     is_master_key(*master);
     new
 }

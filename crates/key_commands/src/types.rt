@@ -1,16 +1,8 @@
 // What values hold by their types.
 ghost use Rattle.aes_core.specs.Schedule.{AreBytes};
-ghost use Rattle.key_commands.specs.Types.{IsMasterKey, IsWhole};
+ghost use Rattle.key_commands.specs.Types.{IsMasterKey};
 
 use eli_base::MasterKey;
-use eli_metadata::Metadata;
-
-/// All fields of metadata fit their types, so that what is written is read again.
-pub fn fits_types(meta: Metadata)
-    ensures { IsWhole meta }
-{
-    let _ = meta;
-}
 
 /// Each byte is a number below 256.
 pub fn are_bytes(bytes: [u8; 384])

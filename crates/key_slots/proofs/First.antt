@@ -5,11 +5,11 @@ use Rattle.eli_metadata.specs.declared.metadata.Metadata.{Metadata}
 use Rattle.key_slots.specs.Slots.{IsFirstToOpen, Opens, numbered}
 
 -- this is what slot s answers, with its number
-abbrev pub Tells : Metadata → List ℕ → ℕ → Option (MasterKey × ℕ) → Type 0
+abbrev Tells : Metadata → List ℕ → ℕ → Option (MasterKey × ℕ) → Type 0
 Tells m u s answer = (master : List ℕ) → Opens m u s master ↔ (answer ≡ Some (record { bytes = master }, s))
 
 -- this is what is answered of the first slot that opens
-abbrev pub TellsFirst : Metadata → List ℕ → Option (MasterKey × ℕ) → Type 0
+abbrev TellsFirst : Metadata → List ℕ → Option (MasterKey × ℕ) → Type 0
 TellsFirst m u answer = (s : ℕ) (master : List ℕ) → IsFirstToOpen m u s master ↔ (answer ≡ Some (record { bytes = master }, s))
 
 number_of : Option (MasterKey × ℕ) → ℕ

@@ -1,4 +1,5 @@
--- The two slots of the metadata, each with the master key wrapped by a user key (g_eli.h, md_mkeys and md_keys; g_eli_key.c).
+-- The two slots of the metadata, each with the master key wrapped by a user key (g_eli.h, md_mkeys and md_keys;
+-- g_eli_key.c).
 use Rattle.std.specs.Prelude.{◌≡◌, ℕ, ◌+◌, ◌-◌, ◌*◌, ◌/◌, ◌^◌, ◌<◌, ◌⊎◌, ◌↔◌, Bool, IsTrue, List, [], ◌∷◌, ◌++◌, take, drop, replicate, bit_and, bit_or, Option, Some, None, if◌then◌else◌}
 use Rattle.std.specs.Option.{option_or}
 use Rattle.std.specs.Str.{bytes_eq}

@@ -11,14 +11,15 @@ use Rattle.eli_base.specs.Refusals.{first_that_holds}
 use Rattle.eli_base.specs.declared.refusals.Refusal.{Refusal}
 use Rattle.eli_base.specs.declared.refusals.Refusal.TheVariants.{EntropyFault, DeviceFault}
 use Rattle.eli_base.specs.declared.refusals.Refusal.TheVariants as refusals
-use Rattle.eli_metadata.specs.Format.{IsInRange, encoded, metadata_in}
+use Rattle.eli_metadata.specs.Format.{IsWhole, encoded, metadata_in}
 use Rattle.eli_metadata.specs.Place.{IsSectorOf, replace_events}
 use Rattle.eli_metadata.specs.Refusals.{refusal_of}
 use Rattle.eli_metadata.specs.declared.metadata.MetaFault.{MetaFault}
 use Rattle.eli_metadata.specs.declared.metadata.Metadata.{Metadata}
 use Rattle.resize_kill.specs.Trash.{TakesTrash, trash_sectors}
 
--- the first refusal of the sizes: of an image of so many device sectors, and of an old size in bytes that isn't below its own
+-- the first refusal of the sizes: of an image of so many device sectors, and of an old size in bytes that isn't below
+-- its own
 abbrev pub size_refusal : ℕ → ℕ → Option Refusal
 size_refusal sectors oldsize = first_that_holds (
     (nat_lt sectors 2, refusals.TooSmall (512 * sectors))
@@ -86,12 +87,6 @@ pub record KeepsOneOf (new : Metadata) (place : ℕ) (old : Metadata) (disk disk
   pub last : KeepsOldOr (IsSectorOf new) (last_sector disk) disk.content disk'.content
   pub one : AtEachMoment (HoldsOneOf (last_sector disk) new place old) disk.content disk'.content
 
--- each field of the metadata fits its type
-pub record FitsTypes (m : Metadata) : Type 0 where
-  pub range : IsInRange m
-  pub salt : length m.salt ≡ 64
-  pub mkeys : length m.mkeys ≡ 384
-
 -- nothing is refused: the old place was read as these metadata, and the random bytes were taken
 pub record Prepares (oldsize : ℕ) (disk : DiskState) (entropy : EntropyState) (old : Metadata) (random : List ℕ) (entropy' : EntropyState) : Type 0 where
   pub sizes : size_refusal disk.size oldsize ≡ None
@@ -101,7 +96,7 @@ pub record Prepares (oldsize : ℕ) (disk : DiskState) (entropy : EntropyState) 
   pub found : metadata_in bytes ≡ Ok old
   pub size : old.provsize ≡ oldsize
   pub takes : TakesTrash random entropy entropy'
-  pub fits : FitsTypes old
+  pub fits : IsWhole old
 
 -- the metadata were moved with all of the events, and one sector was read
 pub record Moves (oldsize : ℕ) (disk : DiskState) (entropy : EntropyState) (disk' : DiskState) (entropy' : EntropyState) : Type 0 where

@@ -2,7 +2,7 @@
 
 ghost use Rattle.std.specs.Prelude.{◌≡◌, ◌<◌, ◌≤◌, ◌^◌, ◌*◌, ◌%◌, ◌+◌, None, Some, IfErr, OnOk, OnErr};
 ghost use Rattle.block_traits.specs.Disk.{FailsIn, Logs};
-ghost use Rattle.resize_kill.specs.Resizing.{FindsOld, FitsTypes, Resizes, move_events, size_refusal};
+ghost use Rattle.resize_kill.specs.Resizing.{FindsOld, Resizes, move_events, size_refusal};
 
 use crate::trash::{destroy, draw};
 use block_traits::{Disk, DiskFailed, Entropy};
@@ -46,13 +46,6 @@ fn find_old<D: Disk>(disk: &mut D, place: u64, oldsize: u64) -> Result<Metadata,
         });
     }
     Ok(meta)
-}
-
-// All fields of metadata fit their types, so that what is written is read again.
-fn fits_types(meta: Metadata)
-    ensures { FitsTypes meta }
-{
-    let _ = meta;
 }
 
 // Puts metadata into the last sector, and then destroys what the old place has. Nothing is read.
@@ -106,7 +99,7 @@ pub fn resize<D: Disk, E: Entropy>(
     let Ok(random) = draw(entropy) else {
         return Err(Refusal::EntropyFault);
     };
-    fits_types(old);
+    old.fits_types();
     let meta = Metadata {
         provsize: 512 * sectors,
         ..old

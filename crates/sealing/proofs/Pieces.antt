@@ -46,13 +46,13 @@ opened_piece-good k offset size sector cipher_text tag same =
     (λ i. cond (bytes_eq (tag i) (tag_of k offset (same i))) (Ok (opened_run k offset (same i))) (Err offset))
     ∙ cond-true (bytes_eq (tag_of k offset cipher_text) (tag_of k offset cipher_text)) (Ok (opened_run k offset cipher_text)) (Err offset) good
 
-pub kept_tag-tagged : (k : Keying) (offset : ℕ) (cipher_text : List ℕ) → kept_tag k (tagged k offset cipher_text) ≡ tag_of k offset cipher_text
+kept_tag-tagged : (k : Keying) (offset : ℕ) (cipher_text : List ℕ) → kept_tag k (tagged k offset cipher_text) ≡ tag_of k offset cipher_text
 kept_tag-tagged k offset cipher_text =
     let tag : List ℕ = tag_of k offset cipher_text in
     let zeros : List ℕ = replicate (unit_bytes_of k.auth - length cipher_text) 0 in
     ap (take (tag_bytes k.auth)) (append_assoc tag cipher_text zeros) ∙ take_at tag (cipher_text ++ zeros) (tag_bytes k.auth) (length-tag_of k offset cipher_text)
 
-pub cipher_text_in-tagged : (k : Keying) (offset size : ℕ) (cipher_text : List ℕ) → length cipher_text ≡ size → cipher_text_in k size (tagged k offset cipher_text) ≡ cipher_text
+cipher_text_in-tagged : (k : Keying) (offset size : ℕ) (cipher_text : List ℕ) → length cipher_text ≡ size → cipher_text_in k size (tagged k offset cipher_text) ≡ cipher_text
 cipher_text_in-tagged k offset size cipher_text len =
     let tag : List ℕ = tag_of k offset cipher_text in
     let zeros : List ℕ = replicate (unit_bytes_of k.auth - length cipher_text) 0 in

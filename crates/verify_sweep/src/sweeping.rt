@@ -2,6 +2,7 @@
 ghost use Rattle.std.specs.Prelude.{◌≡◌, ◌≢◌, ◌+◌, ◌*◌, ◌^◌, ◌<◌, ◌≤◌, [], ◌∷◌, None, IfOk, IfSome, OnErr, length};
 ghost use Rattle.block_traits.specs.Disk.{DiskState};
 ghost use Rattle.eli_base.specs.declared.algorithms.Auth.TheVariants.{Off};
+ghost use Rattle.eli_base.specs.Requests.{request_limit};
 ghost use Rattle.provider.specs.Attached.{IsKept, media};
 ghost use Rattle.provider.specs.Reads.{FailsAt};
 ghost use Rattle.sealing.specs.Sectors.{units};
@@ -27,7 +28,7 @@ const MOST_UNITS: u64 = 16_384;
 fn list(n: u64, accepted: bool, found: &mut [u8], bad: u32) -> u32
     requires small { n < 2 ^ 44 }
     requires few { bad < 16384 }
-    requires room { 131072 ≤ length found.old }
+    requires room { request_limit ≤ length found.old }
     ensures { Lists (refused_at n (accepted ∷ [])) bad result found.old found.new }
 {
     if accepted {
@@ -43,7 +44,7 @@ fn list(n: u64, accepted: bool, found: &mut [u8], bad: u32) -> u32
 fn list_four(n: u64, accepted: &[bool; 4], found: &mut [u8], bad: u32) -> u32
     requires small { n + 4 ≤ 2 ^ 44 }
     requires few { bad + 4 ≤ 16384 }
-    requires room { 131072 ≤ length found.old }
+    requires room { request_limit ≤ length found.old }
     ensures { Lists (refused_at n accepted.now) bad result found.old found.new }
 {
     let mut now = bad;
@@ -63,7 +64,7 @@ fn look<D: Disk>(
     requires on { on.old.keying.auth ≢ Off }
     requires inside { n < media on.old.keying (D.state on.old.disk) * units on.old.keying }
     requires few { bad < 16384 }
-    requires room { 131072 ≤ length found.old }
+    requires room { request_limit ≤ length found.old }
     ensures ok { IfOk result (λ now. Looks on.old.keying n 1 bad now found.old found.new (D.state on.old.disk) (D.state on.new.disk)) }
     ensures err { OnErr result (FailsAt 1 (D.state on.old.disk) (D.state on.new.disk)) }
     ensures kept { IsKept on.old on.new }
@@ -80,7 +81,7 @@ fn look_at_four<D: Disk>(on: &mut Provider<D>, n: u64, found: &mut [u8], bad: u3
     requires on { on.old.keying.auth ≢ Off }
     requires inside { n + 4 ≤ media on.old.keying (D.state on.old.disk) * units on.old.keying }
     requires few { bad + 4 ≤ 16384 }
-    requires room { 131072 ≤ length found.old }
+    requires room { request_limit ≤ length found.old }
     ensures some { IfSome result (λ now. Looks on.old.keying n 4 bad now found.old found.new (D.state on.old.disk) (D.state on.new.disk)) }
     ensures missed { result ≡ None → D.state on.new.disk ≡ D.state on.old.disk }
     ensures stays { result ≡ None → found.new ≡ found.old }
@@ -106,7 +107,7 @@ fn look_on<D: Disk>(
     requires some { 1 ≤ left }
     requires inside { n + left ≤ media on.old.keying (D.state on.old.disk) * units on.old.keying }
     requires few { bad + left ≤ 16384 }
-    requires room { 131072 ≤ length found.old }
+    requires room { request_limit ≤ length found.old }
     ensures many { IfOk result (λ seen. (1 ≤ seen.0) × (seen.0 ≤ left)) }
     ensures ok { IfOk result (λ seen. Looks on.old.keying n seen.0 bad seen.1 found.old found.new (D.state on.old.disk) (D.state on.new.disk)) }
     ensures err { OnErr result (FailsAt 1 (D.state on.old.disk) (D.state on.new.disk)) }
@@ -142,7 +143,7 @@ pub fn sweep<D: Disk>(
     requires on { on.old.keying.auth ≢ Off }
     requires place { start ≤ media on.old.keying (D.state on.old.disk) }
     requires some { 1 ≤ count }
-    requires room { 131072 ≤ length found.old }
+    requires room { request_limit ≤ length found.old }
     ensures answer { let s : Sweep = record { keying = on.old.keying; media = media on.old.keying (D.state on.old.disk); start = start; count = count } in
         SweepAnswers s found.old found.new result (D.state on.old.disk) (D.state on.new.disk) }
     ensures kept { IsKept on.old on.new }

@@ -17,7 +17,8 @@ use Rattle.eli_base.specs.Keying.{Keying}
 use Rattle.eli_base.specs.declared.refusals.Refusal.{Refusal}
 use Rattle.eli_base.specs.declared.refusals.Refusal.TheVariants as refusals
 use Rattle.range_keys.specs.Ring.{IsKeying}
-use Rattle.bio_queue.specs.Answers.{IsAsked, ReapAnswers, StepAnswers, StepsOn, SubmitAnswers, request_limit}
+use Rattle.bio_queue.specs.Answers.{IsAsked, ReapAnswers, StepAnswers, StepsOn, SubmitAnswers}
+use Rattle.eli_base.specs.Requests.{request_limit}
 use Rattle.bio_queue.specs.Requests.{Request, request_with, step_events}
 use Rattle.bio_queue.specs.declared.faults.ReapFault.{ReapFault}
 use Rattle.bio_queue.specs.declared.faults.ReapFault.TheVariants as reap

@@ -12,8 +12,8 @@ use Rattle.block_traits.specs.declared.disk.Disk.{Ghosts}
 use Rattle.command_rows.specs.World.{DrawerState, IsAmong}
 use Rattle.command_words.specs.Images.{image_names, line_of, script_images}
 use Rattle.command_words.specs.Reading.{command_in}
+use Rattle.command_words.specs.Traits.{traits_of}
 use Rattle.command_words.specs.declared.commands.Command.{Command}
-use Rattle.command_words.specs.declared.commands.Command.TheVariants as commands
 use Rattle.file_edge.specs.Asked.{Asked}
 use Rattle.file_edge.specs.RandomFile.{AsksDevice, OpensDevice}
 use Rattle.file_edge.specs.Told.{Told}
@@ -34,12 +34,10 @@ abbrev pub HasWords : {X Z : Type 0} → Result (IntoIter X Z) Error → List X 
 HasWords (Ok args) words = words ≡ drop 1 (into_iter_items args)
 HasWords (Err error) words = (words ≡ []) × (error_kind error ≢ kinds.OutOfMemory)
 
--- Whether a command only reads its image: `dump`, `backup`, and `attach` with `-C`.
+-- whether a command only reads its image, by what its verb is (`traits_of`)
 abbrev pub reads_alone : Option Command → Bool
-reads_alone (Some (commands.Dump prov)) = true
-reads_alone (Some (commands.Backup prov file)) = true
-reads_alone (Some (commands.Attach prov only_check readonly slot old)) = only_check
-reads_alone said = false
+reads_alone (Some command) = (traits_of command).only_reads
+reads_alone None = false
 
 -- whether images are to be changed: those of a script are, and else that of the command, but where it only reads
 abbrev pub changes_by : Option (List (List ℕ)) → Option Command → Bool

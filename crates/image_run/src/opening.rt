@@ -2,10 +2,9 @@
 ghost use Rattle.std.specs.Prelude.{◌≡◌, [], All, IfErr, IfOk, OnErr, Some, map, string_bytes};
 ghost use Rattle.geli_core.specs.Words.{FitsItsLine, image_names_of};
 ghost use Rattle.image_layers.specs.Images.{AsksFirst, OpensImages, TellsImage, opening};
-ghost use Rattle.image_run.specs.Program.{OpensNamed, changes_said, new_cabinet, new_entropy, reads_alone};
+ghost use Rattle.image_run.specs.Program.{OpensNamed, changes_said, new_cabinet, new_entropy};
 
 use block_traits::{Cabinet, Disk, Entropy, NoMemory};
-use command_words::Command;
 use file_edge::{FileCabinet, FileDisk, FileId, ImageFile, Opener, RandomFile, Reader};
 use geli_core::Words;
 use image_layers::{ImageDisk, open_image};
@@ -48,19 +47,8 @@ fn changes(said: &Words<'_>) -> bool
     ensures { result ≡ changes_said said.now }
 {
     match said {
-        Words::One { command, .. } => !is_reading(command),
+        Words::One { command, .. } => !command.traits().only_reads,
         Words::Script(_) | Words::Usage => true,
-    }
-}
-
-// Whether a command only reads its image.
-fn is_reading(command: &Command) -> bool
-    ensures { result ≡ reads_alone (Some command.now) }
-{
-    match command {
-        Command::Dump { .. } | Command::Backup { .. } => true,
-        Command::Attach { only_check, .. } => *only_check,
-        _ => false,
     }
 }
 

@@ -8,7 +8,7 @@ ghost use Rattle.block_traits.specs.Cabinet.{CabinetState};
 ghost use Rattle.block_traits.specs.Streams.{EntropyState};
 ghost use Rattle.shelf.specs.Closing.{Closes};
 ghost use Rattle.command_rows.specs.Gate.{refused_by};
-ghost use Rattle.command_rows.specs.Steps.{request_limit};
+ghost use Rattle.eli_base.specs.Requests.{request_limit};
 ghost use Rattle.command_rows.specs.Turn.{GoesThrough, Serves, ShowsBy, entry_of, takes_out};
 ghost use Rattle.command_rows.specs.World.{HoldsKeying, Idle, IsAttached, IsSuspended, reach_of};
 ghost use Rattle.shelf.specs.Shelved.{attachment_of, disk_in, drawer_of, holding_of, is_attached, kept_of};

@@ -12,11 +12,10 @@ ghost use Rattle.command_rows.specs.Turn.{ListsAs, Shows, Turn, entry_of};
 ghost use Rattle.command_rows.specs.World.{HoldKeyings, NamesDiffer, place_of};
 ghost use Rattle.shelf.specs.Shelved.{drawers_of, world_of};
 
-use crate::requests::REQUEST_LIMIT;
 use crate::{Drawer, Held};
 use block_traits::{ByteList, Cabinet, Disk, Entropy, Event, NoMemory};
 use command_words::Command;
-use eli_base::Refusal;
+use eli_base::{REQUEST_LIMIT, Refusal};
 use reply_text::{Reply, Row, RowList};
 use std::alloc::{AllocError, Global};
 use std::marker::Model;
@@ -48,7 +47,7 @@ pub enum AddFault {
 
 impl<D: Drop> Model for Drawers<D> {
     ghost use Rattle.std.specs.Prelude.{◌≡◌, false, ◌≤◌, vec_capacity, vec_len};
-    ghost use Rattle.command_rows.specs.Steps.{request_limit};
+    ghost use Rattle.eli_base.specs.Requests.{request_limit};
     ghost use Rattle.shelf.specs.Shelved.{DifferInName, Shelved};
 
     ghost Value = { Shelved D };
@@ -64,7 +63,7 @@ impl<D: Disk> Drawers<D> {
     pub fn new(alloc: Global) -> Result<Drawers<D>, NoMemory>
         ensures { IfOk result (λ shelf. shelf.drawers ≡ []) }
     {
-        let buffer = vec![in alloc; 0; REQUEST_LIMIT]?;
+        let buffer = vec![in alloc; 0; REQUEST_LIMIT as usize]?;
         let drawers = Vec::with_capacity(alloc, ROOM)?;
         Ok(Drawers { drawers, buffer })
     }

@@ -8,15 +8,16 @@ ghost use Rattle.command_words.specs.Places.{IsWithin, JobIsWithin, bytes_at};
 ghost use Rattle.command_rows.specs.Digits.{SpellsBytes};
 ghost use Rattle.command_rows.specs.Queueing.{HasRequest};
 ghost use Rattle.command_rows.specs.Requests.{bytes_given};
-ghost use Rattle.command_rows.specs.Steps.{or_refusal, request_limit};
+ghost use Rattle.command_rows.specs.Steps.{or_refusal};
+ghost use Rattle.eli_base.specs.Requests.{request_limit};
 ghost use Rattle.shelf.specs.Queueing.{count_given};
 ghost use Rattle.shelf.specs.Shelved.{attachment_of, reach_on};
 
-use crate::requests::{REQUEST_LIMIT, decode};
+use crate::requests::decode;
 use bio_queue::{Job, Queue, ReapFault, Reaped, StepFault, SubmitFault, requests_meet_conditions};
 use block_traits::Disk;
 use command_words::{JobWords, Span};
-use eli_base::Refusal;
+use eli_base::{REQUEST_LIMIT, Refusal};
 use provider::Provider;
 
 fn submit_answer(answer: Result<u8, SubmitFault>) -> Result<u8, Refusal>
@@ -78,7 +79,7 @@ fn submit_read<D: Disk>(
 {
     let sectorsize = provider.sector_size();
     let given = u64::from(count) * u64::from(sectorsize);
-    if given == 0 || given > REQUEST_LIMIT as u64 {
+    if given == 0 || given > REQUEST_LIMIT {
         return Err(Refusal::BadLength { given, sectorsize });
     }
     let job = Job::Read { sector, count };

@@ -7,17 +7,15 @@ ghost use Rattle.block_traits.specs.Streams.{EntropyState};
 ghost use Rattle.hex.specs.Hex.{decode_of};
 ghost use Rattle.command_rows.specs.Digits.{SpellsBytes, bytes_spelled};
 ghost use Rattle.command_rows.specs.Requests.{bytes_read, read_answer, write_refusal};
-ghost use Rattle.command_rows.specs.Steps.{or_refusal, request_limit};
+ghost use Rattle.command_rows.specs.Steps.{or_refusal};
+ghost use Rattle.eli_base.specs.Requests.{request_limit};
 ghost use Rattle.command_rows.specs.Turn.{ReadRow, WriteRow};
 ghost use Rattle.shelf.specs.Shelved.{attachment_of, reach_on};
 ghost use Rattle.shelf.specs.Requests.{digit_value};
 
 use block_traits::{Disk, DiskFailed};
-use eli_base::Refusal;
+use eli_base::{REQUEST_LIMIT, Refusal};
 use provider::{Provider, ReadFault, WriteFault};
-
-/// The most bytes of a request.
-pub const REQUEST_LIMIT: usize = 131_072;
 
 fn read_answer(answer: Result<(), ReadFault>, bytes: u32) -> Result<u32, Refusal>
     ensures { result ≡ read_answer bytes answer }
@@ -77,7 +75,7 @@ pub fn read<D: Disk>(
 {
     let sectorsize = provider.sector_size();
     let given = u64::from(count) * u64::from(sectorsize);
-    if given == 0 || given > REQUEST_LIMIT as u64 {
+    if given == 0 || given > REQUEST_LIMIT {
         return Err(Refusal::BadLength { given, sectorsize });
     }
     let answer = provider.read(sector, &mut buffer[..given as usize]);

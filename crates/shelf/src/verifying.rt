@@ -11,7 +11,7 @@ ghost use Rattle.command_rows.specs.Answer.{answer_of};
 ghost use Rattle.command_rows.specs.Turn.{GoesThrough};
 ghost use Rattle.reply_text.specs.Text.{FitsPayload};
 ghost use Rattle.provider.specs.Attached.{has_tags};
-ghost use Rattle.command_rows.specs.Steps.{request_limit};
+ghost use Rattle.eli_base.specs.Requests.{request_limit};
 ghost use Rattle.command_rows.specs.World.{Holding, reach_of};
 ghost use Rattle.command_rows.specs.verbs.Verify.{FindsPlace, SweepsFrom, VerifyRow, place_in, place_size};
 ghost use Rattle.shelf.specs.Shelved.{attachment_of, reach_on};

@@ -5,7 +5,7 @@
 #
 # TARGET must not exist; it holds the data in the clear. -b: so many bytes and no more, such as 4000123 or 80M, the
 # length of the file that was copied in; without it the whole provider is copied. The passphrase is asked for; -j names
-# a file whose first line it is, -p says that there is none. The image is only read.
+# a file whose first line it is, -p says that there is none. The image isn't changed.
 #
 # It works in pieces of up to 131,072 bytes over one `geli script`, some lines ahead of the replies, and says how far
 # it is on standard error. Until all is read and synced the file is called TARGET.part, and it stays so where a

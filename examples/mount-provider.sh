@@ -4,8 +4,8 @@
 #   mount-provider.sh [-m] [-r] [-n PARTITION] [-p] [-j PASSFILE] [-k KEYFILE]... IMAGE FOLDER
 #   mount-provider.sh -u FOLDER
 #
-# An ext2, ext3 or ext4 is mounted by fuse2fs; any other filesystem by grub-mount, to be read alone, as FreeBSD's UFS.
-# -m: makes an ext4 first, where the provider is new. -r: to be read alone. -n: the filesystem in this partition of the
+# An ext2, ext3 or ext4 is mounted by fuse2fs; any other filesystem by grub-mount, read-only, such as FreeBSD's UFS.
+# -m: makes an ext4 first, where the provider is new. -r: read-only. -n: the filesystem in this partition of the
 # data, counted from 1. The passphrase is asked for; -j names a file whose first line it is, -p says that there is none.
 #
 # It stays mounted when the terminal is closed. -u unmounts it, and answers 0 only where all that was written meanwhile

@@ -7,7 +7,7 @@
 # SOCKET must not exist. The server runs on behind it until `serve-nbd.sh -e SOCKET` ends it: that waits for the clients
 # to disconnect, writes what is gathered, flushes and detaches the provider. It answers 0 only where that went well, and
 # where what clients were refused to write, as on a full disk, was written later.
-# -r: to be read alone. -n: only this partition of the data, counted from 1. The passphrase is asked for; -j names a
+# -r: read-only. -n: only this partition of the data, counted from 1. The passphrase is asked for; -j names a
 # file whose first line it is, -p says that there is none.
 # It needs nbdkit with its python plugin. Some clients, with URI=nbd+unix:///?socket=SOCKET (the whole path of it):
 #

@@ -1,4 +1,5 @@
--- The power that inverts a byte, by squares: a product with a fixed byte is a sum of rows, and so is one product after another.
+-- The power that inverts a byte, by squares: a product with a fixed byte is a sum of rows, and so is one product after
+-- another.
 use Rattle.std.proofs.Common.{◌≡◌, ℕ, zero, suc, ◌*◌, ◌/◌, ◌%◌, ◌<◌, List, [], ◌∷◌, map, bit_xor, refl, sym, ap, ◌∙◌, arith, inl, inr}
 use Rattle.std.proofs.lemmas.Nat.{xor_shr}
 use Rattle.aes_core.specs.Field.{times_x, times_bits, times, power}

@@ -85,7 +85,7 @@ word w i = chunk (4 * i) 4 w
 abbrev pub rotated : List ℕ → List ℕ
 rotated w = drop 1 w ++ take 1 w
 
--- Rcon j
+-- rcon j
 abbrev pub round_constant : ℕ → List ℕ
 round_constant j = power 2 (j - 1) ∷ 0 ∷ 0 ∷ 0 ∷ []
 

@@ -1,5 +1,5 @@
-//! A round on the columns of a state: SubBytes, ShiftRows, MixColumns and AddRoundKey in one step (FIPS 197, 5.1), and the
-//! four inverse steps in one (5.3), by tables.
+//! A round on the columns of a state: SubBytes, ShiftRows, MixColumns and AddRoundKey in one step (FIPS 197, 5.1), and
+//! the four inverse steps in one (5.3), by tables.
 //!
 //! A column is a word, row 0 in the lowest byte.
 

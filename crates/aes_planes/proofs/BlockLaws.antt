@@ -14,7 +14,7 @@ use Rattle.aes_core.proofs.Boxes.{agree_at}
 use Rattle.aes_core.proofs.Inverse.{IsState-xor, IsState-shift_rows, IsState-mix_columns, IsState-after_rounds, AreRoundKeys}
 use Rattle.aes_planes.proofs.RowLaws.{by_rows, mixed_rows_are, rows_xor, round_by_half, last_by_half}
 use Rattle.aes_planes.specs.Circuit.{run, outputs, sbox_gates, sbox_outputs}
-use Rattle.aes_planes.specs.Transposition.{on_vectors, transposing, transposed_places, steps_of}
+use Rattle.aes_planes.specs.Transposition.{on_vectors, transposing, transposed_places, operations_of}
 use Rattle.aes_planes.specs.Planes.{vector_ops, planes_of, with_next, others, mixed_planes, mixed_rows, rows, shift_in, shift_between, shift_out, turned, half_sub, AreLong}
 use Rattle.aes_planes.specs.Blocks.{from_bits, bit_in, block_at, vector_at, AreStates, added, AreOf}
 use Rattle.aes_planes.specs.declared.vectors.Planes.{Planes}
@@ -124,7 +124,7 @@ state_hom =
 pub transposed_states : (q r : Planes) → AreStates q → IsTransposed q r → AreStates r
 transposed_states q r h e =
     states_from r (subst (Every IsState) (sym e)
-    (places-keep on_vectors on_vectors (λ v. v) IsState state_hom transposed_places (steps_of on_vectors transposing (planes_of q))
+    (places-keep on_vectors on_vectors (λ v. v) IsState state_hom transposed_places (operations_of on_vectors transposing (planes_of q))
     (steps-keep on_vectors on_vectors (λ v. v) IsState state_hom transposing (planes_of q) (every_state q h))))
 
 pub eight : (P : ℕ → Type 0) → P 0 → P 1 → P 2 → P 3 → P 4 → P 5 → P 6 → P 7 → (j : ℕ) → j < 8 → P j

@@ -13,7 +13,7 @@ use Rattle.aes_core.proofs.Boxes.{agree_at}
 use Rattle.aes_core.proofs.Inverse.{IsState, xor_swap}
 use Rattle.aes_planes.specs.Planes.{planes_of}
 use Rattle.aes_planes.specs.declared.vectors.Planes.{Planes}
-use Rattle.aes_planes.specs.Transposition.{Step, Add, Right, Left, Keep, Linear, step_of, steps_of, places_of, on_bytes, on_vectors, transposing, transposed_places}
+use Rattle.aes_planes.specs.Transposition.{Operation, Add, Right, Left, Keep, Linear, operation_of, operations_of, places_of, on_bytes, on_vectors, transposing, transposed_places}
 use Rattle.aes_planes.proofs.Truth.{bits_of, agree_lists}
 use Rattle.aes_planes.proofs.Hom.{Every, Every-get, Every-push, get_or-map_default, map-push}
 use Rattle.aes_planes.proofs.SubLaw.{from_bits, bit_in, block_at, bits_back}
@@ -32,7 +32,7 @@ module _ {A B : Type 0} where
     get-linear : (env : List A) (i : ℕ) → h (get_or env i f.none) ≡ get_or (map h env) i g.none
     get-linear env i = sym (get_or-map_default h env i f.none) ∙ ap (λ (d : B). get_or (map h env) i d) hom.at_none.0
 
-    step-linear : (s : Step) (env : List A) → Every P env → (h (step_of f s env) ≡ step_of g s (map h env)) × P (step_of f s env)
+    step-linear : (s : Operation) (env : List A) → Every P env → (h (operation_of f s env) ≡ operation_of g s (map h env)) × P (operation_of f s env)
     step-linear (Add i j) env all =
         let one = hom.at_add _ _ (Every-get P env i f.none all hom.at_none.1) (Every-get P env j f.none all hom.at_none.1) in
         (one.0 ∙ (λ k. g.add (get-linear env i k) (get-linear env j k)), one.1)
@@ -43,16 +43,16 @@ module _ {A B : Type 0} where
     step-linear (Keep n i) env all =
         let one = hom.at_keep n _ (Every-get P env i f.none all hom.at_none.1) in (one.0 ∙ ap (g.keep n) (get-linear env i), one.1)
 
-    steps-linear : (ss : List Step) (env : List A) → Every P env → map h (steps_of f ss env) ≡ steps_of g ss (map h env)
+    steps-linear : (ss : List Operation) (env : List A) → Every P env → map h (operations_of f ss env) ≡ operations_of g ss (map h env)
     steps-linear [] env all = refl
     steps-linear (s ∷ ss) env all =
         let one = step-linear s env all in
-        steps-linear ss (env ++ step_of f s env ∷ []) (Every-push P env (step_of f s env) all one.1)
-        ∙ ap (steps_of g ss) (map-push h env (step_of f s env) ∙ ap (λ (x : B). map h env ++ x ∷ []) one.0)
+        steps-linear ss (env ++ operation_of f s env ∷ []) (Every-push P env (operation_of f s env) all one.1)
+        ∙ ap (operations_of g ss) (map-push h env (operation_of f s env) ∙ ap (λ (x : B). map h env ++ x ∷ []) one.0)
 
-    pub steps-keep : (ss : List Step) (env : List A) → Every P env → Every P (steps_of f ss env)
+    pub steps-keep : (ss : List Operation) (env : List A) → Every P env → Every P (operations_of f ss env)
     steps-keep [] env all = all
-    steps-keep (s ∷ ss) env all = steps-keep ss (env ++ step_of f s env ∷ []) (Every-push P env (step_of f s env) all (step-linear s env all).1)
+    steps-keep (s ∷ ss) env all = steps-keep ss (env ++ operation_of f s env ∷ []) (Every-push P env (operation_of f s env) all (step-linear s env all).1)
 
     pub places-keep : (places : List ℕ) (env : List A) → Every P env → Every P (places_of f places env)
     places-keep [] env all = tt
@@ -62,9 +62,9 @@ module _ {A B : Type 0} where
     places-linear [] env = refl
     places-linear (k ∷ places) env = (λ i. get-linear env k i ∷ places-linear places env i)
 
-    pub network-linear : (ss : List Step) (places : List ℕ) (env : List A) → Every P env
-        → map h (places_of f places (steps_of f ss env)) ≡ places_of g places (steps_of g ss (map h env))
-    network-linear ss places env all = places-linear places (steps_of f ss env) ∙ ap (places_of g places) (steps-linear ss env all)
+    pub network-linear : (ss : List Operation) (places : List ℕ) (env : List A) → Every P env
+        → map h (places_of f places (operations_of f ss env)) ≡ places_of g places (operations_of g ss (map h env))
+    network-linear ss places env all = places-linear places (operations_of f ss env) ∙ ap (places_of g places) (steps-linear ss env all)
 
 -- ---- it is additive: pairs, their parts and their sum
 
@@ -117,13 +117,13 @@ map-sum [] = refl
 map-sum (x ∷ xs) = ap (λ (l : List ℕ). bit_xor x.0 x.1 ∷ l) (map-sum xs)
 
 abbrev pub net : List ℕ → List ℕ
-net xs = places_of on_bytes transposed_places (steps_of on_bytes transposing xs)
+net xs = places_of on_bytes transposed_places (operations_of on_bytes transposing xs)
 
 net-sum : (env : List (ℕ × ℕ)) → net (map (λ a. bit_xor a.0 a.1) env) ≡ zip2 bit_xor (net (map (λ a. a.0) env)) (net (map (λ a. a.1) env))
 net-sum env =
     let all = every_pair env in
     sym (network-linear on_pairs on_bytes (λ a. bit_xor a.0 a.1) Anything sum_hom transposing transposed_places env all)
-    ∙ map-sum (places_of on_pairs transposed_places (steps_of on_pairs transposing env))
+    ∙ map-sum (places_of on_pairs transposed_places (operations_of on_pairs transposing env))
     ∙ (λ i. zip2 bit_xor (network-linear on_pairs on_bytes (λ a. a.0) Anything first_hom transposing transposed_places env all i)
     (network-linear on_pairs on_bytes (λ a. a.1) Anything second_hom transposing transposed_places env all i))
 
@@ -231,7 +231,7 @@ abbrev lane : List (List ℕ) → ℕ → List ℕ
 lane ps p = map (λ v. get_or v p 0) ps
 
 abbrev pub IsTransposed : Planes → Planes → Type 0
-IsTransposed q r = planes_of r ≡ places_of on_vectors transposed_places (steps_of on_vectors transposing (planes_of q))
+IsTransposed q r = planes_of r ≡ places_of on_vectors transposed_places (operations_of on_vectors transposing (planes_of q))
 
 pub lane_is : (q r : Planes) (p : ℕ) → p < 16 → Every IsState (planes_of q) → IsTransposed q r → lane (planes_of r) p ≡ from_bits (map (bit_in p 7) (planes_of q)) ∷ from_bits (map (bit_in p 6) (planes_of q)) ∷ from_bits (map (bit_in p 5) (planes_of q)) ∷ from_bits (map (bit_in p 4) (planes_of q)) ∷ from_bits (map (bit_in p 3) (planes_of q)) ∷ from_bits (map (bit_in p 2) (planes_of q)) ∷ from_bits (map (bit_in p 1) (planes_of q)) ∷ from_bits (map (bit_in p 0) (planes_of q)) ∷ []
 lane_is q r p lp states e =

@@ -1,4 +1,5 @@
--- The circuits of the S-boxes without their constants, at each byte: run once on numbers of 256 bits, bit x for the byte x.
+-- The circuits of the S-boxes without their constants, at each byte: run once on numbers of 256 bits, bit x for the
+-- byte x.
 use Rattle.std.proofs.Common.{◌≡◌, ℕ, zero, suc, ◌+◌, ◌-◌, ◌%◌, ◌<◌, List, [], ◌∷◌, map, get_or, min, max, bit_xor, bit_and, bit_or, refl, sym, ap, ◌∙◌, arith, zero-add}
 use Rattle.std.proofs.lemmas.List.{get_or-map}
 use Rattle.std.proofs.lemmas.List.FromFn.{get_or-map-range_with_len}

@@ -9,7 +9,7 @@ use Rattle.aes_core.specs.Blocks.{block}
 use Rattle.aes_planes.specs.Blocks.{vector_at}
 use Rattle.aes_planes.specs.Circuit.{Gate, Ops, outputs, run}
 use Rattle.aes_planes.specs.Planes.{planes_of, vector_ops}
-use Rattle.aes_planes.specs.Transposition.{Linear, Step, on_vectors, places_of, steps_of}
+use Rattle.aes_planes.specs.Transposition.{Linear, Operation, on_vectors, places_of, operations_of}
 use Rattle.aes_planes.specs.Wide.{AreWide, side}
 use Rattle.aes_planes.specs.declared.vectors.WidePlanes.{WidePlanes}
 use Rattle.aes_planes.proofs.BlockLaws.{eight}
@@ -137,18 +137,18 @@ side_linear i li =
     }
 
 -- a network on vectors of 32 bytes is the network on each side
-pub network_sides : (steps : List Step) (places : List ℕ) (q r : WidePlanes) → AreWide q → wide_of r ≡ places_of on_wide places (steps_of on_wide steps (wide_of q))
-    → (i : ℕ) → i < 2 → planes_of (side i r) ≡ places_of on_vectors places (steps_of on_vectors steps (planes_of (side i q)))
+pub network_sides : (steps : List Operation) (places : List ℕ) (q r : WidePlanes) → AreWide q → wide_of r ≡ places_of on_wide places (operations_of on_wide steps (wide_of q))
+    → (i : ℕ) → i < 2 → planes_of (side i r) ≡ places_of on_vectors places (operations_of on_vectors steps (planes_of (side i q)))
 network_sides steps places q r h e i li =
     let at : List ℕ → List ℕ = λ v. block v i in
     ap (map at) e ∙ network-linear on_wide on_vectors at Long (side_linear i li) steps places (wide_of q) (every_long q h)
 
-pub network_wide : (steps : List Step) (places : List ℕ) (q r : WidePlanes) → AreWide q → wide_of r ≡ places_of on_wide places (steps_of on_wide steps (wide_of q)) → AreWide r
+pub network_wide : (steps : List Operation) (places : List ℕ) (q r : WidePlanes) → AreWide q → wide_of r ≡ places_of on_wide places (operations_of on_wide steps (wide_of q)) → AreWide r
 network_wide steps places q r h e =
     let at : List ℕ → List ℕ = λ v. block v 0 in
     let hom = side_linear 0 (omega arith) in
     wide_from r (subst (Every Long) (sym e)
-    (places-keep on_wide on_vectors at Long hom places (steps_of on_wide steps (wide_of q))
+    (places-keep on_wide on_vectors at Long hom places (operations_of on_wide steps (wide_of q))
     (steps-keep on_wide on_vectors at Long hom steps (wide_of q) (every_long q h))))
 
 -- ---- lanes that change places

@@ -1,8 +1,8 @@
 //! AES (FIPS 197) of eight blocks at a time, by the planes of their bits.
 //!
-//! Plane `i` holds bit `i` of all 128 bytes of the eight blocks: bit `j` of its lane `p` is that of byte `p` of block `j`.
-//! The S-box is then a circuit of gates on whole planes, with no table, and the same gates run whatever the bytes are.
-//! `aes_core` has the definitions, and `SlicedSchedule` says that the eight blocks are enciphered by them.
+//! Plane `i` holds bit `i` of all 128 bytes of the eight blocks: bit `j` of its lane `p` is that of byte `p` of block
+//! `j`. The S-box is then a circuit of gates on whole planes, with no table, and the same gates run whatever the bytes
+//! are. `aes_core` has the definitions, and `SlicedSchedule` says that the eight blocks are enciphered by them.
 #![tactic(auto)]
 
 ghost use Rattle.std.specs.Prelude.{◌≡◌, ◌<◌, ℕ};

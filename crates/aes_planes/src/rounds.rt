@@ -1,4 +1,5 @@
-//! The cipher and its inverse on eight blocks, and on sixteen (FIPS 197, 5.1 and 5.3), under the planes of the round keys.
+//! The cipher and its inverse on eight blocks, and on sixteen (FIPS 197, 5.1 and 5.3), under the planes of the round
+//! keys.
 
 ghost use Rattle.std.specs.Prelude.{◌≡◌, ◌<◌, ◌+◌, ℕ};
 ghost use Rattle.aes_core.specs.Aes.{enciphered, deciphered};

@@ -93,6 +93,7 @@ fn unmoved_between(v: u8x16) -> u8x16
     v.swizzle(UNSHIFT_BETWEEN)
 }
 
+// The bytes of a state, row by row.
 #[inline(always)]
 pub fn in_rows(v: u8x16) -> u8x16
     requires { length v ≡ 16 }

@@ -3,7 +3,7 @@
 ghost use Rattle.std.specs.Prelude.{◌≡◌, ◌<◌, ℕ};
 ghost use Rattle.aes_planes.specs.Planes.{planes_of};
 ghost use Rattle.aes_planes.specs.Wide.{AreWide, side};
-ghost use Rattle.aes_planes.specs.Transposition.{on_vectors, transposing, transposed_places, steps_of, places_of};
+ghost use Rattle.aes_planes.specs.Transposition.{on_vectors, transposing, transposed_places, operations_of, places_of};
 
 use crate::vectors::{Planes, WidePlanes};
 use std::simd::prelude::*;
@@ -73,7 +73,7 @@ macro_rules! network {
 /// Row i of the eight rows of bits in each lane becomes column i.
 #[inline(always)]
 pub fn transposed(q: Planes) -> Planes
-    ensures { planes_of result ≡ places_of on_vectors transposed_places (steps_of on_vectors transposing (planes_of q)) }
+    ensures { planes_of result ≡ places_of on_vectors transposed_places (operations_of on_vectors transposing (planes_of q)) }
 {
     network!(Planes, u8x16, q)
 }
@@ -82,7 +82,7 @@ pub fn transposed(q: Planes) -> Planes
 #[inline(always)]
 pub fn wide_transposed(q: WidePlanes) -> WidePlanes
     requires { AreWide q }
-    ensures sides { (i : ℕ) → i < 2 → planes_of (side i result) ≡ places_of on_vectors transposed_places (steps_of on_vectors transposing (planes_of (side i q))) }
+    ensures sides { (i : ℕ) → i < 2 → planes_of (side i result) ≡ places_of on_vectors transposed_places (operations_of on_vectors transposing (planes_of (side i q))) }
     ensures wide { AreWide result }
 {
     network!(WidePlanes, u8x32, q)

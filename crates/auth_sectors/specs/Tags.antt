@@ -10,7 +10,7 @@ abbrev pub padded : List ℕ → List ℕ
 padded bytes = bytes ++ replicate (64 - length bytes) 0
 
 -- the mismatch tells the tag that the device sector has, and that of its cipher text of so many bytes, which is another
-pub record Tells (k : Keying) (offset size : ℕ) (sector : List ℕ) (mismatch : Mismatch) : Type 0 where
+pub record ShowsMismatch (k : Keying) (offset size : ℕ) (sector : List ℕ) (mismatch : Mismatch) : Type 0 where
   pub bytes : mismatch.length ≡ tag_bytes k.auth
   pub kept : mismatch.kept ≡ padded (kept_tag k sector)
   pub computed : mismatch.computed ≡ padded (tag_of k offset (cipher_text_in k size sector))

@@ -10,7 +10,7 @@ ghost use Rattle.block_traits.specs.Parts.{parts};
 ghost use Rattle.eli_base.specs.Units.{unit_bytes_of};
 ghost use Rattle.sealing.specs.Pieces.{opened_piece, sealed_piece};
 ghost use Rattle.sealing.specs.Sectors.{joined};
-ghost use Rattle.auth_sectors.specs.Tags.{Tells};
+ghost use Rattle.auth_sectors.specs.Tags.{ShowsMismatch};
 ghost use Rattle.auth_sectors.specs.Wholes.{opened_pieces, sealed_pieces};
 
 mod tags;
@@ -143,7 +143,7 @@ pub fn open_piece(
     ensures opened { let answer = opened_piece ring.old.keying offset (length out.old) from.now in
         MatchResult result (λ _. answer ≡ Ok out.new) (λ mismatch. answer ≡ Err offset) }
     ensures mismatch { MatchResult result (λ _. Unit {0})
-        (λ mismatch. (out.new ≡ replicate (length out.old) 0) × Tells ring.old.keying offset (length out.old) from.now mismatch) }
+        (λ mismatch. (out.new ≡ replicate (length out.old) 0) × ShowsMismatch ring.old.keying offset (length out.old) from.now mismatch) }
     ensures keying { ring.new.keying ≡ ring.old.keying }
 {
     let size = ring.auth().tag_bytes();

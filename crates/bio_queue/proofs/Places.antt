@@ -4,7 +4,7 @@ use Rattle.std.specs.List.{remove}
 use Rattle.std.specs.Option.{option_map}
 use Rattle.std.proofs.Math.ListN.{set}
 use Rattle.std.proofs.lemmas.Bool.{eqb-true}
-use Rattle.bio_queue.specs.Kept.{place_of}
+use Rattle.bio_queue.specs.Kept.{request_place}
 use Rattle.bio_queue.specs.Requests.{Request, exchanged, request_with, without}
 
 behind : (o : Option ℕ) (place : ℕ) → option_map (λ n. n + 1) o ≡ Some place → (p : ℕ) × (o ≡ Some p) × (place ≡ suc p)
@@ -15,13 +15,13 @@ not_behind : (o : Option ℕ) → option_map (λ n. n + 1) o ≡ None → o ≡ 
 not_behind None h = refl
 not_behind (Some p) h = absurd cc
 
-none_step : (tag : ℕ) (x : Request) (queue : List Request) (b : Bool) → (place_of tag queue ≡ None → request_with tag queue ≡ None)
-    → cond b (Some 0) (option_map (λ n. n + 1) (place_of tag queue)) ≡ None → cond b (Some x) (request_with tag queue) ≡ None
+none_step : (tag : ℕ) (x : Request) (queue : List Request) (b : Bool) → (request_place tag queue ≡ None → request_with tag queue ≡ None)
+    → cond b (Some 0) (option_map (λ n. n + 1) (request_place tag queue)) ≡ None → cond b (Some x) (request_with tag queue) ≡ None
 none_step tag x queue true more h = absurd cc
-none_step tag x queue false more h = more (not_behind (place_of tag queue) h)
+none_step tag x queue false more h = more (not_behind (request_place tag queue) h)
 
 -- no place, no request
-pub none_there : (tag : ℕ) (queue : List Request) → place_of tag queue ≡ None → request_with tag queue ≡ None
+pub none_there : (tag : ℕ) (queue : List Request) → request_place tag queue ≡ None → request_with tag queue ≡ None
 none_there tag [] h = refl
 none_there tag (x ∷ queue) h = none_step tag x queue (x.tag == tag) (none_there tag queue) h
 
@@ -34,8 +34,8 @@ pub record IsAt (tag : ℕ) (queue : List Request) (place : ℕ) (r : Request) :
   pub take_out : without tag queue ≡ remove queue place
 
 at_step : (tag : ℕ) (x : Request) (queue : List Request) (place : ℕ) (r : Request) (b : Bool) → (x.tag == tag) ≡ b
-    → ((p : ℕ) → place_of tag queue ≡ Some p → r ≡ get_or queue p r → IsAt tag queue p r)
-    → cond b (Some 0) (option_map (λ n. n + 1) (place_of tag queue)) ≡ Some place → r ≡ get_or (x ∷ queue) place r → IsAt tag (x ∷ queue) place r
+    → ((p : ℕ) → request_place tag queue ≡ Some p → r ≡ get_or queue p r → IsAt tag queue p r)
+    → cond b (Some 0) (option_map (λ n. n + 1) (request_place tag queue)) ≡ Some place → r ≡ get_or (x ∷ queue) place r → IsAt tag (x ∷ queue) place r
 at_step tag x queue place r true same more h is =
     let first : 0 ≡ place = cc in
     let here : r ≡ x = subst (λ (n : ℕ). r ≡ get_or (x ∷ queue) n r) (sym first) is in
@@ -49,7 +49,7 @@ at_step tag x queue place r true same more h is =
       take_out = ap (λ (c : Bool). cond c queue (x ∷ without tag queue)) same ∙ ap (remove (x ∷ queue)) first;
     }
 at_step tag x queue place r false same more h is =
-    let next = behind (place_of tag queue) place h in
+    let next = behind (request_place tag queue) place h in
     let at : place ≡ suc next.0 = next.2 in
     let here : r ≡ get_or queue next.0 r = subst (λ (n : ℕ). r ≡ get_or (x ∷ queue) n r) at is in
     let rest = more next.0 next.1 here in
@@ -66,6 +66,6 @@ at_step tag x queue place r false same more h is =
           ∙ ap (remove (x ∷ queue)) (sym at);
     }
 
-pub is_at : (tag : ℕ) (queue : List Request) (place : ℕ) (r : Request) → place_of tag queue ≡ Some place → r ≡ get_or queue place r → IsAt tag queue place r
+pub is_at : (tag : ℕ) (queue : List Request) (place : ℕ) (r : Request) → request_place tag queue ≡ Some place → r ≡ get_or queue place r → IsAt tag queue place r
 is_at tag [] place r h is = absurd cc
 is_at tag (x ∷ queue) place r h is = at_step tag x queue place r (x.tag == tag) refl (λ p hp ip. is_at tag queue p r hp ip) h is

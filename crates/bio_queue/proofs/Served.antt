@@ -4,7 +4,7 @@ use Rattle.std.specs.Prelude.{is_err}
 use Rattle.std.specs.List.{insert, remove}
 use Rattle.std.proofs.Math.ListN.{set}
 use Rattle.std.proofs.lemmas.List.{set-get_or}
-use Rattle.bio_queue.specs.Kept.{gap_from, place_of}
+use Rattle.bio_queue.specs.Kept.{gap_from, request_place}
 use Rattle.bio_queue.specs.Requests.{AscendsFrom, IsLeastFree, Request, exchanged, put_in, request_with, without}
 use Rattle.bio_queue.proofs.Places.{is_at}
 use Rattle.bio_queue.proofs.Tags.{ascends-exchanged, ascends-without, gap_is, least_free}
@@ -28,10 +28,10 @@ pub record Stands (tag : ℕ) (items queue : List Request) (place : ℕ) (r : Re
 set_same : (items : List Request) (place : ℕ) (r : Request) → r ≡ get_or items place r → set items place r ≡ items
 set_same items place r is = ap (λ (x : Request). set items place x) is ∙ set-get_or items place r
 
-pub stands : (tag : ℕ) (items queue front : List Request) (found : Option ℕ) (place : ℕ) (r : Request) → items ≡ queue → front ≡ items → found ≡ place_of tag front → found ≡ Some place → r ≡ get_or items place r
+pub stands : (tag : ℕ) (items queue front : List Request) (found : Option ℕ) (place : ℕ) (r : Request) → items ≡ queue → front ≡ items → found ≡ request_place tag front → found ≡ Some place → r ≡ get_or items place r
     → Stands tag items queue place r
 stands tag items queue front found place r view value gives is there =
-    let at = is_at tag items place r (ap (place_of tag) (sym value) ∙ sym gives ∙ is) there in
+    let at = is_at tag items place r (ap (request_place tag) (sym value) ∙ sym gives ∙ is) there in
     record {
       found = ap (request_with tag) (sym view) ∙ at.found;
       has = at.has;

@@ -44,10 +44,10 @@ abbrev pub asked : Keying → ℕ → Job → List ℕ → Request
 asked k tag job from = record { tag = tag; job = job; done = 0; units = units_of k job; device = device_of k job from }
 
 -- a read-only provider takes no write
-abbrev pub Takes : Bool → Job → Type 0
-Takes readonly (Read sector count) = Unit {0}
-Takes readonly (Write sector count) = readonly ≡ false
-Takes readonly Flush = Unit {0}
+abbrev pub TakesJob : Bool → Job → Type 0
+TakesJob readonly (Read sector count) = Unit {0}
+TakesJob readonly (Write sector count) = readonly ≡ false
+TakesJob readonly Flush = Unit {0}
 
 abbrev pub IsWrite : Job → Type 0
 IsWrite (Read sector count) = ⊥
@@ -55,33 +55,33 @@ IsWrite (Write sector count) = Unit {0}
 IsWrite Flush = ⊥
 
 -- its logical sectors are among so many; a flush has none
-abbrev pub IsInRange : ℕ → Job → Type 0
-IsInRange media (Read sector count) = sector + count ≤ media
-IsInRange media (Write sector count) = sector + count ≤ media
-IsInRange media Flush = Unit {0}
+abbrev pub JobIsInRange : ℕ → Job → Type 0
+JobIsInRange media (Read sector count) = sector + count ≤ media
+JobIsInRange media (Write sector count) = sector + count ≤ media
+JobIsInRange media Flush = Unit {0}
 
 -- it passes the end of so many, and these are its numbers
-abbrev pub PassesEnd : ℕ → Job → ℕ → ℕ → ℕ → Type 0
-PassesEnd media (Read sector count) first many there = (media < sector + count) × (first ≡ sector) × (many ≡ count) × (there ≡ media)
-PassesEnd media (Write sector count) first many there = (media < sector + count) × (first ≡ sector) × (many ≡ count) × (there ≡ media)
-PassesEnd media Flush first many there = ⊥
+abbrev pub JobPassesEnd : ℕ → Job → ℕ → ℕ → ℕ → Type 0
+JobPassesEnd media (Read sector count) first many there = (media < sector + count) × (first ≡ sector) × (many ≡ count) × (there ≡ media)
+JobPassesEnd media (Write sector count) first many there = (media < sector + count) × (first ≡ sector) × (many ≡ count) × (there ≡ media)
+JobPassesEnd media Flush first many there = ⊥
 
 -- a provider that is read-only or not, with so many logical sectors, takes the job
 pub record IsAdmitted (readonly : Bool) (media : ℕ) (job : Job) : Type 0 where
-  pub takes : Takes readonly job
-  pub in_range : IsInRange media job
+  pub takes : TakesJob readonly job
+  pub in_range : JobIsInRange media job
 
 -- why it doesn't
-abbrev pub IsRefused : Bool → ℕ → Job → SubmitFault → Type 0
-IsRefused readonly media job submit.ReadOnly = IsWrite job × (readonly ≡ true)
-IsRefused readonly media job (submit.OutOfRange sector count there) = Takes readonly job × PassesEnd media job sector count there
-IsRefused readonly media job submit.QueueFull = ⊥
-IsRefused readonly media job submit.NoMemory = ⊥
+abbrev pub JobIsRefused : Bool → ℕ → Job → SubmitFault → Type 0
+JobIsRefused readonly media job submit.ReadOnly = IsWrite job × (readonly ≡ true)
+JobIsRefused readonly media job (submit.OutOfRange sector count there) = TakesJob readonly job × JobPassesEnd media job sector count there
+JobIsRefused readonly media job submit.QueueFull = ⊥
+JobIsRefused readonly media job submit.NoMemory = ⊥
 
 -- or why a queue of so many requests takes no more
 abbrev pub IsRefusedBy : Bool → ℕ → Job → ℕ → SubmitFault → Type 0
-IsRefusedBy readonly media job many submit.ReadOnly = IsRefused readonly media job submit.ReadOnly
-IsRefusedBy readonly media job many (submit.OutOfRange sector count there) = IsRefused readonly media job (submit.OutOfRange sector count there)
+IsRefusedBy readonly media job many submit.ReadOnly = JobIsRefused readonly media job submit.ReadOnly
+IsRefusedBy readonly media job many (submit.OutOfRange sector count there) = JobIsRefused readonly media job (submit.OutOfRange sector count there)
 IsRefusedBy readonly media job many submit.QueueFull = IsAdmitted readonly media job × (many ≡ 32)
 IsRefusedBy readonly media job many submit.NoMemory = IsAdmitted readonly media job × (many < 32)
 

@@ -26,9 +26,9 @@ pub record IsHeld (job : Job) (many all first bytes : ℕ) : Type 0 where
   pub room : bytes ≡ room_of job all
 
 -- the place of the request with this tag
-abbrev pub place_of : ℕ → List Request → Option ℕ
-place_of tag [] = None
-place_of tag (r ∷ queue) = if r.tag == tag then Some 0 else option_map (λ n. n + 1) (place_of tag queue)
+abbrev pub request_place : ℕ → List Request → Option ℕ
+request_place tag [] = None
+request_place tag (r ∷ queue) = if r.tag == tag then Some 0 else option_map (λ n. n + 1) (request_place tag queue)
 
 -- the first number from this one on, counted along the queue, that isn't the tag of the request there
 abbrev pub gap_from : ℕ → List Request → ℕ

@@ -27,10 +27,10 @@ abbrev pub IsOf : Keying → ℕ → Request → Type 0
 IsOf k media r = IsMadeOf k media r.job r.units
 
 -- and each request of the queue
-abbrev pub AreOf : Keying → ℕ → List Request → Type 0
-AreOf k media [] = Unit {0}
-AreOf k media (r ∷ queue) = IsOf k media r × AreOf k media queue
+abbrev pub AreAllOf : Keying → ℕ → List Request → Type 0
+AreAllOf k media [] = Unit {0}
+AreAllOf k media (r ∷ queue) = IsOf k media r × AreAllOf k media queue
 
 -- a request with this tag is open, and such a provider would make it
-abbrev pub IsServed : Keying → ℕ → ℕ → List Request → Type 0
-IsServed k media tag queue = IsSomeAnd (request_with tag queue) (IsOf k media)
+abbrev pub IsOpenRequest : Keying → ℕ → ℕ → List Request → Type 0
+IsOpenRequest k media tag queue = IsSomeAnd (request_with tag queue) (IsOf k media)

@@ -72,13 +72,13 @@ AscendsFrom least (r ∷ queue) = (least ≤ r.tag) × (r.tag < 32) × AscendsFr
 -- ---- a step
 
 -- what the next unit of a request logs: that of a write, or a flush, and nothing for a read
-abbrev pub events_of : Job → ℕ → List ℕ → List Event
-events_of (Read sector count) n bytes = []
-events_of (Write sector count) n bytes = event.Write n bytes ∷ []
-events_of Flush n bytes = event.Flush ∷ []
+abbrev pub unit_events : Job → ℕ → List ℕ → List Event
+unit_events (Read sector count) n bytes = []
+unit_events (Write sector count) n bytes = event.Write n bytes ∷ []
+unit_events Flush n bytes = event.Flush ∷ []
 
 abbrev pub step_events : Request → List Event
-step_events r = events_of r.job (next_of r) (get_or r.device r.done [])
+step_events r = unit_events r.job (next_of r) (get_or r.device r.done [])
 
 -- the request with one more unit done, for which a read was given these bytes
 abbrev pub device_after : Job → List (List ℕ) → List ℕ → List (List ℕ)

@@ -1,4 +1,4 @@
-// Why a call of a queue was refused.
+//! Why a call of a queue was refused.
 use thiserror::Error;
 
 /// Why a job wasn't submitted.

@@ -1,4 +1,4 @@
-// What is asked of a provider, and what was done.
+//! What is asked of a provider, and what was done.
 
 /// What is asked of a provider.
 #[derive(Clone, Copy)]

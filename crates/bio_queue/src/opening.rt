@@ -1,4 +1,4 @@
-// Logical sectors one after the other, sealed and opened in memory.
+//! Logical sectors one after the other, sealed and opened in memory.
 ghost use Rattle.std.specs.Prelude.{◌≡◌, ℕ, ◌+◌, ◌*◌, ◌≤◌, Ok, Err, MatchResult, OnOk, length, take, drop};
 ghost use Rattle.block_traits.specs.Parts.{parts};
 ghost use Rattle.provider.specs.Attached.{media};

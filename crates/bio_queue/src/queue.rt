@@ -1,11 +1,11 @@
-// The requests that are open on a provider.
+//! The requests that are open on a provider.
 ghost use Rattle.std.specs.Prelude.{◌≡◌, ◌↔◌, ◌+◌, ◌<◌, ◌≤◌, [], IfOk, IfSome, IsTrue, MatchResult, length, vec_capacity, vec_len};
 ghost use Rattle.std.specs.List.{insert};
 ghost use Rattle.eli_base.specs.Requests.{request_limit};
 ghost use Rattle.provider.specs.Attached.{IsKept, media};
-ghost use Rattle.bio_queue.specs.Answers.{CanBeReaped, CanStep, IsAdmitted, IsAsked, IsRefused, OnNoCall, ReapAnswers, StepAnswers, SubmitAnswers};
-ghost use Rattle.bio_queue.specs.Kept.{gap_from, place_of};
-ghost use Rattle.bio_queue.specs.Owners.{IsServed};
+ghost use Rattle.bio_queue.specs.Answers.{CanBeReaped, CanStep, IsAdmitted, IsAsked, JobIsRefused, OnNoCall, ReapAnswers, StepAnswers, SubmitAnswers};
+ghost use Rattle.bio_queue.specs.Kept.{gap_from, request_place};
+ghost use Rattle.bio_queue.specs.Owners.{IsOpenRequest};
 ghost use Rattle.bio_queue.specs.Requests.{AscendsFrom, request_with};
 
 use crate::request::OpenRequest;
@@ -74,7 +74,7 @@ impl Queue {
     /// conditions of `step` and `reap` hold. A queue that began empty and served this provider alone has no other
     /// requests.
     pub fn has_request<D: Disk>(&self, on: &Provider<D>, tag: u8) -> bool
-        ensures { IsTrue result ↔ IsServed on.now.keying (media on.now.keying (D.state on.now.disk)) tag self.now }
+        ensures { IsTrue result ↔ IsOpenRequest on.now.keying (media on.now.keying (D.state on.now.disk)) tag self.now }
     {
         match find(&self.requests, tag) {
             Some(place) => self.requests[place].is_of(on),
@@ -196,7 +196,7 @@ fn check_range<D: Disk>(on: &Provider<D>, sector: u64, count: u32) -> Result<(),
 // Refuses a job that the provider doesn't take.
 fn admit<D: Disk>(on: &Provider<D>, job: &Job) -> Result<(), SubmitFault>
     ensures { let there = media on.now.keying (D.state on.now.disk) in
-        MatchResult result (λ _. IsAdmitted on.now.readonly there job.now) (IsRefused on.now.readonly there job.now) }
+        MatchResult result (λ _. IsAdmitted on.now.readonly there job.now) (JobIsRefused on.now.readonly there job.now) }
 {
     match *job {
         Job::Read { sector, count } => check_range(on, sector, count),
@@ -212,7 +212,7 @@ fn admit<D: Disk>(on: &Provider<D>, job: &Job) -> Result<(), SubmitFault>
 
 // The place of the request with this tag.
 fn find(requests: &[OpenRequest], tag: u8) -> Option<usize>
-    ensures found { result ≡ place_of tag requests.now }
+    ensures found { result ≡ request_place tag requests.now }
     ensures bound { IfSome result (λ place. place < length requests.now) }
 {
     for (place, request) in requests.iter().enumerate() {

@@ -1,4 +1,4 @@
-// A request that is open.
+//! A request that is open.
 ghost use Rattle.std.specs.Prelude.{◌≡◌, ◌↔◌, ◌+◌, ◌*◌, ◌<◌, ◌≤◌, ◌++◌, ◌∷◌, [], ℕ, List, OnOk, OnErr, IfOk, IsTrue, MatchResult, length, drop, take};
 ghost use Rattle.block_traits.specs.Causes.{Counted};
 ghost use Rattle.block_traits.specs.Disk.{FailsIn, Gives, Logs};
@@ -91,7 +91,7 @@ fn read_unit<D: Disk>(
 }
 
 impl OpenRequest {
-    ghost use Rattle.bio_queue.specs.Answers.{AsksReads, CanBeReaped, CanStep, Gave, HasBadUnit, IsAsked, IsGiven, IsInRange, asked};
+    ghost use Rattle.bio_queue.specs.Answers.{AsksReads, CanBeReaped, CanStep, Gave, HasBadUnit, IsAsked, IsGiven, JobIsInRange, asked};
     ghost use Rattle.eli_base.specs.Requests.{request_limit};
     ghost use Rattle.bio_queue.specs.Owners.{IsOf};
     ghost use Rattle.bio_queue.specs.Requests.{Request, left_of, next_of, step_events, stepped};
@@ -105,7 +105,7 @@ impl OpenRequest {
         from: &[u8],
     ) -> Result<OpenRequest, NoMemory>
         requires asked { IsAsked on.old.keying.sectorsize job.now from.now }
-        requires in_range { IsInRange (media on.old.keying (D.state on.old.disk)) job.now }
+        requires in_range { JobIsInRange (media on.old.keying (D.state on.old.disk)) job.now }
         ensures made { IfOk result (λ request. request ≡ asked on.old.keying tag job.now from.now) }
         ensures stays { on.new ≡ on.old }
     {

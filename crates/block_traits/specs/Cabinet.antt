@@ -33,8 +33,8 @@ abbrev pub LoadGives : Option Files → List ℕ → ℕ → Result (List ℕ) L
 LoadGives None name limit result = Unit {0}
 LoadGives (Some files) name limit result = Answers (load_answer (files name) limit) result
 
--- a cabinet by its files, where it tells them, how often it failed, how often a file was absent or too long, and how often it
--- was asked to load one, and to store one
+-- a cabinet by its files, where it tells them, how often it failed, how often a file was absent or too long, and how
+-- often it was asked to load one, and to store one
 pub record CabinetState : Type 0 where
   pub files : Option Files
   pub faults : ℕ

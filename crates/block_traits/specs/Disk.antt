@@ -49,8 +49,8 @@ showing c faults reads bound fits = record {
   well_formed = record { bound = bound; fits = fits; shown = λ h. h };
 }
 
--- these events were logged, and nothing else happened but that the count of faults may have risen; what became of the count
--- of reads isn't said here
+-- these events were logged, and nothing else happened but that the count of faults may have risen; what became of the
+-- count of reads isn't said here
 pub record Logs (events : List Event) (old new : DiskState) : Type 0 where
   pub content : new.content ≡ logged events old.content
   pub size : new.size ≡ old.size

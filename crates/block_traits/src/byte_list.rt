@@ -1,4 +1,4 @@
-// A list of bytes, which contracts see as that list.
+//! A list of bytes, which contracts see as that list.
 ghost use Rattle.std.specs.Prelude.{◌≡◌, List, ℕ};
 
 use std::marker::Model;

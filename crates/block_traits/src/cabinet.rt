@@ -1,4 +1,4 @@
-// What keeps files by their names.
+//! What keeps files by their names.
 ghost use Rattle.std.specs.Prelude.{◌≡◌, ◌≤◌, OnOk, OnErr, IfOk, IsErrOf, length};
 ghost use Rattle.block_traits.specs.Cabinet.{CabinetState, LoadGives, stored};
 ghost use Rattle.block_traits.specs.Causes.{Counted, Rose};

@@ -1,4 +1,4 @@
-// A disk of 512-byte sectors, by what it had at first and what was done to it since.
+//! A disk of 512-byte sectors, by what it had at first and what was done to it since.
 ghost use Rattle.std.specs.Prelude.{◌≡◌, ◌+◌, ◌*◌, ◌/◌, ◌%◌, ◌<◌, ◌≤◌, ◌∷◌, [], OnOk, OnErr, is_some, length, option_copied, true};
 ghost use Rattle.block_traits.specs.Causes.{Counted};
 ghost use Rattle.block_traits.specs.Disk.{DiskState, FailsIn, Gives, GivesEach, IsHistory, Logs, write_events};
@@ -50,8 +50,8 @@ pub trait Disk: Drop {
         ensures err { OnErr result (FailsIn [] (state self.old) (state self.new)) }
         ensures asked { Counted 1 (state self.old).reads (state self.new).reads };
 
-    /// Looks at what stands in whole sectors now, the first of number `first`, where the disk lets that be done. It is no
-    /// read: it isn't counted, and nothing changes. `false` says nothing, and `into` may then hold any bytes.
+    /// Looks at what stands in whole sectors now, the first of number `first`, where the disk lets that be done. It is
+    /// no read: it isn't counted, and nothing changes. `false` says nothing, and `into` may then hold any bytes.
     fn peek(&mut self, first: u64, into: &mut [u8]) -> bool
         requires whole { length into.old % 512 ≡ 0 }
         requires inside { first + length into.old / 512 ≤ (state self.old).size }
@@ -73,8 +73,8 @@ pub trait Disk: Drop {
         ensures err { OnErr result (FailsIn (Event.Write n from.now ∷ []) (state self.old) (state self.new)) }
         ensures unasked { (state self.new).reads ≡ (state self.old).reads };
 
-    /// Writes whole sectors in ascending order, the first to number `first`. Where that failed, some of the first were written
-    /// and no other.
+    /// Writes whole sectors in ascending order, the first to number `first`. Where that failed, some of the first were
+    /// written and no other.
     fn write_sectors(&mut self, first: u64, from: &[u8]) -> Result<(), DiskFailed>
         requires whole { length from.now % 512 ≡ 0 }
         requires inside { first + length from.now / 512 ≤ (state self.old).size }

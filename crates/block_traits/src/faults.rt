@@ -1,4 +1,4 @@
-// Want of memory, which is merged with no other fault.
+//! Want of memory, which is merged with no other fault.
 use std::alloc::{AllocError, AllocFailed};
 
 /// There was no memory.

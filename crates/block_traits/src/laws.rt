@@ -1,4 +1,4 @@
-// What holds of contents and of the images that a crash leaves, whatever the disk.
+//! What holds of contents and of the images that a crash leaves, whatever the disk.
 ghost use Rattle.std.specs.Prelude.{◌≡◌, ◌<◌, ◌∷◌, [], ℕ, List, All};
 ghost use Rattle.block_traits.specs.Content.{Content, IsContentOf, IsSector, kept_values, last_of, present, with_events};
 ghost use Rattle.block_traits.specs.Crash.{IsAltered, IsImage, IsTorn};

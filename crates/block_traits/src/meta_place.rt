@@ -1,4 +1,4 @@
-// The last sector of a disk, where the metadata of a provider stands (g_eli.h).
+//! The last sector of a disk, where the metadata of a provider stands (g_eli.h).
 ghost use Rattle.std.specs.Prelude.{◌≡◌, ◌<◌, ◌∷◌, [], ℕ, List, OnOk, OnErr};
 ghost use Rattle.block_traits.specs.Causes.{Counted};
 ghost use Rattle.block_traits.specs.Disk.{DiskState, FailsIn, Gives, Logs, last_sector, store_events};

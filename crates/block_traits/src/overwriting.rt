@@ -1,4 +1,4 @@
-// A sector whose bytes are destroyed by writing over them several times.
+//! A sector whose bytes are destroyed by writing over them several times.
 ghost use Rattle.std.specs.Prelude.{◌≡◌, ◌<◌, ◌≤◌, ◌+◌, ◌*◌, ◌∷◌, [], ℕ, List, OnOk, OnErr, length, map};
 ghost use Rattle.block_traits.specs.Disk.{DiskState, FailsIn, Logs, last_sector};
 ghost use Rattle.block_traits.specs.Overwriting.{overwrite_events, passes_of, piece_of, zeros};

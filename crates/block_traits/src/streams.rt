@@ -1,4 +1,4 @@
-// What gives bytes, what takes them, and where random bytes come from.
+//! What gives bytes, what takes them, and where random bytes come from.
 ghost use Rattle.std.specs.Prelude.{◌≡◌, ◌<◌, ◌≤◌, OnOk, IfOk, OnErr, length, take};
 ghost use Rattle.std.specs.Io.KnownBytes.{prepend_known, append_known, IsAtEnd};
 ghost use Rattle.block_traits.specs.Causes.{Counted, HasCause, Rose};

@@ -8,7 +8,7 @@ use Rattle.aes_core.specs.Schedule.{AreBytes, IsKey}
 use Rattle.aes_core.proofs.Inverse.{IsState, IsState-xor, xor-xor}
 use Rattle.aes_core.proofs.KeyBytes.{IsState-block, IsState-encrypt, decrypt-encrypt}
 use Rattle.aes_core.proofs.BlockLists.{AreBlocks, length-blocks, block-blocks, blocks-same, blocks-block}
-use Rattle.cbc_mode.specs.Cbc.{chained, sealed, cbc_seal, opened, cbc_open}
+use Rattle.cbc_mode.specs.Cbc.{chained, sealed, cbc_seal, opened_block, cbc_open}
 
 pub chained_start : (key iv p : List ℕ) → chained key iv p 0 ≡ iv
 unfolding chained
@@ -31,13 +31,13 @@ block_before-more iv c j len =
     ap (take 16) (ap (λ (k : ℕ). drop k (iv ++ c)) at ∙ drop-append-add iv c (16 * j))
 
 -- block i of a part that begins with block j, where `before` is the block before it
-pub opened-part : (key iv p before part : List ℕ) (j i : ℕ) → length iv ≡ 16 → length before ≡ 16 → before ≡ block (iv ++ p) j → ((n : ℕ) → n ≤ i → block part n ≡ block p (j + n))
-    → opened key before part i ≡ opened key iv p (j + i)
-opened-part key iv p before part j zero len lb e same =
+pub opened_block-part : (key iv p before part : List ℕ) (j i : ℕ) → length iv ≡ 16 → length before ≡ 16 → before ≡ block (iv ++ p) j → ((n : ℕ) → n ≤ i → block part n ≡ block p (j + n))
+    → opened_block key before part i ≡ opened_block key iv p (j + i)
+opened_block-part key iv p before part j zero len lb e same =
     let here : j + zero ≡ j = omega arith in
     let mask : block (before ++ part) 0 ≡ block (iv ++ p) (j + zero) = block_before-start before part lb ∙ e ∙ sym (ap (block (iv ++ p)) here) in
     (λ k. xor (decrypt key (same 0 (omega arith) k)) (mask k))
-opened-part key iv p before part j (suc n) len lb e same =
+opened_block-part key iv p before part j (suc n) len lb e same =
     let at : suc n ≡ n + 1 = omega arith in
     let here : j + n + 1 ≡ j + suc n = omega arith in
     let mask : block (before ++ part) (suc n) ≡ block (iv ++ p) (j + suc n) =
@@ -61,9 +61,9 @@ block_before-sealed key iv p n (suc j) len are lt =
     let at : suc j ≡ j + 1 = sym (add-one j) in
     ap (block (iv ++ c)) at ∙ block_before-more iv c j len ∙ block-blocks (sealed key iv p) n j are (omega arith) ∙ ap (chained key iv p) (sym at)
 
-opened-sealed : (key iv p : List ℕ) (n j : ℕ) → IsKey key → IsState iv → AreBytes p → length p ≡ 16 * n → j < n
-    → opened key iv (blocks (sealed key iv p) n) j ≡ block p j
-opened-sealed key iv p n j hk hiv small len lt =
+opened_block-sealed : (key iv p : List ℕ) (n j : ℕ) → IsKey key → IsState iv → AreBytes p → length p ≡ 16 * n → j < n
+    → opened_block key iv (blocks (sealed key iv p) n) j ≡ block p j
+opened_block-sealed key iv p n j hk hiv small len lt =
     let are : AreBlocks (sealed key iv p) n = λ i below. (IsState-chained key iv p (i + 1) hk hiv small (omega arith)).long in
     let plain = IsState-block p j small (omega arith) in
     let before = IsState-chained key iv p j hk hiv small (omega arith) in
@@ -85,8 +85,8 @@ cbc_open-cbc_seal key iv p hk len iv_bytes small whole =
     let are : AreBlocks f n = λ i below. (IsState-chained key iv p (i + 1) hk hiv small (omega arith)).long in
     let lc = length-blocks f n are in
     let count : length (blocks f n) / 16 ≡ n = omega arith in
-    ap (λ (m : ℕ). blocks (opened key iv (blocks f n)) m) count
-    ∙ blocks-same (opened key iv (blocks f n)) (block p) n (λ j lt. opened-sealed key iv p n j hk hiv small lp lt)
+    ap (λ (m : ℕ). blocks (opened_block key iv (blocks f n)) m) count
+    ∙ blocks-same (opened_block key iv (blocks f n)) (block p) n (λ j lt. opened_block-sealed key iv p n j hk hiv small lp lt)
     ∙ blocks-block p n lp
 
 -- the cipher text is as long as the plain text

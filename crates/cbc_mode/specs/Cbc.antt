@@ -17,9 +17,9 @@ abbrev pub cbc_seal : List ℕ → List ℕ → List ℕ → List ℕ
 cbc_seal key iv p = blocks (sealed key iv p) (length p / 16)
 
 -- block j of the plain text of c; the block before block j of c is block j of iv ++ c
-abbrev pub opened : List ℕ → List ℕ → List ℕ → ℕ → List ℕ
-opened key iv c j = xor (decrypt key (block c j)) (block (iv ++ c) j)
+abbrev pub opened_block : List ℕ → List ℕ → List ℕ → ℕ → List ℕ
+opened_block key iv c j = xor (decrypt key (block c j)) (block (iv ++ c) j)
 
 -- the plain text of c
 abbrev pub cbc_open : List ℕ → List ℕ → List ℕ → List ℕ
-cbc_open key iv c = blocks (opened key iv c) (length c / 16)
+cbc_open key iv c = blocks (opened_block key iv c) (length c / 16)

@@ -4,7 +4,7 @@ ghost use Rattle.std.specs.Prelude.{◌≡◌, ◌<◌, ◌≤◌, ◌+◌, ◌*
 ghost use Rattle.aes_core.specs.Blocks.{block};
 ghost use Rattle.aes_planes.specs.Blocks.{vector_at};
 ghost use Rattle.aes_planes.specs.Wide.{AreWide, side};
-ghost use Rattle.cbc_mode.specs.Cbc.{opened};
+ghost use Rattle.cbc_mode.specs.Cbc.{opened_block};
 
 use aes_core::blocks::Block;
 use aes_planes::{
@@ -18,7 +18,7 @@ use std::simd::prelude::*;
 #[inline(never)]
 fn open_group(k: &SlicedSchedule, before: &Block, group: &mut [u8]) -> Block
     requires { length group.old ≡ 128 }
-    ensures opened { (j : ℕ) → j < 8 → block group.new j ≡ opened k.now before.now group.old j }
+    ensures opened { (j : ℕ) → j < 8 → block group.new j ≡ opened_block k.now before.now group.old j }
     ensures last { result ≡ block group.old 7 }
     ensures long { length result ≡ 16 }
 {
@@ -94,7 +94,7 @@ fn second_block(v: u8x32) -> Block
 #[inline(never)]
 fn open_wide(k: &SlicedSchedule, before: &Block, group: &mut [u8]) -> Block
     requires { length group.old ≡ 256 }
-    ensures opened { (j : ℕ) → j < 16 → block group.new j ≡ opened k.now before.now group.old j }
+    ensures opened { (j : ℕ) → j < 16 → block group.new j ≡ opened_block k.now before.now group.old j }
     ensures last { result ≡ block group.old 15 }
     ensures long { length result ≡ 16 }
 {
@@ -108,7 +108,7 @@ fn open_wide(k: &SlicedSchedule, before: &Block, group: &mut [u8]) -> Block
 // Deciphers sixteen blocks in place, eight after eight.
 fn open_twice(k: &SlicedSchedule, before: &Block, group: &mut [u8]) -> Block
     requires { length group.old ≡ 256 }
-    ensures opened { (j : ℕ) → j < 16 → block group.new j ≡ opened k.now before.now group.old j }
+    ensures opened { (j : ℕ) → j < 16 → block group.new j ≡ opened_block k.now before.now group.old j }
     ensures last { result ≡ block group.old 15 }
     ensures long { length result ≡ 16 }
 {
@@ -124,7 +124,7 @@ fn open_twice(k: &SlicedSchedule, before: &Block, group: &mut [u8]) -> Block
 /// text.
 pub fn open_sixteen(k: &SlicedSchedule, before: &Block, group: &mut [u8]) -> Block
     requires { length group.old ≡ 256 }
-    ensures opened { (j : ℕ) → j < 16 → block group.new j ≡ opened k.now before.now group.old j }
+    ensures opened { (j : ℕ) → j < 16 → block group.new j ≡ opened_block k.now before.now group.old j }
     ensures last { result ≡ block group.old 15 }
     ensures long { length result ≡ 16 }
 {
@@ -138,7 +138,7 @@ pub fn open_sixteen(k: &SlicedSchedule, before: &Block, group: &mut [u8]) -> Blo
 // Deciphers at most eight blocks in place.
 fn open_few(k: &SlicedSchedule, before: &Block, rest: &mut [u8])
     requires { length rest.old ≤ 128 }
-    ensures { (j : ℕ) → 16 * j + 16 ≤ length rest.old → block rest.new j ≡ opened k.now before.now rest.old j }
+    ensures { (j : ℕ) → 16 * j + 16 ≤ length rest.old → block rest.new j ≡ opened_block k.now before.now rest.old j }
 {
     let mut group = [0u8; 128];
     group[..rest.len()].copy_from_slice(rest);
@@ -149,7 +149,7 @@ fn open_few(k: &SlicedSchedule, before: &Block, rest: &mut [u8])
 // Deciphers at most sixteen blocks in place.
 fn open_many(k: &SlicedSchedule, before: &Block, rest: &mut [u8])
     requires { length rest.old ≤ 256 }
-    ensures { (j : ℕ) → 16 * j + 16 ≤ length rest.old → block rest.new j ≡ opened k.now before.now rest.old j }
+    ensures { (j : ℕ) → 16 * j + 16 ≤ length rest.old → block rest.new j ≡ opened_block k.now before.now rest.old j }
 {
     let mut group = [0u8; 256];
     group[..rest.len()].copy_from_slice(rest);
@@ -161,7 +161,7 @@ fn open_many(k: &SlicedSchedule, before: &Block, rest: &mut [u8])
 /// block may change.
 pub fn open_rest(k: &SlicedSchedule, before: &Block, rest: &mut [u8])
     requires { length rest.old < 256 }
-    ensures { (j : ℕ) → 16 * j + 16 ≤ length rest.old → block rest.new j ≡ opened k.now before.now rest.old j }
+    ensures { (j : ℕ) → 16 * j + 16 ≤ length rest.old → block rest.new j ≡ opened_block k.now before.now rest.old j }
 {
     if rest.len() > 128 {
         open_many(k, before, rest);

@@ -6,7 +6,7 @@ use Rattle.command_words.specs.declared.commands.Command.{Command}
 use Rattle.eli_base.specs.declared.refusals.Refusal.{Refusal}
 use Rattle.eli_base.specs.declared.refusals.Refusal.TheVariants as refusals
 use Rattle.provider.specs.Attached.{media}
-use Rattle.command_rows.specs.Causes.{AsksBytes, AsksSectors, HasCause, writes_data}
+use Rattle.command_rows.specs.Causes.{AsksBytes, AsksSectors, LineHasCause, writes_data}
 use Rattle.command_rows.specs.Gate.{needs, refused_by}
 use Rattle.command_rows.specs.World.{Attachment, IsAttached, Reach}
 use Rattle.command_rows.proofs.Gate.{by_gate_refusal}
@@ -19,12 +19,12 @@ Step A = Reach → Result A Refusal → Reach → Type 0
 -- a refusal has its cause
 abbrev pub Why : {A : Type 0} → List ℕ → Command → Reach → Result A Refusal → Reach → Type 0
 Why line command old (Ok value) new = Unit {0}
-Why line command old (Err refusal) new = HasCause line command old refusal new
+Why line command old (Err refusal) new = LineHasCause line command old refusal new
 
 next_why : {A B : Type 0} (line : List ℕ) (command : Command) (start : Reach) (Next : A → Step B) (given : Result A Refusal) (middle : Reach) (answer : Result B Refusal) (new : Reach) → Why line command start given middle
     → ((a : A) → given ≡ Ok a → Next a middle answer new → Why line command start answer new) → GoesOn Next given middle answer new → Why line command start answer new
 next_why line command start Next (Ok a) middle answer new why next h = next a refl h
-next_why line command start Next (Err refusal) middle answer new why next h = rw h.0 (subst (λ (r : Reach). HasCause line command start refusal r) (sym h.1) why)
+next_why line command start Next (Err refusal) middle answer new why next h = rw h.0 (subst (λ (r : Reach). LineHasCause line command start refusal r) (sym h.1) why)
 
 -- two steps of a line that found `start`
 pub then_since : {A B : Type 0} (line : List ℕ) (command : Command) (start : Reach) (First : Step A) (Next : A → Step B) (old : Reach) (answer : Result B Refusal) (new : Reach)
@@ -40,8 +40,8 @@ then_why line command First Next old answer new why next h = then_since line com
 
 -- ---- the gate
 
-pub gate_why : (line : List ℕ) (command : Command) (old : Reach) (refusal : Refusal) (new : Reach) → refused_by (needs command) old.holding ≡ Some refusal → HasCause line command old refusal new
-gate_why line command old refusal new is = by_gate_refusal (needs command) old.holding refusal (λ r. HasCause line command old r new) is (λ not. not) (λ still. still) (λ suspended. suspended) (λ awake. awake)
+pub gate_why : (line : List ℕ) (command : Command) (old : Reach) (refusal : Refusal) (new : Reach) → refused_by (needs command) old.holding ≡ Some refusal → LineHasCause line command old refusal new
+gate_why line command old refusal new is = by_gate_refusal (needs command) old.holding refusal (λ r. LineHasCause line command old r new) is (λ not. not) (λ still. still) (λ suspended. suspended) (λ awake. awake)
 
 -- ---- attached drawers
 

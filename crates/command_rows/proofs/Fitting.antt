@@ -19,7 +19,7 @@ use Rattle.std.proofs.Common.{Bool, Err, List, None, Ok, Option, Result, Some, a
 use Rattle.std.specs.Prelude.{IfSome, IsTrue, MatchOption}
 use Rattle.provider.specs.Attached.{has_tags}
 use Rattle.command_rows.specs.Asks.{Asks, AsksBytesAtOnce, AsksNothing, AsksSectorsFrom, FaultOf, QueueRefuses}
-use Rattle.command_rows.specs.Causes.{FindsFault, FindsInQueue, HasBadLength, PassesEnd, asks_of, needs_tags, writes_data}
+use Rattle.command_rows.specs.Causes.{FindsBadUnit, FindsInQueue, HasBadLength, LinePassesEnd, asks_of, needs_tags, writes_data}
 use Rattle.command_rows.specs.Findings.{AreComponents, HasMetadata, IsReadAs, LacksMetadata, NamesParts, RefusesFiles, ShowsMetadata, ShowsMetadataAt}
 use Rattle.command_rows.specs.Steps.{admitted, tried}
 use Rattle.command_rows.specs.World.{AttachedWith, Attachment, Holding, Reach, attachment_in}
@@ -88,9 +88,9 @@ RulesOutTags command old = IsTrue (needs_tags command) → AttachedWith old.hold
 pub record RulesOut (line : List ℕ) (command : Command) (old : Reach) : Type 0 where
   pub gate : refused_by (needs command) old.holding ≡ None
   pub readonly : IsTrue (writes_data command) → AttachedWith old.holding (λ a. a.readonly ≡ true) → ⊥
-  pub range : (sector count there : ℕ) → AttachedWith old.holding (PassesEnd line command old.disk sector count there) → ⊥
+  pub range : (sector count there : ℕ) → AttachedWith old.holding (LinePassesEnd line command old.disk sector count there) → ⊥
   pub bytes : (given size : ℕ) → AttachedWith old.holding (HasBadLength line command given size) → ⊥
-  pub faults : (offset : ℕ) → AttachedWith old.holding (FindsFault line command old.disk offset) → ⊥
+  pub faults : (offset : ℕ) → AttachedWith old.holding (FindsBadUnit line command old.disk offset) → ⊥
   pub requests : (refusal : Refusal) → AttachedWith old.holding (FindsInQueue line command old.disk refusal) → ⊥
   pub files : (refusal : Refusal) (cabinet : CabinetState) → FindsBadFile line command old.holding old.cabinet refusal cabinet → ⊥
   pub ground : (refusal : Refusal) → HasGround line command old refusal → ⊥

@@ -20,7 +20,7 @@ use Rattle.key_components.specs.Answers.{file_answer}
 use Rattle.key_components.specs.Key.{components_of}
 use Rattle.key_components.proofs.Causes.{StopsAtFile-cause, StopsAtFile-earlier}
 use Rattle.user_key.specs.declared.components.Components.{Components}
-use Rattle.command_rows.specs.Causes.{HasCause, may_lack_memory}
+use Rattle.command_rows.specs.Causes.{LineHasCause, may_lack_memory}
 use Rattle.command_rows.specs.Grounds.{FindsBadFile, HasGround, IsGround}
 use Rattle.command_rows.specs.Steps.{Decides, LoadsComponents, LoadsFile, ReadsLastSector, StoreAnswers, or_refusal}
 use Rattle.command_rows.specs.World.{Reach}
@@ -37,7 +37,7 @@ Grounds line command start Ground = (refusal : Refusal) → Ground refusal → H
 abbrev pub BadFiles : List ℕ → Command → Reach → (Refusal → CabinetState → Type 0) → Type 0
 BadFiles line command start Refuses = (refusal : Refusal) (cabinet : CabinetState) → Refuses refusal cabinet → FindsBadFile line command start.holding start.cabinet refusal cabinet
 
-pub plain_cause : (line : List ℕ) (command : Command) (old : Reach) (refusal : Refusal) (new : Reach) → IsGround refusal → HasGround line command old refusal → HasCause line command old refusal new
+pub plain_cause : (line : List ℕ) (command : Command) (old : Reach) (refusal : Refusal) (new : Reach) → IsGround refusal → HasGround line command old refusal → LineHasCause line command old refusal new
 plain_cause line command old refusals.NotAttached new plain ground = absurd plain
 plain_cause line command old refusals.StillAttached new plain ground = absurd plain
 plain_cause line command old refusals.Suspended new plain ground = absurd plain

@@ -8,7 +8,7 @@ use Rattle.eli_base.specs.declared.refusals.Refusal.{Refusal}
 use Rattle.command_rows.specs.Answer.{Answer}
 use Rattle.command_rows.specs.Answer as answers
 use Rattle.command_rows.specs.Becoming.{Becomes, changes_requests}
-use Rattle.command_rows.specs.Causes.{HasCause}
+use Rattle.command_rows.specs.Causes.{LineHasCause}
 use Rattle.command_rows.specs.Fits.{FitsRow}
 use Rattle.command_rows.specs.Gate.{needs, refused_by}
 use Rattle.command_rows.specs.Histories.{AreRowEvents, EventsBy, stores_last}
@@ -27,7 +27,7 @@ use Rattle.command_rows.proofs.Sound.{SoundReply}
 use Rattle.command_rows.proofs.Stopping.{Left}
 
 pub row_refused : {A : Type 0} (line : List ℕ) (command : Command) (answer_to : Result A Refusal → Answer) (old : Reach) (answer : Result A Refusal) (new : Reach) (refusal : Refusal) → Replying answer_to → answers.Refused refusal ≡ answer_to answer
-    → Why line command old answer new → HasCause line command old refusal new
+    → Why line command old answer new → LineHasCause line command old refusal new
 row_refused {A} line command answer_to old answer new refusal replying is h = subst (λ (r : Result A Refusal). Why line command old r new) (refused_by_row answer_to answer refusal replying is) h
 
 -- what a line did to the disk of its drawer
@@ -63,7 +63,7 @@ nothing_changed line told holding said old new = tt
 -- what holds of each line of a verb: why it's refused, what it logs, what it counts and keeps, that nothing refuses it
 -- where it finds what it needs, what its drawer becomes, what its disk may hold at each moment, and what it stores
 pub record IsLawful (command : Command) : Type 0 where
-  pub why : (line : List ℕ) (old : Reach) (refusal : Refusal) (new : Reach) → GoesThrough line command old (answers.Refused refusal) new → HasCause line command old refusal new
+  pub why : (line : List ℕ) (old : Reach) (refusal : Refusal) (new : Reach) → GoesThrough line command old (answers.Refused refusal) new → LineHasCause line command old refusal new
   pub did : (line : List ℕ) (old : Reach) (said : Answer) (new : Reach) → GoesThrough line command old said new → LineDid (AreRowEvents line command old.disk old.holding) (stores_last command) said old.disk new.disk
   pub sound : (line : List ℕ) (old : Reach) (reply : Answer) (new : Reach) → GoesThrough line command old reply new → SoundReply old reply new
   pub out : (line : List ℕ) (old : Reach) → refused_by (needs command) old.holding ≡ None → FitsRow line command old → RulesOut line command old

@@ -4,7 +4,7 @@ use Rattle.command_words.specs.declared.commands.Command.{Command}
 use Rattle.eli_base.specs.declared.refusals.Refusal.{Refusal}
 use Rattle.eli_base.specs.declared.refusals.Refusal.TheVariants as refusals
 use Rattle.command_rows.specs.Answer as answers
-use Rattle.command_rows.specs.Causes.{Caused, CausedAt, HasCause}
+use Rattle.command_rows.specs.Causes.{Caused, CausedAt, LineHasCause}
 use Rattle.command_rows.specs.World.{DrawerState, Reach, World}
 use Rattle.command_rows.proofs.Untouched.{get-set}
 use Rattle.command_rows.proofs.Turns.{by_turn}
@@ -17,10 +17,10 @@ use Rattle.command_rows.proofs.verbs.{lawful}
 same_refusal : (refusal found : Refusal) → answers.Refused refusal ≡ answers.Refused found → found ≡ refusal
 same_refusal refusal found is = cc is
 
-serves_why : (line : List ℕ) (command : Command) (old : Reach) (refusal : Refusal) (new : Reach) → Serves line command old (answers.Refused refusal) new → HasCause line command old refusal new
+serves_why : (line : List ℕ) (command : Command) (old : Reach) (refusal : Refusal) (new : Reach) → Serves line command old (answers.Refused refusal) new → LineHasCause line command old refusal new
 serves_why line command old refusal new h =
-    by_gate line command old (answers.Refused refusal) new (HasCause line command old refusal new) (λ row. (lawful command).why line old refusal new row)
-    (λ found is said. subst (λ (r : Refusal). HasCause line command old r new) (same_refusal refusal found said.refused) (gate_why line command old found new is)) h
+    by_gate line command old (answers.Refused refusal) new (LineHasCause line command old refusal new) (λ row. (lawful command).why line old refusal new row)
+    (λ found is said. subst (λ (r : Refusal). LineHasCause line command old r new) (same_refusal refusal found said.refused) (gate_why line command old found new is)) h
 
 refused_at : (line : List ℕ) (command : Command) (refusal : Refusal) (old new : World) (place : ℕ) → ChangesAt (Serves line command) old (answers.Refused refusal) new place → CausedAt line command refusal old new place
 refused_at line command refusal old new place h = record {

@@ -7,7 +7,7 @@ use Rattle.command_words.specs.declared.spans.Span.{Span}
 use Rattle.eli_base.specs.declared.refusals.Refusal.{Refusal}
 use Rattle.eli_base.specs.declared.refusals.Refusal.TheVariants as refusals
 use Rattle.command_rows.specs.Answer as answers
-use Rattle.command_rows.specs.Causes.{Caused, CausedAt, CausedBy, HasCause, may_lack_memory}
+use Rattle.command_rows.specs.Causes.{Caused, CausedAt, CausedBy, LineHasCause, may_lack_memory}
 use Rattle.command_rows.specs.Fits.{FailsNowhere, FindsAt, Fits}
 use Rattle.command_rows.specs.Turn.{Turn, reach}
 use Rattle.command_rows.specs.World.{DrawerState, Reach, World, place_of}
@@ -15,7 +15,7 @@ use Rattle.command_rows.proofs.Fitting.{RulesOut, RulesOutTags, not_some}
 use Rattle.command_rows.proofs.LineCauses.{refusal_caused}
 use Rattle.command_rows.proofs.verbs.{lawful}
 
-only_memory : (line : List ℕ) (command : Command) (old : Reach) (refusal : Refusal) (new : Reach) → RulesOut line command old → RulesOutTags command old → FailsNowhere old new → HasCause line command old refusal new → refusal ≡ refusals.NoMemory
+only_memory : (line : List ℕ) (command : Command) (old : Reach) (refusal : Refusal) (new : Reach) → RulesOut line command old → RulesOutTags command old → FailsNowhere old new → LineHasCause line command old refusal new → refusal ≡ refusals.NoMemory
 only_memory line command old refusals.NotAttached new out tags fails h = absurd (not_some _ refusals.NotAttached out.gate h)
 only_memory line command old refusals.StillAttached new out tags fails h = absurd (not_some _ refusals.StillAttached out.gate h)
 only_memory line command old refusals.Suspended new out tags fails h = absurd (not_some _ refusals.Suspended out.gate h)
@@ -41,17 +41,17 @@ only_memory line command old refusal new out tags fails h = absurd (out.ground r
 fits_out : (line : List ℕ) (command : Command) (old : Reach) → Fits line command old → RulesOut line command old
 fits_out line command old f = (lawful command).out line old f.gate f.row
 
-fits_cause : (line : List ℕ) (command : Command) (old : Reach) (refusal : Refusal) (new : Reach) → Fits line command old → FailsNowhere old new → HasCause line command old refusal new → refusal ≡ refusals.NoMemory
+fits_cause : (line : List ℕ) (command : Command) (old : Reach) (refusal : Refusal) (new : Reach) → Fits line command old → FailsNowhere old new → LineHasCause line command old refusal new → refusal ≡ refusals.NoMemory
 fits_cause line command old refusal new f fails h = only_memory line command old refusal new (fits_out line command old f) ((lawful command).tags line old f.row) fails h
 
 caused_at : (line : List ℕ) (command : Command) (name : List ℕ) (Finds : Reach → Type 0) (refusal : Refusal) (old new : World) (f : FindsAt name Finds old new)
-    → MatchOption (place_of name old.drawers) (refusal ≡ refusals.UnknownProvider) (CausedAt line command refusal old new) → HasCause line command (reach f.before old) refusal (reach f.after new)
+    → MatchOption (place_of name old.drawers) (refusal ≡ refusals.UnknownProvider) (CausedAt line command refusal old new) → LineHasCause line command (reach f.before old) refusal (reach f.after new)
 caused_at line command name Finds refusal old new f h =
     let at : CausedAt line command refusal old new f.place = subst (λ (o : Option ℕ). MatchOption o (refusal ≡ refusals.UnknownProvider) (CausedAt line command refusal old new)) f.named h in
     let before : at.before ≡ f.before = cc (at.found, f.found) in
     let after : at.after ≡ f.after = cc (at.there, f.there) in
-    subst (λ (d : DrawerState). HasCause line command (reach d old) refusal (reach f.after new)) before
-    (subst (λ (d : DrawerState). HasCause line command (reach at.before old) refusal (reach d new)) after at.cause)
+    subst (λ (d : DrawerState). LineHasCause line command (reach d old) refusal (reach f.after new)) before
+    (subst (λ (d : DrawerState). LineHasCause line command (reach at.before old) refusal (reach d new)) after at.cause)
 
 pub fits_unrefused : (line : List ℕ) (command : Command) (prov : Span) (refusal : Refusal) (old new : World) → provider_of command ≡ Some prov → FindsAt (bytes_at line prov) (Fits line command) old new → Caused line command refusal old new
     → refusal ≡ refusals.NoMemory
@@ -65,4 +65,4 @@ fits_refused line command prov refusal old new names f h =
     let caused : CausedBy (Some prov) line command refusal old new = subst (λ (o : Option Span). CausedBy o line command refusal old new) names (refusal_caused line command old refusal new h) in
     let cause = caused_at line command (bytes_at line prov) (Fits line command) refusal old new f caused in
     let is : refusal ≡ refusals.NoMemory = fits_cause line command (reach f.before old) refusal (reach f.after new) f.finds f.unfailed cause in
-    (is, subst (λ (r : Refusal). HasCause line command (reach f.before old) r (reach f.after new)) is cause)
+    (is, subst (λ (r : Refusal). LineHasCause line command (reach f.before old) r (reach f.after new)) is cause)

@@ -7,7 +7,7 @@ use Rattle.command_words.specs.declared.commands.Command.{Command}
 use Rattle.command_words.specs.declared.spans.Span.{Span}
 use Rattle.command_rows.specs.Answer.{Answer}
 use Rattle.command_rows.specs.Histories.{ChangesBy, LeavesAt, OnlyAt, OnlySteps, StepsAt}
-use Rattle.command_rows.specs.Turn.{ChangesAt, Serves, TakesOut, Turn, reach}
+use Rattle.command_rows.specs.Turn.{ChangesAt, Serves, TakesOutDrawer, Turn, reach}
 use Rattle.command_rows.specs.World.{World, place_of}
 use Rattle.command_rows.proofs.Lines.{line_did}
 use Rattle.command_rows.proofs.Turns.{by_turn}
@@ -35,7 +35,7 @@ changed_at line command answer old new place h =
       steps = record { name = h.name; events = d.events; logs = d.logs; of_line = d.are };
     }
 
-left_at : (answer : Answer) (old new : World) (place : ℕ) → TakesOut old answer new place → LeavesAt answer old.drawers new.drawers place
+left_at : (answer : Answer) (old new : World) (place : ℕ) → TakesOutDrawer old answer new place → LeavesAt answer old.drawers new.drawers place
 left_at answer old new place h = record { before = h.before; found = h.found; done = h.done; others = ap (λ (w : World). w.drawers) h.left }
 
 -- the place of the drawer that is named, if one is

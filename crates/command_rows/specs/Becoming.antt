@@ -52,7 +52,7 @@ pub record IsOpened (line : List ℕ) (command : Command) (a : Attachment) (old 
 
 -- it was suspended, and `resume` was done, with a key that opens the master key of which the digest was kept; the disk
 -- logged nothing
-pub record IsResumed (line : List ℕ) (command : Command) (a : Attachment) (old : Reach) (answer : Answer) (new : Reach) : Type 0 where
+pub record BecomesResumed (line : List ℕ) (command : Command) (a : Attachment) (old : Reach) (answer : Answer) (new : Reach) : Type 0 where
   pub prov : Span
   pub words : KeyWords
   pub said : command ≡ commands.Resume prov words
@@ -84,7 +84,7 @@ pub record IsSuspendedBy (command : Command) (kept : Kept) (old new : Reach) : T
 -- how a drawer came to do this with its disk
 abbrev pub BecomesBy : Holding → List ℕ → Command → Reach → Answer → Reach → Type 0
 BecomesBy Idle line command old answer new = (old.holding ≡ Idle) ⊎ IsTrue (lets_go command)
-BecomesBy (IsAttached a) line command old answer new = StaysAttached command a old.holding ⊎ IsOpened line command a old answer ⊎ IsResumed line command a old answer new
+BecomesBy (IsAttached a) line command old answer new = StaysAttached command a old.holding ⊎ IsOpened line command a old answer ⊎ BecomesResumed line command a old answer new
 BecomesBy (IsSuspended kept) line command old answer new = StaysSuspended kept old new ⊎ IsSuspendedBy command kept old new
 
 abbrev pub Becomes : List ℕ → Command → Reach → Answer → Reach → Type 0

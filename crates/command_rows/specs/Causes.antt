@@ -20,7 +20,7 @@ use Rattle.command_rows.specs.verbs.{verb_of}
 abbrev pub may_lack_memory : Command → Bool
 may_lack_memory command = (traits_of command).lacks_memory
 
--- whether a command is refused by a provider that is only read
+-- whether a read-only provider refuses the command
 abbrev pub writes_data : Command → Bool
 writes_data command = (traits_of command).writes_data
 
@@ -46,42 +46,42 @@ pub record HasBadLength (line : List ℕ) (command : Command) (given size : ℕ)
   pub bad : whole_sectors a.keying.sectorsize given ≡ Err (refusals.BadLength given size)
 
 -- the sectors pass the end of the attached provider, which has so many
-pub record PassesEnd (line : List ℕ) (command : Command) (disk : DiskState) (sector count there : ℕ) (a : Attachment) : Type 0 where
+pub record LinePassesEnd (line : List ℕ) (command : Command) (disk : DiskState) (sector count there : ℕ) (a : Attachment) : Type 0 where
   pub asked : AsksSectors line command sector count a
   pub has : there ≡ media a.keying disk
   pub passes : there < sector + count
 
 -- a unit that a line reads has another tag than its cipher text: the first one at this offset
-abbrev pub FindsFault : List ℕ → Command → DiskState → ℕ → Attachment → Type 0
-FindsFault line command disk offset a = FaultOf (asks_of line command) disk offset a
+abbrev pub FindsBadUnit : List ℕ → Command → DiskState → ℕ → Attachment → Type 0
+FindsBadUnit line command disk offset a = FaultOf (asks_of line command) disk offset a
 
 -- for this a line is refused by the open requests
 abbrev pub FindsInQueue : List ℕ → Command → DiskState → Refusal → Attachment → Type 0
 FindsInQueue line command disk refusal a = QueueRefuses (asks_of line command) disk refusal a
 
 -- the cause of a refusal of a line that names a drawer, by what the line reached before and after
-abbrev pub HasCause : List ℕ → Command → Reach → Refusal → Reach → Type 0
-HasCause line command old refusals.NotAttached new = refused_by (needs command) old.holding ≡ Some refusals.NotAttached
-HasCause line command old refusals.StillAttached new = refused_by (needs command) old.holding ≡ Some refusals.StillAttached
-HasCause line command old refusals.Suspended new = refused_by (needs command) old.holding ≡ Some refusals.Suspended
-HasCause line command old refusals.NotSuspended new = refused_by (needs command) old.holding ≡ Some refusals.NotSuspended
-HasCause line command old refusals.ReadOnly new = IsTrue (writes_data command) × AttachedWith old.holding (λ a. a.readonly ≡ true)
-HasCause line command old (refusals.OutOfRange sector count there) new = AttachedWith old.holding (PassesEnd line command old.disk sector count there)
-HasCause line command old (refusals.BadLength given size) new = AttachedWith old.holding (HasBadLength line command given size)
-HasCause line command old (refusals.Integrity offset) new = AttachedWith old.holding (FindsFault line command old.disk offset)
-HasCause line command old refusals.NotAuthenticated new = IsTrue (needs_tags command) × AttachedWith old.holding (λ a. has_tags a.keying.auth ≡ false)
-HasCause line command old refusals.DeviceFault new = Rose old.disk.faults new.disk.faults
-HasCause line command old refusals.EntropyFault new = Rose old.entropy.faults new.entropy.faults
-HasCause line command old (refusals.CabinetFault word) new = Rose old.cabinet.faults new.cabinet.faults
-HasCause line command old (refusals.FileAbsent word) new = FindsBadFile line command old.holding old.cabinet (refusals.FileAbsent word) new.cabinet
-HasCause line command old (refusals.FileTooLong word limit) new = FindsBadFile line command old.holding old.cabinet (refusals.FileTooLong word limit) new.cabinet
-HasCause line command old refusals.NoMemory new = IsTrue (may_lack_memory command)
-HasCause line command old refusals.QueueFull new = AttachedWith old.holding (FindsInQueue line command old.disk refusals.QueueFull)
-HasCause line command old (refusals.NoRequest tag) new = AttachedWith old.holding (FindsInQueue line command old.disk (refusals.NoRequest tag))
-HasCause line command old (refusals.RequestNotDone tag left) new = AttachedWith old.holding (FindsInQueue line command old.disk (refusals.RequestNotDone tag left))
-HasCause line command old (refusals.RequestDone tag) new = AttachedWith old.holding (FindsInQueue line command old.disk (refusals.RequestDone tag))
-HasCause line command old (refusals.RequestsOpen count) new = AttachedWith old.holding (FindsInQueue line command old.disk (refusals.RequestsOpen count))
-HasCause line command old refusal new = IsGround refusal × HasGround line command old refusal
+abbrev pub LineHasCause : List ℕ → Command → Reach → Refusal → Reach → Type 0
+LineHasCause line command old refusals.NotAttached new = refused_by (needs command) old.holding ≡ Some refusals.NotAttached
+LineHasCause line command old refusals.StillAttached new = refused_by (needs command) old.holding ≡ Some refusals.StillAttached
+LineHasCause line command old refusals.Suspended new = refused_by (needs command) old.holding ≡ Some refusals.Suspended
+LineHasCause line command old refusals.NotSuspended new = refused_by (needs command) old.holding ≡ Some refusals.NotSuspended
+LineHasCause line command old refusals.ReadOnly new = IsTrue (writes_data command) × AttachedWith old.holding (λ a. a.readonly ≡ true)
+LineHasCause line command old (refusals.OutOfRange sector count there) new = AttachedWith old.holding (LinePassesEnd line command old.disk sector count there)
+LineHasCause line command old (refusals.BadLength given size) new = AttachedWith old.holding (HasBadLength line command given size)
+LineHasCause line command old (refusals.Integrity offset) new = AttachedWith old.holding (FindsBadUnit line command old.disk offset)
+LineHasCause line command old refusals.NotAuthenticated new = IsTrue (needs_tags command) × AttachedWith old.holding (λ a. has_tags a.keying.auth ≡ false)
+LineHasCause line command old refusals.DeviceFault new = Rose old.disk.faults new.disk.faults
+LineHasCause line command old refusals.EntropyFault new = Rose old.entropy.faults new.entropy.faults
+LineHasCause line command old (refusals.CabinetFault word) new = Rose old.cabinet.faults new.cabinet.faults
+LineHasCause line command old (refusals.FileAbsent word) new = FindsBadFile line command old.holding old.cabinet (refusals.FileAbsent word) new.cabinet
+LineHasCause line command old (refusals.FileTooLong word limit) new = FindsBadFile line command old.holding old.cabinet (refusals.FileTooLong word limit) new.cabinet
+LineHasCause line command old refusals.NoMemory new = IsTrue (may_lack_memory command)
+LineHasCause line command old refusals.QueueFull new = AttachedWith old.holding (FindsInQueue line command old.disk refusals.QueueFull)
+LineHasCause line command old (refusals.NoRequest tag) new = AttachedWith old.holding (FindsInQueue line command old.disk (refusals.NoRequest tag))
+LineHasCause line command old (refusals.RequestNotDone tag left) new = AttachedWith old.holding (FindsInQueue line command old.disk (refusals.RequestNotDone tag left))
+LineHasCause line command old (refusals.RequestDone tag) new = AttachedWith old.holding (FindsInQueue line command old.disk (refusals.RequestDone tag))
+LineHasCause line command old (refusals.RequestsOpen count) new = AttachedWith old.holding (FindsInQueue line command old.disk (refusals.RequestsOpen count))
+LineHasCause line command old refusal new = IsGround refusal × HasGround line command old refusal
 
 -- the same of the drawer at a place
 pub record CausedAt (line : List ℕ) (command : Command) (refusal : Refusal) (old new : World) (place : ℕ) : Type 0 where
@@ -89,7 +89,7 @@ pub record CausedAt (line : List ℕ) (command : Command) (refusal : Refusal) (o
   pub found : slice_get old.drawers place ≡ Some before
   pub after : DrawerState
   pub there : slice_get new.drawers place ≡ Some after
-  pub cause : HasCause line command (reach before old) refusal (reach after new)
+  pub cause : LineHasCause line command (reach before old) refusal (reach after new)
 
 -- the same of a line: one without a provider lacked memory, and one that names no drawer is refused so
 abbrev pub CausedBy : Option Span → List ℕ → Command → Refusal → World → World → Type 0

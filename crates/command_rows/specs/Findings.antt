@@ -14,7 +14,7 @@ use Rattle.eli_metadata.specs.Place.{replace_events}
 use Rattle.eli_metadata.specs.Refusals.{refusal_of}
 use Rattle.eli_metadata.specs.declared.metadata.MetaFault.{MetaFault}
 use Rattle.eli_metadata.specs.declared.metadata.Metadata.{Metadata}
-use Rattle.key_components.specs.Answers.{MayRefuse, StopsAtFile, file_answer, word_of}
+use Rattle.key_components.specs.Answers.{MayRefuse, StopsAtFile, file_answer, refused_word}
 use Rattle.key_components.specs.Key.{FitsWords, components_of}
 use Rattle.user_key.specs.declared.components.Components.{Components}
 use Rattle.command_rows.specs.World.{Reach}
@@ -94,7 +94,7 @@ IsFile limit told line file bytes = IfSome told (λ files. file_answer file.word
 -- the one file that is named, of this limit, is refused, and the count of misses rose
 pub record RefusesFile (limit : ℕ) (line : List ℕ) (file : Span) (old : CabinetState) (refusal : Refusal) (new : CabinetState) : Type 0 where
   pub first : IfSome old.files (λ files. file_answer file.word limit (files (bytes_at line file)) ≡ Err refusal)
-  pub named : IfSome (word_of refusal) (λ word. file.word ≡ word)
+  pub named : IfSome (refused_word refusal) (λ word. file.word ≡ word)
   pub cause : MayRefuse limit old new refusal
 
 -- ---- what is written

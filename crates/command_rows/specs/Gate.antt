@@ -1,4 +1,5 @@
--- Why a drawer isn't such a one as a verb needs, by what it does with its disk: that is seen to before the row of the verb.
+-- Why a drawer isn't such a one as a verb needs, by what it does with its disk: that is seen to before the row of the
+-- verb.
 use Rattle.std.specs.Prelude.{Option, Some, None}
 pub use Rattle.command_words.specs.Traits.{job_writes, needs, traits_of}
 pub use Rattle.command_words.specs.declared.verbs.Needs.{Needs}

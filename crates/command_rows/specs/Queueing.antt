@@ -1,6 +1,6 @@
 -- The open requests of an attached provider, as `submit`, `step`, `reap` and `suspend` see them.
 use Rattle.std.specs.Prelude.{Err, List, Ok, Result, ℕ, ◌≡◌}
-use Rattle.bio_queue.specs.Owners.{IsServed}
+use Rattle.bio_queue.specs.Owners.{IsOpenRequest}
 use Rattle.bio_queue.specs.Requests.{Request}
 use Rattle.block_traits.specs.Disk.{DiskState}
 use Rattle.eli_base.specs.declared.refusals.Refusal.{Refusal}
@@ -16,9 +16,9 @@ with_queue queue a = record { slot = a.slot; keying = a.keying; readonly = a.rea
 
 -- an open request has the tag, and is one of the provider, as that is now
 abbrev pub HasRequest : Attachment → ℕ → DiskState → Type 0
-HasRequest a tag disk = IsServed a.keying (media a.keying disk) tag a.queue
+HasRequest a tag disk = IsOpenRequest a.keying (media a.keying disk) tag a.queue
 
--- there is such a request; or its lack is refused. Nothing changes
+-- There is such a request; or its lack is refused. Nothing changes.
 abbrev pub NeedsRequest : Attachment → ℕ → Reach → Result (Unit {0}) Refusal → Reach → Type 0
 NeedsRequest a tag old (Ok done) new = HasRequest a tag old.disk × (new ≡ old)
 NeedsRequest a tag old (Err (refusals.NoRequest named)) new = (named ≡ tag) × (¬ HasRequest a tag old.disk) × (new ≡ old)

@@ -25,7 +25,7 @@ use Rattle.eli_metadata.specs.declared.metadata.Metadata.{Metadata}
 use Rattle.eli_metadata.specs.declared.place.ReadMetaFault.{ReadMetaFault}
 use Rattle.key_commands.specs.NewProvider.{Inits}
 use Rattle.key_commands.specs.declared.options.InitOptions.{InitOptions}
-use Rattle.key_components.specs.Answers.{IsAnswer, KeepsFiles, LoadsEach, MayRefuse, StopsAtFile, file_answer, word_of}
+use Rattle.key_components.specs.Answers.{IsAnswer, KeepsFiles, LoadsEach, MayRefuse, StopsAtFile, file_answer, refused_word}
 use Rattle.key_components.specs.Key.{FitsWords, components_of}
 use Rattle.provider.specs.Attached.{media, opened}
 use Rattle.provider.specs.Reading.{ReadsAs}
@@ -125,7 +125,7 @@ pub record LoadsComponents (line : List ℕ) (words : KeyWords) (old : Reach) (a
 pub record LoadsFile (limit : ℕ) (line : List ℕ) (file : Span) (old : Reach) (answer : Result (List ℕ) Refusal) (new : Reach) : Type 0 where
   pub told : IfSome old.cabinet.files (λ files. IsAnswer (file_answer file.word limit (files (bytes_at line file))) answer)
   pub within : IfOk answer (λ bytes. length bytes ≤ limit)
-  pub word : IfErr answer (λ refusal. IfSome (word_of refusal) (λ word. file.word ≡ word))
+  pub word : IfErr answer (λ refusal. IfSome (refused_word refusal) (λ word. file.word ≡ word))
   pub cause : IfErr answer (MayRefuse limit old.cabinet new.cabinet)
   pub keeps : KeepsFiles old.cabinet new.cabinet
   pub asked : Counted 1 old.cabinet.loads new.cabinet.loads

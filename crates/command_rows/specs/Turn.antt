@@ -56,7 +56,7 @@ ListsAs drawers (answers.Refused refusals.NoMemory) = Unit {0}
 ListsAs drawers answer = ⊥
 
 -- what is listed, and nothing changes
-pub record Lists (old : World) (reply : Answer) (new : World) : Type 0 where
+pub record ListsDrawers (old : World) (reply : Answer) (new : World) : Type 0 where
   pub rows : ListsAs old.drawers reply
   pub unchanged : new ≡ old
 
@@ -88,7 +88,7 @@ takes_out command = (traits_of command).takes_out
 
 -- the drawer at a place is taken out with its disk, attached or not, and those behind it move up; of a disk that is
 -- gone nothing is said
-pub record TakesOut (old : World) (reply : Answer) (new : World) (place : ℕ) : Type 0 where
+pub record TakesOutDrawer (old : World) (reply : Answer) (new : World) (place : ℕ) : Type 0 where
   pub before : DrawerState
   pub found : slice_get old.drawers place ≡ Some before
   pub done : reply ≡ answers.Done
@@ -96,7 +96,7 @@ pub record TakesOut (old : World) (reply : Answer) (new : World) (place : ℕ) :
 
 -- what a command does to the drawer at a place, and leaves of the list
 abbrev pub ServesAt : Bool → List ℕ → Command → World → Answer → World → ℕ → Type 0
-ServesAt true line command old reply new place = TakesOut old reply new place
+ServesAt true line command old reply new place = TakesOutDrawer old reply new place
 ServesAt false line command old reply new place = ChangesAt (Serves line command) old reply new place
 
 -- ---- a command
@@ -108,7 +108,7 @@ TurnOf At name old reply new = MatchOption (place_of name old.drawers) (IsUnknow
 -- one command is served: the drawer of the provider that it names goes through the row of its verb, or is taken out
 abbrev pub Turn : List ℕ → Command → World → Answer → World → Type 0
 Turn line command old reply new =
-    MatchOption (provider_of command) (Lists old reply new) (λ prov. TurnOf (ServesAt (takes_out command) line command) (bytes_at line prov) old reply new)
+    MatchOption (provider_of command) (ListsDrawers old reply new) (λ prov. TurnOf (ServesAt (takes_out command) line command) (bytes_at line prov) old reply new)
 
 -- ---- the events
 
@@ -131,5 +131,5 @@ pub record ShowsAt (drawers : List DrawerState) (shown : Option (List Event)) (p
   pub events : ShowsBy drawer.holding drawer.disk shown
 
 -- the events that the disk of the named drawer shows, where it is idle, or none
-abbrev pub Shows : List ℕ → List DrawerState → Option (List Event) → Type 0
-Shows name drawers shown = MatchOption (place_of name drawers) (shown ≡ None) (ShowsAt drawers shown)
+abbrev pub ShowsEvents : List ℕ → List DrawerState → Option (List Event) → Type 0
+ShowsEvents name drawers shown = MatchOption (place_of name drawers) (shown ≡ None) (ShowsAt drawers shown)

@@ -10,7 +10,7 @@ use Rattle.block_traits.specs.Streams.{EntropyState}
 use Rattle.eli_base.specs.Keying.{Keying}
 use Rattle.range_keys.specs.Ring.{IsKeying}
 
--- with what a provider is attached: the slot that gave the master key, the keying, whether it is only read, and the
+-- with what a provider is attached: the slot that gave the master key, the keying, whether it is read-only, and the
 -- requests that are open on it, in order of their tags
 pub record Attachment : Type 0 where
   pub slot : ℕ
@@ -19,7 +19,7 @@ pub record Attachment : Type 0 where
   pub queue : List Request
 
 -- what is kept of a provider that is suspended: the bytes of a logical sector and how many there were, the slot that
--- gave the master key, whether it is only read, and the digest of the master key
+-- gave the master key, whether it is read-only, and the digest of the master key
 pub record Kept : Type 0 where
   pub sectorsize : ℕ
   pub sectors : ℕ
@@ -88,8 +88,8 @@ abbrev pub HoldKeyings : List DrawerState → Type 0
 HoldKeyings drawers = (drawer : DrawerState) → IsAmong drawers drawer → HoldsKeying drawer.holding
 
 -- what each disk tells of its content, its history among it
-abbrev pub contents : List DrawerState → List (Option Content)
-contents drawers = map (λ drawer. drawer.disk.content) drawers
+abbrev pub told_contents : List DrawerState → List (Option Content)
+told_contents drawers = map (λ drawer. drawer.disk.content) drawers
 
 -- all that a command may change
 pub record World : Type 0 where

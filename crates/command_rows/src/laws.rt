@@ -1,4 +1,4 @@
-// What holds of one command after another.
+//! What holds of the line of each command, and of a sweep in parts.
 ghost use Rattle.std.specs.Prelude.{◌≡◌, ℕ, Bool, List, Option, Result, Ok, Some, IfSome, IsSome, IsTrue};
 ghost use Rattle.block_traits.specs.Disk.{DiskState};
 ghost use Rattle.command_words.specs.Places.{bytes_at, provider_of};
@@ -39,38 +39,45 @@ pub fn what_init_makes_can_be_attached()
         TryRow line' slot readonly words start answer after → OpensOrFails start answer after }
 {}
 
-/// A line changes only the drawer that it names: the others keep their names, their disks and what they do with them, and stay in
-/// order. `eject` takes it out of the list, and those behind it move up. Else the history of its disk grows by the events of the line.
-/// A line that is served has those of its row: `init` and `restore` write metadata between two flushes, `setkey` stores metadata,
-/// `delkey` and `kill` write over the last sector in six passes, `resize` moves metadata and writes over their old place, `write` and
-/// `fill` write the sealed sectors in ascending order, `step` does the next unit of its request, `flush`, `detach` and `suspend` flush, and the
-/// others do nothing. One that is refused has none; but where the disk failed the first ones, and where the backup of `init` isn't stored it may
-/// have all.
+/// A line changes only the drawer that it names: the others keep their names, their disks and what they do with them,
+/// and stay in order. `eject` takes it out of the list, and those behind it move up. Else the history of its disk grows
+/// by the events of the line. A line that is served has those of its row: `init` and `restore` write metadata between
+/// two flushes, `setkey` stores metadata, `delkey` and `kill` write over the last sector in six passes, `resize` moves
+/// metadata and writes over their old place, `write` and `fill` write the sealed sectors in ascending order, `step`
+/// does the next unit of its request, `flush`, `detach` and `suspend` flush, and the others do nothing. One that is
+/// refused has none; but where the disk failed the first ones, and where the backup of `init` isn't stored it may have
+/// all.
 pub fn a_line_changes_only_its_drawer()
     ensures { (line : List ℕ) (command : Command) (old : World) (answer : Answer) (new : World) →
         Turn line command old answer new → OnlySteps line command answer old.drawers new.drawers }
 {}
 
-/// Each refusal has its cause, so a line without one is served. `detach`, `flush`, `read`, `write`, `fill`, `sum`, `submit`, `step`, `reap` and
-/// `suspend` are refused only where the drawer is idle, where it is suspended (all but `detach`), where the provider is only read (`write`, `fill`,
-/// `submit` of a write), by the length (`read`, `write`, `submit` of either) and the range of what they ask for, by a unit whose tag differs, or by
-/// the open requests: `submit` where 32 are open, `step` and `reap` where none of the provider has the tag, `step` where no unit of it is left, `reap`
-/// where some are, `suspend` where any is open. `verify` is refused where the drawer is idle or suspended, where the data aren't authenticated and,
-/// unless it begins anew, where the file of its place has fewer or more than eight bytes or says a place behind the last sector; never for a file that
-/// is absent. `eject` is refused only where no drawer has the name.
-/// Only `init`, `attach`, `restore` and `resize` are refused because the drawer is attached, and then also where it is suspended; for that
-/// alone `setkey` and `delkey` are refused too. `resume` is refused where the drawer is idle or attached. Want of memory is answered by `init`, `attach`,
-/// `setkey`, `backup`, `restore`, `list`, `submit`, `resume` and `verify` alone. That the disk, the cabinet or the entropy failed shows in their counts.
+/// Each refusal has its cause, so a line without one is served. `detach`, `flush`, `read`, `write`, `fill`, `sum`,
+/// `submit`, `step`, `reap` and `suspend` are refused only where the drawer is idle, where it is suspended (all but
+/// `detach`), where the provider is read-only (`write`, `fill`, `submit` of a write), by the length (`read`, `write`,
+/// `submit` of either) and the range of what they ask for, by a unit whose tag differs, or by the open requests:
+/// `submit` where 32 are open, `step` and `reap` where none of the provider has the tag, `step` where no unit of it is
+/// left, `reap` where some are, `suspend` where any is open. `verify` is refused where the drawer is idle or suspended,
+/// where the data aren't authenticated and, unless it begins anew, where the file of its place has fewer or more than
+/// eight bytes or says a place behind the last sector; never for a file that is absent. `eject` is refused only where
+/// no drawer has the name. Only `init`, `attach`, `restore` and `resize` are refused because the drawer is attached,
+/// and then also where it is suspended; for that alone `setkey` and `delkey` are refused too. `resume` is refused where
+/// the drawer is idle or attached. Want of memory is answered by `init`, `attach`, `setkey`, `backup`, `restore`,
+/// `list`, `submit`, `resume` and `verify` alone. That the disk, the cabinet or the entropy failed shows in their
+/// counts.
 ///
-/// The verbs on metadata are refused besides only for what they find and are told, said of the disk and the cabinet as they were before:
-/// - `dump`, `attach`, `setkey`, `delkey`, `backup`, `resume`: the image has fewer than two sectors, or its last sector has no metadata.
-/// - `init`, `attach`, `setkey`, `restore`, `resume`: the file that is refused is the first wrong one of those that a key, or the backup, names.
+/// The verbs on metadata are refused besides only for what they find and are told, said of the disk and the cabinet as
+/// they were before:
+/// - `dump`, `attach`, `setkey`, `delkey`, `backup`, `resume`: the image has fewer than two sectors, or its last sector
+///   has no metadata.
+/// - `init`, `attach`, `setkey`, `restore`, `resume`: the file that is refused is the first wrong one of those that a
+///   key, or the backup, names.
 /// - `init`: the options, the image or the components of the key make no provider.
-/// - `attach`: the metadata aren't admitted for the image and the slot that is named, the components make no user key, the provider has no
-///   sector, or the key opens no slot that is asked for. `resume`: the same of any slot, or the key opens another master key than the one of which the
-///   digest was kept.
-/// - `setkey`: the metadata aren't admitted (of an attached provider: can't be used), the slot isn't there, the old key of an idle drawer
-///   opens none, or the new key is refused for the slot.
+/// - `attach`: the metadata aren't admitted for the image and the slot that is named, the components make no user key,
+///   the provider has no sector, or the key opens no slot that is asked for. `resume`: the same of any slot, or the key
+///   opens another master key than the one of which the digest was kept.
+/// - `setkey`: the metadata aren't admitted (of an attached provider: can't be used), the slot isn't there, the old key
+///   of an idle drawer opens none, or the new key is refused for the slot.
 /// - `delkey`: no slot is named, or the slot that is named isn't there, has no key or, without `-f`, the last one.
 /// - `kill`: the image has fewer than two sectors. `restore`: the image or the backup is refused.
 /// - `resize`: the sizes are refused, or what the old place holds.
@@ -79,11 +86,12 @@ pub fn a_refusal_has_its_cause()
         Turn line command old (Refused refusal) new → Caused line command refusal old new }
 {}
 
-/// The law above says when a line is served, since its causes can be ruled out: where a line finds what its verb needs (`Fits`) in a drawer
-/// and, if it loads files, a cabinet that tell what they hold, and no count of faults rises, no cause is left but want of memory. So it is
-/// refused for that alone, and only where its verb may lack memory. `dump` and `backup` need metadata in the last sector. `attach` needs an
-/// idle drawer, metadata that are admitted, and files by which the words name a key that opens a slot that is asked for. `read` needs an
-/// attached provider that has the sectors, whose tags fit.
+/// The law above says when a line is served, since its causes can be ruled out: where a line finds what its verb needs
+/// (`Fits`) in a drawer and, if it loads files, a cabinet that tell what they hold, and no count of faults rises, no
+/// cause is left but want of memory. So it is refused for that alone, and only where its verb may lack memory. `dump`
+/// and `backup` need metadata in the last sector. `attach` needs an idle drawer, metadata that are admitted, and files
+/// by which the words name a key that opens a slot that is asked for. `read` needs an attached provider that has the
+/// sectors, whose tags fit.
 pub fn no_cause_is_left_where_all_is_found()
     ensures cause { (line : List ℕ) (command : Command) (prov : Span) (refusal : Refusal) (old new : World) →
         provider_of command ≡ Some prov → FindsAt (bytes_at line prov) (Fits line command) old new →
@@ -93,48 +101,54 @@ pub fn no_cause_is_left_where_all_is_found()
         Turn line command old (Refused refusal) new → (refusal ≡ NoMemory) × IsTrue (may_lack_memory command) }
 {}
 
-/// No line makes a count of the cabinet or the entropy fall. That the cabinet or the entropy failed is answered only where its count of faults
-/// rose, and that a file was absent or too long only where the count of misses did, but for passphrases that are longer than their own limit.
+/// No line makes a count of the cabinet or the entropy fall. That the cabinet or the entropy failed is answered only
+/// where its count of faults rose, and that a file was absent or too long only where the count of misses did, but for
+/// passphrases that are longer than their own limit.
 pub fn a_line_counts_failures()
     ensures { (line : List ℕ) (command : Command) (old : World) (answer : Answer) (new : World) →
         Turn line command old answer new → CountsFailures old answer new }
 {}
 
-/// A sweep lists just the units that fail: of the device sectors that its line read, an offset is listed exactly where the unit there fails,
-/// and once.
+/// A sweep lists just the units that fail: of the device sectors that its line read, an offset is listed exactly where
+/// the unit there fails, and once.
 pub fn a_sweep_lists_each_failing_unit_once()
     ensures { (k : Keying) (n count : ℕ) (offsets : List ℕ) (old new : DiskState) →
         ListsUnits k n count offsets old new → ListsEachOnce k n count offsets old }
 {}
 
-/// A line that changes metadata leaves the old or the new whenever power fails. At each moment of `setkey`, `init` and `restore` each
-/// value that the last sector of the named drawer may hold is one from before or the new metadata; once the line is done, they are the
-/// only one. The new metadata are made of what the line names: the key of `init` and the new key of `setkey` are of the components that its words
-/// name, and so is the old key of an idle drawer; those of `restore` are the backup in the named file. This is said of the files from
-/// before the line, where the cabinet tells them. `setkey` leaves all but its slot, its bit and the iterations, which still make the other slot's key; so does `delkey` but for the slots that are
-/// named, which are clear in each value that may be held once a flush landed, and zeros once it's done. Until the first flush of `resize` landed, each value that a sector may
-/// hold is one from before; from then on, unless a sector is altered, the last sector has the new metadata or the old place the old ones;
-/// once it's done the last sector holds the new metadata alone.
-/// Once a flush of `kill` landed, no value that the last sector may hold is metadata. A line that is refused may have stopped at any event of these,
-/// or it leaves the content as it is.
+/// A line that changes metadata leaves the old or the new whenever power fails. At each moment of `setkey`, `init` and
+/// `restore` each value that the last sector of the named drawer may hold is one from before or the new metadata; once
+/// the line is done, they are the only one. The new metadata are made of what the line names: the key of `init` and the
+/// new key of `setkey` are of the components that its words name, and so is the old key of an idle drawer; those of
+/// `restore` are the backup in the named file. This is said of the files from before the line, where the cabinet tells
+/// them. `setkey` leaves all but its slot, its bit and the iterations, which still make the other slot's key; so does
+/// `delkey` but for the slots that are named, which are clear in each value that may be held once a flush landed, and
+/// zeros once it's done. Until the first flush of `resize` landed, each value that a sector may hold is one from
+/// before; from then on, unless a sector is altered, the last sector has the new metadata or the old place the old
+/// ones; once it's done the last sector holds the new metadata alone. Once a flush of `kill` landed, no value that the
+/// last sector may hold is metadata. A line that is refused may have stopped at any event of these, or it leaves the
+/// content as it is.
 pub fn a_line_leaves_old_or_new()
     ensures { (line : List ℕ) (command : Command) (old : World) (answer : Answer) (new : World) →
         Turn line command old answer new → LeavesOldOrNew line command answer old new }
 {}
 
-/// What a drawer does with its disk changes by few verbs, and only as they say. After a line that leaves it in the list it is idle only where it was so before, or
-/// by `detach` or `kill`. It is attached only where it was so, with the same slot, keying and read-only state and, but for `submit`, `step` and `reap`,
-/// with the same open requests, or by `attach` or `resume` that are done, with a key that opens the metadata of the disk. After `resume` the master key has the digest that was kept. It is suspended only where it was so, and then
-/// exactly the same is kept, or by `suspend`, and then what is kept is that of the provider as it was, also where the flush failed.
+/// What a drawer does with its disk changes by few verbs, and only as they say. After a line that leaves it in the list
+/// it is idle only where it was so before, or by `detach` or `kill`. It is attached only where it was so, with the same
+/// slot, keying and read-only state and, but for `submit`, `step` and `reap`, with the same open requests, or by
+/// `attach` or `resume` that are done, with a key that opens the metadata of the disk. After `resume` the master key
+/// has the digest that was kept. It is suspended only where it was so, and then exactly the same is kept, or by
+/// `suspend`, and then what is kept is that of the provider as it was, also where the flush failed.
 ///
-/// A drawer that a line finds suspended and leaves suspended or attached has logged nothing, so no line writes it: `kill` and `detach` leave it idle.
+/// A drawer that a line finds suspended and leaves suspended or attached has logged nothing, so no line writes it:
+/// `kill` and `detach` leave it idle.
 pub fn a_line_says_what_its_drawer_becomes()
     ensures { (line : List ℕ) (command : Command) (old : World) (answer : Answer) (new : World) →
         Turn line command old answer new → BecomesSo line command answer old new }
 {}
 
-/// The files stay but for the one that `backup`, `init -B` or `verify` names, and of that one no more than one store is made. No other verb makes a
-/// store. Where a store fails all files stay.
+/// The files stay but for the one that `backup`, `init -B` or `verify` names, and of that one no more than one store is
+/// made. No other verb makes a store. Where a store fails all files stay.
 pub fn a_line_stores_its_file_alone()
     ensures { (line : List ℕ) (command : Command) (old : World) (answer : Answer) (new : World) →
         Turn line command old answer new → StoresItsFile line command old new }

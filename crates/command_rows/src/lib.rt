@@ -1,6 +1,7 @@
 //! What a command does to the drawers, as rows of steps, and what holds of it whatever its row.
 //!
-//! The definitions stand in `specs/`; the functions here are laws: each has an empty body, and its contract holds of any two worlds.
+//! The definitions stand in `specs/`; the functions here are laws: each has an empty body, and its contract holds of
+//! any two worlds.
 #![tactic(auto)]
 
 mod laws;

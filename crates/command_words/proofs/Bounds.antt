@@ -18,10 +18,10 @@ use Rattle.command_words.specs.declared.table.Operand.TheVariants.{Provider, Fil
 use Rattle.command_words.specs.Words.{Word, words}
 use Rattle.command_words.specs.Table.{verb_named, form_of}
 use Rattle.command_words.specs.Values.{decimal, is_numeral, number_within, is_hexadecimal, value_fault}
-use Rattle.command_words.specs.Options.{Item, Set, Given, Unknown, Missing, Options, options, values, value_in, fault_of, first_fault, or_else}
-use Rattle.command_words.specs.Settings.{settings_of, last, last_value}
+use Rattle.command_words.specs.Options.{Item, Set, Given, Unknown, Missing, Options, options, values, value_in, option_fault, first_option_fault, or_else}
+use Rattle.command_words.specs.Settings.{settings_given, last, last_value}
 use Rattle.command_words.specs.Operands.{operands_of, operands_fault, job_as, number_as, span_as}
-use Rattle.command_words.specs.Reading.{reading, by_words, by_verb, complaint, command_at, job_at, is_comment}
+use Rattle.command_words.specs.Reading.{line_reading, by_words, by_verb, complaint, command_at, job_at, is_comment}
 use Rattle.command_words.specs.Places.{bytes_at}
 use Rattle.command_words.specs.Bounds.{IsBounded, IsBoundedJob, AreSectors, IsOldSize}
 use Rattle.command_words.proofs.Forms.{found_keeps}
@@ -172,16 +172,16 @@ IsGood (Given option word) = (n : ℕ) × (value_fault option n word.bytes ≡ N
 IsGood (Unknown number) = Unit {0}
 IsGood (Missing number) = Unit {0}
 
-item_good : (before : List Item) (item : Item) → fault_of before item ≡ None → IsGood item
+item_good : (before : List Item) (item : Item) → option_fault before item ≡ None → IsGood item
 item_good before (Set switch) h = tt
 item_good before (Given option word) h = (length (values option before), map_none word.number _ h)
 item_good before (Unknown number) h = tt
 item_good before (Missing number) h = tt
 
-items_good : (before items : List Item) → first_fault before items ≡ None → AllByRecursion IsGood items
+items_good : (before items : List Item) → first_option_fault before items ≡ None → AllByRecursion IsGood items
 items_good before [] h = tt
 items_good before (item ∷ items) h =
-    let parts = or_else_none (fault_of before item) (first_fault (before ++ item ∷ []) items) h in
+    let parts = or_else_none (option_fault before item) (first_option_fault (before ++ item ∷ []) items) h in
     (item_good before item parts.0, items_good (before ++ item ∷ []) items parts.1)
 
 abbrev IsGoodSize : Word → Type 0
@@ -229,8 +229,8 @@ size_found None rest h e = let no : ⊥ = cc in absurd no
 size_found (Some word) rest h e = size_good word h
 
 command_bounded : (line : List ℕ) (verb : Verb) (items : List Item) (form : List Operand) (words : List Word) → AllStand line words
-    → first_fault [] items ≡ None → form_of verb words ≡ Some form → complaint verb (settings_of items) ≡ None → operands_fault form words ≡ None
-    → IsBounded line (command_at verb (settings_of items) (operands_of form words))
+    → first_option_fault [] items ≡ None → form_of verb words ≡ Some form → complaint verb (settings_given items) ≡ None → operands_fault form words ≡ None
+    → IsBounded line (command_at verb (settings_given items) (operands_of form words))
 command_bounded line Resize items form words g fault found good none =
     size_found (last_value OldSize items) _ (last_good (values OldSize items) (sizes_good items (items_good [] items fault))) good
 command_bounded line Read items form words g fault found good none =
@@ -261,7 +261,7 @@ verb_bounded line None total words h = tt
 verb_bounded line (Some verb) total words h =
     let o : Options = options verb total words None in
     let stand : OptionsStand line o = options_stand line verb total words None h in
-    verb_keeps (IsBounded line) (first_fault [] o.items) verb total (settings_of o.items) o.operands
+    verb_keeps (IsBounded line) (first_option_fault [] o.items) verb total (settings_given o.items) o.operands
     (λ fault form found good none. command_bounded line verb o.items form o.operands stand.operands fault found good none)
 
 by_words_bounded : (line : List ℕ) (sep : Sep) (text : Bool) (words : List Word) → AllStand line words → IfOk (by_words sep text words) (λ read. IfSome read (IsBounded line))
@@ -271,5 +271,5 @@ by_words_bounded line sep text (word ∷ behind) h =
     (λ _. verb_bounded line (verb_named word.bytes) (1 + length behind) behind h.1)
 
 -- The numbers of what a line says lie within their bounds, and its digits are hexadecimal.
-pub reading_bounded : (sep : Sep) (line : List ℕ) → IfOk (reading sep line) (λ read. IfSome read (IsBounded line))
+pub reading_bounded : (sep : Sep) (line : List ℕ) → IfOk (line_reading sep line) (λ read. IfSome read (IsBounded line))
 reading_bounded sep line = by_words_bounded line sep (is_utf8 line) (words sep line) (words_stand sep line)

@@ -17,8 +17,8 @@ use Rattle.command_words.specs.Table.{row_of, form_of}
 use Rattle.command_words.specs.Values.{operand_fault}
 use Rattle.command_words.specs.Options.{or_else}
 use Rattle.command_words.specs.Operands.{operands_of, operands_fault}
-use Rattle.command_words.specs.Reading.{unless_fault, or_complaint, complaint, command_at, by_form, settled}
-use Rattle.command_words.specs.Pass.{after, checked, with_operand, taken_operands}
+use Rattle.command_words.specs.Reading.{unless_usage, or_complaint, complaint, command_at, by_form, settled}
+use Rattle.command_words.specs.Pass.{and_then, checked, with_operand, taken_operands}
 use Rattle.command_words.proofs.Forms.{found_keeps, where_long}
 use Rattle.command_words.proofs.Options.{outcome}
 
@@ -30,7 +30,7 @@ put_all (operand ∷ form) (word ∷ words) o = put_all form words (with_operand
 
 step_is : (fault : Option Reason) (number : ℕ) (next : Operands) (more : Option Usage) (last : Operands) (go : Operands → Result Operands Usage)
     → go next ≡ outcome more last
-    → after (checked fault number next) go ≡ outcome (or_else (option_map (λ reason. record { word = number; reason = reason }) fault) more) last
+    → and_then (checked fault number next) go ≡ outcome (or_else (option_map (λ reason. record { word = number; reason = reason }) fault) more) last
 step_is None number next more last go then = then
 step_is (Some reason) number next more last go then = refl
 
@@ -145,21 +145,21 @@ row_agrees Verify = (file_many_sectors, tt)
 form_agrees : (verb : Verb) (words : List Word) (form : List Operand) → form_of verb words ≡ Some form → Agrees form
 form_agrees verb words form h = found_keeps Agrees verb words form (where_long Agrees (length words) (row_of verb).forms (row_agrees verb)) h
 
-follow : (fault : Option Usage) (o : Operands) (command : Operands → Command) → unless_fault fault (Ok (command o)) ≡ after (outcome fault o) (λ read. Ok (command read))
+follow : (fault : Option Usage) (o : Operands) (command : Operands → Command) → unless_usage fault (Ok (command o)) ≡ and_then (outcome fault o) (λ read. Ok (command read))
 follow None o command = refl
 follow (Some usage) o command = refl
 
 -- What the operands of a verb say is what one pass over them gives.
 pub operands_taken : (verb : Verb) (form : List Operand) (words : List Word) (s : Settings) → form_of verb words ≡ Some form
-    → unless_fault (operands_fault form words) (Ok (command_at verb s (operands_of form words))) ≡ after (taken_operands form words (operands_of [] [])) (λ read. Ok (command_at verb s read))
+    → unless_usage (operands_fault form words) (Ok (command_at verb s (operands_of form words))) ≡ and_then (taken_operands form words (operands_of [] [])) (λ read. Ok (command_at verb s read))
 operands_taken verb form words s h =
     rw (taken_is form words (operands_of [] []), form_agrees verb words form h words) (follow (operands_fault form words) (operands_of form words) (λ read. command_at verb s read))
 
 -- What follows the options is what one pass over the operands gives, where they are read by this form.
 pub settled_taken : (verb : Verb) (total : ℕ) (form : List Operand) (words : List Word) (s : Settings)
     → form_of verb words ≡ Some form → complaint verb s ≡ None
-    → settled verb total s words ≡ after (taken_operands form words (operands_of [] [])) (λ read. Ok (command_at verb s read))
+    → settled verb total s words ≡ and_then (taken_operands form words (operands_of [] [])) (λ read. Ok (command_at verb s read))
 settled_taken verb total form words s h k =
     ap (λ (f : Option (List Operand)). by_form f verb total s words) h
-    ∙ ap (λ (c : Option Reason). or_complaint c total (unless_fault (operands_fault form words) (Ok (command_at verb s (operands_of form words))))) k
+    ∙ ap (λ (c : Option Reason). or_complaint c total (unless_usage (operands_fault form words) (Ok (command_at verb s (operands_of form words))))) k
     ∙ operands_taken verb form words s h

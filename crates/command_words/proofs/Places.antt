@@ -22,12 +22,12 @@ use Rattle.command_words.specs.declared.table.Valued.{Valued}
 use Rattle.command_words.specs.declared.table.Valued.TheVariants.{BackupFile, OldFile, OldPass, FreshFile, FreshPass}
 use Rattle.command_words.specs.declared.table.Letter.{Letter}
 use Rattle.command_words.specs.declared.table.Letter.TheVariants.{Alone, WithValue}
-use Rattle.command_words.specs.Words.{Word, words, placed, is_between, is_word}
+use Rattle.command_words.specs.Words.{Word, words, placed_words, is_between, is_word}
 use Rattle.command_words.specs.Table.{letter_of, verb_named, form_of}
-use Rattle.command_words.specs.Options.{Item, Set, Given, Unknown, Missing, Group, letters, with_letter, Kind, Ends, Letters, Other, kind_of, Options, options, onto, with_word, values, value_in, place, first_fault}
-use Rattle.command_words.specs.Settings.{settings_of, span_of, last, files_of, backup_of}
+use Rattle.command_words.specs.Options.{Item, Set, Given, Unknown, Missing, Group, letters, with_letter, Kind, Ends, Letters, Other, kind_of, Options, options, onto, with_word, values, value_in, place, first_option_fault}
+use Rattle.command_words.specs.Settings.{settings_given, span_of, last, option_files, backup_of}
 use Rattle.command_words.specs.Operands.{operands_of, operands_fault, job_as, operand_place, word_as, span_as, no_span}
-use Rattle.command_words.specs.Reading.{reading, by_words, by_verb, unless_fault, by_form, settled, or_complaint, complaint, command_at, job_at, is_comment, some_command}
+use Rattle.command_words.specs.Reading.{line_reading, by_words, by_verb, unless_usage, by_form, settled, or_complaint, complaint, command_at, job_at, is_comment, some_command}
 use Rattle.command_words.specs.Places.{IsWithin, CommandIsWithin, JobIsWithin, bytes_at}
 
 -- a word stands in the line
@@ -75,7 +75,7 @@ placed_part : (line : List ℕ) (start : ℕ) (part : List ℕ) (number : ℕ) (
 placed_part line start part number true counted skipped h hs gs = (h, hs)
 placed_part line start part number false counted skipped h hs gs = gs
 
-placed_stand : (line : List ℕ) (sep : Sep) (number start : ℕ) (parts : List (List ℕ)) → Parts line start parts → AllStand line (placed sep number start parts)
+placed_stand : (line : List ℕ) (sep : Sep) (number start : ℕ) (parts : List (List ℕ)) → Parts line start parts → AllStand line (placed_words sep number start parts)
 placed_stand line sep number start [] h = tt
 placed_stand line sep number start (part ∷ parts) h =
     placed_part line start part number (is_word sep part) _ _ (h.0, h.1)
@@ -201,7 +201,7 @@ spans_within : (line : List ℕ) (words : List Word) → AllStand line words →
 spans_within line [] h = tt
 spans_within line (word ∷ words) h = (span_within line word h.0, spans_within line words h.1)
 
-files_within : (line : List ℕ) (option : Valued) (items : List Item) → ItemsStand line items → All (IsWithin (length line)) (files_of option items)
+files_within : (line : List ℕ) (option : Valued) (items : List Item) → ItemsStand line items → All (IsWithin (length line)) (option_files option items)
 files_within line option items h = All-from_recursion _ _ (spans_within line (values option items) (values_stand line option items h))
 
 backup_choice : (line : List ℕ) (b : Bool) (word : Word) → Stands line word → IfSome (cond b None (Some (span_of word))) (IsWithin (length line))
@@ -237,7 +237,7 @@ job_within line jobs.Write o h = h
 job_within line jobs.Flush o h = tt
 
 command_within : (line : List ℕ) (verb : Verb) (items : List Item) (form : List Operand) (words : List Word) → ItemsStand line items → AllStand line words
-    → CommandIsWithin (length line) (command_at verb (settings_of items) (operands_of form words))
+    → CommandIsWithin (length line) (command_at verb (settings_given items) (operands_of form words))
 command_within line Init items form words h g =
     (operand_within line Provider form words g, (files_within line FreshFile items h, files_within line FreshPass items h), backup_within line _ (values_stand line BackupFile items h))
 command_within line Attach items form words h g =
@@ -273,7 +273,7 @@ complaint_keeps : (Q : Command → Type 0) (complaint : Option Reason) (total : 
 complaint_keeps Q None total result h = h refl
 complaint_keeps Q (Some reason) total result h = tt
 
-fault_keeps : (Q : Command → Type 0) (fault : Option Usage) (result : Result Command Usage) → (fault ≡ None → IfOk result Q) → IfOk (unless_fault fault result) Q
+fault_keeps : (Q : Command → Type 0) (fault : Option Usage) (result : Result Command Usage) → (fault ≡ None → IfOk result Q) → IfOk (unless_usage fault result) Q
 fault_keeps Q None result h = h refl
 fault_keeps Q (Some usage) result h = tt
 
@@ -287,7 +287,7 @@ form_keeps Q (Some form) verb total s words h =
 -- where options and operands have no fault
 pub verb_keeps : (Q : Command → Type 0) (fault : Option Usage) (verb : Verb) (total : ℕ) (s : Settings) (words : List Word)
     → (fault ≡ None → (form : List Operand) → form_of verb words ≡ Some form → complaint verb s ≡ None → operands_fault form words ≡ None → Q (command_at verb s (operands_of form words)))
-    → IfOk (unless_fault fault (settled verb total s words)) Q
+    → IfOk (unless_usage fault (settled verb total s words)) Q
 verb_keeps Q fault verb total s words h = fault_keeps Q fault _ (λ none. form_keeps Q (form_of verb words) verb total s words (h none))
 
 some_keeps : (Q : Command → Type 0) (result : Result Command Usage) → IfOk result Q → IfOk (some_command result) (λ read. IfSome read Q)
@@ -305,8 +305,8 @@ verb_within line None total words h = tt
 verb_within line (Some verb) total words h =
     let o : Options = options verb total words None in
     let stand : OptionsStand line o = options_stand line verb total words None h in
-    let settings : Settings = settings_of o.items in
-    verb_keeps (CommandIsWithin (length line)) (first_fault [] o.items) verb total settings o.operands
+    let settings : Settings = settings_given o.items in
+    verb_keeps (CommandIsWithin (length line)) (first_option_fault [] o.items) verb total settings o.operands
     (λ _ form _ _ _. command_within line verb o.items form o.operands stand.items stand.operands)
 
 by_words_within : (line : List ℕ) (sep : Sep) (text : Bool) (words : List Word) → AllStand line words → IfOk (by_words sep text words) (λ read. IfSome read (CommandIsWithin (length line)))
@@ -316,5 +316,5 @@ by_words_within line sep text (word ∷ behind) h =
     (λ _. verb_within line (verb_named word.bytes) (1 + length behind) behind h.1)
 
 -- The spans of what a line says lie in the line.
-pub reading_within : (sep : Sep) (line : List ℕ) → IfOk (reading sep line) (λ read. IfSome read (CommandIsWithin (length line)))
+pub reading_within : (sep : Sep) (line : List ℕ) → IfOk (line_reading sep line) (λ read. IfSome read (CommandIsWithin (length line)))
 reading_within sep line = by_words_within line sep (is_utf8 line) (words sep line) (words_stand sep line)

@@ -14,12 +14,12 @@ use Rattle.command_words.specs.declared.table.Verb.TheVariants.{Init, Attach, De
 use Rattle.command_words.specs.declared.table.Operand.{Operand}
 use Rattle.command_words.specs.declared.table.Operand.TheVariants.{Provider}
 use Rattle.command_words.specs.declared.table.Valued.{Valued}
-use Rattle.command_words.specs.Words.{Word, words, placed, is_between, is_word}
+use Rattle.command_words.specs.Words.{Word, words, placed_words, is_between, is_word}
 use Rattle.command_words.specs.Table.{verb_named}
-use Rattle.command_words.specs.Options.{Item, Kind, Ends, Letters, Other, kind_of, Options, options, onto, with_word, first_fault}
-use Rattle.command_words.specs.Settings.{settings_of, span_of}
+use Rattle.command_words.specs.Options.{Item, Kind, Ends, Letters, Other, kind_of, Options, options, onto, with_word, first_option_fault}
+use Rattle.command_words.specs.Settings.{settings_given, span_of}
 use Rattle.command_words.specs.Operands.{operands_of, word_as, span_as, no_span}
-use Rattle.command_words.specs.Reading.{reading, by_words, by_verb, command_at, is_comment}
+use Rattle.command_words.specs.Reading.{line_reading, by_words, by_verb, command_at, is_comment}
 use Rattle.command_words.specs.Places.{bytes_at, ProviderIsText}
 use Rattle.command_words.proofs.Places.{Stands, AllStand, Parts, parts_stand, drop_one, below_end, words_stand, OptionsStand, options_stand, word_keeps, verb_keeps, text_keeps, bytes_of_span}
 
@@ -85,7 +85,7 @@ part_text line part start text b e same =
     let len : start + length part - start ≡ length part = omega arith in
     subst (λ (bytes : List ℕ). IsUtf8 bytes) same (subst (λ (n : ℕ). IsUtf8 (take n (drop start line))) len between)
 
-placed_text : (line : List ℕ) (sep : Sep) (number start : ℕ) (parts : List (List ℕ)) → IsUtf8 line → Parts line start parts → Follow line start parts → AllText (placed sep number start parts)
+placed_text : (line : List ℕ) (sep : Sep) (number start : ℕ) (parts : List (List ℕ)) → IsUtf8 line → Parts line start parts → Follow line start parts → AllText (placed_words sep number start parts)
 placed_text line sep number start [] text h f = tt
 placed_text line sep number start (part ∷ parts) text h f =
     text_choice (is_word sep part) _ _ _ (part_text line part start text f.0 f.1 h.1)
@@ -164,8 +164,8 @@ verb_text line None total words h g = tt
 verb_text line (Some verb) total words h g =
     let o : Options = options verb total words None in
     let stand : OptionsStand line o = options_stand line verb total words None h in
-    let settings : Settings = settings_of o.items in
-    verb_keeps (ProviderIsText line) (first_fault [] o.items) verb total settings o.operands
+    let settings : Settings = settings_given o.items in
+    verb_keeps (ProviderIsText line) (first_option_fault [] o.items) verb total settings o.operands
     (λ _ form _ _ _. command_text line verb settings form o.operands stand.operands (options_text verb total words None g))
 
 by_words_text : (line : List ℕ) (sep : Sep) (text : Bool) (words : List Word) → AllStand line words → (text ≡ true → AllText words) → IfOk (by_words sep text words) (λ read. IfSome read (ProviderIsText line))
@@ -175,5 +175,5 @@ by_words_text line sep text (word ∷ behind) h g =
     (λ passed. verb_text line (verb_named word.bytes) (1 + length behind) behind h.1 (g passed).1)
 
 -- The name of a provider is text.
-pub reading_text : (sep : Sep) (line : List ℕ) → IfOk (reading sep line) (λ read. IfSome read (ProviderIsText line))
+pub reading_text : (sep : Sep) (line : List ℕ) → IfOk (line_reading sep line) (λ read. IfSome read (ProviderIsText line))
 reading_text sep line = by_words_text line sep (is_utf8 line) (words sep line) (words_stand sep line) (λ passed. words_text sep line (IsUtf8-from_is_utf8 line passed))

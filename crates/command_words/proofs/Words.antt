@@ -4,7 +4,7 @@ use Rattle.std.proofs.lemmas.Bool.Decides.{nat_tests}
 use Rattle.std.specs.List.{slice_split, position_or_len, onto_first}
 use Rattle.std.proofs.lemmas.List.Folds.{length-prefix_len}
 use Rattle.command_words.specs.declared.spans.Sep.{Sep}
-use Rattle.command_words.specs.Words.{is_between, is_word, placed, parts_behind}
+use Rattle.command_words.specs.Words.{is_between, is_word, placed_words, parts_behind}
 
 -- zero is below a number and one
 zero_below : (n : ℕ) → nat_lt 0 (suc n) ≡ true
@@ -35,7 +35,7 @@ first_part p (x ∷ xs) = one_more (p x) x xs (position_or_len p xs) (slice_spli
 
 -- where the first part is a word, it is the first word
 pub word_taken : (sep : Sep) (rest : List ℕ) (number start n : ℕ) → n ≡ position_or_len (is_between sep) rest → is_word sep (take n rest) ≡ true
-    → placed sep number start (slice_split (is_between sep) rest) ≡ record { number = number; start = start; bytes = take n rest } ∷ placed sep (number + 1) (start + n + 1) (parts_behind sep n rest)
+    → placed_words sep number start (slice_split (is_between sep) rest) ≡ record { number = number; start = start; bytes = take n rest } ∷ placed_words sep (number + 1) (start + n + 1) (parts_behind sep n rest)
 word_taken sep rest number start n e h =
     let len : length (take n rest) ≡ n = rw e (length-prefix_len _ rest) in
     let split : slice_split (is_between sep) rest ≡ take n rest ∷ parts_behind sep n rest = rw e (first_part (is_between sep) rest) in

@@ -7,21 +7,21 @@ use Rattle.command_words.specs.declared.commands.JobWords.TheVariants as jobs
 use Rattle.command_words.specs.Values.{is_hexadecimal}
 use Rattle.command_words.specs.Places.{bytes_at}
 
--- What numbers of sectors keep: the first sector, and how many there are, at most so many.
+-- what numbers of sectors keep: the first sector, and how many there are, at most so many
 abbrev pub AreSectors : ℕ → ℕ → ℕ → Type 0
 AreSectors most first count = (first ≤ 9223372036854775807) × (1 ≤ count) × (count ≤ most)
 
--- What a size of an image before it grew keeps.
+-- what a size of an image before it grew keeps
 abbrev pub IsOldSize : ℕ → Type 0
 IsOldSize size = (1024 ≤ size) × (size ≤ 9007199254740480) × (size % 512 ≡ 0)
 
--- The numbers of a request lie within their bounds, and its digits are hexadecimal.
+-- the numbers of a request lie within their bounds, and its digits are hexadecimal
 abbrev pub IsBoundedJob : List ℕ → JobWords → Type 0
 IsBoundedJob line (jobs.Read sector count) = AreSectors 256 sector count
 IsBoundedJob line (jobs.Write sector hex) = (sector ≤ 9223372036854775807) × IsTrue (is_hexadecimal (bytes_at line hex))
 IsBoundedJob line jobs.Flush = Unit {0}
 
--- The numbers of a command lie within their bounds, and its digits are hexadecimal.
+-- the numbers of a command lie within their bounds, and its digits are hexadecimal
 abbrev pub IsBounded : List ℕ → Command → Type 0
 IsBounded line (commands.Init prov cipher auth keylen sectorsize iterations autoresize fresh backup) = Unit {0}
 IsBounded line (commands.Attach prov only_check readonly slot old) = Unit {0}

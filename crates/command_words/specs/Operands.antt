@@ -13,14 +13,14 @@ use Rattle.command_words.specs.Values.{decimal, operand_fault}
 use Rattle.command_words.specs.Options.{or_else}
 use Rattle.command_words.specs.Settings.{span_of}
 
--- The first fault among the words that stand as the operands of a form.
+-- the first fault among the words that stand as the operands of a form
 abbrev pub operands_fault : List Operand → List Word → Option Usage
 operands_fault [] words = None
 operands_fault (operand ∷ form) [] = None
 operands_fault (operand ∷ form) (word ∷ words) =
     or_else (option_map (λ reason. record { word = word.number; reason = reason }) (operand_fault operand word.bytes)) (operands_fault form words)
 
--- The number of an operand, which tells operands apart.
+-- the number of an operand, which tells operands apart
 abbrev pub operand_place : Operand → ℕ
 operand_place Provider = 0
 operand_place File = 1
@@ -32,7 +32,7 @@ operand_place Digits = 6
 operand_place (Job job) = 7
 operand_place Tag = 8
 
--- The word that stands as an operand of a form.
+-- the word that stands as an operand of a form
 abbrev pub word_as : Operand → List Operand → List Word → Option Word
 word_as wanted [] words = None
 word_as wanted (operand ∷ form) [] = None
@@ -42,11 +42,11 @@ word_as wanted (operand ∷ form) (word ∷ words) =
 abbrev pub no_span : Span
 no_span = record { start = 0; end = 0; word = 0 }
 
--- The place of an operand.
+-- the place of an operand
 abbrev pub span_as : Operand → List Operand → List Word → Span
 span_as wanted form words = option_map_or span_of (word_as wanted form words) no_span
 
--- The number that an operand is.
+-- the number that an operand is
 abbrev pub number_as : Operand → List Operand → List Word → ℕ
 number_as wanted form words = option_map_or (λ word. decimal word.bytes) (word_as wanted form words) 0
 
@@ -54,13 +54,13 @@ abbrev pub job_or : Operand → JobName → JobName
 job_or (Job job) other = job
 job_or _ other = other
 
--- The job that a form names.
+-- the job that a form names
 abbrev pub job_as : List Operand → List Word → JobName
 job_as [] words = jobs.Flush
 job_as (operand ∷ form) [] = jobs.Flush
 job_as (operand ∷ form) (word ∷ words) = job_or operand (job_as form words)
 
--- What the operands of a form come to.
+-- what the operands of a form come to
 abbrev pub operands_of : List Operand → List Word → Operands
 operands_of form words = record {
   prov = span_as Provider form words;

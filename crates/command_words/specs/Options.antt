@@ -14,15 +14,15 @@ use Rattle.command_words.specs.Table.{letter_of}
 use Rattle.command_words.specs.Values.{value_fault}
 use Rattle.command_words.specs.Words.{Word}
 
--- What the options of a line say, one by one: an option without a value, one with its value, a letter that the
--- verb doesn't have, by its word, or a value that no word is left for, by the number of words.
+-- what the options of a line say, one by one: an option without a value, one with its value, a letter that the
+-- verb doesn't have, by its word, or a value that no word is left for, by the number of words
 pub data Item : Type 0 where
   Set : Switch → Item
   Given : Valued → Word → Item
   Unknown : ℕ → Item
   Missing : ℕ → Item
 
--- What a group of letters says, and the option at its end that waits for its value.
+-- what a group of letters says, and the option at its end that waits for its value
 pub record Group : Type 0 where
   pub items : List Item
   pub waiting : Option Valued
@@ -35,12 +35,13 @@ with_letter (Some (WithValue option)) number start [] group = record { items = [
 with_letter (Some (WithValue option)) number start (b ∷ bs) group =
     record { items = Given option (record { number = number; start = start; bytes = b ∷ bs }) ∷ []; waiting = None }
 
--- The letters of a group, which start there.
+-- the letters of a group, which start there
 abbrev pub letters : Verb → ℕ → ℕ → List ℕ → Group
 letters verb number start [] = record { items = []; waiting = None }
 letters verb number start (b ∷ bs) = with_letter (letter_of verb b) number (start + 1) bs (letters verb number (start + 1) bs)
 
--- What a word at the place of an option is: `--`, a group, which begins with `-` and has more bytes, or the first operand.
+-- what a word at the place of an option is: `--`, a group, which begins with `-` and has more bytes, or the first
+-- operand
 pub data Kind : Type 0 where
   Ends : Kind
   Letters : (rest : List ℕ) → Kind
@@ -52,7 +53,7 @@ kind_of (b ∷ []) = Other
 kind_of (b ∷ c ∷ bs) =
     if b == 45 then (if bytes_eq (c ∷ bs) (codes "-") then Ends else Letters (c ∷ bs)) else Other
 
--- The options at the front of some words, and the operands behind them.
+-- the options at the front of some words, and the operands behind them
 pub record Options : Type 0 where
   pub items : List Item
   pub operands : List Word
@@ -73,7 +74,7 @@ options verb total [] (Some option) = record { items = Missing total ∷ []; ope
 options verb total (word ∷ behind) (Some option) = onto (Given option word ∷ []) (options verb total behind None)
 options verb total (word ∷ behind) None = with_word (kind_of word.bytes) verb word behind (λ waiting. options verb total behind waiting)
 
--- The number of an option, which tells options apart.
+-- the number of an option, which tells options apart
 abbrev pub place : Valued → ℕ
 place AuthName = 0
 place CipherName = 1
@@ -88,7 +89,7 @@ place OldPass = 9
 place FreshFile = 10
 place FreshPass = 11
 
--- The values that an option was given, in order.
+-- the values that an option was given, in order
 abbrev pub value_in : Valued → Item → List Word
 value_in option (Set switch) = []
 value_in option (Given given word) = if place option == place given then word ∷ [] else []
@@ -98,19 +99,19 @@ value_in option (Missing number) = []
 abbrev pub values : Valued → List Item → List Word
 values option items = flat_map (value_in option) items
 
--- The fault of an option behind others.
-abbrev pub fault_of : List Item → Item → Option Usage
-fault_of before (Set switch) = None
-fault_of before (Given option word) =
+-- the fault of an option behind others
+abbrev pub option_fault : List Item → Item → Option Usage
+option_fault before (Set switch) = None
+option_fault before (Given option word) =
     option_map (λ reason. record { word = word.number; reason = reason }) (value_fault option (length (values option before)) word.bytes)
-fault_of before (Unknown number) = Some (record { word = number; reason = UnknownOption })
-fault_of before (Missing number) = Some (record { word = number; reason = MissingValue })
+option_fault before (Unknown number) = Some (record { word = number; reason = UnknownOption })
+option_fault before (Missing number) = Some (record { word = number; reason = MissingValue })
 
 abbrev pub or_else : {A : Type 0} → Option A → Option A → Option A
 or_else None other = other
 or_else (Some a) other = Some a
 
--- The first fault among options that stand behind others.
-abbrev pub first_fault : List Item → List Item → Option Usage
-first_fault before [] = None
-first_fault before (item ∷ items) = or_else (fault_of before item) (first_fault (before ++ item ∷ []) items)
+-- the first fault among options that stand behind others
+abbrev pub first_option_fault : List Item → List Item → Option Usage
+first_option_fault before [] = None
+first_option_fault before (item ∷ items) = or_else (option_fault before item) (first_option_fault (before ++ item ∷ []) items)

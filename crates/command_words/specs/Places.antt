@@ -8,21 +8,21 @@ use Rattle.command_words.specs.declared.commands.JobWords.TheVariants as jobs
 use Rattle.command_words.specs.declared.spans.Span.{Span}
 use Rattle.command_words.specs.declared.spans.KeyWords.{KeyWords}
 
--- Whether a span lies in a line of so many bytes.
+-- whether a span lies in a line of so many bytes
 abbrev pub IsWithin : ℕ → Span → Type 0
 IsWithin len span = (span.start ≤ span.end) × (span.end ≤ len)
 
--- The spans of a key lie in the line.
+-- the spans of a key lie in the line
 abbrev pub KeyIsWithin : ℕ → KeyWords → Type 0
 KeyIsWithin len key = All (IsWithin len) key.files × All (IsWithin len) key.pass
 
--- The spans of a request lie in the line.
+-- the spans of a request lie in the line
 abbrev pub JobIsWithin : ℕ → JobWords → Type 0
 JobIsWithin len (jobs.Read sector count) = Unit {0}
 JobIsWithin len (jobs.Write sector hex) = IsWithin len hex
 JobIsWithin len jobs.Flush = Unit {0}
 
--- The spans of a command lie in the line.
+-- the spans of a command lie in the line
 abbrev pub CommandIsWithin : ℕ → Command → Type 0
 CommandIsWithin len (commands.Init prov cipher auth keylen sectorsize iterations autoresize fresh backup) =
     IsWithin len prov × KeyIsWithin len fresh × IfSome backup (IsWithin len)
@@ -49,7 +49,7 @@ CommandIsWithin len (commands.Suspend prov) = IsWithin len prov
 CommandIsWithin len (commands.Resume prov old) = IsWithin len prov × KeyIsWithin len old
 CommandIsWithin len (commands.Verify prov file count restart) = IsWithin len prov × IsWithin len file
 
--- The provider that a command names, if it names one.
+-- the provider that a command names, if it names one
 abbrev pub provider_of : Command → Option Span
 provider_of (commands.Init prov cipher auth keylen sectorsize iterations autoresize fresh backup) = Some prov
 provider_of (commands.Attach prov only_check readonly slot old) = Some prov
@@ -75,10 +75,10 @@ provider_of (commands.Suspend prov) = Some prov
 provider_of (commands.Resume prov old) = Some prov
 provider_of (commands.Verify prov file count restart) = Some prov
 
--- The bytes of a span.
+-- the bytes of a span
 abbrev pub bytes_at : List ℕ → Span → List ℕ
 bytes_at line span = slice_range line span.start span.end
 
--- The names of providers in a line are text.
+-- the names of providers in a line are text
 abbrev pub ProviderIsText : List ℕ → Command → Type 0
 ProviderIsText line command = IfSome (provider_of command) (λ prov. IsUtf8 (bytes_at line prov))

@@ -21,11 +21,11 @@ use Rattle.command_words.specs.declared.table.Verb.{Verb}
 use Rattle.command_words.specs.declared.table.Verb.TheVariants.{Init, Attach, Detach, Setkey, Delkey, Kill, Backup, Restore, Resize, Dump, Read, Write, Flush, List as ListVerb, Fill, Sum, Eject, Submit, Step, Reap, Suspend, Resume, Verify}
 use Rattle.command_words.specs.Words.{Word, words}
 use Rattle.command_words.specs.Table.{verb_named, form_of}
-use Rattle.command_words.specs.Options.{Options, options, first_fault}
+use Rattle.command_words.specs.Options.{Options, options, first_option_fault}
 use Rattle.command_words.specs.Operands.{operands_fault, operands_of}
-use Rattle.command_words.specs.Settings.{settings_of}
+use Rattle.command_words.specs.Settings.{settings_given}
 
--- Whether a verb lacks an option that it needs.
+-- whether a verb lacks an option that it needs
 abbrev pub lacks_option : Verb → Settings → Bool
 lacks_option Resize settings = not (is_some settings.oldsize)
 lacks_option _ settings = false
@@ -34,32 +34,32 @@ abbrev pub has_files : List Span → Bool
 has_files [] = false
 has_files (span ∷ spans) = true
 
--- Whether the words of a key name passphrases and go without one.
+-- whether the words of a key name passphrases and go without one
 abbrev pub excludes_itself : KeyWords → Bool
 excludes_itself key = key.without && has_files key.pass
 
--- Whether two options that exclude each other under one verb alone are there: what `init` writes has no iterations
--- without a passphrase, and `delkey` names all slots or one.
+-- whether two options that exclude each other under one verb alone are there: what `init` writes has no iterations
+-- without a passphrase, and `delkey` names all slots or one
 abbrev pub excludes_own : Verb → Settings → Bool
 excludes_own Init settings = settings.fresh_key.without && is_some settings.iterations
 excludes_own Delkey settings = settings.all && is_some settings.slot
 excludes_own _ settings = false
 
--- Whether two options of a verb exclude each other.
+-- whether two options of a verb exclude each other
 abbrev pub excludes : Verb → Settings → Bool
 excludes verb settings = excludes_itself settings.old_key || excludes_itself settings.fresh_key || excludes_own verb settings
 
--- What is wrong with the options together, in this order.
+-- what is wrong with the options together, in this order
 abbrev pub complaint : Verb → Settings → Option Reason
 complaint verb settings = if lacks_option verb settings then Some MissingOption else (if excludes verb settings then Some Exclusive else None)
 
--- A job of this name, by what the operands come to.
+-- a job of this name, by what the operands come to
 abbrev pub job_at : JobName → Operands → JobWords
 job_at jobs.Read o = job_words.Read o.sector o.few
 job_at jobs.Write o = job_words.Write o.sector o.digits
 job_at jobs.Flush o = job_words.Flush
 
--- The command of a verb, by what its options and its operands come to.
+-- the command of a verb, by what its options and its operands come to
 abbrev pub command_at : Verb → Settings → Operands → Command
 command_at Init s o = commands.Init o.prov s.cipher s.auth s.keylen s.sectorsize s.iterations s.autoresize s.fresh_key s.backup
 command_at Attach s o = commands.Attach o.prov s.only_check s.readonly s.slot s.old_key
@@ -85,35 +85,35 @@ command_at Suspend s o = commands.Suspend o.prov
 command_at Resume s o = commands.Resume o.prov s.old_key
 command_at Verify s o = commands.Verify o.prov o.file o.many s.restart
 
--- The fault, or what follows without one.
-abbrev pub unless_fault : Option Usage → Result Command Usage → Result Command Usage
-unless_fault (Some usage) result = Err usage
-unless_fault None result = result
+-- the fault, or what follows without one
+abbrev pub unless_usage : Option Usage → Result Command Usage → Result Command Usage
+unless_usage (Some usage) result = Err usage
+unless_usage None result = result
 
--- What follows, or what is wrong at the end of the words.
+-- what follows, or what is wrong at the end of the words
 abbrev pub or_complaint : Option Reason → ℕ → Result Command Usage → Result Command Usage
 or_complaint (Some reason) total result = Err (record { word = total; reason = reason })
 or_complaint None total result = result
 
--- The command of a verb whose operands are of this form.
+-- the command of a verb whose operands are of this form
 abbrev pub by_form : Option (List Operand) → Verb → ℕ → Settings → List Word → Result Command Usage
 by_form None verb total settings words = Err (record { word = total; reason = OperandCount })
 by_form (Some form) verb total settings words =
-    or_complaint (complaint verb settings) total (unless_fault (operands_fault form words) (Ok (command_at verb settings (operands_of form words))))
+    or_complaint (complaint verb settings) total (unless_usage (operands_fault form words) (Ok (command_at verb settings (operands_of form words))))
 
--- What follows the options: how many operands there are, the options together, and then the operands from left to right.
+-- what follows the options: how many operands there are, the options together, and then the operands from left to right
 abbrev pub settled : Verb → ℕ → Settings → List Word → Result Command Usage
 settled verb total settings words = by_form (form_of verb words) verb total settings words
 
 abbrev pub by_options : Verb → ℕ → Options → Result Command Usage
-by_options verb total read = unless_fault (first_fault [] read.items) (settled verb total (settings_of read.items) read.operands)
+by_options verb total read = unless_usage (first_option_fault [] read.items) (settled verb total (settings_given read.items) read.operands)
 
--- The command of the words behind the verb; the line has so many.
+-- the command of the words behind the verb; the line has so many
 abbrev pub by_verb : Option Verb → ℕ → List Word → Result Command Usage
 by_verb None total behind = Err (record { word = 0; reason = UnknownVerb })
 by_verb (Some verb) total behind = by_options verb total (options verb total behind None)
 
--- Whether a line that begins with this word is a comment.
+-- whether a line that begins with this word is a comment
 abbrev pub is_comment : Sep → List ℕ → Bool
 is_comment Blanks [] = false
 is_comment Blanks (b ∷ bs) = b == 35
@@ -130,19 +130,19 @@ by_words sep is_text (word ∷ behind) =
     else (if is_text then some_command (by_verb (verb_named word.bytes) (1 + length behind) behind)
     else Err (record { word = 0; reason = NotText }))
 
--- What a line says: nothing, a command, or why it is none.
-abbrev pub reading : Sep → List ℕ → Result (Option Command) Usage
-reading sep line = by_words sep (is_utf8 line) (words sep line)
+-- what a line says: nothing, a command, or why it is none
+abbrev pub line_reading : Sep → List ℕ → Result (Option Command) Usage
+line_reading sep line = by_words sep (is_utf8 line) (words sep line)
 
--- The command that a line says, if it says one.
+-- the command that a line says, if it says one
 abbrev pub said : Result (Option Command) Usage → Option Command
 said (Ok command) = command
 said (Err usage) = None
 
--- The most bytes of a line.
+-- the most bytes of a line
 abbrev pub line_limit : ℕ
 line_limit = 300000
 
 -- The command of a line whose words stand between zero bytes. A line that is too long says none.
 abbrev pub command_in : List ℕ → Option Command
-command_in line = if nat_le (length line) line_limit then said (reading Zeros line) else None
+command_in line = if nat_le (length line) line_limit then said (line_reading Zeros line) else None

@@ -15,11 +15,11 @@ use Rattle.command_words.specs.Words.{Word}
 use Rattle.command_words.specs.Values.{decimal, auth_named, cipher_named}
 use Rattle.command_words.specs.Options.{Item, Set, Given, Unknown, Missing, values}
 
--- The bytes of a value in the line.
+-- the bytes of a value in the line
 abbrev pub span_of : Word → Span
 span_of word = record { start = word.start; end = word.start + length word.bytes; word = word.number }
 
--- Of an option with one value the last one counts.
+-- of an option with one value the last one counts
 abbrev pub last : List Word → Option Word
 last [] = None
 last (word ∷ []) = Some word
@@ -28,7 +28,7 @@ last (word ∷ next ∷ words) = last (next ∷ words)
 abbrev pub last_value : Valued → List Item → Option Word
 last_value option items = last (values option items)
 
--- The number of an option without a value, which tells them apart.
+-- the number of an option without a value, which tells them apart
 abbrev pub switch_place : Switch → ℕ
 switch_place WithoutOld = 0
 switch_place WithoutFresh = 1
@@ -46,21 +46,21 @@ sets switch (Given option word) = false
 sets switch (Unknown number) = false
 sets switch (Missing number) = false
 
--- Whether an option without a value was given.
-abbrev pub is_set : Switch → List Item → Bool
-is_set switch items = list_any (sets switch) items
+-- whether an option without a value was given
+abbrev pub has_switch : Switch → List Item → Bool
+has_switch switch items = list_any (sets switch) items
 
--- The file of a backup; `none` names no file.
+-- the file of a backup; `none` names no file
 abbrev pub backup_of : Word → Option Span
 backup_of word = if bytes_eq word.bytes (codes "none") then None else Some (span_of word)
 
--- The files of an option.
-abbrev pub files_of : Valued → List Item → List Span
-files_of option items = map span_of (values option items)
+-- the files of an option
+abbrev pub option_files : Valued → List Item → List Span
+option_files option items = map span_of (values option items)
 
--- What options without a fault come to.
-abbrev pub settings_of : List Item → Settings
-settings_of items = record {
+-- what options without a fault come to
+abbrev pub settings_given : List Item → Settings
+settings_given items = record {
   auth = unwrap_or (option_and_then (λ word. auth_named word.bytes) (last_value AuthName items)) Off;
   cipher = unwrap_or (option_and_then (λ word. cipher_named word.bytes) (last_value CipherName items)) AesXts;
   iterations = option_map (λ word. pos (decimal word.bytes)) (last_value Iterations items);
@@ -69,12 +69,12 @@ settings_of items = record {
   oldsize = option_map (λ word. decimal word.bytes) (last_value OldSize items);
   slot = option_map (λ word. decimal word.bytes) (last_value Slot items);
   backup = option_and_then backup_of (last_value BackupFile items);
-  autoresize = not (is_set FixedSize items);
-  only_check = is_set OnlyCheck items;
-  readonly = is_set ReadOnly items;
-  all = is_set AllSlots items;
-  force = is_set Force items;
-  restart = is_set Restart items;
-  old_key = record { files = files_of OldFile items; pass = files_of OldPass items; without = is_set WithoutOld items };
-  fresh_key = record { files = files_of FreshFile items; pass = files_of FreshPass items; without = is_set WithoutFresh items };
+  autoresize = not (has_switch FixedSize items);
+  only_check = has_switch OnlyCheck items;
+  readonly = has_switch ReadOnly items;
+  all = has_switch AllSlots items;
+  force = has_switch Force items;
+  restart = has_switch Restart items;
+  old_key = record { files = option_files OldFile items; pass = option_files OldPass items; without = has_switch WithoutOld items };
+  fresh_key = record { files = option_files FreshFile items; pass = option_files FreshPass items; without = has_switch WithoutFresh items };
 }

@@ -16,8 +16,8 @@ use Rattle.command_words.specs.declared.table.Row as Code
 use Rattle.command_words.specs.Words.{Word}
 use Rattle.command_words.specs.Values.{job_name}
 
--- A line of the table of verbs: the name, the letters without a value, the letters with a value, and the operands in
--- order, in each form that the verb has; forms differ by how many operands they have, or by the name of a job.
+-- a line of the table of verbs: the name, the letters without a value, the letters with a value, and the operands in
+-- order, in each form that the verb has; forms differ by how many operands they have, or by the name of a job
 pub record Row : Type 0 where
   pub name : List ℕ
   pub alone : List (ℕ × Switch)
@@ -27,7 +27,7 @@ pub record Row : Type 0 where
 abbrev pub row : List ℕ → List (ℕ × Switch) → List (ℕ × Valued) → List (List Operand) → Row
 row name alone valued forms = record { name = name; alone = alone; valued = valued; forms = forms }
 
--- The table of verbs: geli(8), SYNOPSIS; `dump`, `verify` and those from `read` to `reap` are this program's own.
+-- the table of verbs: geli(8), SYNOPSIS; `dump`, `verify` and those from `read` to `reap` are this program's own
 abbrev pub row_of : Verb → Row
 row_of Init = row (codes "init")
     ((byte "P", WithoutFresh) ∷ (byte "R", FixedSize) ∷ (byte "v", Verbose) ∷ [])
@@ -63,7 +63,7 @@ row_of Suspend = row (codes "suspend") ((byte "v", Verbose) ∷ []) [] ((Provide
 row_of Resume = row (codes "resume") ((byte "p", WithoutOld) ∷ (byte "v", Verbose) ∷ []) ((byte "j", OldPass) ∷ (byte "k", OldFile) ∷ []) ((Provider ∷ []) ∷ [])
 row_of Verify = row (codes "verify") ((byte "r", Restart) ∷ (byte "v", Verbose) ∷ []) [] ((Provider ∷ File ∷ ManySectors ∷ []) ∷ [])
 
--- All verbs.
+-- all verbs
 abbrev pub verbs : List Verb
 verbs = Init ∷ Attach ∷ Detach ∷ Setkey ∷ Delkey ∷ Kill ∷ Backup ∷ Restore ∷ Resize ∷ Dump ∷ Read ∷ Write ∷ Flush ∷ ListVerb ∷ Fill ∷ Sum ∷ Eject ∷ Submit ∷ Step ∷ Reap ∷ Suspend ∷ Resume ∷ Verify ∷ []
 
@@ -71,11 +71,11 @@ abbrev pub named_among : List ℕ → List Verb → Option Verb
 named_among name [] = None
 named_among name (verb ∷ verbs) = if bytes_eq name (row_of verb).name then Some verb else named_among name verbs
 
--- The verb of a name.
+-- the verb of a name
 abbrev pub verb_named : List ℕ → Option Verb
 verb_named name = named_among name verbs
 
--- What a letter means among others.
+-- what a letter means among others
 abbrev pub entry : {V : Type 0} → ℕ → List (ℕ × V) → Option V
 entry letter [] = None
 entry letter (e ∷ es) = if letter == e.0 then Some e.1 else entry letter es
@@ -84,27 +84,27 @@ abbrev pub letter_or : Option Switch → Option Valued → Option Letter
 letter_or (Some switch) valued = Some (Alone switch)
 letter_or None valued = option_map WithValue valued
 
--- What a letter means for a verb.
+-- what a letter means for a verb
 abbrev pub letter_of : Verb → ℕ → Option Letter
 letter_of verb letter = letter_or (entry letter (row_of verb).alone) (entry letter (row_of verb).valued)
 
--- The first form of so many operands.
+-- the first form of so many operands
 abbrev pub of_length : ℕ → List (List Operand) → Option (List Operand)
 of_length count [] = None
 of_length count (form ∷ forms) = if length form == count then Some form else of_length count forms
 
--- Whether a word may stand for an operand by its name: a job has its own.
+-- whether a word may stand for an operand by its name: a job has its own
 abbrev pub is_named : Operand → List ℕ → Bool
 is_named (Job job) bytes = bytes_eq bytes (job_name job)
 is_named _ bytes = true
 
--- Whether the jobs that a form names are those of the words.
+-- whether the jobs that a form names are those of the words
 abbrev pub are_named : List Operand → List Word → Bool
 are_named [] words = true
 are_named (operand ∷ form) [] = true
 are_named (operand ∷ form) (word ∷ words) = is_named operand word.bytes && are_named form words
 
--- The first form of as many operands as there are words, where the words name the jobs of the form.
+-- the first form of as many operands as there are words, where the words name the jobs of the form
 abbrev pub of_words : List Word → List (List Operand) → Option (List Operand)
 of_words words [] = None
 of_words words (form ∷ forms) = if length form == length words && are_named form words then Some form else of_words words forms
@@ -113,15 +113,15 @@ abbrev pub form_or : Option (List Operand) → Option (List Operand) → Option 
 form_or (Some form) other = Some form
 form_or None other = other
 
--- The form among others that these words are read by: where no form of so many operands has the jobs that they name, the
--- first of so many, whose job they then don't name.
+-- the form among others that these words are read by: where no form of so many operands has the jobs that they name,
+-- the first of so many, whose job they then don't name
 abbrev pub form_among : List Word → List (List Operand) → Option (List Operand)
 form_among words forms = form_or (of_words words forms) (of_length (length words) forms)
 
--- The operands of a verb, as these words are read.
+-- the operands of a verb, as these words are read
 abbrev pub form_of : Verb → List Word → Option (List Operand)
 form_of verb words = form_among words (row_of verb).forms
 
--- A line of the code's table.
+-- a line of the code's table
 abbrev pub row_seen : Code.Row → Row
 row_seen r = row r.name.now r.alone.now r.valued.now (map (λ form. form.now) r.forms.now)

@@ -40,7 +40,7 @@ only_reading wanted = record (plain wanted) { only_reads = true }
 abbrev pub requesting : Traits
 requesting = record (plain AnAttached) { is_request = true }
 
--- one that is refused by a provider that is only read
+-- one that is refused by a provider that is read-only
 abbrev pub writing : Traits
 writing = record requesting { writes_data = true }
 
@@ -48,7 +48,7 @@ writing = record requesting { writes_data = true }
 abbrev pub queueing : Traits
 queueing = record requesting { changes_requests = true }
 
--- whether a request is refused by a provider that is only read
+-- whether a read-only provider refuses the request
 abbrev pub job_writes : JobWords → Bool
 job_writes (jobs.Read sector count) = false
 job_writes (jobs.Write sector hex) = true

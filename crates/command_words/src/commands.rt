@@ -1,4 +1,4 @@
-// Commands, with the places of their names in the line.
+//! Commands, with the places of their names in the line.
 ghost use Rattle.std.specs.Prelude.{◌≡◌};
 ghost use Rattle.command_words.specs.Places.{provider_of};
 
@@ -56,7 +56,7 @@ pub enum Command {
         prov: Span,
         /// `-C`: the key is only tried.
         only_check: bool,
-        /// `-r`: the provider is only read.
+        /// `-r`: the provider is read-only.
         readonly: bool,
         /// `-n`: the slot that is tried alone.
         slot: Option<u8>,

@@ -1,4 +1,4 @@
-// The words of a line, taken one by one.
+//! The words of a line, taken one by one.
 ghost use Rattle.std.specs.Prelude.{◌≡◌, ◌+◌, ◌-◌, ◌<◌, ◌≤◌, ℕ, [], ◌∷◌, length, if◌then◌else◌, false, IsTrue, IfSome, MatchOption, ◌⊎◌};
 
 use crate::spans::{Sep, Span};
@@ -48,7 +48,7 @@ pub struct Words<'a> {
 
 impl<'a> Words<'a> {
     ghost use Rattle.command_words.specs.Cursor.{seen, left};
-    ghost use Rattle.command_words.specs.Words.{words, placed, parts_behind};
+    ghost use Rattle.command_words.specs.Words.{words, placed_words, parts_behind};
 
     /// The words of a line.
     pub fn new(line: &'a [u8], sep: Sep) -> Self
@@ -117,7 +117,7 @@ impl<'a> Words<'a> {
         requires going { self.ended ≡ false }
         requires inside { len ≤ length self.rest.now }
         requires counted { number ≤ self.start + 1 }
-        ensures left { left result ≡ placed self.entry.sep number (self.entry.start + len + 1)
+        ensures left { left result ≡ placed_words self.entry.sep number (self.entry.start + len + 1)
             (parts_behind self.entry.sep len self.entry.rest.now) }
         ensures number { result.number ≡ number }
         ensures shorter { length result.rest.now + len ≤ length self.entry.rest.now }

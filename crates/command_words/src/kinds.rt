@@ -1,4 +1,4 @@
-// What a word is at the place of an option.
+//! What a word is at the place of an option.
 ghost use Rattle.std.specs.Prelude.{◌≡◌};
 ghost use Rattle.command_words.specs.Options.{kind_of};
 ghost use Rattle.command_words.specs.Pass.{kind_seen};

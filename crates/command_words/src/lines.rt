@@ -1,11 +1,11 @@
-// A line to a command, or what is wrong with it.
+//! A line to a command, or what is wrong with it.
 ghost use Rattle.std.specs.Prelude.{◌≡◌, ◌+◌, ◌≤◌, length, IfOk, IfSome};
 ghost use Rattle.std.specs.Str.{is_utf8};
 ghost use Rattle.command_words.specs.Cursor.{left};
 ghost use Rattle.command_words.specs.Pass.{provider_alone};
 ghost use Rattle.command_words.specs.Bounds.{IsBounded};
 ghost use Rattle.command_words.specs.Places.{CommandIsWithin, ProviderIsText};
-ghost use Rattle.command_words.specs.Reading.{reading, by_verb, settled, is_comment, complaint, command_at, job_at, command_in};
+ghost use Rattle.command_words.specs.Reading.{line_reading, by_verb, settled, is_comment, complaint, command_at, job_at, command_in};
 ghost use Rattle.command_words.specs.Reading.{excludes_itself, lacks_option, excludes_own, excludes, line_limit};
 
 use crate::commands::{Command, JobWords, Usage};
@@ -262,7 +262,7 @@ fn is_text(line: &[u8]) -> bool
 // What a line says.
 fn read(line: &[u8], sep: Sep) -> Result<Option<Command>, Usage>
     requires { length line.now ≤ line_limit }
-    ensures { result ≡ reading sep line.now }
+    ensures { result ≡ line_reading sep line.now }
 {
     let Some((name, words)) = Words::new(line, sep).split_first() else {
         return Ok(None);
@@ -290,7 +290,7 @@ fn read(line: &[u8], sep: Sep) -> Result<Option<Command>, Usage>
 /// is a comment; else a command, or what is wrong.
 pub fn read_line(line: &[u8], sep: Sep) -> Result<Option<Command>, Usage>
     requires { length line.now ≤ line_limit }
-    ensures reading { result ≡ reading sep line.now }
+    ensures reading { result ≡ line_reading sep line.now }
 
     // The places of a command lie in the line.
     ensures places { IfOk result (λ read. IfSome read (CommandIsWithin (length line.now))) }

@@ -1,4 +1,4 @@
-// The operands of a line.
+//! The operands of a line.
 ghost use Rattle.std.specs.Prelude.{◌≡◌, [], MatchResult};
 ghost use Rattle.command_words.specs.Cursor.{seen, left};
 ghost use Rattle.command_words.specs.Values.{operand_fault, number_within};

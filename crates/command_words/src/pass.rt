@@ -1,8 +1,8 @@
-// The options of a line, read in one pass.
+//! The options of a line, read in one pass.
 ghost use Rattle.std.specs.Prelude.{◌≡◌, [], ◌+◌, length, MatchResult, IfOk};
 ghost use Rattle.command_words.specs.Cursor.{seen, left};
-ghost use Rattle.command_words.specs.Pass.{given, with_rest, taken_letters, taken_options};
-ghost use Rattle.command_words.specs.Settings.{settings_of};
+ghost use Rattle.command_words.specs.Pass.{value_given, with_rest, taken_letters, taken_options};
+ghost use Rattle.command_words.specs.Settings.{settings_given};
 
 use crate::commands::Usage;
 use crate::cursor::{Piece, Words};
@@ -14,8 +14,8 @@ use eli_base::Reason;
 // Takes an option with its value.
 fn put(settings: &mut Settings, option: Valued, value: Piece) -> Result<(), Usage>
     ensures { MatchResult result
-        (λ _. given settings.old option (seen value.entry) ≡ Ok settings.new)
-        (λ usage. given settings.old option (seen value.entry) ≡ Err usage) }
+        (λ _. value_given settings.old option (seen value.entry) ≡ Ok settings.new)
+        (λ usage. value_given settings.old option (seen value.entry) ≡ Err usage) }
 {
     match settings.put(option, value) {
         Ok(()) => Ok(()),
@@ -75,7 +75,7 @@ fn take_letters(settings: &mut Settings, verb: Verb, group: Piece) -> Result<Opt
 /// Takes the options of a verb from the words behind it. What is left are the operands.
 pub fn take_options<'a>(verb: Verb, words: Words<'a>) -> Result<(Settings, Words<'a>), Usage>
     ensures options { let total = words.entry.number + length (left words.entry) in
-        let taken = taken_options verb total (left words.entry) (settings_of []) None in
+        let taken = taken_options verb total (left words.entry) (settings_given []) None in
         MatchResult result (λ read. taken ≡ Ok (read.0, left read.1)) (λ usage. taken ≡ Err usage) }
     ensures number { IfOk result (λ read. read.1.number + length (left read.1) ≡ words.entry.number + length (left words.entry)) }
 {

@@ -1,4 +1,4 @@
-// What the options of a line say.
+//! What the options of a line say.
 ghost use Rattle.std.specs.Prelude.{◌≡◌, [], ◌++◌, ◌∷◌, length, false, pos, Ok, Err, Some, None, MatchResult};
 ghost use Rattle.command_words.specs.Values.{decimal, value_fault, files_fault, file_fault, number_within, old_size_named};
 ghost use Rattle.command_words.specs.Cursor.{seen};
@@ -145,12 +145,12 @@ fn add_file(files: &mut SpanList, value: Piece) -> Result<(), Reason>
 }
 
 impl Settings {
-    ghost use Rattle.command_words.specs.Settings.{settings_of};
+    ghost use Rattle.command_words.specs.Settings.{settings_given};
     ghost use Rattle.command_words.specs.Pass.{files_so_far, with_value, with_switch};
 
     /// What no option says.
     pub fn new() -> Settings
-        ensures { result ≡ settings_of [] }
+        ensures { result ≡ settings_given [] }
     {
         Settings {
             auth: Auth::Off,

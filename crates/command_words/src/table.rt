@@ -1,4 +1,4 @@
-// The verbs, their options and their operands.
+//! The verbs, their options and their operands.
 ghost use Rattle.std.specs.Prelude.{◌≡◌, ℕ, MatchOption, map, length};
 ghost use Rattle.command_words.specs.Table.{row_seen, row_of, named_among, verb_named, letter_of, entry, of_length, are_named, is_named, of_words, form_of};
 ghost use Rattle.command_words.specs.Values.{job_name};
@@ -68,7 +68,7 @@ pub enum Switch {
     FixedSize,
     /// `-C` of `attach`: the key is only tried.
     OnlyCheck,
-    /// `-r` of `attach`: the provider is only read.
+    /// `-r` of `attach`: the provider is read-only.
     ReadOnly,
     /// `-a` of `delkey`: both slots.
     AllSlots,

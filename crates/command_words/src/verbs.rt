@@ -1,4 +1,4 @@
-// What each verb is: which drawer it needs, and what it may do with that.
+//! What each verb is: which drawer it needs, and what it may do with that.
 ghost use Rattle.std.specs.Prelude.{◌≡◌};
 ghost use Rattle.command_words.specs.Traits.{allocating, job_writes, letting_go, only_reading, plain, queueing, requesting};
 ghost use Rattle.command_words.specs.Traits.{submitting, traits_of, writing};
@@ -29,7 +29,7 @@ pub struct Traits {
     pub drawer: Needs,
     /// Whether it may be refused for want of memory.
     pub lacks_memory: bool,
-    /// Whether a provider that is only read refuses it.
+    /// Whether a provider that is read-only refuses it.
     pub writes_data: bool,
     /// Whether a provider without authentication refuses it.
     pub needs_tags: bool,
@@ -105,7 +105,7 @@ fn requesting() -> Traits
     }
 }
 
-// A request that a provider refuses that is only read.
+// A request that a provider refuses that is read-only.
 fn writing() -> Traits
     ensures { result ≡ writing }
 {
@@ -136,7 +136,7 @@ fn submitting(job: &JobWords) -> Traits
     }
 }
 
-// Whether a provider that is only read refuses the request.
+// Whether a provider that is read-only refuses the request.
 fn job_writes(job: &JobWords) -> bool
     ensures { result ≡ job_writes job.now }
 {

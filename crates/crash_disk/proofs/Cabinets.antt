@@ -4,7 +4,7 @@ use mathlib.Core.Path.{fun_ext}
 use Rattle.std.proofs.lemmas.Slice.Eq.{bytes_eq-Decides}
 use Rattle.block_traits.specs.Cabinet.{with_file}
 use Rattle.crash_disk.specs.declared.mem_cabinet.NamedFile.{NamedFile}
-use Rattle.crash_disk.specs.MemCabinet.{file_in, place_in, files_of}
+use Rattle.crash_disk.specs.MemCabinet.{file_in, file_place, files_of}
 
 -- a file in the place of the first of its name, or behind all others
 abbrev pub replaced : NamedFile → List NamedFile → List NamedFile
@@ -25,10 +25,10 @@ put_at-step : (same : Bool) (place : Option ℕ) (new file : NamedFile) (files o
 put_at-step true place new file files others behind = refl
 put_at-step false place new file files others behind = put_at-next place new file files ∙ ap (λ (l : List NamedFile). file ∷ l) behind
 
-pub put_at-place_in : (new : NamedFile) (files : List NamedFile) → put_at (place_in new.name files) new files ≡ replaced new files
-put_at-place_in new [] = refl
-put_at-place_in new (file ∷ files) =
-    put_at-step (bytes_eq file.name new.name) (place_in new.name files) new file files (replaced new files) (put_at-place_in new files)
+pub put_at-file_place : (new : NamedFile) (files : List NamedFile) → put_at (file_place new.name files) new files ≡ replaced new files
+put_at-file_place new [] = refl
+put_at-file_place new (file ∷ files) =
+    put_at-step (bytes_eq file.name new.name) (file_place new.name files) new file files (replaced new files) (put_at-file_place new files)
 
 same_name : (a b : List ℕ) → bytes_eq a b ≡ true → a ≡ b
 same_name a b test = (bytes_eq-Decides a b).0 test
@@ -68,13 +68,13 @@ file_in-replaced name new (file ∷ files) =
     file_in-step (bytes_eq file.name new.name) name new file files (replaced new files) refl (file_in-replaced name new files)
 
 -- a file that was put at the place that was found for its name
-pub files_of-put_at : (name bytes : List ℕ) (files : List NamedFile) (place : Option ℕ) (new : NamedFile) → place ≡ place_in name files → new ≡ record { name = name; bytes = bytes } → files_of (put_at place new files) ≡ with_file name bytes (files_of files)
+pub files_of-put_at : (name bytes : List ℕ) (files : List NamedFile) (place : Option ℕ) (new : NamedFile) → place ≡ file_place name files → new ≡ record { name = name; bytes = bytes } → files_of (put_at place new files) ≡ with_file name bytes (files_of files)
 files_of-put_at name bytes files place new found is =
     let file : NamedFile = record { name = name; bytes = bytes } in
     ap (λ (n : NamedFile). files_of (put_at place n files)) is
     ∙ ap (λ (p : Option ℕ). files_of (put_at p file files)) found
     ∙ fun_ext (λ other.
-    ap (file_in other) (put_at-place_in file files)
+    ap (file_in other) (put_at-file_place file files)
     ∙ file_in-replaced other file files
     ∙ ap (λ (b : Bool). cond b (Some bytes) (file_in other files)) (bytes_eq-sym name other))
 
@@ -85,8 +85,8 @@ bytes_at-step false None other file files = refl
 bytes_at-step false (Some n) other file files = rw add-one refl
 
 -- the bytes of the file at the place that is found for its name
-pub file_in-place_in : (name : List ℕ) (files : List NamedFile) (other : NamedFile) → file_in name files ≡ option_map (λ n. (get_or files n other).bytes) (place_in name files)
-file_in-place_in name [] other = refl
-file_in-place_in name (file ∷ files) other =
-    ap (cond (bytes_eq file.name name) (Some file.bytes)) (file_in-place_in name files other)
-    ∙ bytes_at-step (bytes_eq file.name name) (place_in name files) other file files
+pub file_in-file_place : (name : List ℕ) (files : List NamedFile) (other : NamedFile) → file_in name files ≡ option_map (λ n. (get_or files n other).bytes) (file_place name files)
+file_in-file_place name [] other = refl
+file_in-file_place name (file ∷ files) other =
+    ap (cond (bytes_eq file.name name) (Some file.bytes)) (file_in-file_place name files other)
+    ∙ bytes_at-step (bytes_eq file.name name) (file_place name files) other file files

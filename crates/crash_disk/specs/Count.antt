@@ -6,5 +6,5 @@ abbrev pub one_more : ℕ → ℕ
 one_more count = min (count + 1) (2 ^ 64 - 1)
 
 -- so many more, but the last value stands still
-abbrev pub more : ℕ → ℕ → ℕ
-more many count = min (count + many) (2 ^ 64 - 1)
+abbrev pub raised : ℕ → ℕ → ℕ
+raised many count = min (count + many) (2 ^ 64 - 1)

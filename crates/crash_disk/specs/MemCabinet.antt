@@ -9,8 +9,8 @@ use Rattle.crash_disk.specs.declared.mem_cabinet.NamedFile.{NamedFile}
 use Rattle.crash_disk.specs.Calls.{CallsState, called, next_fails}
 use Rattle.crash_disk.specs.Count.{one_more}
 
--- its files, the calls that fail, how often it has failed, how often a file was absent or too long, and how many loads and how
--- many stores were made
+-- its files, the calls that fail, how often it has failed, how often a file was absent or too long, and how many loads
+-- and how many stores were made
 pub record MemCabinetState : Type 0 where
   pub files : List NamedFile
   pub calls : CallsState
@@ -25,9 +25,9 @@ file_in name [] = None
 file_in name (file ∷ files) = if bytes_eq file.name name then Some file.bytes else file_in name files
 
 -- the place of the first file of this name
-abbrev pub place_in : List ℕ → List NamedFile → Option ℕ
-place_in name [] = None
-place_in name (file ∷ files) = if bytes_eq file.name name then Some 0 else option_map (λ place. place + 1) (place_in name files)
+abbrev pub file_place : List ℕ → List NamedFile → Option ℕ
+file_place name [] = None
+file_place name (file ∷ files) = if bytes_eq file.name name then Some 0 else option_map (λ place. place + 1) (file_place name files)
 
 abbrev pub files_of : List NamedFile → Files
 files_of files name = file_in name files

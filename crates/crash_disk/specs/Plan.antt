@@ -1,6 +1,6 @@
 -- Which calls of a disk fail.
 use Rattle.std.specs.Prelude.{ℕ, ◌==◌, ◌&&◌, Bool, true, false, List, [], ◌∷◌, if◌then◌else◌, Option, Some, None}
-use Rattle.crash_disk.specs.Count.{more, one_more}
+use Rattle.crash_disk.specs.Count.{raised, one_more}
 use Rattle.crash_disk.specs.declared.plan.CallKind.{CallKind}
 use Rattle.crash_disk.specs.declared.plan.CallKind.TheVariants.{Read, Write, Flush}
 use Rattle.crash_disk.specs.declared.plan.FailAt.{FailAt}
@@ -34,7 +34,7 @@ counted Flush plan = record plan { flushes = one_more plan.flushes }
 
 -- so many more reads were made
 abbrev pub more_reads : ℕ → PlanState → PlanState
-more_reads many plan = record plan { reads = more many plan.reads }
+more_reads many plan = record plan { reads = raised many plan.reads }
 
 abbrev pub same_kind : CallKind → CallKind → Bool
 same_kind Read Read = true

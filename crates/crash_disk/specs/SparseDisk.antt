@@ -8,12 +8,12 @@ use Rattle.crash_disk.specs.MemDisk.{MemState}
 use Rattle.crash_disk.specs.Replay.{content}
 use Rattle.crash_disk.specs.Writes.{written}
 
-abbrev pub content_of : WriteLog → Content
-content_of log = content (written log.size log.first.items) log.events.items
+abbrev pub sparse_content : WriteLog → Content
+sparse_content log = content (written log.size log.first.items) log.events.items
 
 abbrev pub state_of : SparseDisk → MemState
 state_of disk = record {
-  content = content_of disk.log;
+  content = sparse_content disk.log;
   room = disk.log.room;
   faults = disk.faults;
   plan = disk.plan;
@@ -21,7 +21,7 @@ state_of disk = record {
 
 -- as a disk
 abbrev pub disk_of : SparseDisk → DiskState
-disk_of disk = showing (content_of disk.log) disk.faults disk.plan.reads disk.log.small disk.log.fits
+disk_of disk = showing (sparse_content disk.log) disk.faults disk.plan.reads disk.log.small disk.log.fits
 
 -- sector n held these bytes at first
 abbrev pub with_first : ℕ → List ℕ → Content → Content

@@ -3,8 +3,8 @@ use Rattle.std.specs.Prelude.{ℕ, ◌-◌, ◌==◌, ◌&&◌, ◌||◌, not, n
 use Rattle.crash_disk.specs.Calls.{CallsState, called, next_fails, piece}
 use Rattle.crash_disk.specs.Count.{one_more}
 
--- the bytes that are left, the most that each call gives, the calls that fail, how often it has failed, how often a call was
--- refused, and how often one met the end
+-- the bytes that are left, the most that each call gives, the calls that fail, how often it has failed, how often a
+-- call was refused, and how often one met the end
 pub record MemSourceState : Type 0 where
   pub left : List ℕ
   pub cuts : List ℕ
@@ -14,21 +14,21 @@ pub record MemSourceState : Type 0 where
   pub ends : ℕ
 
 -- how many bytes the next call gives, where there is so much room
-abbrev pub given : ℕ → MemSourceState → ℕ
-given room source = min (piece source.cuts source.calls room) (length source.left)
+abbrev pub next_given : ℕ → MemSourceState → ℕ
+next_given room source = min (piece source.cuts source.calls room) (length source.left)
 
 -- after the next call
 abbrev pub after_take : ℕ → MemSourceState → MemSourceState
 after_take room source = record source {
-  left = if next_fails source.calls then source.left else drop (given room source) source.left;
+  left = if next_fails source.calls then source.left else drop (next_given room source) source.left;
   calls = called source.calls;
   faults = if next_fails source.calls then one_more source.faults else source.faults;
   refused = if next_fails source.calls then one_more source.refused else source.refused;
-  ends = if not (next_fails source.calls) && given room source == 0 then one_more source.ends else source.ends;
+  ends = if not (next_fails source.calls) && next_given room source == 0 then one_more source.ends else source.ends;
 }
 
--- the bytes that it took, how many it has room for, the most that each call takes, the calls that fail, how often it has
--- failed, how often a call was refused, and how often it was given nothing
+-- the bytes that it took, how many it has room for, the most that each call takes, the calls that fail, how often it
+-- has failed, how often a call was refused, and how often it was given nothing
 pub record MemSinkState : Type 0 where
   pub bytes : List ℕ
   pub room : ℕ

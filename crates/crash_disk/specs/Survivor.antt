@@ -84,7 +84,8 @@ IsFault c picks torn (BadPick index) = IsFirstBad c picks index
 IsFault c picks torn (BadTorn index) = IsFirstBadTear c picks torn index
 IsFault c picks torn NoMemory = Unit {0}
 
--- the last of these values, how many they are, and the one at a place: what is kept of a sector's values while its events are read
+-- the last of these values, how many they are, and the one at a place: what is kept of a sector's values while its
+-- events are read
 pub record KeepsOf (values : List (List ℕ)) (place : ℕ) (keeping : Keeping) : Type 0 where
   pub some : 0 < length values
   pub last : keeping.last ≡ last_of values

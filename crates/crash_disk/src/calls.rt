@@ -1,4 +1,4 @@
-// Which calls of an object fail, and how many bytes a call moves.
+//! Which calls of an object fail, and how many bytes a call moves.
 ghost use Rattle.std.specs.Prelude.{◌≡◌, IfOk, OnOk, OnErr, []};
 ghost use Rattle.crash_disk.specs.Calls.{cut_to};
 

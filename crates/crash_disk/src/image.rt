@@ -1,4 +1,4 @@
-// Images as sectors.
+//! Images as sectors.
 ghost use Rattle.std.specs.Prelude.{◌≡◌, IfOk, replicate};
 ghost use Rattle.crash_disk.specs.Image.{sectors_of, zero_sector};
 

@@ -1,10 +1,10 @@
-// A cabinet of files in memory.
+//! A cabinet of files in memory.
 ghost use Rattle.std.specs.Prelude.{◌≡◌, ◌<◌, ◌≤◌, ◌↔◌, [], Some, IfOk, IfSome, OnOk, OnErr, IsErrOf, IsTrue, length, option_copied};
 ghost use Rattle.block_traits.specs.Cabinet.{LoadGives, stored, with_file};
 ghost use Rattle.block_traits.specs.Causes.{Counted, Rose};
 ghost use Rattle.crash_disk.specs.Calls.{failing, next_fails, with_fails};
 ghost use Rattle.crash_disk.specs.Count.{one_more};
-ghost use Rattle.crash_disk.specs.MemCabinet.{file_in, files_of, place_in};
+ghost use Rattle.crash_disk.specs.MemCabinet.{file_in, files_of, file_place};
 
 use crate::calls::Calls;
 use block_traits::{ByteList, Cabinet, LoadFault, NoMemory, StoreFault};
@@ -187,7 +187,7 @@ fn put(
 
 // The place of the first file of this name.
 fn place_of(files: &[NamedFile], name: &[u8]) -> Option<usize>
-    ensures place { result ≡ place_in name.now files.now }
+    ensures place { result ≡ file_place name.now files.now }
     ensures bound { IfSome result (λ place. place < length files.now) }
 {
     for (place, file) in files.iter().enumerate() {

@@ -1,4 +1,4 @@
-// A disk in memory, which shows its events and fails where a list says.
+//! A disk in memory, which shows its events and fails where a list says.
 ghost use Rattle.std.specs.Prelude.{◌≡◌, ◌<◌, ◌≤◌, ◌^◌, ◌/◌, ◌∷◌, [], IfOk, IsOk, OnOk, OnErr, is_err, All, length, replicate, take};
 ghost use Rattle.crash_disk.specs.Image.{sectors_of, zero_sector};
 ghost use Rattle.crash_disk.specs.Replay.{replayed};

@@ -1,4 +1,4 @@
-// Entropy in memory.
+//! Entropy in memory.
 ghost use Rattle.std.specs.Prelude.{◌≡◌, Some, IfOk, OnOk, OnErr, is_err, length};
 ghost use Rattle.std.specs.Io.KnownBytes.{prepend_known};
 ghost use Rattle.block_traits.specs.Causes.{Counted, HasCause};

@@ -1,4 +1,4 @@
-// A source in memory.
+//! A source in memory.
 ghost use Rattle.std.specs.Prelude.{◌≡◌, ◌<◌, ◌≤◌, Some, IfOk, OnOk, OnErr, is_err, length, take};
 ghost use Rattle.std.specs.Io.KnownBytes.{prepend_known, IsAtEnd};
 ghost use Rattle.block_traits.specs.Causes.{Counted, HasCause};
@@ -63,7 +63,7 @@ impl MemSource {
 }
 
 impl Source for MemSource {
-    ghost use Rattle.crash_disk.specs.Streams.{after_take, given};
+    ghost use Rattle.crash_disk.specs.Streams.{after_take, next_given};
 
     ghost state = { λ source. record { left = Some source.left; faults = source.faults; refused = source.refused; ends = source.ends } };
 
@@ -80,7 +80,7 @@ impl Source for MemSource {
         ensures gave { IfOk result (λ k. 0 < k → self.new.ends ≡ self.old.ends) }
         ensures unended { OnErr result (self.new.ends ≡ self.old.ends) }
         ensures answer { is_err result ≡ next_fails self.old.calls }
-        ensures count { IfOk result (λ k. k ≡ given (length into.old) self.old) }
+        ensures count { IfOk result (λ k. k ≡ next_given (length into.old) self.old) }
         ensures after { self.new ≡ after_take (length into.old) self.old }
     {
         let most = self.calls.piece(&self.cuts, into.len());

@@ -1,4 +1,4 @@
-// Which calls of a disk fail.
+//! Which calls of a disk fail.
 ghost use Rattle.std.specs.Prelude.{◌≡◌, OnOk, OnErr};
 ghost use Rattle.crash_disk.specs.Plan.{lands_at};
 

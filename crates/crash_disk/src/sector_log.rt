@@ -1,4 +1,4 @@
-// Sectors in memory, with all that was done to them.
+//! Sectors in memory, with all that was done to them.
 ghost use Rattle.std.specs.Prelude.{◌≡◌, ◌<◌, ◌≤◌, ◌^◌, ◌∷◌, [], ◌↔◌, IfOk, IsTrue, All, length, slice_set, take, vec_capacity};
 ghost use Rattle.block_traits.specs.Content.{IsContentOf, IsEventOf, IsSector, present};
 ghost use Rattle.block_traits.proofs.Props.{IsContentOf-prop};

@@ -1,4 +1,4 @@
-// What a crash leaves of a disk in memory that keeps written sectors alone.
+//! What a crash leaves of a disk in memory that keeps written sectors alone.
 ghost use Rattle.std.specs.Prelude.{◌≡◌, ◌<◌, ◌≤◌, [], List, IfOk, IfErr, IfSome, IfNone, OnOk, length};
 ghost use Rattle.std.specs.Bool.{OnTrue, OnFalse};
 ghost use Rattle.block_traits.specs.Content.{IsSector, at_moment};

@@ -1,4 +1,4 @@
-// A disk in memory that keeps written sectors alone.
+//! A disk in memory that keeps written sectors alone.
 ghost use Rattle.std.specs.Prelude.{◌≡◌, ◌<◌, ◌≤◌, ◌^◌, ◌∷◌, [], IfOk, OnOk, OnErr, is_err, get_or, length, replicate, take};
 ghost use Rattle.block_traits.specs.Content.{present};
 ghost use Rattle.crash_disk.specs.Image.{zero_sector};
@@ -24,7 +24,7 @@ impl SparseDisk {
     ghost use Rattle.crash_disk.specs.Count.{one_more};
     ghost use Rattle.crash_disk.specs.MemDisk.{after_change, change_fails, fresh, with_plan};
     ghost use Rattle.crash_disk.specs.Plan.{no_plan, with_entries};
-    ghost use Rattle.crash_disk.specs.SparseDisk.{after_put, content_of, disk_of, state_of};
+    ghost use Rattle.crash_disk.specs.SparseDisk.{after_put, sparse_content, disk_of, state_of};
 
     /// A disk of so many sectors of zeros, with room for so many events.
     pub fn new(alloc: Global, sectors: u64, room: u64) -> Result<SparseDisk, NoMemory>
@@ -46,7 +46,7 @@ impl SparseDisk {
 
     // A disk of these sectors, of which no call was made.
     fn of(alloc: Global, log: WriteLog) -> SparseDisk
-        ensures { state_of result ≡ record { content = content_of log; room = log.room; faults = 0; plan = no_plan } }
+        ensures { state_of result ≡ record { content = sparse_content log; room = log.room; faults = 0; plan = no_plan } }
     {
         SparseDisk {
             log,

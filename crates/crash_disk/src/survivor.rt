@@ -1,4 +1,4 @@
-// What a crash leaves of a disk in memory.
+//! What a crash leaves of a disk in memory.
 ghost use Rattle.std.specs.Prelude.{◌≡◌, ◌<◌, ◌≤◌, ◌+◌, ◌-◌, ◌^◌, ◌++◌, ◌∷◌, [], ℕ, List, IfOk, IfErr, IfSome, IfNone, All, length, slice_get, slice_set};
 ghost use Rattle.std.specs.Bool.{OnTrue, OnFalse};
 ghost use Rattle.block_traits.specs.Content.{IsSector, at_moment, kept_after};

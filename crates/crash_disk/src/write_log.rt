@@ -1,4 +1,4 @@
-// Sectors in memory that are zeros but for what was written, with all that was done to them.
+//! Sectors in memory that are zeros but for what was written, with all that was done to them.
 ghost use Rattle.std.specs.Prelude.{◌≡◌, ◌<◌, ◌≤◌, ◌^◌, ◌∷◌, [], ◌↔◌, IfOk, OnOk, OnErr, IsTrue, All, get_or, length, replicate, take, vec_capacity};
 ghost use Rattle.block_traits.specs.Content.{IsContentOf, IsEventOf, IsSector, present, present_after, with_events};
 ghost use Rattle.block_traits.proofs.Props.{IsContentOf-prop};
@@ -24,13 +24,13 @@ pub struct WriteLog {
 }
 
 impl WriteLog {
-    ghost use Rattle.crash_disk.specs.SparseDisk.{content_of, with_first};
+    ghost use Rattle.crash_disk.specs.SparseDisk.{sparse_content, with_first};
 
     /// So many sectors, which these events made of zeros, with room for so many more events.
     pub fn new(alloc: Global, size: u64, first: Vec<Event>, room: u64) -> Result<WriteLog, NoMemory>
         requires small { length (written size first.items) < 2 ^ 44 }
         requires sectors { All IsSector (written size first.items) }
-        ensures content { IfOk result (λ log. content_of log ≡ content (written size first.items) []) }
+        ensures content { IfOk result (λ log. sparse_content log ≡ content (written size first.items) []) }
         ensures room { IfOk result (λ log. log.room ≡ room) }
     {
         let events = Vec::with_capacity(alloc, room as usize)?;
@@ -44,23 +44,23 @@ impl WriteLog {
 
     /// How many sectors there are.
     pub fn len(&self) -> u64
-        ensures { result ≡ length (content_of self.now).base }
+        ensures { result ≡ length (sparse_content self.now).base }
     {
         self.size
     }
 
     /// What sector `n` held at first.
     pub fn first(&self, n: u64) -> Sector
-        requires { n < length (content_of self.now).base }
-        ensures { result ≡ get_or (content_of self.now).base n [] }
+        requires { n < length (sparse_content self.now).base }
+        ensures { result ≡ get_or (sparse_content self.now).base n [] }
     {
         value_after(&self.first, n, &zeros())
     }
 
     /// What stands in sector `n` now.
     pub fn get(&self, n: u64) -> Sector
-        requires { n < length (content_of self.now).base }
-        ensures { result ≡ present (content_of self.now) n }
+        requires { n < length (sparse_content self.now).base }
+        ensures { result ≡ present (sparse_content self.now) n }
     {
         value_after(&self.events, n, &self.first(n))
     }
@@ -81,7 +81,7 @@ impl WriteLog {
 
     /// What was written at first, over zeros.
     pub fn earlier(&self) -> &[Event]
-        ensures { written self.now.size result.now ≡ (content_of self.now).base }
+        ensures { written self.now.size result.now ≡ (sparse_content self.now).base }
     {
         self.first.as_slice()
     }
@@ -96,7 +96,7 @@ impl WriteLog {
     /// The sectors after the first events, with the same room.
     pub fn at(&self, alloc: Global, moment: usize) -> Result<WriteLog, NoMemory>
         requires { moment ≤ length self.now.events.items }
-        ensures content { IfOk result (λ log. content_of log ≡ content (replayed (content_of self.now).base (take moment self.now.events.items)) []) }
+        ensures content { IfOk result (λ log. sparse_content log ≡ content (replayed (sparse_content self.now).base (take moment self.now.events.items)) []) }
         ensures room { IfOk result (λ log. log.room ≡ self.now.room) }
     {
         let mut first = Vec::from_slice(alloc, &self.first)?;
@@ -106,9 +106,9 @@ impl WriteLog {
 
     /// Makes sector `n` hold these bytes at first.
     pub fn put(&mut self, n: u64, bytes: &Sector) -> Result<(), NoMemory>
-        requires { n < length (content_of self.old).base }
-        ensures ok { OnOk result (content_of self.new ≡ with_first n bytes.now (content_of self.old)) }
-        ensures err { OnErr result (content_of self.new ≡ content_of self.old) }
+        requires { n < length (sparse_content self.old).base }
+        ensures ok { OnOk result (sparse_content self.new ≡ with_first n bytes.now (sparse_content self.old)) }
+        ensures err { OnErr result (sparse_content self.new ≡ sparse_content self.old) }
         ensures room { self.new.room ≡ self.old.room }
     {
         self.first.reserve(1)?;
@@ -119,8 +119,8 @@ impl WriteLog {
     /// Does what an event says.
     pub fn append(&mut self, event: Event)
         requires room { length self.old.events.items < self.old.room }
-        requires fits { IsEventOf (length (content_of self.old).base) event }
-        ensures content { content_of self.new ≡ with_events (event ∷ []) (content_of self.old) }
+        requires fits { IsEventOf (length (sparse_content self.old).base) event }
+        ensures content { sparse_content self.new ≡ with_events (event ∷ []) (sparse_content self.old) }
         ensures room { self.new.room ≡ self.old.room }
     {
         self.events.push_reserved(event);

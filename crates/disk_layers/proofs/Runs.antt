@@ -8,7 +8,7 @@ use Rattle.block_traits.specs.declared.disk.Event.TheVariants.{Write}
 use Rattle.block_traits.specs.Disk.{DiskState, write_events, writes_from}
 use Rattle.block_traits.specs.Parts.{parts}
 use Rattle.block_traits.proofs.PartLists.{length-parts}
-use Rattle.disk_layers.specs.Concat.{BothDo, Does, FailsToDo, first_events, second_events}
+use Rattle.disk_layers.specs.Concat.{BothDo, LogsOnly, FailsToDo, first_events, second_events}
 
 -- ---- the sectors of each
 
@@ -125,8 +125,8 @@ module _ (size n k : ℕ) (bytes : List ℕ) where
 -- ---- what was done, by what each of the two did
 
 module _ {A B : Type 0} (a : A → DiskState) (b : B → DiskState) (size n k : ℕ) (bytes : List ℕ) (old new : A) (old_second new_second : B) where
-  first-did : size ≡ (a old).size → k ≡ min (size - n) (length bytes / 512) → Does a (write_events n (take (512 * k) bytes)) old new → Does a (first_events (a old).size (write_events n bytes)) old new
-  first-did same is did = subst (λ (m : ℕ). Does a (first_events m (write_events n bytes)) old new) same (subst (λ (events : List Event). Does a events old new) (sym (first-run size n k bytes is)) did)
+  first-did : size ≡ (a old).size → k ≡ min (size - n) (length bytes / 512) → LogsOnly a (write_events n (take (512 * k) bytes)) old new → LogsOnly a (first_events (a old).size (write_events n bytes)) old new
+  first-did same is did = subst (λ (m : ℕ). LogsOnly a (first_events m (write_events n bytes)) old new) same (subst (λ (events : List Event). LogsOnly a events old new) (sym (first-run size n k bytes is)) did)
 
   pub first-failed : (result : Result (Unit {0}) DiskFailed) → IsErr result → size ≡ (a old).size → k ≡ min (size - n) (length bytes / 512) → FailsToDo a (write_events n (take (512 * k) bytes)) old new
       → BothDo a b (write_events n bytes) old new old_second old_second result
@@ -134,10 +134,10 @@ module _ {A B : Type 0} (a : A → DiskState) (b : B → DiskState) (size n k : 
   first-failed (Err fault) is_err same is failed =
       inl (subst (λ (m : ℕ). FailsToDo a (first_events m (write_events n bytes)) old new) same (subst (λ (events : List Event). FailsToDo a events old new) (sym (first-run size n k bytes is)) failed), refl)
 
-  pub second-answered : (result : Result (Unit {0}) DiskFailed) → size ≡ (a old).size → k ≡ min (size - n) (length bytes / 512) → Does a (write_events n (take (512 * k) bytes)) old new
-      → OnOk result (Does b (write_events (n - size) (drop (512 * k) bytes)) old_second new_second) → OnErr result (FailsToDo b (write_events (n - size) (drop (512 * k) bytes)) old_second new_second)
+  pub second-answered : (result : Result (Unit {0}) DiskFailed) → size ≡ (a old).size → k ≡ min (size - n) (length bytes / 512) → LogsOnly a (write_events n (take (512 * k) bytes)) old new
+      → OnOk result (LogsOnly b (write_events (n - size) (drop (512 * k) bytes)) old_second new_second) → OnErr result (FailsToDo b (write_events (n - size) (drop (512 * k) bytes)) old_second new_second)
       → BothDo a b (write_events n bytes) old new old_second new_second result
   second-answered (Ok done) same is first ok err =
-      (first-did same is first, subst (λ (m : ℕ). Does b (second_events m (write_events n bytes)) old_second new_second) same (subst (λ (events : List Event). Does b events old_second new_second) (sym (second-run size n k bytes is)) ok))
+      (first-did same is first, subst (λ (m : ℕ). LogsOnly b (second_events m (write_events n bytes)) old_second new_second) same (subst (λ (events : List Event). LogsOnly b events old_second new_second) (sym (second-run size n k bytes is)) ok))
   second-answered (Err fault) same is first ok err =
       inr (first-did same is first, subst (λ (m : ℕ). FailsToDo b (second_events m (write_events n bytes)) old_second new_second) same (subst (λ (events : List Event). FailsToDo b events old_second new_second) (sym (second-run size n k bytes is)) err))

@@ -7,16 +7,16 @@ use Rattle.block_traits.specs.Disk.{DiskState, FailsIn, Logs, untold}
 use Rattle.disk_layers.specs.Calls.{AsksSector, ChangesSector}
 
 -- as a disk: the sectors, the faults and the reads of both, and no content
-abbrev pub joined : (a b : DiskState) → a.size + b.size < 2 ^ 44 → DiskState
-joined a b small = untold (a.size + b.size) (a.faults + b.faults) (a.reads + b.reads) small
+abbrev pub joined_disks : (a b : DiskState) → a.size + b.size < 2 ^ 44 → DiskState
+joined_disks a b small = untold (a.size + b.size) (a.faults + b.faults) (a.reads + b.reads) small
 
 -- a flush was logged, and no read was asked for
-pub record IsFlushed (old new : DiskState) : Type 0 where
+pub record LogsFlush (old new : DiskState) : Type 0 where
   pub logs : Logs (Flush ∷ []) old new
   pub unasked : new.reads ≡ old.reads
 
 -- the disk failed, and a flush was logged or wasn't
-pub record RefusesFlush (old new : DiskState) : Type 0 where
+pub record FailsInFlush (old new : DiskState) : Type 0 where
   pub fails : FailsIn (Flush ∷ []) old new
   pub unasked : new.reads ≡ old.reads
 
@@ -32,10 +32,10 @@ pub record WritesOne {A B : Type 0} (a : A → DiskState) (b : B → DiskState) 
 
 -- both were flushed; or the first refused and the second is as it was; or the first was flushed and the second refused
 abbrev pub FlushesBoth : {A B : Type 0} → (A → DiskState) → (B → DiskState) → A → A → B → B → Result (Unit {0}) DiskFailed → Type 0
-FlushesBoth a b old new old_second new_second (Ok done) = IsFlushed (a old) (a new) × IsFlushed (b old_second) (b new_second)
+FlushesBoth a b old new old_second new_second (Ok done) = LogsFlush (a old) (a new) × LogsFlush (b old_second) (b new_second)
 FlushesBoth a b old new old_second new_second (Err failed) =
-    (RefusesFlush (a old) (a new) × (new_second ≡ old_second))
-    ⊎ (IsFlushed (a old) (a new) × RefusesFlush (b old_second) (b new_second))
+    (FailsInFlush (a old) (a new) × (new_second ≡ old_second))
+    ⊎ (LogsFlush (a old) (a new) × FailsInFlush (b old_second) (b new_second))
 
 -- ---- what is logged
 
@@ -59,7 +59,7 @@ pub record BothLog (events : List Event) (a new_a b new_b : DiskState) : Type 0 
 -- ---- writing whole sectors
 
 -- these events were logged, and no read was asked for; where there are none, the disk is as it was
-pub record Does {A : Type 0} (a : A → DiskState) (events : List Event) (old new : A) : Type 0 where
+pub record LogsOnly {A : Type 0} (a : A → DiskState) (events : List Event) (old new : A) : Type 0 where
   pub logs : Logs events (a old) (a new)
   pub unasked : (a new).reads ≡ (a old).reads
   pub untouched : events ≡ [] → new ≡ old
@@ -73,7 +73,7 @@ pub record FailsToDo {A : Type 0} (a : A → DiskState) (events : List Event) (o
 -- the first did its own and the second failed in its own
 abbrev pub BothDo : {A B : Type 0} → (A → DiskState) → (B → DiskState) → List Event → A → A → B → B → Result (Unit {0}) DiskFailed → Type 0
 BothDo a b events old new old_second new_second (Ok done) =
-    Does a (first_events (a old).size events) old new × Does b (second_events (a old).size events) old_second new_second
+    LogsOnly a (first_events (a old).size events) old new × LogsOnly b (second_events (a old).size events) old_second new_second
 BothDo a b events old new old_second new_second (Err failed) =
     (FailsToDo a (first_events (a old).size events) old new × (new_second ≡ old_second))
-    ⊎ (Does a (first_events (a old).size events) old new × FailsToDo b (second_events (a old).size events) old_second new_second)
+    ⊎ (LogsOnly a (first_events (a old).size events) old new × FailsToDo b (second_events (a old).size events) old_second new_second)

@@ -2,8 +2,8 @@
 use Rattle.block_traits.specs.declared.disk.Disk.{Ghosts}
 use Rattle.block_traits.specs.Disk.{DiskState}
 use Rattle.disk_layers.specs.declared.concat.Concat.{Concat}
-use Rattle.disk_layers.specs.Concat.{joined}
+use Rattle.disk_layers.specs.Concat.{joined_disks}
 
 module _ {A B : Type 0} {g : Ghosts A} {h : Ghosts B} where
   abbrev pub disk_of : Concat A B g h → DiskState
-  disk_of c = joined (g.state c.first) (h.state c.second) c.small
+  disk_of c = joined_disks (g.state c.first) (h.state c.second) c.small

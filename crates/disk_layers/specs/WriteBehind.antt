@@ -50,10 +50,10 @@ pub record RefusesRead (old new : Behind) : Type 0 where
 
 -- what a read of sector n answers, where these bytes wait for it: the last of them, and nothing else happens; or what
 -- stands below
-abbrev pub ReadAnswers : Option (List ℕ) → ℕ → List ℕ → Behind → Behind → Result (Unit {0}) DiskFailed → Type 0
-ReadAnswers (Some last) n bytes old new result = (result ≡ Ok tt) × (bytes ≡ last) × (new ≡ old)
-ReadAnswers None n bytes old new (Ok done) = ReadsBelow n bytes old new
-ReadAnswers None n bytes old new (Err failed) = RefusesRead old new
+abbrev pub BehindReadAnswers : Option (List ℕ) → ℕ → List ℕ → Behind → Behind → Result (Unit {0}) DiskFailed → Type 0
+BehindReadAnswers (Some last) n bytes old new result = (result ≡ Ok tt) × (bytes ≡ last) × (new ≡ old)
+BehindReadAnswers None n bytes old new (Ok done) = ReadsBelow n bytes old new
+BehindReadAnswers None n bytes old new (Err failed) = RefusesRead old new
 
 -- ---- writing, which reads nothing
 
@@ -80,19 +80,19 @@ pub record RefusesWrite (old new : Behind) : Type 0 where
   pub clean : new.clean ≡ false
 
 -- what a write answers: where fewer wait than may, it is Ok and waits
-abbrev pub WriteAnswers : Waiting → Behind → Behind → Result (Unit {0}) DiskFailed → Type 0
-WriteAnswers write old new (Ok done) =
+abbrev pub BehindWriteAnswers : Waiting → Behind → Behind → Result (Unit {0}) DiskFailed → Type 0
+BehindWriteAnswers write old new (Ok done) =
     (length old.waiting < old.room → PutsBehind write old new) × (old.room ≤ length old.waiting → MakesRoom write old new)
-WriteAnswers write old new (Err failed) = (old.room ≤ length old.waiting) × RefusesWrite old new
+BehindWriteAnswers write old new (Err failed) = (old.room ≤ length old.waiting) × RefusesWrite old new
 
 -- a write of one sector
-abbrev pub WritesSector : ℕ → List ℕ → Behind → Behind → Result (Unit {0}) DiskFailed → Type 0
-WritesSector n bytes old new result = WriteAnswers (record { n = n; bytes = bytes }) old new result
+abbrev pub BehindWritesSector : ℕ → List ℕ → Behind → Behind → Result (Unit {0}) DiskFailed → Type 0
+BehindWritesSector n bytes old new result = BehindWriteAnswers (record { n = n; bytes = bytes }) old new result
 
 -- ---- flushing, which reads nothing
 
 -- what waited was written below, in order, and then the disk was flushed
-pub record Flushes (old new : Behind) : Type 0 where
+pub record FlushesWaiting (old new : Behind) : Type 0 where
   pub logs : Logs (writes_of old.waiting ++ Flush ∷ []) old.under new.under
   pub unasked : new.under.reads ≡ old.under.reads
   pub none : new.waiting ≡ []
@@ -110,7 +110,7 @@ pub record RefusesFlush (old new : Behind) : Type 0 where
   pub clean : new.clean ≡ false
 
 abbrev pub FlushAnswers : Behind → Behind → Result (Unit {0}) DiskFailed → Type 0
-FlushAnswers old new (Ok done) = Flushes old new
+FlushAnswers old new (Ok done) = FlushesWaiting old new
 FlushAnswers old new (Err failed) = RefusesWrite old new ⊎ RefusesFlush old new
 
 -- the disk that a flush leaves

@@ -1,7 +1,7 @@
-// Two disks as one, the second behind the first.
+//! Two disks as one, the second behind the first.
 ghost use Rattle.std.specs.Prelude.{◌≡◌, ◌+◌, ◌-◌, ◌/◌, ◌%◌, ◌<◌, ◌≤◌, ◌^◌, ◌∷◌, [], OnOk, OnErr, length};
 ghost use Rattle.block_traits.specs.Disk.{write_events};
-ghost use Rattle.disk_layers.specs.Concat.{AsksOne, BothDo, BothLog, Does, FailsToDo, FlushesBoth, WritesOne};
+ghost use Rattle.disk_layers.specs.Concat.{AsksOne, BothDo, BothLog, LogsOnly, FailsToDo, FlushesBoth, WritesOne};
 
 use block_traits::{Disk, DiskFailed, Event, Sector};
 
@@ -91,7 +91,7 @@ impl<A: Disk, B: Disk> Concat<A, B> {
 fn write_some<D: Disk>(disk: &mut D, first: u64, from: &[u8]) -> Result<(), DiskFailed>
     requires whole { length from.now % 512 ≡ 0 }
     requires inside { 512 ≤ length from.now → first + length from.now / 512 ≤ (D.state disk.old).size }
-    ensures ok { OnOk result (Does D.state (write_events first from.now) disk.old disk.new) }
+    ensures ok { OnOk result (LogsOnly D.state (write_events first from.now) disk.old disk.new) }
     ensures err { OnErr result (FailsToDo D.state (write_events first from.now) disk.old disk.new) }
 {
     if from.is_empty() {

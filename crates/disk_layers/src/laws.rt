@@ -1,4 +1,4 @@
-// What holds of two disks as one and of writes that wait, whatever the disks below.
+//! What holds of two disks as one and of writes that wait, whatever the disks below.
 ghost use Rattle.std.specs.Prelude.{◌≡◌, ◌+◌, ◌-◌, ◌<◌, ◌≤◌, ℕ, List, ◌++◌, Contains};
 ghost use Rattle.block_traits.specs.declared.disk.Event.{Event};
 ghost use Rattle.block_traits.specs.Content.{Content, kept_after, kept_values, logged, with_events};

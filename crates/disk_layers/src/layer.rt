@@ -1,4 +1,4 @@
-// What the name of an image asks for.
+//! What the name of an image asks for.
 ghost use Rattle.std.specs.Prelude.{◌≡◌, ◌↔◌, ◌==◌, ◌<◌, ℕ, IfSome, length};
 ghost use Rattle.std.specs.List.{position_from};
 ghost use Rattle.disk_layers.specs.Names.{IsBehind, IsJoin};

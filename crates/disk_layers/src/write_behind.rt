@@ -1,4 +1,4 @@
-// Writes that are kept back from a disk.
+//! Writes that are kept back from a disk.
 ghost use Rattle.std.specs.Prelude.{◌≡◌, ◌<◌, ◌≤◌, ◌∷◌, [], IfOk, IfErr, OnOk, OnErr, false, length};
 ghost use Rattle.std.specs.VecDeque.{deque_len, deque_capacity};
 ghost use Rattle.block_traits.specs.Causes.{Counted, Rose};
@@ -34,7 +34,7 @@ pub struct WriteBehind<D: Disk> {
 }
 
 impl<D: Disk> WriteBehind<D> {
-    ghost use Rattle.disk_layers.specs.WriteBehind.{EndsAnswers, FlushAnswers, IsNew, ReadAnswers, WriteAnswers, behind_of, order};
+    ghost use Rattle.disk_layers.specs.WriteBehind.{EndsAnswers, FlushAnswers, IsNew, BehindReadAnswers, BehindWriteAnswers, behind_of, order};
 
     /// A disk for which up to `room` writes may wait. Where there is no memory for them the disk comes back.
     pub fn new(alloc: Global, under: D, room: u32) -> Result<WriteBehind<D>, (D, NoMemory)>
@@ -61,7 +61,7 @@ impl<D: Disk> WriteBehind<D> {
     /// is read once. `DiskFailed` comes only where the disk below failed.
     pub fn read_at(&mut self, n: u64, into: &mut Sector) -> Result<(), DiskFailed>
         requires { n < (D.state self.old.under).size }
-        ensures answer { ReadAnswers (last_waiting n self.old.waiting.items) n into.new (behind_of D.state self.old) (behind_of D.state self.new) result }
+        ensures answer { BehindReadAnswers (last_waiting n self.old.waiting.items) n into.new (behind_of D.state self.old) (behind_of D.state self.new) result }
         ensures gives { OnOk result (GivesFrom (order (behind_of D.state self.old)) n into.new) }
         ensures order { order (behind_of D.state self.new) ≡ order (behind_of D.state self.old) }
         ensures rose { OnErr result (Rose (D.state self.old.under).faults (D.state self.new.under).faults) }
@@ -86,7 +86,7 @@ impl<D: Disk> WriteBehind<D> {
     /// refused and those behind it wait still, and this one isn't taken.
     pub fn write_at(&mut self, n: u64, from: &Sector) -> Result<(), DiskFailed>
         requires { n < (D.state self.old.under).size }
-        ensures answer { WriteAnswers (record { n = n; bytes = from.now }) (behind_of D.state self.old) (behind_of D.state self.new) result }
+        ensures answer { BehindWriteAnswers (record { n = n; bytes = from.now }) (behind_of D.state self.old) (behind_of D.state self.new) result }
         ensures order { OnOk result (order (behind_of D.state self.new) ≡ logged (Event.Write n from.now ∷ []) (order (behind_of D.state self.old))) }
         ensures rose { OnErr result (Rose (D.state self.old.under).faults (D.state self.new.under).faults) }
         ensures unasked { self.new.reads ≡ self.old.reads }
@@ -205,7 +205,7 @@ fn last_of(waiting: &VecDeque<Waiting>, n: u64) -> Option<Sector>
 impl<D: Disk> Disk for WriteBehind<D> {
     ghost use Rattle.std.specs.Prelude.{◌/◌, ◌%◌, ◌+◌};
     ghost use Rattle.block_traits.specs.EachWritten.{EachWritten};
-    ghost use Rattle.disk_layers.specs.WriteBehind.{FlushAnswers, ReadAnswers, WriteAnswers, WritesSector, behind_of, disk_of};
+    ghost use Rattle.disk_layers.specs.WriteBehind.{FlushAnswers, BehindReadAnswers, BehindWriteAnswers, BehindWritesSector, behind_of, disk_of};
     ghost use Rattle.block_traits.specs.Disk.{FailsIn, Gives, write_events};
     ghost use Rattle.block_traits.specs.Parts.{parts};
 
@@ -221,7 +221,7 @@ impl<D: Disk> Disk for WriteBehind<D> {
         ensures ok { OnOk result (Logs [] (disk_of D.state self.old) (disk_of D.state self.new)) }
         ensures err { OnErr result (FailsIn [] (disk_of D.state self.old) (disk_of D.state self.new)) }
         ensures asked { Counted 1 (disk_of D.state self.old).reads (disk_of D.state self.new).reads }
-        ensures answer { ReadAnswers (last_waiting n self.old.waiting.items) n into.new (behind_of D.state self.old) (behind_of D.state self.new) result }
+        ensures answer { BehindReadAnswers (last_waiting n self.old.waiting.items) n into.new (behind_of D.state self.old) (behind_of D.state self.new) result }
     {
         self.read_at(n, into)
     }
@@ -240,7 +240,7 @@ impl<D: Disk> Disk for WriteBehind<D> {
         ensures ok { OnOk result (Logs (Event.Write n from.now ∷ []) (disk_of D.state self.old) (disk_of D.state self.new)) }
         ensures err { OnErr result (FailsIn (Event.Write n from.now ∷ []) (disk_of D.state self.old) (disk_of D.state self.new)) }
         ensures unasked { (disk_of D.state self.new).reads ≡ (disk_of D.state self.old).reads }
-        ensures answer { WriteAnswers (record { n = n; bytes = from.now }) (behind_of D.state self.old) (behind_of D.state self.new) result }
+        ensures answer { BehindWriteAnswers (record { n = n; bytes = from.now }) (behind_of D.state self.old) (behind_of D.state self.new) result }
     {
         self.write_at(n, from)
     }
@@ -252,7 +252,7 @@ impl<D: Disk> Disk for WriteBehind<D> {
         ensures ok { OnOk result (Logs (write_events first from.now) (disk_of D.state self.old) (disk_of D.state self.new)) }
         ensures err { OnErr result (FailsIn (write_events first from.now) (disk_of D.state self.old) (disk_of D.state self.new)) }
         ensures unasked { (disk_of D.state self.new).reads ≡ (disk_of D.state self.old).reads }
-        ensures answer { EachWritten WritesSector first (parts 512 (length from.now / 512) from.now) (behind_of D.state self.old) (behind_of D.state self.new) result }
+        ensures answer { EachWritten BehindWritesSector first (parts 512 (length from.now / 512) from.now) (behind_of D.state self.old) (behind_of D.state self.new) result }
     {
         for j in 0..from.len() / 512 {
             self.write(first + j as u64, &sector_of(from, j))?;

@@ -1,4 +1,4 @@
-// A file whose sectors are those of a disk, and which tells what the disk does.
+//! A file whose sectors are those of a disk, and which tells what the disk does.
 ghost use Rattle.std.specs.Prelude.{◌≡◌, ◌*◌, None, Some};
 
 use block_traits::Disk;

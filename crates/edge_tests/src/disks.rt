@@ -1,4 +1,4 @@
-// The disks of images over the system's own files.
+//! The disks of images over the system's own files.
 use block_traits::Disk;
 use file_edge::{FileDisk, FileId, FileKind, ImageFile, Opener, SystemFiles};
 use image_layers::{ImageDisk, open_image};
@@ -212,7 +212,8 @@ fn more_than_may_wait_ends_in_its_file(rt: HostRuntime) -> Result<(), Fail> {
     Ok(())
 }
 
-// Each of the four calls of a file that has an image does just what it says, and what is found of a name is by its kind.
+// Each of the four calls of a file that has an image does just what it says, and what is found of a name is by its
+// kind.
 #[test]
 fn a_file_of_the_system_keeps_its_promises(rt: HostRuntime) -> Result<(), Fail> {
     let name = "promises.img";

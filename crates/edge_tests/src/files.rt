@@ -1,4 +1,4 @@
-// A cabinet over the system's own files.
+//! A cabinet over the system's own files.
 use block_traits::{Cabinet, LoadFault};
 use file_edge::{FileCabinet, SystemFiles};
 use image_layers::open_image;

@@ -1,4 +1,4 @@
-// A disk in memory whose events stay where a test sees them.
+//! A disk in memory whose events stay where a test sees them.
 use block_traits::{Disk, DiskFailed, Event, Sector};
 use crash_disk::MemDisk;
 use std::cell::RefCell;

@@ -1,4 +1,4 @@
-// A store over files in memory, each of whose requests can fail.
+//! A store over files in memory, each of whose requests can fail.
 ghost use Rattle.std.specs.Prelude.{◌≡◌, ◌++◌, Some, is_ok, string_bytes};
 ghost use Rattle.file_edge.specs.Asked.{asking};
 
@@ -16,8 +16,8 @@ fn some_file() -> FileId {
     }
 }
 
-// An opener in memory that keeps all that it was asked, and tells it. Something has as many names beside as are met, and the
-// request of this number fails, counted from 1.
+// An opener in memory that keeps all that it was asked, and tells it. Something has as many names beside as are met,
+// and the request of this number fails, counted from 1.
 #[derive(Drop)]
 struct KeptFiles<R: Abort + Drop> {
     rt: R,
@@ -29,11 +29,11 @@ struct KeptFiles<R: Abort + Drop> {
 }
 
 impl<R: Abort + Drop> KeptFiles<R> {
-    ghost use Rattle.file_edge.specs.Kept.{kept_asks, request_of};
+    ghost use Rattle.file_edge.specs.Kept.{kept_asks, kept_request};
 
     // Keeps a request; the test ends where there is no memory.
     fn keep(&mut self, ask: Ask, done: bool)
-        ensures kept { kept_asks self.new.asked.items ≡ kept_asks self.old.asked.items ++ asking (request_of ask) done }
+        ensures kept { kept_asks self.new.asked.items ≡ kept_asks self.old.asked.items ++ asking (kept_request ask) done }
         ensures refusals { self.new.refusals ≡ self.old.refusals }
     {
         self.asked
@@ -49,7 +49,7 @@ impl<R: Abort + Drop> KeptFiles<R> {
 
     // Keeps a request that can fail.
     fn keep_fallible(&mut self, ask: Ask) -> io::Result<()>
-        ensures kept { kept_asks self.new.asked.items ≡ kept_asks self.old.asked.items ++ asking (request_of ask) (is_ok result) }
+        ensures kept { kept_asks self.new.asked.items ≡ kept_asks self.old.asked.items ++ asking (kept_request ask) (is_ok result) }
         ensures refusals { self.new.refusals ≡ self.old.refusals }
     {
         let fails = self.fails_now();
@@ -169,8 +169,8 @@ fn letter(ask: &Ask) -> u8 {
     }
 }
 
-// Each request failing in turn: a file that wasn't synced takes no name, and no other file is left; names beside that something
-// has stay.
+// Each request failing in turn: a file that wasn't synced takes no name, and no other file is left; names beside that
+// something has stay.
 #[test]
 fn a_store_stops_at_the_first_failure(rt: HostRuntime) -> Result<(), Fail> {
     let alloc = rt.alloc();

@@ -1,4 +1,4 @@
-// Streams that are interrupted, and the random bytes of the system.
+//! Streams that are interrupted, and the random bytes of the system.
 use block_traits::{Entropy, Sink, Source};
 use file_edge::{InputSource, OutputSink, RandomFile, SystemFiles};
 use std::io::{self, ErrorKind, Read, Write};

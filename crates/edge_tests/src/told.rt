@@ -1,4 +1,4 @@
-// Runs of words over files in memory that tell what they hold.
+//! Runs of words over files in memory that tell what they hold.
 ghost use Rattle.std.specs.Prelude.{None};
 
 use crate::disk_file::DiskFile;
@@ -205,7 +205,8 @@ fn joined(alloc: Global, parts: &[&str]) -> Result<Vec<u8>, AllocError> {
     Ok(script)
 }
 
-// The session of the acceptance cases, through all of the program but what opens files: its output, and each event of the image.
+// The session of the acceptance cases, through all of the program but what opens files: its output, and each event of
+// the image.
 #[test]
 fn an_ordinary_session_leaves_its_bytes(rt: HostRuntime) -> Result<(), Fail> {
     let alloc = rt.alloc();
@@ -229,7 +230,8 @@ fn replies(alloc: Global, fails: &[FailAt], parts: &[&str], seen: &Seen) -> Resu
     Ok(output)
 }
 
-// The sixth write of a sector fails, the fifth of eight that are one write of the file: its first four sectors are left.
+// The sixth write of a sector fails, the fifth of eight that are one write of the file: its first four sectors are
+// left.
 #[test]
 fn a_write_that_fails_leaves_its_front(rt: HostRuntime) -> Result<(), Fail> {
     let alloc = rt.alloc();

@@ -4,7 +4,7 @@ use Rattle.eli_base.specs.declared.parameters.Params.{Params}
 use Rattle.eli_base.specs.declared.geometry.Geometry.{Geometry}
 use Rattle.eli_base.specs.Units.{unit_bytes_of, units_per_sector, last_unit_bytes, media_sectors}
 
--- The geometry of a provider with these parameters.
+-- the geometry of a provider with these parameters
 pub record IsGeometryOf (params : Params) (geometry : Geometry) : Type 0 where
   pub sectorsize : geometry.sectorsize ≡ params.sectorsize
   pub sectors : geometry.sectors ≡ media_sectors params.auth params.sectorsize params.provsize

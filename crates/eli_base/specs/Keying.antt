@@ -15,7 +15,7 @@ pub record Keying : Type 0 where
   pub sectorsize : ℕ
   pub master : List ℕ
 
--- The keying of a provider with these parameters and this master key.
+-- the keying of a provider with these parameters and this master key
 abbrev pub keying_of : Params → MasterKey → Keying
 keying_of params key = record {
   version = params.version;

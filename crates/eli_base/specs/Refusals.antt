@@ -3,7 +3,7 @@ use Rattle.std.specs.Prelude.{ℕ, Bool, List, [], ◌∷◌, Option, Some, None
 use Rattle.eli_base.specs.declared.refusals.Refusal.{Refusal}
 use Rattle.eli_base.specs.declared.refusals.Refusal.TheVariants.{Usage, UnknownProvider, NotAttached, StillAttached, BadMagic, BadVersion, BadHash, BadSize, UnsupportedCipher, UnsupportedAuth, BadKeyLength, BadSectorSize, UnsupportedFlags, NoValidKeys, WrongKey, NoKeyComponents, PassphraseNotSet, KeyNumberOutOfRange, KeyNotSet, LastKey, IterationsNeedOneKey, PassphraseNeeded, OutOfRange, ReadOnly, Integrity, DeviceFault, FileAbsent, CabinetFault, EntropyFault, FileTooLong, BackupTooShort, OldSizeMismatch, NoMemory, NotGrown, TooSmall, BadLength, KeyNumberNeeded, QueueFull, NoRequest, RequestNotDone, RequestDone, RequestsOpen, Suspended, NotSuspended, DifferentKey, BadPlace, NotAuthenticated, BadPlaceFile}
 
--- The number of a refusal, as replies print it.
+-- the number of a refusal, as replies print it
 abbrev pub number_of : Refusal → ℕ
 number_of (Usage word reason) = 1
 number_of UnknownProvider = 2
@@ -54,7 +54,7 @@ number_of (BadPlace place media) = 46
 number_of NotAuthenticated = 47
 number_of (BadPlaceFile word length) = 48
 
--- Of refusals in their order, each with its condition, the first whose condition holds.
+-- of refusals in their order, each with its condition, the first whose condition holds
 abbrev pub first_that_holds : {F : Type 0} → List (Bool × F) → Option F
 first_that_holds [] = None
 first_that_holds ((holds, refusal) ∷ others) = if holds then Some refusal else first_that_holds others

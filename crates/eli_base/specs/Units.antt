@@ -11,19 +11,19 @@ tag_bytes Sha256 = 32
 tag_bytes Sha384 = 48
 tag_bytes Sha512 = 64
 
--- The plain bytes of a unit that isn't the last of its logical sector: what the tag leaves of a device sector.
+-- the plain bytes of a unit that isn't the last of its logical sector: what the tag leaves of a device sector
 abbrev pub unit_bytes_of : Auth → ℕ
 unit_bytes_of auth = 512 - tag_bytes auth
 
--- The device sectors of a logical sector of so many bytes, which are at least 1: its bytes divided by those of a unit,
--- rounded up.
+-- the device sectors of a logical sector of so many bytes, which are at least 1: its bytes divided by those of a unit,
+-- rounded up
 abbrev pub units_per_sector : Auth → ℕ → ℕ
 units_per_sector auth sectorsize = (sectorsize - 1) / unit_bytes_of auth + 1
 
--- The plain bytes of the last unit: the rest.
+-- the plain bytes of the last unit: the rest
 abbrev pub last_unit_bytes : Auth → ℕ → ℕ
 last_unit_bytes auth sectorsize = sectorsize - (units_per_sector auth sectorsize - 1) * unit_bytes_of auth
 
--- The logical sectors of an image of so many bytes, whose last device sector has the metadata.
+-- the logical sectors of an image of so many bytes, whose last device sector has the metadata
 abbrev pub media_sectors : Auth → ℕ → ℕ → ℕ
 media_sectors auth sectorsize size = (size - 512) / (512 * units_per_sector auth sectorsize)

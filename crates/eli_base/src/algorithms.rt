@@ -1,4 +1,4 @@
-// The ciphers and authentications of the data: their key lengths, tags and numbers.
+//! The ciphers and authentications of the data: their key lengths, tags and numbers.
 ghost use Rattle.std.specs.Prelude.{◌≡◌, ◌-◌};
 ghost use Rattle.eli_base.specs.Algorithms.{allows_length, auth_number, cipher_number};
 ghost use Rattle.eli_base.specs.Units.{tag_bytes, unit_bytes_of};

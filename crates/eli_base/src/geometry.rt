@@ -1,4 +1,4 @@
-// How the logical sectors of a provider stand in its image.
+//! How the logical sectors of a provider stand in its image.
 ghost use Rattle.std.specs.Prelude.{◌≡◌, ◌+◌, ◌-◌, ◌*◌, ◌/◌, ◌%◌, ◌^◌, ◌<◌, ◌≤◌, MatchResult, IfOk};
 ghost use Rattle.eli_base.specs.Units.{media_sectors};
 

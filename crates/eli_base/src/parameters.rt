@@ -1,4 +1,4 @@
-// What the metadata say of the data, and the master key.
+//! What the metadata say of the data, and the master key.
 ghost use Rattle.std.specs.Prelude.{◌≡◌, ◌≤◌, ◌<◌, ◌%◌, ◌^◌, IsTrue};
 ghost use Rattle.std.specs.Bool.{OnTrue};
 ghost use Rattle.eli_base.specs.Algorithms.{allows_length};

@@ -1,4 +1,4 @@
-// Why a command is refused, and the number of each refusal.
+//! Why a command is refused, and the number of each refusal.
 ghost use Rattle.std.specs.Prelude.{◌≡◌};
 ghost use Rattle.eli_base.specs.Refusals.{number_of};
 

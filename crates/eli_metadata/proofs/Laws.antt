@@ -12,7 +12,7 @@ use Rattle.byteorder.specs.Endian.{little_from}
 use Rattle.byteorder.specs.Numbers.{little_from-take, little_number-reads_back, length-bytes_low_first}
 use Rattle.md5.specs.Md5.{md5, digest_bytes}
 use Rattle.eli_metadata.specs.declared.metadata.Metadata.{Metadata}
-use Rattle.eli_metadata.specs.Format.{magic, field_at, number_at, number_bytes, signed_at, signed_bytes, fields, number_fields, field_bytes, encoded, is_served, metadata_in, IsInRange}
+use Rattle.eli_metadata.specs.Format.{magic, field_at, number_at, number_bytes, signed_at, signed_bytes, fields, number_fields, field_bytes, encoded, is_served, metadata_in, HasFieldsInRange}
 use Rattle.eli_metadata.proofs.Numbers.{AreBytes, number_bytes-number_at, number_at-fits}
 
 -- the next bytes, with those in front of them
@@ -116,7 +116,7 @@ record Stands (b : List ℕ) (m : Metadata) (rest : List ℕ) : Type 0 where
   same : fields b ≡ m
   after : drop 495 b ≡ rest
 
-stands : (b : List ℕ) (m : Metadata) (rest : List ℕ) → IsInRange m → length m.salt ≡ 64 → length m.mkeys ≡ 384 → b ≡ magic ++ from_version m rest → Stands b m rest
+stands : (b : List ℕ) (m : Metadata) (rest : List ℕ) → HasFieldsInRange m → length m.salt ≡ 64 → length m.mkeys ≡ 384 → b ≡ magic ++ from_version m rest → Stands b m rest
 unfolding fields
 stands b m rest range salt slots is =
     let d16 : drop 16 b ≡ from_version m rest = next b 0 16 magic _ length-magic is in
@@ -179,7 +179,7 @@ metadata_in-stands b m s front served =
     rw (s.begins, same_bytes magic, versioned, flagged, served, front, hash, same_bytes (md5 (field_bytes m)), s.same) refl
 
 -- a record of a version that is served is read back
-pub metadata_in-encoded : (m : Metadata) → IsInRange m → length m.salt ≡ 64 → length m.mkeys ≡ 384 → is_served m.version m.flags ≡ true → metadata_in (encoded m) ≡ Ok m
+pub metadata_in-encoded : (m : Metadata) → HasFieldsInRange m → length m.salt ≡ 64 → length m.mkeys ≡ 384 → is_served m.version m.flags ≡ true → metadata_in (encoded m) ≡ Ok m
 unfolding encoded
 metadata_in-encoded m range salt slots served =
     let hash = md5 (field_bytes m) in

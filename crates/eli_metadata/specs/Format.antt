@@ -52,12 +52,12 @@ is_served version flags = version == 7 || version == 6 || (version == 5 && bit_a
 abbrev pub decode_versioned : List ℕ → ℕ → ℕ → Result Metadata MetaFault
 decode_versioned bytes version flags = if is_served version flags then decode_hashed bytes else Err (BadVersion version)
 
--- what the bytes of a sector are: a fault, or the record of the fields. Byte 511 isn't read.
+-- What the bytes of a sector are: a fault, or the record of the fields. Byte 511 isn't read.
 unfoldable pub metadata_in : List ℕ → Result Metadata MetaFault
 metadata_in bytes = if bytes_eq (take 16 bytes) magic then decode_versioned bytes (number_at bytes 16 4) (number_at bytes 20 4) else Err BadMagic
 
 -- each field is a number of its type
-pub record IsInRange (m : Metadata) : Type 0 where
+pub record HasFieldsInRange (m : Metadata) : Type 0 where
   pub version : m.version < 2 ^ 32
   pub flags : m.flags < 2 ^ 32
   pub ealgo : m.ealgo < 2 ^ 16
@@ -69,7 +69,7 @@ pub record IsInRange (m : Metadata) : Type 0 where
 
 -- each field fits its type
 pub record IsWhole (m : Metadata) : Type 0 where
-  pub range : IsInRange m
+  pub range : HasFieldsInRange m
   pub salt : length m.salt ≡ 64
   pub mkeys : length m.mkeys ≡ 384
 

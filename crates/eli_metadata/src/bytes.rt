@@ -1,4 +1,4 @@
-// Little-endian numbers and bytes at places of a sector, read, and put there from its start on.
+//! Little-endian numbers and bytes at places of a sector, read, and put there from its start on.
 ghost use Rattle.std.specs.Prelude.{◌≡◌, ◌<◌, ◌≤◌, ◌+◌, ◌^◌, ◌++◌, drop, length, take, FitsSigned};
 ghost use Rattle.std.specs.Int.{w32};
 ghost use Rattle.eli_metadata.specs.Format.{number_at, number_bytes, signed_at, signed_bytes};

@@ -1,4 +1,4 @@
-// Whether a provider can be used by its metadata.
+//! Whether a provider can be used by its metadata.
 ghost use Rattle.std.specs.Prelude.{◌≡◌, ◌<◌, ◌^◌, MatchResult, Ok, Err};
 ghost use Rattle.eli_metadata.specs.Checks.{supported, settings_of, size_matches, slot_matches, cipher_of, auth_of, is_readonly};
 

@@ -1,8 +1,8 @@
-// Metadata as bytes, and bytes as metadata.
+//! Metadata as bytes, and bytes as metadata.
 ghost use Rattle.std.specs.Prelude.{◌≡◌, ◌++◌, ◌∷◌, [], IfOk, IsTrue, take, Ok};
 ghost use Rattle.std.specs.Str.{bytes_eq};
 ghost use Rattle.md5.specs.Md5.{md5};
-ghost use Rattle.eli_metadata.specs.Format.{magic, field_at, fields, is_served, metadata_in, number_fields, field_bytes, encoded, IsInRange};
+ghost use Rattle.eli_metadata.specs.Format.{magic, field_at, fields, is_served, metadata_in, number_fields, field_bytes, encoded, HasFieldsInRange};
 
 use crate::bytes::{i32_at, put, put_i32, put_u16, put_u32, put_u64, u16_at, u32_at, u64_at};
 use crate::metadata::FLAG_AUTH;
@@ -95,7 +95,7 @@ pub fn encode(meta: &Metadata, into: &mut Sector)
 // Writes the first 495 bytes.
 fn write_fields(meta: &Metadata, into: &mut Sector)
     ensures bytes { take 495 into.new ≡ field_bytes meta.now }
-    ensures range { IsInRange meta.now }
+    ensures range { HasFieldsInRange meta.now }
 {
     write_numbers(meta, into);
     put(into, 47, &meta.salt);
@@ -105,7 +105,7 @@ fn write_fields(meta: &Metadata, into: &mut Sector)
 // Writes the first 47 bytes.
 fn write_numbers(meta: &Metadata, into: &mut Sector)
     ensures bytes { take 47 into.new ≡ number_fields meta.now }
-    ensures range { IsInRange meta.now }
+    ensures range { HasFieldsInRange meta.now }
 {
     put_magic(into);
     put_u32(into, 16, meta.version);

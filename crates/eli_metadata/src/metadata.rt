@@ -1,4 +1,4 @@
-// The fields of the metadata, and what may be wrong with them.
+//! The fields of the metadata, and what may be wrong with them.
 ghost use Rattle.std.specs.Prelude.{◌≡◌, ◌<◌};
 ghost use Rattle.eli_metadata.specs.Checks.{is_set};
 ghost use Rattle.eli_metadata.specs.Format.{IsWhole};

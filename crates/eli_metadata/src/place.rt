@@ -1,4 +1,4 @@
-// The metadata at the end of a disk.
+//! The metadata at the end of a disk.
 ghost use Rattle.std.specs.Prelude.{◌≡◌, ◌<◌, Ok, IsTrue, OnOk, OnErr};
 ghost use Rattle.block_traits.specs.Disk.{FailsIn, Logs};
 ghost use Rattle.eli_metadata.specs.Format.{encoded, is_served, metadata_in};

@@ -3,7 +3,7 @@ use Rattle.std.proofs.Common.{◌≡◌, refl, ap, ◌∙◌, append_assoc}
 use Rattle.std.specs.Prelude.{ℕ, List, [], ◌++◌, true, Option, Result, Ok, Err}
 use Rattle.std.specs.declared.io.Error.{Error}
 use Rattle.file_edge.specs.Asked.{Asked, Make, asking, more}
-use Rattle.file_edge.specs.Storing.{Brings, IsMove, IsStep, IsUnmade, MakesBeside, MakesNone, Moves, Replaces, Stores, beside_name, met, moving, replacing}
+use Rattle.file_edge.specs.Storing.{Brings, IsMove, IsStep, IsUnmade, MakesBeside, MakesNone, BringsToName, Replaces, Stores, beside_name, met, moving, replacing}
 use Rattle.file_edge.specs.declared.found.FileId.{FileId}
 use Rattle.file_edge.specs.declared.found.Found.{Found}
 use Rattle.file_edge.specs.declared.store.Stop.{Stop}
@@ -62,7 +62,7 @@ unmade_replacing name beside bytes FolderSynced number unmade = absurd unmade
 
 module _ {O : Type 0} (log_of : O → Option (List Asked)) (name bytes : List ℕ) where
   pub brings_moved : (opener middle new : O) (beside : List ℕ) (result : Result Unit Stop)
-      → MakesBeside log_of name opener beside middle → Moves log_of name bytes middle beside result new → Brings log_of name bytes opener result new
+      → MakesBeside log_of name opener beside middle → BringsToName log_of name bytes middle beside result new → Brings log_of name bytes opener result new
   brings_moved opener middle new beside result makes moves =
       let made = asking (Make 0o600 beside) true in
       let behind = moving name beside bytes result in

@@ -6,27 +6,27 @@ use Rattle.std.specs.declared.io.Error.{Error}
 use Rattle.std.specs.declared.io.ErrorKind.{ErrorKind}
 use Rattle.std.specs.declared.io.ErrorKind.TheVariants.{AlreadyExists}
 
--- One request: what a name leads to, through links; what has a name; the file of a name; a new file of a mode and a name, or
--- one whose name something has already; bytes behind those of the new file; the new file on the disk; another name for a file,
--- in place of what has it; the folder of a name on the disk; a name less.
-pub data Request : Type 0 where
-  Find : (name : List ℕ) → Request
-  Look : (name : List ℕ) → Request
-  Open : (how : OpenOptions) → (name : List ℕ) → Request
-  Make : (mode : ℕ) → (name : List ℕ) → Request
-  Meet : (mode : ℕ) → (name : List ℕ) → Request
-  Write : (bytes : List ℕ) → Request
-  Sync : Request
-  Rename : (from to : List ℕ) → Request
-  SyncFolder : (name : List ℕ) → Request
-  Remove : (name : List ℕ) → Request
+-- one request: what a name leads to, through links; what has a name; the file of a name; a new file of a mode and a
+-- name, or one whose name something has already; bytes behind those of the new file; the new file on the disk; another
+-- name for a file, in place of what has it; the folder of a name on the disk; a name less
+pub data FileRequest : Type 0 where
+  Find : (name : List ℕ) → FileRequest
+  Look : (name : List ℕ) → FileRequest
+  Open : (how : OpenOptions) → (name : List ℕ) → FileRequest
+  Make : (mode : ℕ) → (name : List ℕ) → FileRequest
+  Meet : (mode : ℕ) → (name : List ℕ) → FileRequest
+  Write : (bytes : List ℕ) → FileRequest
+  Sync : FileRequest
+  Rename : (from to : List ℕ) → FileRequest
+  SyncFolder : (name : List ℕ) → FileRequest
+  Remove : (name : List ℕ) → FileRequest
 
 -- a request, and whether it was done; a find, a look and a removal count as done
 pub record Asked : Type 0 where
-  pub request : Request
+  pub request : FileRequest
   pub done : Bool
 
-abbrev pub asking : Request → Bool → List Asked
+abbrev pub asking : FileRequest → Bool → List Asked
 asking request done = record { request = request; done = done } ∷ []
 
 -- the same list with more behind it, where it is told

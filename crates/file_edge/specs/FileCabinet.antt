@@ -10,7 +10,7 @@ use Rattle.block_traits.specs.Cabinet.{Answers, load_answer}
 use Rattle.block_traits.specs.declared.cabinet.LoadFault.{LoadFault}
 use Rattle.block_traits.specs.declared.cabinet.LoadFault.TheVariants as load
 use Rattle.file_edge.specs.Asked.{Asked, Open, asking, more}
-use Rattle.file_edge.specs.Found.{IsImage}
+use Rattle.file_edge.specs.Found.{IsOneOfImages}
 use Rattle.file_edge.specs.Opening.{to_read}
 use Rattle.file_edge.specs.declared.found.FileId.{FileId}
 use Rattle.file_edge.specs.declared.found.Found.{Found}
@@ -27,42 +27,42 @@ read_fault kinds.OutOfMemory = load.NoMemory
 read_fault kind = load.Failed
 
 -- what is loaded of a file that was read so
-abbrev pub read_answer : Result (List ℕ) Error → ℕ → Result (List ℕ) LoadFault
-read_answer (Ok bytes) limit = load_answer (Some bytes) limit
-read_answer (Err error) limit = Err (read_fault (error_kind error))
+abbrev pub loaded_answer : Result (List ℕ) Error → ℕ → Result (List ℕ) LoadFault
+loaded_answer (Ok bytes) limit = load_answer (Some bytes) limit
+loaded_answer (Err error) limit = Err (read_fault (error_kind error))
 
 -- it is read to its end, or to a byte behind the limit, and that is what is answered
 pub record ReadsWhole {F : Type 0} (holds : F → ℕ → Result (List ℕ) Error → Type 0) (file : F) (limit : ℕ) (result : Result (List ℕ) LoadFault) : Type 0 where
   pub read : Result (List ℕ) Error
   pub held : holds file (min (limit + 1) (2 ^ 64 - 1)) read
-  pub answered : result ≡ read_answer read limit
+  pub answered : result ≡ loaded_answer read limit
 
 -- a file that is open isn't absent; where it knows its bytes they are answered, or they are too many, or it failed
-abbrev pub ReadAnswers : Option (List ℕ) → ℕ → Result (List ℕ) LoadFault → Type 0
-ReadAnswers known limit (Err load.Absent) = ⊥
-ReadAnswers known limit result = IfSome known (λ bytes. Answers (load_answer (Some bytes) limit) result)
+abbrev pub LoadAnswers : Option (List ℕ) → ℕ → Result (List ℕ) LoadFault → Type 0
+LoadAnswers known limit (Err load.Absent) = ⊥
+LoadAnswers known limit result = IfSome known (λ bytes. Answers (load_answer (Some bytes) limit) result)
 
 module _ {O F : Type 0} (answers : O → OpenOptions → List ℕ → Result F Error → Type 0) (log_of : O → Option (List Asked)) where
   module _ (remaining : F → Option (List ℕ)) (holds : F → ℕ → Result (List ℕ) Error → Type 0) (tells : F → Result Found Error → Type 0) (images : List FileId) where
     -- an image isn't read; another file is, and answered so
-    pub record Reads (file : F) (limit : ℕ) (result : Result (List ℕ) LoadFault) : Type 0 where
+    pub record ReadsOpened (file : F) (limit : ℕ) (result : Result (List ℕ) LoadFault) : Type 0 where
       pub found : Result Found Error
       pub told : tells file found
-      pub image : IsImage images found → result ≡ Err load.Failed
-      pub other : (IsImage images found → ⊥) → ReadAnswers (remaining file) limit result
-      pub whole : (IsImage images found → ⊥) → ReadsWhole holds file limit result
+      pub image : IsOneOfImages images found → result ≡ Err load.Failed
+      pub other : (IsOneOfImages images found → ⊥) → LoadAnswers (remaining file) limit result
+      pub whole : (IsOneOfImages images found → ⊥) → ReadsWhole holds file limit result
 
     -- what was opened is read, or the refusal is answered
-    abbrev pub Loads : Result F Error → ℕ → Result (List ℕ) LoadFault → Type 0
-    Loads (Ok file) limit result = Reads file limit result
-    Loads (Err error) limit result = result ≡ Err (fault_of (error_kind error))
+    abbrev pub LoadsOpened : Result F Error → ℕ → Result (List ℕ) LoadFault → Type 0
+    LoadsOpened (Ok file) limit result = ReadsOpened file limit result
+    LoadsOpened (Err error) limit result = result ≡ Err (fault_of (error_kind error))
 
     -- the file of this name is opened to be read, and nothing else is asked
-    pub record LoadsFile (opener : O) (name : List ℕ) (limit : ℕ) (result : Result (List ℕ) LoadFault) (new : O) : Type 0 where
+    pub record LoadsNamedFile (opener : O) (name : List ℕ) (limit : ℕ) (result : Result (List ℕ) LoadFault) (new : O) : Type 0 where
       pub opened : Result F Error
       pub answered : answers opener to_read name opened
       pub asked : log_of new ≡ more (asking (Open to_read name) (is_ok opened)) (log_of opener)
-      pub loads : Loads opened limit result
+      pub loads : LoadsOpened opened limit result
 
     -- a name that is no text names no file
     pub record LoadsNone (opener : O) (result : Result (List ℕ) LoadFault) (new : O) : Type 0 where
@@ -71,5 +71,5 @@ module _ {O F : Type 0} (answers : O → OpenOptions → List ℕ → Result F E
 
     -- the same of a name that is text
     pub record LoadsNamed (opener : O) (name : List ℕ) (limit : ℕ) (result : Result (List ℕ) LoadFault) (new : O) : Type 0 where
-      pub text : IsUtf8 name → LoadsFile opener name limit result new
+      pub text : IsUtf8 name → LoadsNamedFile opener name limit result new
       pub no_text : (IsUtf8 name → ⊥) → LoadsNone opener result new

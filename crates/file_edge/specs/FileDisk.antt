@@ -8,7 +8,7 @@ use Rattle.file_edge.specs.declared.file_disk.FileDisk.{FileDisk}
 use Rattle.file_edge.specs.Found.{IsFree}
 use Rattle.file_edge.specs.declared.found.FileId.{FileId}
 use Rattle.file_edge.specs.declared.found.Found.{Found}
-use Rattle.file_edge.specs.ImageFile.{IsHeld}
+use Rattle.file_edge.specs.ImageFile.{IsLocked}
 use Rattle.file_edge.specs.Opening.{OpensImage, image_asked}
 use Rattle.file_edge.specs.Told.{Told, contents, of_size, told_in}
 use Rattle.file_edge.specs.ToldFits.{IsWellFormed-told}
@@ -59,7 +59,7 @@ pub record IsDiskOfEnd {F : Type 0} (ends : F → Option ℕ → Type 0) (file :
 -- the disk of an open file that may be an image; where it can't be held, of none
 pub record IsDiskHeld {F : Type 0} (locks : F → Bool → Type 0) (ends : F → Option ℕ → Type 0) (changes : Bool) (file : F) (id : FileId) (disk : FileDisk F) : Type 0 where
   pub held : Bool
-  pub locked : IsHeld locks changes file held
+  pub locked : IsLocked locks changes file held
   pub holds : MatchBool held (IsDiskOfEnd ends file id disk) (IsUnopened (Some id) disk)
 
 module _ {F : Type 0} (tells : F → Result Found Error → Type 0) (locks : F → Bool → Type 0) (ends : F → Option ℕ → Type 0) (images : List FileId) (changes : Bool) where

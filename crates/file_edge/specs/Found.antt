@@ -9,9 +9,9 @@ use Rattle.file_edge.specs.declared.found.FileKind.TheVariants.{Regular, Other}
 use Rattle.file_edge.specs.declared.found.Found.{Found}
 
 -- the file is one of these images, or nothing is found of it
-abbrev pub IsImage : List FileId → Result Found Error → Type 0
-IsImage images (Ok found) = Contains images found.id
-IsImage images (Err error) = Unit {0}
+abbrev pub IsOneOfImages : List FileId → Result Found Error → Type 0
+IsOneOfImages images (Ok found) = Contains images found.id
+IsOneOfImages images (Err error) = Unit {0}
 
 -- the name has a regular file that is none of these images, or it has none
 abbrev pub IsReplaceable : List FileId → Result Found Error → Type 0

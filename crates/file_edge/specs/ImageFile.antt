@@ -13,12 +13,12 @@ looked true bytes = Some bytes
 looked false bytes = None
 
 -- a file that is to be changed is locked
-abbrev pub IsHeld : {F : Type 0} → (F → Bool → Type 0) → Bool → F → Bool → Type 0
-IsHeld locks false file held = held ≡ true
-IsHeld locks true file held = locks file held
+abbrev pub IsLocked : {F : Type 0} → (F → Bool → Type 0) → Bool → F → Bool → Type 0
+IsLocked locks false file held = held ≡ true
+IsLocked locks true file held = locks file held
 
--- One call of a file: so many bytes are read at a byte offset (pread(2)), bytes are written at one (pwrite(2)), what was
--- written is brought to the disk (fdatasync(2)).
+-- one call of a file: so many bytes are read at a byte offset (pread(2)), bytes are written at one (pwrite(2)), what
+-- was written is brought to the disk (fdatasync(2))
 pub data Call : Type 0 where
   ReadAt : (at count : ℕ) → Call
   WriteAt : (at : ℕ) → (bytes : List ℕ) → Call
@@ -38,13 +38,13 @@ module _ {F : Type 0} (calls : F → Option (List Call)) where
   AsksFile call old new = ⊥
 
 -- so many bytes at a byte offset stand before the end that was found
-abbrev pub IsWithin : Option ℕ → ℕ → ℕ → Type 0
-IsWithin None at count = ⊥
-IsWithin (Some end) at count = at + count ≤ end
+abbrev pub StandsBeforeEnd : Option ℕ → ℕ → ℕ → Type 0
+StandsBeforeEnd None at count = ⊥
+StandsBeforeEnd (Some end) at count = at + count ≤ end
 
 module _ {F : Type 0} (ends : F → Option ℕ → Type 0) (writes : F → ℕ → List ℕ → Bool → Type 0) (calls : F → Option (List Call)) (at : ℕ) (bytes : List ℕ) (done : Bool) where
   -- the bytes were to be written there, all in one, and nothing else
-  pub record Puts (old new : F) : Type 0 where
+  pub record PutsBytesThere (old new : F) : Type 0 where
     pub answered : writes old at bytes done
     pub log : calls new ≡ more (WriteAt at bytes ∷ []) (calls old)
 
@@ -57,8 +57,8 @@ module _ {F : Type 0} (ends : F → Option ℕ → Type 0) (writes : F → ℕ �
   pub record WritesWithin (old new : F) : Type 0 where
     pub end : Option ℕ
     pub found : ends old end
-    pub within : IsWithin end at (length bytes) → Puts old new
-    pub behind : (IsWithin end at (length bytes) → ⊥) → PutsNone old new
+    pub within : StandsBeforeEnd end at (length bytes) → PutsBytesThere old new
+    pub behind : (StandsBeforeEnd end at (length bytes) → ⊥) → PutsNone old new
 
   -- the same of a file that is open, which stays open
   abbrev pub WritesFile : Option F → Option F → Type 0

@@ -13,8 +13,8 @@ to_read = with_read new_options true
 abbrev pub to_change : OpenOptions
 to_change = with_write to_read true
 
--- What an open of an image asks, by what was done: where it is to be changed, that, and where that is refused to read it;
--- else to read it alone.
+-- what an open of an image asks, by what was done: where it is to be changed, that, and where that is refused to read
+-- it; else to read it alone
 abbrev pub image_asked : List ℕ → (changes written read : Bool) → List Asked
 image_asked name false written read = asking (Open to_read name) read
 image_asked name true true read = asking (Open to_change name) true
@@ -28,14 +28,14 @@ pub record AsksImage {O : Type 0} (log_of : O → Option (List Asked)) (opener :
 
 module _ {O F : Type 0} (answers : O → OpenOptions → List ℕ → Result F Error → Type 0) where
   -- the opener answers this to these options and this name
-  pub record Opens (how : OpenOptions) (name : List ℕ) (opened : Result F Error) : Type 0 where
+  pub record OpensName (how : OpenOptions) (name : List ℕ) (opened : Result F Error) : Type 0 where
     pub opener : O
     pub answered : answers opener how name opened
 
   -- a file that is opened to be changed; or that was refused, and then this was answered where it was to be read
   abbrev pub OrReads : List ℕ → Result F Error → Result F Error → Type 0
   OrReads name (Ok file) opened = opened ≡ Ok file
-  OrReads name (Err error) opened = Opens to_read name opened
+  OrReads name (Err error) opened = OpensName to_read name opened
 
   -- an image is opened to be changed, or else to be read
   pub record OpensToChange (opener : O) (name : List ℕ) (opened : Result F Error) : Type 0 where

@@ -36,8 +36,8 @@ abbrev pub met : List ℕ → ℕ → List Asked
 met name zero = []
 met name (suc number) = met name number ++ asking (Meet 0o600 (beside_name name number)) false
 
--- What is asked for a new file, by its name and how that ends: it takes all bytes, is synced and renamed, and the folder is
--- synced. Where one of these isn't done no other follows, but that its name is removed.
+-- What is asked for a new file, by its name and how that ends: it takes all bytes, is synced and renamed, and the
+-- folder is synced. Where one of these isn't done no other follows, but that its name is removed.
 abbrev pub moving : List ℕ → List ℕ → List ℕ → Result Unit Stop → List Asked
 moving name beside bytes (Ok done) = asking (Write bytes) true ++ asking Sync true ++ asking (Rename beside name) true ++ asking (SyncFolder name) true
 moving name beside bytes (Err stops.Written) = asking (Write bytes) false ++ asking (Remove beside) true
@@ -55,8 +55,8 @@ IsMove (Err stops.Renamed) = Unit {0}
 IsMove (Err stops.FolderSynced) = Unit {0}
 IsMove (Err stop) = ⊥
 
--- What a store asks behind the names that it met, by the next name beside and how it ends: a new file that its owner alone may
--- read and write, and then what is asked for that.
+-- what a store asks behind the names that it met, by the next name beside and how it ends: a new file that its owner
+-- alone may read and write, and then what is asked for that
 abbrev pub replacing : List ℕ → List ℕ → List ℕ → Result Unit Stop → List Asked
 replacing name beside bytes (Err stops.Named) = []
 replacing name beside bytes (Err stops.Memory) = []
@@ -100,7 +100,7 @@ module _ {O : Type 0} (log_of : O → Option (List Asked)) (name : List ℕ) whe
 
 module _ {O : Type 0} (log_of : O → Option (List Asked)) (name bytes : List ℕ) where
   -- a new file was brought to the name, or not
-  pub record Moves (opener : O) (beside : List ℕ) (result : Result Unit Stop) (new : O) : Type 0 where
+  pub record BringsToName (opener : O) (beside : List ℕ) (result : Result Unit Stop) (new : O) : Type 0 where
     pub move : IsMove result
     pub asked : log_of new ≡ more (moving name beside bytes result) (log_of opener)
 
@@ -112,21 +112,21 @@ module _ {O : Type 0} (log_of : O → Option (List Asked)) (name bytes : List �
 
 module _ {O : Type 0} (finds : O → List ℕ → Result Found Error → Type 0) (log_of : O → Option (List Asked)) (images : List FileId) where
   -- what has the name was looked for, and nothing else was asked
-  pub record Looks (opener : O) (name : List ℕ) (found : Result Found Error) (new : O) : Type 0 where
+  pub record LooksForName (opener : O) (name : List ℕ) (found : Result Found Error) (new : O) : Type 0 where
     pub answered : finds opener name found
     pub asked : log_of new ≡ more (asking (Look name) true) (log_of opener)
 
   -- what was found may not be replaced
   pub record Spares (opener : O) (name : List ℕ) (new : O) : Type 0 where
     pub found : Result Found Error
-    pub looks : Looks opener name found new
+    pub looks : LooksForName opener name found new
     pub taken : IsReplaceable images found → ⊥
 
   -- what was found may be replaced, and then the new file was brought to the name, or not
   pub record Replaces (opener : O) (name bytes : List ℕ) (result : Result Unit Stop) (new : O) : Type 0 where
     pub found : Result Found Error
     pub looked : O
-    pub looks : Looks opener name found looked
+    pub looks : LooksForName opener name found looked
     pub free : IsReplaceable images found
     pub brings : Brings log_of name bytes looked result new
 
@@ -137,7 +137,7 @@ module _ {O : Type 0} (finds : O → List ℕ → Result Found Error → Type 0)
   Stores opener name bytes result new = Replaces opener name bytes result new
 
   -- the same, by what was answered
-  pub record StoresFile (opener : O) (name bytes : List ℕ) (result : Result Unit StoreFault) (new : O) : Type 0 where
+  pub record StoresNamedFile (opener : O) (name bytes : List ℕ) (result : Result Unit StoreFault) (new : O) : Type 0 where
     pub ended : Result Unit Stop
     pub stores : Stores opener name bytes ended new
     pub answer : result ≡ fault_answer ended

@@ -29,7 +29,8 @@ abbrev pub EndsTold : Option Told → ℕ → Type 0
 EndsTold None end = Unit {0}
 EndsTold (Some t) end = length t.content.base ≡ end / 512
 
--- each 512 of the bytes are what stands in a sector, the first in that at a byte offset, where that is one of those told
+-- each 512 of the bytes are what stands in a sector, the first in that at a byte offset, where that is one of those
+-- told
 abbrev pub ReadsTold : Option Told → ℕ → List ℕ → Type 0
 ReadsTold None at bytes = Unit {0}
 ReadsTold (Some t) at bytes =
@@ -40,7 +41,8 @@ abbrev pub Reaches : Option Content → ℕ → Type 0
 Reaches None count = Unit {0}
 Reaches (Some c) count = count ≤ length c.base
 
--- Of these events the first were done, and nothing else: all of them where that was answered, and there are so many sectors.
+-- of these events the first were done, and nothing else: all of them where that was answered, and there are so many
+-- sectors
 pub record Leaves (events : List Event) (sectors : ℕ) (done : Bool) (old new : Option Content) : Type 0 where
   pub count : ℕ
   pub within : count ≤ length events

@@ -1,4 +1,4 @@
-// What an opener was asked, for openers that keep it.
+//! What an opener was asked, for openers that keep it.
 use std::fs::OpenOptions;
 
 /// One request, as an opener may keep it.

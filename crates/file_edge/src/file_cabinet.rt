@@ -1,9 +1,9 @@
-// The files of the system by their names.
+//! The files of the system by their names.
 ghost use Rattle.std.specs.Prelude.{◌≡◌, ◌≤◌, None, IfOk, IsErrOf, length};
 ghost use Rattle.std.specs.IoError.{error_kind};
 ghost use Rattle.block_traits.specs.Causes.{Counted, Rose};
-ghost use Rattle.file_edge.specs.FileCabinet.{LoadsNamed, ReadAnswers, ReadsWhole, fault_of, read_fault};
-ghost use Rattle.file_edge.specs.Storing.{StoresFile};
+ghost use Rattle.file_edge.specs.FileCabinet.{LoadsNamed, LoadAnswers, ReadsWhole, fault_of, read_fault};
+ghost use Rattle.file_edge.specs.Storing.{StoresNamedFile};
 
 use crate::found::{FileId, is_image};
 use crate::image_file::ImageFile;
@@ -88,10 +88,10 @@ where
         loaded
     }
 
-    /// Besides what a cabinet does: the bytes are stored in a new file beside, which then takes the name; an image, and what
-    /// is no regular file, is left as it is.
+    /// Besides what a cabinet does: the bytes are stored in a new file beside, which then takes the name; an image, and
+    /// what is no regular file, is left as it is.
     fn store(&mut self, alloc: Global, name: &[u8], bytes: &[u8]) -> Result<(), StoreFault>
-        ensures stores { StoresFile O.finds O.asked self.old.images.items self.old.opener name.now bytes.now result self.new.opener }
+        ensures stores { StoresNamedFile O.finds O.asked self.old.images.items self.old.opener name.now bytes.now result self.new.opener }
         ensures images { self.new.images ≡ self.old.images }
         ensures later { self.old.faults ≤ self.new.faults }
         ensures failed { IsErrOf result StoreFault.Failed → Rose self.old.faults self.new.faults }
@@ -138,7 +138,7 @@ fn load_file<O: Opener>(
 // What a reader has left, if that is at most so many bytes.
 fn read_whole<R: Reader>(reader: R, alloc: Global, limit: u64) -> Result<ByteList, LoadFault>
     ensures read { ReadsWhole R.holds reader limit result }
-    ensures answers { ReadAnswers (R.remaining reader) limit result }
+    ensures answers { LoadAnswers (R.remaining reader) limit result }
     ensures within { IfOk result (λ bytes. length bytes ≤ limit) }
 {
     let bytes = match reader.read_all(alloc, limit.saturating_add(1)) {

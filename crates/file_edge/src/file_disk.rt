@@ -1,8 +1,8 @@
-// A file, or a device, as a disk.
+//! A file, or a device, as a disk.
 ghost use Rattle.std.specs.Prelude.{◌≡◌, ◌<◌, ◌≤◌, ◌^◌, ◌+◌, ◌*◌, ◌/◌, ◌%◌, ◌∷◌, [], IsErr, IsNone, MatchOption, OnErr, OnOk, false, is_err, is_ok, length, true};
 ghost use Rattle.block_traits.specs.Causes.{Counted, Rose};
 ghost use Rattle.block_traits.specs.Disk.{FailsIn, Gives, GivesEach, Logs, write_events};
-ghost use Rattle.file_edge.specs.ImageFile.{AsksFile, IsHeld, LeavesFile, ReadAt, SyncData, WritesFile, WritesWithin, looked, read_bytes};
+ghost use Rattle.file_edge.specs.ImageFile.{AsksFile, IsLocked, LeavesFile, ReadAt, SyncData, WritesFile, WritesWithin, looked, read_bytes};
 ghost use Rattle.file_edge.specs.Opening.{AsksImage};
 ghost use Rattle.file_edge.specs.Told.{EndsTold, Leaves, ReadsTold, contents, told_in};
 
@@ -11,8 +11,8 @@ use crate::image_file::ImageFile;
 use crate::opener::{Opener, open_image};
 use block_traits::{Disk, DiskFailed, Event, Sector};
 
-/// The whole 512-byte pieces of a file, read and written where they stand. It tells what its file tells, shows no events,
-/// and counts each failure and each read.
+/// The whole 512-byte pieces of a file, read and written where they stand. It tells what its file tells, shows no
+/// events, and counts each failure and each read.
 #[derive(Drop)]
 pub struct FileDisk<F: Drop> {
     file: Option<F>,
@@ -27,10 +27,10 @@ pub struct FileDisk<F: Drop> {
 impl<F: Drop> FileDisk<F> {
     ghost use Rattle.file_edge.specs.FileDisk.{AsksDisk, IsDiskHeld, IsDiskOf, IsDiskOfEnd, IsDiskOfFile, IsUnopened, OpensDisk, OpensFile, TellsFile};
 
-    /// The disk of a file. A file that can't be opened, that is no regular file and no block device, that is one of these
-    /// images, or of 2^53 bytes or more, is a disk of two sectors whose every call fails; so is one that is to be changed
-    /// and that another run holds. A file that is to be changed and can't be written is opened to be read, and each write
-    /// fails; one that isn't to be changed is opened to be read alone.
+    /// The disk of a file. A file that can't be opened, that is no regular file and no block device, that is one of
+    /// these images, or of 2^53 bytes or more, is a disk of two sectors whose every call fails; so is one that is to be
+    /// changed and that another run holds. A file that is to be changed and can't be written is opened to be read, and
+    /// each write fails; one that isn't to be changed is opened to be read alone.
     pub fn open<O: Opener<File = F>>(
         opener: &mut O,
         images: &[FileId],
@@ -201,7 +201,7 @@ impl<F: Drop> FileDisk<F> {
 
 // Whether a file may be used: one that is to be changed is locked first.
 fn is_held<F: ImageFile>(file: &F, changes: bool) -> bool
-    ensures { IsHeld F.locks changes file.now result }
+    ensures { IsLocked F.locks changes file.now result }
 {
     if changes {
         return file.lock().is_ok();
@@ -227,7 +227,8 @@ fn read_open<F: ImageFile>(file: &mut Option<F>, at: u64, into: &mut [u8]) -> Re
     }
 }
 
-// Writes whole sectors all in one, where the file still reaches so far: it may have become shorter, and isn't made longer.
+// Writes whole sectors all in one, where the file still reaches so far: it may have become shorter, and isn't made
+// longer.
 #[tactic(auto, using(crate::proofs::Left::leaves_nothing))]
 fn write_within<F: ImageFile>(file: &mut F, at: u64, from: &[u8]) -> bool
     requires fits { at + length from.now ≤ 2 ^ 53 }
@@ -349,8 +350,8 @@ impl<F: ImageFile + Drop> Disk for FileDisk<F> {
         }
     }
 
-    /// Besides what a disk does: the sectors are one write of the file. Where it became shorter, so that one of them stands
-    /// behind its end, none is written.
+    /// Besides what a disk does: the sectors are one write of the file. Where it became shorter, so that one of them
+    /// stands behind its end, none is written.
     fn write_sectors(&mut self, first: u64, from: &[u8]) -> Result<(), DiskFailed>
         requires whole { length from.now % 512 ≡ 0 }
         requires inside { first + length from.now / 512 ≤ (state_of F.told self.old).size }
@@ -366,7 +367,8 @@ impl<F: ImageFile + Drop> Disk for FileDisk<F> {
         }
     }
 
-    /// Besides what a disk does: after a failed flush each one fails, since the system may have dropped what was written.
+    /// Besides what a disk does: after a failed flush each one fails, since the system may have dropped what was
+    /// written.
     fn flush(&mut self) -> Result<(), DiskFailed>
         ensures ok { OnOk result (Logs (Event.Flush ∷ []) (state_of F.told self.old) (state_of F.told self.new)) }
         ensures err { OnErr result (FailsIn (Event.Flush ∷ []) (state_of F.told self.old) (state_of F.told self.new)) }

@@ -1,6 +1,6 @@
-// What is found of a file.
+//! What is found of a file.
 ghost use Rattle.std.specs.Prelude.{◌↔◌, IsTrue};
-ghost use Rattle.file_edge.specs.Found.{IsFree, IsImage, IsReplaceable};
+ghost use Rattle.file_edge.specs.Found.{IsFree, IsOneOfImages, IsReplaceable};
 
 use std::io::{self, ErrorKind};
 
@@ -35,7 +35,7 @@ pub struct Found {
 
 /// Whether a file that is open is one of these images; one of which nothing is found may be one.
 pub(crate) fn is_image(images: &[FileId], found: &io::Result<Found>) -> bool
-    ensures { IsTrue result ↔ IsImage images.now found.now }
+    ensures { IsTrue result ↔ IsOneOfImages images.now found.now }
 {
     match found {
         Ok(found) => images.contains(&found.id),

@@ -1,4 +1,4 @@
-// The file of an image, by byte offsets.
+//! The file of an image, by byte offsets.
 ghost use Rattle.std.specs.Prelude.{◌≡◌, ◌+◌, ◌/◌, ◌%◌, ◌∷◌, [], ℕ, List, None, Option, Bool, IfOk, OnOk, Result, is_ok, length};
 ghost use Rattle.std.specs.Result.{result_ok};
 ghost use Rattle.std.specs.declared.io.Error.{Error};
@@ -18,8 +18,8 @@ use std::os::unix::fs::FileExt;
 /// An open file that has an image. What is asked of it is proved for every such file, so that a contract can say
 /// where a sector stands and what is brought to the disk, although nothing tells what the system answers.
 ///
-/// A file may tell its sectors, its whole 512-byte pieces: what they held at first, and each write and sync since. It then
-/// always does, keeps their number, is changed by nobody else, and writes each sector whole or not at all.
+/// A file may tell its sectors, its whole 512-byte pieces: what they held at first, and each write and sync since. It
+/// then always does, keeps their number, is changed by nobody else, and writes each sector whole or not at all.
 pub trait ImageFile {
     /// Whether this may be found of it.
     ghost tells: { Self → Result Found Error → Type 0 };

@@ -1,4 +1,4 @@
-// The files of the system, by their names.
+//! The files of the system, by their names.
 ghost use Rattle.std.specs.Prelude.{◌≡◌, ◌<ℤ◌, ℕ, IfOk, List, None, Option, Result, is_ok, pos, true};
 ghost use Rattle.std.specs.Fd.{file_raw_fd};
 ghost use Rattle.std.specs.declared.fs.options.OpenOptions.{OpenOptions};
@@ -18,8 +18,9 @@ use std::os::fd::AsRawFd;
 use std::os::unix::fs::{FileTypeExt, MetadataExt, OpenOptionsExt};
 use std::rt::Files;
 
-/// What opens files by their names, and puts new ones in the place of others. Each use of it is proved for every opener,
-/// so that what is asked of it, in which order, can be said in a contract although nothing tells what the system answers.
+/// What opens files by their names, and puts new ones in the place of others. Each use of it is proved for every
+/// opener, so that what is asked of it, in which order, can be said in a contract although nothing tells what the
+/// system answers.
 pub trait Opener {
     /// An open file.
     type File: Reader + ImageFile + 'static;

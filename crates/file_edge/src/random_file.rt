@@ -1,4 +1,4 @@
-// The system's random bytes.
+//! The system's random bytes.
 ghost use Rattle.std.specs.Prelude.{◌≡◌, None, IfSome, IsErr, IsNone, OnOk, length};
 ghost use Rattle.std.specs.Io.KnownBytes.{Consumes};
 ghost use Rattle.block_traits.specs.Causes.{Counted, HasCause};
@@ -39,8 +39,8 @@ impl<R: Reader + 'static> RandomFile<R> {
 impl<R: Reader> Entropy for RandomFile<R> {
     ghost state = { λ random. record { left = None; faults = random.faults; calls = random.calls } };
 
-    /// Besides what entropy does: it answers as the device did, and fails only where that failed or there is none. Where
-    /// the device knows its bytes, they are given.
+    /// Besides what entropy does: it answers as the device did, and fails only where that failed or there is none.
+    /// Where the device knows its bytes, they are given.
     fn fill(&mut self, into: &mut [u8]) -> Result<(), EntropyFailed>
         ensures known { OnOk result (IfSome self.old.device (λ before. IfSome self.new.device (λ after.
             Consumes (R.remaining before) (R.remaining after) into.new))) }

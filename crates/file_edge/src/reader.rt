@@ -1,4 +1,4 @@
-// What gives bytes and what takes them, by what one call may answer.
+//! What gives bytes and what takes them, by what one call may answer.
 ghost use Rattle.std.specs.Prelude.{◌≤◌, ◌≡◌, ℕ, IfOk, IfSome, List, OnOk, Option, Result, length, take};
 ghost use Rattle.std.specs.Io.KnownBytes.{Consumes, ReadConsumes, WriteAppends};
 ghost use Rattle.std.specs.declared.io.Error.{Error};

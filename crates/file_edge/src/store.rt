@@ -1,7 +1,7 @@
-// A file that is stored under a name, in place of what has it.
+//! A file that is stored under a name, in place of what has it.
 ghost use Rattle.std.specs.Prelude.{◌≡◌, ◌↔◌, IfOk, IsTrue, MatchResult, string_bytes};
 ghost use Rattle.std.specs.IoError.{error_kind};
-ghost use Rattle.file_edge.specs.Storing.{Brings, MakesBeside, MakesNone, Moves, Stores, beside_name};
+ghost use Rattle.file_edge.specs.Storing.{Brings, MakesBeside, MakesNone, BringsToName, Stores, beside_name};
 
 use crate::found::{FileId, is_replaceable};
 use crate::opener::Opener;
@@ -105,7 +105,7 @@ fn beside_of(alloc: Global, name: &str, number: u64) -> Result<String, AllocErro
 
 // Brings the file beside to the name.
 fn replace<O: Opener>(opener: &mut O, name: &str, beside: &str, bytes: &[u8]) -> Result<(), Stop>
-    ensures { Moves O.asked name.now bytes.now opener.old beside.now result opener.new }
+    ensures { BringsToName O.asked name.now bytes.now opener.old beside.now result opener.new }
 {
     if opener.write(bytes).is_err() {
         opener.remove(beside);

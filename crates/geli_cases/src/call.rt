@@ -1,4 +1,4 @@
-// The program's run over disks.
+//! The program's run over disks.
 use crate::disks::Disks;
 use crate::fault::Fault;
 use crate::run_disk::RunDisk;
@@ -34,8 +34,8 @@ pub fn add_drawer(
     Ok(into.push(Drawer { name, disk })?)
 }
 
-/// Makes the program's run over the disks, in order, and answers the number of its status. The disks of the case note which
-/// of them are on the shelf still.
+/// Makes the program's run over the disks, in order, and answers the number of its status. The disks of the case note
+/// which of them are on the shelf still.
 pub fn top_call(
     alloc: Global,
     drawers: Vec<Drawer>,

@@ -1,4 +1,4 @@
-// What crashes leave of a disk.
+//! What crashes leave of a disk.
 use crate::fault::Fault;
 use crate::line::{Form, Line};
 use crash_disk::{Pick, SparseDisk, SurvivorFault, Torn, sparse_survivor};

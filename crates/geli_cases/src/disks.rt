@@ -1,4 +1,4 @@
-// The disks of a case between its runs. A run has disks of their own, and its events are then done to these.
+//! The disks of a case between its runs. A run has disks of their own, and its events are then done to these.
 use crate::call::{Drawer, add_drawer};
 use crate::fault::Fault;
 use crate::layers::{Layer, LayerKind, Layers, behind, joined, opened};

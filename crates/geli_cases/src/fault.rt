@@ -1,4 +1,4 @@
-// Why a line of a case file is not done.
+//! Why a line of a case file is not done.
 use block_traits::NoMemory;
 use std::alloc::{AllocError, AllocFailed};
 

@@ -1,4 +1,4 @@
-// The files of a case.
+//! The files of a case.
 use crate::fault::Fault;
 use crate::line::{Form, Line};
 use crate::transcript::Transcript;

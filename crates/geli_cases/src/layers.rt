@@ -1,4 +1,4 @@
-// The layers of a case: what stands between a drawer and disks of the case.
+//! The layers of a case: what stands between a drawer and disks of the case.
 use crate::fault::Fault;
 use crate::line::Line;
 use crate::run_disk::RunDisk;

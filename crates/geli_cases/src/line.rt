@@ -1,4 +1,4 @@
-// The lines of a case file, as docs/CASES.md says them: a word, and arguments between single spaces.
+//! The lines of a case file, as docs/CASES.md says them: a word, and arguments between single spaces.
 use crate::fault::Fault;
 use crate::layers::LayerKind;
 use std::alloc::{AllocError, Global};

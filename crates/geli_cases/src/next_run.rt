@@ -1,4 +1,4 @@
-// What the next run of a case is given.
+//! What the next run of a case is given.
 use crate::call::{Drawer, add_drawer, refusal_of};
 use crate::disks::blank;
 use crate::fault::Fault;
@@ -183,7 +183,8 @@ pub fn fail_calls(
     Ok(disk.fail_calls(&calls)?)
 }
 
-/// Offers disks of these names to the shelf, behind the drawers, and tells what it answers. Those that it takes are added.
+/// Offers disks of these names to the shelf, behind the drawers, and tells what it answers. Those that it takes are
+/// added.
 pub fn add_offers(
     alloc: Global,
     names: &[String],

@@ -1,4 +1,4 @@
-// The disk of a drawer of a run, by what stands between the drawer and the disks of the case.
+//! The disk of a drawer of a run, by what stands between the drawer and the disks of the case.
 ghost use Rattle.geli_cases.specs.RunDisk.{state_of};
 
 use crate::traced_disk::TracedDisk;

@@ -1,4 +1,4 @@
-// The disks of a run, whose events can be looked at also where a layer has them.
+//! The disks of a run, whose events can be looked at also where a layer has them.
 ghost use Rattle.geli_cases.specs.TracedDisk.{disk_of};
 
 use crate::fault::Fault;

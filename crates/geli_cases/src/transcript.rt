@@ -1,4 +1,4 @@
-// The transcript of cases, as docs/CASES.md says it.
+//! The transcript of cases, as docs/CASES.md says it.
 use crate::fault::Fault;
 use block_traits::Event;
 use sha2::{Digest, Sha256};

@@ -1,4 +1,4 @@
-// The world of a case: its disks, files and random bytes, what the next run is given, and the runs.
+//! The world of a case: its disks, files and random bytes, what the next run is given, and the runs.
 use crate::call::{Objects, add_drawer, top_call};
 use crate::crash::{Choices, Crashed, survivor_at};
 use crate::disks::Disks;

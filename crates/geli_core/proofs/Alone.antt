@@ -32,7 +32,7 @@ use Rattle.command_rows.specs.verbs.Reap.{ReapRow, ReapsRequest, reap_answer}
 use Rattle.command_rows.specs.verbs.Step.{StepRow, step_refusal}
 use Rattle.command_rows.specs.verbs.Submit.{submit_refusal}
 use Rattle.geli_core.specs.Placing.{work_in}
-use Rattle.geli_core.specs.Requests.{DoesAsLine, IsDoneAlone, StepsDone}
+use Rattle.geli_core.specs.Requests.{DoesAsLine, IsRequestDoneAlone, StepsDone}
 use Rattle.geli_core.proofs.Owning.{at_attached}
 use Rattle.geli_core.proofs.Requested.{Asks, reap_asks, step_asks, submit_asks}
 
@@ -133,7 +133,7 @@ reaped_as_line line asked a old answer new tag opened done asks t keyed r =
     subst (λ (x : Result (Option (List ℕ)) Refusal). DoesAsLine line asked a old x new) (sym r.answered)
     (does_as line asked a old new last asks.job asks.from r.before r.after tag r.given (asks.work 0) refl (does_alone asks.job asks.from r.before r.after r.given (flight a old.disk) last keyed alone))
 
-pub alone_as_line : (line : List ℕ) (asked : JobWords) (a : Attachment) (old new : Reach) (answer : Result (Option (List ℕ)) Refusal) → old.holding ≡ IsAttached a → IsKeying a.keying → IsDoneAlone line asked a old answer new → DoesAsLine line asked a old answer new
+pub alone_as_line : (line : List ℕ) (asked : JobWords) (a : Attachment) (old new : Reach) (answer : Result (Option (List ℕ)) Refusal) → old.holding ≡ IsAttached a → IsKeying a.keying → IsRequestDoneAlone line asked a old answer new → DoesAsLine line asked a old answer new
 alone_as_line line asked a old new answer is keyed h =
     elim (submit_asks line asked a old (Ok h.tag) h.opened keyed h.submitted) [
       | inl refusal ↦ absurd (let said = refusal.is in let differ : ⊥ = cc said in differ)

@@ -8,19 +8,19 @@ use Rattle.block_traits.specs.Streams.{SinkState}
 use Rattle.command_words.specs.Reading.{command_in}
 use Rattle.command_words.specs.Images.{line_of, script_images}
 use Rattle.command_words.specs.declared.commands.Command.{Command}
-use Rattle.geli_core.specs.Script.{Ends, EndsBy, EndsCommand, HasCause, Prints, PrintsUsage, Runs, RunsAs, RunsCommand, RunsLine, RunsScript, Whole}
+use Rattle.geli_core.specs.Script.{Ends, EndsBy, EndsCommand, StatusHasCause, PrintsAnswers, PrintsUsage, Runs, RunsAs, RunsCommand, RunsLine, RunsScript, Whole}
 use Rattle.geli_core.specs.Trace.{Trace, answers_of}
 use Rattle.geli_core.specs.declared.status.Status.{Status}
 use Rattle.geli_core.specs.declared.status.Status.TheVariants.{Done, SomeRefused, BadWords, ReadFault, WriteFault, NoMemory, LineTooLong, ScriptTooLong}
 use Rattle.command_rows.specs.Answer.{Answer}
 
-pub rose_prints : (answers : List (Option Answer)) (failed : ℕ) (old new : SinkState) → Prints answers failed old WriteFault new → Rose old.faults new.faults
+pub rose_prints : (answers : List (Option Answer)) (failed : ℕ) (old new : SinkState) → PrintsAnswers answers failed old WriteFault new → Rose old.faults new.faults
 rose_prints answers failed old new (inl part) = Rose-earlier old.faults part.middle.faults new.faults part.before.later part.part.rose
 rose_prints answers failed old new (inr part) = Rose-earlier old.faults part.middle.faults new.faults part.before.later part.part.rose
 
 -- ---- how the run ended
 
-not_bad : (names : List (List ℕ)) (command : Option Command) (answers : List (Option Answer)) (failed : ℕ) (old new : SinkState) (status : Status) → Prints answers failed old status new → EndsBy (Some names) command status
+not_bad : (names : List (List ℕ)) (command : Option Command) (answers : List (Option Answer)) (failed : ℕ) (old new : SinkState) (status : Status) → PrintsAnswers answers failed old status new → EndsBy (Some names) command status
 not_bad names command answers failed old new WriteFault h = tt
 not_bad names command answers failed old new NoMemory h = tt
 not_bad names command answers failed old new BadWords h = absurd h
@@ -61,7 +61,7 @@ runs_end words old new trace ScriptTooLong h = ends_as (script_images words) wor
 
 -- ---- why it broke off
 
-script_caused : (old new : Whole) (trace : Trace) (status : Status) → RunsScript old trace status new → HasCause status old new
+script_caused : (old new : Whole) (trace : Trace) (status : Status) → RunsScript old trace status new → StatusHasCause status old new
 script_caused old new trace Done h = tt
 script_caused old new trace SomeRefused h = tt
 script_caused old new trace BadWords h = tt
@@ -75,7 +75,7 @@ script_caused old new trace ScriptTooLong h = record {
   size = h.up_to.1;
 }
 
-command_caused : (line : List ℕ) (old new : Whole) (trace : Trace) (status : Status) → RunsCommand line old trace status new → HasCause status old new
+command_caused : (line : List ℕ) (old new : Whole) (trace : Trace) (status : Status) → RunsCommand line old trace status new → StatusHasCause status old new
 command_caused line old new trace WriteFault h = rose_prints (Some h.answer ∷ []) h.failed old.sink new.sink h.prints
 command_caused line old new trace ReadFault h = absurd h.ended
 command_caused line old new trace LineTooLong h = absurd h.ended
@@ -85,20 +85,20 @@ command_caused line old new trace SomeRefused h = tt
 command_caused line old new trace BadWords h = tt
 command_caused line old new trace NoMemory h = tt
 
-usage_caused : (old new : Whole) (status : Status) → PrintsUsage old.sink status new.sink → HasCause status old new
+usage_caused : (old new : Whole) (status : Status) → PrintsUsage old.sink status new.sink → StatusHasCause status old new
 usage_caused old new WriteFault h = h.rose
 usage_caused old new BadWords h = tt
 usage_caused old new status h = absurd h
 
-line_caused : (line : List ℕ) (command : Option Command) (old new : Whole) (trace : Trace) (status : Status) → RunsLine line command old trace status new → HasCause status old new
+line_caused : (line : List ℕ) (command : Option Command) (old new : Whole) (trace : Trace) (status : Status) → RunsLine line command old trace status new → StatusHasCause status old new
 line_caused line None old new trace status h = usage_caused old new status h.prints
 line_caused line (Some command) old new trace status h = command_caused line old new trace status h
 
-caused_as : (asks : Option (List (List ℕ))) (words : List (List ℕ)) (old new : Whole) (trace : Trace) (status : Status) → RunsAs asks words old trace status new → HasCause status old new
+caused_as : (asks : Option (List (List ℕ))) (words : List (List ℕ)) (old new : Whole) (trace : Trace) (status : Status) → RunsAs asks words old trace status new → StatusHasCause status old new
 caused_as (Some names) words old new trace status h = script_caused old new trace status h
 caused_as None words old new trace status h = line_caused (line_of words) (command_in (line_of words)) old new trace status h
 
-pub runs_caused : (words : List (List ℕ)) (old new : Whole) (trace : Trace) (status : Status) → Runs words old trace status new → HasCause status old new
+pub runs_caused : (words : List (List ℕ)) (old new : Whole) (trace : Trace) (status : Status) → Runs words old trace status new → StatusHasCause status old new
 runs_caused words old new trace NoMemory h = tt
 runs_caused words old new trace Done h = tt
 runs_caused words old new trace SomeRefused h = tt

@@ -4,7 +4,7 @@ use Rattle.std.specs.Prelude.{◌||◌, nat_le}
 use Rattle.std.proofs.lemmas.List.{append-nil}
 use Rattle.block_traits.specs.Streams.{SinkState, TookAll, TookPart, SourceState}
 use Rattle.command_words.specs.Images.{line_of, script_images}
-use Rattle.command_words.specs.Reading.{command_in, line_limit, reading, said}
+use Rattle.command_words.specs.Reading.{command_in, line_limit, line_reading, said}
 use Rattle.command_words.specs.declared.commands.Command.{Command}
 use Rattle.command_words.specs.declared.commands.Usage.{Usage}
 use Rattle.command_words.specs.declared.spans.Sep.TheVariants.{Blanks, Zeros}
@@ -13,7 +13,7 @@ use Rattle.reply_text.specs.declared.print.WriteEnd.{WriteEnd}
 use Rattle.reply_text.proofs.Printing.{TookAll-nothing, TookAll-then}
 use Rattle.shelf.specs.Closing.{ClosesWorld}
 use Rattle.geli_core.specs.Run.{PrintsAnswer, ServesAndPrints, ServesLine, ServesReading, answers_text, any_refused, closing_answers, end_of, is_refusal, refuses, text_of}
-use Rattle.geli_core.specs.Script.{EndsCommand, Prints, PrintsUsage, Runs, RunsAs, RunsCommand, RunsLine, Whole}
+use Rattle.geli_core.specs.Script.{EndsCommand, PrintsAnswers, PrintsUsage, Runs, RunsAs, RunsCommand, RunsLine, Whole}
 use Rattle.geli_core.specs.Served.{ClosesAndPrints, RunsUnless, SiteState, Traced, status_by, whole_of}
 use Rattle.geli_core.specs.Trace.{Trace}
 use Rattle.geli_core.specs.declared.serving.LineEnd.{LineEnd}
@@ -27,12 +27,12 @@ commanded false read command h = absurd (let no : ⊥ = cc in no)
 commanded true (Ok found) command h = ap Ok h
 commanded true (Err usage) command h = absurd (let no : ⊥ = cc in no)
 
-pub says : (line : List ℕ) (command : Command) → command_in line ≡ Some command → reading Zeros line ≡ Ok (Some command)
-says line command h = commanded (nat_le (length line) line_limit) (reading Zeros line) command h
+pub says : (line : List ℕ) (command : Command) → command_in line ≡ Some command → line_reading Zeros line ≡ Ok (Some command)
+says line command h = commanded (nat_le (length line) line_limit) (line_reading Zeros line) command h
 
 -- the line was served, and then the drawers were closed
 one_traced : (line : List ℕ) (old middle new : SiteState) (source : SourceState) (status : Status) (answer : Answer) (failed : ℕ) → ServesLine Zeros line old.world (Some answer) middle.world → ClosesWorld middle.world failed new.world → EndsCommand status
-    → Prints (Some answer ∷ []) failed old.sink status new.sink → Traced (RunsCommand line) (whole_of old source) status (whole_of new source)
+    → PrintsAnswers (Some answer ∷ []) failed old.sink status new.sink → Traced (RunsCommand line) (whole_of old source) status (whole_of new source)
 one_traced line old middle new source status answer failed serves closes ended prints = record {
   trace = record { sep = Zeros; lines = served_line line (Some answer) middle.world ∷ []; closing = Some failed };
   is_trace = record { served = (serves, tt); closes = closes };

@@ -8,7 +8,7 @@ use Rattle.std.proofs.Math.ListN.{set}
 use Rattle.std.proofs.lemmas.Slice.Eq.{bytes_eq-Decides}
 use Rattle.block_traits.specs.Causes.{Rose}
 use Rattle.command_words.specs.Places.{bytes_at, provider_of}
-use Rattle.command_words.specs.Reading.{reading}
+use Rattle.command_words.specs.Reading.{line_reading}
 use Rattle.command_words.specs.declared.commands.Command.{Command}
 use Rattle.command_words.specs.declared.commands.Usage.{Usage}
 use Rattle.command_words.specs.declared.spans.Sep.{Sep}
@@ -18,7 +18,7 @@ use Rattle.command_rows.specs.Answer.{Answer}
 use Rattle.command_rows.specs.Answer as answers
 use Rattle.command_rows.specs.Causes.{CausedAt, CausedBy}
 use Rattle.command_rows.specs.Histories.{ChangesBy, OnlyAt, place_named}
-use Rattle.command_rows.specs.Turn.{IsUnknown, Lists, ServesAt, Turn, TurnOf, takes_out}
+use Rattle.command_rows.specs.Turn.{IsUnknown, ListsDrawers, ServesAt, Turn, TurnOf, takes_out}
 use Rattle.command_rows.specs.World.{DrawerState, NamesDiffer, World, place_of}
 use Rattle.command_rows.proofs.LineCauses.{refusal_caused}
 use Rattle.command_rows.proofs.Naming.{differ-removed, differ-set, place-set}
@@ -139,12 +139,12 @@ one_more true true b m a rest le rose later bound small = let r = rose refl refl
 one_more true false b m a rest le rose later bound small = let s = bound small in omega (arith, le, s)
 one_more false fault b m a rest le rose later bound small = let s = bound small in omega (arith, le, s)
 
-pub run_rises : (sep : Sep) (lines : List ServedLine) (old new : World) (name : List ℕ) (place : ℕ) (before : DrawerState) → Run sep old lines new → AllByRecursion (λ (l : ServedLine). KeepsAll (reading sep l.line)) lines
+pub run_rises : (sep : Sep) (lines : List ServedLine) (old new : World) (name : List ℕ) (place : ℕ) (before : DrawerState) → Run sep old lines new → AllByRecursion (λ (l : ServedLine). KeepsAll (line_reading sep l.line)) lines
     → place_of name old.drawers ≡ Some place → slice_get old.drawers place ≡ Some before → RisesBy (device_faults sep name lines) before place new
 run_rises sep [] old new name place before h keeps stands found =
     record { after = before; there = ap (λ (w : World). slice_get w.drawers place) h.1 ∙ found; later = omega arith; bound = λ small. omega arith }
 run_rises sep (l ∷ lines) old new name place before h keeps stands found =
-    let c = counts_read (reading sep l.line) l.line name l.answer old l.next place before keeps.0 stands found h.0.0 in
+    let c = counts_read (line_reading sep l.line) l.line name l.answer old l.next place before keeps.0 stands found h.0.0 in
     let r = run_rises sep lines l.next new name place c.after (h.0.1, h.1) keeps.1 c.stands c.there in
     let l1 = c.later in
     let l2 = r.later in
@@ -336,7 +336,7 @@ quiet_by At name other old said new true is absent h =
     subst (λ (a : Answer). ◌≡◌ {A = ℕ} (cond (true && is_device_fault (Some a)) 1 0) 0) (sym unknown) refl
 
 quiet_named : (At : World → Answer → World → ℕ → Type 0) (prov : Option Span) (line name : List ℕ) (old : World) (said : Answer) (new : World) → place_of name old.drawers ≡ None
-    → MatchOption prov (Lists old said new) (λ p. TurnOf At (bytes_at line p) old said new) → ◌≡◌ {A = ℕ} (cond (names_by prov line name && is_device_fault (Some said)) 1 0) 0
+    → MatchOption prov (ListsDrawers old said new) (λ p. TurnOf At (bytes_at line p) old said new) → ◌≡◌ {A = ℕ} (cond (names_by prov line name && is_device_fault (Some said)) 1 0) 0
 quiet_named At None line name old said new absent h = refl
 quiet_named At (Some prov) line name old said new absent h = quiet_by At name (bytes_at line prov) old said new (bytes_eq name (bytes_at line prov)) refl absent h
 
@@ -361,7 +361,7 @@ quiet_read (Ok (Some command)) line name (Some said) old new absent h = (
 quiet_run : (sep : Sep) (lines : List ServedLine) (start : World) (name : List ℕ) → place_of name start.drawers ≡ None → EachServed sep start lines → device_faults sep name lines ≡ 0
 quiet_run sep [] start name absent h = refl
 quiet_run sep (l ∷ lines) start name absent h =
-    let q = quiet_read (reading sep l.line) l.line name l.answer start l.next absent h.0 in
+    let q = quiet_read (line_reading sep l.line) l.line name l.answer start l.next absent h.0 in
     let one : ◌≡◌ {A = ℕ} (cond (names sep l.line name && is_device_fault l.answer) 1 0) 0 = q.0 in
     let rest : device_faults sep name lines ≡ 0 = quiet_run sep lines l.next name q.1 h.1 in
     omega (arith, one, rest)
@@ -407,7 +407,7 @@ kept_on sep l lines old new name before k (inr r) =
 
 line_on : (sep : Sep) (l : ServedLine) (lines : List ServedLine) (old new : World) (name : List ℕ) (place : ℕ) (before : DrawerState) → EachServed sep l.next lines → place_of name old.drawers ≡ Some place → slice_get old.drawers place ≡ Some before
     → ((k : Kept (names sep l.line name) name l.answer before l.next) → RisesOr sep lines k.counts.after name l.next new)
-    → Kept (names sep l.line name) name l.answer before l.next ⊎ Left (reading sep l.line) l.line name l.answer l.next → RisesOr sep (l ∷ lines) before name old new
+    → Kept (names sep l.line name) name l.answer before l.next ⊎ Left (line_reading sep l.line) l.line name l.answer l.next → RisesOr sep (l ∷ lines) before name old new
 line_on sep l lines old new name place before h stands found goes_on (inl k) = kept_on sep l lines old new name before k (goes_on k)
 line_on sep l lines old new name place before h stands found goes_on (inr left) =
     let one : ◌≡◌ {A = ℕ} (cond (names sep l.line name && is_device_fault l.answer) 1 0) 0 = none_both (names sep l.line name) (is_device_fault l.answer) left.quiet in
@@ -431,4 +431,4 @@ run_rises_or sep [] old new name place before h differ stands found =
     })
 run_rises_or sep (l ∷ lines) old new name place before h differ stands found =
     line_on sep l lines old new name place before h.0.1 stands found (λ k. run_rises_or sep lines l.next new name k.place k.counts.after (h.0.1, h.1) k.differ k.counts.stands k.counts.there)
-    (line_read (reading sep l.line) l.line name l.answer old l.next place before differ stands found h.0.0)
+    (line_read (line_reading sep l.line) l.line name l.answer old l.next place before differ stands found h.0.0)

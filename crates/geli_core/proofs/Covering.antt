@@ -3,7 +3,7 @@ use Rattle.std.proofs.Common.{◌≡◌, ◌∙◌, inl, inr, ℕ, List, [], ◌
 use Rattle.std.specs.Prelude.{IfSome, MatchOption, option_and_then}
 use Rattle.std.proofs.lemmas.List.Elements.{All-weaker}
 use Rattle.command_words.specs.Places.{bytes_at}
-use Rattle.command_words.specs.Reading.{reading}
+use Rattle.command_words.specs.Reading.{line_reading}
 use Rattle.command_words.specs.declared.commands.Usage.{Usage}
 use Rattle.command_words.specs.declared.spans.Span.{Span}
 use Rattle.queue_readings.specs.Tasks.{Flushes, Reads, Task, Work, Writes, task_with}
@@ -101,7 +101,7 @@ covers_attached None tag c m more each h = h
 covers_attached (Some a) tag c m more each h = covers_task m.steps more a.keying (task_with tag m.tasks) each h
 
 pub covers_reaped : (sep : Sep) (served : List ServedLine) (entry start : World) (reap : ServedLine) (prov : Span) (tag : ℕ) (rest : List ServedLine) (end : World) (drawer : DrawerState)
-    → Run sep entry served start → HoldKeyings entry.drawers → reading sep reap.line ≡ Ok (Some (commands.Reap prov tag)) → reap.answer ≡ Some answers.Done → Run sep start (reap ∷ rest) end → IsAmong end.drawers drawer
+    → Run sep entry served start → HoldKeyings entry.drawers → line_reading sep reap.line ≡ Ok (Some (commands.Reap prov tag)) → reap.answer ≡ Some answers.Done → Run sep start (reap ∷ rest) end → IsAmong end.drawers drawer
     → CoversReaped sep entry served start reap prov tag rest drawer
 covers_reaped sep served entry start reap prov tag rest end drawer run keyed asked done behind there =
     let from = came sep (reap ∷ rest) start end drawer behind there in

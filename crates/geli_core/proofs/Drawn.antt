@@ -9,7 +9,7 @@ use Rattle.block_traits.specs.Disk.{DiskState, Logs}
 use Rattle.block_traits.specs.declared.disk.Event.{Event}
 use Rattle.block_traits.specs.declared.disk.Event.TheVariants.{Flush}
 use Rattle.block_traits.proofs.Logs.{Logs-nothing, Logs-then}
-use Rattle.command_words.specs.Reading.{reading}
+use Rattle.command_words.specs.Reading.{line_reading}
 use Rattle.command_words.specs.Places.{bytes_at, provider_of}
 use Rattle.command_words.specs.declared.commands.Command.{Command}
 use Rattle.command_words.specs.declared.commands.Usage.{Usage}
@@ -81,7 +81,7 @@ LineOn sep line answer before drawers = LineAt sep line answer before drawers �
 stays_at : (sep : Sep) (line : List ℕ) (answer : Option Answer) (before : DrawerState) (old new : List DrawerState) (n k : ℕ) → slice_get old n ≡ Some before → slice_get new k ≡ slice_get old n → LineOn sep line answer before new
 stays_at sep line answer before old new n k found same = inl (record { place = k; after = before; there = same ∙ found; events = []; steps = inl (refl, refl) })
 
-stepped : (sep : Sep) (line : List ℕ) (command : Command) (said : Answer) (before : DrawerState) (old new : List DrawerState) (n : ℕ) → reading sep line ≡ Ok (Some command) → slice_get old n ≡ Some before
+stepped : (sep : Sep) (line : List ℕ) (command : Command) (said : Answer) (before : DrawerState) (old new : List DrawerState) (n : ℕ) → line_reading sep line ≡ Ok (Some command) → slice_get old n ≡ Some before
     → place_named line command old ≡ Some n → StepsAt line command said old new n → LineAt sep line (Some said) before new
 stepped sep line command said before old new n asked found place h =
     let is : h.before ≡ before = same_some h.before before (sym h.found ∙ found) in
@@ -108,7 +108,7 @@ both_true true b p q = q
 both_true false b p q = absurd (let none : ⊥ = cc p in none)
 
 -- a line that takes the drawer at a place out
-taken_at : (sep : Sep) (line : List ℕ) (command : Command) (said : Answer) (before : DrawerState) (old : List DrawerState) (n : ℕ) → reading sep line ≡ Ok (Some command) → takes_out command ≡ true → slice_get old n ≡ Some before
+taken_at : (sep : Sep) (line : List ℕ) (command : Command) (said : Answer) (before : DrawerState) (old : List DrawerState) (n : ℕ) → line_reading sep line ≡ Ok (Some command) → takes_out command ≡ true → slice_get old n ≡ Some before
     → place_named line command old ≡ Some n → said ≡ answers.Done → TakesDrawer sep line (Some said) before
 taken_at sep line command said before old n asked out found place done =
     let named : names_by (provider_of command) line before.name ≡ true = named_at line old (provider_of command) n before place found in
@@ -129,7 +129,7 @@ get-removed (x ∷ xs) (suc place) (suc n) other =
     let r = get-removed xs place n (λ same. other (ap suc same)) in
     (suc r.0, r.1)
 
-changed_on : (sep : Sep) (line : List ℕ) (command : Command) (said : Answer) (before : DrawerState) (old new : List DrawerState) (n place : ℕ) (out : Bool) → takes_out command ≡ out → reading sep line ≡ Ok (Some command)
+changed_on : (sep : Sep) (line : List ℕ) (command : Command) (said : Answer) (before : DrawerState) (old new : List DrawerState) (n place : ℕ) (out : Bool) → takes_out command ≡ out → line_reading sep line ≡ Ok (Some command)
     → slice_get old n ≡ Some before → place_named line command old ≡ Some place → ChangesBy out line command said old new place → (place ≡ n) ⊎ (place ≡ n → ⊥) → LineOn sep line (Some said) before new
 changed_on sep line command said before old new n place true is asked found at h (inl here) =
     inr (taken_at sep line command said before old n asked is found (at ∙ ap Some here) h.done)
@@ -141,12 +141,12 @@ changed_on sep line command said before old new n place false is asked found at 
 changed_on sep line command said before old new n place false is asked found at h (inr other) =
     stays_at sep line (Some said) before old new n n found (ap (λ (l : List DrawerState). slice_get l n) h.others ∙ get-set_other old place n h.after other)
 
-turned_on : (sep : Sep) (line : List ℕ) (command : Command) (said : Answer) (before : DrawerState) (old new : List DrawerState) (n : ℕ) (place : Option ℕ) → reading sep line ≡ Ok (Some command) → slice_get old n ≡ Some before
+turned_on : (sep : Sep) (line : List ℕ) (command : Command) (said : Answer) (before : DrawerState) (old new : List DrawerState) (n : ℕ) (place : Option ℕ) → line_reading sep line ≡ Ok (Some command) → slice_get old n ≡ Some before
     → place_named line command old ≡ place → OnlyAt line command said old new place → LineOn sep line (Some said) before new
 turned_on sep line command said before old new n None asked found at h = stays_at sep line (Some said) before old new n n found (ap (λ (l : List DrawerState). slice_get l n) h)
 turned_on sep line command said before old new n (Some place) asked found at h = changed_on sep line command said before old new n place (takes_out command) refl asked found at h (here_or place n)
 
-read_on : (sep : Sep) (line : List ℕ) (read : Result (Option Command) Usage) (answer : Option Answer) (before : DrawerState) (old new : World) (n : ℕ) → reading sep line ≡ read → slice_get old.drawers n ≡ Some before
+read_on : (sep : Sep) (line : List ℕ) (read : Result (Option Command) Usage) (answer : Option Answer) (before : DrawerState) (old new : World) (n : ℕ) → line_reading sep line ≡ read → slice_get old.drawers n ≡ Some before
     → ServesReading read line old answer new → LineOn sep line answer before new.drawers
 read_on sep line (Ok None) answer before old new n asked found h = stays_at sep line answer before old.drawers new.drawers n n found (ap (λ (w : World). slice_get w.drawers n) h.1)
 read_on sep line (Err usage) answer before old new n asked found h = stays_at sep line answer before old.drawers new.drawers n n found (ap (λ (w : World). slice_get w.drawers n) h.1)
@@ -155,7 +155,7 @@ read_on sep line (Ok (Some command)) (Some said) before old new n asked found h 
     turned_on sep line command said before old.drawers new.drawers n (place_named line command old.drawers) asked found refl (turn_only_steps line command old said new h)
 
 line_on : (sep : Sep) (line : List ℕ) (answer : Option Answer) (before : DrawerState) (old new : World) (n : ℕ) → slice_get old.drawers n ≡ Some before → ServesLine sep line old answer new → LineOn sep line answer before new.drawers
-line_on sep line answer before old new n found h = read_on sep line (reading sep line) answer before old new n refl found h
+line_on sep line answer before old new n found h = read_on sep line (line_reading sep line) answer before old new n refl found h
 
 pub step_name : (sep : Sep) (line : List ℕ) (answer : Option Answer) (old : DrawerState) (events : List Event) (new : DrawerState) → DrawerSteps sep line answer old events new → new.name ≡ old.name
 step_name sep line answer old events new (inl stays) = ap (λ (d : DrawerState). d.name) stays.0
@@ -279,7 +279,7 @@ each_removed Gone (d ∷ ds) (suc place) before found gone = inl (grew_same d, e
 abbrev Out : Sep → List ℕ → Option Answer → List ℕ → Type 0
 Out sep line answer name = (ejects sep line name && is_done answer) ≡ true
 
-changed_grew : (sep : Sep) (line : List ℕ) (command : Command) (said : Answer) (old new : List DrawerState) (place : ℕ) (out : Bool) → takes_out command ≡ out → reading sep line ≡ Ok (Some command) → place_named line command old ≡ Some place
+changed_grew : (sep : Sep) (line : List ℕ) (command : Command) (said : Answer) (old new : List DrawerState) (place : ℕ) (out : Bool) → takes_out command ≡ out → line_reading sep line ≡ Ok (Some command) → place_named line command old ≡ Some place
     → ChangesBy out line command said old new place → EachGrew (Out sep line (Some said)) old new
 changed_grew sep line command said old new place true is asked at h =
     let t = taken_at sep line command said h.before old place asked is h.found at h.done in
@@ -287,12 +287,12 @@ changed_grew sep line command said old new place true is asked at h =
 changed_grew sep line command said old new place false is asked at h =
     rw h.others (each_set (Out sep line (Some said)) old place h.before h.after h.found (record { name = h.steps.name; events = h.steps.events; logs = h.steps.logs }))
 
-turned_grew : (sep : Sep) (line : List ℕ) (command : Command) (said : Answer) (old new : List DrawerState) (place : Option ℕ) → reading sep line ≡ Ok (Some command) → place_named line command old ≡ place → OnlyAt line command said old new place
+turned_grew : (sep : Sep) (line : List ℕ) (command : Command) (said : Answer) (old new : List DrawerState) (place : Option ℕ) → line_reading sep line ≡ Ok (Some command) → place_named line command old ≡ place → OnlyAt line command said old new place
     → EachGrew (Out sep line (Some said)) old new
 turned_grew sep line command said old new None asked at h = rw h (each_same (Out sep line (Some said)) old)
 turned_grew sep line command said old new (Some place) asked at h = changed_grew sep line command said old new place (takes_out command) refl asked at h
 
-read_grew : (sep : Sep) (line : List ℕ) (read : Result (Option Command) Usage) (answer : Option Answer) (old new : World) → reading sep line ≡ read → ServesReading read line old answer new
+read_grew : (sep : Sep) (line : List ℕ) (read : Result (Option Command) Usage) (answer : Option Answer) (old new : World) → line_reading sep line ≡ read → ServesReading read line old answer new
     → EachGrew (Out sep line answer) old.drawers new.drawers
 read_grew sep line (Ok None) answer old new asked h = each_as (Out sep line answer) old new h.1
 read_grew sep line (Err usage) answer old new asked h = each_as (Out sep line answer) old new h.1
@@ -317,7 +317,7 @@ run_grew sep old [] new run = each_as (AnyOut sep []) old new run.1
 run_grew sep old (l ∷ lines) new run =
     each_then (AnyOut sep (l ∷ lines)) old.drawers l.next.drawers new.drawers
     (each_weaker (Out sep l.line l.answer) (AnyOut sep (l ∷ lines)) old.drawers l.next.drawers (λ name h. any_here (ejected sep l name) (list_any (λ (x : ServedLine). ejected sep x name) lines) h)
-    (read_grew sep l.line (reading sep l.line) l.answer old l.next refl run.0.0))
+    (read_grew sep l.line (line_reading sep l.line) l.answer old l.next refl run.0.0))
     (each_weaker (AnyOut sep lines) (AnyOut sep (l ∷ lines)) l.next.drawers new.drawers (λ name h. any_behind (ejected sep l name) (list_any (λ (x : ServedLine). ejected sep x name) lines) h)
     (run_grew sep l.next lines new (run.0.1, run.1)))
 

@@ -14,16 +14,16 @@ use Rattle.provider.specs.Writing.{data_writes}
 use Rattle.sealing.specs.Sectors.{units}
 use Rattle.readings.specs.Writings.{Writing}
 use Rattle.readings.specs.Steps.{Step, after, cell, event_of, events_of}
-use Rattle.readings.specs.Survivors.{media, placed}
+use Rattle.readings.specs.Survivors.{content_media, placed}
 use Rattle.readings.specs.Writes.{AreStepsBelow, data_steps, raw_steps}
-use Rattle.bio_queue.specs.Answers.{FailsStep, Gave, HasBadUnit, IsAsked, IsInRange, IsSubmitted, StepsOn, TakesOut, asked}
+use Rattle.bio_queue.specs.Answers.{FailsStep, Gave, HasBadUnit, IsAsked, JobIsInRange, IsSubmitted, StepsOn, TakesOut, asked}
 use Rattle.bio_queue.specs.Requests.{Request, exchanged, put_in, request_with, step_events, without}
 use Rattle.bio_queue.specs.Requests as requests
 use Rattle.bio_queue.specs.declared.job.Job.{Job}
 use Rattle.bio_queue.specs.declared.job.Job.TheVariants as job
 use Rattle.bio_queue.specs.declared.job.Reaped.{Reaped}
 use Rattle.queue_readings.specs.Tasks.{Task, Work, Reads, Writes, Flushes, exchange_task, put_task, request_of, steps_of, task_after, task_with, unit_steps, without_task, work_of}
-use Rattle.queue_readings.specs.Play.{IsFaulty, IsOpenTask, IsPlay, Play, Shows, StoodThere, Yields, broken, pending, reaped, stepped, submitted}
+use Rattle.queue_readings.specs.Play.{IsFaulty, IsOpenTask, IsPlay, Play, Shows, StoodThere, Yields, broken, pending, reaped, task_stepped, submitted}
 use Rattle.queue_readings.proofs.Among.{PlacesAmong, among_behind, among_front, among_then, fits_other, fits_write, pending-each}
 use Rattle.queue_readings.proofs.Calls.{breaks_off, events_between, higher_number, reaps, reaps_fault, same_media, steps_on, written_between}
 use Rattle.queue_readings.proofs.Lists.{all_put, put_shown}
@@ -98,7 +98,7 @@ open_still k c m new play is among = record {
   tasks = all_put (IsOpenTask k c m.steps) new m.tasks is play.tasks;
 }
 
-play_open : (k : Keying) (c : Content) (m : Play) (tag : ℕ) (j : Job) (from : List ℕ) → IsPlay k c m → AreBytes from → IsAsked k.sectorsize j from → IsInRange (media k c) j → IsPlay k c (submitted tag j from m)
+play_open : (k : Keying) (c : Content) (m : Play) (tag : ℕ) (j : Job) (from : List ℕ) → IsPlay k c m → AreBytes from → IsAsked k.sectorsize j from → JobIsInRange (content_media k c) j → IsPlay k c (submitted tag j from m)
 play_open k c m tag (job.Read sector count) from play small is_asked range =
     open_still k c m (record { tag = tag; done = 0; work = Reads sector count [] }) play (refl, is_asked.0, range, All-nil (StoodThere m.steps)) (All-nil (Contains (placed (pending k m.tasks))))
 play_open k c m tag (job.Write sector count) from play small is_asked range =
@@ -131,7 +131,7 @@ tracks_submitted Fresh c m k readonly queue more d j from tag t small is_asked h
     let r : Request = request_of k task in
     let still : Play = record { steps = m.steps ++ []; tasks = m.tasks; next = m.next } in
     let now = events_between k c m few d d [] t.shows (All-nil (IsEventOf (length c.base))) (Logs-nothing d) in
-    let range = subst (λ (n : ℕ). IsInRange n j) (same_media k c m.steps d t.shows.told) h.admitted.in_range in
+    let range = subst (λ (n : ℕ). JobIsInRange n j) (same_media k c m.steps d t.shows.told) h.admitted.in_range in
     let opened : IsPlay k c (submitted tag j from still) = play_open k c still tag j from now.play small is_asked range in
     let shown : put_in r few ≡ map (request_of k) (put_task task m.tasks) = put_shown k task m.tasks in
     let is : more ≡ put_in r queue = h.queue ∙ ap (λ (x : Request). put_in x queue) (asked-shown k tag m.next j from) in
@@ -173,11 +173,11 @@ tracks_stepped Fresh c m k queue more d new tag left task t known h =
       rest = h.rest;
     }) in
     let same : s.task ≡ task = same_some s.task task (sym s.found ∙ known) in
-    let shows : Shows k c (stepped k c task m) (exchanged r few) new = subst (λ (x : Task). Shows k c (stepped k c x m) (exchanged r few) new) same s.shows in
+    let shows : Shows k c (task_stepped k c task m) (exchanged r few) new = subst (λ (x : Task). Shows k c (task_stepped k c x m) (exchanged r few) new) same s.shows in
     let all : List Request = map (request_of k) (exchange_task (task_after k (cell c m.steps) task) m.tasks) in
     let shown : exchanged r few ≡ all = shows.queue in
     record {
-      shows = higher_number k c (stepped k c task m) all new (m.next + 1) (record { play = shows.play; told = shows.told; queue = refl }) (omega arith);
+      shows = higher_number k c (task_stepped k c task m) all new (m.next + 1) (record { play = shows.play; told = shows.told; queue = refl }) (omega arith);
       within = subst (IsWithin all) (sym h.queue) (subst (λ (q : List Request). IsWithin q (exchanged r queue)) shown (within_exchanged r few queue t.within));
       apart = subst AreApart shown (apart_exchanged r few t.apart);
       whole = λ fresh. h.queue ∙ ap (exchanged r) (t.whole fresh) ∙ shown;

@@ -6,12 +6,12 @@ use Rattle.command_words.specs.declared.commands.Command.{Command}
 use Rattle.command_words.specs.declared.commands.Usage.{Usage}
 use Rattle.command_words.specs.declared.spans.Sep.{Sep}
 use Rattle.command_rows.specs.Answer.{Answer}
-use Rattle.command_rows.specs.Turn.{ChangesAt, Serves, TakesOut, Turn, reach}
+use Rattle.command_rows.specs.Turn.{ChangesAt, Serves, TakesOutDrawer, Turn, reach}
 use Rattle.command_rows.specs.World.{DrawerState, HoldKeyings, HoldsKeying, IsAmong, World}
 use Rattle.command_rows.proofs.Turns.{by_each_turn}
 use Rattle.command_rows.proofs.Untouched.{get-set, get-set_other}
 use Rattle.command_rows.proofs.LineCounts.{serves_sound}
-use Rattle.command_words.specs.Reading.{reading}
+use Rattle.command_words.specs.Reading.{line_reading}
 use Rattle.geli_core.specs.Run.{ServesLine, ServesReading}
 use Rattle.geli_core.proofs.Drawn.{here_or, same_some}
 
@@ -41,7 +41,7 @@ changed_keeps line command old said new place h all drawer there =
 all_stay : (old new : World) → new ≡ old → HoldKeyings old.drawers → HoldKeyings new.drawers
 all_stay old new is all = rw is all
 
-others_keep : (old : World) (said : Answer) (new : World) (place : ℕ) → TakesOut old said new place → HoldKeyings old.drawers → HoldKeyings new.drawers
+others_keep : (old : World) (said : Answer) (new : World) (place : ℕ) → TakesOutDrawer old said new place → HoldKeyings old.drawers → HoldKeyings new.drawers
 others_keep old said new place h all = λ drawer there.
     all drawer (among_removed old.drawers place drawer (there.0, ap (λ (w : World). slice_get w.drawers there.0) (sym h.left) ∙ there.1))
 
@@ -58,4 +58,4 @@ reading_keeps (Ok (Some command)) line old (Some said) new h all = turn_keeps li
 
 -- what is attached after a line has a keying that a provider may have, where that was so before
 pub line_keeps : (sep : Sep) (line : List ℕ) (old : World) (answer : Option Answer) (new : World) → ServesLine sep line old answer new → HoldKeyings old.drawers → HoldKeyings new.drawers
-line_keeps sep line old answer new h all = reading_keeps (reading sep line) line old answer new h all
+line_keeps sep line old answer new h all = reading_keeps (line_reading sep line) line old answer new h all

@@ -1,12 +1,12 @@
 -- All that is said of a run follows from its trace, and from what is attached at entry.
 use Rattle.std.proofs.Common.{List, [], ◌∷◌, ◌++◌, refl, ℕ}
-use Rattle.command_words.specs.Reading.{reading}
+use Rattle.command_words.specs.Reading.{line_reading}
 use Rattle.command_words.specs.declared.spans.Sep.{Sep}
 use Rattle.command_rows.specs.World.{HoldKeyings, NamesDiffer, World}
 use Rattle.geli_core.specs.Complete.{Completes}
 use Rattle.geli_core.specs.Histories.{KeepsDrawers}
 use Rattle.geli_core.specs.Lawful.{LineHolds, RunsLawfully}
-use Rattle.geli_core.specs.Script.{Ends, HasCause, Runs, Whole}
+use Rattle.geli_core.specs.Script.{Ends, StatusHasCause, Runs, Whole}
 use Rattle.geli_core.specs.Served.{Traced}
 use Rattle.geli_core.specs.Suspensions.{AreSuspended}
 use Rattle.geli_core.specs.Trace.{EachLine, EachServed, Run, ServedLine}
@@ -33,8 +33,8 @@ each_line sep entry served start (l ∷ lines) run each keyed here suspended =
     let behind : AreSuspended sep entry (served ++ l ∷ []) l.next = line_suspends sep entry served start l run.1 each.0 suspended in (
       record {
         laws = line_laws sep l.line start l.answer l.next each.0;
-        reads = reads_line sep entry served start l.next (reading sep l.line) l.line l.answer run keyed here each.0;
-        resumes = resumes_line sep entry served start (reading sep l.line) l.line l.answer l.next each.0 suspended;
+        reads = reads_line sep entry served start l.next (line_reading sep l.line) l.line l.answer run keyed here each.0;
+        resumes = resumes_line sep entry served start (line_reading sep l.line) l.line l.answer l.next each.0 suspended;
         drawers = record { survivors = each_survives sep (served ++ l ∷ []) entry l.next more keyed; suspended = behind };
       },
       each_line sep entry (served ++ l ∷ []) l.next lines more each.1 keyed (line_keeps sep l.line start l.answer l.next each.0 here) behind,
@@ -61,7 +61,7 @@ runs_lawfully words old new status h keyed differ =
 
 -- ---- what follows of it
 
-pub run_caused : (words : List (List ℕ)) (old new : Whole) (status : Status) → RunsLawfully words old status new → HasCause status old new
+pub run_caused : (words : List (List ℕ)) (old new : Whole) (status : Status) → RunsLawfully words old status new → StatusHasCause status old new
 run_caused words old new status h = runs_caused words old new h.trace status h.runs
 
 pub run_ends : (words : List (List ℕ)) (old new : Whole) (status : Status) → RunsLawfully words old status new → Ends words status

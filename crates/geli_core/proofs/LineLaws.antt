@@ -1,7 +1,7 @@
 -- The laws of lines that are served.
 use Rattle.std.proofs.Common.{◌≡◌, ℕ, List, Option, None, Some, Result, Ok, Err, refl, subst}
 use Rattle.std.specs.Prelude.{IsTrue, MatchOption}
-use Rattle.command_words.specs.Reading.{reading}
+use Rattle.command_words.specs.Reading.{line_reading}
 use Rattle.command_words.specs.Places.{bytes_at, provider_of}
 use Rattle.command_words.specs.declared.commands.Command.{Command}
 use Rattle.command_words.specs.declared.commands.Command.TheVariants as commands
@@ -86,8 +86,8 @@ reading_laws (Ok None) line old answer new h = tt
 reading_laws (Ok (Some command)) line old None new h = absurd h
 reading_laws (Ok (Some command)) line old (Some answer) new h = turn_laws line command old answer new h
 
-pub line_laws : (sep : Sep) (line : List ℕ) (old : World) (answer : Option Answer) (new : World) → ServesLine sep line old answer new → LineKeepsLaws (reading sep line) line old answer new
-line_laws sep line old answer new h = reading_laws (reading sep line) line old answer new h
+pub line_laws : (sep : Sep) (line : List ℕ) (old : World) (answer : Option Answer) (new : World) → ServesLine sep line old answer new → LineKeepsLaws (line_reading sep line) line old answer new
+line_laws sep line old answer new h = reading_laws (line_reading sep line) line old answer new h
 
 -- a line that was served and printed keeps them
 pub served_lawfully : (sep : Sep) (line : List ℕ) (old : World) (sink : SinkState) (result : Result LineEnd WriteEnd) (new : World) (after : SinkState) → ServesAndPrints sep line old sink result new after

@@ -4,7 +4,7 @@ use Rattle.std.specs.Prelude.{not}
 use Rattle.block_traits.specs.Cabinet.{CabinetState}
 use Rattle.block_traits.specs.Causes.{Rose}
 use Rattle.block_traits.specs.Streams.{EntropyState}
-use Rattle.command_words.specs.Reading.{reading}
+use Rattle.command_words.specs.Reading.{line_reading}
 use Rattle.command_words.specs.declared.commands.Command.{Command}
 use Rattle.command_words.specs.declared.commands.Usage.{Usage}
 use Rattle.command_words.specs.declared.spans.Sep.{Sep}
@@ -108,7 +108,7 @@ run_counts sep [] old new h = record {
   entropy = nothing_more old.entropy.faults new.entropy.faults (ap (λ (w : World). w.entropy.faults) h.1);
 }
 run_counts sep (l ∷ lines) old new h =
-    let one = line_rises (reading sep l.line) l.line l.answer old l.next h.0.0 in
+    let one = line_rises (line_reading sep l.line) l.line l.answer old l.next h.0.0 in
     let many = run_counts sep lines l.next new (h.0.1, h.1) in
     record {
       cabinet = one_more (is_cabinet_fault l.answer) old.cabinet.faults l.next.cabinet.faults new.cabinet.faults (how_many is_cabinet_fault (answers_of lines)) one.cabinet many.cabinet;

@@ -2,7 +2,7 @@
 use Rattle.std.proofs.Common.{◌≡◌, ◌∙◌, inl, inr, ℕ, ◌*◌, List, [], ◌∷◌, ap, refl, sym, subst, Option, None, Some, Result, Ok, Err, slice_get}
 use Rattle.std.specs.Prelude.{◌↔◌, IfSome, IsSomeAnd}
 use Rattle.bio_queue.specs.Answers.{ReapAnswers, StepAnswers}
-use Rattle.bio_queue.specs.Owners.{AreOf, IsOf}
+use Rattle.bio_queue.specs.Owners.{AreAllOf, IsOf}
 use Rattle.bio_queue.specs.Requests.{Request, request_with}
 use Rattle.bio_queue.specs.declared.faults.ReapFault.{ReapFault}
 use Rattle.bio_queue.specs.declared.faults.ReapFault.TheVariants as reap
@@ -17,7 +17,7 @@ use Rattle.command_words.specs.declared.commands.Usage.{Usage}
 use Rattle.command_words.specs.declared.commands.JobWords.{JobWords}
 use Rattle.command_words.specs.declared.spans.Sep.{Sep}
 use Rattle.command_words.specs.declared.spans.Span.{Span}
-use Rattle.command_words.specs.Reading.{reading}
+use Rattle.command_words.specs.Reading.{line_reading}
 use Rattle.eli_base.specs.Units.{media_sectors}
 use Rattle.eli_base.specs.declared.refusals.Refusal.{Refusal}
 use Rattle.eli_base.specs.declared.refusals.Refusal.TheVariants as refusals
@@ -28,7 +28,7 @@ use Rattle.command_rows.specs.Answer as answers
 use Rattle.command_rows.specs.Gate.{needs, refused_by}
 use Rattle.command_rows.specs.Queueing.{HasRequest, NeedsRequest, with_queue}
 use Rattle.command_rows.specs.Steps.{GoesOn, or_refusal}
-use Rattle.command_rows.specs.Turn.{ChangesAt, GoesThrough, Replies, Serves, TakesOut, Turn, left_or, reach, reaped_or}
+use Rattle.command_rows.specs.Turn.{ChangesAt, GoesThrough, Replies, Serves, TakesOutDrawer, Turn, left_or, reach, reaped_or}
 use Rattle.command_rows.specs.World.{AttachedWith, Attachment, DrawerState, HoldKeyings, Holding, HoldsKeying, IsAttached, Reach, World, attachment_in}
 use Rattle.command_rows.specs.verbs.Reap.{ReapRow, ReapsRequest, reap_answer}
 use Rattle.command_rows.specs.verbs.Step.{StepRow, StepsRequest, step_refusal}
@@ -52,20 +52,20 @@ use Rattle.geli_core.proofs.Requested.{reap_asks, step_asks, submit_asks}
 same_size : (holding : Holding) (d new : DiskState) → new.size ≡ d.size → HoldsOwn holding d → HoldsOwn holding new
 same_size holding d new same own = by (attachment_in holding) own
   where
-    by : (found : Option Attachment) → IfSome found (λ a. AreOf a.keying (media a.keying d) a.queue) → IfSome found (λ a. AreOf a.keying (media a.keying new) a.queue)
+    by : (found : Option Attachment) → IfSome found (λ a. AreAllOf a.keying (media a.keying d) a.queue) → IfSome found (λ a. AreAllOf a.keying (media a.keying new) a.queue)
     by None h = tt
-    by (Some a) h = subst (λ (n : ℕ). AreOf a.keying (media_sectors a.keying.auth a.keying.sectorsize (512 * n)) a.queue) (sym same) h
+    by (Some a) h = subst (λ (n : ℕ). AreAllOf a.keying (media_sectors a.keying.auth a.keying.sectorsize (512 * n)) a.queue) (sym same) h
 
 others_own : (old new : Holding) (d d' : DiskState) → KeepsRequests old new → d'.size ≡ d.size → HoldsOwn old d → HoldsOwn new d'
 others_own old new d d' (inl same) size own = subst (λ (h : Holding). HoldsOwn h d') (sym same) (same_size old d d' size own)
-others_own old new d d' (inr (inl none)) size own = subst (λ (o : Option Attachment). IfSome o (λ a. AreOf a.keying (media a.keying d') a.queue)) (sym none) tt
+others_own old new d d' (inr (inl none)) size own = subst (λ (o : Option Attachment). IfSome o (λ a. AreAllOf a.keying (media a.keying d') a.queue)) (sym none) tt
 others_own old new d d' (inr (inr (none, anew))) size own =
-    subst (λ (h : Holding). HoldsOwn h d') (sym anew.is) (subst (AreOf anew.attachment.keying (media anew.attachment.keying d')) (sym anew.none) tt)
+    subst (λ (h : Holding). HoldsOwn h d') (sym anew.is) (subst (AreAllOf anew.attachment.keying (media anew.attachment.keying d')) (sym anew.none) tt)
 
-own_of : (a : Attachment) (holding : Holding) (d : DiskState) → holding ≡ IsAttached a → HoldsOwn holding d → AreOf a.keying (media a.keying d) a.queue
+own_of : (a : Attachment) (holding : Holding) (d : DiskState) → holding ≡ IsAttached a → HoldsOwn holding d → AreAllOf a.keying (media a.keying d) a.queue
 own_of a holding d is own = subst (λ (h : Holding). HoldsOwn h d) is own
 
-owned : (b : Attachment) (holding : Holding) (d : DiskState) → holding ≡ IsAttached b → AreOf b.keying (media b.keying d) b.queue → HoldsOwn holding d
+owned : (b : Attachment) (holding : Holding) (d : DiskState) → holding ≡ IsAttached b → AreAllOf b.keying (media b.keying d) b.queue → HoldsOwn holding d
 owned b holding d is own = subst (λ (h : Holding). HoldsOwn h d) (sym is) own
 
 unchanged_own : (old new : Reach) → new ≡ old → HoldsOwn old.holding old.disk → HoldsOwn new.holding new.disk
@@ -120,7 +120,7 @@ changed_own line command old said new place h keyed all drawer there =
 all_own : (old new : World) → new ≡ old → HoldOwn old.drawers → HoldOwn new.drawers
 all_own old new is all = rw is all
 
-left_own : (old : World) (said : Answer) (new : World) (place : ℕ) → TakesOut old said new place → HoldOwn old.drawers → HoldOwn new.drawers
+left_own : (old : World) (said : Answer) (new : World) (place : ℕ) → TakesOutDrawer old said new place → HoldOwn old.drawers → HoldOwn new.drawers
 left_own old said new place h all = λ drawer there. all drawer (among_removed old.drawers place drawer (there.0, ap (λ (w : World). slice_get w.drawers there.0) (sym h.left) ∙ there.1))
 
 turn_own : (line : List ℕ) (command : Command) (old : World) (said : Answer) (new : World) → Turn line command old said new → HoldKeyings old.drawers → HoldOwn old.drawers → HoldOwn new.drawers
@@ -137,14 +137,14 @@ read_own (Ok (Some command)) line old (Some said) new h keyed all = turn_own lin
 run_own : (sep : Sep) (lines : List ServedLine) (old new : World) → Run sep old lines new → HoldKeyings old.drawers → HoldOwn old.drawers → HoldOwn new.drawers
 run_own sep [] old new run keyed all = all_own old new run.1 all
 run_own sep (l ∷ lines) old new run keyed all =
-    run_own sep lines l.next new (run.0.1, run.1) (line_keeps sep l.line old l.answer l.next run.0.0 keyed) (read_own (reading sep l.line) l.line old l.answer l.next run.0.0 keyed all)
+    run_own sep lines l.next new (run.0.1, run.1) (line_keeps sep l.line old l.answer l.next run.0.0 keyed) (read_own (line_reading sep l.line) l.line old l.answer l.next run.0.0 keyed all)
 
 none_own : (holding : Holding) (d : DiskState) → HasNoRequests holding → HoldsOwn holding d
 none_own holding d none = by (attachment_in holding) none
   where
-    by : (found : Option Attachment) → IfSome found (λ a. a.queue ≡ []) → IfSome found (λ a. AreOf a.keying (media a.keying d) a.queue)
+    by : (found : Option Attachment) → IfSome found (λ a. a.queue ≡ []) → IfSome found (λ a. AreAllOf a.keying (media a.keying d) a.queue)
     by None h = tt
-    by (Some a) h = subst (AreOf a.keying (media a.keying d)) (sym h) tt
+    by (Some a) h = subst (AreAllOf a.keying (media a.keying d)) (sym h) tt
 
 pub runs_own : (sep : Sep) (lines : List ServedLine) (old new : World) → Run sep old lines new → HoldKeyings old.drawers → HaveNoRequests old.drawers → HoldOwn new.drawers
 runs_own sep lines old new run keyed none = run_own sep lines old new run keyed (λ drawer there. none_own drawer.holding drawer.disk (none drawer there))
@@ -160,12 +160,12 @@ lacks_at tag a holding is h = subst (λ (x : Holding). LacksTag tag x) (sym is) 
 unserved : (a : Attachment) (tag : ℕ) (d : DiskState) → request_with tag a.queue ≡ None → HasRequest a tag d → ⊥
 unserved a tag d none h = subst (λ (o : Option Request). IsSomeAnd o (IsOf a.keying (media a.keying d))) none h
 
-missing : (a : Attachment) (tag : ℕ) (d : DiskState) → AreOf a.keying (media a.keying d) a.queue → (HasRequest a tag d → ⊥) → request_with tag a.queue ≡ None
+missing : (a : Attachment) (tag : ℕ) (d : DiskState) → AreAllOf a.keying (media a.keying d) a.queue → (HasRequest a tag d → ⊥) → request_with tag a.queue ≡ None
 missing a tag d own not = elim (served a.keying (media a.keying d) tag a.queue own) [ inl none ↦ none | inr there ↦ absurd (not there) ]
 
 -- by the first step of the row
 needs_both : {B : Type 0} (a : Attachment) (tag : ℕ) (Next : Reach → Result B Refusal → Reach → Type 0) (old : Reach) (given : Result (Unit {0}) Refusal) (middle : Reach) (answer : Result B Refusal) (new : Reach)
-    → ((start : Reach) → Next start answer new → answer ≡ Err (refusals.NoRequest tag) → request_with tag a.queue ≡ None) → AreOf a.keying (media a.keying old.disk) a.queue → NeedsRequest a tag old given middle → GoesOn (λ done. Next) given middle answer new
+    → ((start : Reach) → Next start answer new → answer ≡ Err (refusals.NoRequest tag) → request_with tag a.queue ≡ None) → AreAllOf a.keying (media a.keying old.disk) a.queue → NeedsRequest a tag old given middle → GoesOn (λ done. Next) given middle answer new
     → (answer ≡ Err (refusals.NoRequest tag) → request_with tag a.queue ≡ None) × (request_with tag a.queue ≡ None → answer ≡ Err (refusals.NoRequest tag))
 needs_both a tag Next old (Ok done) middle answer new refuses own needs h = (refuses middle h, λ none. absurd (unserved a tag old.disk none needs.0))
 needs_both a tag Next old (Err (refusals.NoRequest named)) middle answer new refuses own needs h =

@@ -4,7 +4,7 @@ use Rattle.std.proofs.lemmas.List.{take-append-drop, take_more}
 use Rattle.std.specs.Io.KnownBytes.{prepend_known}
 use Rattle.geli_core.specs.Served.{IsServed, IsTaken, SiteState, StopsBy, StopsWithin}
 use Rattle.command_words.specs.Reading.{line_limit}
-use Rattle.geli_core.specs.Script.{MetEnd, MetNothing, MetRefusal, piece_size}
+use Rattle.geli_core.specs.Script.{MetEnd, MetNothing, MetRefusal, most_taken}
 use Rattle.block_traits.specs.Causes.{Counted}
 use Rattle.block_traits.specs.Streams.{SourceState}
 use Rattle.std.proofs.Common.{Bool}
@@ -24,7 +24,7 @@ pub piece_more : (bytes piece : List ℕ) (n : ℕ) → n < length piece → byt
 piece_more bytes piece n small = ap (λ (l : List ℕ). bytes ++ l) (take_more piece n 0 small) ∙ sym (append_assoc bytes (take n piece) (get_or piece n 0 ∷ []))
 
 -- it stopped at a byte of a piece
-pub stops_at : (bytes piece : List ℕ) (n : ℕ) (old new : SiteState) (stop : Stop) → length piece ≤ piece_size → n < length piece → StopsBy ((bytes ++ take n piece) ++ get_or piece n 0 ∷ []) old stop new
+pub stops_at : (bytes piece : List ℕ) (n : ℕ) (old new : SiteState) (stop : Stop) → length piece ≤ most_taken → n < length piece → StopsBy ((bytes ++ take n piece) ++ get_or piece n 0 ∷ []) old stop new
     → StopsWithin (bytes ++ piece) old stop new
 stops_at bytes piece n old new stop few small stops = record {
   read = bytes ++ take (n + 1) piece;

@@ -26,12 +26,12 @@ use Rattle.readings.proofs.Writes.{AreStepsBelow-none}
 use Rattle.command_rows.specs.Answer.{Answer}
 use Rattle.shelf.specs.Closing.{Closes, ClosesAs, ClosesWorld, Closing, Flushes}
 use Rattle.command_rows.specs.Histories.{place_named}
-use Rattle.command_rows.specs.Turn.{ChangesAt, Serves, TakesOut, Turn, reach}
+use Rattle.command_rows.specs.Turn.{ChangesAt, Serves, TakesOutDrawer, Turn, reach}
 use Rattle.command_rows.specs.World.{Attachment, DrawerState, HoldKeyings, Holding, HoldsKeying, Idle, IsAmong, IsAttached, IsSuspended, World, attachment_in, is_idle, place_of}
 use Rattle.command_rows.proofs.Lines.{line_did}
 use Rattle.command_rows.proofs.Turns.{by_turn}
 use Rattle.command_rows.proofs.Untouched.{get-set, get-set_other}
-use Rattle.command_words.specs.Reading.{reading}
+use Rattle.command_words.specs.Reading.{line_reading}
 use Rattle.geli_core.specs.Histories.{ServesDrawer, names_by, says_name}
 use Rattle.geli_core.specs.Placing.{ClosesWith, DrawerPlaces, DrawerPlays, DrawerPlaysAndCloses, LinePlays, PlaysToExit, goes_on, no_play, played_by}
 use Rattle.geli_core.specs.Run.{ServesLine, ServesReading}
@@ -83,7 +83,7 @@ stayed : (sep : Sep) (line : List ℕ) (answer : Option Answer) (olds : List Dra
 stayed sep line answer olds drawer was = record { before = drawer; was = was; did = inl refl }
 
 -- the line names it
-served : (sep : Sep) (line : List ℕ) (command : Command) (said : Answer) (old new : World) (place : ℕ) → reading sep line ≡ Ok (Some command) → place_named line command old.drawers ≡ Some place
+served : (sep : Sep) (line : List ℕ) (command : Command) (said : Answer) (old new : World) (place : ℕ) → line_reading sep line ≡ Ok (Some command) → place_named line command old.drawers ≡ Some place
     → (h : ChangesAt (Serves line command) old said new place) → Served sep line (Some said) h.before h.after
 served sep line command said old new place asked at h =
     let d = line_did line command (reach h.before old) said (reach h.after new) h.step in
@@ -105,7 +105,7 @@ served sep line command said old new place asked at h =
     }
 
 -- at the place that the line names, or at another
-served_at : (sep : Sep) (line : List ℕ) (command : Command) (said : Answer) (old new : World) (drawer : DrawerState) (n place : ℕ) → reading sep line ≡ Ok (Some command) → place_named line command old.drawers ≡ Some place
+served_at : (sep : Sep) (line : List ℕ) (command : Command) (said : Answer) (old new : World) (drawer : DrawerState) (n place : ℕ) → line_reading sep line ≡ Ok (Some command) → place_named line command old.drawers ≡ Some place
     → slice_get new.drawers n ≡ Some drawer → ChangesAt (Serves line command) old said new place → (place ≡ n) ⊎ (place ≡ n → ⊥) → CameBy sep line (Some said) old.drawers drawer
 served_at sep line command said old new drawer n place asked at there h (inl here) =
     let put : slice_get new.drawers place ≡ Some h.after = rw h.others (get-set old.drawers place h.before h.after h.found) in
@@ -117,7 +117,7 @@ served_at sep line command said old new drawer n place asked at there h (inr oth
 -- by the place of the drawer that it names, if it names one
 abbrev ChangedBy : List ℕ → Command → World → Answer → World → Option ℕ → Type 0
 ChangedBy line command old said new None = new.drawers ≡ old.drawers
-ChangedBy line command old said new (Some place) = TakesOut old said new place ⊎ ChangesAt (Serves line command) old said new place
+ChangedBy line command old said new (Some place) = TakesOutDrawer old said new place ⊎ ChangesAt (Serves line command) old said new place
 
 changed_named : (line : List ℕ) (command : Command) (old : World) (said : Answer) (new : World) (named : Option Span) → MatchOption named (new.drawers ≡ old.drawers) (λ prov. ChangedBy line command old said new (place_of (bytes_at line prov) old.drawers))
     → ChangedBy line command old said new (option_and_then (λ prov. place_of (bytes_at line prov) old.drawers) named)
@@ -130,14 +130,14 @@ changed line command old said new h =
     (by_turn line command old said new (new.drawers ≡ old.drawers) (ChangedBy line command old said new) (λ lists. ap (λ (w : World). w.drawers) lists.unchanged) (λ unknown. ap (λ (w : World). w.drawers) unknown.unchanged)
     (λ place is left. inl left) (λ place is changes. inr changes) h)
 
-came_at : (sep : Sep) (line : List ℕ) (command : Command) (said : Answer) (old new : World) (drawer : DrawerState) (n : ℕ) (place : Option ℕ) → reading sep line ≡ Ok (Some command) → place_named line command old.drawers ≡ place
+came_at : (sep : Sep) (line : List ℕ) (command : Command) (said : Answer) (old new : World) (drawer : DrawerState) (n : ℕ) (place : Option ℕ) → line_reading sep line ≡ Ok (Some command) → place_named line command old.drawers ≡ place
     → slice_get new.drawers n ≡ Some drawer → ChangedBy line command old said new place → CameBy sep line (Some said) old.drawers drawer
 came_at sep line command said old new drawer n None asked at there h = stayed sep line (Some said) old.drawers drawer (n, ap (λ (l : List DrawerState). slice_get l n) (sym h) ∙ there)
 came_at sep line command said old new drawer n (Some place) asked at there (inl left) =
     stayed sep line (Some said) old.drawers drawer (among_removed old.drawers place drawer (n, ap (λ (w : World). slice_get w.drawers n) (sym left.left) ∙ there))
 came_at sep line command said old new drawer n (Some place) asked at there (inr changes) = served_at sep line command said old new drawer n place asked at there changes (here_or place n)
 
-read_by : (sep : Sep) (line : List ℕ) (read : Result (Option Command) Usage) (answer : Option Answer) (old new : World) (drawer : DrawerState) → reading sep line ≡ read → ServesReading read line old answer new → IsAmong new.drawers drawer
+read_by : (sep : Sep) (line : List ℕ) (read : Result (Option Command) Usage) (answer : Option Answer) (old new : World) (drawer : DrawerState) → line_reading sep line ≡ read → ServesReading read line old answer new → IsAmong new.drawers drawer
     → CameBy sep line answer old.drawers drawer
 read_by sep line (Err usage) answer old new drawer asked h there = stayed sep line answer old.drawers drawer (there.0, ap (λ (w : World). slice_get w.drawers there.0) (sym h.1) ∙ there.1)
 read_by sep line (Ok None) answer old new drawer asked h there = stayed sep line answer old.drawers drawer (there.0, ap (λ (w : World). slice_get w.drawers there.0) (sym h.1) ∙ there.1)
@@ -146,7 +146,7 @@ read_by sep line (Ok (Some command)) (Some said) old new drawer asked h there =
     came_at sep line command said old new drawer there.0 (place_named line command old.drawers) asked refl there.1 (changed line command old said new h)
 
 came_by : (sep : Sep) (line : List ℕ) (answer : Option Answer) (old new : World) (drawer : DrawerState) → ServesLine sep line old answer new → IsAmong new.drawers drawer → CameBy sep line answer old.drawers drawer
-came_by sep line answer old new drawer h there = read_by sep line (reading sep line) answer old new drawer refl h there
+came_by sep line answer old new drawer h there = read_by sep line (line_reading sep line) answer old new drawer refl h there
 
 -- ---- a drawer's way through lines
 

@@ -107,7 +107,7 @@ by_writings k sector count before disk (Some c) steps answer was is e keyed fits
     let first : IsContentOf before.size c = subst (FitsSize before.size) was before.well_formed.fits in
     let content : IsContentOf (length c.base) c = subst (λ (n : ℕ). IsContentOf n c) (sym first.sectors) first in
     let size : disk.size ≡ length c.base = sym later.sectors in
-    let there : sector + count ≤ survivors.media k c = subst (λ (n : ℕ). sector + count ≤ media_of k n) size fits in
+    let there : sector + count ≤ survivors.content_media k c = subst (λ (n : ℕ). sector + count ≤ media_of k n) size fits in
     sym (data-read c steps k sector count content e.fit keyed there) ∙ subst (λ (o : Option Content). ReadsFrom o k sector count answer) is reads
 
 -- of the drawer that a line names, by what its play says

@@ -6,7 +6,7 @@ use Rattle.std.proofs.lemmas.Grind.{flat_map-append}
 use Rattle.std.proofs.lemmas.List.Folds.{list_any-append}
 use Rattle.std.specs.List.{AllByRecursion, flat_map, list_any}
 use Rattle.block_traits.specs.Streams.{SinkState, TookAll}
-use Rattle.command_words.specs.Reading.{line_limit, reading}
+use Rattle.command_words.specs.Reading.{line_limit, line_reading}
 use Rattle.command_words.specs.declared.commands.Command.{Command}
 use Rattle.command_words.specs.declared.commands.Usage.{Usage}
 use Rattle.eli_base.specs.declared.refusals.Refusal.TheVariants as refusals
@@ -175,7 +175,7 @@ IsTooLong-byte bytes old new rest refused b other full h = record {
 
 -- a line that says a command
 pub turns_command : (sep : Sep) (line : List ℕ) (command : Command) (old : World) (sink : SinkState) (answer : Answer) (result : Result LineEnd WriteEnd) (new : World) (after : SinkState)
-    → Ok (Some command) ≡ reading sep line → Turn line command old answer new → PrintsAnswer (Some answer) sink result after → ServesAndPrints sep line old sink result new after
+    → Ok (Some command) ≡ line_reading sep line → Turn line command old answer new → PrintsAnswer (Some answer) sink result after → ServesAndPrints sep line old sink result new after
 turns_command sep line command old sink answer result new after says turn prints = record {
   answer = Some answer;
   serves = subst (λ (r : Result (Option Command) Usage). ServesReading r line old (Some answer) new) says turn;
@@ -184,7 +184,7 @@ turns_command sep line command old sink answer result new after says turn prints
 
 -- a line whose words are refused
 pub refuses_words : (sep : Sep) (line : List ℕ) (usage : Usage) (old : World) (sink : SinkState) (result : Result LineEnd WriteEnd) (after : SinkState)
-    → Err usage ≡ reading sep line → PrintsAnswer (Some (answers.Refused (refusals.Usage usage.word usage.reason))) sink result after → ServesAndPrints sep line old sink result old after
+    → Err usage ≡ line_reading sep line → PrintsAnswer (Some (answers.Refused (refusals.Usage usage.word usage.reason))) sink result after → ServesAndPrints sep line old sink result old after
 refuses_words sep line usage old sink result after says prints = record {
   answer = Some (answers.Refused (refusals.Usage usage.word usage.reason));
   serves = subst (λ (r : Result (Option Command) Usage). ServesReading r line old (Some (answers.Refused (refusals.Usage usage.word usage.reason))) old) says (refl, refl);

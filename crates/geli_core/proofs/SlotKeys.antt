@@ -9,7 +9,7 @@ use Rattle.eli_base.specs.declared.refusals.Refusal.{Refusal}
 use Rattle.eli_base.specs.declared.refusals.Refusal.TheVariants as refusals
 use Rattle.eli_metadata.specs.Checks.{Settings, is_set}
 use Rattle.eli_metadata.specs.declared.metadata.Metadata.{Metadata}
-use Rattle.key_slots.specs.Slots.{Opens, check_code, deciphered, has_code, master_in, numbered, slot_bytes, slot_text, unwrapped}
+use Rattle.key_slots.specs.Slots.{Opens, check_code, deciphered_slot, has_code, master_in, numbered, slot_bytes, slot_text, unwrapped}
 use Rattle.provider.specs.Attached.{opened}
 use Rattle.user_key.specs.declared.components.KeyFault.{KeyFault}
 use Rattle.user_key.specs.declared.components.UserKey.{UserKey}
@@ -26,8 +26,8 @@ same_text u text true k right h =
     sym (take-append-drop 128 text) ∙ ap (λ (l : List ℕ). take 128 text ++ l) code ∙ ap (λ (x : MasterKey). slot_text u x.bytes) same
 same_text u text false k right h = absurd (let none : ⊥ = cc h in none)
 
-opens_set : (m : Metadata) (u : List ℕ) (s : ℕ) (set : Bool) (k : MasterKey) → is_set m s ≡ set → cond set (master_in u (deciphered (slot_bytes m s) u m.keylen)) None ≡ Some k → Opens m u s k.bytes
-opens_set m u s true k is h = record { set = is; slot = record { text = same_text u (deciphered (slot_bytes m s) u m.keylen) _ k refl h } }
+opens_set : (m : Metadata) (u : List ℕ) (s : ℕ) (set : Bool) (k : MasterKey) → is_set m s ≡ set → cond set (master_in u (deciphered_slot (slot_bytes m s) u m.keylen)) None ≡ Some k → Opens m u s k.bytes
+opens_set m u s true k is h = record { set = is; slot = record { text = same_text u (deciphered_slot (slot_bytes m s) u m.keylen) _ k refl h } }
 opens_set m u s false k is h = absurd (let none : ⊥ = cc h in none)
 
 opens_so : (m : Metadata) (u : List ℕ) (s : ℕ) (k : MasterKey) → unwrapped m u s ≡ Some k → Opens m u s k.bytes

@@ -3,7 +3,7 @@ use Rattle.std.proofs.Common.{◌≡◌, ◌∙◌, ◌⊎◌, inl, inr, ℕ, Li
 use Rattle.block_traits.specs.Disk.{Logs}
 use Rattle.block_traits.proofs.Logs.{Logs-nothing}
 use Rattle.command_words.specs.Places.{bytes_at}
-use Rattle.command_words.specs.Reading.{reading}
+use Rattle.command_words.specs.Reading.{line_reading}
 use Rattle.command_words.specs.declared.commands.Command.{Command}
 use Rattle.command_words.specs.declared.commands.Command.TheVariants as commands
 use Rattle.command_words.specs.declared.commands.Usage.{Usage}
@@ -17,7 +17,7 @@ use Rattle.command_rows.specs.Answer.{Answer}
 use Rattle.command_rows.specs.Answer as answers
 use Rattle.command_rows.specs.Becoming as becoming
 use Rattle.command_rows.specs.Becoming.{Becomes, BecomesBy}
-use Rattle.command_rows.specs.Turn.{ChangesAt, Replies, Serves, TakesOut, Turn, done_or, reach}
+use Rattle.command_rows.specs.Turn.{ChangesAt, Replies, Serves, TakesOutDrawer, Turn, done_or, reach}
 use Rattle.command_rows.specs.World.{Attachment, DrawerState, Holding, IsAmong, IsSuspended, Kept, Reach, World, place_of}
 use Rattle.command_rows.specs.verbs.Attach.{OpensWith}
 use Rattle.command_rows.specs.verbs.Resume.{ResumeRow}
@@ -27,7 +27,7 @@ use Rattle.command_rows.proofs.Turns.{by_each_turn}
 use Rattle.command_rows.proofs.Untouched.{get-set, get-set_other}
 use Rattle.command_rows.proofs.LineBecomes.{serves_becomes}
 use Rattle.geli_core.specs.Run.{ServesLine, ServesReading}
-use Rattle.geli_core.specs.Suspensions.{AreSuspended, HadMaster, LineResumes, OpensSlot, StaysSuspended, SuspendedBefore, SuspendedSince}
+use Rattle.geli_core.specs.Suspensions.{AreSuspended, HadMaster, LineResumes, OpensSameMaster, StaysSuspendedThrough, SuspendedBefore, SuspendedSince}
 use Rattle.geli_core.specs.Kinds.{kind_read}
 use Rattle.geli_core.specs.Trace.{ServedLine, world_behind}
 use Rattle.geli_core.proofs.Drawn.{here_or, same_some}
@@ -40,7 +40,7 @@ use Rattle.geli_core.proofs.SlotKeys.{tried_opens}
 -- the line names it, and what it does with its disk came about so
 record IsNamed (sep : Sep) (line : List ℕ) (start next : World) (before drawer : DrawerState) : Type 0 where
   command : Command
-  asked : reading sep line ≡ Ok (Some command)
+  asked : line_reading sep line ≡ Ok (Some command)
   said : Answer
   becomes : Becomes line command (reach before start) said (reach drawer next)
 
@@ -57,7 +57,7 @@ as_it_was sep line start next drawer was = record { before = drawer; was = was; 
 all_as_they_were : (sep : Sep) (line : List ℕ) (start next : World) (drawer : DrawerState) → next ≡ start → IsAmong next.drawers drawer → Behind sep line start next drawer
 all_as_they_were sep line start next drawer is there = as_it_was sep line start next drawer (subst (λ (w : World). IsAmong w.drawers drawer) is there)
 
-put_behind : (sep : Sep) (line : List ℕ) (command : Command) (said : Answer) (start next : World) (drawer : DrawerState) (n place : ℕ) → reading sep line ≡ Ok (Some command) → slice_get next.drawers n ≡ Some drawer
+put_behind : (sep : Sep) (line : List ℕ) (command : Command) (said : Answer) (start next : World) (drawer : DrawerState) (n place : ℕ) → line_reading sep line ≡ Ok (Some command) → slice_get next.drawers n ≡ Some drawer
     → ChangesAt (Serves line command) start said next place → (place ≡ n) ⊎ (place ≡ n → ⊥) → Behind sep line start next drawer
 put_behind sep line command said start next drawer n place asked there h (inl here) =
     let put : slice_get next.drawers place ≡ Some h.after = rw h.others (get-set start.drawers place h.before h.after h.found) in
@@ -76,18 +76,18 @@ put_behind sep line command said start next drawer n place asked there h (inl he
 put_behind sep line command said start next drawer n place asked there h (inr other) =
     as_it_was sep line start next drawer (n, sym (ap (λ (l : List DrawerState). slice_get l n) h.others ∙ get-set_other start.drawers place n h.after other) ∙ there)
 
-left_behind : (sep : Sep) (line : List ℕ) (said : Answer) (start next : World) (drawer : DrawerState) (place : ℕ) → TakesOut start said next place → IsAmong next.drawers drawer → Behind sep line start next drawer
+left_behind : (sep : Sep) (line : List ℕ) (said : Answer) (start next : World) (drawer : DrawerState) (place : ℕ) → TakesOutDrawer start said next place → IsAmong next.drawers drawer → Behind sep line start next drawer
 left_behind sep line said start next drawer place h there =
     as_it_was sep line start next drawer (among_removed start.drawers place drawer (there.0, ap (λ (w : World). slice_get w.drawers there.0) (sym h.left) ∙ there.1))
 
-turn_behind : (sep : Sep) (line : List ℕ) (command : Command) (said : Answer) (start next : World) (drawer : DrawerState) → reading sep line ≡ Ok (Some command) → Turn line command start said next → IsAmong next.drawers drawer
+turn_behind : (sep : Sep) (line : List ℕ) (command : Command) (said : Answer) (start next : World) (drawer : DrawerState) → line_reading sep line ≡ Ok (Some command) → Turn line command start said next → IsAmong next.drawers drawer
     → Behind sep line start next drawer
 turn_behind sep line command said start next drawer asked h there =
     by_each_turn line command start said next (Behind sep line start next drawer) (λ lists. all_as_they_were sep line start next drawer lists.unchanged there) (λ unknown. all_as_they_were sep line start next drawer unknown.unchanged there)
     (λ place left. left_behind sep line said start next drawer place left there)
     (λ place changed. put_behind sep line command said start next drawer there.0 place asked there.1 changed (here_or place there.0)) h
 
-read_behind : (sep : Sep) (line : List ℕ) (read : Result (Option Command) Usage) (start : World) (answer : Option Answer) (next : World) (drawer : DrawerState) → reading sep line ≡ read → ServesReading read line start answer next
+read_behind : (sep : Sep) (line : List ℕ) (read : Result (Option Command) Usage) (start : World) (answer : Option Answer) (next : World) (drawer : DrawerState) → line_reading sep line ≡ read → ServesReading read line start answer next
     → IsAmong next.drawers drawer → Behind sep line start next drawer
 read_behind sep line (Err usage) start answer next drawer asked h there = all_as_they_were sep line start next drawer h.1 there
 read_behind sep line (Ok None) start answer next drawer asked h there = all_as_they_were sep line start next drawer h.1 there
@@ -95,12 +95,12 @@ read_behind sep line (Ok (Some command)) start None next drawer asked h there = 
 read_behind sep line (Ok (Some command)) start (Some said) next drawer asked h there = turn_behind sep line command said start next drawer asked h there
 
 behind : (sep : Sep) (line : List ℕ) (start : World) (answer : Option Answer) (next : World) (drawer : DrawerState) → ServesLine sep line start answer next → IsAmong next.drawers drawer → Behind sep line start next drawer
-behind sep line start answer next drawer h there = read_behind sep line (reading sep line) start answer next drawer refl h there
+behind sep line start answer next drawer h there = read_behind sep line (line_reading sep line) start answer next drawer refl h there
 
 -- ---- it stays suspended, one line more
 
-stays_more : (kept : Kept) (lines : List ServedLine) (l : ServedLine) (old before drawer : DrawerState) → StaysSuspended kept lines old before → IsAmong l.next.drawers drawer → drawer.name ≡ before.name → Logs [] before.disk drawer.disk
-    → drawer.holding ≡ IsSuspended kept → StaysSuspended kept (lines ++ l ∷ []) old drawer
+stays_more : (kept : Kept) (lines : List ServedLine) (l : ServedLine) (old before drawer : DrawerState) → StaysSuspendedThrough kept lines old before → IsAmong l.next.drawers drawer → drawer.name ≡ before.name → Logs [] before.disk drawer.disk
+    → drawer.holding ≡ IsSuspended kept → StaysSuspendedThrough kept (lines ++ l ∷ []) old drawer
 stays_more kept [] l old before drawer h there name logs is =
     (drawer, there, name ∙ ap (λ (d : DrawerState). d.name) h.0, h.1, subst (λ (d : DrawerState). Logs [] d.disk drawer.disk) h.0 logs, (refl, is))
 stays_more kept (first ∷ lines) l old before drawer h there name logs is = (h.0, h.1, h.2, h.3, h.4, stays_more kept lines l h.0 before drawer h.5 there name logs is)
@@ -136,7 +136,7 @@ came_more sep entry served l before drawer kept (inr (a, s)) there name logs is 
 
 -- a `suspend` that came just now
 came_now : (sep : Sep) (entry : World) (served : List ServedLine) (start : World) (l : ServedLine) (before drawer : DrawerState) (kept : Kept) (command : Command) → start ≡ world_behind entry served → IsAmong start.drawers before
-    → reading sep l.line ≡ Ok (Some command) → IsAmong l.next.drawers drawer → drawer.name ≡ before.name → drawer.holding ≡ IsSuspended kept → becoming.IsSuspendedBy command kept (reach before start) (reach drawer l.next)
+    → line_reading sep l.line ≡ Ok (Some command) → IsAmong l.next.drawers drawer → drawer.name ≡ before.name → drawer.holding ≡ IsSuspended kept → becoming.IsSuspendedBy command kept (reach before start) (reach drawer l.next)
     → Came sep entry (served ++ l ∷ []) drawer kept
 came_now sep entry served start l before drawer kept command behind was asked there name is h = inr (
   h.a,
@@ -160,7 +160,7 @@ came_now sep entry served start l before drawer kept command behind was asked th
 )
 
 named_came : (sep : Sep) (entry : World) (served : List ServedLine) (start : World) (l : ServedLine) (before drawer : DrawerState) (kept : Kept) (command : Command) → start ≡ world_behind entry served → IsAmong start.drawers before
-    → reading sep l.line ≡ Ok (Some command) → IsAmong l.next.drawers drawer → drawer.name ≡ before.name → drawer.holding ≡ IsSuspended kept → AreSuspended sep entry served start
+    → line_reading sep l.line ≡ Ok (Some command) → IsAmong l.next.drawers drawer → drawer.name ≡ before.name → drawer.holding ≡ IsSuspended kept → AreSuspended sep entry served start
     → becoming.StaysSuspended kept (reach before start) (reach drawer l.next) ⊎ becoming.IsSuspendedBy command kept (reach before start) (reach drawer l.next) → Came sep entry (served ++ l ∷ []) drawer kept
 named_came sep entry served start l before drawer kept command behind was asked there name is all (inl h) = came_more sep entry served l before drawer kept (all before kept was h.was) there name h.logs is
 named_came sep entry served start l before drawer kept command behind was asked there name is all (inr h) = came_now sep entry served start l before drawer kept command behind was asked there name is h
@@ -185,7 +185,7 @@ entry_suspends sep entry drawer kept there is = inl (record { before = drawer; t
 
 -- ---- `resume`
 
-opens_slot : (line : List ℕ) (words : KeyWords) (kept : Kept) (old : Reach) (a : Attachment) → OpensWith line None kept.readonly words old a → OpensSlot line words kept old a
+opens_slot : (line : List ℕ) (words : KeyWords) (kept : Kept) (old : Reach) (a : Attachment) → OpensWith line None kept.readonly words old a → OpensSameMaster line words kept old a
 opens_slot line words kept old a found =
     let by = tried_opens found.m found.settings kept.readonly _ a found.opens in
     record { found = found; key = by.key; derived = by.is; opens = by.opens }

@@ -9,7 +9,7 @@ use Rattle.std.proofs.lemmas.Slice.Eq.{bytes_eq-Decides}
 use Rattle.block_traits.specs.Cabinet.{Files, stored}
 use Rattle.block_traits.specs.Disk.{DiskState}
 use Rattle.command_words.specs.Places.{bytes_at}
-use Rattle.command_words.specs.Reading.{reading}
+use Rattle.command_words.specs.Reading.{line_reading}
 use Rattle.command_words.specs.declared.commands.Command.{Command}
 use Rattle.command_words.specs.declared.commands.Command.TheVariants as commands
 use Rattle.command_words.specs.declared.commands.Usage.{Usage}
@@ -35,7 +35,7 @@ use Rattle.command_rows.proofs.Untouched.{get-set}
 use Rattle.geli_core.specs.Run.{ServesReading}
 use Rattle.geli_core.specs.Kinds.{kind_read}
 use Rattle.geli_core.specs.Trace.{EachServed, ServedLine}
-use Rattle.geli_core.specs.Sweeps.{Asked, BeginsCourse, Course, EachBegins, EachGoesOn, HasDrawer, IsNextPart, KeepsCourse, SweepsPart, asked_by, counts_with, place_file}
+use Rattle.geli_core.specs.Sweeps.{AskedSweep, BeginsCourse, Course, EachBegins, EachGoesOn, HasDrawer, IsNextPart, KeepsCourse, SweepsPart, asked_by, counts_with, place_file}
 
 -- where the parts with these counts end
 abbrev end_of : Course → List ℕ → ℕ
@@ -128,7 +128,7 @@ record StandsAt (course : Course) (counts : List ℕ) (world : World) : Type 0 w
   holds : place_file course world ≡ Some (Some (le64 (end_of course counts)))
 
 -- a part was swept from there, and the file says where it ended
-record Advances (course : Course) (counts : List ℕ) (asked : Option Asked) (old : World) (answer : Option Answer) (new : World) : Type 0 where
+record Advances (course : Course) (counts : List ℕ) (asked : Option AskedSweep) (old : World) (answer : Option Answer) (new : World) : Type 0 where
   part : SweepsPart course counts asked old answer new
   stands : StandsAt course (counts_with counts asked answer) new
 
@@ -187,9 +187,9 @@ apart : (course : Course) (counts : List ℕ) (old : World) (answer : Option Ans
 apart course counts old answer new stands same = record { part = tt; stands = record { holds = same ∙ stands.holds } }
 
 verify_goes : (course : Course) (counts : List ℕ) (line : List ℕ) (prov file : Span) (count : ℕ) (restart named filed : Bool) (old : World) (answer : Option Answer) (new : World) → bytes_eq (bytes_at line prov) course.name ≡ named → bytes_eq (bytes_at line file) course.file ≡ filed
-    → StandsAt course counts old → (let asked : Option Asked = cond (named && filed) (Some (record { count = count; restart = restart })) None in KeepsCourse course asked old new)
+    → StandsAt course counts old → (let asked : Option AskedSweep = cond (named && filed) (Some (record { count = count; restart = restart })) None in KeepsCourse course asked old new)
     → ServesReading (Ok (Some (commands.Verify prov file count restart))) line old answer new
-    → (let asked : Option Asked = cond (named && filed) (Some (record { count = count; restart = restart })) None in Advances course counts asked old answer new)
+    → (let asked : Option AskedSweep = cond (named && filed) (Some (record { count = count; restart = restart })) None in Advances course counts asked old answer new)
 verify_goes course counts line prov file count restart true true old (Some said) new prov_is file_is stands keeps h =
     goes_on_line course counts line prov file count restart old said new ((bytes_eq-Decides (bytes_at line prov) course.name).0 prov_is) ((bytes_eq-Decides (bytes_at line file) course.file).0 file_is) keeps.0 keeps.1 stands h
 verify_goes course counts line prov file count restart true true old None new prov_is file_is stands keeps h = absurd h
@@ -205,8 +205,8 @@ line_goes course counts read line old answer new stands keeps h = apart course c
 each_goes_on : (course : Course) (counts : List ℕ) (sep : Sep) (start : World) (lines : List ServedLine) → EachServed sep start lines → StandsAt course counts start → EachGoesOn course counts sep start lines
 each_goes_on course counts sep start [] served stands = tt
 each_goes_on course counts sep start (l ∷ lines) served stands = λ keeps.
-    let next = line_goes course counts (reading sep l.line) l.line start l.answer l.next stands keeps served.0 in
-    (next.part, each_goes_on course (counts_with counts (asked_by course l.line (kind_read (reading sep l.line))) l.answer) sep l.next lines served.1 next.stands)
+    let next = line_goes course counts (line_reading sep l.line) l.line start l.answer l.next stands keeps served.0 in
+    (next.part, each_goes_on course (counts_with counts (asked_by course l.line (kind_read (line_reading sep l.line))) l.answer) sep l.next lines served.1 next.stands)
 
 -- ---- a line that begins
 
@@ -220,9 +220,9 @@ begins_by course line file count restart offsets next old new d after (Ok part) 
 begins_by course line file count restart offsets next old new d after (Err refusal) there name anew told is row = absurd (let none : ⊥ = cc is in none)
 
 verify_begins : (course : Course) (line : List ℕ) (prov file : Span) (count : ℕ) (restart named filed : Bool) (old : World) (answer : Option Answer) (new : World) → bytes_eq (bytes_at line prov) course.name ≡ named → bytes_eq (bytes_at line file) course.file ≡ filed
-    → (let asked : Option Asked = cond (named && filed) (Some (record { count = count; restart = restart })) None in BeginsCourse course asked old answer)
+    → (let asked : Option AskedSweep = cond (named && filed) (Some (record { count = count; restart = restart })) None in BeginsCourse course asked old answer)
     → ServesReading (Ok (Some (commands.Verify prov file count restart))) line old answer new
-    → (let asked : Option Asked = cond (named && filed) (Some (record { count = count; restart = restart })) None in Advances course [] asked old answer new)
+    → (let asked : Option AskedSweep = cond (named && filed) (Some (record { count = count; restart = restart })) None in Advances course [] asked old answer new)
 verify_begins course line prov file count restart true true old (Some (answers.Verified offsets next)) new prov_is file_is begins h =
     let g = goes_there course line prov file count restart old (answers.Verified offsets next) new ((bytes_eq-Decides (bytes_at line prov) course.name).0 prov_is) begins.2 h in
     begins_by course line file count restart offsets next old new begins.2 g.after g.replies.answer g.there ((bytes_eq-Decides (bytes_at line file) course.file).0 file_is) begins.0 begins.1 g.replies.replied g.replies.row
@@ -240,7 +240,7 @@ pub each_begins : (course : Course) (sep : Sep) (start : World) (lines : List Se
 each_begins course sep start [] served = tt
 each_begins course sep start (l ∷ lines) served = (
   λ begins.
-      let next = line_begins course (reading sep l.line) l.line start l.answer l.next begins served.0 in
-      (next.part, each_goes_on course (counts_with [] (asked_by course l.line (kind_read (reading sep l.line))) l.answer) sep l.next lines served.1 next.stands),
+      let next = line_begins course (line_reading sep l.line) l.line start l.answer l.next begins served.0 in
+      (next.part, each_goes_on course (counts_with [] (asked_by course l.line (kind_read (line_reading sep l.line))) l.answer) sep l.next lines served.1 next.stands),
   each_begins course sep l.next lines served.1,
 )

@@ -20,8 +20,9 @@ pub record RisesToExit (closing : Option ℕ) (many : ℕ) (before : DrawerState
   pub rises : RisesBy (many + failures failed) before place exit
   pub closes : ClosesDrawer closing last failed rises.after
 
--- The answers to the lines that the cabinet or the entropy failed, or a file was absent, are counted; each refusal of the closing has its drawer; and the
--- answers to the lines that name a drawer that its disk failed are counted by that disk, and so is the failure of its closing.
+-- the answers to the lines that the cabinet or the entropy failed, or a file was absent, are counted; each refusal of
+-- the closing has its drawer; and the answers to the lines that name a drawer that its disk failed are counted by that
+-- disk, and so is the failure of its closing
 pub record CountsAll (entry : World) (trace : Trace) (exit : World) : Type 0 where
   pub outside : CountsOutside (answers_of trace.lines) entry exit
   pub closing : ClosesWithFailures entry trace exit

@@ -53,7 +53,8 @@ abbrev pub KeepsAll : Result (Option Command) Usage → Type 0
 KeepsAll (Ok (Some command)) = takes_out command ≡ false
 KeepsAll read = Unit {0}
 
--- the drawer stands where it stood, and its disk's count of faults rose at least by as many, unless it stands at its last value
+-- the drawer stands where it stood, and its disk's count of faults rose at least by as many, unless it stands at its
+-- last value
 pub record RisesBy (many : ℕ) (before : DrawerState) (place : ℕ) (new : World) : Type 0 where
   pub after : DrawerState
   pub there : slice_get new.drawers place ≡ Some after

@@ -15,7 +15,8 @@ use Rattle.geli_core.specs.Served.{ByTrace, RunsUnless, status_by}
 use Rattle.geli_core.specs.Trace.{Trace, answers_of, lines_of}
 use Rattle.geli_core.specs.declared.status.Status.{Status}
 
--- the bytes are fewer than are too many for a script, and wherever no newline stands among them, they are at most those of a line
+-- the bytes are fewer than are too many for a script, and wherever no newline stands among them, they are at most those
+-- of a line
 pub record IsWithinLimits (bytes : List ℕ) : Type 0 where
   pub small : length bytes < script_limit
   pub short : (before line after : List ℕ) → bytes ≡ before ++ line ++ after → IsOneLine line → length line ≤ line_limit
@@ -25,8 +26,8 @@ pub record GaveWithinLimits (old new : SourceState) : Type 0 where
   pub quiet : Rose old.faults new.faults → ⊥
   pub within : (bytes : List ℕ) → old.left ≡ prepend_known bytes new.left → IsWithinLimits bytes
 
--- the lines of the trace are all of these, the drawers were closed, and all answers and the refusals of the closing were printed: the status
--- is Done where no refusal is among them, and else SomeRefused
+-- the lines of the trace are all of these, the drawers were closed, and all answers and the refusals of the closing
+-- were printed: the status is Done where no refusal is among them, and else SomeRefused
 pub record RunsToEnd (sep : Sep) (lines : List (List ℕ)) (old : Whole) (trace : Trace) (status : Status) (new : Whole) : Type 0 where
   pub cut_by : trace.sep ≡ sep
   pub all : lines_of trace.lines ≡ lines
@@ -50,8 +51,8 @@ pub record CommandToEnd (line : List ℕ) (old : Whole) (trace : Trace) (status 
   pub source : new.source ≡ old.source
   pub to_end : RunsToEnd Zeros (line ∷ []) old trace status new
 
--- a script, and one command that is served, go to their end; or there was no memory, and nothing was done. A script needs a source
--- that doesn't fail and gives no more than is allowed.
+-- A script, and one command that is served, go to their end; or there was no memory, and nothing was done. A script
+-- needs a source that doesn't fail and gives no more than is allowed.
 abbrev pub CompletesBy : Option (List (List ℕ)) → Option Command → List ℕ → Whole → Trace → Status → Whole → Type 0
 CompletesBy (Some names) command line old trace status new = GaveWithinLimits old.source new.source → RunsUnless (ByTrace ScriptToEnd trace) old status new
 CompletesBy None (Some command) line old trace status new = RunsUnless (ByTrace (CommandToEnd line) trace) old status new

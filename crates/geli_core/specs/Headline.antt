@@ -7,7 +7,7 @@ use Rattle.block_traits.specs.Disk.{DiskState}
 use Rattle.eli_base.specs.Keying.{Keying}
 use Rattle.eli_base.specs.declared.parameters.Params.{Params}
 use Rattle.eli_metadata.specs.declared.metadata.Metadata.{Metadata}
-use Rattle.provider.specs.Answers.{AttachAnswers, ReadAnswers, Request, request}
+use Rattle.provider.specs.Answers.{AttachAnswers, ReadAnswers, SectorRequest, request}
 use Rattle.provider.specs.Attached.{Attached}
 use Rattle.provider.specs.declared.faults.AttachFault.{AttachFault}
 use Rattle.provider.specs.declared.faults.AttachFault.TheVariants as attach
@@ -38,24 +38,27 @@ pub record ReadTogether (P : ℕ → Result (List ℕ) ℕ → Type 0) (sector c
   pub together : joined readings ≡ answer
 
 -- a read answers what its logical sectors are together; or the range passes the end, or the disk failed
-abbrev pub AnswersBy : (ℕ → Result (List ℕ) ℕ → Type 0) → Request → List ℕ → Result (Unit {0}) ReadFault → DiskState → DiskState → Type 0
+abbrev pub AnswersBy : (ℕ → Result (List ℕ) ℕ → Type 0) → SectorRequest → List ℕ → Result (Unit {0}) ReadFault → DiskState → DiskState → Type 0
 AnswersBy P r bytes (Ok done) old new = ReadTogether P r.sector r.count (Ok bytes)
 AnswersBy P r bytes (Err (read.Integrity offset)) old new = ReadTogether P r.sector r.count (Err offset)
 AnswersBy P r bytes (Err (read.OutOfRange sector count media)) old new = r.media < r.sector + r.count
 AnswersBy P r bytes (Err read.DeviceFault) old new = Rose old.faults new.faults
 
--- so does each read of a provider with this keying on a disk with this image, which the disk has still, for the next read
+-- so does each read of a provider with this keying on a disk with this image, which the disk has still, for the next
+-- read
 abbrev pub ReadsBy : {D : Type 0} → (D → DiskState) → List (List ℕ) → Keying → (ℕ → Result (List ℕ) ℕ → Type 0) → Type 0
 ReadsBy {D} state image k P = (sector : ℕ) (into bytes : List ℕ) (old new : Attached D) (answer : Result (Unit {0}) ReadFault) →
     HasImage image (state old.disk) → old.keying ≡ k → ReadAnswers state (request state old sector into) bytes old new answer →
     AnswersBy P (request state old sector into) bytes answer (state old.disk) (state new.disk) × HasImage image (state new.disk)
 
--- the provider is attached, with the master key of the slot and under a keying that a provider may have, and reads so; or there was no memory
+-- the provider is attached, with the master key of the slot and under a keying that a provider may have, and reads so;
+-- or there was no memory
 abbrev pub AttachesAndReads : {D : Type 0} → (D → DiskState) → List (List ℕ) → (Keying → ℕ → Result (List ℕ) ℕ → Type 0) → D → Params → ℕ → List ℕ → Result (Attached D) (D × AttachFault) → Type 0
 AttachesAndReads state image P given params s master (Ok p) = IsAttachedOn given params s master p × IsKeying p.keying × ReadsBy state image p.keying (P p.keying)
 AttachesAndReads state image P given params s master (Err refused) = (refused.0 ≡ given) × (refused.1 ≡ attach.NoMemory)
 
--- whoever attaches a disk with this image with a key that opens one of its slots gets a provider that reads so, or there was no memory
+-- whoever attaches a disk with this image with a key that opens one of its slots gets a provider that reads so, or
+-- there was no memory
 abbrev pub OpensAndReads : {D : Type 0} → (D → DiskState) → List (List ℕ) → (Keying → ℕ → Result (List ℕ) ℕ → Type 0) → Type 0
 OpensAndReads {D} state image P = (m : Metadata) (params : Params) (key : List ℕ) (readonly : Bool) (s : ℕ) (master : List ℕ) (disk : D) (result : Result (Attached D) (D × AttachFault)) →
     HasImage image (state disk) → IsOpenedBy image m params key s master →
@@ -68,15 +71,17 @@ OpensAndReads {D} state image P = (m : Metadata) (params : Params) (key : List �
 abbrev pub ReadsAsChosen : Content → List Step → ℕ → (ℕ → ℕ) → Keying → ℕ → Result (List ℕ) ℕ → Type 0
 ReadsAsChosen c steps t choice k sector reading = reading ≡ read_sector k sector (chosen k sector (cell c (take t steps)) choice)
 
--- in a torn or altered one, as writings of the cells or strange bytes where such may be; each fault has its cause, and what is accepted is known or forged
+-- in a torn or altered one, as writings of the cells or strange bytes where such may be; each fault has its cause, and
+-- what is accepted is known or forged
 pub record ReadsAsStands (c : Content) (steps : List Step) (t : ℕ) (may_be_strange : ℕ → Type 0) (image : List (List ℕ)) (k : Keying) (sector : ℕ) (reading : Result (List ℕ) ℕ) : Type 0 where
   pub causes : ReadsWithCauses k sector (cell c (take t steps)) may_be_strange (ever c (take t steps)) image
   pub is : reading ≡ read_sector k sector causes.from.writings
 
 -- ---- the sentence
 
--- Power fails after any number of these steps, or within the next. Whatever image is left, a disk with it is attached with a key of one of its slots,
--- or there was no memory; and then each read answers, logical sector by logical sector, what the chosen writings say.
+-- Power fails after any number of these steps, or within the next. Whatever image is left, a disk with it is attached
+-- with a key of one of its slots, or there was no memory; and then each read answers, logical sector by logical sector,
+-- what the chosen writings say.
 pub record ReadsAfterCrashes {D : Type 0} (state : D → DiskState) (steps : List Step) (c : Content) : Type 0 where
   pub whole : (t : ℕ) (choice : ℕ → ℕ) (image : List (List ℕ)) → IsImage (moment t steps c) choice image → OpensAndReads state image (ReadsAsChosen c steps t choice)
   pub torn : (t : ℕ) (image : List (List ℕ)) → IsTorn (moment t steps c) image → OpensAndReads state image (ReadsAsStands c steps t (IsUnsettled (moment t steps c)) image)

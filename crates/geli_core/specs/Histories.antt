@@ -4,7 +4,7 @@ use Rattle.std.specs.List.{AllByRecursion, list_any}
 use Rattle.std.specs.Str.{bytes_eq}
 use Rattle.block_traits.specs.Disk.{Logs}
 use Rattle.block_traits.specs.declared.disk.Event.{Event}
-use Rattle.command_words.specs.Reading.{reading}
+use Rattle.command_words.specs.Reading.{line_reading}
 use Rattle.command_words.specs.Places.{bytes_at, provider_of}
 use Rattle.command_words.specs.declared.commands.Command.{Command}
 use Rattle.command_words.specs.declared.commands.Usage.{Usage}
@@ -29,7 +29,7 @@ says_name (Ok (Some command)) line name = names_by (provider_of command) line na
 
 -- whether a line names a drawer
 abbrev pub names : Sep → List ℕ → List ℕ → Bool
-names sep line name = says_name (reading sep line) line name
+names sep line name = says_name (line_reading sep line) line name
 
 -- whether a command takes the drawer out
 abbrev pub says_eject : Result (Option Command) Usage → List ℕ → List ℕ → Bool
@@ -44,12 +44,12 @@ is_done answer = false
 
 -- whether a line takes the drawer out
 abbrev pub ejects : Sep → List ℕ → List ℕ → Bool
-ejects sep line name = says_eject (reading sep line) line name
+ejects sep line name = says_eject (line_reading sep line) line name
 
 -- the line is a command that names the drawer, whose disk logs these events of it
 pub record ServesDrawer (sep : Sep) (line : List ℕ) (answer : Option Answer) (old : DrawerState) (events : List Event) (new : DrawerState) : Type 0 where
   pub command : Command
-  pub asked : reading sep line ≡ Ok (Some command)
+  pub asked : line_reading sep line ≡ Ok (Some command)
   pub named : names sep line old.name ≡ true
   pub said : Answer
   pub answered : answer ≡ Some said
@@ -67,8 +67,8 @@ pub record TakesDrawer (sep : Sep) (line : List ℕ) (answer : Option Answer) (o
   pub named : names sep line old.name ≡ true
   pub done : answer ≡ Some answers.Done
 
--- a drawer while lines are served, and whether it is there at last: the events are those of its lines, one after the other, and `last`
--- is how it is at last, or was when a line took it out
+-- a drawer while lines are served, and whether it is there at last: the events are those of its lines, one after the
+-- other, and `last` is how it is at last, or was when a line took it out
 abbrev pub DrawerRuns : Sep → List ServedLine → DrawerState → List Event → Bool → DrawerState → Type 0
 DrawerRuns sep [] old events there last = (there ≡ true) × (last ≡ old) × (events ≡ [])
 DrawerRuns sep (l ∷ lines) old events there last =

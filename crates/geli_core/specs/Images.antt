@@ -36,7 +36,8 @@ whole_with drawers outside = record {
   sink = outside.sink;
 }
 
--- why no shelf takes all of these drawers: there are more than it has room for, or two have one name; or there was no memory
+-- why no shelf takes all of these drawers: there are more than it has room for, or two have one name; or there was no
+-- memory
 abbrev pub IsNotShelved : AddFault → List DrawerState → Type 0
 IsNotShelved Full drawers = most_drawers < length drawers
 IsNotShelved Taken drawers = NamesDiffer drawers → ⊥
@@ -56,12 +57,14 @@ abbrev pub one_or_none : {D : Type 0} → (D → DiskState) → Option D → Lis
 one_or_none state None = []
 one_or_none state (Some disk) = state disk ∷ []
 
--- the disks that are handed back where no shelf takes all of them: those that one took, the one that it refused, and those behind it
+-- the disks that are handed back where no shelf takes all of them: those that one took, the one that it refused, and
+-- those behind it
 abbrev pub disks_back : {D : Type 0} → (D → DiskState) → NotShelved D → List DiskState
 disks_back state refused = disks_on state refused.shelf ++ (one_or_none state refused.disk ++ map state refused.rest.items)
 
--- A run of the words over disks under names: at first there is a drawer for each name, in order, in which the disk of that place lies idle, and
--- there is no other, nor one with the same name; of the run from these drawers to those that are left at last holds all that is said of runs.
+-- a run of the words over disks under names: at first there is a drawer for each name, in order, in which the disk of
+-- that place lies idle, and there is no other, nor one with the same name; of the run from these drawers to those that
+-- are left at last holds all that is said of runs
 pub record RunsOver (words names : List (List ℕ)) (disks : List DiskState) (old : OutsideState) (status : Status) (left : List DrawerState) (new : OutsideState) : Type 0 where
   pub differ : NamesDiffer (idle_drawers names disks)
   pub lawful : RunsLawfully words (whole_with (idle_drawers names disks) old) status (whole_with left new)

@@ -6,11 +6,11 @@ use Rattle.command_rows.specs.Verb.{Kind, OfOther}
 use Rattle.command_rows.specs.verbs.{verb_of}
 
 -- by the verb of the command
-abbrev pub kind_of : Command → Kind
-kind_of command = (verb_of command).kind
+abbrev pub line_kind : Command → Kind
+line_kind command = (verb_of command).kind
 
 -- of what a line says
 abbrev pub kind_read : Result (Option Command) Usage → Kind
-kind_read (Ok (Some command)) = kind_of command
+kind_read (Ok (Some command)) = line_kind command
 kind_read (Ok None) = OfOther
 kind_read (Err usage) = OfOther

@@ -1,7 +1,7 @@
 -- What holds of each line, whatever the row of its command.
 use Rattle.std.specs.Prelude.{◌≡◌, ℕ, IsTrue, List, Option, Some, Result, Ok}
 use Rattle.command_words.specs.Places.{bytes_at, provider_of}
-use Rattle.command_words.specs.Reading.{reading}
+use Rattle.command_words.specs.Reading.{line_reading}
 use Rattle.command_words.specs.declared.commands.Command.{Command}
 use Rattle.command_words.specs.declared.commands.Usage.{Usage}
 use Rattle.command_words.specs.declared.spans.Span.{Span}
@@ -28,11 +28,13 @@ abbrev pub IfRefused : Answer → (Refusal → Type 0) → Type 0
 IfRefused (answers.Refused refusal) Holds = Holds refusal
 IfRefused answer Holds = Unit {0}
 
--- Of a command: a refusal has its cause. Want of memory is answered only to verbs that may lack it. Where the drawer that it names has
--- what its verb needs, and nothing fails, it is served, or there was no memory and its verb may lack it. It changes only the drawer that it names, whose disk logs
--- events of the line. Where it changes metadata, the disk holds the old or the new at each moment of it. What the drawer does with its disk changes by the verbs that
--- do that alone. No count of the cabinet or the entropy falls, and a failure of theirs is answered only where its count rose. The files stay but for the one that
--- `backup`, `init -B` or `verify` names, of which no more than one store is made; no other verb makes a store.
+-- Of a command: a refusal has its cause. Want of memory is answered only to verbs that may lack it. Where the drawer
+-- that it names has what its verb needs, and nothing fails, it is served, or there was no memory and its verb may lack
+-- it. It changes only the drawer that it names, whose disk logs events of the line. Where it changes metadata, the disk
+-- holds the old or the new at each moment of it. What the drawer does with its disk changes by the verbs that do that
+-- alone. No count of the cabinet or the entropy falls, and a failure of theirs is answered only where its count rose.
+-- The files stay but for the one that `backup`, `init -B` or `verify` names, of which no more than one store is made;
+-- no other verb makes a store.
 pub record KeepsLaws (line : List ℕ) (command : Command) (old : World) (answer : Answer) (new : World) : Type 0 where
   pub caused : IfRefused answer (λ refusal. Caused line command refusal old new)
   pub memory : IfRefused answer (λ refusal. refusal ≡ refusals.NoMemory → IsTrue (may_lack_memory command))
@@ -54,4 +56,4 @@ pub record ServesLawfully (sep : Sep) (line : List ℕ) (old : World) (sink : Si
   pub answer : Option Answer
   pub serves : ServesLine sep line old answer new
   pub prints : PrintsAnswer answer sink result after
-  pub laws : LineKeepsLaws (reading sep line) line old answer new
+  pub laws : LineKeepsLaws (line_reading sep line) line old answer new

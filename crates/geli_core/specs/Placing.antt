@@ -27,7 +27,7 @@ use Rattle.command_rows.specs.verbs.Fill.{words_of, workload}
 use Rattle.geli_core.specs.Histories.{ServesDrawer}
 use Rattle.geli_core.specs.Trace.{ServedLine, world_behind}
 
--- ---- the play of a drawer: the steps that were done on its disk so far, its open requests, and the number of the next line
+-- ---- the play of a drawer: the steps done on its disk so far, its open requests, and the next line's number
 
 -- nothing was done, and none is open that was submitted since
 abbrev pub no_play : Play
@@ -63,13 +63,13 @@ abbrev pub tasks_submitted : Answer → Work → List Task → List Task
 tasks_submitted (answers.Tag tag) work tasks = put_task (record { tag = tag; done = 0; work = work }) tasks
 tasks_submitted answer work tasks = tasks
 
--- the next unit of a request was done, or not where the disk failed. One that was open before the run isn't known: what
--- it writes came in some other way
+-- The next unit of a request was done, or not where the disk failed. One that was open before the run isn't known: what
+-- it writes came in some other way.
 abbrev pub request_steps : Keying → Option Task → List Event → List Step
 request_steps k None events = raw_steps events
 request_steps k (Some t) events = take (length events) (unit_steps k t.work t.done)
 
--- it isn't done where the step was refused. A read takes the writing that stands there now
+-- It isn't done where the step was refused. A read takes the writing that stands there now.
 abbrev pub tasks_stepped : Answer → Option Task → Keying → (ℕ → List Writing) → List Task → List Task
 tasks_stepped (answers.Left left) (Some t) k cells tasks = exchange_task (task_after k cells t) tasks
 tasks_stepped answer found k cells tasks = tasks
@@ -81,7 +81,7 @@ tasks_reaped (answers.Payload bytes) tag tasks = without_task tag tasks
 tasks_reaped (answers.Refused (refusals.Integrity offset)) tag tasks = without_task tag tasks
 tasks_reaped answer tag tasks = tasks
 
--- what a line that was answered so makes of the play of an attached drawer, by what its verb places and the events that
+-- What a line that was answered so makes of the play of an attached drawer, by what its verb places and the events that
 -- it logged. What is placed is listed, so that more is decided on.
 abbrev pub place_played : List ℕ → Places → Keying → Option Content → Answer → List Event → Play → Play
 place_played line PlacesNothing k told answer events m = goes_on (raw_steps events) m.tasks m

@@ -47,8 +47,8 @@ ReadsAsTask k read (Reads sector count ws) = data_from k sector count ws ≡ rea
 ReadsAsTask k read (Writes number sector count bytes) = ⊥
 ReadsAsTask k read Flushes = ⊥
 
--- so does the request with this tag that was submitted in the run. One of a drawer that had open requests at entry may
--- be one of those
+-- So does the request with this tag that was submitted in the run. One of a drawer that had open requests at entry may
+-- be one of those.
 abbrev pub ReadsAsAsked : ℕ → Result (List ℕ) ℕ → Keying → Content → Play → Type 0
 ReadsAsAsked tag read k c m = IfSome (task_with tag m.tasks) (λ t. ReadsAsTask k read t.work)
 

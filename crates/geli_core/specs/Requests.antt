@@ -11,7 +11,7 @@ use Rattle.eli_base.specs.Keying.{Keying}
 use Rattle.eli_base.specs.declared.refusals.Refusal.{Refusal}
 use Rattle.eli_base.specs.declared.refusals.Refusal.TheVariants as refusals
 use Rattle.bio_queue.specs.Answers.{units_of}
-use Rattle.bio_queue.specs.Owners.{AreOf}
+use Rattle.bio_queue.specs.Owners.{AreAllOf}
 use Rattle.bio_queue.specs.Requests.{request_with}
 use Rattle.provider.specs.Attached.{media}
 use Rattle.provider.specs.Reading.{ReadsAs}
@@ -33,7 +33,7 @@ use Rattle.geli_core.specs.Trace.{ServedLine}
 
 -- the requests that are open on a drawer are of its provider, as it is: that would make them of their jobs
 abbrev pub HoldsOwn : Holding → DiskState → Type 0
-HoldsOwn holding disk = IfSome (attachment_in holding) (λ a. AreOf a.keying (media a.keying disk) a.queue)
+HoldsOwn holding disk = IfSome (attachment_in holding) (λ a. AreAllOf a.keying (media a.keying disk) a.queue)
 
 -- the same of each of the drawers
 abbrev pub HoldOwn : List DrawerState → Type 0
@@ -55,8 +55,9 @@ CoversWork steps k (Reads sector count ws) = ⊥
 CoversWork steps k (Writes number sector count bytes) = All (IsCovered steps) (data_steps number k sector count bytes)
 CoversWork steps k Flushes = Unit {0}
 
--- A drawer after some lines, when a line came that names this provider and reaps the request with this tag, and as it is after further lines: its play
--- goes on from the one to the other, and a flush behind them covers the write that was reaped.
+-- a drawer after some lines, when a line came that names this provider and reaps the request with this tag, and as it
+-- is after further lines: its play goes on from the one to the other, and a flush behind them covers the write that was
+-- reaped
 pub record CoversReaped (sep : Sep) (entry : World) (served : List ServedLine) (start : World) (reap : ServedLine) (prov : Span) (tag : ℕ) (rest : List ServedLine) (drawer : DrawerState) : Type 0 where
   pub before : DrawerState
   pub was : IsAmong start.drawers before
@@ -74,7 +75,7 @@ StepsDone tag zero old new = new ≡ old
 StepsDone tag (suc many) old new = (between : Reach) × (left : ℕ) × AttachedWith old.holding (λ a. StepRow tag a old (Ok left) between) × StepsDone tag many between new
 
 -- a request is submitted, done step by step and reaped, and no other line comes between
-pub record IsDoneAlone (line : List ℕ) (asked : JobWords) (a : Attachment) (old : Reach) (answer : Result (Option (List ℕ)) Refusal) (new : Reach) : Type 0 where
+pub record IsRequestDoneAlone (line : List ℕ) (asked : JobWords) (a : Attachment) (old : Reach) (answer : Result (Option (List ℕ)) Refusal) (new : Reach) : Type 0 where
   pub tag : ℕ
   pub opened : Reach
   pub submitted : SubmitRow line asked a old (Ok tag) opened

@@ -2,7 +2,7 @@
 use Rattle.std.specs.Prelude.{◌++◌, ◌≡◌, ◌≤◌, ℕ, List, [], ◌∷◌, replicate, Option, Some, None, Bool, true, false, Result, Ok, Err}
 use Rattle.std.specs.List.{flat_map, list_any}
 use Rattle.block_traits.specs.Streams.{SinkState, TookAll, TookPart}
-use Rattle.command_words.specs.Reading.{reading}
+use Rattle.command_words.specs.Reading.{line_reading}
 use Rattle.command_words.specs.declared.commands.Command.{Command}
 use Rattle.command_words.specs.declared.commands.Usage.{Usage}
 use Rattle.command_words.specs.declared.spans.Sep.{Sep}
@@ -18,7 +18,8 @@ use Rattle.geli_core.specs.declared.serving.LineEnd.TheVariants.{Silent, Accepte
 
 -- ---- one line
 
--- what a line says is done and answered: nothing where it says nothing, the refusal of its words, or the turn of its command
+-- what a line says is done and answered: nothing where it says nothing, the refusal of its words, or the turn of its
+-- command
 abbrev pub ServesReading : Result (Option Command) Usage → List ℕ → World → Option Answer → World → Type 0
 ServesReading (Ok None) line old answer new = (answer ≡ None) × (new ≡ old)
 ServesReading (Err usage) line old answer new = (answer ≡ Some (answers.Refused (refusals.Usage usage.word usage.reason))) × (new ≡ old)
@@ -26,7 +27,7 @@ ServesReading (Ok (Some command)) line old None new = ⊥
 ServesReading (Ok (Some command)) line old (Some answer) new = Turn line command old answer new
 
 abbrev pub ServesLine : Sep → List ℕ → World → Option Answer → World → Type 0
-ServesLine sep line old answer new = ServesReading (reading sep line) line old answer new
+ServesLine sep line old answer new = ServesReading (line_reading sep line) line old answer new
 
 -- the text of what was answered to a line
 abbrev pub text_of : Option Answer → List ℕ
@@ -45,7 +46,8 @@ is_refusal Silent = false
 is_refusal Accepted = false
 is_refusal Refused = true
 
--- where nothing was answered, the line is silent and the sink is as it was; else the answer was printed, or the sink failed, after a part of it
+-- where nothing was answered, the line is silent and the sink is as it was; else the answer was printed, or the sink
+-- failed, after a part of it
 abbrev pub PrintsAnswer : Option Answer → SinkState → Result LineEnd WriteEnd → SinkState → Type 0
 PrintsAnswer None old result new = (result ≡ Ok Silent) × (new ≡ old)
 PrintsAnswer (Some answer) old (Ok end) new = (end ≡ end_of (Some answer)) × TookAll (answer_text answer) old new

@@ -31,17 +31,17 @@ script_limit = 2 ^ 40
 
 -- ---- what was printed
 
--- all answers, those of the closing behind them; or, where the run broke off, those to its lines; or, where the sink failed, up to a
--- part of the last answer, or of the closing
-abbrev pub Prints : List (Option Answer) → ℕ → SinkState → Status → SinkState → Type 0
-Prints answers failed old Done new = (any_refused (answers ++ closing_answers failed) ≡ false) × TookAll (answers_text (answers ++ closing_answers failed)) old new
-Prints answers failed old SomeRefused new = (any_refused (answers ++ closing_answers failed) ≡ true) × TookAll (answers_text (answers ++ closing_answers failed)) old new
-Prints answers failed old WriteFault new = FailsInLast answers old new ⊎ FailsInClosing answers failed old new
-Prints answers failed old ReadFault new = TookAll (answers_text answers) old new
-Prints answers failed old LineTooLong new = TookAll (answers_text answers) old new
-Prints answers failed old ScriptTooLong new = TookAll (answers_text answers) old new
-Prints answers failed old BadWords new = ⊥
-Prints answers failed old NoMemory new = ⊥
+-- all answers, those of the closing behind them; or, where the run broke off, those to its lines; or, where the sink
+-- failed, up to a part of the last answer, or of the closing
+abbrev pub PrintsAnswers : List (Option Answer) → ℕ → SinkState → Status → SinkState → Type 0
+PrintsAnswers answers failed old Done new = (any_refused (answers ++ closing_answers failed) ≡ false) × TookAll (answers_text (answers ++ closing_answers failed)) old new
+PrintsAnswers answers failed old SomeRefused new = (any_refused (answers ++ closing_answers failed) ≡ true) × TookAll (answers_text (answers ++ closing_answers failed)) old new
+PrintsAnswers answers failed old WriteFault new = FailsInLast answers old new ⊎ FailsInClosing answers failed old new
+PrintsAnswers answers failed old ReadFault new = TookAll (answers_text answers) old new
+PrintsAnswers answers failed old LineTooLong new = TookAll (answers_text answers) old new
+PrintsAnswers answers failed old ScriptTooLong new = TookAll (answers_text answers) old new
+PrintsAnswers answers failed old BadWords new = ⊥
+PrintsAnswers answers failed old NoMemory new = ⊥
 
 -- ---- a script
 
@@ -53,8 +53,8 @@ pub record Taken : Type 0 where
   pub unread : List ℕ
 
 -- the most bytes that are taken at a time
-abbrev pub piece_size : ℕ
-piece_size = 4096
+abbrev pub most_taken : ℕ
+most_taken = 4096
 
 -- no call of the source was refused, and none met its end
 pub record MetNothing (old new : SourceState) : Type 0 where
@@ -85,7 +85,8 @@ pub record IsReadSoFar (taken : Taken) (served : List (List ℕ)) : Type 0 where
   pub unread : taken.unread ≡ []
   pub short : length taken.rest ≤ line_limit
 
--- how far a script was served, by the status: the first that is met of the end of the input, a failure and a limit ends it
+-- how far a script was served, by the status: the first that is met of the end of the input, a failure and a limit ends
+-- it
 abbrev pub ServesUpTo : Taken → List (List ℕ) → List (Option Answer) → Whole → Status → Whole → Type 0
 ServesUpTo taken served answers old Done new = IsReadToEnd taken served old.source new.source
 ServesUpTo taken served answers old SomeRefused new = IsReadToEnd taken served old.source new.source
@@ -96,20 +97,21 @@ ServesUpTo taken served answers old ScriptTooLong new = IsReadSoFar taken served
 ServesUpTo taken served answers old BadWords new = ⊥
 ServesUpTo taken served answers old NoMemory new = ⊥
 
--- a script was run: the source gave bytes, the lines of the trace among them were served, the drawers were closed, and the answers
--- were printed; no more bytes are taken from the source than make a script too long, and no further piece behind the byte that ended it
+-- a script was run: the source gave bytes, the lines of the trace among them were served, the drawers were closed, and
+-- the answers were printed; no more bytes are taken from the source than make a script too long, and no further piece
+-- behind the byte that ended it
 pub record RunsScript (old : Whole) (trace : Trace) (status : Status) (new : Whole) : Type 0 where
   pub sep : trace.sep ≡ Blanks
   pub taken : Taken
   pub gave : old.source.left ≡ prepend_known (taken.read ++ taken.unread) new.source.left
   pub limit : length (taken.read ++ taken.unread) ≤ script_limit
-  pub behind : length taken.unread < piece_size
+  pub behind : length taken.unread < most_taken
   pub cut : CutsInto taken.read taken.lines taken.rest
   pub short : AllByRecursion (λ line. length line ≤ line_limit) (lines_of trace.lines)
   pub up_to : ServesUpTo taken (lines_of trace.lines) (answers_of trace.lines) old status new
   pub failed : ℕ
   pub closed : trace.closing ≡ Some failed
-  pub prints : Prints (answers_of trace.lines) failed old.sink status new.sink
+  pub prints : PrintsAnswers (answers_of trace.lines) failed old.sink status new.sink
 
 -- ---- one command
 
@@ -126,7 +128,7 @@ pub record RunsCommand (line : List ℕ) (old : Whole) (trace : Trace) (status :
   pub next : World
   pub failed : ℕ
   pub is : trace ≡ record { sep = Zeros; lines = record { line = line; answer = Some answer; next = next } ∷ []; closing = Some failed }
-  pub prints : Prints (Some answer ∷ []) failed old.sink status new.sink
+  pub prints : PrintsAnswers (Some answer ∷ []) failed old.sink status new.sink
   pub source : new.source ≡ old.source
   pub ended : EndsCommand status
 
@@ -152,13 +154,14 @@ abbrev pub RunsAs : Option (List (List ℕ)) → List (List ℕ) → Whole → T
 RunsAs (Some names) words old trace status new = RunsScript old trace status new
 RunsAs None words old trace status new = RunsLine (line_of words) (command_in (line_of words)) old trace status new
 
--- the run of the words of the command line: a script where they are `script` and names, and else one command or nothing; without memory for it nothing is read, printed or changed
+-- the run of the words of the command line: a script where they are `script` and names, and else one command or
+-- nothing; without memory for it nothing is read, printed or changed
 abbrev pub Runs : List (List ℕ) → Whole → Trace → Status → Whole → Type 0
 Runs words old trace NoMemory new = IsNothing trace × (new ≡ old)
 Runs words old trace status new = RunsAs (script_images words) words old trace status new
 
--- how a run may end, by what the words ask for: a script by any status but BadWords, one command by those of its reply, and else by
--- BadWords; or the sink failed, or there was no memory
+-- how a run may end, by what the words ask for: a script by any status but BadWords, one command by those of its reply,
+-- and else by BadWords; or the sink failed, or there was no memory
 abbrev pub EndsBy : Option (List (List ℕ)) → Option Command → Status → Type 0
 EndsBy names command WriteFault = Unit {0}
 EndsBy names command NoMemory = Unit {0}
@@ -186,9 +189,9 @@ pub record GaveTooMuch (old new : SourceState) : Type 0 where
   pub size : length read ≡ script_limit
 
 -- the cause of a status that breaks a run off: a count that rose, or the bytes that the source gave
-abbrev pub HasCause : Status → Whole → Whole → Type 0
-HasCause ReadFault old new = Rose old.source.faults new.source.faults
-HasCause WriteFault old new = Rose old.sink.faults new.sink.faults
-HasCause LineTooLong old new = GaveLongLine old.source new.source
-HasCause ScriptTooLong old new = GaveTooMuch old.source new.source
-HasCause status old new = Unit {0}
+abbrev pub StatusHasCause : Status → Whole → Whole → Type 0
+StatusHasCause ReadFault old new = Rose old.source.faults new.source.faults
+StatusHasCause WriteFault old new = Rose old.sink.faults new.sink.faults
+StatusHasCause LineTooLong old new = GaveLongLine old.source new.source
+StatusHasCause ScriptTooLong old new = GaveTooMuch old.source new.source
+StatusHasCause status old new = Unit {0}

@@ -12,7 +12,7 @@ use Rattle.geli_core.specs.declared.status.Status.TheVariants.{Done, SomeRefused
 use Rattle.std.specs.Io.KnownBytes.{IsAtEnd, prepend_known}
 use Rattle.block_traits.specs.Causes.{Rose}
 use Rattle.geli_core.specs.Lines.{CutsInto, last_line}
-use Rattle.geli_core.specs.Script.{MetEnd, MetNothing, MetRefusal, Whole, piece_size, script_limit}
+use Rattle.geli_core.specs.Script.{MetEnd, MetNothing, MetRefusal, Whole, most_taken, script_limit}
 use Rattle.geli_core.specs.declared.feeding.Ending.{Ending}
 use Rattle.geli_core.specs.declared.feeding.Ending.TheVariants.{AtEnd, SourceFailed, Full, Stopped}
 use Rattle.geli_core.specs.Run.{FailsInLast, answers_text, any_refused, closing_answers}
@@ -68,7 +68,7 @@ pub record StopsWithin (bytes : List ℕ) (old : SiteState) (stop : Stop) (new :
   pub read : List ℕ
   pub unread : List ℕ
   pub whole : bytes ≡ read ++ unread
-  pub few : length unread < piece_size
+  pub few : length unread < most_taken
   pub stops : StopsBy read old stop new
 
 -- a piece was looked at

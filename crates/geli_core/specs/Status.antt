@@ -3,12 +3,12 @@ use Rattle.std.specs.Prelude.{ℕ}
 use Rattle.geli_core.specs.declared.status.Status.{Status}
 use Rattle.geli_core.specs.declared.status.Status.TheVariants.{Done, SomeRefused, BadWords, ReadFault, WriteFault, NoMemory, LineTooLong, ScriptTooLong}
 
-abbrev pub number_of : Status → ℕ
-number_of Done = 0
-number_of SomeRefused = 1
-number_of BadWords = 2
-number_of ReadFault = 3
-number_of WriteFault = 4
-number_of NoMemory = 5
-number_of LineTooLong = 6
-number_of ScriptTooLong = 7
+abbrev pub status_number : Status → ℕ
+status_number Done = 0
+status_number SomeRefused = 1
+status_number BadWords = 2
+status_number ReadFault = 3
+status_number WriteFault = 4
+status_number NoMemory = 5
+status_number LineTooLong = 6
+status_number ScriptTooLong = 7

@@ -9,16 +9,16 @@ use Rattle.queue_readings.specs.Play.{Play}
 use Rattle.queue_readings.specs.Tasks.{Task, request_of}
 use Rattle.readings.specs.Crashes.{Endures}
 use Rattle.readings.specs.Steps.{Step, after}
-use Rattle.readings.specs.Survivors.{AreSteps, media}
+use Rattle.readings.specs.Survivors.{AreSteps, content_media}
 use Rattle.command_rows.specs.World.{DrawerState, Holding, IsAmong, World, attachment_in}
 use Rattle.geli_core.specs.Placing.{DrawerPlays, PlaysToExit}
 use Rattle.geli_core.specs.Trace.{ServedLine, Trace}
 
--- What is promised of steps that were done on a disk that had this content before: each of their writes has a number of its own, and at
--- each moment of them each logical sector endures a crash, under each keying.
+-- what is promised of steps that were done on a disk that had this content before: each of their writes has a number of
+-- its own, and at each moment of them each logical sector endures a crash, under each keying
 pub record EnduresCrashes (steps : List Step) (c : Content) : Type 0 where
   pub fit : AreSteps steps
-  pub endures : (t : ℕ) (k : Keying) (sector : ℕ) → IsKeying k → sector < media k c → Endures c steps t k sector
+  pub endures : (t : ℕ) (k : Keying) (sector : ℕ) → IsKeying k → sector < content_media k c → Endures c steps t k sector
 
 -- no request is open on a drawer that does this
 abbrev pub HasNoRequests : Holding → Type 0
@@ -28,8 +28,9 @@ HasNoRequests holding = IfSome (attachment_in holding) (λ a. a.queue ≡ [])
 abbrev pub HasTasks : Holding → List Task → Type 0
 HasTasks holding tasks = MatchOption (attachment_in holding) (tasks ≡ []) (λ a. a.queue ≡ map (request_of a.keying) tasks)
 
--- A drawer that is there in the end was there before under its name, and did the steps of this play line by line. Where its disk tells its content, the
--- history grew by exactly the events of the steps, and they endure crashes; and the open requests are those of the play, where none was open before.
+-- A drawer that is there in the end was there before under its name, and did the steps of this play line by line. Where
+-- its disk tells its content, the history grew by exactly the events of the steps, and they endure crashes; and the
+-- open requests are those of the play, where none was open before.
 pub record SurvivesBy (Plays : DrawerState → Play → DrawerState → Type 0) (olds : List DrawerState) (new : DrawerState) : Type 0 where
   pub before : DrawerState
   pub was : IsAmong olds before

@@ -4,7 +4,7 @@ use Rattle.std.specs.Prelude.{◌≡◌, ◌⊎◌, ℕ, List, [], ◌∷◌, �
 use Rattle.block_traits.specs.Disk.{FailsIn, Logs}
 use Rattle.block_traits.specs.declared.disk.Event.TheVariants.{Flush}
 use Rattle.command_words.specs.Places.{bytes_at}
-use Rattle.command_words.specs.Reading.{reading}
+use Rattle.command_words.specs.Reading.{line_reading}
 use Rattle.command_words.specs.declared.commands.Command.TheVariants as commands
 use Rattle.command_words.specs.declared.spans.KeyWords.{KeyWords}
 use Rattle.command_words.specs.declared.spans.Sep.{Sep}
@@ -25,19 +25,19 @@ use Rattle.geli_core.specs.Trace.{ServedLine, world_behind}
 
 -- ---- while a drawer is suspended
 
--- The drawer is suspended all the time while lines are served, this is kept of it, and its disk logs nothing, whatever
--- lines name it: behind each line it is one of the drawers of the world there, under its name.
-abbrev pub StaysSuspended : Kept → List ServedLine → DrawerState → DrawerState → Type 0
-StaysSuspended kept [] old new = (new ≡ old) × (old.holding ≡ IsSuspended kept)
-StaysSuspended kept (l ∷ lines) old new =
+-- the drawer is suspended all the time while lines are served, this is kept of it, and its disk logs nothing, whatever
+-- lines name it: behind each line it is one of the drawers of the world there, under its name
+abbrev pub StaysSuspendedThrough : Kept → List ServedLine → DrawerState → DrawerState → Type 0
+StaysSuspendedThrough kept [] old new = (new ≡ old) × (old.holding ≡ IsSuspended kept)
+StaysSuspendedThrough kept (l ∷ lines) old new =
     (middle : DrawerState) × IsAmong l.next.drawers middle × (middle.name ≡ old.name) × (old.holding ≡ IsSuspended kept) × Logs [] old.disk middle.disk
-    × StaysSuspended kept lines middle new
+    × StaysSuspendedThrough kept lines middle new
 
--- It was suspended at entry, and has been so since.
+-- it was suspended at entry, and has been so since
 pub record SuspendedBefore (entry : World) (served : List ServedLine) (drawer : DrawerState) (kept : Kept) : Type 0 where
   pub before : DrawerState
   pub there : IsAmong entry.drawers before
-  pub stays : StaysSuspended kept served before drawer
+  pub stays : StaysSuspendedThrough kept served before drawer
 
 -- One of the lines was a `suspend`, before which this was attached on the drawer. What is kept is that of its provider,
 -- the disk was flushed or failed in that, and it has been suspended since.
@@ -47,7 +47,7 @@ pub record SuspendedSince (sep : Sep) (entry : World) (served : List ServedLine)
   pub later : List ServedLine
   pub are : served ≡ earlier ++ suspend ∷ later
   pub prov : Span
-  pub asked : reading sep suspend.line ≡ Ok (Some (commands.Suspend prov))
+  pub asked : line_reading sep suspend.line ≡ Ok (Some (commands.Suspend prov))
   pub before : DrawerState
   pub there : IsAmong (world_behind entry earlier).drawers before
   pub attached : before.holding ≡ IsAttached a
@@ -56,7 +56,7 @@ pub record SuspendedSince (sep : Sep) (entry : World) (served : List ServedLine)
   pub name : after.name ≡ before.name
   pub flushes : Logs (Flush ∷ []) before.disk after.disk ⊎ FailsIn (Flush ∷ []) before.disk after.disk
   pub keeps : kept ≡ kept_by a before.disk
-  pub stays : StaysSuspended kept later after drawer
+  pub stays : StaysSuspendedThrough kept later after drawer
 
 -- one of these two holds of each drawer that is suspended behind these lines
 abbrev pub AreSuspended : Sep → World → List ServedLine → World → Type 0
@@ -67,7 +67,7 @@ AreSuspended sep entry served now = (drawer : DrawerState) (kept : Kept) → IsA
 
 -- the key of which the words name the components opens a slot of the metadata on the disk to the master key that is
 -- attached
-pub record OpensSlot (line : List ℕ) (words : KeyWords) (kept : Kept) (old : Reach) (a : Attachment) : Type 0 where
+pub record OpensSameMaster (line : List ℕ) (words : KeyWords) (kept : Kept) (old : Reach) (a : Attachment) : Type 0 where
   pub found : OpensWith line None kept.readonly words old a
   pub key : UserKey
   pub derived : user_key found.parts found.m.salt found.m.iterations ≡ Ok key
@@ -93,7 +93,7 @@ pub record ResumesSame (sep : Sep) (entry : World) (served : List ServedLine) (s
   pub there : slice_get next.drawers place ≡ Some after
   pub a : Attachment
   pub attached : after.holding ≡ IsAttached a
-  pub opens : OpensSlot line words kept (reach before start) a
+  pub opens : OpensSameMaster line words kept (reach before start) a
   pub digest : sha256 a.keying.master ≡ kept.mark
   pub same : SuspendedBefore entry served before kept ⊎ HadMaster sep entry served before kept a.keying.master
 

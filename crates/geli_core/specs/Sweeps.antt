@@ -4,7 +4,7 @@ use Rattle.std.specs.List.{range_with_len}
 use Rattle.std.specs.Option.{option_map}
 use Rattle.std.specs.Str.{bytes_eq}
 use Rattle.command_words.specs.Places.{bytes_at}
-use Rattle.command_words.specs.Reading.{reading}
+use Rattle.command_words.specs.Reading.{line_reading}
 use Rattle.command_words.specs.declared.spans.Sep.{Sep}
 use Rattle.eli_base.specs.Keying.{Keying}
 use Rattle.provider.specs.Attached.{media}
@@ -45,18 +45,18 @@ place_file course world = option_map (λ files. files course.file) world.cabinet
 -- ---- its lines
 
 -- what a `verify` asks for: over how many sectors it goes, and whether it begins anew
-pub record Asked : Type 0 where
+pub record AskedSweep : Type 0 where
   pub count : ℕ
   pub restart : Bool
 
 -- a line of the course is a `verify` that names the drawer and the file
-abbrev pub asked_by : Course → List ℕ → Kind → Option Asked
+abbrev pub asked_by : Course → List ℕ → Kind → Option AskedSweep
 asked_by course line (OfSweep prov file count restart) =
     if bytes_eq (bytes_at line prov) course.name && bytes_eq (bytes_at line file) course.file then Some (record { count = count; restart = restart }) else None
 asked_by course line kind = None
 
 -- the counts of the lines that were answered that a part was swept
-abbrev pub counts_with : List ℕ → Option Asked → Option Answer → List ℕ
+abbrev pub counts_with : List ℕ → Option AskedSweep → Option Answer → List ℕ
 counts_with counts (Some asked) (Some (answers.Verified offsets next)) = counts ++ asked.count ∷ []
 counts_with counts asked answer = counts
 
@@ -73,14 +73,14 @@ pub record IsNextPart (course : Course) (counts : List ℕ) (count : ℕ) (offse
   pub each_once : sectors_after course.keying course.sectors 0 (counts ++ count ∷ []) ≡ range_with_len 0 next
   pub reaches : course.sectors ≤ sum (map (cut_count course.keying) (counts ++ count ∷ [])) → next ≡ course.sectors
 
-abbrev pub SweepsPart : Course → List ℕ → Option Asked → World → Option Answer → World → Type 0
+abbrev pub SweepsPart : Course → List ℕ → Option AskedSweep → World → Option Answer → World → Type 0
 SweepsPart course counts (Some asked) old (Some (answers.Verified offsets next)) new = IsNextPart course counts asked.count offsets next old new
 SweepsPart course counts asked old answer new = Unit {0}
 
 -- ---- a run
 
 -- a line of the course finds the drawer and doesn't begin anew, and any other leaves the file as it is
-abbrev pub KeepsCourse : Course → Option Asked → World → World → Type 0
+abbrev pub KeepsCourse : Course → Option AskedSweep → World → World → Type 0
 KeepsCourse course (Some asked) old new = (asked.restart ≡ false) × HasDrawer course old
 KeepsCourse course None old new = place_file course new ≡ place_file course old
 
@@ -88,12 +88,12 @@ KeepsCourse course None old new = place_file course new ≡ place_file course ol
 abbrev pub EachGoesOn : Course → List ℕ → Sep → World → List ServedLine → Type 0
 EachGoesOn course counts sep start [] = Unit {0}
 EachGoesOn course counts sep start (l ∷ lines) =
-    KeepsCourse course (asked_by course l.line (kind_read (reading sep l.line))) start l.next →
-    SweepsPart course counts (asked_by course l.line (kind_read (reading sep l.line))) start l.answer l.next
-    × EachGoesOn course (counts_with counts (asked_by course l.line (kind_read (reading sep l.line))) l.answer) sep l.next lines
+    KeepsCourse course (asked_by course l.line (kind_read (line_reading sep l.line))) start l.next →
+    SweepsPart course counts (asked_by course l.line (kind_read (line_reading sep l.line))) start l.answer l.next
+    × EachGoesOn course (counts_with counts (asked_by course l.line (kind_read (line_reading sep l.line))) l.answer) sep l.next lines
 
 -- a course begins with a line that begins anew and is answered that a part was swept, where the cabinet tells its files
-abbrev pub BeginsCourse : Course → Option Asked → World → Option Answer → Type 0
+abbrev pub BeginsCourse : Course → Option AskedSweep → World → Option Answer → Type 0
 BeginsCourse course (Some asked) old (Some (answers.Verified offsets next)) = (asked.restart ≡ true) × IsSome old.cabinet.files × HasDrawer course old
 BeginsCourse course asked old answer = ⊥
 
@@ -101,7 +101,7 @@ BeginsCourse course asked old answer = ⊥
 abbrev pub EachBegins : Course → Sep → World → List ServedLine → Type 0
 EachBegins course sep start [] = Unit {0}
 EachBegins course sep start (l ∷ lines) =
-    (BeginsCourse course (asked_by course l.line (kind_read (reading sep l.line))) start l.answer →
-    SweepsPart course [] (asked_by course l.line (kind_read (reading sep l.line))) start l.answer l.next
-    × EachGoesOn course (counts_with [] (asked_by course l.line (kind_read (reading sep l.line))) l.answer) sep l.next lines)
+    (BeginsCourse course (asked_by course l.line (kind_read (line_reading sep l.line))) start l.answer →
+    SweepsPart course [] (asked_by course l.line (kind_read (line_reading sep l.line))) start l.answer l.next
+    × EachGoesOn course (counts_with [] (asked_by course l.line (kind_read (line_reading sep l.line))) l.answer) sep l.next lines)
     × EachBegins course sep l.next lines

@@ -37,7 +37,8 @@ abbrev pub EachLine : (List ServedLine → World → ServedLine → Type 0) → 
 EachLine P served start [] = Unit {0}
 EachLine P served start (l ∷ lines) = P served start l × EachLine P (served ++ l ∷ []) l.next lines
 
--- how lines are cut into words, the lines, and how many drawers failed to close; where nothing was done, none were closed
+-- how lines are cut into words, the lines, and how many drawers failed to close; where nothing was done, none were
+-- closed
 pub record Trace : Type 0 where
   pub sep : Sep
   pub lines : List ServedLine

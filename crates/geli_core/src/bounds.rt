@@ -1,7 +1,7 @@
-// How many refusals for a failure a run may print.
+//! How many refusals for a failure a run may print.
 ghost use Rattle.std.specs.Prelude.{◌≡◌, ◌⊎◌, ℕ, List, Some, slice_get};
 ghost use Rattle.std.specs.List.{AllByRecursion};
-ghost use Rattle.command_words.specs.Reading.{reading};
+ghost use Rattle.command_words.specs.Reading.{line_reading};
 ghost use Rattle.command_words.specs.declared.spans.Sep.{Sep};
 ghost use Rattle.geli_core.specs.Bounds.{ClosesWithFailures, CountsOutside, KeepsAll, RisesBy, RisesNamed, RisesUntilOut, device_faults};
 ghost use Rattle.geli_core.specs.Trace.{IsTrace, Run, ServedLine, Trace, answers_of};
@@ -17,7 +17,7 @@ pub fn a_closing_refusal_has_its_drawer()
 /// many as the count of faults of its disk rose by, unless that stands at its last value, 2^64 - 1.
 pub fn device_faults_are_counted()
     ensures { (sep : Sep) (lines : List ServedLine) (old new : World) (name : List ℕ) (place : ℕ) (before : DrawerState) →
-        Run sep old lines new → AllByRecursion (λ (l : ServedLine). KeepsAll (reading sep l.line)) lines → place_of name old.drawers ≡ Some place →
+        Run sep old lines new → AllByRecursion (λ (l : ServedLine). KeepsAll (line_reading sep l.line)) lines → place_of name old.drawers ≡ Some place →
         slice_get old.drawers place ≡ Some before → RisesBy (device_faults sep name lines) before place new }
 {}
 

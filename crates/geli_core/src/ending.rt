@@ -1,4 +1,4 @@
-// The end of a run: the drawers are closed, and what was refused decides on the status.
+//! The end of a run: the drawers are closed, and what was refused decides on the status.
 ghost use Rattle.std.specs.Prelude.{◌≡◌, ◌≤◌, ℕ, List, IfErr, length};
 ghost use Rattle.block_traits.specs.Streams.{SourceState};
 ghost use Rattle.std.specs.Io.KnownBytes.{prepend_known};

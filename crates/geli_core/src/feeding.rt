@@ -1,8 +1,8 @@
-// The bytes of a script are looked at one by one, and each whole line is served.
+//! The bytes of a script are looked at one by one, and each whole line is served.
 ghost use Rattle.std.specs.Prelude.{◌≡◌, ◌≤◌, ◌∷◌, ◌++◌, [], ℕ, List, false, length, take, vec_capacity, vec_len};
 ghost use Rattle.command_words.specs.Reading.{line_limit};
 ghost use Rattle.geli_core.specs.Lines.{IsOneLine};
-ghost use Rattle.geli_core.specs.Script.{piece_size};
+ghost use Rattle.geli_core.specs.Script.{most_taken};
 ghost use Rattle.geli_core.specs.Served.{FeedsByte, FeedsPiece, FeedsSource, IsServed, SiteState};
 ghost use Rattle.geli_core.specs.Sites.{BorrowsAsBefore, site_now};
 
@@ -81,7 +81,7 @@ impl<K: Sink, C: Cabinet, E: Entropy, D: Disk> Site<'_, K, C, E, D> {
     ) -> Result<(), Stop>
         requires room { line_limit ≤ vec_capacity line.old }
         requires short { vec_len line.old ≤ line_limit }
-        requires small { length piece.now ≤ piece_size }
+        requires small { length piece.now ≤ most_taken }
         ensures same { BorrowsAsBefore self.old self.new }
         ensures room { line_limit ≤ vec_capacity line.new }
         ensures short { vec_len line.new ≤ line_limit }

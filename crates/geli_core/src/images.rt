@@ -1,4 +1,4 @@
-// The run over disks, which are put on a shelf under their names.
+//! The run over disks, which are put on a shelf under their names.
 ghost use Rattle.std.specs.Prelude.{◌≡◌, ℕ, List, None, IfErr, IfOk, OnErr, OnOk, length, map, string_bytes};
 ghost use Rattle.command_words.specs.Images.{script_images};
 ghost use Rattle.command_rows.specs.World.{NamesDiffer};

@@ -1,13 +1,13 @@
-// What holds of whole runs.
+//! What holds of whole runs.
 ghost use Rattle.std.specs.Prelude.{◌≡◌, ℕ, List, Option, Some, slice_get};
 ghost use Rattle.geli_core.specs.Laws.{LineKeepsLaws};
-ghost use Rattle.command_words.specs.Reading.{reading};
+ghost use Rattle.command_words.specs.Reading.{line_reading};
 ghost use Rattle.command_words.specs.declared.spans.Sep.{Sep};
 ghost use Rattle.geli_core.specs.Complete.{Completes};
 ghost use Rattle.geli_core.specs.Histories.{KeepsDrawers, RunsAt};
 ghost use Rattle.geli_core.specs.Lawful.{RunsLawfully};
 ghost use Rattle.geli_core.specs.Run.{ServesLine};
-ghost use Rattle.geli_core.specs.Script.{Ends, HasCause, Whole};
+ghost use Rattle.geli_core.specs.Script.{Ends, StatusHasCause, Whole};
 ghost use Rattle.geli_core.specs.Trace.{Run, ServedLine};
 ghost use Rattle.geli_core.specs.declared.status.Status.{Status};
 ghost use Rattle.command_rows.specs.Answer.{Answer};
@@ -33,13 +33,13 @@ pub fn a_run_logs_the_events_of_its_lines()
 /// `a_line_stores_its_file_alone` of the rows says.
 pub fn a_line_keeps_the_laws()
     ensures { (sep : Sep) (line : List ℕ) (old : World) (answer : Option Answer) (new : World) →
-        ServesLine sep line old answer new → LineKeepsLaws (reading sep line) line old answer new }
+        ServesLine sep line old answer new → LineKeepsLaws (line_reading sep line) line old answer new }
 {}
 
 /// A run whose status says that it broke off has a cause of that: where no count of faults rose, and the input is
 /// within its limits, it is gone through to its end.
 pub fn a_run_breaks_off_for_a_cause()
-    ensures { (words : List (List ℕ)) (old new : Whole) (status : Status) → RunsLawfully words old status new → HasCause status old new }
+    ensures { (words : List (List ℕ)) (old new : Whole) (status : Status) → RunsLawfully words old status new → StatusHasCause status old new }
 {}
 
 /// How a run may end, by what the words ask for.

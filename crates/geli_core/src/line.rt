@@ -1,4 +1,4 @@
-// One line, with what holds of it whatever its row.
+//! One line, with what holds of it whatever its row.
 ghost use Rattle.std.specs.Prelude.{◌≤◌, length};
 ghost use Rattle.command_words.specs.Reading.{line_limit};
 ghost use Rattle.shelf.specs.Shelved.{world_of};

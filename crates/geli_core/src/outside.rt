@@ -1,4 +1,4 @@
-// What a run reaches besides its drawers.
+//! What a run reaches besides its drawers.
 ghost use Rattle.std.specs.Prelude.{◌≡◌};
 
 /// What a run reaches besides its drawers.

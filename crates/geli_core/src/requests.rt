@@ -1,6 +1,6 @@
-// What holds of requests in flight over lines.
+//! What holds of requests in flight over lines.
 ghost use Rattle.std.specs.Prelude.{◌≡◌, ◌↔◌, ◌∷◌, ℕ, List, Ok, Option, Result, Some};
-ghost use Rattle.command_words.specs.Reading.{reading};
+ghost use Rattle.command_words.specs.Reading.{line_reading};
 ghost use Rattle.command_words.specs.declared.commands.Command.TheVariants.{Reap, Step};
 ghost use Rattle.command_words.specs.declared.commands.JobWords.{JobWords};
 ghost use Rattle.command_words.specs.declared.spans.Sep.{Sep};
@@ -10,7 +10,7 @@ ghost use Rattle.command_rows.specs.Turn.{Serves};
 ghost use Rattle.command_rows.specs.World.{Attachment, DrawerState, HoldKeyings, IsAmong, IsAttached, Reach, World};
 ghost use Rattle.eli_base.specs.declared.refusals.Refusal.{Refusal};
 ghost use Rattle.eli_base.specs.declared.refusals.Refusal.TheVariants.{NoRequest};
-ghost use Rattle.geli_core.specs.Requests.{CoversReaped, DoesAsLine, HaveNoRequests, HoldOwn, HoldsOwn, IsDoneAlone, LacksTag};
+ghost use Rattle.geli_core.specs.Requests.{CoversReaped, DoesAsLine, HaveNoRequests, HoldOwn, HoldsOwn, IsRequestDoneAlone, LacksTag};
 ghost use Rattle.geli_core.specs.Trace.{Run, ServedLine};
 ghost use Rattle.range_keys.specs.Ring.{IsKeying};
 
@@ -39,7 +39,7 @@ pub fn missing_requests_are_refused()
 pub fn flushes_cover_reaped_writes()
     ensures { (sep : Sep) (served : List ServedLine) (entry start : World) (reap : ServedLine) (prov : Span) (tag : ℕ)
         (rest : List ServedLine) (end : World) (drawer : DrawerState) →
-        Run sep entry served start → HoldKeyings entry.drawers → reading sep reap.line ≡ Ok (Some (Reap prov tag)) → reap.answer ≡ Some Done →
+        Run sep entry served start → HoldKeyings entry.drawers → line_reading sep reap.line ≡ Ok (Some (Reap prov tag)) → reap.answer ≡ Some Done →
         Run sep start (reap ∷ rest) end → IsAmong end.drawers drawer → CoversReaped sep entry served start reap prov tag rest drawer }
 {}
 
@@ -49,5 +49,5 @@ pub fn flushes_cover_reaped_writes()
 /// the same events; a flush is one.
 pub fn requests_alone_are_lines()
     ensures { (line : List ℕ) (asked : JobWords) (a : Attachment) (old new : Reach) (answer : Result (Option (List ℕ)) Refusal) →
-        old.holding ≡ IsAttached a → IsKeying a.keying → IsDoneAlone line asked a old answer new → DoesAsLine line asked a old answer new }
+        old.holding ≡ IsAttached a → IsKeying a.keying → IsRequestDoneAlone line asked a old answer new → DoesAsLine line asked a old answer new }
 {}

@@ -1,8 +1,8 @@
-// One line is read, served and printed.
+//! One line is read, served and printed.
 ghost use Rattle.std.specs.Prelude.{◌≡◌, ◌≤◌, ◌||◌, ℕ, List, Some, length};
 ghost use Rattle.command_words.specs.Bounds.{IsBounded};
 ghost use Rattle.command_words.specs.Places.{CommandIsWithin};
-ghost use Rattle.command_words.specs.Reading.{line_limit, reading};
+ghost use Rattle.command_words.specs.Reading.{line_limit, line_reading};
 ghost use Rattle.command_words.specs.declared.spans.Sep.{Sep};
 ghost use Rattle.reply_text.specs.Text.{FitsPayload};
 ghost use Rattle.command_rows.specs.Answer.{answer_of};
@@ -107,7 +107,7 @@ impl<K: Sink, C: Cabinet, E: Entropy, D: Disk> Site<'_, K, C, E, D> {
         requires within { CommandIsWithin (length line.now) command.now }
         requires bounds { IsBounded line.now command.now }
         ensures same { BorrowsAsBefore self.old self.new }
-        ensures serves { (sep : Sep) → reading sep line.now ≡ Ok (Some command.now) → ServesAndPrints sep line.now
+        ensures serves { (sep : Sep) → line_reading sep line.now ≡ Ok (Some command.now) → ServesAndPrints sep line.now
             (site_now K.state C.state E.state D.state self.old).world
             (site_now K.state C.state E.state D.state self.old).sink result
             (site_now K.state C.state E.state D.state self.new).world

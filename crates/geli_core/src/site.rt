@@ -1,4 +1,4 @@
-// What a run works on.
+//! What a run works on.
 ghost use Rattle.std.specs.Prelude.{◌≡◌};
 
 use shelf::Drawers;

@@ -1,4 +1,4 @@
-// What a run leaves if power fails at any moment of it.
+//! What a run leaves if power fails at any moment of it.
 ghost use Rattle.std.specs.Prelude.{ℕ, List, IfSome};
 ghost use Rattle.block_traits.specs.Content.{Content};
 ghost use Rattle.command_words.specs.declared.spans.Sep.{Sep};

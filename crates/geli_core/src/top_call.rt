@@ -1,4 +1,4 @@
-// The run: the words are read, and a script or one command is served.
+//! The run: the words are read, and a script or one command is served.
 ghost use Rattle.std.specs.Prelude.{◌≡◌, ℕ, List, None, Some, length, map, string_bytes};
 ghost use Rattle.block_traits.specs.Streams.{SourceState};
 ghost use Rattle.command_words.specs.Bounds.{IsBounded};

@@ -1,4 +1,4 @@
-// What the words of the command line say, read once.
+//! What the words of the command line say, read once.
 ghost use Rattle.std.specs.Prelude.{◌≡◌, IfOk, length, map, string_bytes};
 ghost use Rattle.command_words.specs.Bounds.{IsBounded};
 ghost use Rattle.command_words.specs.Images.{name_at};

@@ -1,4 +1,4 @@
-// What whole runs over memory share: the objects that a run is given, and its words.
+//! What whole runs over memory share: the objects that a run is given, and its words.
 use block_traits::{Disk, DiskFailed, Event, Sector};
 use crash_disk::{MemCabinet, MemDisk, MemEntropy, MemSink, MemSource};
 use geli_core::{Drawers, Outside, Status, read_words, run};

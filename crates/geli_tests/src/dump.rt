@@ -1,4 +1,4 @@
-// `geli dump IMAGE` over boxed disks. What each last sector is answered stands in the case files.
+//! `geli dump IMAGE` over boxed disks. What each last sector is answered stands in the case files.
 use crate::common::words;
 use block_traits::{Disk, Sector};
 use crash_disk::{MemCabinet, MemDisk, MemEntropy, MemSink, MemSource};

@@ -1,5 +1,5 @@
-// `eject` takes a disk away without a call of it. A disk that is gone shows no events, so its calls are counted
-// beside it.
+//! `eject` takes a disk away without a call of it. A disk that is gone shows no events, so its calls are counted
+//! beside it.
 use crate::common::World;
 use crash_disk::MemSink;
 use std::alloc::Global;

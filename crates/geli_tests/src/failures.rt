@@ -1,4 +1,4 @@
-// A sink that fails at the reply of `init` and of `attach -C`.
+//! A sink that fails at the reply of `init` and of `attach -C`.
 use crate::common::World;
 use crash_disk::MemSink;
 use std::alloc::Global;

@@ -1,4 +1,4 @@
-// A shelf whose boxes have disks of three kinds: none of them has a part in what another does.
+//! A shelf whose boxes have disks of three kinds: none of them has a part in what another does.
 use crate::common::{CountingDisk, stock, words};
 use block_traits::Disk;
 use crash_disk::{CallKind, FailAt, MemDisk, MemEntropy, MemSink, MemSource};
@@ -60,8 +60,8 @@ const BY_TURNS: &str = "init -P -K k a.img\ninit -P -K k b.img\ninit -P -K k c.i
 const REPLIES: &str =
     "ok\nerror 26 DeviceFault\nok\nok\nerror 5 BadMagic\nok\nok\nerror 26 DeviceFault\nok\n";
 
-// The first disk does what it does where it stands alone. The third gets a flush, a write and a flush, a read, a write of
-// one sector, and the flush of the closing.
+// The first disk does what it does where it stands alone. The third gets a flush, a write and a flush, a read, a write
+// of one sector, and the flush of the closing.
 #[test]
 fn three_kinds_on_one_shelf(rt: HostRuntime) -> Result<(), Fail> {
     let alloc = rt.alloc();

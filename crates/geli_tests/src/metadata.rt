@@ -1,4 +1,4 @@
-// Which metadata is refused, and how: each change of one bit.
+//! Which metadata is refused, and how: each change of one bit.
 use crate::dump::metadata;
 use block_traits::Sector;
 use eli_base::Refusal;

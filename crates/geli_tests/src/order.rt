@@ -1,5 +1,5 @@
-// When the sink and the source are asked: each reply is given before the source is asked for more, and behind its end
-// or a failure it isn't asked again. No clause orders the calls of two objects, so they share a record.
+//! When the sink and the source are asked: each reply is given before the source is asked for more, and behind its end
+//! or a failure it isn't asked again. No clause orders the calls of two objects, so they share a record.
 use crate::common::words;
 use block_traits::{Sink, SinkFailed, Source, SourceFailed};
 use crash_disk::{MemCabinet, MemDisk, MemEntropy, MemSink, MemSource};

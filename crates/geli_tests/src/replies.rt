@@ -1,4 +1,4 @@
-// Refusals that no case prints, and in how many calls a sink is given a reply.
+//! Refusals that no case prints, and in how many calls a sink is given a reply.
 ghost use Rattle.std.specs.Prelude.{length};
 ghost use Rattle.reply_text.specs.Text.{FitsPayload};
 

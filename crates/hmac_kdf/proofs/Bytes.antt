@@ -9,7 +9,7 @@ use Rattle.sha2.specs.Sha256.{sha256, digest_bytes as digest_bytes_256}
 use Rattle.sha2.specs.Sha512.{sha384, sha512, digest_bytes as digest_bytes_512}
 use Rattle.sha2.proofs.Facts256.{length-sha256}
 use Rattle.sha2.proofs.Facts512.{length-sha384, length-sha512}
-use Rattle.hmac_kdf.specs.Bytes.{AreBytes}
+use Rattle.hmac_kdf.specs.Bytes.{AreSoManyBytes}
 use Rattle.hmac_kdf.specs.Hmac.{hmac256, hmac384, hmac512}
 use Rattle.hmac_kdf.specs.Pbkdf2.{xor, iterate, sum_of_iterates, pbkdf2}
 
@@ -62,31 +62,31 @@ small-sha512 m = AreSmall-digest_512 _ 8
 
 -- ---- digests and codes
 
-pub AreBytes-sha256 : (m : List ℕ) → AreBytes 32 (sha256 m)
-AreBytes-sha256 m = record { long = length-sha256 m; small = small-sha256 m }
+pub AreSoManyBytes-sha256 : (m : List ℕ) → AreSoManyBytes 32 (sha256 m)
+AreSoManyBytes-sha256 m = record { long = length-sha256 m; small = small-sha256 m }
 
-pub AreBytes-sha384 : (m : List ℕ) → AreBytes 48 (sha384 m)
-AreBytes-sha384 m = record { long = length-sha384 m; small = small-sha384 m }
+pub AreSoManyBytes-sha384 : (m : List ℕ) → AreSoManyBytes 48 (sha384 m)
+AreSoManyBytes-sha384 m = record { long = length-sha384 m; small = small-sha384 m }
 
-pub AreBytes-sha512 : (m : List ℕ) → AreBytes 64 (sha512 m)
-AreBytes-sha512 m = record { long = length-sha512 m; small = small-sha512 m }
+pub AreSoManyBytes-sha512 : (m : List ℕ) → AreSoManyBytes 64 (sha512 m)
+AreSoManyBytes-sha512 m = record { long = length-sha512 m; small = small-sha512 m }
 
-pub AreBytes-hmac256 : (key m : List ℕ) → AreBytes 32 (hmac256 key m)
+pub AreSoManyBytes-hmac256 : (key m : List ℕ) → AreSoManyBytes 32 (hmac256 key m)
 unfolding hmac256
-AreBytes-hmac256 key m = AreBytes-sha256 _
+AreSoManyBytes-hmac256 key m = AreSoManyBytes-sha256 _
 
-pub AreBytes-hmac384 : (key m : List ℕ) → AreBytes 48 (hmac384 key m)
+pub AreSoManyBytes-hmac384 : (key m : List ℕ) → AreSoManyBytes 48 (hmac384 key m)
 unfolding hmac384
-AreBytes-hmac384 key m = AreBytes-sha384 _
+AreSoManyBytes-hmac384 key m = AreSoManyBytes-sha384 _
 
-pub AreBytes-hmac512 : (key m : List ℕ) → AreBytes 64 (hmac512 key m)
+pub AreSoManyBytes-hmac512 : (key m : List ℕ) → AreSoManyBytes 64 (hmac512 key m)
 unfolding hmac512
-AreBytes-hmac512 key m = AreBytes-sha512 _
+AreSoManyBytes-hmac512 key m = AreSoManyBytes-sha512 _
 
 -- ---- what PBKDF2 derives
 
-AreBytes-xor : (n : ℕ) (xs ys : List ℕ) → AreBytes n xs → AreBytes n ys → AreBytes n (xor xs ys)
-AreBytes-xor n xs ys hx hy =
+AreSoManyBytes-xor : (n : ℕ) (xs ys : List ℕ) → AreSoManyBytes n xs → AreSoManyBytes n ys → AreSoManyBytes n (xor xs ys)
+AreSoManyBytes-xor n xs ys hx hy =
     let lx = hx.long in
     let ly = hy.long in
     let len = length-zip2 bit_xor xs ys (omega arith) in
@@ -101,15 +101,15 @@ AreBytes-xor n xs ys hx hy =
       ];
     }
 
-AreBytes-iterate : (p s : List ℕ) (n : ℕ) → AreBytes 64 (iterate p s n)
+AreSoManyBytes-iterate : (p s : List ℕ) (n : ℕ) → AreSoManyBytes 64 (iterate p s n)
 unfolding iterate
-AreBytes-iterate p s zero = AreBytes-hmac512 p _
-AreBytes-iterate p s (suc n) = AreBytes-hmac512 p _
+AreSoManyBytes-iterate p s zero = AreSoManyBytes-hmac512 p _
+AreSoManyBytes-iterate p s (suc n) = AreSoManyBytes-hmac512 p _
 
-AreBytes-sum : (p s : List ℕ) (n : ℕ) → AreBytes 64 (sum_of_iterates p s n)
+AreSoManyBytes-sum : (p s : List ℕ) (n : ℕ) → AreSoManyBytes 64 (sum_of_iterates p s n)
 unfolding sum_of_iterates
-AreBytes-sum p s zero = AreBytes-iterate p s 0
-AreBytes-sum p s (suc n) = AreBytes-xor 64 (sum_of_iterates p s n) (iterate p s (suc n)) (AreBytes-sum p s n) (AreBytes-iterate p s (suc n))
+AreSoManyBytes-sum p s zero = AreSoManyBytes-iterate p s 0
+AreSoManyBytes-sum p s (suc n) = AreSoManyBytes-xor 64 (sum_of_iterates p s n) (iterate p s (suc n)) (AreSoManyBytes-sum p s n) (AreSoManyBytes-iterate p s (suc n))
 
-pub AreBytes-pbkdf2 : (p s : List ℕ) (count : ℕ) → AreBytes 64 (pbkdf2 p s count)
-AreBytes-pbkdf2 p s count = AreBytes-sum p s (count - 1)
+pub AreSoManyBytes-pbkdf2 : (p s : List ℕ) (count : ℕ) → AreSoManyBytes 64 (pbkdf2 p s count)
+AreSoManyBytes-pbkdf2 p s count = AreSoManyBytes-sum p s (count - 1)

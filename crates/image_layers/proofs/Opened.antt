@@ -10,7 +10,7 @@ use Rattle.file_edge.specs.declared.file_disk.FileDisk.{FileDisk}
 use Rattle.file_edge.specs.declared.found.Found.{Found}
 use Rattle.image_layers.specs.declared.image_disks.ImageDisk.{ImageDisk}
 use Rattle.image_layers.specs.declared.image_disks.ImageDisk.TheVariants.{Plain, Behind, Join}
-use Rattle.image_layers.specs.Images.{AsksFiles, AsksFirst, AsksFor, AsksPart, IsBehindOf, IsJoinOf, IsPlain, JoinsOrIsNone, Opening, OpensBoth, OpensImage, OpensImages, OpensJoin, OpensOne, WaitsFor}
+use Rattle.image_layers.specs.Images.{AsksFiles, AsksFirst, AsksFor, AsksPart, IsBehindOf, IsJoinOf, IsPlain, JoinsOrIsNone, Opening, OpensBoth, OpensImageDisk, OpensImages, OpensJoin, OpensOne, WaitsFor}
 
 -- the files of an image that was opened
 record Asks {O : Type 0} (log_of : O → Option (List Asked)) (changes : Bool) (name : List ℕ) (old new : O) : Type 0 where
@@ -24,7 +24,7 @@ asks_two log_of changes name left right old between new is one other = record { 
 
 module _ {O F : Type 0} {g : Ghosts (FileDisk F)} (leads : O → List ℕ → Result Found Error → Type 0) (answers : O → OpenOptions → List ℕ → Result F Error → Type 0) (tells : F → Result Found Error → Type 0) (locks : F → Bool → Type 0) (ends : F → Option ℕ → Type 0) (log_of : O → Option (List Asked)) (changes : Bool) where
   abbrev Image : List ℕ → ImageDisk F g → Opening O → Opening O → Type 0
-  Image = OpensImage leads answers tells locks ends log_of changes
+  Image = OpensImageDisk leads answers tells locks ends log_of changes
 
   -- two disks as one, or none
   pub joined : (name left right : List ℕ) (first second : FileDisk F) (image : ImageDisk F g) (old new : Opening O) → IsJoinOf name left right → JoinsOrIsNone first second image

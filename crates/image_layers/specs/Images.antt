@@ -40,9 +40,9 @@ AsksFor name (first ∷ second ∷ third ∷ others) = ⊥
 -- ---- disks
 
 -- the file of a disk, as far as its name led to one
-abbrev pub file_in : Option FileId → List FileId
-file_in None = []
-file_in (Some id) = id ∷ []
+abbrev pub file_led_to : Option FileId → List FileId
+file_led_to None = []
+file_led_to (Some id) = id ∷ []
 
 module _ {F : Type 0} {g : Ghosts (FileDisk F)} where
   -- what the disk of an image tells of itself
@@ -85,7 +85,7 @@ module _ {O F : Type 0} (leads : O → List ℕ → Result Found Error → Type 
   pub record OpensOne (name : List ℕ) (disk : FileDisk F) (old new : Opening O) : Type 0 where
     pub opens : OpensDisk tells locks ends old.files changes leads answers old.opener name disk
     pub asked : AsksDisk log_of old.opener changes name new.opener
-    pub others : new.files ≡ old.files ++ file_in disk.id
+    pub others : new.files ≡ old.files ++ file_led_to disk.id
     pub faults : disk.faults ≡ 0
     pub reads : disk.reads ≡ 0
     pub unsynced : disk.unsynced ≡ false
@@ -129,15 +129,15 @@ module _ {O F : Type 0} (leads : O → List ℕ → Result Found Error → Type 
     OpensJoined name (Behind behind) old new = ⊥
 
     -- the disk of an image of this name
-    abbrev pub OpensImage : List ℕ → ImageDisk F g → Opening O → Opening O → Type 0
-    OpensImage name (Plain disk) old new = (IsPlain name × OpensOne name disk old new) ⊎ OpensTooMuch (λ d. (g.state d).size) name disk old new
-    OpensImage name (Behind behind) old new = OpensBehind name behind.under (length behind.waiting.items) behind.room behind.clean old new
-    OpensImage name (Join both) old new = OpensJoin name both.first both.second old new
+    abbrev pub OpensImageDisk : List ℕ → ImageDisk F g → Opening O → Opening O → Type 0
+    OpensImageDisk name (Plain disk) old new = (IsPlain name × OpensOne name disk old new) ⊎ OpensTooMuch (λ d. (g.state d).size) name disk old new
+    OpensImageDisk name (Behind behind) old new = OpensBehind name behind.under (length behind.waiting.items) behind.room behind.clean old new
+    OpensImageDisk name (Join both) old new = OpensJoin name both.first both.second old new
 
     -- the disks of images of these names, opened one after another
     abbrev pub OpensImages : List (List ℕ) → List (ImageDisk F g) → Opening O → Opening O → Type 0
     OpensImages [] [] old new = new ≡ old
-    OpensImages (name ∷ names) (disk ∷ disks) old new = (next : Opening O) × OpensImage name disk old next × OpensImages names disks next new
+    OpensImages (name ∷ names) (disk ∷ disks) old new = (next : Opening O) × OpensImageDisk name disk old next × OpensImages names disks next new
     OpensImages names disks old new = ⊥
 
 -- ---- what is asked where memory gives out

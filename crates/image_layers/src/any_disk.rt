@@ -1,4 +1,4 @@
-// A disk of any kind is a disk.
+//! A disk of any kind is a disk.
 ghost use Rattle.image_layers.specs.Images.{state_of};
 
 use crate::ImageDisk;

@@ -1,7 +1,7 @@
-// The disks of images, each by what its name asks for.
+//! The disks of images, each by what its name asks for.
 ghost use Rattle.std.specs.Prelude.{◌⊎◌, ◌∷◌, [], IfOk, OnErr};
 ghost use Rattle.file_edge.specs.FileDisk.{AsksDisk, TellsFile};
-ghost use Rattle.image_layers.specs.Images.{AsksFiles, AsksPart, JoinsOrIsNone, OpensBoth, OpensImage, OpensOne, TellsImage, WaitsFor, opening};
+ghost use Rattle.image_layers.specs.Images.{AsksFiles, AsksPart, JoinsOrIsNone, OpensBoth, OpensImageDisk, OpensOne, TellsImage, WaitsFor, opening};
 
 use block_traits::{Disk, NoMemory};
 use disk_layers::{Concat, Parts, WriteBehind, parts_of};
@@ -37,7 +37,7 @@ pub fn open_image<O: Opener>(
 ) -> Result<ImageDisk<O::File>, NoMemory>
 where
     FileDisk<O::File>: Disk,
-    ensures opens { IfOk result (λ disk. OpensImage O.leads O.answers O.File.tells O.File.locks O.File.ends O.asked changes name.now disk
+    ensures opens { IfOk result (λ disk. OpensImageDisk O.leads O.answers O.File.tells O.File.locks O.File.ends O.asked changes name.now disk
         (opening opener.old files.old.items) (opening opener.new files.new.items)) }
     ensures tells { IfOk result (TellsImage O.File.told) }
     ensures asked_part { OnErr result (AsksPart O.asked changes name.now opener.old opener.new) }
@@ -70,7 +70,7 @@ where
     }
 }
 
-// Two disks as one, or where they are too large for that, none.
+// Two disks as one; if they are too large together, a disk that isn't open, whose every call fails.
 fn join<F: Drop>(first: FileDisk<F>, second: FileDisk<F>) -> ImageDisk<F>
 where
     FileDisk<F>: Disk,

@@ -29,7 +29,8 @@ use Rattle.image_layers.specs.Images.{AsksFirst, OpensImages, TellsImage, openin
 use Rattle.image_layers.specs.declared.image_disks.ImageDisk.{ImageDisk}
 use Rattle.image_run.specs.Surviving.{SurvivesInFile}
 
--- all arguments but the first, which is the program's name; arguments that can't be read are no words, but want of memory is
+-- all arguments but the first, which is the program's name; arguments that can't be read are no words, but want of
+-- memory is
 abbrev pub HasWords : {X Z : Type 0} → Result (IntoIter X Z) Error → List X → Type 0
 HasWords (Ok args) words = words ≡ drop 1 (into_iter_items args)
 HasWords (Err error) words = (words ≡ []) × (error_kind error ≢ kinds.OutOfMemory)
@@ -55,10 +56,11 @@ changes_said (One line command) = not (reads_alone (Some command))
 changes_said Usage = true
 
 -- where memory gave out before a run: nothing was asked but the first of the files of the images that the words name
-abbrev pub AsksPart : {O : Type 0} → (O → Option (List Asked)) → List (List ℕ) → O → O → Type 0
-AsksPart log_of words old new = AsksFirst log_of (changes_images words) (image_names words) old new
+abbrev pub AsksFirstFiles : {O : Type 0} → (O → Option (List Asked)) → List (List ℕ) → O → O → Type 0
+AsksFirstFiles log_of words old new = AsksFirst log_of (changes_images words) (image_names words) old new
 
--- what the system's files tell of themselves as a cabinet, and its random bytes as entropy, before anything was asked of them
+-- what the system's files tell of themselves as a cabinet, and its random bytes as entropy, before anything was asked
+-- of them
 abbrev pub new_cabinet : CabinetState
 new_cabinet = record { files = None; faults = 0; misses = 0; loads = 0; stores = 0 }
 
@@ -66,8 +68,8 @@ abbrev pub new_entropy : EntropyState
 new_entropy = record { left = None; faults = 0; calls = 0 }
 
 module _ {O F : Type 0} {g : Ghosts (FileDisk F)} (leads : O → List ℕ → Result Found Error → Type 0) (answers : O → OpenOptions → List ℕ → Result F Error → Type 0) (tells : F → Result Found Error → Type 0) (locks : F → Bool → Type 0) (ends : F → Option ℕ → Type 0) (log_of : O → Option (List Asked)) where
-  -- What a run begins with: the images of these names are opened one after another, to be changed or not, and then the random bytes; nothing
-  -- else is asked of what opens them.
+  -- what a run begins with: the images of these names are opened one after another, to be changed or not, and then the
+  -- random bytes; nothing else is asked of what opens them
   pub record OpensNamed (changes : Bool) (names : List (List ℕ)) (disks : List (ImageDisk F g)) (files : List FileId) (random : RandomFile F) (old new : O) : Type 0 where
     pub between : O
     pub images : OpensImages leads answers tells locks ends log_of changes names disks (opening old []) (opening between files)
@@ -87,11 +89,12 @@ module _ {O F : Type 0} (g : Ghosts (FileDisk F)) (leads : O → List ℕ → Re
     pub opens : OpensAll leads answers tells locks ends log_of words disks files random old new
 
   module _ (told : F → Option Told) where
-    -- The words were run over the images that they name. What opens files opened just these and the random bytes. Of the run of
-    -- the words over drawers with those names, in which just the disks of these images lay, to the drawers that are left, holds all
-    -- that is said of runs. The disk of a file alone tells what its file tells, and before the run nothing was asked of the cabinet.
-    -- `survives`: whatever a power failure leaves in the file of an image alone that tells its sectors, at any moment of the run,
-    -- reads as promised, from the content that the file had when it was opened.
+    -- The words were run over the images that they name. What opens files opened just these and the random bytes. Of
+    -- the run of the words over drawers with those names, in which just the disks of these images lay, to the drawers
+    -- that are left, holds all that is said of runs. The disk of a file alone tells what its file tells, and before the
+    -- run nothing was asked of the cabinet. `survives`: whatever a power failure leaves in the file of an image alone
+    -- that tells its sectors, at any moment of the run, reads as promised, from the content that the file had when it
+    -- was opened.
     pub record RunsOverFiles (words : List (List ℕ)) (opener : O) (source : SourceState) (sink : SinkState) (status : Status) (left : List DrawerState) (cabinet : CabinetState) (source_after : SourceState) (sink_after : SinkState) : Type 0 where
       pub disks : List (ImageDisk F g)
       pub files : List FileId

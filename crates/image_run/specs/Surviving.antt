@@ -17,10 +17,10 @@ module _ {F : Type 0} {g : Ghosts (FileDisk F)} (told : F → Option Told) where
   IfFileTells (Behind behind) P = Unit {0}
   IfFileTells (Join both) P = Unit {0}
 
-  -- The drawer is that of one of these images, by its name, and did these steps. Where the disk of the image was opened on a file
-  -- alone that told its content then, it has now the events of the steps behind that content and no other. If power fails at any
-  -- moment of them, before or within any write of a device sector, each image that is left reads unit by unit as promised
-  -- (docs/THEOREM.md).
+  -- The drawer is that of one of these images, by its name, and did these steps. Where the disk of the image was opened
+  -- on a file alone that told its content then, it has now the events of the steps behind that content and no other. If
+  -- power fails at any moment of them, before or within any write of a device sector, each image that is left reads
+  -- unit by unit as promised (docs/THEOREM.md).
   pub record SurvivesInFile (names : List (List ℕ)) (disks : List (ImageDisk F g)) (drawer : DrawerState) (steps : List Step) : Type 0 where
     pub place : ℕ
     pub disk : ImageDisk F g

@@ -1,4 +1,4 @@
-// What a run begins with: the images that its words name are opened, and then the random bytes.
+//! What a run begins with: the images that its words name are opened, and then the random bytes.
 ghost use Rattle.std.specs.Prelude.{◌≡◌, [], All, IfErr, IfOk, OnErr, Some, map, string_bytes};
 ghost use Rattle.geli_core.specs.Words.{FitsItsLine, image_names_of};
 ghost use Rattle.image_layers.specs.Images.{AsksFirst, OpensImages, TellsImage, opening};
@@ -64,7 +64,8 @@ where
     entropy: RandomFile<F>,
 }
 
-// Opens the images that the words name, by what they say, and then the random bytes. Nothing else is asked of the opener.
+// Opens the images that the words name, by what they say, and then the random bytes. Nothing else is asked of the
+// opener.
 fn make_ready<O: Opener>(
     alloc: Global,
     opener: &mut O,
@@ -103,8 +104,8 @@ where
     pub(crate) entropy: RandomFile<O::File>,
 }
 
-/// Opens the images that the words name, by what they say, and then the random bytes; no call was made of what is handed
-/// out. Where memory gave out the opener comes back.
+/// Opens the images that the words name, by what they say, and then the random bytes; no call was made of what is
+/// handed out. Where memory gave out the opener comes back.
 pub(crate) fn open_all<O: Opener + Drop>(
     alloc: Global,
     opener: O,

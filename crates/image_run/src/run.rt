@@ -1,9 +1,9 @@
-// The run of the words over the images that they name.
+//! The run of the words over the images that they name.
 ghost use Rattle.std.specs.Prelude.{◌≡◌, ◌⊎◌, IfErr, IfOk, None, OnErr, OnOk, map, string_bytes};
 ghost use Rattle.block_traits.specs.Causes.{Rose};
 ghost use Rattle.command_words.specs.Images.{script_images};
 ghost use Rattle.geli_core.specs.Script.{Ends};
-ghost use Rattle.image_run.specs.Program.{AsksPart, HasOpened, RunsOverFiles, RunsToAnEnd};
+ghost use Rattle.image_run.specs.Program.{AsksFirstFiles, HasOpened, RunsOverFiles, RunsToAnEnd};
 ghost use Rattle.shelf.specs.Shelved.{drawers_of};
 
 use crate::opening::{Opened, open_all};
@@ -13,10 +13,10 @@ use geli_core::{AddFault, Drawers, Outside, Status, read_words, run_over};
 use image_layers::ImageDisk;
 use std::alloc::Global;
 
-/// Reads the words once, runs what they ask for over the images that they name, and hands back the shelf with their disks, and the
-/// files, as the run left them. Each image is opened, in order, to be changed but where the command only reads, and then
-/// the random bytes, and nothing else. Or there was no memory for that: then neither was anything read nor printed, and
-/// the opener comes back. Words that aren't those of a script read nothing of the input.
+/// Reads the words once, runs what they ask for over the images that they name, and hands back the shelf with their
+/// disks, and the files, as the run left them. Each image is opened, in order, to be changed but where the command only
+/// reads, and then the random bytes, and nothing else. Or there was no memory for that: then neither was anything read
+/// nor printed, and the opener comes back. Words that aren't those of a script read nothing of the input.
 pub fn run_files<O: Opener + Drop, S: Source, K: Sink>(
     alloc: Global,
     words: &[String],
@@ -30,7 +30,7 @@ pub fn run_files<O: Opener + Drop, S: Source, K: Sink>(
         (S.state input.new) (K.state output.new)) }
     ensures unread { OnOk result (script_images (map string_bytes words.now) ≡ None → input.new ≡ input.old) }
     ensures nothing { OnErr result ((input.new ≡ input.old) × (output.new ≡ output.old)) }
-    ensures asked { IfErr result (λ refused. AsksPart O.asked (map string_bytes words.now) opener refused.0
+    ensures asked { IfErr result (λ refused. AsksFirstFiles O.asked (map string_bytes words.now) opener refused.0
         ⊎ HasOpened (⟦<FileDisk<O::File> as Disk>⟧) O.leads O.answers O.File.tells O.File.locks O.File.ends O.asked (map string_bytes words.now) opener refused.0) }
 {
     let Ok(said) = read_words(alloc, words) else {

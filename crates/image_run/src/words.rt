@@ -1,7 +1,7 @@
-// The words of the command line, and what the program exits with.
+//! The words of the command line, and what the program exits with.
 ghost use Rattle.std.specs.Prelude.{◌≡◌, IfOk};
 ghost use Rattle.std.specs.Process.{exit_status};
-ghost use Rattle.geli_core.specs.Status.{number_of};
+ghost use Rattle.geli_core.specs.Status.{status_number};
 ghost use Rattle.image_run.specs.Program.{HasWords};
 
 use geli_core::Status;
@@ -24,7 +24,7 @@ pub fn words_of(alloc: Global, args: io::Result<Args>) -> Result<Vec<String>, Al
 
 /// The exit code of a status.
 pub fn exit_code(status: Status) -> ExitCode
-    ensures { exit_status result ≡ number_of status }
+    ensures { exit_status result ≡ status_number status }
 {
     ExitCode::from(status.number())
 }

@@ -17,7 +17,7 @@ use Rattle.eli_metadata.specs.Checks.{Settings, are_clear, is_set, named_slot_op
 use Rattle.eli_metadata.specs.declared.metadata.Metadata.{Metadata}
 use Rattle.eli_metadata.specs.declared.metadata.MetaFault.{MetaFault}
 use Rattle.eli_metadata.specs.declared.metadata.MetaFault.TheVariants.{NoValidKeys}
-use Rattle.key_slots.specs.Slots.{IsKeyBits, IsSlotOf, Opens, SameSlot, deciphered, with_slot, wrapped}
+use Rattle.key_slots.specs.Slots.{IsKeyBits, IsSlotOf, Opens, SameSlot, deciphered_slot, with_slot, wrapped}
 use Rattle.key_slots.proofs.Changes.{OpensAsBefore-same, bytes_other, bytes_same, set_other, set_same}
 use Rattle.key_slots.proofs.Wrapped.{IsSlotOf-wrapped, length-wrapped}
 use Rattle.user_key.specs.Derivation.{user_key}
@@ -27,7 +27,7 @@ use Rattle.user_key.specs.declared.components.KeyFault.TheVariants.{PassphraseNo
 use Rattle.user_key.specs.declared.components.PassPart.{PassPart}
 use Rattle.user_key.specs.declared.components.PassPart.TheVariants.{Without, Missing, Given}
 use Rattle.user_key.specs.declared.components.UserKey.{UserKey}
-use Rattle.key_commands.specs.NewKey.{HasNewKey, IsAcceptedAs, IsAskedFor, KeepsSlot, KeyChange, MakesKey, change_refusal, is_only_key, iterations_of, new_iterations, new_user_key, with_key}
+use Rattle.key_commands.specs.NewKey.{HasNewKey, IsAcceptedAs, IsAskedFor, KeepsSlot, KeyChange, MakesKey, change_refusal, is_only_key, changed_iterations, new_iterations, new_user_key, with_key}
 use Rattle.key_commands.specs.Options.{key_refusal}
 
 -- ---- metadata that are checked have an allowed key length
@@ -111,7 +111,7 @@ same_key-new (Given bytes) (negsuc n) parts salt key e = same_key parts.keyfile_
 
 pub same_key-change : (asked : KeyChange) (s : ℕ) → s < 2 → s ≢ asked.slot → change_refusal asked ≡ None → IsTrue (is_set asked.meta s)
     → (parts : Components) (key : UserKey) → user_key parts asked.meta.salt asked.meta.iterations ≡ Ok key
-    → user_key parts asked.meta.salt (iterations_of asked) ≡ Ok key
+    → user_key parts asked.meta.salt (changed_iterations asked) ≡ Ok key
 same_key-change asked s lt ne served set parts key e =
     let none : asked.iterations ≡ None = none_given asked.iterations (is_only_key asked.meta asked.slot) refusals.IterationsNeedOneKey _ served (not_only asked.meta asked.slot s lt ne set) in
     let P : Option ℤ → Type 0 = λ given. user_key parts asked.meta.salt (new_iterations given asked.parts.passphrase asked.meta.iterations) ≡ Ok key in
@@ -124,9 +124,9 @@ stays Missing kept = inl refl
 stays (Given bytes) (pos n) = inl (ap (λ (test : Bool). cond test (pos 100000) (pos n)) (not_negative n))
 stays (Given bytes) (negsuc n) = inr refl
 
-pub iterations_of-stays : (asked : KeyChange) (s : ℕ) → s < 2 → s ≢ asked.slot → change_refusal asked ≡ None → IsTrue (is_set asked.meta s)
-    → (iterations_of asked ≡ asked.meta.iterations) ⊎ IsTrue (is_negative asked.meta.iterations)
-iterations_of-stays asked s lt ne served set =
+pub changed_iterations-stays : (asked : KeyChange) (s : ℕ) → s < 2 → s ≢ asked.slot → change_refusal asked ≡ None → IsTrue (is_set asked.meta s)
+    → (changed_iterations asked ≡ asked.meta.iterations) ⊎ IsTrue (is_negative asked.meta.iterations)
+changed_iterations-stays asked s lt ne served set =
     let none : asked.iterations ≡ None = none_given asked.iterations (is_only_key asked.meta asked.slot) refusals.IterationsNeedOneKey _ served (not_only asked.meta asked.slot s lt ne set) in
     let P : Option ℤ → Type 0 = λ given. (new_iterations given asked.parts.passphrase asked.meta.iterations ≡ asked.meta.iterations) ⊎ IsTrue (is_negative asked.meta.iterations) in
     subst P (sym none) (stays asked.parts.passphrase asked.meta.iterations)
@@ -189,7 +189,7 @@ change_refusal-none asked key either made =
     ∙ ap key_refusal made
 
 -- the new metadata, by their iterations
-pub MakesKey-with : (asked : KeyChange) (key : UserKey) (m : Metadata) (count : ℤ) → IsAskedFor asked → count ≡ iterations_of asked
+pub MakesKey-with : (asked : KeyChange) (key : UserKey) (m : Metadata) (count : ℤ) → IsAskedFor asked → count ≡ changed_iterations asked
     → (is_some asked.iterations ≡ false) ⊎ (is_only_key asked.meta asked.slot ≡ true)
     → user_key asked.parts asked.meta.salt count ≡ Ok key
     → m ≡ with_slot (record asked.meta { iterations = count }) asked.slot (wrapped asked.master key.bytes asked.meta.keylen)
@@ -200,7 +200,7 @@ MakesKey-with asked key m count given rule either made is whole =
     let Q : ℤ → Type 0 = λ z. m ≡ with_slot (record asked.meta { iterations = z }) asked.slot (wrapped asked.master key.bytes asked.meta.keylen) in
     let metadata : m ≡ with_key asked key.bytes = subst Q rule is in
     let salt : m.salt ≡ asked.meta.salt = ap (λ (n : Metadata). n.salt) metadata in
-    let iterations : m.iterations ≡ iterations_of asked = ap (λ (n : Metadata). n.iterations) metadata in
+    let iterations : m.iterations ≡ changed_iterations asked = ap (λ (n : Metadata). n.iterations) metadata in
     record {
       given = given;
       served = change_refusal-none asked key either derived;
@@ -216,9 +216,9 @@ MakesKey-with asked key m count given rule either made is whole =
 Opens-with_slot : (old : Metadata) (count : ℤ) (slot : ℕ) (bytes u master : List ℕ) → length old.mkeys ≡ 384 → length bytes ≡ 192 → slot < 2 → IsSlotOf bytes u old.keylen master
     → Opens (with_slot (record old { iterations = count }) slot bytes) u slot master
 Opens-with_slot old count zero bytes u master long long' lt held =
-    record { set = set_same old.keys 0 lt; slot = record { text = ap (λ (l : List ℕ). deciphered l u old.keylen) (bytes_same old.mkeys bytes 0 long long' lt) ∙ held.text } }
+    record { set = set_same old.keys 0 lt; slot = record { text = ap (λ (l : List ℕ). deciphered_slot l u old.keylen) (bytes_same old.mkeys bytes 0 long long' lt) ∙ held.text } }
 Opens-with_slot old count (suc zero) bytes u master long long' lt held =
-    record { set = set_same old.keys 1 lt; slot = record { text = ap (λ (l : List ℕ). deciphered l u old.keylen) (bytes_same old.mkeys bytes 1 long long' lt) ∙ held.text } }
+    record { set = set_same old.keys 1 lt; slot = record { text = ap (λ (l : List ℕ). deciphered_slot l u old.keylen) (bytes_same old.mkeys bytes 1 long long' lt) ∙ held.text } }
 Opens-with_slot old count (suc (suc slot)) bytes u master long long' lt held = absurd (omega arith)
 
 -- the other slot is the same
@@ -232,7 +232,7 @@ KeepsSlot-with_key : (asked : KeyChange) (u : List ℕ) (s : ℕ) → IsAskedFor
     → KeepsSlot asked.meta (with_key asked u) s
 KeepsSlot-with_key asked u s given served long ls ne =
     let same : SameSlot asked.meta (with_key asked u) s =
-    SameSlot-with_slot asked.meta (iterations_of asked) asked.slot s (wrapped asked.master u asked.meta.keylen) given.whole.mkeys long given.there ls ne in
+    SameSlot-with_slot asked.meta (changed_iterations asked) asked.slot s (wrapped asked.master u asked.meta.keylen) given.whole.mkeys long given.there ls ne in
     KeepsSlot-same asked.meta (with_key asked u) s same refl (same_key-change asked s ls ne served)
 
 has_new_key : (asked : KeyChange) (m : Metadata) (u : List ℕ) → IsAskedFor asked → change_refusal asked ≡ None → m ≡ with_key asked u → IsWhole m → HasNewKey asked m u
@@ -241,7 +241,7 @@ has_new_key asked m u given served is whole =
     let slot : List ℕ = wrapped asked.master u asked.meta.keylen in
     let long : length slot ≡ 192 = length-wrapped asked.master u asked.meta.keylen bits given.master.size given.master.bytes in
     let opens : Opens (with_key asked u) u asked.slot asked.master =
-    Opens-with_slot asked.meta (iterations_of asked) asked.slot slot u asked.master given.whole.mkeys long given.there
+    Opens-with_slot asked.meta (changed_iterations asked) asked.slot slot u asked.master given.whole.mkeys long given.there
     (IsSlotOf-wrapped asked.master u asked.meta.keylen bits given.master.size given.master.bytes) in
     record {
       read = metadata_in-encoded m whole.range whole.salt whole.mkeys;

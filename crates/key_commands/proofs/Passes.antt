@@ -13,7 +13,7 @@ use Rattle.block_traits.specs.Streams.{EntropyState}
 use Rattle.eli_base.specs.declared.refusals.Refusal.{Refusal}
 use Rattle.eli_base.specs.declared.refusals.Refusal.TheVariants.{KeyNumberOutOfRange}
 use Rattle.eli_metadata.specs.Checks.{is_set}
-use Rattle.eli_metadata.specs.Format.{IsInRange, IsWhole, encoded, is_served, metadata_in}
+use Rattle.eli_metadata.specs.Format.{HasFieldsInRange, IsWhole, encoded, is_served, metadata_in}
 use Rattle.eli_metadata.specs.declared.metadata.Metadata.{Metadata}
 use Rattle.eli_metadata.proofs.Laws.{metadata_in-encoded}
 use Rattle.key_slots.specs.Slots.{SameSlot, slot_bytes, with_slot_bytes, without_slot}
@@ -46,8 +46,8 @@ length-with_slot_bytes mkeys bytes slot lt long long' =
     simp length-append (omega arith)
 
 -- other slots leave the other fields in their ranges
-IsInRange-slots : (m : Metadata) (keys : ℕ) (mkeys : List ℕ) → IsInRange m → IsInRange (record m { keys = keys; mkeys = mkeys })
-IsInRange-slots m keys mkeys range = record {
+HasFieldsInRange-slots : (m : Metadata) (keys : ℕ) (mkeys : List ℕ) → HasFieldsInRange m → HasFieldsInRange (record m { keys = keys; mkeys = mkeys })
+HasFieldsInRange-slots m keys mkeys range = record {
   version = range.version;
   flags = range.flags;
   ealgo = range.ealgo;
@@ -59,9 +59,9 @@ IsInRange-slots m keys mkeys range = record {
 }
 
 IsWhole-without : (m : Metadata) (which : Which) (bytes : List ℕ) → IsThere which → IsWhole m → length bytes ≡ named_size which → IsWhole (without_keys m which bytes)
-IsWhole-without m slots.All bytes there whole size = record { range = IsInRange-slots m _ _ whole.range; salt = whole.salt; mkeys = size }
+IsWhole-without m slots.All bytes there whole size = record { range = HasFieldsInRange-slots m _ _ whole.range; salt = whole.salt; mkeys = size }
 IsWhole-without m (slots.One slot) bytes there whole size =
-    record { range = IsInRange-slots m _ _ whole.range; salt = whole.salt; mkeys = length-with_slot_bytes m.mkeys bytes slot there whole.mkeys size }
+    record { range = HasFieldsInRange-slots m _ _ whole.range; salt = whole.salt; mkeys = length-with_slot_bytes m.mkeys bytes slot there whole.mkeys size }
 
 is_served-without : (m : Metadata) (which : Which) (bytes : List ℕ) → is_served (without_keys m which bytes).version (without_keys m which bytes).flags ≡ is_served m.version m.flags
 is_served-without m slots.All bytes = refl

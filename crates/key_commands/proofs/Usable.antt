@@ -18,7 +18,7 @@ use Rattle.eli_metadata.specs.declared.metadata.MetaFault.{MetaFault}
 use Rattle.eli_metadata.specs.declared.metadata.Metadata.{Metadata}
 use Rattle.hmac_kdf.specs.Hmac.{hmac512}
 use Rattle.hmac_kdf.proofs.Lengths.{length-hmac512}
-use Rattle.key_slots.specs.Slots.{IsSlotOf, Opens, check_code, deciphered, master_in, numbered, slot_bytes, unwrapped}
+use Rattle.key_slots.specs.Slots.{IsSlotOf, Opens, check_code, deciphered_slot, master_in, numbered, slot_bytes, unwrapped}
 use Rattle.key_slots.proofs.Parts.{take_front}
 use Rattle.key_slots.proofs.Texts.{master_of_text}
 use Rattle.user_key.specs.Derivation.{user_key}
@@ -98,13 +98,13 @@ Opens-slot_0 m slot filler u master keys slots long held =
     let bytes : slot_bytes m 0 ≡ slot = ap (take 192) slots ∙ take_front 192 slot filler long in
     record {
       set = ap (λ (k : ℕ). not (bit_and k 1 == 0)) keys;
-      slot = record { text = ap (λ (xs : List ℕ). deciphered xs u m.keylen) bytes ∙ held.text };
+      slot = record { text = ap (λ (xs : List ℕ). deciphered_slot xs u m.keylen) bytes ∙ held.text };
     }
 
 -- where slot 0 opens to a master key, it is what the slot, and the first that opens, give
 pub OpensFirst-Opens : (m : Metadata) (u master : List ℕ) → length master ≡ 128 → Opens m u 0 master → OpensFirst m u master
 OpensFirst-Opens m u master long held =
-    let text : List ℕ = deciphered (slot_bytes m 0) u m.keylen in
+    let text : List ℕ = deciphered_slot (slot_bytes m 0) u m.keylen in
     let code_long = length-hmac512 (hmac512 u (0x00 ∷ [])) master in
     let sum : length text ≡ length master + length (check_code u master) = ap length held.slot.text ∙ length-append master (check_code u master) in
     let text_long : length text ≡ 192 = omega arith in

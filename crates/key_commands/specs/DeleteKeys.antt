@@ -72,6 +72,7 @@ pub record RefusesDeletion (asked : Deletion) (disk : DiskState) (entropy : Entr
   pub disk_unchanged : disk' ≡ disk
   pub entropy_unchanged : entropy' ≡ entropy
 
+-- what `delkey` does and answers, by the cases of its answer
 abbrev pub DeletesKeys : Deletion → DiskState → EntropyState → Result Metadata Refusal → DiskState → EntropyState → Type 0
 DeletesKeys asked disk entropy (Ok m) disk' entropy' = Deletes asked disk entropy m disk' entropy'
 DeletesKeys asked disk entropy (Err DeviceFault) disk' entropy' = DeletesPart asked disk entropy disk' entropy'

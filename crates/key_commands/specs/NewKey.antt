@@ -33,12 +33,12 @@ new_iterations None Without kept = kept
 new_iterations None Missing kept = kept
 new_iterations None (Given passphrase) kept = if is_negative kept then pos 100000 else kept
 
-abbrev pub iterations_of : KeyChange → ℤ
-iterations_of asked = new_iterations asked.iterations asked.parts.passphrase asked.meta.iterations
+abbrev pub changed_iterations : KeyChange → ℤ
+changed_iterations asked = new_iterations asked.iterations asked.parts.passphrase asked.meta.iterations
 
 -- the user key that the new components make under the new iterations, or why they make none
 abbrev pub new_user_key : KeyChange → Result UserKey KeyFault
-new_user_key asked = user_key asked.parts asked.meta.salt (iterations_of asked)
+new_user_key asked = user_key asked.parts asked.meta.salt (changed_iterations asked)
 
 -- whether this slot holds a key and the other one doesn't
 abbrev pub is_only_key : Metadata → ℕ → Bool
@@ -55,7 +55,7 @@ change_refusal asked = first_or_key (
 abbrev pub with_key : KeyChange → List ℕ → Metadata
 with_key asked u =
     let m = asked.meta in
-    with_slot (record m { iterations = iterations_of asked }) asked.slot (wrapped asked.master u m.keylen)
+    with_slot (record m { iterations = changed_iterations asked }) asked.slot (wrapped asked.master u m.keylen)
 
 -- what new metadata keep of slot s: its bytes and its bit, what each user key opens it to, and, where it holds a key,
 -- the user key that components make

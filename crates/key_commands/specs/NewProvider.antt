@@ -41,7 +41,7 @@ pub record Writes (options : InitOptions) (parts : Components) (disk : DiskState
   pub unasked : disk'.reads ≡ disk.reads
 
 -- the metadata were made, the disk failed after a part of the events, and nothing was read
-pub record WritesPart (options : InitOptions) (parts : Components) (disk : DiskState) (entropy : EntropyState) (disk' : DiskState) (entropy' : EntropyState) : Type 0 where
+pub record MakesPart (options : InitOptions) (parts : Components) (disk : DiskState) (entropy : EntropyState) (disk' : DiskState) (entropy' : EntropyState) : Type 0 where
   pub m : Metadata
   pub makes : MakesMetadata options parts disk.size entropy m entropy'
   pub fails : FailsIn (init_events disk m) disk disk'
@@ -61,6 +61,6 @@ pub record RefusesInit (options : InitOptions) (parts : Components) (disk : Disk
 
 abbrev pub Inits : InitOptions → Components → DiskState → EntropyState → Result Metadata Refusal → DiskState → EntropyState → Type 0
 Inits options parts disk entropy (Ok m) disk' entropy' = Writes options parts disk entropy m disk' entropy'
-Inits options parts disk entropy (Err DeviceFault) disk' entropy' = WritesPart options parts disk entropy disk' entropy'
+Inits options parts disk entropy (Err DeviceFault) disk' entropy' = MakesPart options parts disk entropy disk' entropy'
 Inits options parts disk entropy (Err EntropyFault) disk' entropy' = HasNoRandom options parts disk entropy disk' entropy'
 Inits options parts disk entropy (Err refusal) disk' entropy' = RefusesInit options parts disk entropy refusal disk' entropy'

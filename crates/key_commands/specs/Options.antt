@@ -23,7 +23,7 @@ abbrev pub first_or_key : List (Bool × Refusal) → Result UserKey KeyFault →
 first_or_key [] key = key_refusal key
 first_or_key ((holds, refusal) ∷ others) key = if holds then Some refusal else first_or_key others key
 
--- the first refusal that holds of an image of so many device sectors. One of fewer than two has no logical
+-- The first refusal that holds of an image of so many device sectors. One of fewer than two has no logical
 -- sector. Whether components make a key is the same under every salt, so it is asked with none.
 abbrev pub early_refusal : InitOptions → Components → ℕ → Option Refusal
 early_refusal options parts sectors = first_or_key (

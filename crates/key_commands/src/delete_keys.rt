@@ -1,4 +1,4 @@
-// Keys that are taken out of the metadata.
+//! Keys that are taken out of the metadata.
 ghost use Rattle.std.specs.Prelude.{◌≡◌, ◌<◌};
 ghost use Rattle.key_commands.specs.DeleteKeys.{DeletesKeys, Deletion};
 

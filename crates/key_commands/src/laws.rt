@@ -1,6 +1,6 @@
-// What holds of the metadata of a new provider, whatever the random bytes and the user key, and of metadata with a new
-// key or without some; and what follows of what `init`, `setkey` and `delkey` did: of what use the metadata are, and
-// what the last sector may hold whenever power fails.
+//! What holds of the metadata of a new provider, whatever the random bytes and the user key, and of metadata with a new
+//! key or without some; and what follows of what `init`, `setkey` and `delkey` did: of what use the metadata are, and
+//! what the last sector may hold whenever power fails.
 ghost use Rattle.std.specs.Prelude.{◌≡◌, ◌≢◌, ◌<◌, ◌^◌, ◌⊎◌, ℕ, List, IsTrue, None, Ok, length};
 ghost use Rattle.std.specs.Int.{is_negative};
 ghost use Rattle.aes_core.specs.Schedule.{AreBytes};
@@ -15,9 +15,9 @@ ghost use Rattle.eli_metadata.specs.Place.{IsSectorOf};
 ghost use Rattle.key_slots.specs.Slots.{IsKeyBits, Opens};
 ghost use Rattle.user_key.specs.Derivation.{user_key};
 ghost use Rattle.key_commands.specs.DeleteKeys.{Deletes, DeletesPart, Deletion, HasOtherKeys, Overwrites};
-ghost use Rattle.key_commands.specs.NewKey.{HasNewKey, KeyChange, MakesKey, change_refusal, iterations_of};
+ghost use Rattle.key_commands.specs.NewKey.{HasNewKey, KeyChange, MakesKey, change_refusal, changed_iterations};
 ghost use Rattle.key_commands.specs.NewMetadata.{new_metadata};
-ghost use Rattle.key_commands.specs.NewProvider.{MakesMetadata, Writes, WritesPart};
+ghost use Rattle.key_commands.specs.NewProvider.{MakesMetadata, Writes, MakesPart};
 ghost use Rattle.key_commands.specs.Overwriting.{IsThere, Names, without_keys};
 ghost use Rattle.key_commands.specs.Random.{master_key_in, random_size};
 ghost use Rattle.key_commands.specs.SetKey.{WritesKey, WritesKeyPart};
@@ -44,14 +44,14 @@ pub fn new_slot_opens()
 /// passphrase was set up.
 pub fn iterations_stay_for_the_other_key()
     ensures { (asked : KeyChange) (s : ℕ) → s < 2 → s ≢ asked.slot → change_refusal asked ≡ None → IsTrue (is_set asked.meta s) →
-        (iterations_of asked ≡ asked.meta.iterations) ⊎ IsTrue (is_negative asked.meta.iterations) }
+        (changed_iterations asked ≡ asked.meta.iterations) ⊎ IsTrue (is_negative asked.meta.iterations) }
 {}
 
 /// Components that made a user key for the other slot make the same one after the iterations changed.
 pub fn other_key_is_made_again()
     ensures { (asked : KeyChange) (s : ℕ) → s < 2 → s ≢ asked.slot → change_refusal asked ≡ None → IsTrue (is_set asked.meta s) →
         (parts : Components) (key : UserKey) → user_key parts asked.meta.salt asked.meta.iterations ≡ Ok key →
-        user_key parts asked.meta.salt (iterations_of asked) ≡ Ok key }
+        user_key parts asked.meta.salt (changed_iterations asked) ≡ Ok key }
 {}
 
 /// A slot that was cleared opens with no user key.
@@ -76,7 +76,7 @@ pub fn init_leaves_old_or_new()
         Writes options parts disk entropy m disk' entropy' →
         KeepsOldOr (IsSectorOf m) (last_sector disk) disk.content disk'.content × KeepsAlone (encoded m) (last_sector disk) disk'.content }
     ensures part { (options : InitOptions) (parts : Components) (disk disk' : DiskState) (entropy entropy' : EntropyState) →
-        (part : WritesPart options parts disk entropy disk' entropy') →
+        (part : MakesPart options parts disk entropy disk' entropy') →
         KeepsOldOr (IsSectorOf part.m) (last_sector disk) disk.content disk'.content }
 {}
 

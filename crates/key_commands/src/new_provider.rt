@@ -1,4 +1,4 @@
-// A new provider.
+//! A new provider.
 ghost use Rattle.std.specs.Prelude.{◌≡◌, ◌<◌, ◌^◌, ◌+◌, ◌++◌};
 ghost use Rattle.eli_metadata.specs.Format.{IsWhole};
 ghost use Rattle.key_commands.specs.NewProvider.{Inits};

@@ -1,4 +1,4 @@
-// What a new provider is to be, and what is refused before anything is done.
+//! What a new provider is to be, and what is refused before anything is done.
 ghost use Rattle.std.specs.Prelude.{◌≡◌, ◌<◌, ◌^◌, ◌*◌, ◌==◌, ℕ, List, IsTrue, OnOk, IfErr};
 ghost use Rattle.std.specs.Bool.{OnFalse};
 ghost use Rattle.eli_base.specs.Algorithms.{allows_length};

@@ -1,4 +1,4 @@
-// Slots that are cleared and overwritten.
+//! Slots that are cleared and overwritten.
 ghost use Rattle.std.specs.Prelude.{◌≡◌, ◌<◌, ◌≤◌, IfNone, length};
 ghost use Rattle.block_traits.specs.Overwriting.{zeros};
 ghost use Rattle.eli_metadata.specs.Format.{IsWhole};

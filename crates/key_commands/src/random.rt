@@ -1,4 +1,4 @@
-// The random bytes of a new provider.
+//! The random bytes of a new provider.
 ghost use Rattle.std.specs.Prelude.{◌≡◌, IfOk, OnErr};
 ghost use Rattle.block_traits.specs.Streams.{TakesNone};
 ghost use Rattle.key_commands.specs.Random.{Draws, filler_in, master_key_in, salt_in};

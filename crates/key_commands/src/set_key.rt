@@ -1,4 +1,4 @@
-// A new key in a slot.
+//! A new key in a slot.
 ghost use Rattle.std.specs.Prelude.{◌≡◌, ◌==◌, ◌<◌, ◌^◌, bit_and, IfErr, IfOk, IsOk, Some};
 ghost use Rattle.eli_metadata.specs.Format.{IsWhole};
 ghost use Rattle.eli_metadata.specs.Checks.{supported};

@@ -1,4 +1,4 @@
-// Metadata stored in their place.
+//! Metadata stored in their place.
 ghost use Rattle.std.specs.Prelude.{◌≡◌, ◌<◌, IsTrue, Ok, OnOk, OnErr};
 ghost use Rattle.block_traits.specs.Disk.{FailsIn, Logs, store_events};
 ghost use Rattle.eli_metadata.specs.Format.{encoded, is_served, metadata_in};

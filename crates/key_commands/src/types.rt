@@ -1,4 +1,4 @@
-// What values hold by their types.
+//! What values hold by their types.
 ghost use Rattle.aes_core.specs.Schedule.{AreBytes};
 ghost use Rattle.key_commands.specs.Types.{IsMasterKey};
 

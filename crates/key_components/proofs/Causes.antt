@@ -10,7 +10,7 @@ use Rattle.eli_base.specs.declared.refusals.Refusal.{Refusal}
 use Rattle.eli_base.specs.declared.refusals.Refusal.TheVariants.{CabinetFault, FileAbsent, FileTooLong, NoMemory}
 use Rattle.key_components.specs.declared.parts.Part.{Part}
 use Rattle.key_components.specs.declared.parts.Part.TheVariants.{KeyFiles, Passphrase}
-use Rattle.key_components.specs.Answers.{IsAt, IsBehind, KeepsFiles, MayRefuse, MayRefusePassphrase, StopsAtFile, StopsLoading, word_at, word_of}
+use Rattle.key_components.specs.Answers.{IsAt, IsOfPassphrases, KeepsFiles, MayRefuse, MayRefusePassphrase, StopsAtFile, StopsLoading, file_word_at, refused_word}
 use Rattle.key_components.specs.Files.{file_limit, key_files}
 use Rattle.key_components.specs.Parts.{MayRefuseOf}
 
@@ -46,11 +46,11 @@ StopsAtFile-cause line words old refusal new (inr at) = at.cause
 
 pub StopsAtFile-earlier : (line : List ℕ) (words : KeyWords) (old middle : CabinetState) (refusal : Refusal) (new : CabinetState) → KeepsFiles old middle → StopsAtFile line words middle refusal new → StopsAtFile line words old refusal new
 StopsAtFile-earlier line words old middle refusal new keeps (inl at) = inl (record {
-  word = subst (λ (files : Option Files). IfSome (word_of refusal) (IsAt key_files files line words.files)) keeps.files at.word;
+  word = subst (λ (files : Option Files). IfSome (refused_word refusal) (IsAt key_files files line words.files)) keeps.files at.word;
   cause = MayRefuse-earlier file_limit old middle new refusal keeps at.cause;
 })
 StopsAtFile-earlier line words old middle refusal new keeps (inr at) = inr (record {
-  word = subst (λ (files : Option Files). IfSome (word_of refusal) (IsBehind files line words)) keeps.files at.word;
+  word = subst (λ (files : Option Files). IfSome (refused_word refusal) (IsOfPassphrases files line words)) keeps.files at.word;
   cause = MayRefusePassphrase-earlier old middle new refusal keeps at.cause;
 })
 
@@ -58,11 +58,11 @@ StopsAtFile-earlier line words old middle refusal new keeps (inr at) = inr (reco
 pub stops_behind : (front back : List Span) (old middle : CabinetState) (refusal : Refusal) (new : CabinetState)
     → Counted (length front) old.loads middle.loads → StopsLoading back middle refusal new → StopsLoading (front ++ back) old refusal new
 stops_behind front back old middle refusal new first then =
-    let same : word_at (front ++ back) (length front + then.place) ≡ word_at back then.place =
+    let same : file_word_at (front ++ back) (length front + then.place) ≡ file_word_at back then.place =
     ap (λ (span : Span). span.word) (get_or-append-add front back then.place (record { start = 0; end = 0; word = 0 })) in
     record {
       place = length front + then.place;
       within = omega (arith, length-append front back, then.within);
-      named = subst (λ (n : ℕ). IfSome (word_of refusal) (λ word. n ≡ word)) (sym same) then.named;
+      named = subst (λ (n : ℕ). IfSome (refused_word refusal) (λ word. n ≡ word)) (sym same) then.named;
       asked = Counted-then (length front) (then.place + 1) ((length front + then.place) + 1) (omega arith) first then.asked;
     }

@@ -9,8 +9,8 @@ use Rattle.command_words.specs.Places.{bytes_at}
 use Rattle.command_words.specs.declared.spans.Span.{Span}
 use Rattle.eli_base.specs.declared.refusals.Refusal.{Refusal}
 use Rattle.eli_base.specs.declared.refusals.Refusal.TheVariants.{CabinetFault, NoMemory}
-use Rattle.key_components.specs.Files.{Taking, content, first_fault, joined}
-use Rattle.key_components.specs.Answers.{unless_refused, IsRefusal, IsAnswer, IsAt, word_of}
+use Rattle.key_components.specs.Files.{Taking, named_bytes, first_fault, joined_files}
+use Rattle.key_components.specs.Answers.{unless_refused, IsRefusal, IsAnswer, IsAt, refused_word}
 
 option_or-assoc : (a b c : Option Refusal) → option_or (option_or a b) c ≡ option_or a (option_or b c)
 option_or-assoc None b c = refl
@@ -18,48 +18,48 @@ option_or-assoc (Some r) b c = refl
 
 pub first_fault-append : (taking : Taking) (files : Files) (line : List ℕ) (used : ℕ) (spans more : List Span)
     → first_fault taking files line used (spans ++ more)
-    ≡ option_or (first_fault taking files line used spans) (first_fault taking files line (used + length (joined taking files line spans)) more)
+    ≡ option_or (first_fault taking files line used spans) (first_fault taking files line (used + length (joined_files taking files line spans)) more)
 first_fault-append taking files line used [] more = ap (λ n. first_fault taking files line n more) (omega arith)
 first_fault-append taking files line used (span ∷ spans) more =
-    let piece = taking.piece (content files line span) in
+    let piece = taking.piece (named_bytes files line span) in
     let fault = taking.fault span.word used (files (bytes_at line span)) in
-    let sums : (used + length piece) + length (joined taking files line spans) ≡ used + length (piece ++ joined taking files line spans) =
-    omega (arith, length-append piece (joined taking files line spans)) in
+    let sums : (used + length piece) + length (joined_files taking files line spans) ≡ used + length (piece ++ joined_files taking files line spans) =
+    omega (arith, length-append piece (joined_files taking files line spans)) in
     ap (option_or fault) (first_fault-append taking files line (used + length piece) spans more)
-    ∙ sym (option_or-assoc fault (first_fault taking files line (used + length piece) spans) (first_fault taking files line ((used + length piece) + length (joined taking files line spans)) more))
+    ∙ sym (option_or-assoc fault (first_fault taking files line (used + length piece) spans) (first_fault taking files line ((used + length piece) + length (joined_files taking files line spans)) more))
     ∙ ap (λ n. option_or (first_fault taking files line used (span ∷ spans)) (first_fault taking files line n more)) sums
 
-joined-more : (taking : Taking) (files : Files) (line : List ℕ) (spans : List Span) (span : Span)
-    → joined taking files line (spans ++ span ∷ []) ≡ joined taking files line spans ++ taking.piece (content files line span)
-joined-more taking files line spans span =
-    ap (flat_map taking.piece) (map-append (content files line) spans (span ∷ []))
-    ∙ flat_map-append taking.piece (map (content files line) spans) (content files line span ∷ [])
-    ∙ ap (λ bytes. joined taking files line spans ++ bytes) (append-nil (taking.piece (content files line span)))
+joined_files-more : (taking : Taking) (files : Files) (line : List ℕ) (spans : List Span) (span : Span)
+    → joined_files taking files line (spans ++ span ∷ []) ≡ joined_files taking files line spans ++ taking.piece (named_bytes files line span)
+joined_files-more taking files line spans span =
+    ap (flat_map taking.piece) (map-append (named_bytes files line) spans (span ∷ []))
+    ∙ flat_map-append taking.piece (map (named_bytes files line) spans) (named_bytes files line span ∷ [])
+    ∙ ap (λ bytes. joined_files taking files line spans ++ bytes) (append-nil (taking.piece (named_bytes files line span)))
 
 -- no file so far had a fault, and these bytes of them count
 pub record Taken (taking : Taking) (files : Files) (line : List ℕ) (spans : List Span) (got : List ℕ) : Type 0 where
   pub fault : first_fault taking files line 0 spans ≡ None
-  pub bytes : got ≡ joined taking files line spans
+  pub bytes : got ≡ joined_files taking files line spans
 
 -- what is wrong with the next file
 next_fault : (taking : Taking) (files : Files) (line : List ℕ) (spans : List Span) (bytes : List ℕ) (span : Span) (behind : List Span)
     → Taken taking files line spans bytes
     → first_fault taking files line 0 (spans ++ span ∷ behind)
-    ≡ option_or (taking.fault span.word (length bytes) (files (bytes_at line span))) (first_fault taking files line (length bytes + length (taking.piece (content files line span))) behind)
+    ≡ option_or (taking.fault span.word (length bytes) (files (bytes_at line span))) (first_fault taking files line (length bytes + length (taking.piece (named_bytes files line span))) behind)
 next_fault taking files line spans bytes span behind taken =
-    let used : 0 + length (joined taking files line spans) ≡ length bytes = omega (arith, ap length taken.bytes) in
+    let used : 0 + length (joined_files taking files line spans) ≡ length bytes = omega (arith, ap length taken.bytes) in
     first_fault-append taking files line 0 spans (span ∷ behind)
-    ∙ ap (λ f. option_or f (first_fault taking files line (0 + length (joined taking files line spans)) (span ∷ behind))) taken.fault
+    ∙ ap (λ f. option_or f (first_fault taking files line (0 + length (joined_files taking files line spans)) (span ∷ behind))) taken.fault
     ∙ ap (λ n. first_fault taking files line n (span ∷ behind)) used
 
 pub Taken-more : (taking : Taking) (files : Files) (line : List ℕ) (spans : List Span) (bytes : List ℕ) (span : Span) (piece : List ℕ)
     → Taken taking files line spans bytes
     → taking.fault span.word (length bytes) (files (bytes_at line span)) ≡ None
-    → piece ≡ taking.piece (content files line span)
+    → piece ≡ taking.piece (named_bytes files line span)
     → Taken taking files line (spans ++ span ∷ []) (bytes ++ piece)
 Taken-more taking files line spans bytes span piece taken good is = record {
   fault = next_fault taking files line spans bytes span [] taken ∙ ap (λ f. option_or f None) good;
-  bytes = ap (λ b. b ++ piece) taken.bytes ∙ ap (λ b. joined taking files line spans ++ b) is ∙ sym (joined-more taking files line spans span);
+  bytes = ap (λ b. b ++ piece) taken.bytes ∙ ap (λ b. joined_files taking files line spans ++ b) is ∙ sym (joined_files-more taking files line spans span);
 }
 
 -- a value is answered only where nothing is refused
@@ -83,20 +83,20 @@ TakenSo taking told line spans bytes = IfSome told (λ files. Taken taking files
 -- the answer for the file of one span
 abbrev pub PieceIs : Taking → Option Files → List ℕ → ℕ → Span → Result (List ℕ) Refusal → Type 0
 PieceIs taking told line used span result =
-    IfSome told (λ files. IsAnswer (unless_refused (taking.fault span.word used (files (bytes_at line span))) (taking.piece (content files line span))) result)
+    IfSome told (λ files. IsAnswer (unless_refused (taking.fault span.word used (files (bytes_at line span))) (taking.piece (named_bytes files line span))) result)
 
 pub TakenSo-more : (taking : Taking) (told : Option Files) (line : List ℕ) (spans : List Span) (bytes : List ℕ) (span : Span) (piece : List ℕ)
     → TakenSo taking told line spans bytes → PieceIs taking told line (length bytes) span (Ok piece)
     → TakenSo taking told line (spans ++ span ∷ []) (bytes ++ piece)
 TakenSo-more taking None line spans bytes span piece taken is = tt
 TakenSo-more taking (Some files) line spans bytes span piece taken is =
-    let parts = unless_refused-ok (taking.fault span.word (length bytes) (files (bytes_at line span))) (taking.piece (content files line span)) piece is in
+    let parts = unless_refused-ok (taking.fault span.word (length bytes) (files (bytes_at line span))) (taking.piece (named_bytes files line span)) piece is in
     Taken-more taking files line spans bytes span piece taken parts.0 parts.1
 
 -- the answer for all files of an option
 abbrev pub PartIs : Taking → Option Files → List ℕ → List Span → Result (List ℕ) Refusal → Type 0
 PartIs taking told line spans result =
-    IfSome told (λ files. IsAnswer (unless_refused (first_fault taking files line 0 spans) (joined taking files line spans)) result)
+    IfSome told (λ files. IsAnswer (unless_refused (first_fault taking files line 0 spans) (joined_files taking files line spans)) result)
 
 pub PartIs-refused : (taking : Taking) (told : Option Files) (line : List ℕ) (spans : List Span) (bytes : List ℕ) (span : Span) (behind : List Span) (refusal : Refusal)
     → TakenSo taking told line spans bytes → PieceIs taking told line (length bytes) span (Err refusal)
@@ -104,10 +104,10 @@ pub PartIs-refused : (taking : Taking) (told : Option Files) (line : List ℕ) (
 PartIs-refused taking None line spans bytes span behind refusal taken is = tt
 PartIs-refused taking (Some files) line spans bytes span behind refusal taken is =
     let fault = taking.fault span.word (length bytes) (files (bytes_at line span)) in
-    let value = taking.piece (content files line span) in
+    let value = taking.piece (named_bytes files line span) in
     let all = spans ++ span ∷ behind in
-    IsRefusal-weaker (unless_refused fault value) (unless_refused (first_fault taking files line 0 all) (joined taking files line all)) refusal
-    (λ same. ap (λ f. unless_refused f (joined taking files line all))
+    IsRefusal-weaker (unless_refused fault value) (unless_refused (first_fault taking files line 0 all) (joined_files taking files line all)) refusal
+    (λ same. ap (λ f. unless_refused f (joined_files taking files line all))
     (sym (next_fault taking files line spans bytes span behind taken ∙ ap (λ f. option_or f (first_fault taking files line (length bytes + length value) behind)) (unless_refused-err fault value refusal same))))
     is
 
@@ -124,9 +124,9 @@ at_word taking told line spans bytes span behind (Some w) taken named =
     record { before = spans; span = span; behind = behind; place = refl; named = named; served = served taking told line spans bytes taken }
 
 pub IsAt-refused : (taking : Taking) (told : Option Files) (line : List ℕ) (spans : List Span) (bytes : List ℕ) (span : Span) (behind : List Span) (refusal : Refusal)
-    → TakenSo taking told line spans bytes → IfSome (word_of refusal) (λ w. span.word ≡ w)
-    → IfSome (word_of refusal) (IsAt taking told line (spans ++ span ∷ behind))
-IsAt-refused taking told line spans bytes span behind refusal taken named = at_word taking told line spans bytes span behind (word_of refusal) taken named
+    → TakenSo taking told line spans bytes → IfSome (refused_word refusal) (λ w. span.word ≡ w)
+    → IfSome (refused_word refusal) (IsAt taking told line (spans ++ span ∷ behind))
+IsAt-refused taking told line spans bytes span behind refusal taken named = at_word taking told line spans bytes span behind (refused_word refusal) taken named
 
 -- a list about one of its places
 split_at : (spans : List Span) (place : ℕ) (other : Span) → place < length spans → spans ≡ take place spans ++ get_or spans place other ∷ drop (suc place) spans
@@ -150,10 +150,10 @@ PartIs-stopped taking told now line spans place other bytes used refusal within 
 
 pub IsAt-stopped : (taking : Taking) (told : Option Files) (line : List ℕ) (spans : List Span) (place : ℕ) (other : Span) (bytes : List ℕ) (refusal : Refusal)
     → place < length spans → TakenSo taking told line (take place spans) bytes
-    → IfSome (word_of refusal) (λ w. (get_or spans place other).word ≡ w)
-    → IfSome (word_of refusal) (IsAt taking told line spans)
+    → IfSome (refused_word refusal) (λ w. (get_or spans place other).word ≡ w)
+    → IfSome (refused_word refusal) (IsAt taking told line spans)
 IsAt-stopped taking told line spans place other bytes refusal within taken named =
-    subst (λ all. IfSome (word_of refusal) (IsAt taking told line all)) (sym (split_at spans place other within))
+    subst (λ all. IfSome (refused_word refusal) (IsAt taking told line all)) (sym (split_at spans place other within))
     (IsAt-refused taking told line (take place spans) bytes (get_or spans place other) (drop (suc place) spans) refusal taken named)
 
 -- the next file of a list is taken

@@ -17,15 +17,15 @@ unless_refused None value = Ok value
 unless_refused (Some refusal) value = Err refusal
 
 -- the refusal of a file that the word names, by what a load of it answers; one that is too long names this limit
-abbrev pub refusal_of : ℕ → ℕ → LoadFault → Refusal
-refusal_of word named load.Absent = FileAbsent word
-refusal_of word named load.TooLong = FileTooLong word named
-refusal_of word named load.Failed = CabinetFault word
-refusal_of word named load.NoMemory = NoMemory
+abbrev pub file_refusal_of : ℕ → ℕ → LoadFault → Refusal
+file_refusal_of word named load.Absent = FileAbsent word
+file_refusal_of word named load.TooLong = FileTooLong word named
+file_refusal_of word named load.Failed = CabinetFault word
+file_refusal_of word named load.NoMemory = NoMemory
 
 abbrev pub refused : ℕ → ℕ → Result (List ℕ) LoadFault → Result (List ℕ) Refusal
 refused word named (Ok bytes) = Ok bytes
-refused word named (Err fault) = Err (refusal_of word named fault)
+refused word named (Err fault) = Err (file_refusal_of word named fault)
 
 -- the answer for one file that has room for so many bytes, of a limit that other files may share
 abbrev pub room_answer : ℕ → ℕ → ℕ → Option (List ℕ) → Result (List ℕ) Refusal
@@ -47,57 +47,57 @@ IsAnswer answer (Ok value) = Ok value ≡ answer
 IsAnswer answer (Err refusal) = IsRefusal answer refusal
 
 -- The number of the word that the refusal of a file names. Each refusal stands here, so that a later one is decided on.
-abbrev pub word_of : Refusal → Option ℕ
-word_of (refusals.Usage word reason) = None
-word_of refusals.UnknownProvider = None
-word_of refusals.NotAttached = None
-word_of refusals.StillAttached = None
-word_of refusals.BadMagic = None
-word_of (refusals.BadVersion found) = None
-word_of refusals.BadHash = None
-word_of (refusals.BadSize kept found) = None
-word_of (refusals.UnsupportedCipher found) = None
-word_of (refusals.UnsupportedAuth found) = None
-word_of (refusals.BadKeyLength found) = None
-word_of (refusals.BadSectorSize found) = None
-word_of (refusals.UnsupportedFlags mask) = None
-word_of refusals.NoValidKeys = None
-word_of refusals.WrongKey = None
-word_of refusals.NoKeyComponents = None
-word_of refusals.PassphraseNotSet = None
-word_of (refusals.KeyNumberOutOfRange given) = None
-word_of (refusals.KeyNotSet slot) = None
-word_of (refusals.LastKey slot) = None
-word_of refusals.IterationsNeedOneKey = None
-word_of refusals.PassphraseNeeded = None
-word_of (refusals.OutOfRange sector count media) = None
-word_of refusals.ReadOnly = None
-word_of (refusals.Integrity offset) = None
-word_of refusals.DeviceFault = None
-word_of (refusals.FileAbsent word) = Some word
-word_of (refusals.CabinetFault word) = Some word
-word_of refusals.EntropyFault = None
-word_of (refusals.FileTooLong word limit) = Some word
-word_of (refusals.BackupTooShort length) = None
-word_of (refusals.OldSizeMismatch kept given) = None
-word_of refusals.NoMemory = None
-word_of (refusals.NotGrown size given) = None
-word_of (refusals.TooSmall size) = None
-word_of (refusals.BadLength given sectorsize) = None
-word_of refusals.KeyNumberNeeded = None
-word_of refusals.QueueFull = None
-word_of (refusals.NoRequest tag) = None
-word_of (refusals.RequestNotDone tag left) = None
-word_of (refusals.RequestDone tag) = None
-word_of (refusals.RequestsOpen count) = None
-word_of refusals.Suspended = None
-word_of refusals.NotSuspended = None
-word_of refusals.DifferentKey = None
-word_of (refusals.BadPlace place media) = None
-word_of refusals.NotAuthenticated = None
-word_of (refusals.BadPlaceFile word length) = Some word
+abbrev pub refused_word : Refusal → Option ℕ
+refused_word (refusals.Usage word reason) = None
+refused_word refusals.UnknownProvider = None
+refused_word refusals.NotAttached = None
+refused_word refusals.StillAttached = None
+refused_word refusals.BadMagic = None
+refused_word (refusals.BadVersion found) = None
+refused_word refusals.BadHash = None
+refused_word (refusals.BadSize kept found) = None
+refused_word (refusals.UnsupportedCipher found) = None
+refused_word (refusals.UnsupportedAuth found) = None
+refused_word (refusals.BadKeyLength found) = None
+refused_word (refusals.BadSectorSize found) = None
+refused_word (refusals.UnsupportedFlags mask) = None
+refused_word refusals.NoValidKeys = None
+refused_word refusals.WrongKey = None
+refused_word refusals.NoKeyComponents = None
+refused_word refusals.PassphraseNotSet = None
+refused_word (refusals.KeyNumberOutOfRange given) = None
+refused_word (refusals.KeyNotSet slot) = None
+refused_word (refusals.LastKey slot) = None
+refused_word refusals.IterationsNeedOneKey = None
+refused_word refusals.PassphraseNeeded = None
+refused_word (refusals.OutOfRange sector count media) = None
+refused_word refusals.ReadOnly = None
+refused_word (refusals.Integrity offset) = None
+refused_word refusals.DeviceFault = None
+refused_word (refusals.FileAbsent word) = Some word
+refused_word (refusals.CabinetFault word) = Some word
+refused_word refusals.EntropyFault = None
+refused_word (refusals.FileTooLong word limit) = Some word
+refused_word (refusals.BackupTooShort length) = None
+refused_word (refusals.OldSizeMismatch kept given) = None
+refused_word refusals.NoMemory = None
+refused_word (refusals.NotGrown size given) = None
+refused_word (refusals.TooSmall size) = None
+refused_word (refusals.BadLength given sectorsize) = None
+refused_word refusals.KeyNumberNeeded = None
+refused_word refusals.QueueFull = None
+refused_word (refusals.NoRequest tag) = None
+refused_word (refusals.RequestNotDone tag left) = None
+refused_word (refusals.RequestDone tag) = None
+refused_word (refusals.RequestsOpen count) = None
+refused_word refusals.Suspended = None
+refused_word refusals.NotSuspended = None
+refused_word refusals.DifferentKey = None
+refused_word (refusals.BadPlace place media) = None
+refused_word refusals.NotAuthenticated = None
+refused_word (refusals.BadPlaceFile word length) = Some word
 
--- The word is that of a file, and the files before it are without fault, where that is told.
+-- the word is that of a file, and the files before it are without fault, where that is told
 pub record IsAt (taking : Taking) (told : Option Files) (line : List ℕ) (spans : List Span) (word : ℕ) : Type 0 where
   pub before : List Span
   pub span : Span
@@ -107,7 +107,7 @@ pub record IsAt (taking : Taking) (told : Option Files) (line : List ℕ) (spans
   pub served : IfSome told (λ files. first_fault taking files line 0 before ≡ None)
 
 -- the same among the passphrase files, which come behind the key files
-pub record IsBehind (told : Option Files) (line : List ℕ) (words : KeyWords) (word : ℕ) : Type 0 where
+pub record IsOfPassphrases (told : Option Files) (line : List ℕ) (words : KeyWords) (word : ℕ) : Type 0 where
   pub keys : IfSome told (λ files. first_fault key_files files line 0 words.files ≡ None)
   pub at : IsAt passphrase_files told line words.pass word
 
@@ -131,14 +131,15 @@ MayRefusePassphrase old new (FileTooLong word limit) = MayRefuse file_limit old 
 MayRefusePassphrase old new refusal = MayRefuse file_limit old new refusal
 
 -- the word of the file at a place
-abbrev pub word_at : List Span → ℕ → ℕ
-word_at files place = (get_or files place (record { start = 0; end = 0; word = 0 })).word
+abbrev pub file_word_at : List Span → ℕ → ℕ
+file_word_at files place = (get_or files place (record { start = 0; end = 0; word = 0 })).word
 
--- loading stopped at one of these files: those before it and it were loaded, no other, and a word that is named is its own
+-- loading stopped at one of these files: those before it and it were loaded, no other, and a word that is named is its
+-- own
 pub record StopsLoading (files : List Span) (old : CabinetState) (refusal : Refusal) (new : CabinetState) : Type 0 where
   pub place : ℕ
   pub within : place < length files
-  pub named : IfSome (word_of refusal) (λ word. word_at files place ≡ word)
+  pub named : IfSome (refused_word refusal) (λ word. file_word_at files place ≡ word)
   pub asked : Counted (place + 1) old.loads new.loads
 
 -- these files were loaded, one after another, and no other, up to the one that was refused
@@ -148,12 +149,12 @@ LoadsEach files old (Err refusal) new = StopsLoading files old refusal new
 
 -- loading stopped at a key file that was reached, with a refusal that may come there
 pub record StopsAtKeyFile (line : List ℕ) (words : KeyWords) (old : CabinetState) (refusal : Refusal) (new : CabinetState) : Type 0 where
-  pub word : IfSome (word_of refusal) (IsAt key_files old.files line words.files)
+  pub word : IfSome (refused_word refusal) (IsAt key_files old.files line words.files)
   pub cause : MayRefuse file_limit old new refusal
 
 -- it stopped so at a passphrase file
 pub record StopsAtPassphraseFile (line : List ℕ) (words : KeyWords) (old : CabinetState) (refusal : Refusal) (new : CabinetState) : Type 0 where
-  pub word : IfSome (word_of refusal) (IsBehind old.files line words)
+  pub word : IfSome (refused_word refusal) (IsOfPassphrases old.files line words)
   pub cause : MayRefusePassphrase old new refusal
 
 -- it stopped so at one of the files of a key

@@ -16,8 +16,8 @@ file_limit = 1048576
 abbrev pub passphrase_limit : ℕ
 passphrase_limit = 1024
 
--- How the files of an option are taken: what counts of a file, and what is wrong with the file that a word
--- names, where so many bytes counted before it.
+-- how the files of an option are taken: what counts of a file, and what is wrong with the file that a word
+-- names, where so many bytes counted before it
 pub record Taking : Type 0 where
   pub piece : List ℕ → List ℕ
   pub fault : ℕ → ℕ → Option (List ℕ) → Option Refusal
@@ -43,16 +43,16 @@ abbrev pub passphrase_files : Taking
 passphrase_files = record { piece = first_line; fault = passphrase_fault }
 
 -- the bytes of the file that a span of the line names, if there is one
-abbrev pub content : Files → List ℕ → Span → List ℕ
-content files line span = unwrap_or (files (bytes_at line span)) []
+abbrev pub named_bytes : Files → List ℕ → Span → List ℕ
+named_bytes files line span = unwrap_or (files (bytes_at line span)) []
 
 -- what counts of all files, joined in order
-abbrev pub joined : Taking → Files → List ℕ → List Span → List ℕ
-joined taking files line spans = flat_map taking.piece (map (content files line) spans)
+abbrev pub joined_files : Taking → Files → List ℕ → List Span → List ℕ
+joined_files taking files line spans = flat_map taking.piece (map (named_bytes files line) spans)
 
 -- the first refusal of some files in order, where so many bytes counted before them
 abbrev pub first_fault : Taking → Files → List ℕ → ℕ → List Span → Option Refusal
 first_fault taking files line used [] = None
 first_fault taking files line used (span ∷ spans) =
     option_or (taking.fault span.word used (files (bytes_at line span)))
-    (first_fault taking files line (used + length (taking.piece (content files line span))) spans)
+    (first_fault taking files line (used + length (taking.piece (named_bytes files line span))) spans)

@@ -9,7 +9,7 @@ use Rattle.user_key.specs.declared.components.PassPart.{PassPart}
 use Rattle.user_key.specs.declared.components.PassPart.TheVariants.{Without, Missing, Given}
 use Rattle.user_key.specs.Passphrase.{joined_passphrase}
 use Rattle.key_components.specs.Answers.{unless_refused}
-use Rattle.key_components.specs.Files.{content, file_limit, first_fault, joined, key_files, passphrase_files, passphrase_limit}
+use Rattle.key_components.specs.Files.{named_bytes, file_limit, first_fault, joined_files, key_files, passphrase_files, passphrase_limit}
 
 -- the passphrase, which an option may rule out, and which is missing where no file is named
 abbrev pub passphrase_of : KeyWords → List ℕ → PassPart
@@ -23,8 +23,8 @@ key_fault files line words = option_or (first_fault key_files files line 0 words
 abbrev pub components_of : Files → List ℕ → KeyWords → Result Components Refusal
 components_of files line words = unless_refused (key_fault files line words) (record {
   keyfile_count = length words.files;
-  keyfiles = joined key_files files line words.files;
-  passphrase = passphrase_of words (joined_passphrase (map (content files line) words.pass));
+  keyfiles = joined_files key_files files line words.files;
+  passphrase = passphrase_of words (joined_passphrase (map (named_bytes files line) words.pass));
 })
 
 -- the components are of the kind that the words want, and within the limits

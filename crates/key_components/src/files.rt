@@ -1,8 +1,8 @@
-// One file of a key.
+//! One file of a key.
 ghost use Rattle.std.specs.Prelude.{◌≡◌, ◌≤◌, length, IfOk, IfErr, IfSome};
 ghost use Rattle.command_words.specs.Places.{IsWithin, bytes_at};
 ghost use Rattle.block_traits.specs.Causes.{Counted};
-ghost use Rattle.key_components.specs.Answers.{IsAnswer, KeepsFiles, MayRefuse, file_answer, refusal_of, room_answer, word_of};
+ghost use Rattle.key_components.specs.Answers.{IsAnswer, KeepsFiles, MayRefuse, file_answer, file_refusal_of, room_answer, refused_word};
 
 use block_traits::{ByteList, Cabinet, LoadFault};
 use command_words::Span;
@@ -14,7 +14,7 @@ pub const FILE_LIMIT: usize = 1_048_576;
 
 // The refusal of the file that the word names, by what a load of it answered; one that is too long names this limit.
 fn refusal(word: u32, named: usize, fault: LoadFault) -> Refusal
-    ensures { result ≡ refusal_of word named fault }
+    ensures { result ≡ file_refusal_of word named fault }
 {
     match fault {
         LoadFault::Absent => Refusal::FileAbsent { word },
@@ -27,7 +27,8 @@ fn refusal(word: u32, named: usize, fault: LoadFault) -> Refusal
     }
 }
 
-/// Loads the file that a span of the line names, if it has at most `limit` bytes: one load of the cabinet, and no store.
+/// Loads the file that a span of the line names, if it has at most `limit` bytes: one load of the cabinet, and no
+/// store.
 pub fn load_file<C: Cabinet>(
     alloc: Global,
     line: &[u8],
@@ -38,7 +39,7 @@ pub fn load_file<C: Cabinet>(
     requires { IsWithin (length line.now) span }
     ensures answer { IfSome (C.state files.old).files (λ told. IsAnswer (file_answer span.word limit (told (bytes_at line.now span))) result) }
     ensures within { IfOk result (λ bytes. length bytes ≤ limit) }
-    ensures word { IfErr result (λ refusal. IfSome (word_of refusal) (λ word. span.word ≡ word)) }
+    ensures word { IfErr result (λ refusal. IfSome (refused_word refusal) (λ word. span.word ≡ word)) }
     ensures cause { IfErr result (MayRefuse limit (C.state files.old) (C.state files.new)) }
     ensures keeps { KeepsFiles (C.state files.old) (C.state files.new) }
     ensures asked { Counted 1 (C.state files.old).loads (C.state files.new).loads }
@@ -59,7 +60,7 @@ pub(crate) fn load_within<C: Cabinet>(
     requires { IsWithin (length line.now) span }
     ensures answer { IfSome (C.state files.old).files (λ told. IsAnswer (room_answer span.word named room (told (bytes_at line.now span))) result) }
     ensures within { IfOk result (λ bytes. length bytes ≤ room) }
-    ensures word { IfErr result (λ refusal. IfSome (word_of refusal) (λ word. span.word ≡ word)) }
+    ensures word { IfErr result (λ refusal. IfSome (refused_word refusal) (λ word. span.word ≡ word)) }
     ensures cause { IfErr result (MayRefuse named (C.state files.old) (C.state files.new)) }
     ensures keeps { KeepsFiles (C.state files.old) (C.state files.new) }
     ensures asked { Counted 1 (C.state files.old).loads (C.state files.new).loads }

@@ -1,4 +1,4 @@
-// The components of a key.
+//! The components of a key.
 ghost use Rattle.std.specs.Prelude.{◌≡◌, ◌+◌, ◌++◌, ◌≤◌, length, IfOk, IfErr, IfSome};
 ghost use Rattle.command_words.specs.Places.{KeyIsWithin};
 ghost use Rattle.key_components.specs.Answers.{IsAnswer, KeepsFiles, LoadsEach, StopsAtFile};

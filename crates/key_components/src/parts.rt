@@ -1,10 +1,10 @@
-// The files of one option of a key.
+//! The files of one option of a key.
 ghost use Rattle.std.specs.Prelude.{◌≡◌, ◌+◌, ◌≤◌, ◌⊎◌, All, length, IfOk, IfErr, IfSome};
 ghost use Rattle.block_traits.specs.Causes.{Counted};
 ghost use Rattle.command_words.specs.Places.{IsWithin, bytes_at};
 ghost use Rattle.user_key.specs.Passphrase.{first_line};
-ghost use Rattle.key_components.specs.Answers.{IsAnswer, IsAt, KeepsFiles, LoadsEach, unless_refused, word_of};
-ghost use Rattle.key_components.specs.Files.{content, first_fault, joined, passphrase_limit};
+ghost use Rattle.key_components.specs.Answers.{IsAnswer, IsAt, KeepsFiles, LoadsEach, unless_refused, refused_word};
+ghost use Rattle.key_components.specs.Files.{named_bytes, first_fault, joined_files, passphrase_limit};
 ghost use Rattle.key_components.specs.Parts.{MayRefuseOf, limit_of, line_fault, taking_of};
 
 use crate::files::{FILE_LIMIT, load_file, load_within};
@@ -59,9 +59,9 @@ impl Part {
         requires span { IsWithin (length line.now) span }
         requires used { used ≤ limit_of self }
         ensures answer { IfSome (C.state files.old).files (λ told.
-            IsAnswer (unless_refused ((taking_of self).fault span.word used (told (bytes_at line.now span))) ((taking_of self).piece (content told line.now span))) result) }
+            IsAnswer (unless_refused ((taking_of self).fault span.word used (told (bytes_at line.now span))) ((taking_of self).piece (named_bytes told line.now span))) result) }
         ensures within { IfOk result (λ piece. used + length piece ≤ limit_of self) }
-        ensures word { IfErr result (λ refusal. IfSome (word_of refusal) (λ word. span.word ≡ word)) }
+        ensures word { IfErr result (λ refusal. IfSome (refused_word refusal) (λ word. span.word ≡ word)) }
         ensures cause { IfErr result (MayRefuseOf self (C.state files.old) (C.state files.new)) }
         ensures keeps { KeepsFiles (C.state files.old) (C.state files.new) }
         ensures asked { Counted 1 (C.state files.old).loads (C.state files.new).loads }
@@ -89,9 +89,9 @@ pub fn load_part<C: Cabinet>(
 ) -> Result<ByteList, Refusal>
     requires { All (IsWithin (length line.now)) spans.now }
     ensures answer { IfSome (C.state files.old).files (λ told.
-        IsAnswer (unless_refused (first_fault (taking_of part) told line.now 0 spans.now) (joined (taking_of part) told line.now spans.now)) result) }
+        IsAnswer (unless_refused (first_fault (taking_of part) told line.now 0 spans.now) (joined_files (taking_of part) told line.now spans.now)) result) }
     ensures within { IfOk result (λ bytes. length bytes ≤ limit_of part) }
-    ensures at { IfErr result (λ refusal. IfSome (word_of refusal) (IsAt (taking_of part) (C.state files.old).files line.now spans.now)) }
+    ensures at { IfErr result (λ refusal. IfSome (refused_word refusal) (IsAt (taking_of part) (C.state files.old).files line.now spans.now)) }
     ensures named { IfErr result (λ _. 1 ≤ length spans.now) }
     ensures cause { IfErr result (MayRefuseOf part (C.state files.old) (C.state files.new)) }
     ensures keeps { KeepsFiles (C.state files.old) (C.state files.new) }

@@ -3,7 +3,7 @@ use Rattle.std.proofs.Common.{◌≡◌, ◌≢◌, ℕ, zero, suc, ◌*◌, ◌
 use Rattle.std.proofs.lemmas.Nat.Bits.{and_pow, bit_at_set_same, bit_at_set_other, bit_at_clear_other}
 use Rattle.std.specs.Int.{w8}
 use Rattle.eli_metadata.specs.declared.metadata.Metadata.{Metadata}
-use Rattle.key_slots.specs.Slots.{OpensAsBefore, SameSlot, deciphered, slot_bytes, with_slot_bytes}
+use Rattle.key_slots.specs.Slots.{OpensAsBefore, SameSlot, deciphered_slot, slot_bytes, with_slot_bytes}
 use Rattle.key_slots.proofs.Parts.{take_front, drop_front}
 
 pub set_same : (keys s : ℕ) → s < 2 → not (nat_eq (bit_and (bit_or keys (1 * 2 ^ s % 256)) (2 ^ s)) 0) ≡ true
@@ -50,8 +50,8 @@ bytes_other mkeys bytes slot (suc (suc s)) lm lb lt ls ne = absurd (omega arith)
 -- a slot with the same bytes and bit opens as before
 pub OpensAsBefore-same : (old new : Metadata) (s : ℕ) → SameSlot old new s → new.keylen ≡ old.keylen → OpensAsBefore old new s
 OpensAsBefore-same old new s same keylen u master =
-    let text : deciphered (slot_bytes new s) u new.keylen ≡ deciphered (slot_bytes old s) u old.keylen =
-    ap (λ (bytes : List ℕ). deciphered bytes u new.keylen) same.bytes ∙ ap (deciphered (slot_bytes old s) u) keylen in (
+    let text : deciphered_slot (slot_bytes new s) u new.keylen ≡ deciphered_slot (slot_bytes old s) u old.keylen =
+    ap (λ (bytes : List ℕ). deciphered_slot bytes u new.keylen) same.bytes ∙ ap (deciphered_slot (slot_bytes old s) u) keylen in (
       λ held. record { set = same.set ∙ held.set; slot = record { text = text ∙ held.slot.text } },
       λ held. record { set = sym same.set ∙ held.set; slot = record { text = sym text ∙ held.slot.text } },
     )

@@ -35,12 +35,12 @@ abbrev pub wrapped : List ℕ → List ℕ → ℕ → List ℕ
 wrapped master u keylen = cbc_seal (wrapping_key u keylen) zero_vector (slot_text u master)
 
 -- the text that the bytes of a slot decipher to
-abbrev pub deciphered : List ℕ → List ℕ → ℕ → List ℕ
-deciphered bytes u keylen = cbc_open (wrapping_key u keylen) zero_vector bytes
+abbrev pub deciphered_slot : List ℕ → List ℕ → ℕ → List ℕ
+deciphered_slot bytes u keylen = cbc_open (wrapping_key u keylen) zero_vector bytes
 
 -- these bytes are a slot with this master key, wrapped by the user key u for this key length
 pub record IsSlotOf (bytes u : List ℕ) (keylen : ℕ) (master : List ℕ) : Type 0 where
-  pub text : deciphered bytes u keylen ≡ slot_text u master
+  pub text : deciphered_slot bytes u keylen ≡ slot_text u master
 
 -- ---- the slots in metadata
 
@@ -69,7 +69,7 @@ master_in u text = if has_code u text then Some (record { bytes = take 128 text 
 
 -- the master key to which slot s opens, if it opens
 abbrev pub unwrapped : Metadata → List ℕ → ℕ → Option MasterKey
-unwrapped m u s = if is_set m s then master_in u (deciphered (slot_bytes m s) u m.keylen) else None
+unwrapped m u s = if is_set m s then master_in u (deciphered_slot (slot_bytes m s) u m.keylen) else None
 
 -- the same with the slot's number
 abbrev pub numbered : Option MasterKey → ℕ → Option (MasterKey × ℕ)

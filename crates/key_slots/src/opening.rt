@@ -1,6 +1,6 @@
-// A slot opened by a user key.
+//! A slot opened by a user key.
 ghost use Rattle.std.specs.Prelude.{◌≡◌, ℕ, ◌<◌, ◌↔◌, List, Some};
-ghost use Rattle.key_slots.specs.Slots.{IsFirstToOpen, IsKeyBits, Opens, slot_bytes, deciphered, has_code, master_in, unwrapped, numbered, unwrapped_any};
+ghost use Rattle.key_slots.specs.Slots.{IsFirstToOpen, IsKeyBits, Opens, slot_bytes, deciphered_slot, has_code, master_in, unwrapped, numbered, unwrapped_any};
 
 use crate::wrapping::{SLOT_SIZE, ZERO_VECTOR, check_code, wrapping_schedule};
 use cbc_mode::cbc_open;
@@ -22,7 +22,7 @@ fn slot_bytes(meta: &Metadata, slot: u8) -> [u8; SLOT_SIZE]
 fn deciphered(meta: &Metadata, key: &UserKey, slot: u8) -> [u8; SLOT_SIZE]
     requires slot { slot < 2 }
     requires keylen { IsKeyBits meta.now.keylen }
-    ensures { result ≡ deciphered (slot_bytes meta.now slot) key.now.bytes meta.now.keylen }
+    ensures { result ≡ deciphered_slot (slot_bytes meta.now slot) key.now.bytes meta.now.keylen }
 {
     let mut text = slot_bytes(meta, slot);
     cbc_open(

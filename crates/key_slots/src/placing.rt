@@ -1,4 +1,4 @@
-// Bytes put into a slot.
+//! Bytes put into a slot.
 ghost use Rattle.std.specs.Prelude.{◌≡◌, ◌≢◌, ℕ, ◌<◌, List, IsTrue};
 ghost use Rattle.eli_metadata.specs.Checks.{is_set};
 ghost use Rattle.key_slots.specs.Slots.{Opens, OpensAsBefore, SameSlot, IsSlotOf, with_slot_bytes, with_slot, without_slot};

@@ -100,8 +100,8 @@ fn key_expansions_of_the_standard(rt: HostRuntime) -> Result<(), Fail> {
     Ok(())
 }
 
-// The bytes of a key, whether it goes backwards, and the block in the end: the chains of tools/aes_chain.py, by the library
-// that it names.
+// The bytes of a key, whether it goes backwards, and the block in the end: the chains of tools/aes_chain.py, by the
+// library that it names.
 const CHAINS: [(usize, bool, u128); 6] = [
     (16, false, 0xecb1d5bf6aa1efc4abadb08d938846ca),
     (24, false, 0xe68edbbf40e28214f56bbdb6e191b5d9),

@@ -1,4 +1,4 @@
-// What the tables are made of: keys, texts and digests.
+//! What the tables are made of: keys, texts and digests.
 use eli_base::MasterKey;
 use std::alloc::Global;
 use std::test::Fail;

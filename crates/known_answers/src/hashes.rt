@@ -1,5 +1,5 @@
-// The kit's hashes, on which definitions stand, and SHA-256 of sha_stream, against examples of their standards and another
-// library.
+//! The kit's hashes, on which definitions stand, and SHA-256 of sha_stream, against examples of their standards and
+//! another library.
 use crate::common::{fill, is_hex};
 use md5::{Digest, Md5};
 use sha2::{Digest as _, Sha256};

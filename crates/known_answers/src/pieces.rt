@@ -9,8 +9,8 @@ use std::alloc::Global;
 use std::process::Abort;
 use std::test::Fail;
 
-/// Each line has an authentication, a cipher, the bits of its key, and the digest of the device sectors of some pieces, as
-/// tools/piece_digests.py prints it.
+/// Each line has an authentication, a cipher, the bits of its key, and the digest of the device sectors of some pieces,
+/// as tools/piece_digests.py prints it.
 const DIGESTS: [(Auth, Cipher, u16, &str); 15] = [
     (
         Auth::Sha256,

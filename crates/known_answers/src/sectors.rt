@@ -11,9 +11,9 @@ use std::test::Fail;
 
 const SECTOR_SIZES: [u32; 8] = [512, 1024, 2048, 4096, 8192, 16384, 32768, 65536];
 
-// By tools/sector_tables.py, over Python's hmac, hashlib and cryptography: a table for each cipher and key length, with a
-// digest for each of the sector sizes above, of what one plain text is sealed to at five byte offsets, one sector after
-// the other.
+// By tools/sector_tables.py, over Python's hmac, hashlib and cryptography: a table for each cipher and key length, with
+// a digest for each of the sector sizes above, of what one plain text is sealed to at five byte offsets, one sector
+// after the other.
 
 const XTS_128: [&str; 8] = [
     "8bbd8a2f30e7909650d8dbdfbc62394ccceaffacea8fcfed6af6d51c864a8d70",

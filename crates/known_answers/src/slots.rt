@@ -1,4 +1,4 @@
-// Slots of another implementation, and slots that are opened.
+//! Slots of another implementation, and slots that are opened.
 ghost use Rattle.std.specs.Prelude.{◌≡◌};
 ghost use Rattle.key_slots.specs.Slots.{IsKeyBits};
 

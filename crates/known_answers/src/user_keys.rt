@@ -1,4 +1,4 @@
-// User keys of other implementations, what is refused, and passphrases.
+//! User keys of other implementations, what is refused, and passphrases.
 use crate::common::is_hex;
 use block_traits::ByteList;
 use std::alloc::{AllocError, Global};

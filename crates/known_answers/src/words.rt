@@ -1,4 +1,4 @@
-// Lines and words, against the tables of another implementation.
+//! Lines and words, against the tables of another implementation.
 mod table;
 
 use command_words::{Sep, Usage, images_of, read_line};

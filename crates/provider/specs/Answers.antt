@@ -64,31 +64,31 @@ AttachAnswers t by disk (Err refused) = (refused.0 ≡ disk) × AttachFails t by
 -- ---- reading and writing
 
 -- a request of whole logical sectors: the first, how many, and how many the provider has
-pub record Request : Type 0 where
+pub record SectorRequest : Type 0 where
   pub sector : ℕ
   pub count : ℕ
   pub media : ℕ
 
 -- a request to a provider, for so many bytes
-abbrev pub request : {D : Type 0} → (D → DiskState) → Attached D → ℕ → List ℕ → Request
+abbrev pub request : {D : Type 0} → (D → DiskState) → Attached D → ℕ → List ℕ → SectorRequest
 request state p sector bytes = record {
   sector = sector;
   count = length bytes / p.keying.sectorsize;
   media = media p.keying (state p.disk);
 }
 
-abbrev pub IsInRange : Request → Type 0
+abbrev pub IsInRange : SectorRequest → Type 0
 IsInRange r = r.sector + r.count ≤ r.media
 
 -- the request passes the end, and these are its numbers
-pub record PassesEnd (r : Request) (first asked there : ℕ) : Type 0 where
+pub record PassesEnd (r : SectorRequest) (first asked there : ℕ) : Type 0 where
   pub passes : r.media < r.sector + r.count
   pub sector : first ≡ r.sector
   pub count : asked ≡ r.count
   pub media : there ≡ r.media
 
 -- the request was served: each unit was read once, nothing was logged, and this is what the sectors read as
-pub record IsRead (k : Keying) (r : Request) (bytes : List ℕ) (old new : DiskState) : Type 0 where
+pub record IsRead (k : Keying) (r : SectorRequest) (bytes : List ℕ) (old new : DiskState) : Type 0 where
   pub in_range : IsInRange r
   pub asked : Counted (r.count * units k) old.reads new.reads
   pub logs : Logs [] old new
@@ -96,35 +96,35 @@ pub record IsRead (k : Keying) (r : Request) (bytes : List ℕ) (old new : DiskS
 
 -- a unit has another tag than its cipher text: nothing was logged, and it is the first of the request that has, at this
 -- byte offset of the device, and the last that was read
-pub record FindsFault (k : Keying) (r : Request) (offset : ℕ) (old new : DiskState) : Type 0 where
+pub record FindsFault (k : Keying) (r : SectorRequest) (offset : ℕ) (old new : DiskState) : Type 0 where
   pub in_range : IsInRange r
   pub finds : RunFault k r.sector r.count offset old new
 
 -- a device call failed: nothing was logged, every unit of the request before the one that was to be read was
 -- accepted, and none behind it was read
-pub record FailsRead (k : Keying) (r : Request) (old new : DiskState) : Type 0 where
+pub record FailsRead (k : Keying) (r : SectorRequest) (old new : DiskState) : Type 0 where
   pub in_range : IsInRange r
   pub fails : RunFails k r.sector r.count old new
 
 -- what a read answers
-abbrev pub ReadAnswers : {D : Type 0} → (D → DiskState) → Request → List ℕ → Attached D → Attached D → Result (Unit {0}) ReadFault → Type 0
+abbrev pub ReadAnswers : {D : Type 0} → (D → DiskState) → SectorRequest → List ℕ → Attached D → Attached D → Result (Unit {0}) ReadFault → Type 0
 ReadAnswers state r bytes old new (Ok done) = IsRead old.keying r bytes (state old.disk) (state new.disk)
 ReadAnswers state r bytes old new (Err (read.OutOfRange sector count media)) = PassesEnd r sector count media × (new ≡ old)
 ReadAnswers state r bytes old new (Err read.DeviceFault) = FailsRead old.keying r (state old.disk) (state new.disk)
 ReadAnswers state r bytes old new (Err (read.Integrity offset)) = FindsFault old.keying r offset (state old.disk) (state new.disk)
 
 -- the request was served: exactly the writes of the sealed sectors were logged
-pub record IsWritten (k : Keying) (r : Request) (bytes : List ℕ) (old new : DiskState) : Type 0 where
+pub record IsWritten (k : Keying) (r : SectorRequest) (bytes : List ℕ) (old new : DiskState) : Type 0 where
   pub in_range : IsInRange r
   pub logs : Logs (data_writes k r.sector r.count bytes) old new
 
 -- a device call failed: the first of these writes were logged, or none
-pub record FailsWrite (k : Keying) (r : Request) (bytes : List ℕ) (old new : DiskState) : Type 0 where
+pub record FailsWrite (k : Keying) (r : SectorRequest) (bytes : List ℕ) (old new : DiskState) : Type 0 where
   pub in_range : IsInRange r
   pub fails : FailsIn (data_writes k r.sector r.count bytes) old new
 
 -- what a write answers: a read-only provider refuses each one, whatever its range
-abbrev pub WriteAnswers : {D : Type 0} → (D → DiskState) → Request → List ℕ → Attached D → Attached D → Result (Unit {0}) WriteFault → Type 0
+abbrev pub WriteAnswers : {D : Type 0} → (D → DiskState) → SectorRequest → List ℕ → Attached D → Attached D → Result (Unit {0}) WriteFault → Type 0
 WriteAnswers state r bytes old new (Ok done) = (old.readonly ≡ false) × IsWritten old.keying r bytes (state old.disk) (state new.disk)
 WriteAnswers state r bytes old new (Err write.ReadOnly) = (old.readonly ≡ true) × (new ≡ old)
 WriteAnswers state r bytes old new (Err (write.OutOfRange sector count media)) = (old.readonly ≡ false) × PassesEnd r sector count media × (new ≡ old)

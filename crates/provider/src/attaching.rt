@@ -1,4 +1,4 @@
-// What is opened and reserved before a provider is attached.
+//! What is opened and reserved before a provider is attached.
 ghost use Rattle.std.specs.Prelude.{◌≡◌, ℕ, ◌<◌, ◌≤◌, ◌↔◌, List, IfOk, Some, vec_len};
 ghost use Rattle.std.specs.Option.{ForSome};
 ghost use Rattle.eli_base.specs.Keying.{keying_of};

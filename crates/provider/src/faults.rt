@@ -1,4 +1,4 @@
-// Why a call of a provider was refused.
+//! Why a call of a provider was refused.
 use thiserror::Error;
 
 /// Why a provider wasn't attached.

@@ -1,4 +1,4 @@
-// What holds of providers, whatever the disk.
+//! What holds of providers, whatever the disk.
 ghost use Rattle.std.specs.Prelude.{◌≡◌, ℕ, Bool};
 ghost use Rattle.eli_base.specs.Keying.{Keying};
 ghost use Rattle.provider.specs.Rest.{rest_numbers};

@@ -1,4 +1,4 @@
-// Logical sectors one after the other, opened and sealed, with authentication and without.
+//! Logical sectors one after the other, opened and sealed, with authentication and without.
 ghost use Rattle.std.specs.Prelude.{◌≡◌, ℕ, ◌+◌, ◌*◌, ◌/◌, ◌%◌, ◌^◌, ◌<◌, ◌≤◌, [], Ok, OnOk, OnErr, IfSome, Option, false, length, take, true};
 ghost use Rattle.block_traits.specs.Causes.{Counted};
 ghost use Rattle.block_traits.specs.Content.{Content};

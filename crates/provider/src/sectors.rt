@@ -1,4 +1,4 @@
-// Logical sectors that are sealed and opened in memory, with authentication and without.
+//! Logical sectors that are sealed and opened in memory, with authentication and without.
 ghost use Rattle.std.specs.Prelude.{◌≡◌, ◌≢◌, ℕ, ◌+◌, ◌*◌, ◌/◌, ◌%◌, ◌^◌, ◌<◌, ◌≤◌, Ok, Err, MatchResult, Option, length, take};
 ghost use Rattle.block_traits.specs.Content.{Content};
 ghost use Rattle.block_traits.specs.Disk.{GivesEachFrom, write_events};

@@ -1,4 +1,4 @@
-// The device sectors of logical sectors: how many one takes, and reading them one after the other.
+//! The device sectors of logical sectors: how many one takes, and reading them one after the other.
 ghost use Rattle.std.specs.Prelude.{◌≡◌, ◌+◌, ◌/◌, ◌≤◌, [], OnOk, OnErr, length};
 ghost use Rattle.block_traits.specs.Causes.{Counted};
 ghost use Rattle.block_traits.specs.Disk.{Logs};

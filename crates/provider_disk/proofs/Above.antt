@@ -7,7 +7,7 @@ use Rattle.block_traits.specs.Crash.{IsAltered, IsImage, IsTorn}
 use Rattle.eli_base.specs.Keying.{Keying}
 use Rattle.range_keys.specs.Ring.{IsKeying}
 use Rattle.readings.specs.Steps.{Step, after, events_of}
-use Rattle.readings.specs.Survivors.{media, moment}
+use Rattle.readings.specs.Survivors.{content_media, moment}
 use Rattle.readings.proofs.Crashes.{endures}
 use Rattle.provider_disk.specs.Above.{AreStepsOver, EnduresBelow, content_above, content_below, steps_above}
 use Rattle.provider_disk.specs.Opened.{KeepsLastData, opened_content, opened_events, opened_sectors}
@@ -66,7 +66,7 @@ fits_above k c events steps over =
     subst S (sym (length-opened_sectors k c.base)) (IsContentOf-opened k (length c.base) c over.valid over.single over.fits)
 
 -- what is promised of the steps done above, of the images of the disk below
-pub endures_below : (k j : Keying) (c : Content) (events : List Event) (steps : List Step) (t sector : ℕ) → AreStepsOver k c events steps → IsKeying j → sector < media j (opened_content k c)
+pub endures_below : (k j : Keying) (c : Content) (events : List Event) (steps : List Step) (t sector : ℕ) → AreStepsOver k c events steps → IsKeying j → sector < content_media j (opened_content k c)
     → EnduresBelow k j c events steps t sector
 endures_below k j c events steps t sector over valid small =
     let endured = endures (opened_content k c) steps (steps_above k c events t) j sector (fits_above k c events steps over) over.good valid small in

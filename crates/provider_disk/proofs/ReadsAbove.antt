@@ -16,7 +16,7 @@ use Rattle.provider_readings.specs.Data.{survivor}
 use Rattle.provider_readings.proofs.Attaching.{reads}
 use Rattle.range_keys.specs.Ring.{IsKeying}
 use Rattle.readings.specs.Steps.{Step}
-use Rattle.readings.specs.Survivors.{media}
+use Rattle.readings.specs.Survivors.{content_media}
 use Rattle.sealing.specs.Sectors.{joined}
 use Rattle.provider_disk.specs.Above.{AreStepsOver, ReadsChosen, cells_above, content_below, data_chosen, sectors_chosen}
 use Rattle.provider_disk.specs.Opened.{opened_content, opened_sectors}
@@ -33,7 +33,7 @@ size_of image disk has = let fits : IsContentOf disk.size (survivor image) = sub
 
 module _ (k j : Keying) (c : Content) (events : List Event) (steps : List Step) (t : ℕ) (choice : ℕ → ℕ) (image : List (List ℕ))
     (over : AreStepsOver k c events steps) (valid : IsKeying j) (left : IsImage (content_below c events t) choice image) where
-  sectors_read : (sector count : ℕ) → sector + count ≤ media j (opened_content k c)
+  sectors_read : (sector count : ℕ) → sector + count ≤ content_media j (opened_content k c)
       → image_sectors j sector count (opened_sectors k image) ≡ sectors_chosen j sector count (cells_above k c events steps t) choice
   sectors_read sector zero fits = refl
   sectors_read sector (suc count) fits =
@@ -41,18 +41,18 @@ module _ (k j : Keying) (c : Content) (events : List Event) (steps : List Step) 
       let more = sectors_read (sector + 1) count (omega arith) in
       λ i. joined (here i) ∷ more i
 
-  data_read : (sector count : ℕ) → sector + count ≤ media j (opened_content k c)
+  data_read : (sector count : ℕ) → sector + count ≤ content_media j (opened_content k c)
       → image_data j sector count (opened_sectors k image) ≡ data_chosen j sector count (cells_above k c events steps t) choice
   data_read sector count fits = ap joined (sectors_read sector count fits)
 
   -- as many logical sectors as the disk upon the provider had
-  same_media : (disk : DiskState) → HasImage (opened_sectors k image) disk → media_sectors j.auth j.sectorsize (512 * disk.size) ≡ media j (opened_content k c)
+  same_media : (disk : DiskState) → HasImage (opened_sectors k image) disk → media_sectors j.auth j.sectorsize (512 * disk.size) ≡ content_media j (opened_content k c)
   same_media disk has =
       let size : disk.size ≡ length (opened_sectors k c.base) =
       size_of (opened_sectors k image) disk has ∙ length-opened_sectors k image ∙ ap (λ (n : ℕ). n - 1) left.size ∙ sym (length-opened_sectors k c.base) in
       ap (λ (n : ℕ). media_sectors j.auth j.sectorsize (512 * n)) size
 
-  inside : (disk : DiskState) (sector count : ℕ) → HasImage (opened_sectors k image) disk → sector + count ≤ media_sectors j.auth j.sectorsize (512 * disk.size) → sector + count ≤ media j (opened_content k c)
+  inside : (disk : DiskState) (sector count : ℕ) → HasImage (opened_sectors k image) disk → sector + count ≤ media_sectors j.auth j.sectorsize (512 * disk.size) → sector + count ≤ content_media j (opened_content k c)
   inside disk sector count has fits = let P : ℕ → Type 0 = λ n. sector + count ≤ n in subst P (same_media disk has) fits
 
 reads_chosen : {D : Type 0} (state : D → DiskState) (k : Keying) (c : Content) (events : List Event) (steps : List Step) (t : ℕ) (choice : ℕ → ℕ) (image : List (List ℕ))

@@ -6,7 +6,7 @@ use Rattle.block_traits.specs.Content.{Content, IsContentOf, at_moment, with_eve
 use Rattle.block_traits.specs.Crash.{IsAltered, IsImage, IsTorn, IsUnsettled}
 use Rattle.block_traits.specs.Disk.{DiskState}
 use Rattle.eli_base.specs.Keying.{Keying}
-use Rattle.provider.specs.Answers.{Request}
+use Rattle.provider.specs.Answers.{SectorRequest}
 use Rattle.provider.specs.declared.faults.ReadFault.{ReadFault}
 use Rattle.provider.specs.declared.faults.ReadFault.TheVariants as fault
 use Rattle.range_keys.specs.Ring.{IsKeying}
@@ -77,7 +77,7 @@ data_chosen j sector count cells choice = joined (sectors_chosen j sector count 
 
 -- what a read of some sectors answers: what the writings say that are chosen of the cells; or the range passes the end,
 -- or the disk failed
-abbrev pub ReadsChosen : Keying → Request → (ℕ → List Writing) → (ℕ → ℕ) → List ℕ → Result (Unit {0}) ReadFault → DiskState → DiskState → Type 0
+abbrev pub ReadsChosen : Keying → SectorRequest → (ℕ → List Writing) → (ℕ → ℕ) → List ℕ → Result (Unit {0}) ReadFault → DiskState → DiskState → Type 0
 ReadsChosen j r cells choice bytes (Ok done) old new = data_chosen j r.sector r.count cells choice ≡ Ok bytes
 ReadsChosen j r cells choice bytes (Err (fault.Integrity offset)) old new = data_chosen j r.sector r.count cells choice ≡ Err offset
 ReadsChosen j r cells choice bytes (Err (fault.OutOfRange first asked media)) old new = r.media < r.sector + r.count

@@ -1,4 +1,4 @@
-// What holds of a disk upon a provider, whatever the disk below.
+//! What holds of a disk upon a provider, whatever the disk below.
 ghost use Rattle.std.specs.Prelude.{◌≡◌, ◌+◌, ◌<◌, ℕ, List, [], ◌∷◌, Result, map, length, Ok};
 ghost use Rattle.block_traits.specs.declared.disk.Event.{Event};
 ghost use Rattle.block_traits.specs.Content.{Content, IsSector, kept_values, present};
@@ -11,7 +11,7 @@ ghost use Rattle.provider_readings.specs.Attaching.{HasImage};
 ghost use Rattle.range_keys.specs.Ring.{IsKeying};
 ghost use Rattle.sealing.specs.Sectors.{IsSingle, reading};
 ghost use Rattle.readings.specs.Steps.{Step};
-ghost use Rattle.readings.specs.Survivors.{media};
+ghost use Rattle.readings.specs.Survivors.{content_media};
 ghost use Rattle.provider_disk.specs.Above.{AreStepsOver, EnduresBelow, ReadsChosen, cells_above, content_below};
 ghost use Rattle.provider_disk.specs.declared.provider_disk.ProviderDisk.{ProviderDisk};
 ghost use Rattle.provider_disk.specs.Opened.{KeepsLastData, MomentAbove, opened, opened_content, opened_sectors};
@@ -56,7 +56,7 @@ pub fn crash_images_are_opened()
 /// is left after the first t events reads, opened by both, as the writings of its cells say.
 pub fn crashes_below_are_read_above()
     ensures { (k j : Keying) (c : Content) (events : List Event) (steps : List Step) (t sector : ℕ) →
-        AreStepsOver k c events steps → IsKeying j → sector < media j (opened_content k c) → EnduresBelow k j c events steps t sector }
+        AreStepsOver k c events steps → IsKeying j → sector < content_media j (opened_content k c) → EnduresBelow k j c events steps t sector }
 {}
 
 /// A disk upon a provider on an image that survived has the opened image. A provider attached upon it then reads, again

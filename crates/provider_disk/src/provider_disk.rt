@@ -1,4 +1,4 @@
-// A provider that is a disk again.
+//! A provider that is a disk again.
 ghost use Rattle.std.specs.Prelude.{◌≡◌, ◌↔◌, IsTrue, IfOk, IfErr, OnOk, OnErr, false};
 ghost use Rattle.provider_disk.specs.Opened.{CanBeDisk};
 ghost use Rattle.range_keys.specs.Ring.{IsKeying};

@@ -9,7 +9,7 @@ use Rattle.eli_metadata.specs.Checks.{settings_of, size_matches, supported}
 use Rattle.eli_metadata.specs.Format.{metadata_in}
 use Rattle.eli_metadata.specs.declared.metadata.Metadata.{Metadata}
 use Rattle.key_slots.specs.Slots.{IsFirstToOpen}
-use Rattle.provider.specs.Answers.{Request}
+use Rattle.provider.specs.Answers.{SectorRequest}
 use Rattle.provider.specs.Attached.{Attached}
 use Rattle.provider.specs.declared.faults.AttachFault.{AttachFault}
 use Rattle.provider.specs.declared.faults.AttachFault.TheVariants as attach
@@ -25,8 +25,8 @@ HasImage image disk = disk.content ≡ Some (survivor image)
 
 -- ---- attaching
 
--- an image that a user key opens: its last device sector has metadata that a provider can be used by, of the image's size and with a whole
--- logical sector, and slot s is the first that the key opens, to this master key
+-- an image that a user key opens: its last device sector has metadata that a provider can be used by, of the image's
+-- size and with a whole logical sector, and slot s is the first that the key opens, to this master key
 pub record IsOpenedBy (image : List (List ℕ)) (m : Metadata) (params : Params) (key : List ℕ) (s : ℕ) (master : List ℕ) : Type 0 where
   pub metadata : metadata_in (get_or image (length image - 1) []) ≡ Ok m
   pub checked : supported m ≡ Ok (settings_of params)
@@ -57,7 +57,7 @@ abbrev pub image_data : Keying → ℕ → ℕ → List (List ℕ) → Result (L
 image_data k sector count image = joined (image_sectors k sector count image)
 
 -- what a read of some sectors answers: what the image has for them; or the range passes the end, or the disk failed
-abbrev pub ReadsImage : Keying → Request → List (List ℕ) → List ℕ → Result (Unit {0}) ReadFault → DiskState → DiskState → Type 0
+abbrev pub ReadsImage : Keying → SectorRequest → List (List ℕ) → List ℕ → Result (Unit {0}) ReadFault → DiskState → DiskState → Type 0
 ReadsImage k r image bytes (Ok done) old new = image_data k r.sector r.count image ≡ Ok bytes
 ReadsImage k r image bytes (Err (read.Integrity offset)) old new = image_data k r.sector r.count image ≡ Err offset
 ReadsImage k r image bytes (Err (read.OutOfRange sector count media)) old new = r.media < r.sector + r.count

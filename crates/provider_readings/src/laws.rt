@@ -1,4 +1,4 @@
-// What holds of a provider's calls and of the cells of its disk, whatever the disk.
+//! What holds of a provider's calls and of the cells of its disk, whatever the disk.
 ghost use Rattle.std.specs.Prelude.{◌≡◌, ℕ, ◌+◌, ◌*◌, ◌<◌, ◌≤◌, Bool, List, None, Ok, Result, length, take};
 ghost use Rattle.block_traits.specs.Content.{Content, IsContentOf};
 ghost use Rattle.block_traits.specs.Crash.{IsImage, IsUnsettled};
@@ -17,7 +17,7 @@ ghost use Rattle.provider.specs.Writing.{data_writes};
 ghost use Rattle.readings.specs.Writings.{Writing};
 ghost use Rattle.readings.specs.Read.{read_sector};
 ghost use Rattle.readings.specs.Steps.{Step, after, cell, events_of};
-ghost use Rattle.readings.specs.Survivors.{AreSteps, ReadFromCells, chosen, media, moment, sectors_in};
+ghost use Rattle.readings.specs.Survivors.{AreSteps, ReadFromCells, chosen, content_media, moment, sectors_in};
 ghost use Rattle.readings.specs.Writes.{data_steps};
 ghost use Rattle.provider_readings.specs.Attaching.{AttachesOrLacksMemory, HasImage, IsOpenedBy, ReadsImage};
 ghost use Rattle.provider_readings.specs.Data.{data_read, survivor};
@@ -33,12 +33,12 @@ pub fn writes_are_steps()
 /// What a read of logical sectors answers after some steps is what the last writings of the cells say.
 pub fn reads_are_of_last_writings()
     ensures { (c : Content) (steps : List Step) (k : Keying) (sector count : ℕ) →
-        IsContentOf (length c.base) c → AreSteps steps → IsKeying k → sector + count ≤ media k c →
+        IsContentOf (length c.base) c → AreSteps steps → IsKeying k → sector + count ≤ content_media k c →
         data_reading k (after steps c) sector count ≡ data_read k sector count (cell c steps) }
 {}
 
-/// A provider on any image reads each logical sector unit by unit, from the device sectors that the image has for it: the
-/// bytes of all units, or the first fault among them.
+/// A provider on any image reads each logical sector unit by unit, from the device sectors that the image has for it:
+/// the bytes of all units, or the first fault among them.
 pub fn images_read_unit_by_unit()
     ensures { (k : Keying) (sector : ℕ) (image : List (List ℕ)) → sector * units k + units k ≤ length image →
         sector_reading k (survivor image) sector ≡ joined (unit_readings k sector (sectors_in k sector image)) }
@@ -47,7 +47,7 @@ pub fn images_read_unit_by_unit()
 /// A provider on an image that survived reads each logical sector as the writings that the image chose from the cells.
 pub fn survivors_read_as_chosen()
     ensures { (c : Content) (steps : List Step) (t : ℕ) (choice : ℕ → ℕ) (image : List (List ℕ)) (k : Keying) (sector : ℕ) →
-        IsContentOf (length c.base) c → AreSteps steps → IsKeying k → sector < media k c →
+        IsContentOf (length c.base) c → AreSteps steps → IsKeying k → sector < content_media k c →
         IsImage (moment t steps c) choice image →
         sector_reading k (survivor image) sector ≡ read_sector k sector (chosen k sector (cell c (take t steps)) choice) }
 {}
@@ -55,18 +55,19 @@ pub fn survivors_read_as_chosen()
 /// A provider on a torn or altered image reads each logical sector as the writings that stand in it.
 pub fn survivors_read_from_cells()
     ensures torn { (c now : Content) (image : List (List ℕ)) (k : Keying) (sector : ℕ) (cells : ℕ → List Writing) →
-        IsKeying k → sector < media k c → length image ≡ length c.base →
+        IsKeying k → sector < content_media k c → length image ≡ length c.base →
         (from : ReadFromCells k sector cells (IsUnsettled now) image) →
         sector_reading k (survivor image) sector ≡ read_sector k sector from.writings }
     ensures altered { (c : Content) (image : List (List ℕ)) (k : Keying) (sector : ℕ) (cells : ℕ → List Writing) →
-        IsKeying k → sector < media k c → length image ≡ length c.base →
+        IsKeying k → sector < content_media k c → length image ≡ length c.base →
         (from : ReadFromCells k sector cells (λ n. Unit {0}) image) →
         sector_reading k (survivor image) sector ≡ read_sector k sector from.writings }
 {}
 
-/// `Provider::attach` on a disk with an image that a user key opens, no slot being named, gives the provider, with the keying of the metadata and
-/// the master key of the first slot that opens; or there was no memory. An image is opened where its last sector has metadata that
-/// `check` accepts, of the image's size, with a whole logical sector. The gate of the slots lets it through, too.
+/// `Provider::attach` on a disk with an image that a user key opens, no slot being named, gives the provider, with the
+/// keying of the metadata and the master key of the first slot that opens; or there was no memory. An image is opened
+/// where its last sector has metadata that `check` accepts, of the image's size, with a whole logical sector. The gate
+/// of the slots lets it through, too.
 pub fn survivors_attach<D: Disk>()
     ensures gate { (image : List (List ℕ)) (m : Metadata) (params : Params) (key : List ℕ) (s : ℕ) (master : List ℕ) →
         IsOpenedBy image m params key s master → slot_matches m None ≡ Ok tt }

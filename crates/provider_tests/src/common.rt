@@ -1,4 +1,4 @@
-// Providers that are made of disks, and attached.
+//! Providers that are made of disks, and attached.
 use block_traits::{ByteList, Disk, Event};
 use crash_disk::MemEntropy;
 use eli_base::{Auth, Cipher};

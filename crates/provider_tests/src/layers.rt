@@ -1,4 +1,4 @@
-// Layers over disks in memory, looked at after each call.
+//! Layers over disks in memory, looked at after each call.
 use crate::common::{are_events, attached, made, read, write};
 use block_traits::{Disk, DiskFailed, Event, Sector};
 use crash_disk::{MemDisk, survivor_whole};

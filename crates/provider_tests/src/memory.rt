@@ -1,4 +1,4 @@
-// With ample memory no call of a disk in memory lacks it.
+//! With ample memory no call of a disk in memory lacks it.
 use block_traits::Disk;
 use crash_disk::{CallKind, FailAt, MemDisk, Pick, Torn, survivor_torn, survivor_whole};
 use std::test::Fail;

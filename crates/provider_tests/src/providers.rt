@@ -1,4 +1,4 @@
-// Calls of a provider that end with a fault.
+//! Calls of a provider that end with a fault.
 use crate::common::{are_events, attached, made, read, write};
 use crash_disk::{CallKind, FailAt, MemDisk};
 use eli_base::{Auth, Cipher};

@@ -1,4 +1,4 @@
-// A suspended provider, under whose disk another provider was made.
+//! A suspended provider, under whose disk another provider was made.
 use crate::common::{attached, key_under, made};
 use block_traits::{MetaPlace, Sector};
 use crash_disk::MemDisk;

@@ -17,7 +17,7 @@ use Rattle.sealing.specs.Sectors.{joined, reading, units}
 use Rattle.readings.specs.Writings.{Put, Writing, Raw, AreWritings, all_device_bytes, device_bytes}
 use Rattle.readings.specs.Steps.{Step, Flush, after, cell, event_of, events_of, last_writing}
 use Rattle.readings.specs.Read.{read_sector}
-use Rattle.readings.specs.Survivors.{AreSteps, media, placed}
+use Rattle.readings.specs.Survivors.{AreSteps, content_media, placed}
 use Rattle.readings.specs.Writes.{AreStepsBelow, IsNumberedBelow, data_steps, raw_steps}
 use Rattle.readings.proofs.Readings.{unit_readings-read}
 use Rattle.provider.specs.Writing.{data_writes}
@@ -25,7 +25,7 @@ use Rattle.provider_readings.proofs.Data.{events_of-data}
 use Rattle.readings.proofs.Settled.{present-cell}
 use Rattle.readings.proofs.Writes.{AreStepsBelow-none, AreStepsBelow-raw, AreStepsBelow-write, events_of-raw}
 use Rattle.readings.proofs.Survivors.{All-last, AreWritings-fit, Fits, Fits-cell, placed-front, room, some-cell, some-units}
-use Rattle.bio_queue.specs.Answers.{FailsStep, Gave, HasBadUnit, IsAsked, IsGiven, IsInRange, IsSubmitted, StepsOn, TakesOut, asked, units_of}
+use Rattle.bio_queue.specs.Answers.{FailsStep, Gave, HasBadUnit, IsAsked, IsGiven, JobIsInRange, IsSubmitted, StepsOn, TakesOut, asked, units_of}
 use Rattle.bio_queue.specs.Requests.{Request, first_of, next_of, request_with, step_events}
 use Rattle.bio_queue.specs.Requests as requests
 use Rattle.bio_queue.specs.Sectors.{opened_data, opened_sectors}
@@ -33,20 +33,21 @@ use Rattle.bio_queue.specs.declared.job.Job.{Job}
 use Rattle.bio_queue.specs.declared.job.Job.TheVariants as job
 use Rattle.bio_queue.specs.declared.job.Reaped.{Reaped}
 use Rattle.queue_readings.specs.Tasks.{Task, Work, Reads, Writes, Flushes, data_from, exchange_task, job_of, put_task, request_of, sectors_from, steps_of, task_after, task_with, unit_steps, units_left, without_task, work_after, work_of, writings_of}
-use Rattle.queue_readings.specs.Play.{IsCovered, IsFaulty, IsOpen, IsOpenTask, IsPlay, Play, Shows, StoodThere, Yields, broken, pending, reaped, stepped, submitted}
+use Rattle.queue_readings.specs.Play.{IsCovered, IsFaulty, IsOpen, IsOpenTask, IsPlay, Play, Shows, StoodThere, Yields, broken, pending, reaped, task_stepped, submitted}
 use Rattle.queue_readings.proofs.Among.{AreAmong, PlacesAmong, among_behind, among_front, among_then, behind_among, both_among, fit_front, fits_among, front_among, fits_other, fits_write, open_later, pending-each, tasks_later, unit_among}
 use Rattle.queue_readings.proofs.Lists.{all_exchange, all_put, all_without, exchange_shown, put_shown, task_found, without_shown}
 use Rattle.queue_readings.proofs.Puts.{length-placed, length-steps, sealed-shown, unit_placed}
 
 -- ---- what each call comes to
 
--- a step of the task with this tag: so many of its units are left, and the disk and the queue are those of the play in which it is done
+-- a step of the task with this tag: so many of its units are left, and the disk and the queue are those of the play in
+-- which it is done
 pub record Steps (k : Keying) (c : Content) (m : Play) (tag left : ℕ) (new : List Request) (d : DiskState) : Type 0 where
   pub task : Task
   pub found : task_with tag m.tasks ≡ Some task
   pub more : task.done < units_of k (job_of task.work)
   pub rest : left ≡ units_left k (task_after k (cell c m.steps) task)
-  pub shows : Shows k c (stepped k c task m) new d
+  pub shows : Shows k c (task_stepped k c task m) new d
 
 -- a step at which the device failed
 pub record BreaksOff (k : Keying) (c : Content) (m : Play) (tag : ℕ) (new : List Request) (d : DiskState) : Type 0 where
@@ -69,7 +70,7 @@ pub record Leaves (k : Keying) (c : Content) (m : Play) (tag : ℕ) (new : List 
 disk_size : (c : Content) (steps : List Step) (d : DiskState) → d.content ≡ Some (after steps c) → length c.base ≡ d.size
 disk_size c steps d told = let fits : IsContentOf d.size (after steps c) = subst (FitsSize d.size) told d.well_formed.fits in fits.sectors
 
-pub same_media : (k : Keying) (c : Content) (steps : List Step) (d : DiskState) → d.content ≡ Some (after steps c) → provider.media k d ≡ media k c
+pub same_media : (k : Keying) (c : Content) (steps : List Step) (d : DiskState) → d.content ≡ Some (after steps c) → provider.media k d ≡ content_media k c
 same_media k c steps d told = ap (λ (n : ℕ). media_sectors k.auth k.sectorsize (512 * n)) (sym (disk_size c steps d told))
 
 after-append : (steps more : List Step) (c : Content) → Some (after (steps ++ more) c) ≡ logged (events_of more) (Some (after steps c))
@@ -92,7 +93,7 @@ asked-shown k tag next (job.Write sector count) from =
     λ i. record { tag = tag; job = job.Write sector count; done = 0; units = count * units k; device = sealed-shown next k sector count from i }
 asked-shown k tag next job.Flush from = refl
 
-play_submitted : (k : Keying) (c : Content) (m : Play) (tag : ℕ) (j : Job) (from : List ℕ) → IsPlay k c m → AreBytes from → IsAsked k.sectorsize j from → IsInRange (media k c) j → IsPlay k c (submitted tag j from m)
+play_submitted : (k : Keying) (c : Content) (m : Play) (tag : ℕ) (j : Job) (from : List ℕ) → IsPlay k c m → AreBytes from → IsAsked k.sectorsize j from → JobIsInRange (content_media k c) j → IsPlay k c (submitted tag j from m)
 play_submitted k c m tag (job.Read sector count) from play small is_asked range =
     let new : Task = record { tag = tag; done = 0; work = Reads sector count [] } in
     record {
@@ -129,7 +130,7 @@ play_submitted k c m tag job.Flush from play small is_asked range =
 pub submits : (k : Keying) (readonly : Bool) (c : Content) (m : Play) (j : Job) (from : List ℕ) (old new : List Request) (d d' : DiskState) (tag : ℕ) → Shows k c m old d → AreBytes from → IsAsked k.sectorsize j from
     → IsSubmitted k readonly d j from old new tag → d' ≡ d → Shows k c (submitted tag j from m) new d'
 submits k readonly c m j from old new d d' tag shows small is_asked h same =
-    let range = subst (λ (n : ℕ). IsInRange n j) (same_media k c m.steps d shows.told) h.admitted.in_range in
+    let range = subst (λ (n : ℕ). JobIsInRange n j) (same_media k c m.steps d shows.told) h.admitted.in_range in
     let task : Task = record { tag = tag; done = 0; work = work_of m.next j from } in
     record {
       play = play_submitted k c m tag j from shows.play small is_asked range;
@@ -177,7 +178,7 @@ stood steps w h = record { is = h.is; is_in = h.is_in }
 fits_then : (steps : List Step) (w : Writing) → StoodThere steps w → Fits (placed steps) w
 fits_then steps w h = record { is = h.is; is_in = h.is_in }
 
-stood_now : (k : Keying) (c : Content) (m : Play) (sector count done : ℕ) → IsPlay k c m → 1 ≤ count → sector + count ≤ media k c → done < count * units k → StoodThere m.steps (last_writing (cell c m.steps (sector * units k + done)))
+stood_now : (k : Keying) (c : Content) (m : Play) (sector count done : ℕ) → IsPlay k c m → 1 ≤ count → sector + count ≤ content_media k c → done < count * units k → StoodThere m.steps (last_writing (cell c m.steps (sector * units k + done)))
 stood_now k c m sector count done play some range more =
     let n : ℕ = sector * units k + done in
     let there = unit_there k sector count done (length c.base) play.keying some range more in

@@ -51,9 +51,9 @@ some_step : (k : Keying) (tag : ℕ) (x : Task) (tasks : List Task) (b : Bool) �
 some_step k tag x tasks true more h = refl
 some_step k tag x tasks false more h = more h
 
-pub some_task : (k : Keying) (tag : ℕ) (tasks : List Task) → IsSome (request_with tag (map (request_of k) tasks)) → IsSome (task_with tag tasks)
-some_task k tag [] h = h
-some_task k tag (x ∷ tasks) h = some_step k tag x tasks (x.tag == tag) (some_task k tag tasks) h
+pub IsSome-task_with : (k : Keying) (tag : ℕ) (tasks : List Task) → IsSome (request_with tag (map (request_of k) tasks)) → IsSome (task_with tag tasks)
+IsSome-task_with k tag [] h = h
+IsSome-task_with k tag (x ∷ tasks) h = some_step k tag x tasks (x.tag == tag) (IsSome-task_with k tag tasks) h
 
 -- ---- what becomes of the queue
 

@@ -5,7 +5,7 @@ use Rattle.block_traits.specs.Content.{Content}
 use Rattle.block_traits.specs.Disk.{DiskState}
 use Rattle.eli_base.specs.Keying.{Keying}
 use Rattle.provider.specs.Attached as provider
-use Rattle.readings.specs.Survivors.{media}
+use Rattle.readings.specs.Survivors.{content_media}
 use Rattle.bio_queue.specs.Answers.{IsAdmitted, IsRefusedBy}
 use Rattle.bio_queue.specs.Requests.{IsLeastFree, Request, request_with}
 use Rattle.bio_queue.specs.Requests as requests
@@ -14,15 +14,15 @@ use Rattle.bio_queue.specs.declared.faults.StepFault.TheVariants as step
 use Rattle.bio_queue.specs.declared.faults.SubmitFault.{SubmitFault}
 use Rattle.bio_queue.specs.declared.job.Job.{Job}
 use Rattle.queue_readings.specs.Tasks.{Task, request_of, task_with}
-use Rattle.queue_readings.specs.Play.{IsLeastFreeTag, Play, Shows, broken, reaped, stepped, submitted}
-use Rattle.queue_readings.specs.Moves.{AreMade, AreMoves, Call, InFlight, IsMade, IsPlayed, KeepsKeying, Moves, Reap, ShowsIn, Step, Submit}
+use Rattle.queue_readings.specs.Play.{IsLeastFreeTag, Play, Shows, broken, reaped, task_stepped, submitted}
+use Rattle.queue_readings.specs.Moves.{AreMade, AreMoves, QueueCall, InFlight, IsMade, IsPlayed, KeepsKeying, MovesPlay, Reap, ShowsIn, Step, Submit}
 use Rattle.queue_readings.proofs.Calls.{breaks_off, reaps, reaps_fault, same_media, steps_on, submits}
-use Rattle.queue_readings.proofs.Lists.{no_task, some_task, task_found}
+use Rattle.queue_readings.proofs.Lists.{no_task, IsSome-task_with, task_found}
 
 -- one call is one move
-pub record IsMoved (c : Content) (call : Call) (m : Play) (old new : InFlight) : Type 0 where
+pub record IsMoved (c : Content) (call : QueueCall) (m : Play) (old new : InFlight) : Type 0 where
   pub play : Play
-  pub move : Moves old.readonly old.keying c call m play
+  pub move : MovesPlay old.readonly old.keying c call m play
   pub shows : ShowsIn old.keying c play new
   pub keeps : KeepsKeying old new
 
@@ -30,7 +30,7 @@ free_tag : (k : Keying) (tag : ℕ) (queue : List Request) (tasks : List Task) �
 free_tag k tag queue tasks is h = record {
   room = h.room;
   free = no_task k tag tasks (ap (request_with tag) (sym is) ∙ h.free);
-  least = λ t lt. some_task k t tasks (subst (λ (q : List Request). IsSome (request_with t q)) is (h.least t lt));
+  least = λ t lt. IsSome-task_with k t tasks (subst (λ (q : List Request). IsSome (request_with t q)) is (h.least t lt));
 }
 
 none_there : (k : Keying) (tag : ℕ) (queue : List Request) (tasks : List Task) → queue ≡ map (request_of k) tasks → request_with tag queue ≡ None → task_with tag tasks ≡ None
@@ -38,7 +38,7 @@ none_there k tag queue tasks is h = no_task k tag tasks (ap (request_with tag) (
 
 -- a job is refused as the play says
 turned_away : (readonly : Bool) (k : Keying) (c : Content) (m : Play) (job : Job) (fault : SubmitFault) (queue : List Request) (d : DiskState) → Shows k c m queue d → IsRefusedBy readonly (provider.media k d) job (length queue) fault
-    → IsRefusedBy readonly (media k c) job (length m.tasks) fault
+    → IsRefusedBy readonly (content_media k c) job (length m.tasks) fault
 turned_away readonly k c m job fault queue d shows h =
     let many : length queue ≡ length m.tasks = ap (λ (q : List Request). length q) shows.queue ∙ length-map m.tasks (request_of k) in
     subst (λ (n : ℕ). IsRefusedBy readonly n job (length m.tasks) fault) (same_media k c m.steps d shows.told) (subst (λ (n : ℕ). IsRefusedBy readonly (provider.media k d) job n fault) many h)
@@ -51,7 +51,7 @@ still k c m old new d d' queue disk shows = record {
   queue = queue ∙ shows.queue;
 }
 
-pub moved : (c : Content) (call : Call) (m : Play) (old new : InFlight) → ShowsIn old.keying c m old → IsMade call old new → IsMoved c call m old new
+pub moved : (c : Content) (call : QueueCall) (m : Play) (old new : InFlight) → ShowsIn old.keying c m old → IsMade call old new → IsMoved c call m old new
 moved c (Submit job from (Ok tag)) m old new shows h = record {
   play = submitted tag job from m;
   move = (
@@ -71,7 +71,7 @@ moved c (Submit job from (Err fault)) m old new shows h = record {
 moved c (Step tag (Ok left)) m old new shows h =
     let on = steps_on old.keying c m tag left old.queue new.queue old.disk new.disk shows h.0 in
     record {
-      play = stepped old.keying c on.task m;
+      play = task_stepped old.keying c on.task m;
       move = record { task = on.task; found = on.found; is = record { more = on.more; rest = on.rest; play = refl } };
       shows = on.shows;
       keeps = h.1;
@@ -133,7 +133,7 @@ moved c (Reap tag before after (Err (reap.Integrity offset))) m old new shows h 
       keeps = h.1.keeps;
     }
 
-pub played : (c : Content) (calls : List Call) (m : Play) (old new : InFlight) → ShowsIn old.keying c m old → AreMade calls old new → IsPlayed c calls m old new
+pub played : (c : Content) (calls : List QueueCall) (m : Play) (old new : InFlight) → ShowsIn old.keying c m old → AreMade calls old new → IsPlayed c calls m old new
 played c [] m old new shows h = record {
   play = m;
   moves = refl;

@@ -3,7 +3,7 @@ use Rattle.std.specs.Prelude.{◌≡◌, ℕ, zero, suc, ◌+◌, ◌/◌, ◌�
 use Rattle.block_traits.specs.Disk.{DiskState, Logs}
 use Rattle.block_traits.specs.declared.disk.Event.TheVariants as event
 use Rattle.eli_base.specs.Keying.{Keying}
-use Rattle.provider.specs.Answers.{IsWritten, Request}
+use Rattle.provider.specs.Answers.{IsWritten, SectorRequest}
 use Rattle.provider.specs.Attached.{media}
 use Rattle.provider.specs.Reading.{ReadsAs}
 use Rattle.bio_queue.specs.Answers.{IsAsked, IsSubmitted, ReapAnswers, StepsOn, units_of}
@@ -40,7 +40,7 @@ GivesAsRead k old new sector count before after (Err reap.NoRequest) = ⊥
 GivesAsRead k old new sector count before after (Err (reap.NotDone left)) = ⊥
 
 -- a request of the provider for so many bytes
-abbrev pub request_for : InFlight → ℕ → List ℕ → Request
+abbrev pub request_for : InFlight → ℕ → List ℕ → SectorRequest
 request_for x sector bytes = record { sector = sector; count = length bytes / x.keying.sectorsize; media = media x.keying x.disk }
 
 -- it comes to what the call of the provider does

@@ -6,7 +6,7 @@ use Rattle.eli_base.specs.Keying.{Keying}
 use Rattle.range_keys.specs.Ring.{IsKeying}
 use Rattle.readings.specs.Writings.{PutUnit, Writing, Put, IsWriting}
 use Rattle.readings.specs.Steps.{Step, Flush, after, cell}
-use Rattle.readings.specs.Survivors.{media, placed}
+use Rattle.readings.specs.Survivors.{content_media, placed}
 use Rattle.readings.specs.Writes.{AreStepsBelow, data_steps}
 use Rattle.bio_queue.specs.Requests.{Request}
 use Rattle.bio_queue.specs.declared.job.Job.{Job}
@@ -32,8 +32,8 @@ pub record StoodThere (steps : List Step) (w : Writing) : Type 0 where
 
 -- what is known of an open request, of which so many units are done
 abbrev pub IsOpen : Keying → Content → List Step → Work → ℕ → Type 0
-IsOpen k c steps (Reads sector count ws) done = (length ws ≡ done) × (1 ≤ count) × (sector + count ≤ media k c) × All (StoodThere steps) ws
-IsOpen k c steps (Writes number sector count bytes) done = (1 ≤ count) × (sector + count ≤ media k c) × All (Contains steps) (take done (data_steps number k sector count bytes))
+IsOpen k c steps (Reads sector count ws) done = (length ws ≡ done) × (1 ≤ count) × (sector + count ≤ content_media k c) × All (StoodThere steps) ws
+IsOpen k c steps (Writes number sector count bytes) done = (1 ≤ count) × (sector + count ≤ content_media k c) × All (Contains steps) (take done (data_steps number k sector count bytes))
 IsOpen k c steps Flushes done = Unit {0}
 
 abbrev pub IsOpenTask : Keying → Content → List Step → Task → Type 0
@@ -63,8 +63,8 @@ submitted tag job from m = record {
 }
 
 -- the next unit of a task is done
-abbrev pub stepped : Keying → Content → Task → Play → Play
-stepped k c t m = record { steps = m.steps ++ unit_steps k t.work t.done; tasks = exchange_task (task_after k (cell c m.steps) t) m.tasks; next = m.next }
+abbrev pub task_stepped : Keying → Content → Task → Play → Play
+task_stepped k c t m = record { steps = m.steps ++ unit_steps k t.work t.done; tasks = exchange_task (task_after k (cell c m.steps) t) m.tasks; next = m.next }
 
 -- its step was done or wasn't, and its unit isn't done
 abbrev pub broken : Keying → Task → ℕ → Play → Play
@@ -80,7 +80,8 @@ pub record IsLeastFreeTag (tag : ℕ) (tasks : List Task) : Type 0 where
   pub free : task_with tag tasks ≡ None
   pub least : (t : ℕ) → t < tag → IsSome (task_with t tasks)
 
--- what a task gives that is done: a read the bytes that its writings say, and of a write each step is among those that were done
+-- what a task gives that is done: a read the bytes that its writings say, and of a write each step is among those that
+-- were done
 abbrev pub Yields : Keying → List Step → Work → List ℕ → List ℕ → Reaped → Type 0
 Yields k steps (Reads sector count ws) before after given =
     (bytes : List ℕ) × (data_from k sector count ws ≡ Ok bytes) × (given ≡ Bytes (length bytes)) × (length bytes ≡ count * k.sectorsize) × (after ≡ bytes ++ drop (length bytes) before)

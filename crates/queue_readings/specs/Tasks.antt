@@ -12,8 +12,8 @@ use Rattle.bio_queue.specs.Requests.{Request}
 use Rattle.bio_queue.specs.declared.job.Job.{Job}
 use Rattle.bio_queue.specs.declared.job.Job.TheVariants as job
 
--- logical sectors are read, and these writings stood in their device sectors at the steps so far; or they are written, by the write with
--- this number, with these plain bytes; or the disk is flushed
+-- logical sectors are read, and these writings stood in their device sectors at the steps so far; or they are written,
+-- by the write with this number, with these plain bytes; or the disk is flushed
 pub data Work : Type 0 where
   Reads : (sector count : ℕ) → List Writing → Work
   Writes : (number sector count : ℕ) → List ℕ → Work
@@ -83,7 +83,8 @@ next_after (job.Read sector count) next = next
 next_after (job.Write sector count) next = next + 1
 next_after job.Flush next = next
 
--- what the next unit of a task does to the disk, of which so many are done: it places the next unit of a write, or flushes
+-- what the next unit of a task does to the disk, of which so many are done: it places the next unit of a write, or
+-- flushes
 abbrev pub unit_steps : Keying → Work → ℕ → List Step
 unit_steps k (Reads sector count ws) done = []
 unit_steps k (Writes number sector count bytes) done = get_or (data_steps number k sector count bytes) done Flush ∷ []

@@ -1,7 +1,7 @@
 //! What the calls of a queue do to the cells of its disk, and what they read from them.
 //!
-//! A play has the steps that were done to the disk, the open requests by writings, and the number of the next write. The
-//! functions here are laws: each has an empty body, and its contract holds of every disk.
+//! A play has the steps that were done to the disk, the open requests by writings, and the number of the next write.
+//! The functions here are laws: each has an empty body, and its contract holds of every disk.
 #![tactic(auto)]
 
 mod laws;

@@ -60,11 +60,11 @@ range_key k offset = numbered_key (range_base k.version k.auth k.master) (key_nu
 abbrev pub key_bytes : ℕ → ℕ
 key_bytes keylen = keylen / 8
 
--- the key of the data in a range key: its first bytes. K1 of XTS (IEEE 1619, 5.1) and the one key of CBC
+-- The key of the data in a range key: its first bytes. K1 of XTS (IEEE 1619, 5.1) and the one key of CBC.
 abbrev pub first_part : ℕ → List ℕ → List ℕ
 first_part keylen range = take (key_bytes keylen) range
 
--- K2 of XTS, the key of the tweak (IEEE 1619, 5.1): the bytes behind it. CBC has one key
+-- K2 of XTS, the key of the tweak (IEEE 1619, 5.1): the bytes behind it. CBC has one key.
 abbrev pub second_part : Cipher → ℕ → List ℕ → List ℕ
 second_part AesXts keylen range = take (key_bytes keylen) (drop (key_bytes keylen) range)
 second_part AesCbc keylen range = first_part keylen range

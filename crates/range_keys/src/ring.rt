@@ -91,7 +91,8 @@ impl KeyRing {
     }
 
     /// Lends the expanded keys of the range in which this byte offset lies. The last sixteen that were asked for are
-    /// kept, where there is memory for them; another is made anew.
+    /// kept, where there is memory for them; another is made anew. The starred clause says what the ring is once the
+    /// loan has ended.
     pub fn key_at(&mut self, offset: u64) -> &RangeKey
         ensures* after { sem 𝓛 (LendsKeyAt self.entry offset) }
         ensures first { result.now.first ≡ first_key self.old.keying offset }

@@ -8,7 +8,7 @@ use Rattle.sealing.specs.Sectors.{unit_place, units}
 use Rattle.readings.specs.Writings.{PutUnit, Writing, Put}
 use Rattle.readings.specs.Steps.{Step, cell}
 use Rattle.readings.specs.Read.{Matches, read_unit, writing_in}
-use Rattle.readings.specs.Survivors.{AreSteps, ReadFromCells, ReadsAsPut, media, moment}
+use Rattle.readings.specs.Survivors.{AreSteps, ReadFromCells, ReadsAsPut, content_media, moment}
 use Rattle.readings.specs.Ever.{ever}
 use Rattle.readings.specs.Crashes.{Endures, IsFlushed, ReadsWithCauses, image_unit}
 use Rattle.readings.proofs.Readings.{unit_readings-read}
@@ -33,7 +33,7 @@ causes k sector cells may known image is fits from = record {
 }
 
 flushed-reads : (c : Content) (steps : List Step) (t : ℕ) (k : Keying) (sector j : ℕ) (p : PutUnit) (image : List (List ℕ))
-    → IsContentOf (length c.base) c → AreSteps steps → IsKeying k → sector < media k c → j < units k → IsFlushed (take t steps) (unit_place k sector j) (Put p)
+    → IsContentOf (length c.base) c → AreSteps steps → IsKeying k → sector < content_media k c → j < units k → IsFlushed (take t steps) (unit_place k sector j) (Put p)
     → Matches k sector j (Put p) p → IsTorn (moment t steps c) image → ReadsAsPut k p (image_unit k sector image j)
 flushed-reads c steps t k sector j p image content are is below lt f m torn =
     let n : ℕ = unit_place k sector j in
@@ -42,7 +42,7 @@ flushed-reads c steps t k sector j p image content are is below lt f m torn =
     (subst (λ (d : Content). IsTorn d image) (moment-after t steps c) torn) one m
 
 pub endures : (c : Content) (steps : List Step) (t : ℕ) (k : Keying) (sector : ℕ)
-    → IsContentOf (length c.base) c → AreSteps steps → IsKeying k → sector < media k c → Endures c steps t k sector
+    → IsContentOf (length c.base) c → AreSteps steps → IsKeying k → sector < content_media k c → Endures c steps t k sector
 endures c steps t k sector content are is below =
     let fits = room (units k) sector (length c.base) (some-units k is) below in
     let base : length (moment t steps c).base ≡ length c.base = refl in

@@ -7,9 +7,9 @@ use Rattle.aes_core.specs.Blocks.{block, blocks}
 use Rattle.aes_core.specs.Schedule.{IsKeyLength}
 use Rattle.aes_core.proofs.BlockLists.{AreBlocks, blocks-same}
 use Rattle.block_traits.proofs.PartLists.{part}
-use Rattle.xts_mode.specs.Xts.{tweak_at, first_tweak, masked, xts_open}
+use Rattle.xts_mode.specs.Xts.{tweak_at, first_tweak, tweaked_block, xts_open}
 use Rattle.sealing.proofs.Runs.{length-decrypt, length-masked}
-use Rattle.cbc_mode.specs.Cbc.{opened, cbc_open}
+use Rattle.cbc_mode.specs.Cbc.{opened_block, cbc_open}
 use Rattle.cbc_mode.proofs.Chain.{block_before-start, block_before-more}
 use Rattle.readings.proofs.PartLists.{same_block, part-blocks, part-blocks_rest}
 
@@ -25,8 +25,8 @@ pub xts_open-part : (key1 key2 : List ℕ) (unit j : ℕ) (xs ys : List ℕ) →
 xts_open-part key1 key2 unit j xs ys long len fits same =
     let t : ℕ = first_tweak key2 unit in
     let n : ℕ = length xs / 16 in
-    let f : ℕ → List ℕ = masked (decrypt key1) t xs in
-    let g : ℕ → List ℕ = masked (decrypt key1) t ys in
+    let f : ℕ → List ℕ = tweaked_block (decrypt key1) t xs in
+    let g : ℕ → List ℕ = tweaked_block (decrypt key1) t ys in
     let short = λ (b : List ℕ). length-decrypt key1 b long in
     same_part f g n j (λ i lt. length-masked (decrypt key1) t xs i short) (λ i lt. length-masked (decrypt key1) t ys i short) (omega arith)
     (λ i lt. ap (λ (b : List ℕ). let mask = to_le_bytes w128 (tweak_at t (32 * j + i)) in xor (decrypt key1 (xor b mask)) mask) (same_block j i xs ys lt same))
@@ -34,7 +34,7 @@ xts_open-part key1 key2 unit j xs ys long len fits same =
 
 -- ---- cipher block chaining
 
-length-opened : (key iv c : List ℕ) (n j : ℕ) → IsKeyLength (length key) → length iv ≡ 16 → 16 * n ≤ length c → j < n → length (opened key iv c j) ≡ 16
+length-opened : (key iv c : List ℕ) (n j : ℕ) → IsKeyLength (length key) → length iv ≡ 16 → 16 * n ≤ length c → j < n → length (opened_block key iv c j) ≡ 16
 length-opened key iv c n j long len fits lt =
     let all = length-append iv c in
     let a = length-decrypt key (block c j) long in
@@ -65,8 +65,8 @@ pub cbc_open-part : (key iv : List ℕ) (j : ℕ) (xs ys : List ℕ) → IsKeyLe
     → part 512 j xs ≡ part 512 j ys → (0 < j → part 512 (j - 1) xs ≡ part 512 (j - 1) ys) → part 512 j (cbc_open key iv xs) ≡ part 512 j (cbc_open key iv ys)
 cbc_open-part key iv j xs ys long leniv len fits same left =
     let n : ℕ = length xs / 16 in
-    let f : ℕ → List ℕ = opened key iv xs in
-    let g : ℕ → List ℕ = opened key iv ys in
+    let f : ℕ → List ℕ = opened_block key iv xs in
+    let g : ℕ → List ℕ = opened_block key iv ys in
     same_part f g n j (λ i lt. length-opened key iv xs n i long leniv (omega arith) lt) (λ i lt. length-opened key iv ys n i long leniv (omega arith) lt) (omega arith)
     (λ i lt. λ t. xor (decrypt key (same_block j i xs ys lt same t)) (before-same iv xs ys j i leniv lt same left t))
     ∙ ap (λ (m : ℕ). part 512 j (blocks g (m / 16))) len
@@ -76,8 +76,8 @@ pub cbc_open-rest : (key iv : List ℕ) (j : ℕ) (xs ys : List ℕ) → IsKeyLe
     → part 512 j xs ≡ part 512 j ys → drop 16 (part 512 j (cbc_open key iv xs)) ≡ drop 16 (part 512 j (cbc_open key iv ys))
 cbc_open-rest key iv j xs ys long leniv len fits same =
     let n : ℕ = length xs / 16 in
-    let f : ℕ → List ℕ = opened key iv xs in
-    let g : ℕ → List ℕ = opened key iv ys in
+    let f : ℕ → List ℕ = opened_block key iv xs in
+    let g : ℕ → List ℕ = opened_block key iv ys in
     part-blocks_rest f n j (λ i lt. length-opened key iv xs n i long leniv (omega arith) lt) (omega arith)
     ∙ blocks-same (λ i. f (32 * j + (i + 1))) (λ i. g (32 * j + (i + 1))) 31 (λ i lt.
     let at : 32 * j + (i + 1) ≡ 32 * j + i + 1 = omega arith in

@@ -1,4 +1,5 @@
--- The device bytes of a writing are a sector, and those of a matching one a part of what its logical sector is sealed to.
+-- The device bytes of a writing are a sector, and those of a matching one a part of what its logical sector is sealed
+-- to.
 use Rattle.std.proofs.Common.{◌≡◌, ◌≢◌, ℕ, ◌+◌, ◌*◌, ◌<◌, List, [], get_or, All, ap, ◌∙◌}
 use Rattle.std.proofs.lemmas.List.Elements.{All-map, All-weaker}
 use Rattle.eli_base.specs.declared.algorithms.Auth.{Auth}

@@ -18,9 +18,9 @@ use Rattle.sealing.specs.Sectors.{unit_place, units, piece_reading, unit_reading
 use Rattle.sealing.proofs.Pieces.{unit_reading-piece}
 use Rattle.readings.specs.Writings.{PutUnit, Writing, Put, Raw, AreWritings, device_bytes, all_device_bytes, plain_bytes}
 use Rattle.readings.specs.Steps.{Step, Place, Flush, after, last_writing, cell_after, cell}
-use Rattle.readings.specs.Read.{Matches, matching, writing_in, opened_unit, bytes_of, are_chained, loses_front, unit_from, read_unit, read}
+use Rattle.readings.specs.Read.{Matches, matching, writing_in, opened_unit, opened_bytes, are_chained, loses_front, unit_from, read_unit, read}
 use Rattle.readings.specs.Ever.{placed_at, cipher_text_at, is_accepted, ReadsAsOneOf, IsForged}
-use Rattle.readings.specs.Survivors.{sectors_in, sectors_now, last_writings, media, placed, AreSteps, IsOfCell, IsStrange, ReadsAsPut}
+use Rattle.readings.specs.Survivors.{sectors_in, sectors_now, last_writings, content_media, placed, AreSteps, IsOfCell, IsStrange, ReadsAsPut}
 use Rattle.readings.proofs.Cells.{kept_values-cell, last_of-device_bytes}
 use Rattle.readings.proofs.Matching.{matching-matches}
 use Rattle.readings.proofs.Plain.{opened_unit-off}
@@ -48,14 +48,14 @@ put-reads k sector j ws p is are lt m =
     let opened : Result (List ℕ) ℕ = opened_unit k sector ws j in
     let lost : Bool = loses_front k j left p in
     let plain : List ℕ = plain_bytes p in
-    let bytes : List ℕ = cond lost (take 16 (bytes_of opened) ++ drop 16 plain) plain in
+    let bytes : List ℕ = cond lost (take 16 (opened_bytes opened) ++ drop 16 plain) plain in
     let reads : opened ≡ Ok bytes =
     opened_unit-read k sector j ws is are lt
     ∙ ap (λ (o : Option PutUnit). unit_from k j o left opened) (matching-matches k sector j (writing_in ws j) p m) in
     record {
       bytes = bytes;
       is = reads;
-      rest = rest_of lost bytes (take 16 (bytes_of opened)) plain (ap (λ (r : Result (List ℕ) ℕ). take 16 (bytes_of r)) reads) refl;
+      rest = rest_of lost bytes (take 16 (opened_bytes opened)) plain (ap (λ (r : Result (List ℕ) ℕ). take 16 (opened_bytes r)) reads) refl;
       unchained = λ none. cond-false lost _ plain (and_left (are_chained k.cipher k.auth) _ none);
       first = λ zero_unit.
           let none : nat_lt 0 j ≡ false = le-ltb 0 j (omega (arith, m.unit, zero_unit)) in
@@ -71,7 +71,7 @@ map-each : (f : ℕ → List ℕ) (g : ℕ → Writing) (js : List ℕ) → ((j 
 map-each f g [] same = refl
 map-each f g (j ∷ js) same = λ i. same j i ∷ map-each f g js same i
 
-pub now-reads : (c : Content) (steps : List Step) (k : Keying) (sector : ℕ) → IsContentOf (length c.base) c → AreSteps steps → IsKeying k → sector < media k c
+pub now-reads : (c : Content) (steps : List Step) (k : Keying) (sector : ℕ) → IsContentOf (length c.base) c → AreSteps steps → IsKeying k → sector < content_media k c
     → unit_readings k sector (sectors_now k sector (after steps c)) ≡ read k sector (last_writings k sector (cell c steps))
 now-reads c steps k sector content are is below =
     let last : ℕ → Writing = λ j. last_writing (cell c steps (unit_place k sector j)) in
@@ -139,7 +139,7 @@ only-stands c steps n p there w one (inr h) =
     absurd (omega (arith, h.1, count))
 
 pub settled-reads : (c : Content) (steps : List Step) (image : List (List ℕ)) (k : Keying) (sector j : ℕ) (p : PutUnit)
-    → IsContentOf (length c.base) c → AreSteps steps → IsKeying k → sector < media k c → j < units k → IsTorn (after steps c) image
+    → IsContentOf (length c.base) c → AreSteps steps → IsKeying k → sector < content_media k c → j < units k → IsTorn (after steps c) image
     → cell c steps (unit_place k sector j) ≡ Put p ∷ [] → Matches k sector j (Put p) p
     → ReadsAsPut k p (get_or (unit_readings k sector (sectors_in k sector image)) j (Ok []))
 settled-reads c steps image k sector j p content are is below lt torn one m =

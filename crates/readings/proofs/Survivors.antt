@@ -17,7 +17,7 @@ use Rattle.sealing.specs.Sectors.{unit_place, units, unit_readings}
 use Rattle.readings.specs.Writings.{PutUnit, Writing, Put, Raw, IsWriting, AreWritings, device_bytes, all_device_bytes}
 use Rattle.readings.specs.Steps.{Step, Place, Flush, event_of, events_of, after, last_writing, cell_after, cell}
 use Rattle.readings.specs.Read.{read, writing_in}
-use Rattle.readings.specs.Survivors.{sectors_in, media, moment, placed, AreSteps, chosen, IsOfCell, IsStrange, ReadFromCells}
+use Rattle.readings.specs.Survivors.{sectors_in, content_media, moment, placed, AreSteps, chosen, IsOfCell, IsStrange, ReadFromCells}
 use Rattle.readings.proofs.Cells.{kept_values-cell}
 use Rattle.readings.proofs.Forged.{same_bytes, found}
 use Rattle.readings.proofs.Readings.{unit_readings-read}
@@ -132,7 +132,7 @@ chosen-there c now steps choice image n is_now image_is small =
     )
 
 pub image-reads : (c now : Content) (steps : List Step) (choice : ℕ → ℕ) (image : List (List ℕ)) (k : Keying) (sector : ℕ) → now ≡ after steps c
-    → IsContentOf (length c.base) c → AreSteps steps → IsKeying k → sector < media k c → IsImage now choice image
+    → IsContentOf (length c.base) c → AreSteps steps → IsKeying k → sector < content_media k c → IsImage now choice image
     → unit_readings k sector (sectors_in k sector image) ≡ read k sector (chosen k sector (cell c steps) choice)
 image-reads c now steps choice image k sector is_now content are is below image_is =
     let ws : List Writing = chosen k sector (cell c steps) choice in
@@ -181,7 +181,7 @@ moment-after t steps c =
     (λ i. record { base = c.base; history = history i })
 
 pub image-reads_at : (c : Content) (steps : List Step) (t : ℕ) (choice : ℕ → ℕ) (image : List (List ℕ)) (k : Keying) (sector : ℕ)
-    → IsContentOf (length c.base) c → AreSteps steps → IsKeying k → sector < media k c → IsImage (moment t steps c) choice image
+    → IsContentOf (length c.base) c → AreSteps steps → IsKeying k → sector < content_media k c → IsImage (moment t steps c) choice image
     → unit_readings k sector (sectors_in k sector image) ≡ read k sector (chosen k sector (cell c (take t steps)) choice)
 image-reads_at c steps t choice image k sector content are is below image_is =
     image-reads c (moment t steps c) (take t steps) choice image k sector (moment-after t steps c) content (AreSteps-take t steps are) is below image_is
@@ -218,7 +218,7 @@ held-may ws there w may (inl kept) (inr h) =
 
 -- an image with sectors, in which each device sector of the logical sector has a kept value, or may be strange
 pub image-from_cells : (c : Content) (steps : List Step) (image : List (List ℕ)) (k : Keying) (sector : ℕ) (may : ℕ → Type 0)
-    → IsContentOf (length c.base) c → AreSteps steps → IsKeying k → sector < media k c → length image ≡ length c.base → All IsSector image
+    → IsContentOf (length c.base) c → AreSteps steps → IsKeying k → sector < content_media k c → length image ≡ length c.base → All IsSector image
     → ((n : ℕ) → n + 1 < length c.base → Contains (all_device_bytes (cell c steps n)) (get_or image n []) ⊎ may n)
     → ReadFromCells k sector (cell c steps) may image
 image-from_cells c steps image k sector may content are is below size sectors kept =
@@ -255,7 +255,7 @@ torn-may c now steps image n is_now (inl h) = inl (kept-cell c now steps n (get_
 torn-may c now steps image n is_now (inr h) = inr h
 
 pub torn-reads : (c now : Content) (steps : List Step) (image : List (List ℕ)) (k : Keying) (sector : ℕ) → now ≡ after steps c
-    → IsContentOf (length c.base) c → AreSteps steps → IsKeying k → sector < media k c → IsTorn now image
+    → IsContentOf (length c.base) c → AreSteps steps → IsKeying k → sector < content_media k c → IsTorn now image
     → ReadFromCells k sector (cell c steps) (IsUnsettled now) image
 torn-reads c now steps image k sector is_now content are is below torn =
     let base : length now.base ≡ length c.base = ap (λ (d : Content). length d.base) is_now in
@@ -263,13 +263,13 @@ torn-reads c now steps image k sector is_now content are is below torn =
     (λ n lt. torn-may c now steps image n is_now (torn.others n (omega arith)))
 
 pub torn-reads_at : (c : Content) (steps : List Step) (t : ℕ) (image : List (List ℕ)) (k : Keying) (sector : ℕ)
-    → IsContentOf (length c.base) c → AreSteps steps → IsKeying k → sector < media k c → IsTorn (moment t steps c) image
+    → IsContentOf (length c.base) c → AreSteps steps → IsKeying k → sector < content_media k c → IsTorn (moment t steps c) image
     → ReadFromCells k sector (cell c (take t steps)) (IsUnsettled (moment t steps c)) image
 torn-reads_at c steps t image k sector content are is below torn =
     torn-reads c (moment t steps c) (take t steps) image k sector (moment-after t steps c) content (AreSteps-take t steps are) is below torn
 
 pub altered-reads_at : (c : Content) (steps : List Step) (t : ℕ) (image : List (List ℕ)) (k : Keying) (sector : ℕ)
-    → IsContentOf (length c.base) c → AreSteps steps → IsKeying k → sector < media k c → IsAltered (moment t steps c) image
+    → IsContentOf (length c.base) c → AreSteps steps → IsKeying k → sector < content_media k c → IsAltered (moment t steps c) image
     → ReadFromCells k sector (cell c (take t steps)) (λ n. Unit {0}) image
 altered-reads_at c steps t image k sector content are is below altered =
     image-from_cells c (take t steps) image k sector (λ n. Unit {0}) content (AreSteps-take t steps are) is below altered.same.size altered.same.sectors

@@ -38,7 +38,8 @@ pub placed-places_from : (n : ℕ) (ws : List Writing) → placed (places_from n
 placed-places_from n [] = refl
 placed-places_from n (w ∷ ws) = ap (λ (l : List Writing). w ∷ l) (placed-places_from (n + 1) ws)
 
--- the writing is a unit of the write with this number, of bytes that stand at its sector's place among these, the first sector first
+-- the writing is a unit of the write with this number, of bytes that stand at its sector's place among these, the first
+-- sector first
 record IsOfWrite (number : ℕ) (k : Keying) (first : ℕ) (all : List ℕ) (w : Writing) : Type 0 where
   put : PutUnit
   is : w ≡ Put put

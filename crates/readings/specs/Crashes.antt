@@ -37,8 +37,8 @@ pub record HasFaultCause (k : Keying) (sector j : ℕ) (cells : ℕ → List Wri
 
 -- ---- a unit that is accepted
 
--- with authentication unit j of a logical sector is a fault; or it reads as a piece, namely as one of these writings, which is
--- accepted there and has its cipher text, or its bytes are forged
+-- with authentication unit j of a logical sector is a fault; or it reads as a piece, namely as one of these writings,
+-- which is accepted there and has its cipher text, or its bytes are forged
 abbrev pub FaultsOrIsKnownOrForged : Keying → ℕ → ℕ → List (List ℕ) → List Writing → Type 0
 FaultsOrIsKnownOrForged k sector j image known =
     let n = unit_place k sector j in let there = get_or image n [] in
@@ -63,11 +63,11 @@ pub record IsFlushed (steps : List Step) (n : ℕ) (w : Writing) : Type 0 where
   pub last : placed_at between n ≡ []
   pub still : placed_at since n ≡ []
 
--- What is promised of a logical sector under a keying, if power fails after the first t of these steps, on a disk that had
--- this content before. In an image in which each device sector is whole, it reads as the writings that the image chose from
--- the cells; in a torn one, as writings of the cells, or as strange bytes where a device sector has more than one kept
--- value; in an altered one, as those or any bytes. What was flushed as a unit of this logical sector reads so in each image that isn't
--- altered.
+-- What is promised of a logical sector under a keying, if power fails after the first t of these steps, on a disk that
+-- had this content before. In an image in which each device sector is whole, it reads as the writings that the image
+-- chose from the cells; in a torn one, as writings of the cells, or as strange bytes where a device sector has more
+-- than one kept value; in an altered one, as those or any bytes. What was flushed as a unit of this logical sector
+-- reads so in each image that isn't altered.
 pub record Endures (c : Content) (steps : List Step) (t : ℕ) (k : Keying) (sector : ℕ) : Type 0 where
   pub whole : (choice : ℕ → ℕ) (image : List (List ℕ)) → IsImage (moment t steps c) choice image →
       image_units k sector image ≡ read k sector (chosen k sector (cell c (take t steps)) choice)

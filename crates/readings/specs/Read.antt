@@ -58,17 +58,17 @@ abbrev pub loses_front : Keying → ℕ → Option PutUnit → PutUnit → Bool
 loses_front k j left p = are_chained k.cipher k.auth && (nat_lt 0 j && not (is_of_write p.number left))
 
 -- the bytes of a unit that opens
-abbrev pub bytes_of : Result (List ℕ) ℕ → List ℕ
-bytes_of (Ok bytes) = bytes
-bytes_of (Err offset) = []
+abbrev pub opened_bytes : Result (List ℕ) ℕ → List ℕ
+opened_bytes (Ok bytes) = bytes
+opened_bytes (Err offset) = []
 
 -- what unit j reads as, from what matches there, what matches in the unit before, and what the unit opens to: where
--- something matches it is that unit's plain bytes, but for the first 16 of a unit that loses its front; else it is what it
--- opens to, and only then it may be a fault
+-- something matches it is that unit's plain bytes, but for the first 16 of a unit that loses its front; else it is what
+-- it opens to, and only then it may be a fault
 abbrev pub unit_from : Keying → ℕ → Option PutUnit → Option PutUnit → Result (List ℕ) ℕ → Result (List ℕ) ℕ
 unit_from k j None left opened = opened
 unit_from k j (Some p) left opened =
-    Ok (if loses_front k j left p then take 16 (bytes_of opened) ++ drop 16 (plain_bytes p) else plain_bytes p)
+    Ok (if loses_front k j left p then take 16 (opened_bytes opened) ++ drop 16 (plain_bytes p) else plain_bytes p)
 
 -- what unit j of a logical sector reads as, where its device sectors hold these writings
 abbrev pub read_unit : Keying → ℕ → List Writing → ℕ → Result (List ℕ) ℕ

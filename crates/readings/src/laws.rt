@@ -1,4 +1,4 @@
-// What holds of writings, cells and readings, whatever the disk.
+//! What holds of writings, cells and readings, whatever the disk.
 ghost use Rattle.std.specs.Prelude.{◌≡◌, ◌≢◌, ◌↔◌, ◌⊎◌, ℕ, ◌+◌, ◌*◌, ◌<◌, ◌≤◌, [], ◌∷◌, ◌++◌, List, length, get_or, take, Some, None, Ok, Err, All, Contains};
 ghost use Rattle.aes_core.specs.Schedule.{AreBytes};
 ghost use Rattle.block_traits.specs.declared.disk.Event.{Event};
@@ -12,7 +12,7 @@ ghost use Rattle.sealing.specs.Sectors.{piece_reading, seal, unit_readings, unit
 ghost use Rattle.readings.specs.Writings.{AreWritings, Put, PutUnit, Writing, all_device_bytes};
 ghost use Rattle.readings.specs.Steps.{Flush, Place, Step, after, cell, events_of};
 ghost use Rattle.readings.specs.Read.{Matches, matching, opened_unit, read, read_unit, writing_in};
-ghost use Rattle.readings.specs.Survivors.{AreSteps, ReadFromCells, ReadsAsPut, chosen, media, moment, sectors_in, sectors_now, last_writings};
+ghost use Rattle.readings.specs.Survivors.{AreSteps, ReadFromCells, ReadsAsPut, chosen, content_media, moment, sectors_in, sectors_now, last_writings};
 ghost use Rattle.readings.specs.Writes.{AreStepsBelow, data_steps, puts_of, raw_steps};
 ghost use Rattle.readings.specs.Crashes.{Endures};
 ghost use Rattle.readings.specs.Ever.{CollidesWithOneOf, HasNewTag, IsForged, ReadsAsOneOf, cipher_text_at, ever, placed_at};
@@ -73,7 +73,7 @@ pub fn forged_pieces_are_new_tags_or_collisions()
 /// the image chose from the cells.
 pub fn image_reads_as_chosen()
     ensures { (c : Content) (steps : List Step) (t : ℕ) (choice : ℕ → ℕ) (image : List (List ℕ)) (k : Keying) (sector : ℕ) →
-        IsContentOf (length c.base) c → AreSteps steps → IsKeying k → sector < media k c →
+        IsContentOf (length c.base) c → AreSteps steps → IsKeying k → sector < content_media k c →
         IsImage (moment t steps c) choice image →
         unit_readings k sector (sectors_in k sector image) ≡ read k sector (chosen k sector (cell c (take t steps)) choice) }
 {}
@@ -82,7 +82,7 @@ pub fn image_reads_as_chosen()
 /// more than one kept value.
 pub fn torn_image_reads_from_cells()
     ensures { (c : Content) (steps : List Step) (t : ℕ) (image : List (List ℕ)) (k : Keying) (sector : ℕ) →
-        IsContentOf (length c.base) c → AreSteps steps → IsKeying k → sector < media k c →
+        IsContentOf (length c.base) c → AreSteps steps → IsKeying k → sector < content_media k c →
         IsTorn (moment t steps c) image →
         ReadFromCells k sector (cell c (take t steps)) (IsUnsettled (moment t steps c)) image }
 {}
@@ -90,7 +90,7 @@ pub fn torn_image_reads_from_cells()
 /// In an altered image each logical sector reads as writings of the cells, or of strange bytes.
 pub fn altered_image_reads_from_cells()
     ensures { (c : Content) (steps : List Step) (t : ℕ) (image : List (List ℕ)) (k : Keying) (sector : ℕ) →
-        IsContentOf (length c.base) c → AreSteps steps → IsKeying k → sector < media k c →
+        IsContentOf (length c.base) c → AreSteps steps → IsKeying k → sector < content_media k c →
         IsAltered (moment t steps c) image →
         ReadFromCells k sector (cell c (take t steps)) (λ n. Unit {0}) image }
 {}
@@ -98,7 +98,7 @@ pub fn altered_image_reads_from_cells()
 /// As the disk stands after some steps, each logical sector reads as the last writings of the cells.
 pub fn sectors_read_as_they_stand()
     ensures { (c : Content) (steps : List Step) (k : Keying) (sector : ℕ) →
-        IsContentOf (length c.base) c → AreSteps steps → IsKeying k → sector < media k c →
+        IsContentOf (length c.base) c → AreSteps steps → IsKeying k → sector < content_media k c →
         unit_readings k sector (sectors_now k sector (after steps c)) ≡ read k sector (last_writings k sector (cell c steps)) }
 {}
 
@@ -112,7 +112,7 @@ pub fn flushed_writing_is_alone()
 /// A unit that is alone in its cell reads as it was put in every image that isn't altered.
 pub fn settled_unit_reads_as_put()
     ensures { (c : Content) (steps : List Step) (image : List (List ℕ)) (k : Keying) (sector j : ℕ) (p : PutUnit) →
-        IsContentOf (length c.base) c → AreSteps steps → IsKeying k → sector < media k c → j < units k →
+        IsContentOf (length c.base) c → AreSteps steps → IsKeying k → sector < content_media k c → j < units k →
         IsTorn (after steps c) image → cell c steps (unit_place k sector j) ≡ Put p ∷ [] → Matches k sector j (Put p) p →
         ReadsAsPut k p (get_or (unit_readings k sector (sectors_in k sector image)) j (Ok [])) }
 {}
@@ -166,9 +166,9 @@ pub fn other_steps_fit()
     ensures first { (next t : ℕ) (steps : List Step) → AreStepsBelow next steps → AreStepsBelow next (take t steps) }
 {}
 
-/// If power fails after any of some steps, each logical sector under each keying keeps what `Endures` promises of every image
-/// that is left: whole, torn or altered.
+/// If power fails after any of some steps, each logical sector under each keying keeps what `Endures` promises of every
+/// image that is left: whole, torn or altered.
 pub fn steps_endure_crashes()
     ensures { (c : Content) (steps : List Step) (t : ℕ) (k : Keying) (sector : ℕ) →
-        IsContentOf (length c.base) c → AreSteps steps → IsKeying k → sector < media k c → Endures c steps t k sector }
+        IsContentOf (length c.base) c → AreSteps steps → IsKeying k → sector < content_media k c → Endures c steps t k sector }
 {}

@@ -8,7 +8,8 @@ abbrev pub Prints : List ℕ → SinkState → Result (Unit {0}) WriteEnd → Si
 Prints text old (Ok done) new = TookAll text old new
 Prints text old (Err failed) new = TookPart text old new
 
--- the text was put behind those that a page held: the sink took the first bytes of them all, and the page holds the others
+-- the text was put behind those that a page held: the sink took the first bytes of them all, and the page holds the
+-- others
 pub record PutsAll (text held : List ℕ) (old : SinkState) (left : List ℕ) (new : SinkState) : Type 0 where
   pub given : List ℕ
   pub split : held ++ text ≡ given ++ left

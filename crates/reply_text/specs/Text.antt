@@ -91,67 +91,67 @@ refusal_name (refusals.BadPlaceFile word length) = codes "BadPlaceFile"
 unfoldable pub field : List ℕ → List ℕ
 field text = 32 ∷ text
 
-unfoldable pub number_fields : List ℕ → List ℕ
-number_fields numbers = concat (map (λ number. field (decimal number)) numbers)
+unfoldable pub decimal_fields : List ℕ → List ℕ
+decimal_fields numbers = concat (map (λ number. field (decimal number)) numbers)
 
 -- the fields of a refusal in order: the numbers that it carries, and of `Usage` the reason behind its number
 abbrev pub refusal_fields : Refusal → List ℕ
-refusal_fields (refusals.Usage word reason) = number_fields (word ∷ []) ++ field (reason_name reason)
+refusal_fields (refusals.Usage word reason) = decimal_fields (word ∷ []) ++ field (reason_name reason)
 refusal_fields refusals.UnknownProvider = []
 refusal_fields refusals.NotAttached = []
 refusal_fields refusals.StillAttached = []
 refusal_fields refusals.BadMagic = []
-refusal_fields (refusals.BadVersion found) = number_fields (found ∷ [])
+refusal_fields (refusals.BadVersion found) = decimal_fields (found ∷ [])
 refusal_fields refusals.BadHash = []
-refusal_fields (refusals.BadSize kept found) = number_fields (kept ∷ found ∷ [])
-refusal_fields (refusals.UnsupportedCipher found) = number_fields (found ∷ [])
-refusal_fields (refusals.UnsupportedAuth found) = number_fields (found ∷ [])
-refusal_fields (refusals.BadKeyLength found) = number_fields (found ∷ [])
-refusal_fields (refusals.BadSectorSize found) = number_fields (found ∷ [])
-refusal_fields (refusals.UnsupportedFlags mask) = number_fields (mask ∷ [])
+refusal_fields (refusals.BadSize kept found) = decimal_fields (kept ∷ found ∷ [])
+refusal_fields (refusals.UnsupportedCipher found) = decimal_fields (found ∷ [])
+refusal_fields (refusals.UnsupportedAuth found) = decimal_fields (found ∷ [])
+refusal_fields (refusals.BadKeyLength found) = decimal_fields (found ∷ [])
+refusal_fields (refusals.BadSectorSize found) = decimal_fields (found ∷ [])
+refusal_fields (refusals.UnsupportedFlags mask) = decimal_fields (mask ∷ [])
 refusal_fields refusals.NoValidKeys = []
 refusal_fields refusals.WrongKey = []
 refusal_fields refusals.NoKeyComponents = []
 refusal_fields refusals.PassphraseNotSet = []
-refusal_fields (refusals.KeyNumberOutOfRange given) = number_fields (given ∷ [])
-refusal_fields (refusals.KeyNotSet slot) = number_fields (slot ∷ [])
-refusal_fields (refusals.LastKey slot) = number_fields (slot ∷ [])
+refusal_fields (refusals.KeyNumberOutOfRange given) = decimal_fields (given ∷ [])
+refusal_fields (refusals.KeyNotSet slot) = decimal_fields (slot ∷ [])
+refusal_fields (refusals.LastKey slot) = decimal_fields (slot ∷ [])
 refusal_fields refusals.IterationsNeedOneKey = []
 refusal_fields refusals.PassphraseNeeded = []
-refusal_fields (refusals.OutOfRange sector count media) = number_fields (sector ∷ count ∷ media ∷ [])
+refusal_fields (refusals.OutOfRange sector count media) = decimal_fields (sector ∷ count ∷ media ∷ [])
 refusal_fields refusals.ReadOnly = []
-refusal_fields (refusals.Integrity offset) = number_fields (offset ∷ [])
+refusal_fields (refusals.Integrity offset) = decimal_fields (offset ∷ [])
 refusal_fields refusals.DeviceFault = []
-refusal_fields (refusals.FileAbsent word) = number_fields (word ∷ [])
-refusal_fields (refusals.CabinetFault word) = number_fields (word ∷ [])
+refusal_fields (refusals.FileAbsent word) = decimal_fields (word ∷ [])
+refusal_fields (refusals.CabinetFault word) = decimal_fields (word ∷ [])
 refusal_fields refusals.EntropyFault = []
-refusal_fields (refusals.FileTooLong word limit) = number_fields (word ∷ limit ∷ [])
-refusal_fields (refusals.BackupTooShort length) = number_fields (length ∷ [])
-refusal_fields (refusals.OldSizeMismatch kept given) = number_fields (kept ∷ given ∷ [])
+refusal_fields (refusals.FileTooLong word limit) = decimal_fields (word ∷ limit ∷ [])
+refusal_fields (refusals.BackupTooShort length) = decimal_fields (length ∷ [])
+refusal_fields (refusals.OldSizeMismatch kept given) = decimal_fields (kept ∷ given ∷ [])
 refusal_fields refusals.NoMemory = []
-refusal_fields (refusals.NotGrown size given) = number_fields (size ∷ given ∷ [])
-refusal_fields (refusals.TooSmall size) = number_fields (size ∷ [])
-refusal_fields (refusals.BadLength given sectorsize) = number_fields (given ∷ sectorsize ∷ [])
+refusal_fields (refusals.NotGrown size given) = decimal_fields (size ∷ given ∷ [])
+refusal_fields (refusals.TooSmall size) = decimal_fields (size ∷ [])
+refusal_fields (refusals.BadLength given sectorsize) = decimal_fields (given ∷ sectorsize ∷ [])
 refusal_fields refusals.KeyNumberNeeded = []
 refusal_fields refusals.QueueFull = []
-refusal_fields (refusals.NoRequest tag) = number_fields (tag ∷ [])
-refusal_fields (refusals.RequestNotDone tag left) = number_fields (tag ∷ left ∷ [])
-refusal_fields (refusals.RequestDone tag) = number_fields (tag ∷ [])
-refusal_fields (refusals.RequestsOpen count) = number_fields (count ∷ [])
+refusal_fields (refusals.NoRequest tag) = decimal_fields (tag ∷ [])
+refusal_fields (refusals.RequestNotDone tag left) = decimal_fields (tag ∷ left ∷ [])
+refusal_fields (refusals.RequestDone tag) = decimal_fields (tag ∷ [])
+refusal_fields (refusals.RequestsOpen count) = decimal_fields (count ∷ [])
 refusal_fields refusals.Suspended = []
 refusal_fields refusals.NotSuspended = []
 refusal_fields refusals.DifferentKey = []
-refusal_fields (refusals.BadPlace place media) = number_fields (place ∷ media ∷ [])
+refusal_fields (refusals.BadPlace place media) = decimal_fields (place ∷ media ∷ [])
 refusal_fields refusals.NotAuthenticated = []
-refusal_fields (refusals.BadPlaceFile word length) = number_fields (word ∷ length ∷ [])
+refusal_fields (refusals.BadPlaceFile word length) = decimal_fields (word ∷ length ∷ [])
 
 -- the text of the fields that the code takes from a refusal
 abbrev pub fields_text : Fields → List ℕ
 fields_text fields.Nothing = []
-fields_text (fields.One a) = number_fields (a ∷ [])
-fields_text (fields.Two a b) = number_fields (a ∷ b ∷ [])
-fields_text (fields.Three a b c) = number_fields (a ∷ b ∷ c ∷ [])
-fields_text (fields.Usage word reason) = number_fields (word ∷ []) ++ field (reason_name reason)
+fields_text (fields.One a) = decimal_fields (a ∷ [])
+fields_text (fields.Two a b) = decimal_fields (a ∷ b ∷ [])
+fields_text (fields.Three a b c) = decimal_fields (a ∷ b ∷ c ∷ [])
+fields_text (fields.Usage word reason) = decimal_fields (word ∷ []) ++ field (reason_name reason)
 
 -- `error `, the number and the name
 abbrev pub refusal_head : Refusal → List ℕ
@@ -194,7 +194,7 @@ bytes_text bytes = codes "ok " ++ encode_lower bytes ++ (10 ∷ [])
 
 -- the bytes of a logical sector, and how many of them there are
 abbrev pub sizes_of : Row → List ℕ
-sizes_of row = number_fields (row.sectorsize ∷ row.sectors ∷ [])
+sizes_of row = decimal_fields (row.sectorsize ∷ row.sectors ∷ [])
 
 -- what a drawer is: suspended or attached, with its sizes, or idle
 abbrev pub row_state : Row → List ℕ
@@ -219,7 +219,7 @@ numbers_in (suc count) bytes = from_le_bytes w64 (take 8 bytes) ∷ numbers_in c
 
 -- a word, numbers and a newline
 abbrev pub numbers_line : List ℕ → List ℕ → List ℕ
-numbers_line word numbers = word ++ number_fields numbers ++ (10 ∷ [])
+numbers_line word numbers = word ++ decimal_fields numbers ++ (10 ∷ [])
 
 -- a line for a unit that fails, at this byte offset
 abbrev pub bad_line : ℕ → List ℕ

@@ -1,4 +1,4 @@
-// Bytes in hexadecimal.
+//! Bytes in hexadecimal.
 ghost use Rattle.std.specs.Prelude.{◌≡◌, ◌++◌, ◌≤◌, ◌∷◌, [], length, codes};
 ghost use Rattle.hex.specs.Hex.{encode_lower};
 ghost use Rattle.reply_text.specs.Output.{Puts};

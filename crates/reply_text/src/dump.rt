@@ -1,4 +1,4 @@
-// The metadata, line by line.
+//! The metadata, line by line.
 ghost use Rattle.std.specs.Prelude.{◌≡◌, ◌*◌, length, codes, false};
 ghost use Rattle.std.specs.Fmt.{decimal, signed_decimal, digits};
 ghost use Rattle.hex.specs.Hex.{encode_lower};

@@ -1,4 +1,4 @@
-// A number in lower-case hexadecimal, without leading zeros.
+//! A number in lower-case hexadecimal, without leading zeros.
 ghost use Rattle.std.specs.Prelude.{◌≡◌, ◌<◌, ◌≤◌, drop, false};
 ghost use Rattle.std.specs.Fmt.{digits, digit_glyph};
 

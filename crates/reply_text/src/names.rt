@@ -1,4 +1,4 @@
-// The names of refusals and of reasons, as they are printed.
+//! The names of refusals and of reasons, as they are printed.
 ghost use Rattle.std.specs.Prelude.{◌≡◌};
 ghost use Rattle.reply_text.specs.Text.{reason_name, refusal_name};
 

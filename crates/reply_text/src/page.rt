@@ -1,4 +1,4 @@
-// A page on which texts are gathered, so that the sink is given few pieces.
+//! A page on which texts are gathered, so that the sink is given few pieces.
 ghost use Rattle.std.specs.Prelude.{◌≡◌, [], OnOk};
 ghost use Rattle.reply_text.specs.Output.{Prints, Puts};
 

@@ -1,7 +1,7 @@
-// What is answered to a command, and how it is printed.
+//! What is answered to a command, and how it is printed.
 ghost use Rattle.std.specs.Prelude.{◌≡◌, ◌++◌, ◌∷◌, [], length};
 ghost use Rattle.reply_text.specs.Output.{Prints, Puts};
-ghost use Rattle.reply_text.specs.Text.{FitsPayload, reply_text, list_text, refusal_text, refusal_fields, fields_text, number_fields, numbers_line, reason_name, refusal_head, field};
+ghost use Rattle.reply_text.specs.Text.{FitsPayload, reply_text, list_text, refusal_text, refusal_fields, fields_text, decimal_fields, numbers_line, reason_name, refusal_head, field};
 ghost use Rattle.std.specs.Fmt.{decimal};
 
 use crate::WriteEnd;
@@ -197,7 +197,7 @@ pub(crate) fn write_numbers<K: Sink, const N: usize>(
     page: &mut Page<N>,
     output: &mut K,
 ) -> Result<(), WriteEnd>
-    ensures { Puts (number_fields numbers.now) page.old.items (K.state output.old) result page.new.items (K.state output.new) }
+    ensures { Puts (decimal_fields numbers.now) page.old.items (K.state output.old) result page.new.items (K.state output.new) }
 {
     for number in numbers {
         write_number_field(*number, page, output)?;
@@ -226,7 +226,7 @@ fn write_usage<K: Sink, const N: usize>(
     page: &mut Page<N>,
     output: &mut K,
 ) -> Result<(), WriteEnd>
-    ensures { Puts (number_fields (word ∷ []) ++ field (reason_name reason)) page.old.items (K.state output.old) result page.new.items (K.state output.new) }
+    ensures { Puts (decimal_fields (word ∷ []) ++ field (reason_name reason)) page.old.items (K.state output.old) result page.new.items (K.state output.new) }
 {
     write_numbers(&[word.into()], page, output)?;
     write_field(reason_name(reason), page, output)

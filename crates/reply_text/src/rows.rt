@@ -1,4 +1,4 @@
-// The drawers, one on each line.
+//! The drawers, one on each line.
 ghost use Rattle.std.specs.Prelude.{◌≡◌, ◌++◌, codes, ◌∷◌, [], map};
 ghost use Rattle.std.specs.List.{concat};
 ghost use Rattle.reply_text.specs.Output.{Puts};
@@ -82,7 +82,7 @@ fn write_row<K: Sink, const N: usize>(
     put(b"\n", page, output)
 }
 
-// A state, and the bytes of a logical sector and how many there are.
+// The name of a drawer's state, the bytes of a logical sector, and how many there are.
 fn write_sizes<K: Sink, const N: usize>(
     state: &[u8],
     row: &Row,

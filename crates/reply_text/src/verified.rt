@@ -1,4 +1,4 @@
-// The units that a sweep lists, one on each line.
+//! The units that a sweep lists, one on each line.
 ghost use Rattle.std.specs.Prelude.{◌≡◌, ◌+◌, ◌*◌, ◌≤◌, length, take, drop};
 ghost use Rattle.std.specs.Int.{from_le_bytes, w64};
 ghost use Rattle.reply_text.specs.Output.{Puts};

@@ -21,12 +21,12 @@ use Rattle.block_traits.proofs.Logs.{FailsIn-then, Logs-then}
 use Rattle.block_traits.proofs.Overwritten.{WritesHere-overwrite}
 use Rattle.eli_base.specs.declared.refusals.Refusal.{Refusal}
 use Rattle.eli_base.specs.declared.refusals.Refusal.TheVariants as refusals
-use Rattle.eli_metadata.specs.Format.{IsInRange, IsWhole, encoded, fields, is_served, magic, metadata_in, number_at}
+use Rattle.eli_metadata.specs.Format.{HasFieldsInRange, IsWhole, encoded, fields, is_served, magic, metadata_in, number_at}
 use Rattle.eli_metadata.specs.Place.{IsSectorOf}
 use Rattle.eli_metadata.specs.declared.metadata.MetaFault.{MetaFault}
 use Rattle.eli_metadata.specs.declared.metadata.Metadata.{Metadata}
 use Rattle.eli_metadata.proofs.Laws.{flags-fields, metadata_in-encoded, version-fields}
-use Rattle.resize_kill.specs.Resizing.{FindsMetadata, HoldsOneOf, KeepsOneOf, Moves, MovesPart, Prepares, grown, move_events, old_place, size_refusal}
+use Rattle.resize_kill.specs.Resizing.{FindsOldMetadata, HoldsOneOf, KeepsOneOf, Moves, MovesPart, Prepares, grown, move_events, old_place, size_refusal}
 use Rattle.resize_kill.specs.Trash.{TakesTrash, trash_sectors}
 
 -- the events of a move
@@ -145,7 +145,7 @@ events_before : (place : ℕ) (new : Metadata) (random : List ℕ) (disk middle 
 events_before place new random disk middle same =
     ap (λ (n : ℕ). Flush ∷ Write (n - 1) (encoded new) ∷ Flush ∷ overwrite_events place (trash_sectors random)) same
 
-prepared : (oldsize : ℕ) (disk middle : DiskState) (entropy entropy' : EntropyState) (old : Metadata) (random : List ℕ) → size_refusal disk.size oldsize ≡ None → FindsMetadata (old_place oldsize) oldsize disk old middle
+prepared : (oldsize : ℕ) (disk middle : DiskState) (entropy entropy' : EntropyState) (old : Metadata) (random : List ℕ) → size_refusal disk.size oldsize ≡ None → FindsOldMetadata (old_place oldsize) oldsize disk old middle
     → TakesTrash random entropy entropy' → IsWhole old → Prepares oldsize disk entropy old random entropy'
 prepared oldsize disk middle entropy entropy' old random sizes found takes fits = record {
   sizes = sizes;
@@ -160,7 +160,7 @@ prepared oldsize disk middle entropy entropy' old random sizes found takes fits 
 
 -- what the parts of a move did is what it did
 pub moves : (oldsize : ℕ) (disk middle disk' : DiskState) (entropy entropy' : EntropyState) (old : Metadata) (random : List ℕ) → size_refusal disk.size oldsize ≡ None
-    → FindsMetadata (old_place oldsize) oldsize disk old middle → TakesTrash random entropy entropy' → IsWhole old
+    → FindsOldMetadata (old_place oldsize) oldsize disk old middle → TakesTrash random entropy entropy' → IsWhole old
     → Logs (move_events middle (old_place oldsize) (grown old disk.size) random) middle disk' → disk'.reads ≡ middle.reads → Moves oldsize disk entropy disk' entropy'
 moves oldsize disk middle disk' entropy entropy' old random sizes found takes fits logs unasked =
     let P : List Event → Type 0 = λ es. Logs es middle disk' in
@@ -174,7 +174,7 @@ moves oldsize disk middle disk' entropy entropy' old random sizes found takes fi
     }
 
 pub moves_part : (oldsize : ℕ) (disk middle disk' : DiskState) (entropy entropy' : EntropyState) (old : Metadata) (random : List ℕ) → size_refusal disk.size oldsize ≡ None
-    → FindsMetadata (old_place oldsize) oldsize disk old middle → TakesTrash random entropy entropy' → IsWhole old
+    → FindsOldMetadata (old_place oldsize) oldsize disk old middle → TakesTrash random entropy entropy' → IsWhole old
     → FailsIn (move_events middle (old_place oldsize) (grown old disk.size) random) middle disk' → disk'.reads ≡ middle.reads → MovesPart oldsize disk entropy disk' entropy'
 moves_part oldsize disk middle disk' entropy entropy' old random sizes found takes fits fails unasked =
     let P : List Event → Type 0 = λ es. FailsIn es middle disk' in
@@ -248,7 +248,7 @@ is_served-read bytes m e =
     let version : is_served (fields bytes).version (fields bytes).flags ≡ true = rw (← version-fields bytes, ← flags-fields bytes) both.0 in
     subst (λ (x : Metadata). is_served x.version x.flags ≡ true) both.1 version
 
-grown_fits : (old : Metadata) (sectors : ℕ) → IsInRange old → sectors < 2 ^ 44 → IsInRange (grown old sectors)
+grown_fits : (old : Metadata) (sectors : ℕ) → HasFieldsInRange old → sectors < 2 ^ 44 → HasFieldsInRange (grown old sectors)
 grown_fits old sectors range small = record {
   version = range.version;
   flags = range.flags;

@@ -41,13 +41,13 @@ pub record DestroysPart (disk : DiskState) (entropy : EntropyState) (disk' : Dis
   pub unasked : disk'.reads ≡ disk.reads
 
 -- there were no random bytes, and the disk is as it was
-pub record HasNoTrash (disk : DiskState) (entropy : EntropyState) (disk' : DiskState) (entropy' : EntropyState) : Type 0 where
+pub record KillsNothing (disk : DiskState) (entropy : EntropyState) (disk' : DiskState) (entropy' : EntropyState) : Type 0 where
   pub enough : 2 ≤ disk.size
   pub none : TakesNone entropy entropy'
   pub unchanged : disk' ≡ disk
 
 -- there are fewer than two device sectors, and nothing was done; the size is in bytes
-pub record HasNoRoom (disk : DiskState) (entropy : EntropyState) (size : ℕ) (disk' : DiskState) (entropy' : EntropyState) : Type 0 where
+pub record IsTooSmallToKill (disk : DiskState) (entropy : EntropyState) (size : ℕ) (disk' : DiskState) (entropy' : EntropyState) : Type 0 where
   pub small : disk.size < 2
   pub bytes : size ≡ 512 * disk.size
   pub disk_unchanged : disk' ≡ disk
@@ -56,6 +56,6 @@ pub record HasNoRoom (disk : DiskState) (entropy : EntropyState) (size : ℕ) (d
 abbrev pub Kills : DiskState → EntropyState → Result (Unit {0}) Refusal → DiskState → EntropyState → Type 0
 Kills disk entropy (Ok _) disk' entropy' = Destroys disk entropy disk' entropy'
 Kills disk entropy (Err DeviceFault) disk' entropy' = DestroysPart disk entropy disk' entropy'
-Kills disk entropy (Err EntropyFault) disk' entropy' = HasNoTrash disk entropy disk' entropy'
-Kills disk entropy (Err (TooSmall size)) disk' entropy' = HasNoRoom disk entropy size disk' entropy'
+Kills disk entropy (Err EntropyFault) disk' entropy' = KillsNothing disk entropy disk' entropy'
+Kills disk entropy (Err (TooSmall size)) disk' entropy' = IsTooSmallToKill disk entropy size disk' entropy'
 Kills disk entropy (Err _) disk' entropy' = ⊥

@@ -58,7 +58,7 @@ pub record FailsToFind (disk disk' : DiskState) : Type 0 where
   pub asked : Counted 1 disk.reads disk'.reads
 
 -- it was read as metadata of the old size
-pub record FindsMetadata (place oldsize : ℕ) (disk : DiskState) (m : Metadata) (disk' : DiskState) : Type 0 where
+pub record FindsOldMetadata (place oldsize : ℕ) (disk : DiskState) (m : Metadata) (disk' : DiskState) : Type 0 where
   pub finds : Finds place disk (Ok m) disk'
   pub size : m.provsize ≡ oldsize
 
@@ -69,7 +69,7 @@ pub record FindsOther (place oldsize : ℕ) (disk : DiskState) (refusal : Refusa
   pub cause : old_refusal found oldsize ≡ Some refusal
 
 abbrev pub FindsOld : ℕ → ℕ → DiskState → Result Metadata Refusal → DiskState → Type 0
-FindsOld place oldsize disk (Ok m) disk' = FindsMetadata place oldsize disk m disk'
+FindsOld place oldsize disk (Ok m) disk' = FindsOldMetadata place oldsize disk m disk'
 FindsOld place oldsize disk (Err DeviceFault) disk' = FailsToFind disk disk'
 FindsOld place oldsize disk (Err refusal) disk' = FindsOther place oldsize disk refusal disk'
 
@@ -122,10 +122,10 @@ pub record CannotRead (oldsize : ℕ) (disk : DiskState) (entropy : EntropyState
   pub unchanged : entropy' ≡ entropy
 
 -- there were no random bytes, and the disk has no event
-pub record HasNoTrash (oldsize : ℕ) (disk : DiskState) (entropy : EntropyState) (disk' : DiskState) (entropy' : EntropyState) : Type 0 where
+pub record MovesNothing (oldsize : ℕ) (disk : DiskState) (entropy : EntropyState) (disk' : DiskState) (entropy' : EntropyState) : Type 0 where
   pub sizes : size_refusal disk.size oldsize ≡ None
   pub old : Metadata
-  pub finds : FindsMetadata (old_place oldsize) oldsize disk old disk'
+  pub finds : FindsOldMetadata (old_place oldsize) oldsize disk old disk'
   pub none : TakesNone entropy entropy'
 
 -- the sizes are refused, and nothing was done
@@ -143,5 +143,5 @@ pub record RefusesOld (oldsize : ℕ) (disk : DiskState) (entropy : EntropyState
 abbrev pub Resizes : ℕ → DiskState → EntropyState → Result (Unit {0}) Refusal → DiskState → EntropyState → Type 0
 Resizes oldsize disk entropy (Ok _) disk' entropy' = Moves oldsize disk entropy disk' entropy'
 Resizes oldsize disk entropy (Err DeviceFault) disk' entropy' = CannotRead oldsize disk entropy disk' entropy' ⊎ MovesPart oldsize disk entropy disk' entropy'
-Resizes oldsize disk entropy (Err EntropyFault) disk' entropy' = HasNoTrash oldsize disk entropy disk' entropy'
+Resizes oldsize disk entropy (Err EntropyFault) disk' entropy' = MovesNothing oldsize disk entropy disk' entropy'
 Resizes oldsize disk entropy (Err refusal) disk' entropy' = RefusesSizes oldsize disk entropy refusal disk' entropy' ⊎ RefusesOld oldsize disk entropy refusal disk' entropy'

@@ -4,8 +4,8 @@ use Rattle.block_traits.specs.Overwriting.{zeros, passes_of}
 use Rattle.block_traits.specs.Streams.{EntropyState, Takes}
 
 -- five times 496 bytes
-abbrev pub random_size : ℕ
-random_size = 2480
+abbrev pub trash_size : ℕ
+trash_size = 2480
 
 -- a sector with zeros in place of the magic, and these bytes behind them
 abbrev pub without_magic : List ℕ → List ℕ
@@ -17,5 +17,5 @@ trash_sectors random = map without_magic (passes_of 496 random)
 
 -- these are the random bytes of the passes, which were taken in one call
 pub record TakesTrash (random : List ℕ) (old new : EntropyState) : Type 0 where
-  pub size : length random ≡ random_size
+  pub size : length random ≡ trash_size
   pub taken : Takes random old new

@@ -11,7 +11,7 @@ use Rattle.eli_base.specs.Units.{tag_bytes}
 use Rattle.aes_core.specs.Schedule.{IsKey, IsKeyLength}
 use Rattle.aes_core.proofs.Inverse.{IsState}
 use Rattle.aes_core.proofs.KeyBytes.{AreBytes-take}
-use Rattle.hmac_kdf.proofs.Bytes.{AreBytes-sha256, AreBytes-hmac512}
+use Rattle.hmac_kdf.proofs.Bytes.{AreSoManyBytes-sha256, AreSoManyBytes-hmac512}
 use Rattle.hmac_kdf.proofs.Lengths.{length-hmac256, length-hmac384, length-hmac512}
 use Rattle.range_keys.specs.Keys.{range_key, first_key, iv, iv_key, le64, key_bytes}
 use Rattle.range_keys.specs.Ring.{IsKeying}
@@ -35,14 +35,14 @@ key_long keylen range long h = elim h [
 pub IsKey-first_key : (k : Keying) (offset : ℕ) → IsKeying k → IsKey (first_key k offset)
 IsKey-first_key k offset is = record {
   long = key_long k.keylen (range_key k offset) (length-hmac512 _ _) (bits_of k.cipher k.keylen is.allowed);
-  bytes = AreBytes-take (key_bytes k.keylen) (range_key k offset) (AreBytes-hmac512 _ _).small;
+  bytes = AreBytes-take (key_bytes k.keylen) (range_key k offset) (AreSoManyBytes-hmac512 _ _).small;
 }
 
 pub IsState-iv : (k : Keying) (offset : ℕ) → IsState (iv k offset)
 IsState-iv k offset =
     let all : List ℕ = sha256 (iv_key k.master ++ le64 offset) in
     let long : length all ≡ 32 = length-sha256 _ in
-    record { long = length-take-le 16 all (omega arith); bytes = AreBytes-take 16 all (AreBytes-sha256 _).small }
+    record { long = length-take-le 16 all (omega arith); bytes = AreBytes-take 16 all (AreSoManyBytes-sha256 _).small }
 
 pub length-hmac_of : (auth : Auth) (key message : List ℕ) → length (hmac_of auth key message) ≡ tag_bytes auth
 length-hmac_of Off key message = refl

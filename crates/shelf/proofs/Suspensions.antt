@@ -8,9 +8,9 @@ use Rattle.command_rows.specs.World.{Attachment, IsSuspended, Reach}
 use Rattle.command_rows.specs.verbs.Suspend.{SuspendRow, Suspends, if_none_open, kept_by}
 use Rattle.provider.specs.Attached.{Attached}
 use Rattle.shelf.specs.Shelved.{attachment_of, kept_of}
-use Rattle.suspend.specs.Suspension.{KeepsOf, Suspension}
+use Rattle.suspend.specs.Suspension.{KeepsOfProvider, Suspension}
 
-pub kept_of_provider : {D : Type 0} (state : D → DiskState) (queue : List Request) (p : Attached D) (s : Suspension D) → KeepsOf state p s → IsSuspended (kept_of s) ≡ IsSuspended (kept_by (attachment_of queue p) (state p.disk))
+pub kept_of_provider : {D : Type 0} (state : D → DiskState) (queue : List Request) (p : Attached D) (s : Suspension D) → KeepsOfProvider state p s → IsSuspended (kept_of s) ≡ IsSuspended (kept_by (attachment_of queue p) (state p.disk))
 kept_of_provider state queue p s keeps = cc (keeps.sectorsize, keeps.sectors, keeps.slot, keeps.readonly, keeps.mark)
 
 pub kept_same : {D : Type 0} (old new : Suspension D) → new.slot ≡ old.slot → new.sectorsize ≡ old.sectorsize → new.sectors ≡ old.sectors → new.readonly ≡ old.readonly → new.mark ≡ old.mark → kept_of new ≡ kept_of old

@@ -14,7 +14,7 @@ use Rattle.eli_base.specs.Keying.{Keying}
 use Rattle.eli_base.specs.Units.{media_sectors}
 use Rattle.eli_base.specs.declared.refusals.Refusal.{Refusal}
 use Rattle.eli_base.specs.declared.refusals.Refusal.TheVariants as refusals
-use Rattle.key_components.specs.Answers.{IsAnswer, KeepsFiles, MayRefuse, file_answer, word_of}
+use Rattle.key_components.specs.Answers.{IsAnswer, KeepsFiles, MayRefuse, file_answer, refused_word}
 use Rattle.provider.specs.Attached.{Attached, IsKept, has_tags, media}
 use Rattle.provider.specs.Reads.{FailsAmong}
 use Rattle.range_keys.specs.Keys.{le64}
@@ -83,7 +83,7 @@ few_offsets k there place count bad before buffer old new h =
 -- ---- the file
 
 place_load : (line : List ℕ) (file : Span) (disk : DiskState) (holding : Holding) (entropy : EntropyState) (old new : CabinetState) (loaded : Result (List ℕ) Refusal)
-    → IfSome old.files (λ files. IsAnswer (file_answer file.word place_size (files (bytes_at line file))) loaded) → IfOk loaded (λ bytes. length bytes ≤ place_size) → IfErr loaded (λ refusal. IfSome (word_of refusal) (λ word. file.word ≡ word))
+    → IfSome old.files (λ files. IsAnswer (file_answer file.word place_size (files (bytes_at line file))) loaded) → IfOk loaded (λ bytes. length bytes ≤ place_size) → IfErr loaded (λ refusal. IfSome (refused_word refusal) (λ word. file.word ≡ word))
     → IfErr loaded (MayRefuse place_size old new) → KeepsFiles old new → Counted 1 old.loads new.loads → new.stores ≡ old.stores
     → LoadsPlace line file (reach_of disk holding old entropy) (unless_absent loaded) (reach_of disk holding new entropy)
 place_load line file disk holding entropy old new loaded told within word cause keeps asked unstored = record {
@@ -102,7 +102,7 @@ place_loaded line file disk holding entropy old new bytes told within keeps aske
 
 -- it wasn't
 pub place_unloaded : (line : List ℕ) (file : Span) (disk : DiskState) (holding : Holding) (entropy : EntropyState) (old new : CabinetState) (refusal : Refusal)
-    → IfSome old.files (λ files. IsAnswer {T = List ℕ} (file_answer file.word place_size (files (bytes_at line file))) (Err refusal)) → IfSome (word_of refusal) (λ word. file.word ≡ word) → MayRefuse place_size old new refusal
+    → IfSome old.files (λ files. IsAnswer {T = List ℕ} (file_answer file.word place_size (files (bytes_at line file))) (Err refusal)) → IfSome (refused_word refusal) (λ word. file.word ≡ word) → MayRefuse place_size old new refusal
     → KeepsFiles old new → Counted 1 old.loads new.loads → new.stores ≡ old.stores → FindsPlace false line file (reach_of disk holding old entropy) (without_file refusal) (reach_of disk holding new entropy)
 place_unloaded line file disk holding entropy old new (refusals.FileAbsent word) told named cause keeps asked unstored =
     Then-goes_on (LoadsPlace line file) _ (reach_of disk holding old entropy) (reach_of disk holding new entropy) None _ _

@@ -20,7 +20,7 @@ use Rattle.shelf.proofs.Sectors.{at, kept_holding}
 
 -- ---- `fill`
 
--- the provider is only read
+-- the provider is read-only
 pub fill_only_read : {D : Type 0} (state : D → DiskState) (queue : List Request) (cabinet : CabinetState) (entropy : EntropyState) (p : Attached D) (seed start count : ℕ) → p.readonly ≡ true
     → FillRow seed start count (attachment_of queue p) (at state queue cabinet entropy p) (Err refusals.ReadOnly) (at state queue cabinet entropy p)
 fill_only_read state queue cabinet entropy p seed start count only =

@@ -10,16 +10,16 @@ abbrev pub most_drawers : ℕ
 most_drawers = 16
 
 -- there is room, and no drawer has the name
-pub record IsFree (name : List ℕ) (drawers : List DrawerState) : Type 0 where
+pub record IsFreeName (name : List ℕ) (drawers : List DrawerState) : Type 0 where
   pub room : length drawers < most_drawers
   pub new_name : IsNone (place_of name drawers)
 
 -- the disk stands behind the others, idle
 pub record Adds (name : List ℕ) (disk : DiskState) (old new : List DrawerState) : Type 0 where
-  pub free : IsFree name old
+  pub free : IsFreeName name old
   pub added : new ≡ old ++ record { name = name; disk = disk; holding = Idle } ∷ []
 
 abbrev pub RefusesToAdd : List ℕ → AddFault → List DrawerState → Type 0
 RefusesToAdd name Full drawers = most_drawers ≤ length drawers
 RefusesToAdd name Taken drawers = (length drawers < most_drawers) × IsSome (place_of name drawers)
-RefusesToAdd name NoMemory drawers = IsFree name drawers
+RefusesToAdd name NoMemory drawers = IsFreeName name drawers

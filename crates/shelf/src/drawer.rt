@@ -1,4 +1,4 @@
-// A named disk, and what is attached or suspended on it.
+//! A named disk, and what is attached or suspended on it.
 ghost use Rattle.command_words.specs.Bounds.{IsBounded};
 ghost use Rattle.command_words.specs.Places.{CommandIsWithin, provider_of};
 ghost use Rattle.command_words.specs.Traits.{needs, traits_of};

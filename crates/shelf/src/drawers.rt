@@ -1,4 +1,4 @@
-// The drawers in order of adding.
+//! The drawers in order of adding.
 ghost use Rattle.std.specs.Prelude.{◌≡◌, ◌<◌, ◌≤◌, ℕ, List, map, [], IfOk, IfSome, MatchResult, length, option_copied};
 ghost use Rattle.std.specs.Prelude.{vec_capacity, vec_len};
 ghost use Rattle.std.specs.List.{insert};
@@ -8,7 +8,7 @@ ghost use Rattle.shelf.specs.Adding.{Adds, RefusesToAdd};
 ghost use Rattle.reply_text.specs.Text.{FitsPayload};
 ghost use Rattle.command_rows.specs.Answer.{answer_of};
 ghost use Rattle.shelf.specs.Closing.{Closing, failures};
-ghost use Rattle.command_rows.specs.Turn.{ListsAs, Shows, Turn, entry_of};
+ghost use Rattle.command_rows.specs.Turn.{ListsAs, ShowsEvents, Turn, entry_of};
 ghost use Rattle.command_rows.specs.World.{HoldKeyings, NamesDiffer, place_of};
 ghost use Rattle.shelf.specs.Shelved.{drawers_of, world_of};
 
@@ -178,7 +178,7 @@ impl<D: Disk> Drawers<D> {
     /// What the disk of the named drawer answers to `events`. None comes exactly where no idle drawer has the name or
     /// the disk doesn't show its events.
     pub fn events(&self, name: &str) -> Option<&[Event]>
-        ensures { Shows name.now (drawers_of D.state self.now.drawers) (option_copied result) }
+        ensures { ShowsEvents name.now (drawers_of D.state self.now.drawers) (option_copied result) }
     {
         let place = find(&self.drawers, name.as_bytes())?;
         self.drawers[place].events()

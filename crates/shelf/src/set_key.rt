@@ -43,7 +43,7 @@ fn fit(meta: &Metadata, sectors: u64) -> Result<Params, Refusal>
     Ok(params)
 }
 
-// There are slots 0 and 1.
+// Refuses a slot other than 0 and 1.
 fn needs_slot(slot: Option<u8>) -> Result<(), Refusal>
     ensures { result ≡ if_there slot }
 {

@@ -3,6 +3,7 @@
 ghost use Rattle.block_traits.specs.Cabinet.{CabinetState};
 ghost use Rattle.block_traits.specs.Streams.{EntropyState};
 ghost use Rattle.shelf.specs.Shelved.{attachment_of, reach_in, reach_on};
+ghost use Rattle.command_rows.specs.verbs.Suspend.{SuspendRow};
 
 use crate::Held;
 use crate::requests::flush_answer;
@@ -11,7 +12,6 @@ use block_traits::Disk;
 use eli_base::Refusal;
 use provider::Provider;
 use suspend::Suspended;
-ghost use Rattle.command_rows.specs.verbs.Suspend.{SuspendRow};
 
 /// Suspends the provider, also where the flush of its disk fails; it is refused while requests are open. The room of
 /// the queue is kept, so that to resume it needs no more.

@@ -10,8 +10,8 @@ use Rattle.suspend.specs.Resuming.{AreCollision}
 
 -- ---- two digests that were compared
 
-pub differ_so : (xs ys : List ℕ) (r : Bool) → r ≡ not (bytes_eq xs ys) → r ≡ true → xs ≢ ys
-differ_so xs ys r is said same = true≢false (sym said ∙ is ∙ ap not ((bytes_eq-Decides xs ys).1 same))
+pub bytes_eq-false : (xs ys : List ℕ) (r : Bool) → r ≡ not (bytes_eq xs ys) → r ≡ true → xs ≢ ys
+bytes_eq-false xs ys r is said same = true≢false (sym said ∙ is ∙ ap not ((bytes_eq-Decides xs ys).1 same))
 
 is_true : (b : Bool) → not b ≡ false → b ≡ true
 is_true true h = refl

@@ -4,5 +4,5 @@ use Rattle.provider.specs.Rest.{truth_number}
 use Rattle.suspend.specs.Suspension.{Suspension}
 
 -- slot, bytes of a logical sector, how many there were, and read-only state; the digest of the master key last
-abbrev pub rest_of : {D : Type 0} → Suspension D → List ℕ
-rest_of s = s.slot ∷ s.sectorsize ∷ s.sectors ∷ truth_number s.readonly ∷ s.mark
+abbrev pub suspended_rest : {D : Type 0} → Suspension D → List ℕ
+suspended_rest s = s.slot ∷ s.sectorsize ∷ s.sectors ∷ truth_number s.readonly ∷ s.mark

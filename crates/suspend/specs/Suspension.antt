@@ -15,7 +15,7 @@ pub record Suspension (D : Type 0) : Type 0 where
   pub mark : List ℕ
 
 -- what is kept is that of this provider
-pub record KeepsOf {D : Type 0} (state : D → DiskState) (p : Attached D) (s : Suspension D) : Type 0 where
+pub record KeepsOfProvider {D : Type 0} (state : D → DiskState) (p : Attached D) (s : Suspension D) : Type 0 where
   pub sectorsize : s.sectorsize ≡ p.keying.sectorsize
   pub sectors : s.sectors ≡ media p.keying (state p.disk)
   pub slot : s.slot ≡ p.slot

@@ -1,4 +1,4 @@
-// Why a provider wasn't resumed.
+//! Why a provider wasn't resumed.
 ghost use Rattle.std.specs.Prelude.{◌≡◌};
 ghost use Rattle.suspend.specs.Refusals.{resume_fault_of};
 

@@ -1,10 +1,10 @@
-// What holds of suspended providers, whatever the disk.
+//! What holds of suspended providers, whatever the disk.
 ghost use Rattle.std.specs.Prelude.{◌≡◌, ◌⊎◌, ℕ, List, Ok};
 ghost use Rattle.key_slots.specs.Slots.{Opens};
 ghost use Rattle.provider.specs.Answers.{Means, Target};
 ghost use Rattle.provider.specs.Attached.{Attached};
 ghost use Rattle.sha2.specs.Sha256.{sha256};
-ghost use Rattle.suspend.specs.Rest.{rest_of};
+ghost use Rattle.suspend.specs.Rest.{suspended_rest};
 ghost use Rattle.suspend.specs.Resuming.{AreCollision, ResumeAnswers};
 ghost use Rattle.suspend.specs.Suspension.{Suspension};
 
@@ -22,6 +22,6 @@ pub fn resumed_master_is_the_same_or_collides<D: Disk>()
 
 /// A law: what a suspended provider tells of itself in numbers tells all that was kept.
 pub fn rest_tells_all<D: Disk>()
-    ensures { (s t : Suspension D) → rest_of s ≡ rest_of t →
+    ensures { (s t : Suspension D) → suspended_rest s ≡ suspended_rest t →
         (s.slot ≡ t.slot) × (s.sectorsize ≡ t.sectorsize) × (s.sectors ≡ t.sectors) × (s.readonly ≡ t.readonly) × (s.mark ≡ t.mark) }
 {}

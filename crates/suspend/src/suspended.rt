@@ -1,12 +1,12 @@
-// A provider between its suspending and its resuming.
+//! A provider between its suspending and its resuming.
 ghost use Rattle.std.specs.Prelude.{◌≡◌, ℕ, ◌∷◌, [], List, MatchResult, OnOk, OnErr, Ok};
 ghost use Rattle.block_traits.specs.Disk.{DiskState, FailsIn, Logs};
 ghost use Rattle.eli_metadata.specs.Checks.{settings_of, size_matches, slot_matches, supported};
 ghost use Rattle.provider.specs.Answers.{Means, Target};
 ghost use Rattle.sha2.specs.Sha256.{sha256};
-ghost use Rattle.suspend.specs.Rest.{rest_of};
+ghost use Rattle.suspend.specs.Rest.{suspended_rest};
 ghost use Rattle.suspend.specs.Resuming.{OpensTheSame, ResumeAnswers, ResumeFails};
-ghost use Rattle.suspend.specs.Suspension.{KeepsOf};
+ghost use Rattle.suspend.specs.Suspension.{KeepsOfProvider};
 
 use crate::ResumeFault;
 use block_traits::{Disk, DiskFailed, Event, MetaPlace, Sector, load_last, store_last};
@@ -61,7 +61,7 @@ impl<D: Disk> Suspended<D> {
     /// Suspends a provider: its disk is flushed once, nothing is read, and its keys are let go. It is suspended
     /// either way.
     pub fn suspend(on: Provider<D>) -> (Suspended<D>, Result<(), DiskFailed>)
-        ensures kept { KeepsOf D.state on result.0 }
+        ensures kept { KeepsOfProvider D.state on result.0 }
         ensures ok { OnOk result.1 (Logs (Event.Flush ∷ []) (D.state on.disk) (D.state result.0.disk)) }
         ensures err { OnErr result.1 (FailsIn (Event.Flush ∷ []) (D.state on.disk) (D.state result.0.disk)) }
         ensures unasked { (D.state result.0.disk).reads ≡ (D.state on.disk).reads }
@@ -201,7 +201,7 @@ impl<D: Disk> Suspended<D> {
 impl<D: Disk> MetaPlace for Suspended<D> {
     ghost state = { λ s. D.state s.disk };
 
-    ghost rest = { rest_of };
+    ghost rest = { suspended_rest };
 
     fn sectors(&self) -> u64 {
         self.disk.sectors()

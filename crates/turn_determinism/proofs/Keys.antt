@@ -12,7 +12,7 @@ use Rattle.eli_metadata.specs.declared.metadata.Metadata.{Metadata}
 use Rattle.backup_restore.specs.Restoring.{Restores, restored}
 use Rattle.block_traits.specs.Disk.{store_events}
 use Rattle.key_commands.specs.DeleteKeys.{DeletesKeys, Deletion}
-use Rattle.key_commands.specs.NewKey.{KeyChange, MakesKey, change_refusal, iterations_of, with_key}
+use Rattle.key_commands.specs.NewKey.{KeyChange, MakesKey, change_refusal, changed_iterations, with_key}
 use Rattle.key_commands.specs.NewProvider.{Inits, MakesMetadata, init_events}
 use Rattle.key_commands.specs.Options.{early_refusal}
 use Rattle.key_commands.specs.Overwriting.{deletion_refusal, filler_size, pass_events}
@@ -167,7 +167,7 @@ sets_is asked d (Err refusals.DeviceFault) e quiet h = absurd (quiet h.fails.ros
 sets_is asked d (Err found) e quiet h = inr (record { refusal = found; is = refl; cause = h.cause; disk = h.unchanged })
 
 -- the user key is that of the old salt, under the new iterations
-derived_by : (asked : KeyChange) (m : Metadata) (u : List ℕ) (key : UserKey) → m ≡ with_key asked u → user_key asked.parts m.salt m.iterations ≡ Ok key → user_key asked.parts asked.meta.salt (iterations_of asked) ≡ Ok key
+derived_by : (asked : KeyChange) (m : Metadata) (u : List ℕ) (key : UserKey) → m ≡ with_key asked u → user_key asked.parts m.salt m.iterations ≡ Ok key → user_key asked.parts asked.meta.salt (changed_iterations asked) ≡ Ok key
 derived_by asked m u key is derived =
     let P : Metadata → Type 0 = λ x. user_key asked.parts x.salt x.iterations ≡ Ok key in
     subst P is derived

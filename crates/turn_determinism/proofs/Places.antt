@@ -18,7 +18,7 @@ use Rattle.provider.specs.Attached.{media}
 use Rattle.provider.specs.Reading.{StandFrom, standing}
 use Rattle.resize_kill.specs.Killing.{Kills, kill_events}
 use Rattle.resize_kill.specs.Resizing.{Finds, RefusesOld, RefusesSizes, Resizes, grown, move_events, old_place, old_refusal, size_refusal}
-use Rattle.resize_kill.specs.Trash.{TakesTrash, random_size}
+use Rattle.resize_kill.specs.Trash.{TakesTrash, trash_size}
 use Rattle.sealing.specs.Sectors.{units}
 use Rattle.verify_sweep.specs.Parts.{sweep_at}
 use Rattle.verify_sweep.specs.Sweeping.{Sweep, failing_units, sectors_swept}
@@ -135,11 +135,11 @@ kills_by : (old old' : Reach) (answer answer' : Result (Unit {0}) Refusal) (new 
     → KillDone old.disk old.entropy answer new.disk new.entropy ⊎ KillRefused old.disk old.entropy answer new.disk new.entropy
     → KillDone old'.disk old'.entropy answer' new'.disk new'.entropy ⊎ KillRefused old'.disk old'.entropy answer' new'.disk new'.entropy → Settled both.counts answer answer' new new'
 kills_by old old' answer answer' new new' both h h' (inl x) (inl x') =
-    let random : x'.random ≡ x.random = takes_same random_size x.random x'.random old.entropy old'.entropy new.entropy new'.entropy both.same.entropy x.takes.size x'.takes.size x.takes.taken x'.takes.taken in
+    let random : x'.random ≡ x.random = takes_same trash_size x.random x'.random old.entropy old'.entropy new.entropy new'.entropy both.same.entropy x.takes.size x'.takes.size x.takes.taken x'.takes.taken in
     drawing_settled old old' answer answer' new new' both (x'.is ∙ sym x.is)
     (unread_alike (kill_events old.disk x.random) (kill_events old'.disk x'.random) old.disk old'.disk new.disk new'.disk both.same.disk
     (killed_same old.disk old'.disk x.random x'.random both.same.disk.size random) x.logs x'.logs x.unasked x'.unasked)
-    (takes_alike random_size x.random x'.random old.entropy old'.entropy new.entropy new'.entropy both.same.entropy x.takes.size x'.takes.size x.takes.taken x'.takes.taken)
+    (takes_alike trash_size x.random x'.random old.entropy old'.entropy new.entropy new'.entropy both.same.entropy x.takes.size x'.takes.size x.takes.taken x'.takes.taken)
     h.holding h'.holding h.cabinet h'.cabinet
 kills_by old old' answer answer' new new' both h h' (inl x) (inr x') = absurd (omega (arith, x.enough, x'.small, both.same.disk.size))
 kills_by old old' answer answer' new new' both h h' (inr x) (inl x') = absurd (omega (arith, x.small, x'.enough, both.same.disk.size))
@@ -255,7 +255,7 @@ moved_same d d' place m m' random random' size is was = rw (size, is, was) refl
 moves_by : (oldsize : ℕ) (old old' : Reach) (answer answer' : Result (Unit {0}) Refusal) (new new' : Reach) (both : Both old old' new new') → MovesMetadata oldsize old answer new → MovesMetadata oldsize old' answer' new'
     → Moved oldsize both.same.disk.content old.disk old.entropy answer new.disk new.entropy → Moved oldsize both.same.disk.content old'.disk old'.entropy answer' new'.disk new'.entropy → Settled both.counts answer answer' new new'
 moves_by oldsize old old' answer answer' new new' both h h' (inl x) (inl x') =
-    let random : x'.random ≡ x.random = takes_same random_size x.random x'.random old.entropy old'.entropy new.entropy new'.entropy both.same.entropy x.takes.size x'.takes.size x.takes.taken x'.takes.taken in
+    let random : x'.random ≡ x.random = takes_same trash_size x.random x'.random old.entropy old'.entropy new.entropy new'.entropy both.same.entropy x.takes.size x'.takes.size x.takes.taken x'.takes.taken in
     let given : Ok x'.old ≡ Ok x.old = sym x'.found ∙ x.found in
     let m : x'.old ≡ x.old = cc given in
     let events = move_events old.disk (old_place oldsize) (grown x.old old.disk.size) x.random in
@@ -264,7 +264,7 @@ moves_by oldsize old old' answer answer' new new' both h h' (inl x) (inl x') =
     (logs_alike events old.disk old'.disk new.disk new'.disk both.same.disk x.logs
     (subst P (moved_same old.disk old'.disk (old_place oldsize) x.old x'.old x.random x'.random both.same.disk.size m random) x'.logs)
     (counted_same 1 both.same.disk.reads x.asked x'.asked))
-    (takes_alike random_size x.random x'.random old.entropy old'.entropy new.entropy new'.entropy both.same.entropy x.takes.size x'.takes.size x.takes.taken x'.takes.taken)
+    (takes_alike trash_size x.random x'.random old.entropy old'.entropy new.entropy new'.entropy both.same.entropy x.takes.size x'.takes.size x.takes.taken x'.takes.taken)
     h.holding h'.holding h.cabinet h'.cabinet
 moves_by oldsize old old' answer answer' new new' both h h' (inl x) (inr (inl x')) = absurd (unrefused _ _ x'.refusal x.sizes x'.cause (ap (λ (n : ℕ). size_refusal n oldsize) both.same.disk.size))
 moves_by oldsize old old' answer answer' new new' both h h' (inl x) (inr (inr x')) = absurd (unrefused_old oldsize _ x.old x'.refusal x.found x.size x'.cause)

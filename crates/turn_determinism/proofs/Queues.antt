@@ -2,7 +2,7 @@
 use Rattle.std.proofs.Common.{◌≡◌, ◌≢◌, ◌∙◌, ◌⊎◌, inl, inr, ℕ, ◌*◌, ◌<◌, ◌≤◌, List, [], ◌∷◌, ◌++◌, length, take, drop, refl, ap, sym, subst, arith, Bool, true, false, Option, None, Some, Result, Ok, Err}
 use Rattle.std.specs.Prelude.{IsSome}
 use Rattle.std.proofs.Math.Seq.{take-append_seam}
-use Rattle.bio_queue.specs.Answers.{AsksReads, Gave, HasBadUnit, IsAdmitted, IsGiven, IsWrite, PassesEnd, ReapAnswers, StepAnswers, SubmitAnswers, Takes, asked}
+use Rattle.bio_queue.specs.Answers.{AsksReads, Gave, HasBadUnit, IsAdmitted, IsGiven, IsWrite, JobPassesEnd, ReapAnswers, StepAnswers, SubmitAnswers, TakesJob, asked}
 use Rattle.bio_queue.specs.Requests.{IsLeastFree, Request, device_after, exchanged, left_of, next_of, put_in, request_with, step_events, stepped, without}
 use Rattle.bio_queue.specs.Sectors.{opened_data}
 use Rattle.bio_queue.specs.declared.faults.ReapFault.{ReapFault}
@@ -14,7 +14,7 @@ use Rattle.bio_queue.specs.declared.faults.SubmitFault.TheVariants as submit
 use Rattle.bio_queue.specs.declared.job.Job.{Job}
 use Rattle.bio_queue.specs.declared.job.Job.TheVariants as jobs
 use Rattle.bio_queue.specs.declared.job.Reaped.{Reaped}
-use Rattle.bio_queue.specs.Owners.{IsServed}
+use Rattle.bio_queue.specs.Owners.{IsOpenRequest}
 use Rattle.block_traits.specs.Causes.{Rose}
 use Rattle.block_traits.specs.Disk.{DiskState, Logs}
 use Rattle.eli_base.specs.Keying.{Keying}
@@ -40,21 +40,21 @@ use Rattle.turn_determinism.proofs.Steps.{Both, HasMemory, Later, Settled, Sure,
 Why : Bool → ℕ → Job → ℕ → Result ℕ SubmitFault → Type 0
 Why readonly there job many (Ok tag) = IsAdmitted readonly there job × (many < 32)
 Why readonly there job many (Err submit.ReadOnly) = IsWrite job × (readonly ≡ true)
-Why readonly there job many (Err (submit.OutOfRange sector count end)) = Takes readonly job × PassesEnd there job sector count end
+Why readonly there job many (Err (submit.OutOfRange sector count end)) = TakesJob readonly job × JobPassesEnd there job sector count end
 Why readonly there job many (Err submit.QueueFull) = IsAdmitted readonly there job × (many ≡ 32)
 Why readonly there job many (Err submit.NoMemory) = ⊥
 
-takes_no_write : (readonly : Bool) (job : Job) → Takes readonly job → IsWrite job → readonly ≡ true → ⊥
+takes_no_write : (readonly : Bool) (job : Job) → TakesJob readonly job → IsWrite job → readonly ≡ true → ⊥
 takes_no_write readonly (jobs.Read sector count) takes write is = write
 takes_no_write readonly (jobs.Write sector count) takes write is = let no : false ≡ true = sym takes ∙ is in cc no
 takes_no_write readonly jobs.Flush takes write is = write
 
-inside : (readonly : Bool) (there : ℕ) (job : Job) (sector count end : ℕ) → IsAdmitted readonly there job → PassesEnd there job sector count end → ⊥
+inside : (readonly : Bool) (there : ℕ) (job : Job) (sector count end : ℕ) → IsAdmitted readonly there job → JobPassesEnd there job sector count end → ⊥
 inside readonly there (jobs.Read first many) sector count end admitted passes = omega (arith, admitted.in_range, passes.0)
 inside readonly there (jobs.Write first many) sector count end admitted passes = omega (arith, admitted.in_range, passes.0)
 inside readonly there jobs.Flush sector count end admitted passes = passes
 
-passes_same : (there : ℕ) (job : Job) (sector count end sector' count' end' : ℕ) → PassesEnd there job sector count end → PassesEnd there job sector' count' end' → submit.OutOfRange sector' count' end' ≡ submit.OutOfRange sector count end
+passes_same : (there : ℕ) (job : Job) (sector count end sector' count' end' : ℕ) → JobPassesEnd there job sector count end → JobPassesEnd there job sector' count' end' → submit.OutOfRange sector' count' end' ≡ submit.OutOfRange sector count end
 passes_same there (jobs.Read first many) sector count end sector' count' end' h h' = rw (h.1, h.2, h.3, h'.1, h'.2, h'.3) refl
 passes_same there (jobs.Write first many) sector count end sector' count' end' h h' = rw (h.1, h.2, h.3, h'.1, h'.2, h'.3) refl
 passes_same there jobs.Flush sector count end sector' count' end' h h' = absurd h
@@ -157,15 +157,15 @@ submits_sure a job from = record { goes = λ old answer new h. held_later a old 
 
 record NeedIs (a : Attachment) (tag : ℕ) (there : ℕ) (old : Reach) (answer : Result (Unit {0}) Refusal) (new : Reach) : Type 0 where
   unchanged : new ≡ old
-  decided : ((answer ≡ Ok tt) × IsServed a.keying there tag a.queue) ⊎ ((answer ≡ Err (refusals.NoRequest tag)) × (¬ IsServed a.keying there tag a.queue))
+  decided : ((answer ≡ Ok tt) × IsOpenRequest a.keying there tag a.queue) ⊎ ((answer ≡ Err (refusals.NoRequest tag)) × (¬ IsOpenRequest a.keying there tag a.queue))
 
 need_is : (a : Attachment) (tag : ℕ) (old : Reach) (answer : Result (Unit {0}) Refusal) (new : Reach) → NeedsRequest a tag old answer new → NeedIs a tag (media a.keying old.disk) old answer new
 need_is a tag old (Ok done) new h = record { unchanged = h.1; decided = inl (refl, h.0) }
 need_is a tag old (Err (refusals.NoRequest named)) new h = record { unchanged = h.2; decided = inr (ap (λ (n : ℕ). Err (refusals.NoRequest n)) h.0, h.1) }
 need_is a tag old (Err refusal) new h = absurd h
 
-need_same : (a : Attachment) (tag there : ℕ) (answer answer' : Result (Unit {0}) Refusal) → ((answer ≡ Ok tt) × IsServed a.keying there tag a.queue) ⊎ ((answer ≡ Err (refusals.NoRequest tag)) × (¬ IsServed a.keying there tag a.queue))
-    → ((answer' ≡ Ok tt) × IsServed a.keying there tag a.queue) ⊎ ((answer' ≡ Err (refusals.NoRequest tag)) × (¬ IsServed a.keying there tag a.queue)) → answer' ≡ answer
+need_same : (a : Attachment) (tag there : ℕ) (answer answer' : Result (Unit {0}) Refusal) → ((answer ≡ Ok tt) × IsOpenRequest a.keying there tag a.queue) ⊎ ((answer ≡ Err (refusals.NoRequest tag)) × (¬ IsOpenRequest a.keying there tag a.queue))
+    → ((answer' ≡ Ok tt) × IsOpenRequest a.keying there tag a.queue) ⊎ ((answer' ≡ Err (refusals.NoRequest tag)) × (¬ IsOpenRequest a.keying there tag a.queue)) → answer' ≡ answer
 need_same a tag there answer answer' (inl h) (inl h') = h'.0 ∙ sym h.0
 need_same a tag there answer answer' (inl h) (inr h') = absurd (h'.1 h.1)
 need_same a tag there answer answer' (inr h) (inl h') = absurd (h.1 h'.1)

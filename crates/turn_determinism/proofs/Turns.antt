@@ -11,7 +11,7 @@ use Rattle.command_rows.specs.Answer.{Answer}
 use Rattle.command_rows.specs.Answer as answers
 use Rattle.command_rows.specs.Counts.{CountsFailures}
 use Rattle.command_rows.specs.Fits.{FailsNowhere}
-use Rattle.command_rows.specs.Turn.{ChangesAt, IsUnknown, Lists, ListsAs, Serves, ServesAt, TakesOut, Turn, TurnOf, entry_by, entry_of, reach, takes_out}
+use Rattle.command_rows.specs.Turn.{ChangesAt, IsUnknown, ListsDrawers, ListsAs, Serves, ServesAt, TakesOutDrawer, Turn, TurnOf, entry_by, entry_of, reach, takes_out}
 use Rattle.command_rows.specs.World.{DrawerState, Holding, Idle, IsAttached, IsSuspended, Reach, World, place_of}
 use Rattle.command_rows.proofs.Lines.{line_did}
 use Rattle.command_rows.proofs.Untouched.{get-set}
@@ -200,12 +200,12 @@ listed drawers (answers.Rows rows) memory h = ap answers.Rows h
 listed drawers (answers.Refused refusals.NoMemory) memory h = absurd (memory refl)
 listed drawers answer memory h = absurd h
 
-lists_one : (old old' : World) (answer answer' : Answer) (new new' : World) → IsSameWorld old old' → HasMemory answer → HasMemory answer' → Lists old answer new → Lists old' answer' new' → IsSameTurn old answer new old' answer' new'
+lists_one : (old old' : World) (answer answer' : Answer) (new new' : World) → IsSameWorld old old' → HasMemory answer → HasMemory answer' → ListsDrawers old answer new → ListsDrawers old' answer' new' → IsSameTurn old answer new old' answer' new'
 lists_one old old' answer answer' new new' same memory memory' h h' =
     still_turn old answer new old' answer' new' same
     (listed old'.drawers answer' memory' h'.rows ∙ ap answers.Rows (entries_same old.drawers old'.drawers same.drawers) ∙ sym (listed old.drawers answer memory h.rows)) h.unchanged h'.unchanged
 
-left_one : (old old' : World) (answer answer' : Answer) (new new' : World) (place : ℕ) → IsSameWorld old old' → TakesOut old answer new place → TakesOut old' answer' new' place → IsSameTurn old answer new old' answer' new'
+left_one : (old old' : World) (answer answer' : Answer) (new new' : World) (place : ℕ) → IsSameWorld old old' → TakesOutDrawer old answer new place → TakesOutDrawer old' answer' new' place → IsSameTurn old answer new old' answer' new'
 left_one old old' answer answer' new new' place same h h' = record {
   answered = h'.done ∙ sym h.done;
   worlds = rw (h.left, h'.left) (record {
@@ -248,8 +248,8 @@ place_one line command name old old' answer answer' new new' (Some place) t name
 
 named_one : (line : List ℕ) (command : Command) (named : Option Span) (old old' : World) (answer answer' : Answer) (new new' : World) → Turns line command old old' answer answer' new new' → IfSome named (λ prov. TellsAt (bytes_at line prov) old)
     → IfSome named (λ prov. StaysQuietAt (bytes_at line prov) old new) → IfSome named (λ prov. StaysQuietAt (bytes_at line prov) old' new')
-    → MatchOption named (Lists old answer new) (λ prov. TurnOf (ServesAt (takes_out command) line command) (bytes_at line prov) old answer new)
-    → MatchOption named (Lists old' answer' new') (λ prov. TurnOf (ServesAt (takes_out command) line command) (bytes_at line prov) old' answer' new') → IsSameTurn old answer new old' answer' new'
+    → MatchOption named (ListsDrawers old answer new) (λ prov. TurnOf (ServesAt (takes_out command) line command) (bytes_at line prov) old answer new)
+    → MatchOption named (ListsDrawers old' answer' new') (λ prov. TurnOf (ServesAt (takes_out command) line command) (bytes_at line prov) old' answer' new') → IsSameTurn old answer new old' answer' new'
 named_one line command None old old' answer answer' new new' t tells still still' h h' = lists_one old old' answer answer' new new' t.same t.memory t.memory' h h'
 named_one line command (Some prov) old old' answer answer' new new' t tells still still' h h' =
     let name : List ℕ = bytes_at line prov in

@@ -1,4 +1,4 @@
-// That a line does one thing.
+//! That a line does one thing.
 ghost use Rattle.std.specs.Prelude.{◌≡◌, ℕ, List};
 ghost use Rattle.command_rows.specs.Answer.{Answer};
 ghost use Rattle.command_rows.specs.Turn.{Turn};
@@ -14,8 +14,8 @@ ghost use Rattle.turn_determinism.specs.Told.{IsTold};
 ///
 /// The same are all drawers, with their names, the sizes, the contents and the counts of their disks, and what they do
 /// with them; the files; the random bytes that are left; and the counts of faults, of reads and of calls of the
-/// entropy. How often files were loaded is the same too, unless a file is refused, being absent or too long. Counts that
-/// aren't below 2^64 - 1 are taken for the same.
+/// entropy. How often files were loaded is the same too, unless a file is refused, being absent or too long. Counts
+/// that aren't below 2^64 - 1 are taken for the same.
 pub fn a_line_does_one_thing()
     ensures { (line : List ℕ) (command : Command) (old : World) (answer answer' : Answer) (new new' : World) →
         IsTold line command old → IsQuiet line command old new → IsQuiet line command old new' →

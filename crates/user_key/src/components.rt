@@ -1,4 +1,4 @@
-// What a user key is made of.
+//! What a user key is made of.
 ghost use Rattle.std.specs.Prelude.{◌≡◌};
 ghost use Rattle.user_key.specs.Refusals.{key_refusal_of};
 

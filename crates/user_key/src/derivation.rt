@@ -1,4 +1,4 @@
-// The user key that components make.
+//! The user key that components make.
 ghost use Rattle.std.specs.Prelude.{◌≡◌, [], ◌++◌};
 ghost use Rattle.hmac_kdf.specs.Hmac.{hmac512};
 ghost use Rattle.user_key.specs.Derivation.{user_key};

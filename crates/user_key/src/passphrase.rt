@@ -1,4 +1,4 @@
-// The lines that make a passphrase.
+//! The lines that make a passphrase.
 
 ghost use Rattle.std.specs.Prelude.{◌≡◌, ◌==◌, position};
 ghost use Rattle.user_key.specs.Passphrase.{first_line};

@@ -1,4 +1,4 @@
-// What holds of the units that fail, and of sweeps one after another, whatever the disk.
+//! What holds of the units that fail, and of sweeps one after another, whatever the disk.
 ghost use Rattle.std.specs.Prelude.{◌≡◌, ◌≢◌, ◌↔◌, ℕ, ◌+◌, ◌-◌, ◌*◌, ◌≤◌, ◌++◌, List, length, map, sum, Contains};
 ghost use Rattle.std.specs.List.{range_with_len};
 ghost use Rattle.std.specs.List.Sorted.{IsStrictlyIncreasing};

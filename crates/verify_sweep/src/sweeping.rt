@@ -1,4 +1,4 @@
-// Units that are read and looked at, one after the other.
+//! Units that are read and looked at, one after the other.
 ghost use Rattle.std.specs.Prelude.{◌≡◌, ◌≢◌, ◌+◌, ◌*◌, ◌^◌, ◌<◌, ◌≤◌, [], ◌∷◌, None, IfOk, IfSome, OnErr, length};
 ghost use Rattle.block_traits.specs.Disk.{DiskState};
 ghost use Rattle.eli_base.specs.declared.algorithms.Auth.TheVariants.{Off};

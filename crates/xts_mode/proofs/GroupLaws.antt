@@ -15,9 +15,9 @@ use Rattle.aes_planes.specs.declared.vectors.WidePlanes.{WidePlanes}
 use Rattle.aes_planes.proofs.BlockLaws.{eight, summed_at}
 use Rattle.aes_planes.proofs.WideLaws.{two}
 use Rattle.xts_mode.specs.Halves.{of_halves}
-use Rattle.xts_mode.specs.Xts.{doubled, tweak_at, masked}
+use Rattle.xts_mode.specs.Xts.{doubled, tweak_at, tweaked_block}
 use Rattle.xts_mode.proofs.Halves.{digits_are_bytes}
-use Rattle.xts_mode.proofs.Tweaks.{tweak_start, tweak_at-add, masked-part}
+use Rattle.xts_mode.proofs.Tweaks.{tweak_start, tweak_at-add, tweaked_block-part}
 
 -- the tweaks of eight blocks, of which each is the one before it times x
 pub masks_are : (q : Planes) (t t1 t2 t3 t4 t5 t6 t7 : List ℕ)
@@ -56,7 +56,7 @@ two_on t now next n e en = en ∙ ap (λ (x : ℕ). tweak_at x 2) e ∙ tweak_at
 pub group_masked : (f : List ℕ → List ℕ) (q m p r s : Planes) (out old : List ℕ) (t : ℕ)
     → ((j : ℕ) → j < 8 → vector_at m j ≡ to_le_bytes w128 (tweak_at t j)) → ((j : ℕ) → j < 8 → vector_at q j ≡ block old j) → planes_of p ≡ added q m
     → ((j : ℕ) → j < 8 → vector_at r j ≡ f (vector_at p j)) → planes_of s ≡ added r m → ((j : ℕ) → j < 8 → block out j ≡ vector_at s j)
-    → (j : ℕ) → j < 8 → block out j ≡ masked f t old j
+    → (j : ℕ) → j < 8 → block out j ≡ tweaked_block f t old j
 group_masked f q m p r s out old t masks load ep ef es eo j lj =
     let inner = ef j lj ∙ ap f (summed_at q m p ep j lj ∙ (λ i. xor (load j lj i) (masks j lj i))) in
     eo j lj ∙ summed_at r m s es j lj ∙ (λ i. xor (inner i) (masks j lj i))
@@ -67,7 +67,7 @@ pub wide_masked : (f : List ℕ → List ℕ) (q m p r s : WidePlanes) (out old 
     → ((i : ℕ) → i < 2 → (j : ℕ) → j < 8 → vector_at (side i q) j ≡ block old (2 * j + i)) → ((i : ℕ) → i < 2 → planes_of (side i p) ≡ added (side i q) (side i m))
     → ((i : ℕ) → i < 2 → (j : ℕ) → j < 8 → vector_at (side i r) j ≡ f (vector_at (side i p) j)) → ((i : ℕ) → i < 2 → planes_of (side i s) ≡ added (side i r) (side i m))
     → ((i : ℕ) → i < 2 → (j : ℕ) → j < 8 → block out (2 * j + i) ≡ vector_at (side i s) j)
-    → (n : ℕ) → n < 16 → block out n ≡ masked f t old n
+    → (n : ℕ) → n < 16 → block out n ≡ tweaked_block f t old n
 wide_masked f q m p r s out old t masks load ep ef es eo n ln =
     let i : ℕ = n % 2 in
     let j : ℕ = n / 2 in
@@ -75,46 +75,46 @@ wide_masked f q m p r s out old t masks load ep ef es eo n ln =
     let lj : j < 8 = omega arith in
     let at : 2 * j + i ≡ n = omega arith in
     let inner = ef i li j lj ∙ ap f (summed_at (side i q) (side i m) (side i p) (ep i li) j lj ∙ (λ k. xor (load i li j lj k) (masks i li j lj k))) in
-    subst (λ (b : ℕ). block out b ≡ masked f t old b) at
+    subst (λ (b : ℕ). block out b ≡ tweaked_block f t old b) at
     (eo i li j lj ∙ summed_at (side i r) (side i m) (side i s) (es i li) j lj ∙ (λ k. xor (inner k) (masks i li j lj k)))
 
 -- blocks in a group of so many bytes, with other bytes behind them
 pub rest_masked : (f : List ℕ → List ℕ) (rest behind group sealed out : List ℕ) (t j m : ℕ) → group ≡ rest ++ behind → out ≡ take (length rest) sealed
-    → ((j : ℕ) → j < m → block sealed j ≡ masked f t group j) → length rest ≤ 16 * m → 16 * j + 16 ≤ length rest → block out j ≡ masked f t rest j
+    → ((j : ℕ) → j < m → block sealed j ≡ tweaked_block f t group j) → length rest ≤ 16 * m → 16 * j + 16 ≤ length rest → block out j ≡ tweaked_block f t rest j
 rest_masked f rest behind group sealed out t j m eg eo es few le =
     let same : block group j ≡ block rest j = ap (λ (l : List ℕ). block l j) eg ∙ chunk-append (16 * j) 16 rest behind le in
     let none : 0 + j ≡ j = omega arith in
     ap (λ (l : List ℕ). block l j) eo ∙ block-take sealed j (length rest) le ∙ es j (omega arith)
-    ∙ masked-part f rest group t t 0 j (sym (tweak_start t)) (same ∙ sym (ap (block rest) none)) ∙ ap (masked f t rest) none
+    ∙ tweaked_block-part f rest group t t 0 j (sym (tweak_start t)) (same ∙ sym (ap (block rest) none)) ∙ ap (tweaked_block f t rest) none
 
 -- m blocks of a data unit, behind j
-pub part_same : (f : List ℕ → List ℕ) (p now ys : List ℕ) (t tweak s k j m : ℕ) → tweak ≡ tweak_at t j → IsDone (masked f t p) p now j → s ≡ 16 * j → k ≡ 16 * m
-    → ((i : ℕ) → i < m → block ys i ≡ masked f tweak (take k (drop s now)) i) → (i : ℕ) → i < m → block ys i ≡ masked f t p (j + i)
+pub part_same : (f : List ℕ → List ℕ) (p now ys : List ℕ) (t tweak s k j m : ℕ) → tweak ≡ tweak_at t j → IsDone (tweaked_block f t p) p now j → s ≡ 16 * j → k ≡ 16 * m
+    → ((i : ℕ) → i < m → block ys i ≡ tweaked_block f tweak (take k (drop s now)) i) → (i : ℕ) → i < m → block ys i ≡ tweaked_block f t p (j + i)
 part_same f p now ys t tweak s k j m et done es ek new i li =
-    new i li ∙ masked-part f p (take k (drop s now)) t tweak j i et (IsDone-part (masked f t p) p now s k j i done es (omega arith))
+    new i li ∙ tweaked_block-part f p (take k (drop s now)) t tweak j i et (IsDone-part (tweaked_block f t p) p now s k j i done es (omega arith))
 
-pub part_step : (f : List ℕ → List ℕ) (p now ys : List ℕ) (t tweak s k j m : ℕ) → tweak ≡ tweak_at t j → IsDone (masked f t p) p now j → s ≡ 16 * j → k ≡ 16 * m → length ys ≡ 16 * m
-    → ((i : ℕ) → i < m → block ys i ≡ masked f tweak (take k (drop s now)) i) → IsDone (masked f t p) p (put_mid s k now ys) (j + m)
+pub part_step : (f : List ℕ → List ℕ) (p now ys : List ℕ) (t tweak s k j m : ℕ) → tweak ≡ tweak_at t j → IsDone (tweaked_block f t p) p now j → s ≡ 16 * j → k ≡ 16 * m → length ys ≡ 16 * m
+    → ((i : ℕ) → i < m → block ys i ≡ tweaked_block f tweak (take k (drop s now)) i) → IsDone (tweaked_block f t p) p (put_mid s k now ys) (j + m)
 part_step f p now ys t tweak s k j m et done es ek ly new =
-    IsDone-more (masked f t p) p now ys s k j m done es ek ly (part_same f p now ys t tweak s k j m et done es ek new)
+    IsDone-more (tweaked_block f t p) p now ys s k j m done es ek ly (part_same f p now ys t tweak s k j m et done es ek new)
 
 -- the next sixteen blocks of a data unit
-pub group_step : (f : List ℕ → List ℕ) (p now ys : List ℕ) (t tweak s k g : ℕ) → tweak ≡ tweak_at t (16 * g) → IsDone (masked f t p) p now (16 * g) → s ≡ 256 * g → k ≡ 256 → length ys ≡ 256
-    → ((j : ℕ) → j < 16 → block ys j ≡ masked f tweak (take k (drop s now)) j) → IsDone (masked f t p) p (put_mid s k now ys) (16 * (g + 1))
+pub group_step : (f : List ℕ → List ℕ) (p now ys : List ℕ) (t tweak s k g : ℕ) → tweak ≡ tweak_at t (16 * g) → IsDone (tweaked_block f t p) p now (16 * g) → s ≡ 256 * g → k ≡ 256 → length ys ≡ 256
+    → ((j : ℕ) → j < 16 → block ys j ≡ tweaked_block f tweak (take k (drop s now)) j) → IsDone (tweaked_block f t p) p (put_mid s k now ys) (16 * (g + 1))
 group_step f p now ys t tweak s k g et done es ek ly new =
     let at : s ≡ 16 * (16 * g) = omega arith in
     let more : 16 * g + 16 ≡ 16 * (g + 1) = omega arith in
-    subst (IsDone (masked f t p) p (put_mid s k now ys)) more (part_step f p now ys t tweak s k (16 * g) 16 et done at ek ly new)
+    subst (IsDone (tweaked_block f t p) p (put_mid s k now ys)) more (part_step f p now ys t tweak s k (16 * g) 16 et done at ek ly new)
 
 -- the blocks after the last whole group
-pub rest_step : (f : List ℕ → List ℕ) (p now ys : List ℕ) (t tweak s k g : ℕ) → tweak ≡ tweak_at t (16 * g) → IsDone (masked f t p) p now (16 * g) → s ≡ 256 * g → s ≤ length p
+pub rest_step : (f : List ℕ → List ℕ) (p now ys : List ℕ) (t tweak s k g : ℕ) → tweak ≡ tweak_at t (16 * g) → IsDone (tweaked_block f t p) p now (16 * g) → s ≡ 256 * g → s ≤ length p
     → k ≡ length p - s → length p % 16 ≡ 0 → s + k ≤ length now → length ys ≡ k
-    → ((j : ℕ) → 16 * j + 16 ≤ length (take k (drop s now)) → block ys j ≡ masked f tweak (take k (drop s now)) j) → IsDone (masked f t p) p (put_mid s k now ys) (length p / 16)
+    → ((j : ℕ) → 16 * j + 16 ≤ length (take k (drop s now)) → block ys j ≡ tweaked_block f tweak (take k (drop s now)) j) → IsDone (tweaked_block f t p) p (put_mid s k now ys) (length p / 16)
 rest_step f p now ys t tweak s k g et done es low ek whole fits ly new =
     let m : ℕ = length p / 16 - 16 * g in
     let at : s ≡ 16 * (16 * g) = omega arith in
     let len : k ≡ 16 * m = omega arith in
     let more : 16 * g + m ≡ length p / 16 = omega arith in
     let long = length-chunk s k now fits in
-    subst (IsDone (masked f t p) p (put_mid s k now ys)) more
+    subst (IsDone (tweaked_block f t p) p (put_mid s k now ys)) more
     (part_step f p now ys t tweak s k (16 * g) m et done at len (ly ∙ len) (λ i li. new i (omega (arith, long))))

@@ -7,7 +7,7 @@ use Rattle.aes_core.specs.Schedule.{AreBytes, IsKey}
 use Rattle.aes_core.proofs.Inverse.{IsState, IsState-xor, xor-xor}
 use Rattle.aes_core.proofs.KeyBytes.{IsState-block, IsState-encrypt, byte_at-lt, decrypt-encrypt}
 use Rattle.aes_core.proofs.BlockLists.{AreBlocks, length-blocks, block-blocks, blocks-same, blocks-block}
-use Rattle.xts_mode.specs.Xts.{doubled, tweak_at, first_tweak, masked, xts_seal, xts_open}
+use Rattle.xts_mode.specs.Xts.{doubled, tweak_at, first_tweak, tweaked_block, xts_seal, xts_open}
 
 pub tweak_start : (t : ℕ) → tweak_at t 0 ≡ t
 unfolding tweak_at
@@ -28,8 +28,8 @@ tweak_at-add t j (suc i) =
     ap doubled (tweak_at-add t j i) ∙ sym (ap (tweak_at t) more)
 
 -- block i of a part that begins with block j
-pub masked-part : (f : List ℕ → List ℕ) (p part : List ℕ) (t now j i : ℕ) → now ≡ tweak_at t j → block part i ≡ block p (j + i) → masked f now part i ≡ masked f t p (j + i)
-masked-part f p part t now j i et eb =
+pub tweaked_block-part : (f : List ℕ → List ℕ) (p part : List ℕ) (t now j i : ℕ) → now ≡ tweak_at t j → block part i ≡ block p (j + i) → tweaked_block f now part i ≡ tweaked_block f t p (j + i)
+tweaked_block-part f p part t now j i et eb =
     let e : tweak_at now i ≡ tweak_at t (j + i) = ap (λ (x : ℕ). tweak_at x i) et ∙ tweak_at-add t j i in
     (λ k. let mask = to_le_bytes w128 (e k) in xor (f (xor (eb k) mask)) mask)
 
@@ -41,8 +41,8 @@ AreBytes-low_first i (suc k) n (suc m) = AreBytes-low_first (suc i) k n m
 IsState-mask : (t : ℕ) → IsState (to_le_bytes w128 t)
 IsState-mask t = record { long = refl; bytes = AreBytes-low_first 0 16 t }
 
-IsState-masked : (key p : List ℕ) (t j : ℕ) → IsKey key → AreBytes p → 16 * j + 16 ≤ length p → IsState (masked (encrypt key) t p j)
-IsState-masked key p t j hk small le =
+IsState-tweaked_block : (key p : List ℕ) (t j : ℕ) → IsKey key → AreBytes p → 16 * j + 16 ≤ length p → IsState (tweaked_block (encrypt key) t p j)
+IsState-tweaked_block key p t j hk small le =
     let mask : List ℕ = to_le_bytes w128 (tweak_at t j) in
     let hm = IsState-mask (tweak_at t j) in
     IsState-xor (encrypt key (xor (block p j) mask)) mask
@@ -50,10 +50,10 @@ IsState-masked key p t j hk small le =
 
 -- one block opens to what it was
 opened-sealed : (key p : List ℕ) (t n j : ℕ) → IsKey key → AreBytes p → length p ≡ 16 * n → j < n
-    → masked (decrypt key) t (blocks (masked (encrypt key) t p) n) j ≡ block p j
+    → tweaked_block (decrypt key) t (blocks (tweaked_block (encrypt key) t p) n) j ≡ block p j
 opened-sealed key p t n j hk small len lt =
-    let f : ℕ → List ℕ = masked (encrypt key) t p in
-    let are : AreBlocks f n = λ i below. (IsState-masked key p t i hk small (omega arith)).long in
+    let f : ℕ → List ℕ = tweaked_block (encrypt key) t p in
+    let are : AreBlocks f n = λ i below. (IsState-tweaked_block key p t i hk small (omega arith)).long in
     let mask : List ℕ = to_le_bytes w128 (tweak_at t j) in
     let hm = IsState-mask (tweak_at t j) in
     let plain = IsState-block p j small (omega arith) in
@@ -69,11 +69,11 @@ pub xts_open-xts_seal : (key1 key2 p : List ℕ) (unit : ℕ) → IsKey key1 →
 xts_open-xts_seal key1 key2 p unit hk small whole =
     let n : ℕ = length p / 16 in
     let t : ℕ = first_tweak key2 unit in
-    let f : ℕ → List ℕ = masked (encrypt key1) t p in
+    let f : ℕ → List ℕ = tweaked_block (encrypt key1) t p in
     let lp : length p ≡ 16 * n = omega arith in
-    let are : AreBlocks f n = λ i below. (IsState-masked key1 p t i hk small (omega arith)).long in
+    let are : AreBlocks f n = λ i below. (IsState-tweaked_block key1 p t i hk small (omega arith)).long in
     let lc = length-blocks f n are in
     let count : length (blocks f n) / 16 ≡ n = omega arith in
-    ap (λ (m : ℕ). blocks (masked (decrypt key1) t (blocks f n)) m) count
-    ∙ blocks-same (masked (decrypt key1) t (blocks f n)) (block p) n (λ j lt. opened-sealed key1 p t n j hk small lp lt)
+    ap (λ (m : ℕ). blocks (tweaked_block (decrypt key1) t (blocks f n)) m) count
+    ∙ blocks-same (tweaked_block (decrypt key1) t (blocks f n)) (block p) n (λ j lt. opened-sealed key1 p t n j hk small lp lt)
     ∙ blocks-block p n lp

@@ -7,7 +7,7 @@ ghost use Rattle.aes_core.specs.Blocks.{block};
 ghost use Rattle.aes_planes.specs.Blocks.{vector_at};
 ghost use Rattle.aes_planes.specs.Wide.{AreWide, side};
 ghost use Rattle.xts_mode.specs.Halves.{of_halves};
-ghost use Rattle.xts_mode.specs.Xts.{tweak_at, masked};
+ghost use Rattle.xts_mode.specs.Xts.{tweak_at, tweaked_block};
 
 use crate::doubling::doubled;
 use aes_planes::{
@@ -58,7 +58,7 @@ fn tweaks_from(t: u64x2) -> Tweaks
 fn seal_group(k1: &SlicedSchedule, t: u64x2, group: &mut [u8]) -> u64x2
     requires eight { length group.old ≡ 128 }
     requires long { length t ≡ 2 }
-    ensures sealed { (j : ℕ) → j < 8 → block group.new j ≡ masked (encrypt k1.now) (of_halves t) group.old j }
+    ensures sealed { (j : ℕ) → j < 8 → block group.new j ≡ tweaked_block (encrypt k1.now) (of_halves t) group.old j }
     ensures next { of_halves result ≡ tweak_at (of_halves t) 8 }
     ensures long { length result ≡ 2 }
 {
@@ -73,7 +73,7 @@ fn seal_group(k1: &SlicedSchedule, t: u64x2, group: &mut [u8]) -> u64x2
 fn open_group(k1: &SlicedSchedule, t: u64x2, group: &mut [u8]) -> u64x2
     requires eight { length group.old ≡ 128 }
     requires long { length t ≡ 2 }
-    ensures opened { (j : ℕ) → j < 8 → block group.new j ≡ masked (decrypt k1.now) (of_halves t) group.old j }
+    ensures opened { (j : ℕ) → j < 8 → block group.new j ≡ tweaked_block (decrypt k1.now) (of_halves t) group.old j }
     ensures next { of_halves result ≡ tweak_at (of_halves t) 8 }
     ensures long { length result ≡ 2 }
 {
@@ -150,7 +150,7 @@ fn wide_tweaks_from(t: u64x2) -> WideTweaks
 fn seal_wide(k1: &SlicedSchedule, t: u64x2, group: &mut [u8]) -> u64x2
     requires sixteen { length group.old ≡ 256 }
     requires long { length t ≡ 2 }
-    ensures sealed { (j : ℕ) → j < 16 → block group.new j ≡ masked (encrypt k1.now) (of_halves t) group.old j }
+    ensures sealed { (j : ℕ) → j < 16 → block group.new j ≡ tweaked_block (encrypt k1.now) (of_halves t) group.old j }
     ensures next { of_halves result ≡ tweak_at (of_halves t) 16 }
     ensures long { length result ≡ 2 }
 {
@@ -164,7 +164,7 @@ fn seal_wide(k1: &SlicedSchedule, t: u64x2, group: &mut [u8]) -> u64x2
 fn seal_twice(k1: &SlicedSchedule, t: u64x2, group: &mut [u8]) -> u64x2
     requires sixteen { length group.old ≡ 256 }
     requires long { length t ≡ 2 }
-    ensures sealed { (j : ℕ) → j < 16 → block group.new j ≡ masked (encrypt k1.now) (of_halves t) group.old j }
+    ensures sealed { (j : ℕ) → j < 16 → block group.new j ≡ tweaked_block (encrypt k1.now) (of_halves t) group.old j }
     ensures next { of_halves result ≡ tweak_at (of_halves t) 16 }
     ensures long { length result ≡ 2 }
 {
@@ -180,7 +180,7 @@ fn seal_twice(k1: &SlicedSchedule, t: u64x2, group: &mut [u8]) -> u64x2
 pub fn seal_sixteen(k1: &SlicedSchedule, t: u64x2, group: &mut [u8]) -> u64x2
     requires sixteen { length group.old ≡ 256 }
     requires long { length t ≡ 2 }
-    ensures sealed { (j : ℕ) → j < 16 → block group.new j ≡ masked (encrypt k1.now) (of_halves t) group.old j }
+    ensures sealed { (j : ℕ) → j < 16 → block group.new j ≡ tweaked_block (encrypt k1.now) (of_halves t) group.old j }
     ensures next { of_halves result ≡ tweak_at (of_halves t) 16 }
     ensures long { length result ≡ 2 }
 {
@@ -196,7 +196,7 @@ pub fn seal_sixteen(k1: &SlicedSchedule, t: u64x2, group: &mut [u8]) -> u64x2
 fn open_wide(k1: &SlicedSchedule, t: u64x2, group: &mut [u8]) -> u64x2
     requires sixteen { length group.old ≡ 256 }
     requires long { length t ≡ 2 }
-    ensures opened { (j : ℕ) → j < 16 → block group.new j ≡ masked (decrypt k1.now) (of_halves t) group.old j }
+    ensures opened { (j : ℕ) → j < 16 → block group.new j ≡ tweaked_block (decrypt k1.now) (of_halves t) group.old j }
     ensures next { of_halves result ≡ tweak_at (of_halves t) 16 }
     ensures long { length result ≡ 2 }
 {
@@ -210,7 +210,7 @@ fn open_wide(k1: &SlicedSchedule, t: u64x2, group: &mut [u8]) -> u64x2
 fn open_twice(k1: &SlicedSchedule, t: u64x2, group: &mut [u8]) -> u64x2
     requires sixteen { length group.old ≡ 256 }
     requires long { length t ≡ 2 }
-    ensures opened { (j : ℕ) → j < 16 → block group.new j ≡ masked (decrypt k1.now) (of_halves t) group.old j }
+    ensures opened { (j : ℕ) → j < 16 → block group.new j ≡ tweaked_block (decrypt k1.now) (of_halves t) group.old j }
     ensures next { of_halves result ≡ tweak_at (of_halves t) 16 }
     ensures long { length result ≡ 2 }
 {
@@ -226,7 +226,7 @@ fn open_twice(k1: &SlicedSchedule, t: u64x2, group: &mut [u8]) -> u64x2
 pub fn open_sixteen(k1: &SlicedSchedule, t: u64x2, group: &mut [u8]) -> u64x2
     requires sixteen { length group.old ≡ 256 }
     requires long { length t ≡ 2 }
-    ensures opened { (j : ℕ) → j < 16 → block group.new j ≡ masked (decrypt k1.now) (of_halves t) group.old j }
+    ensures opened { (j : ℕ) → j < 16 → block group.new j ≡ tweaked_block (decrypt k1.now) (of_halves t) group.old j }
     ensures next { of_halves result ≡ tweak_at (of_halves t) 16 }
     ensures long { length result ≡ 2 }
 {
@@ -241,7 +241,7 @@ pub fn open_sixteen(k1: &SlicedSchedule, t: u64x2, group: &mut [u8]) -> u64x2
 fn seal_few(k1: &SlicedSchedule, t: u64x2, rest: &mut [u8])
     requires few { length rest.old ≤ 128 }
     requires long { length t ≡ 2 }
-    ensures { (j : ℕ) → 16 * j + 16 ≤ length rest.old → block rest.new j ≡ masked (encrypt k1.now) (of_halves t) rest.old j }
+    ensures { (j : ℕ) → 16 * j + 16 ≤ length rest.old → block rest.new j ≡ tweaked_block (encrypt k1.now) (of_halves t) rest.old j }
 {
     let mut group = [0u8; 128];
     group[..rest.len()].copy_from_slice(rest);
@@ -253,7 +253,7 @@ fn seal_few(k1: &SlicedSchedule, t: u64x2, rest: &mut [u8])
 fn seal_many(k1: &SlicedSchedule, t: u64x2, rest: &mut [u8])
     requires few { length rest.old ≤ 256 }
     requires long { length t ≡ 2 }
-    ensures { (j : ℕ) → 16 * j + 16 ≤ length rest.old → block rest.new j ≡ masked (encrypt k1.now) (of_halves t) rest.old j }
+    ensures { (j : ℕ) → 16 * j + 16 ≤ length rest.old → block rest.new j ≡ tweaked_block (encrypt k1.now) (of_halves t) rest.old j }
 {
     let mut group = [0u8; 256];
     group[..rest.len()].copy_from_slice(rest);
@@ -265,7 +265,7 @@ fn seal_many(k1: &SlicedSchedule, t: u64x2, rest: &mut [u8])
 pub fn seal_rest(k1: &SlicedSchedule, t: u64x2, rest: &mut [u8])
     requires few { length rest.old < 256 }
     requires long { length t ≡ 2 }
-    ensures { (j : ℕ) → 16 * j + 16 ≤ length rest.old → block rest.new j ≡ masked (encrypt k1.now) (of_halves t) rest.old j }
+    ensures { (j : ℕ) → 16 * j + 16 ≤ length rest.old → block rest.new j ≡ tweaked_block (encrypt k1.now) (of_halves t) rest.old j }
 {
     if rest.len() > 128 {
         seal_many(k1, t, rest);
@@ -278,7 +278,7 @@ pub fn seal_rest(k1: &SlicedSchedule, t: u64x2, rest: &mut [u8])
 fn open_few(k1: &SlicedSchedule, t: u64x2, rest: &mut [u8])
     requires few { length rest.old ≤ 128 }
     requires long { length t ≡ 2 }
-    ensures { (j : ℕ) → 16 * j + 16 ≤ length rest.old → block rest.new j ≡ masked (decrypt k1.now) (of_halves t) rest.old j }
+    ensures { (j : ℕ) → 16 * j + 16 ≤ length rest.old → block rest.new j ≡ tweaked_block (decrypt k1.now) (of_halves t) rest.old j }
 {
     let mut group = [0u8; 128];
     group[..rest.len()].copy_from_slice(rest);
@@ -290,7 +290,7 @@ fn open_few(k1: &SlicedSchedule, t: u64x2, rest: &mut [u8])
 fn open_many(k1: &SlicedSchedule, t: u64x2, rest: &mut [u8])
     requires few { length rest.old ≤ 256 }
     requires long { length t ≡ 2 }
-    ensures { (j : ℕ) → 16 * j + 16 ≤ length rest.old → block rest.new j ≡ masked (decrypt k1.now) (of_halves t) rest.old j }
+    ensures { (j : ℕ) → 16 * j + 16 ≤ length rest.old → block rest.new j ≡ tweaked_block (decrypt k1.now) (of_halves t) rest.old j }
 {
     let mut group = [0u8; 256];
     group[..rest.len()].copy_from_slice(rest);
@@ -302,7 +302,7 @@ fn open_many(k1: &SlicedSchedule, t: u64x2, rest: &mut [u8])
 pub fn open_rest(k1: &SlicedSchedule, t: u64x2, rest: &mut [u8])
     requires few { length rest.old < 256 }
     requires long { length t ≡ 2 }
-    ensures { (j : ℕ) → 16 * j + 16 ≤ length rest.old → block rest.new j ≡ masked (decrypt k1.now) (of_halves t) rest.old j }
+    ensures { (j : ℕ) → 16 * j + 16 ≤ length rest.old → block rest.new j ≡ tweaked_block (decrypt k1.now) (of_halves t) rest.old j }
 {
     if rest.len() > 128 {
         open_many(k1, t, rest);

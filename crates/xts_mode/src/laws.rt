@@ -4,7 +4,7 @@ ghost use Rattle.std.specs.Prelude.{◌≡◌, ℕ, ◌+◌, ◌*◌, ◌%◌, �
 ghost use Rattle.aes_core.specs.Aes.{decrypt, encrypt};
 ghost use Rattle.aes_core.specs.Blocks.{block};
 ghost use Rattle.aes_core.specs.Schedule.{IsKeyLength};
-ghost use Rattle.xts_mode.specs.Xts.{first_tweak, masked, xts_open, xts_seal};
+ghost use Rattle.xts_mode.specs.Xts.{first_tweak, tweaked_block, xts_open, xts_seal};
 
 /// A law: whole blocks are sealed to as many, and opened to as many.
 pub fn xts_keeps_lengths()
@@ -17,7 +17,7 @@ pub fn xts_keeps_lengths()
 /// A law: block j of what is sealed or opened is made of block j of what was given alone, by its number.
 pub fn xts_goes_block_by_block()
     ensures sealed { (key1 key2 : List ℕ) (unit j : ℕ) (plain : List ℕ) → IsKeyLength (length key1) → 16 * j + 16 ≤ length plain →
-        block (xts_seal key1 key2 unit plain) j ≡ masked (encrypt key1) (first_tweak key2 unit) plain j }
+        block (xts_seal key1 key2 unit plain) j ≡ tweaked_block (encrypt key1) (first_tweak key2 unit) plain j }
     ensures opened { (key1 key2 : List ℕ) (unit j : ℕ) (cipher : List ℕ) → IsKeyLength (length key1) → 16 * j + 16 ≤ length cipher →
-        block (xts_open key1 key2 unit cipher) j ≡ masked (decrypt key1) (first_tweak key2 unit) cipher j }
+        block (xts_open key1 key2 unit cipher) j ≡ tweaked_block (decrypt key1) (first_tweak key2 unit) cipher j }
 {}

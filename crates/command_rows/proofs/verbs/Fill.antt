@@ -5,7 +5,7 @@ use Rattle.command_words.specs.declared.spans.Span.{Span}
 use Rattle.eli_base.specs.declared.refusals.Refusal.{Refusal}
 use Rattle.provider.specs.Attached.{media}
 use Rattle.command_rows.specs.Becoming.{Becomes}
-use Rattle.command_rows.specs.Causes.{HasCause}
+use Rattle.command_rows.specs.Causes.{LineHasCause}
 use Rattle.command_rows.specs.Gate.{needs, refused_by}
 use Rattle.command_rows.specs.Replies.{done_or}
 use Rattle.command_rows.specs.Steps.{NeedsSectors, NeedsWritable}
@@ -65,7 +65,7 @@ fill_row seed start count a =
 pub fill_lawful : (prov : Span) (seed : ℕ) (start : ℕ) (count : ℕ) → IsLawful (commands.Fill prov seed start count)
 fill_lawful prov seed start count = record {
   why = λ line old refusal new h.
-      with_attached old.holding _ (HasCause line (commands.Fill prov seed start count) old refusal new)
+      with_attached old.holding _ (LineHasCause line (commands.Fill prov seed start count) old refusal new)
       (λ a is row. row_refused line (commands.Fill prov seed start count) done_or old row.answer new refusal done_replying row.replied (fill_why line prov seed start count a old row.answer new is row.row)) h;
   did = λ line old said new h.
       with_attached old.holding _ (LineDid (WritesWorkload old.holding seed start count) false said old.disk new.disk)

@@ -6,7 +6,7 @@ use Rattle.eli_base.specs.declared.refusals.Refusal.{Refusal}
 use Rattle.eli_base.specs.declared.refusals.Refusal.TheVariants as refusals
 use Rattle.provider.specs.Attached.{media}
 use Rattle.command_rows.specs.Becoming.{Becomes}
-use Rattle.command_rows.specs.Causes.{HasCause}
+use Rattle.command_rows.specs.Causes.{LineHasCause}
 use Rattle.command_rows.specs.Gate.{needs, refused_by}
 use Rattle.command_rows.specs.Replies.{payload_or}
 use Rattle.command_rows.specs.Steps.{NeedsSectors, NeedsWhole, ReadsSectors, Then, whole_sectors}
@@ -89,7 +89,7 @@ read_row sector count a =
 pub read_lawful : (prov : Span) (sector : ℕ) (count : ℕ) → IsLawful (commands.Read prov sector count)
 read_lawful prov sector count = record {
   why = λ line old refusal new h.
-      with_attached old.holding _ (HasCause line (commands.Read prov sector count) old refusal new)
+      with_attached old.holding _ (LineHasCause line (commands.Read prov sector count) old refusal new)
       (λ a is row. row_refused line (commands.Read prov sector count) payload_or old row.answer new refusal payload_replying row.replied (read_why line prov sector count a old row.answer new is row.row)) h;
   did = λ line old said new h.
       with_attached old.holding _ (LineDid (λ events. events ≡ []) false said old.disk new.disk)

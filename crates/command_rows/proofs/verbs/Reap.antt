@@ -13,7 +13,7 @@ use Rattle.eli_base.specs.declared.refusals.Refusal.{Refusal}
 use Rattle.eli_base.specs.declared.refusals.Refusal.TheVariants as refusals
 use Rattle.command_rows.specs.Asks.{AsksToReap, HasReadFault, QueueRefuses}
 use Rattle.command_rows.specs.Becoming.{Becomes}
-use Rattle.command_rows.specs.Causes.{HasCause}
+use Rattle.command_rows.specs.Causes.{LineHasCause}
 use Rattle.command_rows.specs.Gate.{needs, refused_by}
 use Rattle.command_rows.specs.Queueing.{NeedsRequest}
 use Rattle.command_rows.specs.Replies.{reaped_or}
@@ -117,7 +117,7 @@ reap_row tag a = unstored_then (NeedsRequest a tag) _ (request_unstored a tag) (
 pub reap_lawful : (prov : Span) (tag : ℕ) → IsLawful (commands.Reap prov tag)
 reap_lawful prov tag = record {
   why = λ line old refusal new h.
-      with_attached old.holding _ (HasCause line (commands.Reap prov tag) old refusal new)
+      with_attached old.holding _ (LineHasCause line (commands.Reap prov tag) old refusal new)
       (λ a is row. row_refused line (commands.Reap prov tag) reaped_or old row.answer new refusal reaped_replying row.replied (reap_why line prov tag a old row.answer new is row.row)) h;
   did = λ line old said new h.
       with_attached old.holding _ (LineDid (λ events. events ≡ []) false said old.disk new.disk)

@@ -18,7 +18,7 @@ use Rattle.eli_metadata.specs.declared.metadata.Metadata.{Metadata}
 use Rattle.resize_kill.proofs.Moved.{KeepsAlone-Moves, KeepsOneOf-Moves, KeepsOneOf-MovesPart}
 use Rattle.resize_kill.specs.Resizing.{HoldsOneOf, KeepsOneOf, RefusesOld, RefusesSizes, Resizes, grown, move_events, old_place, old_refusal, size_refusal}
 use Rattle.resize_kill.specs.Trash.{trash_sectors}
-use Rattle.command_rows.specs.Causes.{HasCause}
+use Rattle.command_rows.specs.Causes.{LineHasCause}
 use Rattle.command_rows.specs.Replies.{done_or}
 use Rattle.command_rows.specs.Stops.{ChangesMetadata}
 use Rattle.command_rows.specs.World.{Reach}
@@ -111,7 +111,7 @@ pub moving_counts : (oldsize : ℕ) → Counts (MovesMetadata oldsize)
 moving_counts oldsize old answer new h = moved_counts oldsize old new answer h.resizes h.cabinet
 
 unmoved_why : (line : List ℕ) (prov : Span) (oldsize : ℕ) (old : Reach) (refusal : Refusal) (new : Reach)
-    → RefusesSizes oldsize old.disk old.entropy refusal new.disk new.entropy ⊎ RefusesOld oldsize old.disk old.entropy refusal new.disk new.entropy → HasCause line (commands.Resize prov oldsize) old refusal new
+    → RefusesSizes oldsize old.disk old.entropy refusal new.disk new.entropy ⊎ RefusesOld oldsize old.disk old.entropy refusal new.disk new.entropy → LineHasCause line (commands.Resize prov oldsize) old refusal new
 unmoved_why line prov oldsize old refusal new (inl h) =
     plain_cause line (commands.Resize prov oldsize) old refusal new (plain_some (size_refusal old.disk.size oldsize) refusal (sizes_plain old.disk.size oldsize) h.cause) (inl h.cause)
 unmoved_why line prov oldsize old refusal new (inr h) =

@@ -14,7 +14,7 @@ use Rattle.sha2.specs.Sha256.{sha256}
 use Rattle.user_key.specs.Derivation.{user_key}
 use Rattle.command_rows.specs.Answer.{Answer}
 use Rattle.command_rows.specs.Becoming.{Becomes}
-use Rattle.command_rows.specs.Causes.{HasCause}
+use Rattle.command_rows.specs.Causes.{LineHasCause}
 use Rattle.command_rows.specs.Findings.{LacksMetadata}
 use Rattle.command_rows.specs.Grounds.{HasGround}
 use Rattle.command_rows.specs.Replies.{done_or}
@@ -183,7 +183,7 @@ resume_keeps line words kept old answer new was h =
 pub resume_lawful : (prov : Span) (words : KeyWords) → IsLawful (commands.Resume prov words)
 resume_lawful prov words = record {
   why = λ line old refusal new h.
-      with_suspended old.holding _ (HasCause line (commands.Resume prov words) old refusal new)
+      with_suspended old.holding _ (LineHasCause line (commands.Resume prov words) old refusal new)
       (λ kept is row. row_refused line (commands.Resume prov words) done_or old row.answer new refusal done_replying row.replied (resume_why line prov words kept old row.answer new is row.row)) h;
   did = λ line old said new h.
       with_suspended old.holding _ (LineDid (λ events. events ≡ []) false said old.disk new.disk)

@@ -12,7 +12,7 @@ use Rattle.eli_base.specs.declared.refusals.Refusal.{Refusal}
 use Rattle.eli_base.specs.declared.refusals.Refusal.TheVariants as refusals
 use Rattle.command_rows.specs.Asks.{AsksToStep, QueueRefuses}
 use Rattle.command_rows.specs.Becoming.{Becomes}
-use Rattle.command_rows.specs.Causes.{HasCause}
+use Rattle.command_rows.specs.Causes.{LineHasCause}
 use Rattle.command_rows.specs.Gate.{needs, refused_by}
 use Rattle.command_rows.specs.Queueing.{NeedsRequest}
 use Rattle.command_rows.specs.Replies.{left_or}
@@ -125,7 +125,7 @@ step_row tag a = unstored_then (NeedsRequest a tag) _ (request_unstored a tag) (
 pub step_lawful : (prov : Span) (tag : ℕ) → IsLawful (commands.Step prov tag)
 step_lawful prov tag = record {
   why = λ line old refusal new h.
-      with_attached old.holding _ (HasCause line (commands.Step prov tag) old refusal new)
+      with_attached old.holding _ (LineHasCause line (commands.Step prov tag) old refusal new)
       (λ a is row. row_refused line (commands.Step prov tag) left_or old row.answer new refusal left_replying row.replied (step_why line prov tag a old row.answer new is row.row)) h;
   did = λ line old said new h.
       with_attached old.holding _ (LineDid (DoesNext old.holding tag) false said old.disk new.disk)

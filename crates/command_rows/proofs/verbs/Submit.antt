@@ -1,7 +1,7 @@
 -- That `submit` is lawful.
 use Rattle.std.proofs.Common.{Err, List, None, Ok, Result, [], ap, arith, false, length, refl, subst, sym, true, ℕ, ◌*◌, ◌+◌, ◌<◌, ◌∙◌, ◌≡◌, ◌≤◌}
 use Rattle.std.specs.Prelude.{IsTrue}
-use Rattle.bio_queue.specs.Answers.{IsWrite, PassesEnd, SubmitAnswers}
+use Rattle.bio_queue.specs.Answers.{IsWrite, JobPassesEnd, SubmitAnswers}
 use Rattle.bio_queue.specs.Requests.{Request}
 use Rattle.bio_queue.specs.declared.faults.SubmitFault.{SubmitFault}
 use Rattle.bio_queue.specs.declared.faults.SubmitFault.TheVariants as submit
@@ -19,7 +19,7 @@ use Rattle.eli_base.specs.declared.refusals.Refusal.TheVariants as refusals
 use Rattle.provider.specs.Attached.{media}
 use Rattle.command_rows.specs.Asks.{AsksBytesAtOnce, AsksSectorsFrom, AsksToOpen, QueueRefuses}
 use Rattle.command_rows.specs.Becoming.{Becomes}
-use Rattle.command_rows.specs.Causes.{HasCause}
+use Rattle.command_rows.specs.Causes.{LineHasCause}
 use Rattle.command_rows.specs.Digits.{bytes_spelled}
 use Rattle.command_rows.specs.Gate.{job_writes, needs, refused_by}
 use Rattle.command_rows.specs.Replies.{tag_or}
@@ -84,7 +84,7 @@ quiet_submit_row line (words.Write sector hex) a =
 quiet_submit_row line words.Flush a = quiet_submit a jobs.Flush []
 
 -- the numbers of sectors that pass the end
-passed : (job : Job) (end first many there : ℕ) → PassesEnd end job first many there → (there ≡ end) × (there < first + many)
+passed : (job : Job) (end first many there : ℕ) → JobPassesEnd end job first many there → (there ≡ end) × (there < first + many)
 passed (jobs.Read sector count) end first many there h = (h.3, omega arith)
 passed (jobs.Write sector count) end first many there h = (h.3, omega arith)
 passed jobs.Flush end first many there h = absurd h
@@ -92,7 +92,7 @@ passed jobs.Flush end first many there h = absurd h
 -- the job is that of the words
 record IsWorded (line : List ℕ) (asked : JobWords) (a : Attachment) (job : Job) : Type 0 where
   writes : IsWrite job → job_writes asked ≡ true
-  sectors : (end first many there : ℕ) → PassesEnd end job first many there → AsksSectorsFrom (AsksToOpen (job_sectors line asked)) first many a
+  sectors : (end first many there : ℕ) → JobPassesEnd end job first many there → AsksSectorsFrom (AsksToOpen (job_sectors line asked)) first many a
 
 tag_why : (line : List ℕ) (prov : Span) (asked : JobWords) (a : Attachment) (job : Job) (from : List ℕ) (queue : List Request) (old : Reach) (tag : Result ℕ SubmitFault) (new : Reach) → old.holding ≡ IsAttached a → IsWorded line asked a job
     → SubmitAnswers a.keying a.readonly old.disk job from a.queue queue tag → Why line (commands.Submit prov asked) old (or_refusal submit_refusal tag) new
@@ -191,7 +191,7 @@ submit_row line words.Flush a = submitting_unstored a jobs.Flush []
 pub submit_lawful : (prov : Span) (job : JobWords) → IsLawful (commands.Submit prov job)
 submit_lawful prov job = record {
   why = λ line old refusal new h.
-      with_attached old.holding _ (HasCause line (commands.Submit prov job) old refusal new)
+      with_attached old.holding _ (LineHasCause line (commands.Submit prov job) old refusal new)
       (λ a is row. row_refused line (commands.Submit prov job) tag_or old row.answer new refusal tag_replying row.replied (submit_why line prov job a old row.answer new is row.row)) h;
   did = λ line old said new h.
       with_attached old.holding _ (LineDid (λ events. events ≡ []) false said old.disk new.disk)

@@ -7,7 +7,7 @@ use Rattle.eli_base.specs.declared.refusals.Refusal.TheVariants as refusals
 use Rattle.provider.specs.Attached.{media}
 use Rattle.sha2.specs.Sha256.{sha256}
 use Rattle.command_rows.specs.Becoming.{Becomes}
-use Rattle.command_rows.specs.Causes.{HasCause}
+use Rattle.command_rows.specs.Causes.{LineHasCause}
 use Rattle.command_rows.specs.Gate.{needs, refused_by}
 use Rattle.command_rows.specs.Replies.{digest_or}
 use Rattle.command_rows.specs.Steps.{Decides, NeedsSectors, ReadsSectors, Then}
@@ -84,7 +84,7 @@ sum_row start count a =
 pub sum_lawful : (prov : Span) (start : ℕ) (count : ℕ) → IsLawful (commands.Sum prov start count)
 sum_lawful prov start count = record {
   why = λ line old refusal new h.
-      with_attached old.holding _ (HasCause line (commands.Sum prov start count) old refusal new)
+      with_attached old.holding _ (LineHasCause line (commands.Sum prov start count) old refusal new)
       (λ a is row. row_refused line (commands.Sum prov start count) digest_or old row.answer new refusal digest_replying row.replied (sum_why line prov start count a old row.answer new is row.row)) h;
   did = λ line old said new h.
       with_attached old.holding _ (LineDid (λ events. events ≡ []) false said old.disk new.disk)

@@ -11,7 +11,7 @@ use Rattle.eli_base.specs.declared.refusals.Refusal.TheVariants as refusals
 use Rattle.command_rows.specs.Answer.{Answer}
 use Rattle.command_rows.specs.Asks.{AsksForNone, QueueRefuses}
 use Rattle.command_rows.specs.Becoming.{Becomes}
-use Rattle.command_rows.specs.Causes.{HasCause}
+use Rattle.command_rows.specs.Causes.{LineHasCause}
 use Rattle.command_rows.specs.Gate.{needs, refused_by}
 use Rattle.command_rows.specs.Replies.{done_or}
 use Rattle.command_rows.specs.Steps.{DoesEvents, GoesOn}
@@ -117,7 +117,7 @@ suspend_keeps a old (Err refusal) middle answer new first h = inl (same_reach mi
 pub suspend_lawful : (prov : Span) → IsLawful (commands.Suspend prov)
 suspend_lawful prov = record {
   why = λ line old refusal new h.
-      with_attached old.holding _ (HasCause line (commands.Suspend prov) old refusal new)
+      with_attached old.holding _ (LineHasCause line (commands.Suspend prov) old refusal new)
       (λ a is row. row_refused line (commands.Suspend prov) done_or old row.answer new refusal done_replying row.replied (suspend_why line prov a old row.answer new is row.row)) h;
   did = λ line old said new h.
       with_attached old.holding _ (LineDid (λ events. events ≡ Flush ∷ []) false said old.disk new.disk)

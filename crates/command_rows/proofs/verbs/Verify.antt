@@ -16,7 +16,7 @@ use Rattle.provider.specs.Attached.{has_tags, media}
 use Rattle.range_keys.specs.Keys.{le64}
 use Rattle.verify_sweep.specs.Sweeping.{Sweep}
 use Rattle.command_rows.specs.Becoming.{Becomes}
-use Rattle.command_rows.specs.Causes.{HasCause, may_lack_memory, needs_tags}
+use Rattle.command_rows.specs.Causes.{LineHasCause, may_lack_memory, needs_tags}
 use Rattle.command_rows.specs.Findings.{IsFile}
 use Rattle.command_rows.specs.Gate.{needs}
 use Rattle.command_rows.specs.Steps.{Decides, LoadsFile, StoresBytes, Then}
@@ -132,7 +132,7 @@ far_place line file restart a start disk place refusal same (inr said) bad = rec
 
 swept_why : (line : List ℕ) (command : Command) (s : Sweep) (start old : Reach) (answer : Result SweptPart Refusal) (new : Reach) → old.disk ≡ start.disk → PartAnswer s old.disk answer new.disk → Why line command start answer new
 swept_why line command s start old (Ok part) new same h = tt
-swept_why line command s start old (Err refusals.DeviceFault) new same h = subst (λ (d : DiskState). HasCause line command (record start { disk = d }) refusals.DeviceFault new) same h.fails.fails.rose
+swept_why line command s start old (Err refusals.DeviceFault) new same h = subst (λ (d : DiskState). LineHasCause line command (record start { disk = d }) refusals.DeviceFault new) same h.fails.fails.rose
 swept_why line command s start old (Err refusal) new same h = absurd h
 
 stored_why : (line : List ℕ) (command : Command) (file : Span) (part : SweptPart) (start old : Reach) (answer : Result SweptPart Refusal) (new : Reach) → may_lack_memory command ≡ true → start.cabinet.faults ≤ old.cabinet.faults
@@ -307,7 +307,7 @@ pub verify_lawful : (prov : Span) (file : Span) (count : ℕ) (restart : Bool) �
 verify_lawful prov file count restart = record {
   why = λ line old refusal new h.
       let command : Command = commands.Verify prov file count restart in
-      with_attached old.holding _ (HasCause line command old refusal new)
+      with_attached old.holding _ (LineHasCause line command old refusal new)
       (λ a is row. row_refused line command verified_or old row.answer new refusal verified_replying row.replied (verify_why line prov file count restart a old row.answer new is row.row)) h;
   did = λ line old said new h.
       with_attached old.holding _ (LineDid (λ events. events ≡ []) false said old.disk new.disk)

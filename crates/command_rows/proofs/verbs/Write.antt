@@ -9,7 +9,7 @@ use Rattle.eli_base.specs.declared.refusals.Refusal.TheVariants as refusals
 use Rattle.provider.specs.Attached.{media}
 use Rattle.provider.specs.Writing.{data_writes}
 use Rattle.command_rows.specs.Becoming.{Becomes}
-use Rattle.command_rows.specs.Causes.{HasCause}
+use Rattle.command_rows.specs.Causes.{LineHasCause}
 use Rattle.command_rows.specs.Digits.{bytes_spelled}
 use Rattle.command_rows.specs.Gate.{needs, refused_by}
 use Rattle.command_rows.specs.Replies.{done_or}
@@ -93,7 +93,7 @@ write_row sector bytes a =
 pub write_lawful : (prov : Span) (sector : ℕ) (hex : Span) → IsLawful (commands.Write prov sector hex)
 write_lawful prov sector hex = record {
   why = λ line old refusal new h.
-      with_attached old.holding _ (HasCause line (commands.Write prov sector hex) old refusal new)
+      with_attached old.holding _ (LineHasCause line (commands.Write prov sector hex) old refusal new)
       (λ a is row. row_refused line (commands.Write prov sector hex) done_or old row.answer new refusal done_replying row.replied (write_why line prov sector hex a old row.answer new is row.row)) h;
   did = λ line old said new h.
       let bytes : List ℕ = bytes_spelled (bytes_at line hex) in

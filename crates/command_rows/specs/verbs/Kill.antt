@@ -6,7 +6,7 @@ use Rattle.block_traits.specs.declared.disk.Event.{Event}
 use Rattle.command_words.specs.declared.spans.Span.{Span}
 use Rattle.eli_base.specs.declared.refusals.Refusal.{Refusal}
 use Rattle.resize_kill.specs.Killing.{HoldsNoMetadata, Kills, kill_events}
-use Rattle.resize_kill.specs.Trash.{random_size}
+use Rattle.resize_kill.specs.Trash.{trash_size}
 use Rattle.command_rows.specs.Findings.{LacksRoom}
 use Rattle.command_rows.specs.Replies.{Replies, done_or}
 use Rattle.command_rows.specs.Steps.{Then}
@@ -31,7 +31,7 @@ KillRow old answer new = Then Withdraws (λ _. DestroysMetadata) old answer new
 -- the last sector is written over in six passes
 pub record OverwritesLast (disk : DiskState) (events : List Event) : Type 0 where
   pub random : List ℕ
-  pub size : length random ≡ random_size
+  pub size : length random ≡ trash_size
   pub are : events ≡ kill_events disk random
 
 -- once a flush landed, no value that the last sector may hold is metadata

@@ -34,8 +34,8 @@ abbrev pub reap_answer : ℕ → List ℕ → Result Reaped ReapFault → Result
 reap_answer tag buffer (Ok given) = Ok (bytes_reaped buffer given)
 reap_answer tag buffer (Err fault) = Err (reap_refusal tag fault)
 
--- the request with this tag, whose units are all done, is taken out; or it isn't. A read puts its bytes to the front of
--- those that some place had before. The disk stays in either case
+-- The request with this tag, whose units are all done, is taken out; or it isn't. A read puts its bytes to the front of
+-- those that some place had before. The disk stays in either case.
 pub record ReapsRequest (a : Attachment) (tag : ℕ) (old : Reach) (answer : Result (Option (List ℕ)) Refusal) (new : Reach) : Type 0 where
   pub queue : List Request
   pub before : List ℕ

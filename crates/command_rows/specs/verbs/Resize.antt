@@ -9,7 +9,7 @@ use Rattle.eli_metadata.specs.Format.{encoded}
 use Rattle.eli_metadata.specs.declared.metadata.MetaFault.{MetaFault}
 use Rattle.eli_metadata.specs.declared.metadata.Metadata.{Metadata}
 use Rattle.resize_kill.specs.Resizing.{KeepsOneOf, Resizes, grown, move_events, old_place, old_refusal, size_refusal}
-use Rattle.resize_kill.specs.Trash.{random_size}
+use Rattle.resize_kill.specs.Trash.{trash_size}
 use Rattle.command_rows.specs.Findings.{IsReadAs, ShowsMetadataAt}
 use Rattle.command_rows.specs.Replies.{Replies, done_or}
 use Rattle.command_rows.specs.Verb.{NoBadFile, OfOther, Verb, asks_nothing, places_nothing}
@@ -44,7 +44,7 @@ pub record RefusesOldPlace (oldsize : ℕ) (old : Reach) (refusal : Refusal) : T
 pub record MovesLast (oldsize : ℕ) (disk : DiskState) (events : List Event) : Type 0 where
   pub m : Metadata
   pub random : List ℕ
-  pub size : length random ≡ random_size
+  pub size : length random ≡ trash_size
   pub are : events ≡ move_events disk (old_place oldsize) m random
 
 -- The metadata move from the end of the image as it was to the end that it has, with its size. Until a flush landed,

@@ -25,7 +25,7 @@ NeedsSameKey kept a old answer new = Decides (same_key kept a) old answer new
 abbrev pub AttachesAgain : Kept → Attachment → Reach → Result (Unit {0}) Refusal → Reach → Type 0
 AttachesAgain kept a old answer new = Then (NeedsSameKey kept a) (λ _. Attaches a) old answer new
 
--- `resume`, of a suspended drawer: slot 0 is tried, and then slot 1; the provider is only read where it was so or the
+-- `resume`, of a suspended drawer: slot 0 is tried, and then slot 1; the provider is read-only where it was so or the
 -- metadata say so
 abbrev pub ResumeRow : List ℕ → KeyWords → Kept → Reach → Result (Unit {0}) Refusal → Reach → Type 0
 ResumeRow line words kept old answer new =

@@ -28,8 +28,8 @@ submit_refusal (submit.OutOfRange sector count media) = refusals.OutOfRange sect
 submit_refusal submit.QueueFull = refusals.QueueFull
 submit_refusal submit.NoMemory = refusals.NoMemory
 
--- a request for the job is opened, and its tag is answered; or it is refused, and the queue stays. The disk stays in
--- either case
+-- A request for the job is opened, and its tag is answered; or it is refused, and the queue stays. The disk stays in
+-- either case.
 pub record Submits (a : Attachment) (job : Job) (from : List ℕ) (old : Reach) (answer : Result ℕ Refusal) (new : Reach) : Type 0 where
   pub queue : List Request
   pub tag : Result ℕ SubmitFault

@@ -3,7 +3,7 @@ use Rattle.std.specs.Int.{w64, w128, to_le_bytes, from_le_bytes}
 use Rattle.aes_core.specs.Field.{times, power}
 use Rattle.aes_core.specs.Blocks.{blocks}
 use Rattle.aes_core.proofs.Cached.{encrypt_cached}
-use Rattle.xts_mode.specs.Xts.{tweak_at, first_tweak, masked}
+use Rattle.xts_mode.specs.Xts.{tweak_at, first_tweak, tweaked_block}
 use Rattle.xts_mode.specs.Examples.{example_key1, example_key2, example_unit, example_plain}
 use Rattle.xts_mode.proofs.example_of_the_standard.Goals as goal
 
@@ -11,4 +11,4 @@ pub returns : goal.returns
 unfolding times power blocks tweak_at first_tweak
 returns c = (λ i.
     let tweak = from_le_bytes w128 (encrypt_cached example_key2 (to_le_bytes w64 example_unit ++ replicate 8 0) i) in
-    blocks (masked (λ x. encrypt_cached example_key1 x i) tweak example_plain) (length example_plain / 16))
+    blocks (tweaked_block (λ x. encrypt_cached example_key1 x i) tweak example_plain) (length example_plain / 16))

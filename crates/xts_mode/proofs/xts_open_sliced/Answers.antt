@@ -2,7 +2,7 @@ use Rattle.std.proofs.Common.{◌≡◌, ◌+◌, ◌-◌, ◌*◌, ◌/◌, ℕ
 use Rattle.aes_core.specs.Aes.{decrypt}
 use Rattle.aes_core.proofs.InPlace.{IsDone-start, IsDone-end}
 use Rattle.xts_mode.specs.Halves.{of_halves}
-use Rattle.xts_mode.specs.Xts.{tweak_at, first_tweak, masked}
+use Rattle.xts_mode.specs.Xts.{tweak_at, first_tweak, tweaked_block}
 use Rattle.xts_mode.proofs.Tweaks.{tweak_start, tweak_at-add}
 use Rattle.xts_mode.proofs.GroupLaws.{group_step, rest_step}
 use Rattle.xts_mode.proofs.xts_open_sliced.Goals as goal
@@ -13,7 +13,7 @@ loop-g-init c =
     record {
       long = c.halves-t.ensures.long;
       at = c.halves-t.ensures.value ∙ c.first_tweak.ensures ∙ sym (tweak_start t);
-      done = IsDone-start (masked (decrypt c.args.k1.now) t c.args.block.now) c.args.block.now;
+      done = IsDone-start (tweaked_block (decrypt c.args.k1.now) t c.args.block.now) c.args.block.now;
     }
 
 pub loop-g-preserved : goal.loop-g-preserved
@@ -31,7 +31,7 @@ pub returns : goal.returns
 returns c =
     let p = c.args.block.now in
     let t = first_tweak c.args.k2.now c.args.tweak in
-    let f = masked (decrypt c.args.k1.now) t p in
+    let f = tweaked_block (decrypt c.args.k1.now) t p in
     let s : ℕ = 256 * (length p / 256) in
     let end : c.loop-g.g ≡ length p / 256 = omega arith in
     let whole = c.requires in

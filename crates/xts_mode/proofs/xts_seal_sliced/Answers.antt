@@ -2,7 +2,7 @@ use Rattle.std.proofs.Common.{◌≡◌, ◌+◌, ◌-◌, ◌*◌, ◌/◌, ℕ
 use Rattle.aes_core.specs.Aes.{encrypt}
 use Rattle.aes_core.proofs.InPlace.{IsDone-start, IsDone-end}
 use Rattle.xts_mode.specs.Halves.{of_halves}
-use Rattle.xts_mode.specs.Xts.{tweak_at, first_tweak, masked, xts_open}
+use Rattle.xts_mode.specs.Xts.{tweak_at, first_tweak, tweaked_block, xts_open}
 use Rattle.xts_mode.proofs.Tweaks.{tweak_start, tweak_at-add, xts_open-xts_seal}
 use Rattle.xts_mode.proofs.GroupLaws.{group_step, rest_step}
 use Rattle.xts_mode.proofs.xts_seal_sliced.Goals as goal
@@ -13,7 +13,7 @@ loop-g-init c =
     record {
       long = c.halves-t.ensures.long;
       at = c.halves-t.ensures.value ∙ c.first_tweak.ensures ∙ sym (tweak_start t);
-      done = IsDone-start (masked (encrypt c.args.k1.now) t c.args.block.now) c.args.block.now;
+      done = IsDone-start (tweaked_block (encrypt c.args.k1.now) t c.args.block.now) c.args.block.now;
       bytes = λ k. omega (arith, c.type_inv.block k);
     }
 
@@ -33,7 +33,7 @@ pub returns-clause-sealed : goal.returns-clause-sealed
 returns-clause-sealed c =
     let p = c.args.block.now in
     let t = first_tweak c.args.k2.now c.args.tweak in
-    let f = masked (encrypt c.args.k1.now) t p in
+    let f = tweaked_block (encrypt c.args.k1.now) t p in
     let s : ℕ = 256 * (length p / 256) in
     let end : c.loop-g.g ≡ length p / 256 = omega arith in
     let whole = c.requires in
@@ -45,7 +45,7 @@ pub returns-clause-taken_back : goal.returns-clause-taken_back
 returns-clause-taken_back c =
     let p = c.args.block.now in
     let t = first_tweak c.args.k2.now c.args.tweak in
-    let f = masked (encrypt c.args.k1.now) t p in
+    let f = tweaked_block (encrypt c.args.k1.now) t p in
     let s : ℕ = 256 * (length p / 256) in
     let end : c.loop-g.g ≡ length p / 256 = omega arith in
     let whole = c.requires in

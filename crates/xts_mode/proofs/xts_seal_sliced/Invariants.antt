@@ -3,13 +3,13 @@ use Rattle.aes_core.specs.Aes.{encrypt}
 use Rattle.aes_core.specs.Schedule.{AreBytes}
 use Rattle.aes_core.proofs.InPlace.{IsDone}
 use Rattle.xts_mode.specs.Halves.{of_halves}
-use Rattle.xts_mode.specs.Xts.{tweak_at, first_tweak, masked}
+use Rattle.xts_mode.specs.Xts.{tweak_at, first_tweak, tweaked_block}
 use Rattle.xts_mode.proofs.xts_seal_sliced.Given as goal
 
 abbrev pub invariant-loop-g : goal.invariant-loop-g
 invariant-loop-g l = record {
   long : length l.t ≡ 2;
   at : of_halves l.t ≡ tweak_at (first_tweak l.k2 l.tweak) (16 * l.g);
-  done : IsDone (masked (encrypt l.k1) (first_tweak l.k2 l.tweak) l.fn.block) l.fn.block l.block (16 * l.g);
+  done : IsDone (tweaked_block (encrypt l.k1) (first_tweak l.k2 l.tweak) l.fn.block) l.fn.block l.block (16 * l.g);
   bytes : AreBytes l.fn.block;
 }

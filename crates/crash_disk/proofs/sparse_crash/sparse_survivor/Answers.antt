@@ -4,7 +4,7 @@ use Rattle.std.proofs.lemmas.Result.{err_from_is_err_and}
 use Rattle.block_traits.specs.Content.{at_moment}
 use Rattle.block_traits.proofs.Images.{IsTorn-image}
 use Rattle.crash_disk.specs.MemDisk.{MemState, fresh}
-use Rattle.crash_disk.specs.SparseDisk.{after_put, content_of, state_of}
+use Rattle.crash_disk.specs.SparseDisk.{after_put, sparse_content, state_of}
 use Rattle.crash_disk.specs.Survivor.{choice_of}
 use Rattle.crash_disk.proofs.SurvivorLemmas.{IsContentOf-at_moment}
 use Rattle.crash_disk.proofs.Tears.{AllGoodTears-more, IsTorn-more, IsTornImage-more, IsTornImage-start}
@@ -18,7 +18,7 @@ returns-in_err-made-clause-bad c =
 pub loop-index-init : goal.loop-index-init
 loop-index-init c =
     let log = c.args.disk.now.log in
-    let content = content_of log in
+    let content = sparse_content log in
     let left = at_moment c.args.moment content in
     let choice = choice_of left c.args.picks.now in
     let base = (state_of c.in_ok-made.made).content.base in
@@ -32,7 +32,7 @@ loop-index-init c =
 
 pub loop-index-preserved : goal.loop-index-preserved
 loop-index-preserved c =
-    let left = at_moment c.args.moment (content_of c.args.disk.now.log) in
+    let left = at_moment c.args.moment (sparse_content c.args.disk.now.log) in
     let room = c.args.disk.now.log.room in
     let picks = c.args.picks.now in
     let torn = c.args.torn.now in

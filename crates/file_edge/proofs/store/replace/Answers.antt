@@ -1,10 +1,10 @@
 use Rattle.std.proofs.Common.{◌≡◌, Bool, not, Option, List, ap, ◌∙◌}
-use Rattle.file_edge.specs.Asked.{Asked, Request, asking, more}
+use Rattle.file_edge.specs.Asked.{Asked, FileRequest, asking, more}
 use Rattle.file_edge.proofs.Logs.{more_then}
 use Rattle.file_edge.proofs.store.replace.Goals as goal
 
 -- a request, by whether its test found that it failed
-asked : (request : Request) (was failed is : Bool) (old new : Option (List Asked)) → was ≡ not failed → failed ≡ is
+asked : (request : FileRequest) (was failed is : Bool) (old new : Option (List Asked)) → was ≡ not failed → failed ≡ is
     → new ≡ more (asking request was) old → new ≡ more (asking request (not is)) old
 asked request was failed is old new answer test log = log ∙ ap (λ (b : Bool). more (asking request b) old) (answer ∙ ap not test)
 

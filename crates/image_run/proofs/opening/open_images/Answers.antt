@@ -4,7 +4,7 @@ use Rattle.std.proofs.lemmas.List.{map_more}
 use Rattle.std.proofs.lemmas.List.Elements.{All-push}
 use Rattle.image_run.proofs.Images.{names_at}
 use Rattle.image_layers.proofs.Opened.{first_asked, image_part, one_more}
-use Rattle.image_layers.specs.Images.{AsksFirst, AsksPart, OpensImage, TellsImage, opening}
+use Rattle.image_layers.specs.Images.{AsksFirst, AsksPart, OpensImageDisk, TellsImage, opening}
 use Rattle.image_run.proofs.opening.open_images.Goals as goal
 
 pub loop-name-preserved : goal.loop-name-preserved
@@ -14,7 +14,7 @@ loop-name-preserved g c =
     let disk = c.in_ok-open_image.field-0 in
     let middle = opening c.loop-name.opener c.loop-name.files.items in
     let new = opening c.open_image.new.opener c.open_image.new.files.items in
-    let P : List ℕ → Type 0 = λ name. OpensImage g.O.Opener.leads g.O.Opener.answers g.O.File.ImageFile.tells g.O.File.ImageFile.locks g.O.File.ImageFile.ends g.O.Opener.asked c.args.changes name disk middle new in
+    let P : List ℕ → Type 0 = λ name. OpensImageDisk g.O.Opener.leads g.O.Opener.answers g.O.File.ImageFile.tells g.O.File.ImageFile.locks g.O.File.ImageFile.ends g.O.Opener.asked c.args.changes name disk middle new in
     record {
       opens = rw (more, here, c.in_ok-push.ensures.items)
           (one_more g.O.Opener.leads g.O.Opener.answers g.O.File.ImageFile.tells g.O.File.ImageFile.locks g.O.File.ImageFile.ends g.O.Opener.asked c.args.changes _ _ _ disk (opening c.args.opener.now []) middle new

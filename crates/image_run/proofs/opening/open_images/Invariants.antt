@@ -3,7 +3,8 @@ use Rattle.std.specs.Prelude.{All, map, string_bytes}
 use Rattle.image_layers.specs.Images.{OpensImages, TellsImage, opening}
 use Rattle.image_run.proofs.opening.open_images.Given as goal
 
--- the images of the first names were opened, each disk of a file alone tells what that tells, and nothing else was asked
+-- the images of the first names were opened, each disk of a file alone tells what that tells, and nothing else was
+-- asked
 abbrev pub invariant-loop-name : goal.invariant-loop-name
 invariant-loop-name g l =
     record {

@@ -1,5 +1,5 @@
-use Rattle.key_commands.proofs.Changing.{iterations_of-stays}
+use Rattle.key_commands.proofs.Changing.{changed_iterations-stays}
 use Rattle.key_commands.proofs.laws.iterations_stay_for_the_other_key.Goals as goal
 
 pub returns : goal.returns
-returns c = iterations_of-stays
+returns c = changed_iterations-stays

@@ -1,5 +1,5 @@
 use Rattle.std.proofs.Common.{◌≡◌, refl, ℕ, ◌*◌, List, length, take, drop, ap, ◌∙◌, arith, rules}
-use Rattle.key_slots.specs.Slots.{deciphered}
+use Rattle.key_slots.specs.Slots.{deciphered_slot}
 use Rattle.key_slots.proofs.Changes.{set_same, set_other, bytes_same, bytes_other, OpensAsBefore-same}
 use Rattle.key_slots.proofs.placing.put_slot.Goals as goal
 
@@ -10,7 +10,7 @@ returns-clause-opens c =
     let put = ap (λ (l : List ℕ). take 192 (drop (192 * slot) l)) c.put_bytes.ensures ∙ bytes_same c.args.meta.now.mkeys c.args.wrapped.now slot long (omega arith) c.requires in
     λ u master held. record {
       set = set_same c.args.meta.now.keys slot c.requires;
-      slot = record { text = ap (λ (l : List ℕ). deciphered l u c.args.meta.now.keylen) put ∙ held.text };
+      slot = record { text = ap (λ (l : List ℕ). deciphered_slot l u c.args.meta.now.keylen) put ∙ held.text };
     }
 
 pub returns-clause-other : goal.returns-clause-other

@@ -1,7 +1,7 @@
 use Rattle.std.proofs.Common.{◌≡◌, Option, None, sym, ap, ◌∙◌, subst}
 use Rattle.std.specs.Prelude.{◌↔◌, IsSomeAnd, IsTrue, false}
 use Rattle.provider.specs.Attached.{media}
-use Rattle.bio_queue.specs.Kept.{place_of}
+use Rattle.bio_queue.specs.Kept.{request_place}
 use Rattle.bio_queue.specs.Owners.{IsOf}
 use Rattle.bio_queue.specs.Requests.{Request, request_with}
 use Rattle.bio_queue.proofs.Places.{none_there}
@@ -22,6 +22,6 @@ returns-in-None g c =
     let k = c.args.on.now.keying in
     let m = media k (g.D.Disk.state c.args.on.now.disk) in
     let items = c.self.inside.requests.items in
-    let none : request_with c.args.tag items ≡ None = none_there c.args.tag items (ap (place_of c.args.tag) (sym c.deref.ensures.value) ∙ sym c.find.ensures.found ∙ c.in-None.is) in
+    let none : request_with c.args.tag items ≡ None = none_there c.args.tag items (ap (request_place c.args.tag) (sym c.deref.ensures.value) ∙ sym c.find.ensures.found ∙ c.in-None.is) in
     let there : request_with c.args.tag c.args.self.now ≡ None = ap (request_with c.args.tag) (sym c.self.view_is) ∙ none in
     subst (λ (o : Option Request). IsTrue false ↔ IsSomeAnd o (IsOf k m)) (sym there) ((λ h. absurd (let none : ⊥ = cc in none)), (λ h. absurd h))

@@ -1,6 +1,6 @@
 use Rattle.std.proofs.Common.{rules, ◌≡◌, None, IfSome, refl, sym, ap, ◌∙◌, subst, arith}
 use Rattle.bio_queue.specs.Answers.{CanBeReaped}
-use Rattle.bio_queue.specs.Kept.{place_of}
+use Rattle.bio_queue.specs.Kept.{request_place}
 use Rattle.bio_queue.specs.Requests.{Request, left_of, request_with}
 use Rattle.bio_queue.proofs.Places.{none_there}
 use Rattle.bio_queue.proofs.Served.{one_request, ordered_without, stands}
@@ -9,7 +9,7 @@ use Rattle.bio_queue.proofs.queue.Queue.reap.Goals as goal
 pub returns-in_default-clause-answer : goal.returns-in_default-clause-answer
 returns-in_default-clause-answer g c =
     let items = c.self.inside.requests.items in
-    let none : request_with c.args.tag items ≡ None = none_there c.args.tag items (ap (place_of c.args.tag) (sym c.deref.ensures.value) ∙ sym c.find.ensures.found ∙ c.in_default.is) in
+    let none : request_with c.args.tag items ≡ None = none_there c.args.tag items (ap (request_place c.args.tag) (sym c.deref.ensures.value) ∙ sym c.find.ensures.found ∙ c.in_default.is) in
     (ap (request_with c.args.tag) (sym c.self.view_is) ∙ none, refl, refl)
 
 pub returns-then-left-gt0-clause-answer : goal.returns-then-left-gt0-clause-answer

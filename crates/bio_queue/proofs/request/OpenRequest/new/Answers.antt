@@ -1,5 +1,5 @@
 use Rattle.std.proofs.Common.{subst, arith}
-use Rattle.bio_queue.specs.Answers.{IsAsked, IsInRange}
+use Rattle.bio_queue.specs.Answers.{IsAsked, JobIsInRange}
 use Rattle.bio_queue.specs.declared.job.Job.{Job}
 use Rattle.bio_queue.proofs.Held.{first_small, held_read, held_write}
 use Rattle.provider.specs.Attached.{media}
@@ -14,7 +14,7 @@ pub overflow_mul-result-in-Write : goal.overflow_mul-result-in-Write
 overflow_mul-result-in-Write g c =
     let d = g.D.Disk.state c.args.on.now.disk in
     let asked = subst (λ (j : Job). IsAsked c.args.on.now.keying.sectorsize j c.args.from.now) c.in-Write.is c.requires.asked in
-    let there = subst (λ (j : Job). IsInRange (media c.args.on.now.keying d) j) c.in-Write.is c.requires.in_range in
+    let there = subst (λ (j : Job). JobIsInRange (media c.args.on.now.keying d) j) c.in-Write.is c.requires.in_range in
     omega (arith, first_small c.args.on.now.keying c.in-Write.sector c.in-Write.count c.units-each.result d.size c.units-each.ensures.units asked.0 there d.well_formed.bound)
 
 pub invariant_of-result-in-Write : goal.invariant_of-result-in-Write

@@ -1,7 +1,7 @@
 -- The bytes are cut where the second disk begins.
 use Rattle.std.proofs.Common.{rules, ◌≡◌, ◌*◌, ◌-◌, ◌/◌, min, length, take, List, ℕ, subst}
 use Rattle.block_traits.specs.Disk.{write_events}
-use Rattle.disk_layers.specs.Concat.{Does, FailsToDo}
+use Rattle.disk_layers.specs.Concat.{LogsOnly, FailsToDo}
 use Rattle.disk_layers.proofs.Runs.{first-failed, second-answered}
 use Rattle.disk_layers.proofs.concat.Concat.write_run.Goals as goal
 
@@ -19,7 +19,7 @@ pub returns : goal.returns
 returns g c =
     let k : ℕ = c.min-inside.result in
     let bytes = c.args.from.now in
-    let P : List ℕ → Type 0 = λ before. Does g.A.Disk.state (write_events c.args.first before) c.args.self.now.first c.write_some.new.disk in
+    let P : List ℕ → Type 0 = λ before. LogsOnly g.A.Disk.state (write_events c.args.first before) c.args.self.now.first c.write_some.new.disk in
     let did : P (take (512 * k) bytes) = subst P {y = take (512 * k) bytes} c.split_at.ensures.front c.in_ok-write_some.ensures.ok in
     let is : k ≡ min (c.sectors-size.result - c.args.first) (length bytes / 512) = search rules in
     second-answered g.A.Disk.state g.B.Disk.state c.sectors-size.result c.args.first k bytes c.args.self.now.first c.write_some.new.disk c.args.self.now.second c.write_some-2.new.disk

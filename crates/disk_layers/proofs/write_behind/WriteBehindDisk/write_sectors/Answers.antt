@@ -6,7 +6,7 @@ use Rattle.block_traits.specs.declared.disk.Event.TheVariants.{Write}
 use Rattle.block_traits.specs.Disk.{Continues, write_events}
 use Rattle.block_traits.proofs.Logs.{Continues-then, FailsIn-part, Continues-start, Continues-end}
 use Rattle.block_traits.proofs.SectorWrites.{writes_left, writes_left-start, writes_left-next, writes_left-end}
-use Rattle.disk_layers.specs.WriteBehind.{WritesSector, behind_of, disk_of}
+use Rattle.disk_layers.specs.WriteBehind.{BehindWritesSector, behind_of, disk_of}
 use Rattle.block_traits.proofs.EachWritten.{Goes-start, Goes-next, Goes-fail, Goes-end}
 use Rattle.disk_layers.proofs.write_behind.WriteBehindDisk.write_sectors.Goals as goal
 
@@ -19,7 +19,7 @@ loop-j-init g c =
       size = refl;
       unasked = refl;
       events = subst P (sym (writes_left-start c.args.first c.args.from.now)) (Continues-start all start);
-      goes = Goes-start WritesSector c.args.first c.args.from.now (behind_of g.D.Disk.state c.args.self.now);
+      goes = Goes-start BehindWritesSector c.args.first c.args.from.now (behind_of g.D.Disk.state c.args.self.now);
     }
 
 pub returns-in_err-write-clause-err : goal.returns-in_err-write-clause-err
@@ -34,7 +34,7 @@ returns-in_err-write-clause-err g c =
 pub returns-in_err-write-clause-answer : goal.returns-in_err-write-clause-answer
 returns-in_err-write-clause-answer g c =
     let failed : DiskFailed = record {} in
-    let answer = Goes-fail WritesSector c.args.first c.args.from.now c.loop-j.j c.sector_of.result (behind_of g.D.Disk.state c.args.self.now) (behind_of g.D.Disk.state c.loop-j.self) _ failed c.loop-j-test.true c.sector_of.ensures c.loop-j.invariant.goes c.in_err-write.ensures.answer in
+    let answer = Goes-fail BehindWritesSector c.args.first c.args.from.now c.loop-j.j c.sector_of.result (behind_of g.D.Disk.state c.args.self.now) (behind_of g.D.Disk.state c.loop-j.self) _ failed c.loop-j-test.true c.sector_of.ensures c.loop-j.invariant.goes c.in_err-write.ensures.answer in
     search (rules, answer)
 
 pub loop-j-preserved : goal.loop-j-preserved
@@ -47,7 +47,7 @@ loop-j-preserved g c =
       size = c.in_ok-write.ensures.ok.size ∙ c.loop-j.invariant.size;
       unasked = c.write.ensures.unasked ∙ c.loop-j.invariant.unasked;
       events = Continues-then (Write (c.args.first + c.loop-j.j) c.sector_of.result ∷ []) left all here c.in_ok-write.ensures.ok;
-      goes = Goes-next WritesSector c.args.first c.args.from.now c.loop-j.j c.sector_of.result (behind_of g.D.Disk.state c.args.self.now) (behind_of g.D.Disk.state c.loop-j.self) _ c.loop-j-test.true c.sector_of.ensures c.loop-j.invariant.goes c.in_ok-write.ensures.answer;
+      goes = Goes-next BehindWritesSector c.args.first c.args.from.now c.loop-j.j c.sector_of.result (behind_of g.D.Disk.state c.args.self.now) (behind_of g.D.Disk.state c.loop-j.self) _ c.loop-j-test.true c.sector_of.ensures c.loop-j.invariant.goes c.in_ok-write.ensures.answer;
     }
 
 pub returns-clause-ok : goal.returns-clause-ok
@@ -57,4 +57,4 @@ returns-clause-ok g c =
     Continues-end all (subst P (writes_left-end c.args.first c.args.from.now c.loop-j.j c.loop-j-test.false) c.loop-j.invariant.events)
 
 pub returns-clause-answer : goal.returns-clause-answer
-returns-clause-answer g c = Goes-end WritesSector c.args.first c.args.from.now c.loop-j.j (behind_of g.D.Disk.state c.args.self.now) (behind_of g.D.Disk.state c.loop-j.self) c.loop-j-test.false c.loop-j.invariant.goes
+returns-clause-answer g c = Goes-end BehindWritesSector c.args.first c.args.from.now c.loop-j.j (behind_of g.D.Disk.state c.args.self.now) (behind_of g.D.Disk.state c.loop-j.self) c.loop-j-test.false c.loop-j.invariant.goes

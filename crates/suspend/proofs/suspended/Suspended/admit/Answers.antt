@@ -1,7 +1,7 @@
 use Rattle.std.proofs.Common.{◌≡◌, subst, sym, ap, ◌∙◌, arith}
 use Rattle.key_slots.specs.Slots.{IsKeyBits}
 use Rattle.provider.proofs.Checked.{bits_allowed, checked}
-use Rattle.suspend.proofs.Resumed.{differ_so, same_so}
+use Rattle.suspend.proofs.Resumed.{bytes_eq-false, same_so}
 use Rattle.suspend.specs.Suspension.{Suspension}
 use Rattle.suspend.proofs.suspended.Suspended.admit.Goals as goal
 
@@ -39,7 +39,7 @@ returns-then-ne g c =
       };
       kept_is = ap (λ (s : Suspension _). s.mark) c.self.view_is;
       found_is = c.digest_of-opened.ensures;
-      differ = differ_so c.digest_of-opened.result c.self.inside.kept.mark c.ne.result c.ne.ensures c.if-ne.true;
+      differ = bytes_eq-false c.digest_of-opened.result c.self.inside.kept.mark c.ne.result c.ne.ensures c.if-ne.true;
     }
 
 pub returns : goal.returns

@@ -24,14 +24,6 @@ at_same b keys i k d lt are = subst (λ (x : KeyPlanes). AreOf b (key_at x)) (sy
 at_other : (b : List ℕ) (keys : List KeyPlanes) (i j : ℕ) (k d : KeyPlanes) → j ≢ i → AreOf b (key_at (get_or keys j d)) → AreOf b (key_at (get_or (set keys i k) j d))
 at_other b keys i j k d apart are = subst (λ (x : KeyPlanes). AreOf b (key_at x)) (sym (get_or-set_other keys i j k d apart)) are
 
-pub keys_start : (w : List ℕ) (keys : List KeyPlanes) (k : KeyPlanes) → length keys ≡ 15 → AreOf (round_key w 0) (key_at k) → IsState (round_key w 0) → HasKeys w (set keys 0 k) 0
-keys_start w keys k long are state = record {
-  long = length-set keys 0 k ∙ long;
-  first = λ d. at_same (round_key w 0) keys 0 k d (omega (arith, long)) are;
-  between = λ j lt d. absurd (omega (arith, lt));
-  states = λ j le. let e : 0 ≡ j = omega (arith, le) in subst (λ (r : ℕ). IsState (round_key w r)) e state;
-}
-
 pub keys_step : (w : List ℕ) (keys : List KeyPlanes) (n : ℕ) (k : KeyPlanes) → n < 14 → HasKeys w keys n → AreOf (rows (turned (round_key w (n + 1)))) (key_at k) → IsState (round_key w (n + 1)) → HasKeys w (set keys (n + 1) k) (n + 1)
 keys_step w keys n k small has are state =
     let long = has.long in

@@ -8,7 +8,7 @@ use Rattle.std.specs.Int.{bit_at}
 use Rattle.std.specs.List.{range_with_len}
 use Rattle.std.specs.Simd.Lanes.{zip2}
 use Rattle.aes_core.specs.Field.{times_x, times}
-use Rattle.aes_core.specs.Aes.{shift_rows, mix_columns, circulant_byte, bit}
+use Rattle.aes_core.specs.Aes.{mix_columns, circulant_byte, bit}
 use Rattle.aes_core.proofs.Boxes.{agree_at, times-one, times-two, times-three}
 use Rattle.aes_core.proofs.Inverse.{IsState, IsState-xor, times-xor, sum4, IsState-bytes_by}
 use Rattle.aes_planes.specs.Planes.{planes_of, next_lane, opposite_lane, with_next, others, lanes_by, mixed_planes}
@@ -17,9 +17,6 @@ use Rattle.aes_planes.proofs.Truth.{bits_of}
 use Rattle.aes_planes.proofs.Hom.{Every}
 use Rattle.aes_planes.proofs.SubLaw.{from_bits, bit_in, block_at, bits_back, whole_is, vector_hom, same_on_range}
 use Rattle.aes_planes.proofs.Truth.{xor_of_bits}
-
-pub shift_law : (q r : Planes) (j : ℕ) → planes_of r ≡ map shift_rows (planes_of q) → block_at (planes_of r) j ≡ shift_rows (block_at (planes_of q) j)
-shift_law q r j e = ap (λ (ps : List (List ℕ)). block_at ps j) e
 
 -- ---- bytes by their bits
 

@@ -13,7 +13,7 @@ use Rattle.command_rows.specs.Histories.{BreaksOff}
 use Rattle.command_rows.specs.Trying.{TryRow}
 use Rattle.std.proofs.Common.{Bool, Err, List, Ok, Option, Result, [], ap, arith, false, inl, inr, refl, subst, sym, take, true, ℕ, ◌≡◌}
 use Rattle.eli_metadata.specs.Place.{ReadsMetadata}
-use Rattle.command_rows.specs.Steps.{Admits, Attaches, Decides, DoesEvents, GoesOn, LoadsComponents, NeedsSectors, NeedsWritable, ReadsLastSector, ReadsSectors, Then, WritesSectors}
+use Rattle.command_rows.specs.Steps.{Admits, Attaches, DoesEvents, GoesOn, LoadsComponents, NeedsSectors, NeedsWritable, ReadsLastSector, ReadsSectors, Then, WritesSectors}
 use Rattle.command_rows.specs.World.{Attachment, Reach}
 
 -- ---- steps without events
@@ -38,9 +38,6 @@ quiet_metadata old new (Err (Meta fault)) h = h.logs
 
 pub quiet_reading : Quiet ReadsLastSector
 quiet_reading old answer new h = quiet_metadata old.disk new.disk h.reads.read h.reads.reads
-
-pub quiet_decision : {A : Type 0} (decided : Reach → Result A Refusal) (old : Reach) (answer : Result A Refusal) (new : Reach) → Decides (decided old) old answer new → Logs [] old.disk new.disk
-quiet_decision decided old answer new h = same_disk old.disk new.disk (ap (λ (r : Reach). r.disk) h.1)
 
 pub quiet_loading : (line : List ℕ) (words : KeyWords) → Quiet (LoadsComponents line words)
 quiet_loading line words old answer new h = same_disk old.disk new.disk h.disk

@@ -91,10 +91,3 @@ by_gate_refusal wanted holding refusal Claim is not still suspended awake =
       | inr (inr (inl same)) ↦ subst Claim (sym same) (suspended (subst (λ (r : Refusal). refused_by wanted holding ≡ Some r) same is))
       | inr (inr (inr same)) ↦ subst Claim (sym same) (awake (subst (λ (r : Refusal). refused_by wanted holding ≡ Some r) same is))
     ]
-
-pub Serves-refused : (line : List ℕ) (command : Command) (old : Reach) (refusal : Refusal) → refused_by (needs command) old.holding ≡ Some refusal → Serves line command old (answers.Refused refusal) old
-Serves-refused line command old refusal is =
-    subst (λ (o : Option Refusal). MatchOption o (GoesThrough line command old (answers.Refused refusal) old) (IsRefused old (answers.Refused refusal) old)) (sym is) (record { refused = refl; unchanged = refl })
-
-pub Serves-row : (line : List ℕ) (command : Command) (old : Reach) (reply : Answer) (new : Reach) → refused_by (needs command) old.holding ≡ None → GoesThrough line command old reply new → Serves line command old reply new
-Serves-row line command old reply new is h = subst (λ (o : Option Refusal). MatchOption o (GoesThrough line command old reply new) (IsRefused old reply new)) (sym is) h

@@ -43,9 +43,6 @@ stays old new is h = subst HoldsKeying (sym is) h
 pub idles : (new : Holding) → new ≡ Idle → HoldsKeying new
 idles new is = rw is tt
 
-keeps_decision : {A : Type 0} (decided : Reach → Result A Refusal) (old : Reach) (answer : Result A Refusal) (new : Reach) → Decides (decided old) old answer new → HoldsKeying old.holding → HoldsKeying new.holding
-keeps_decision decided old answer new h had = stays old.holding new.holding (ap (λ (r : Reach). r.holding) h.1) had
-
 pub keeps_next : {A B : Type 0} (Next : A → Step B) (given : Result A Refusal) (middle : Reach) (answer : Result B Refusal) (new : Reach) → ((a : A) → given ≡ Ok a → Next a middle answer new → HoldsKeying middle.holding → HoldsKeying new.holding)
     → GoesOn Next given middle answer new → HoldsKeying middle.holding → HoldsKeying new.holding
 keeps_next Next (Ok a) middle answer new keeps h had = keeps a refl h had

@@ -16,7 +16,7 @@ use Rattle.command_words.specs.declared.table.Operand.TheVariants.{Provider}
 use Rattle.command_words.specs.declared.table.Valued.{Valued}
 use Rattle.command_words.specs.Words.{Word, words, placed_words, is_between, is_word}
 use Rattle.command_words.specs.Table.{verb_named}
-use Rattle.command_words.specs.Options.{Item, Kind, Ends, Letters, Other, kind_of, Options, options, onto, with_word, first_option_fault}
+use Rattle.command_words.specs.Options.{Kind, Ends, Letters, Other, kind_of, Options, options, with_word, first_option_fault}
 use Rattle.command_words.specs.Settings.{settings_given, span_of}
 use Rattle.command_words.specs.Operands.{operands_of, word_as, span_as, no_span}
 use Rattle.command_words.specs.Reading.{line_reading, by_words, by_verb, command_at, is_comment}
@@ -109,9 +109,6 @@ words_text sep (b ∷ bs) text =
     (follow_from (b ∷ bs) 0 _ (IsCharBoundary-from_take (b ∷ bs) 0 text (omega arith) ([], (refl, refl))) (parts_break (is_between sep) (b ∷ bs) (b ∷ bs) 0 (ascii_between sep) text refl (omega arith)))
 
 -- the operands are words
-
-onto_text : (items : List Item) (read : Options) → AllText read.operands → AllText (onto items read).operands
-onto_text items read h = h
 
 word_text : (kind : Kind) (verb : Verb) (word : Word) (behind : List Word) (rest : Option Valued → Options)
     → IsUtf8 word.bytes → AllText behind → ((waiting : Option Valued) → AllText (rest waiting).operands) → AllText (with_word kind verb word behind rest).operands

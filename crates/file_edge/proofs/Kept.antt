@@ -18,8 +18,8 @@ kept_read None second third (Err error) into kept reads = tt
 kept_read (Some bytes) None third result into kept reads = absurd kept
 kept_read (Some bytes) (Some same) third result into kept reads = rw kept at reads
 
-pub Keeps-WriteAppends : {E : Type 0} (first second third : Option (List ℕ)) (result : Result ℕ E) (from : List ℕ) → Keeps first second → WriteAppends second third result from → WriteAppends first third result from
-Keeps-WriteAppends None second third (Ok count) from kept writes = tt
-Keeps-WriteAppends None second third (Err error) from kept writes = tt
-Keeps-WriteAppends (Some bytes) None third result from kept writes = absurd kept
-Keeps-WriteAppends (Some bytes) (Some same) third result from kept writes = rw kept at writes
+pub kept_write : {E : Type 0} (first second third : Option (List ℕ)) (result : Result ℕ E) (from : List ℕ) → Keeps first second → WriteAppends second third result from → WriteAppends first third result from
+kept_write None second third (Ok count) from kept writes = tt
+kept_write None second third (Err error) from kept writes = tt
+kept_write (Some bytes) None third result from kept writes = absurd kept
+kept_write (Some bytes) (Some same) third result from kept writes = rw kept at writes

@@ -1,6 +1,6 @@
 -- What the calls of a file leave of what it tells, as events of its disk.
 use Rattle.std.proofs.Common.{◌≡◌, ◌∙◌, ℕ, ◌+◌, ◌*◌, ◌/◌, ◌<◌, ◌≤◌, ◌==◌, Bool, true, false, cond, List, [], ◌∷◌, length, take, Option, Some, None, refl, sym, ap, subst, arith}
-use Rattle.std.proofs.lemmas.Bool.{eqb-true, eq-eqb}
+use Rattle.std.proofs.lemmas.Bool.{eqb-true}
 use Rattle.std.proofs.lemmas.List.{take_all}
 use Rattle.std.proofs.Math.Seq.{take-length}
 use Rattle.block_traits.specs.declared.disk.Event.{Event}
@@ -10,7 +10,7 @@ use Rattle.block_traits.specs.Content.{Content, logged, present, with_events}
 use Rattle.block_traits.specs.Disk.{DiskState, FailsIn, GivesEachFrom, GivesFrom, Logs, write_events, writes_from}
 use Rattle.block_traits.specs.Parts.{part, parts}
 use Rattle.block_traits.proofs.Logs.{logged-none}
-use Rattle.file_edge.specs.Told.{EndsTold, Leaves, ReadsTold, Told, contents, of_size}
+use Rattle.file_edge.specs.Told.{Leaves, ReadsTold, Told, contents, of_size}
 
 -- ---- a content of a size
 
@@ -127,8 +127,3 @@ pub same_events : (n : ℕ) (bytes : List ℕ) → write_events (512 * n / 512) 
 same_events n bytes = let at : 512 * n / 512 ≡ n = omega arith in ap (λ (m : ℕ). write_events m bytes) at
 
 -- ---- the size
-
--- the disk of a file with this end tells what the file tells
-pub of_size-end : (end : ℕ) (told : Option Told) → EndsTold told end → of_size (end / 512) (contents told) ≡ contents told
-of_size-end end None ends = refl
-of_size-end end (Some t) ends = ap (λ (is : Bool). cond is (Some t.content) None) (eq-eqb (length t.content.base) (end / 512) ends)

@@ -140,7 +140,7 @@ impl<W: Writer> Sink for OutputSink<W> {
 }
 
 // Writes, and again where a signal interrupts it.
-#[tactic(auto, using(crate::proofs::Kept::keeps_same, crate::proofs::Kept::keeps_then, crate::proofs::Kept::Keeps-WriteAppends, crate::proofs::Turns::one_more))]
+#[tactic(auto, using(crate::proofs::Kept::keeps_same, crate::proofs::Kept::keeps_then, crate::proofs::Kept::kept_write, crate::proofs::Turns::one_more))]
 fn write_on<W: Writer>(writer: &mut W, from: &[u8]) -> io::Result<usize>
     ensures bound { IfOk result (λ k. k ≤ length from.now) }
     ensures known { WriteAppends (W.contents writer.old) (W.contents writer.new) result from.now }

@@ -1,6 +1,6 @@
 -- Disks under their names on a shelf: all of them, one after another, or why not.
-use Rattle.std.proofs.Common.{◌≡◌, ◌∙◌, ap, arith, cond, drop, false, true, Bool, get_or, length, map, refl, sym, subst, append_assoc, ℕ, ◌+◌, ◌<◌, ◌≤◌, List, [], ◌∷◌, ◌++◌, None, Some, Option, slice_index_or}
-use Rattle.std.proofs.lemmas.List.{append-nil, drop_all, drop_more, length-append, map-append}
+use Rattle.std.proofs.Common.{◌≡◌, ◌∙◌, ap, arith, cond, drop, false, true, Bool, get_or, length, map, refl, sym, subst, append_assoc, ℕ, ◌+◌, ◌<◌, List, [], ◌∷◌, ◌++◌, None, Some, Option, slice_index_or}
+use Rattle.std.proofs.lemmas.List.{drop_more, length-append, map-append}
 use Rattle.std.specs.List.{remove}
 use Rattle.std.specs.Prelude.{IsNone, IsSome}
 use Rattle.std.specs.Option.{option_map}
@@ -40,12 +40,6 @@ taken_next state before name items rest disk all some first left is =
 pub refused_next : {D : Type 0} (state : D → DiskState) (before : List DrawerState) (items rest : List D) (disk : D) (all : List DiskState) → 0 < length items → disk ≡ slice_index_or items 0 disk → rest ≡ remove items 0
     → disks_of before ++ map state items ≡ all → disks_of before ++ state disk ∷ map state rest ≡ all
 refused_next state before items rest disk all some first left is = ap (λ (l : List DiskState). disks_of before ++ l) (sym (first_disk state items rest disk some first left)) ∙ is
-
--- all names have their disks
-pub all_named : {D S : Type 0} (state : D → DiskState) (bytes : S → List ℕ) (added : List DrawerState) (names : List S) (i : ℕ) (items : List D) (all : List DrawerState) → length names ≤ i
-    → added ++ idle_drawers (map bytes (drop i names)) (map state items) ≡ all → added ≡ all
-all_named state bytes added names i items all end is =
-    sym (append-nil added) ∙ (rw (drop_all i names end) at is)
 
 -- ---- names that differ
 

@@ -1,9 +1,8 @@
 -- Bytes of a line are looked at together.
-use Rattle.std.proofs.Common.{◌≡◌, ◌∙◌, ℕ, zero, suc, ◌+◌, ◌-◌, ◌<◌, ◌≤◌, List, [], ◌∷◌, ◌++◌, length, take, drop, get_or, refl, ap, sym, subst, arith, append_assoc, length-drop, Bool, None, Some}
+use Rattle.std.proofs.Common.{◌≡◌, ◌∙◌, ℕ, zero, suc, ◌+◌, ◌-◌, ◌≤◌, List, [], ◌∷◌, ◌++◌, length, take, drop, refl, ap, sym, subst, arith, append_assoc, length-drop, Bool}
 use Rattle.std.proofs.lemmas.List.{take_all}
 use Rattle.std.proofs.Math.Seq.{take-add}
 use Rattle.std.specs.List.{AllByRecursion, flat_map}
-use Rattle.memchr.specs.Find.{IsFirstByte, is_byte}
 use Rattle.geli_core.specs.Lines.{IsOneLine, ended, newline}
 use Rattle.geli_core.specs.Trace.{lines_of}
 use Rattle.geli_core.specs.Served.{IsServed, SiteState}
@@ -16,12 +15,6 @@ all_front : {X : Type 0} (P : X → Type 0) (n : ℕ) (xs : List X) → AllByRec
 all_front P zero xs all = tt
 all_front P (suc n) [] all = tt
 all_front P (suc n) (x ∷ xs) all = (all.0, all_front P n xs all.1)
-
-one_line : (n : ℕ) (bytes : List ℕ) → ((k : ℕ) → k < n → k < length bytes → get_or bytes k 0 ≡ newline → ⊥) → IsOneLine (take n bytes)
-one_line zero bytes other = tt
-one_line (suc n) [] other = tt
-one_line (suc n) (b ∷ bytes) other =
-    (other 0 (omega arith) (omega arith), one_line n bytes (λ k small short. other (suc k) (omega (arith, small)) (omega (arith, short))))
 
 -- a text without a newline is more of the line
 IsServed-text : (bytes : List ℕ) (old new : SiteState) (rest text : List ℕ) (refused : Bool) → IsOneLine text → IsServed bytes old rest refused new
@@ -63,11 +56,3 @@ IsServed-part bytes piece place taken part old new rest refused one cut fits h =
     ∙ ap (λ (l : List ℕ). bytes ++ l) (sym (take-add place taken piece)) in
     subst (λ (l : List ℕ). IsServed l old (rest ++ take taken part) refused new) whole
     (IsServed-text (bytes ++ take place piece) old new rest (take taken part) refused (all_front _ taken part one) h)
-
--- what a search for a newline finds
-pub plain_before : (bytes : List ℕ) (n : ℕ) → IsFirstByte (is_byte 10) bytes (Some n) → IsOneLine (take n bytes)
-plain_before bytes n h = one_line n bytes (λ k small short same. h.0.before k (omega arith) small (rw same refl))
-
-pub plain_whole : (bytes : List ℕ) → IsFirstByte (is_byte 10) bytes None → IsOneLine bytes
-plain_whole bytes h =
-    subst IsOneLine (take_all (length bytes) bytes (omega arith)) (one_line (length bytes) bytes (λ k small short same. h k (omega arith) short (rw same refl)))

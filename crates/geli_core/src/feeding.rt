@@ -9,11 +9,8 @@ ghost use Rattle.geli_core.specs.Sites.{BorrowsAsBefore, site_now};
 use crate::serving::either;
 use crate::site::Site;
 use block_traits::{Cabinet, Disk, Entropy, Sink, Source};
-use command_words::Sep;
+use command_words::{LINE_LIMIT, Sep};
 use memchr::memchr;
-
-/// The most bytes of a line.
-pub(crate) const LINE_LIMIT: usize = 300_000;
 
 /// Why no more bytes are looked at.
 #[derive(Clone, Copy)]

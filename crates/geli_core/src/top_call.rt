@@ -14,12 +14,11 @@ ghost use Rattle.geli_core.specs.Words.{FitsItsLine, Says};
 ghost use Rattle.shelf.specs.Shelved.{drawers_of};
 
 use crate::Status;
-use crate::feeding::LINE_LIMIT;
 use crate::outside::Outside;
 use crate::site::Site;
 use crate::words::{Words, read_words};
 use block_traits::{Cabinet, Disk, Entropy, Sink, Source};
-use command_words::Command;
+use command_words::{Command, LINE_LIMIT};
 use reply_text::write_text;
 use shelf::{Drawers, Shelf};
 use std::alloc::Global;

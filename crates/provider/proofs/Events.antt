@@ -1,11 +1,10 @@
 -- What is logged logical sector by logical sector.
 use Rattle.std.proofs.Common.{◌≡◌, ℕ, zero, suc, ◌+◌, ◌-◌, ◌*◌, ◌/◌, ◌<◌, ◌≤◌, List, [], ◌∷◌, ◌++◌, length, take, drop, sym, ap, ◌∙◌, arith, add-one, append-nil, append_assoc}
-use Rattle.std.proofs.Math.Nat.{mul-div_cancel}
 use Rattle.std.proofs.lemmas.List.{drop-drop, take-append-drop}
 use borrow.Rule.Slice.PartMut.{put_mid}
 use Rattle.block_traits.specs.declared.disk.Event.{Event}
 use Rattle.block_traits.specs.declared.disk.Event.TheVariants.{Write}
-use Rattle.block_traits.specs.Disk.{write_events, writes_from}
+use Rattle.block_traits.specs.Disk.{writes_from}
 use Rattle.block_traits.specs.Parts.{parts}
 use Rattle.block_traits.proofs.PartLists.{length-parts}
 use Rattle.eli_base.specs.Keying.{Keying}
@@ -59,15 +58,6 @@ sealed_more k now sector i size width wide room bytes out block same long cut br
     ∙ (λ j. so j ++ writes_from (at j) (here j))
     ∙ sym (data_writes-suc k sector i bytes)
     ∙ ap (λ (m : ℕ). data_writes k sector m bytes) (sym (add-one i))
-
-pub sealed_end : (k : Keying) (sector i count width : ℕ) (bytes out : List ℕ) → i ≡ count → length out ≡ count * (512 * units k)
-    → writes_from (sector * units k) (parts 512 (i * units k) out) ≡ data_writes k sector i bytes → write_events (sector * units k) out ≡ data_writes k sector count bytes
-sealed_end k sector i count width bytes out end long so =
-    let turned : count * (512 * units k) ≡ count * units k * 512 = omega arith in
-    let some : 0 < 512 = omega arith in
-    let all : length out / 512 ≡ count * units k = ap (λ (n : ℕ). n / 512) (long ∙ turned) ∙ mul-div_cancel (count * units k) some in
-    (λ j. writes_from (sector * units k) (parts 512 (all j) out)) ∙ (λ j. writes_from (sector * units k) (parts 512 (sym end j * units k) out)) ∙ so
-    ∙ ap (λ (m : ℕ). data_writes k sector m bytes) end
 
 -- ---- sectors that are written some at a time
 

@@ -216,11 +216,6 @@ same_steps k cells (Reads sector count ws) done = refl
 same_steps k cells (Writes number sector count bytes) done = refl
 same_steps k cells Flushes done = refl
 
-same_job : (k : Keying) (cells : ℕ → List Writing) (work : Work) (done : ℕ) → job_of (work_after k cells work done) ≡ job_of work
-same_job k cells (Reads sector count ws) done = refl
-same_job k cells (Writes number sector count bytes) done = refl
-same_job k cells Flushes done = refl
-
 play_stepped : (k : Keying) (c : Content) (m : Play) (t : Task) → IsPlay k c m → Known k c m t → t.done < units_of k (job_of t.work)
     → IsPlay k c (record { steps = m.steps ++ unit_steps k t.work t.done; tasks = exchange_task (task_after k (cell c m.steps) t) m.tasks; next = m.next })
 unfolding Known

@@ -1,19 +1,18 @@
 -- Sectors that are written and read in batches.
-use Rattle.std.proofs.Common.{◌≡◌, ℕ, ◌+◌, ◌-◌, ◌*◌, ◌/◌, ◌%◌, ◌≤◌, List, [], ◌++◌, length, min, take, Option, Some, None, Ok, Err, refl, sym, ap, subst, ◌∙◌, arith, length-append}
+use Rattle.std.proofs.Common.{◌≡◌, ℕ, ◌+◌, ◌-◌, ◌*◌, ◌/◌, ◌%◌, ◌≤◌, List, [], ◌++◌, length, min, take, Ok, Err, refl, sym, ap, subst, ◌∙◌, arith, length-append}
 use Rattle.std.proofs.Math.Nat.{div-mul-le_self, mul-div_cancel, mul-le-mul_right, mul-mod_left}
 use Rattle.std.proofs.lemmas.List.{length-take-le}
 use Rattle.block_traits.specs.Causes.{Counted}
-use Rattle.block_traits.specs.Content.{Content}
 use Rattle.block_traits.specs.Disk.{DiskState, Logs}
 use Rattle.block_traits.specs.declared.disk.Event.{Event}
 use Rattle.block_traits.proofs.Causes.{Counted-then}
-use Rattle.block_traits.proofs.Logs.{Logs-nothing, Logs-then, content-Logs}
+use Rattle.block_traits.proofs.Logs.{Logs-then, content-Logs}
 use Rattle.eli_base.specs.Keying.{Keying}
 use Rattle.eli_base.specs.Units.{media_sectors}
 use Rattle.eli_base.specs.declared.refusals.Refusal.{Refusal}
 use Rattle.eli_base.specs.declared.refusals.Refusal.TheVariants as refusals
 use Rattle.provider.specs.Attached.{Attached, IsKept, media}
-use Rattle.provider.specs.Reading.{ReadsAs, ReadsFrom}
+use Rattle.provider.specs.Reading.{ReadsAs}
 use Rattle.provider.specs.Writing.{data_writes}
 use Rattle.provider.proofs.Adjoining.{ReadsFrom-both, RunFails-behind, RunFault-behind, data_writes-more}
 use Rattle.rand_core.specs.Steps.{fill_via_u64}
@@ -99,13 +98,6 @@ pub record HasRead (k : Keying) (start count : ℕ) (old new : DiskState) (hashe
   pub logs : Logs [] old new
   pub reads : ReadsAs old k start count (Ok bytes)
   pub holds : Holds256 hasher bytes
-
-reads_none : (told : Option Content) (k : Keying) (start : ℕ) → ReadsFrom told k start 0 (Ok [])
-reads_none None k start = tt
-reads_none (Some c) k start = refl
-
-pub HasRead-none : (k : Keying) (start : ℕ) (d : DiskState) (hasher : Sha256) → Holds256 hasher [] → HasRead k start 0 d d hasher
-HasRead-none k start d hasher empty = record { bytes = []; long = omega arith; asked = record { least = omega arith; most = omega arith }; logs = Logs-nothing d; reads = reads_none d.content k start; holds = empty }
 
 -- and more behind them
 pub HasRead-more : (k now : Keying) (start i count sector : ℕ) (batch : List ℕ) (first middle last : DiskState) (hasher next : Sha256) → now ≡ k → sector ≡ start + i

@@ -1,5 +1,5 @@
 -- The rows of `setkey` and `delkey`, by what the drawer does with its disk.
-use Rattle.std.proofs.Common.{◌≡◌, ℕ, List, refl, sym, subst, Bool, Option, None, Some, Result}
+use Rattle.std.proofs.Common.{◌≡◌, ℕ, List, sym, subst, Bool, Option, Some, Result}
 use Rattle.std.specs.Prelude.{ℤ, unwrap_or}
 use Rattle.std.specs.Option.{option_or}
 use Rattle.block_traits.specs.Cabinet.{CabinetState}
@@ -7,7 +7,7 @@ use Rattle.block_traits.specs.Disk.{DiskState}
 use Rattle.block_traits.specs.Streams.{EntropyState}
 use Rattle.command_words.specs.declared.spans.KeyWords.{KeyWords}
 use Rattle.eli_base.specs.declared.refusals.Refusal.{Refusal}
-use Rattle.command_rows.specs.World.{Attachment, Holding, Idle, IsAttached, reach_of}
+use Rattle.command_rows.specs.World.{Attachment, Holding, IsAttached, reach_of}
 use Rattle.command_rows.specs.verbs.Delkey.{DeletesRow, DelkeyRow}
 use Rattle.command_rows.specs.verbs.Setkey.{SetkeyAttachedRow}
 
@@ -28,13 +28,3 @@ pub delkey_attached_row : (all force : Bool) (slot asked : Option ℕ) (a a' : A
 delkey_attached_row all force slot asked a a' disk disk' cabinet entropy entropy' answer is kept h =
     subst (λ (x : Holding). DelkeyRow all force slot (reach_of disk (IsAttached a) cabinet entropy) answer (reach_of disk' x cabinet entropy')) (sym kept)
     (subst (λ (o : Option ℕ). DeletesRow all force o (reach_of disk (IsAttached a) cabinet entropy) answer (reach_of disk' (IsAttached a) cabinet entropy')) is h)
-
-or_none : (slot : Option ℕ) → option_or slot None ≡ slot
-or_none None = refl
-or_none (Some slot) = refl
-
--- on an idle drawer the slot is that which is named
-pub delkey_idle_row : (all force : Bool) (slot : Option ℕ) (disk disk' : DiskState) (cabinet : CabinetState) (entropy entropy' : EntropyState) (answer : Result (Unit {0}) Refusal)
-    → DeletesRow all force slot (reach_of disk Idle cabinet entropy) answer (reach_of disk' Idle cabinet entropy') → DelkeyRow all force slot (reach_of disk Idle cabinet entropy) answer (reach_of disk' Idle cabinet entropy')
-delkey_idle_row all force slot disk disk' cabinet entropy entropy' answer h =
-    subst (λ (o : Option ℕ). DeletesRow all force o (reach_of disk Idle cabinet entropy) answer (reach_of disk' Idle cabinet entropy')) (sym (or_none slot)) h

@@ -22,9 +22,6 @@ anyhow : {D : Type 0} (state other : D → DiskState) (drawers : List (Drawer D)
 anyhow state other [] differ = tt
 anyhow state other (d ∷ ds) differ = (place_anyhow other state d.name ds ∙ differ.0, anyhow state other ds differ.1)
 
-pub none_differ : {D : Type 0} (drawers : List (Drawer D)) → drawers ≡ [] → DifferInName drawers
-none_differ drawers is = λ state. subst (λ (ds : List (Drawer _)). NamesDiffer (drawers_of state ds)) (sym is) tt
-
 -- a drawer is changed under its name
 pub set_differ : {D : Type 0} (drawers : List (Drawer D)) (place : ℕ) (before after : Drawer D) → place < length drawers → before ≡ get_or drawers place before → after.name ≡ before.name → DifferInName drawers
     → DifferInName (set drawers place after)

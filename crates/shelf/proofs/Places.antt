@@ -1,7 +1,6 @@
 -- A drawer is taken out, changed and put back.
 use Rattle.std.proofs.Math.Seq.{take-append_seam}
-use Rattle.std.proofs.Common.{◌∙◌, ◌++◌, drop, subst, take, map, Bool, true, false, ◌≡◌, ℕ, ◌<◌, List, [], ◌∷◌, length, refl, ap, sym, arith, Bor, suc, zero, get_or, slice_get, Option, Some, None, option_map, bytes_eq, cond, add-one, ◌+◌}
-use Rattle.std.specs.Prelude.{is_some, option_copied}
+use Rattle.std.proofs.Common.{◌∙◌, ◌++◌, drop, subst, take, map, Bool, true, false, ◌≡◌, ℕ, ◌<◌, List, [], ◌∷◌, length, refl, ap, sym, arith, suc, zero, get_or, slice_get, Some, ◌+◌}
 use Rattle.std.specs.List.{insert, remove}
 use Rattle.std.proofs.Math.ListN.{set}
 use Rattle.std.proofs.lemmas.List.{map-set}
@@ -10,8 +9,8 @@ use Rattle.shelf.specs.declared.drawer.Drawer.{Drawer}
 use Rattle.command_words.specs.declared.commands.Command.{Command}
 use Rattle.command_rows.specs.Answer.{Answer}
 use Rattle.command_rows.specs.Answer as answers
-use Rattle.command_rows.specs.World.{DrawerState, Reach, World, place_of}
-use Rattle.shelf.specs.Shelved.{drawer_of, drawers_of, holding_of}
+use Rattle.command_rows.specs.World.{DrawerState, Reach, World}
+use Rattle.shelf.specs.Shelved.{drawer_of, drawers_of}
 use Rattle.command_rows.specs.Turn.{ChangesAt, Serves, ServesAt, reach, takes_out}
 
 pub insert-remove : {X : Type 0} (xs : List X) (i : ℕ) (y : X) → i < length xs → insert (remove xs i) i y ≡ set xs i y
@@ -62,10 +61,6 @@ ServesAt-out state line command old new drawers place before small here out is_o
           is_new
           ∙ ap (λ (l : List DrawerState). (let w : World = record { drawers = l; cabinet = old.cabinet; entropy = old.entropy } in w)) (map-remove (drawer_of state) drawers place ∙ ap (λ (l : List DrawerState). remove l place) (sym is_old));
     })
-
-pub is_some-copied : {X : Type 0} (o : Option (Bor X)) → is_some (option_copied o) ≡ is_some o
-is_some-copied None = refl
-is_some-copied (Some x) = refl
 
 -- a buffer whose front was written whole
 pub whole_buffer : (new old : List ℕ) (len : ℕ) → length new ≡ len → take len (new ++ drop (length new) old) ≡ new

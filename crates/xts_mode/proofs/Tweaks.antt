@@ -1,5 +1,5 @@
 -- The tweaks of a data unit, block by block, and that opening undoes sealing.
-use Rattle.std.proofs.Common.{◌≡◌, ℕ, zero, suc, ◌+◌, ◌*◌, ◌/◌, ◌%◌, ◌<◌, ◌≤◌, List, length, refl, sym, ap, ◌∙◌, arith, add-one, lit<}
+use Rattle.std.proofs.Common.{◌≡◌, ℕ, zero, suc, ◌+◌, ◌*◌, ◌/◌, ◌%◌, ◌<◌, ◌≤◌, List, length, refl, sym, ap, ◌∙◌, arith, lit<}
 use Rattle.std.specs.Int.{w128, bytes_low_first, to_le_bytes}
 use Rattle.aes_core.specs.Aes.{xor, encrypt, decrypt}
 use Rattle.aes_core.specs.Blocks.{block, blocks}
@@ -12,10 +12,6 @@ use Rattle.xts_mode.specs.Xts.{doubled, tweak_at, first_tweak, tweaked_block, xt
 pub tweak_start : (t : ℕ) → tweak_at t 0 ≡ t
 unfolding tweak_at
 tweak_start t = refl
-
-pub tweak_step : (t now next j : ℕ) → now ≡ tweak_at t j → next ≡ doubled now → next ≡ tweak_at t (j + 1)
-unfolding tweak_at
-tweak_step t now next j e en = en ∙ ap doubled e ∙ sym (ap (tweak_at t) (add-one j))
 
 -- the tweak i blocks after block j
 pub tweak_at-add : (t j i : ℕ) → tweak_at (tweak_at t j) i ≡ tweak_at t (j + i)

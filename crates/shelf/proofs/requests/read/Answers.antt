@@ -3,7 +3,7 @@ use Rattle.eli_base.specs.declared.refusals.Refusal.TheVariants as refusals
 use Rattle.command_rows.specs.Steps.{whole_sectors}
 use Rattle.shelf.proofs.Sectors.{read_answered, read_bad_length, read_bytes, whole_sectors-many, whole_sectors-none}
 use Rattle.shelf.proofs.requests.read.Goals as goal
-use Rattle.shelf.proofs.requests.read.Goals.{then-given-eq0-via-then-given-eq0, then-given-eq0-via-else-given-eq0+then-given}
+use Rattle.shelf.proofs.requests.read.Goals.{then-given-eq0-via-then-given-eq0, then-given-eq0-via-else-given-eq0+then-given-gt-REQUEST_LIMIT}
 
 pub returns-then-given-eq0-clause-row : goal.returns-then-given-eq0-clause-row
 returns-then-given-eq0-clause-row g c =
@@ -15,7 +15,7 @@ returns-then-given-eq0-clause-row g c =
     let bad : whole_sectors S (c.args.count * S) ≡ Err (refusals.BadLength (c.args.count * S) S) =
     elim c.then-given-eq0.branch [
       | then-given-eq0-via-then-given-eq0 w ↦ whole_sectors-none S (c.args.count * S) (sym given ∙ w.if-given-eq0.true)
-      | then-given-eq0-via-else-given-eq0+then-given w ↦ whole_sectors-many S (c.args.count * S) (subst (λ (n : ℕ). 131072 < n) given w.if-given.true)
+      | then-given-eq0-via-else-given-eq0+then-given-gt-REQUEST_LIMIT w ↦ whole_sectors-many S (c.args.count * S) (subst (λ (n : ℕ). 131072 < n) given w.if-given-gt-REQUEST_LIMIT.true)
     ] in
     λ queue cabinet entropy. rw (given, size) (read_bad_length g.D.Disk.state queue cabinet entropy c.args.provider.now c.args.sector c.args.count _ bad)
 
@@ -30,4 +30,4 @@ returns-clause-row g c =
     let same : length c.read-answer.new.into ≡ length before = c.read-answer.auto.into in
     λ queue cabinet entropy. rw (c.read_answer.ensures, read_bytes c.read-answer.new.into (drop (c.from.result * c.from-2.result) c.args.buffer.now) (c.from.result * c.from-2.result) c.read-answer.result (same ∙ len))
     (read_answered g.D.Disk.state queue cabinet entropy c.args.provider.now c.read-answer.new.self c.args.sector c.args.count before c.read-answer.new.into c.read-answer.result
-    (omega (arith, size, c.sector_size-sectorsize.ensures.at_least)) (omega (arith, len, c.if-given-eq0.false)) (omega (arith, len, c.if-given.false)) (len ∙ given) same c.read-answer.ensures.kept c.read-answer.ensures.answer)
+    (omega (arith, size, c.sector_size-sectorsize.ensures.at_least)) (omega (arith, len, c.if-given-eq0.false)) (omega (arith, len, c.if-given-gt-REQUEST_LIMIT.false)) (len ∙ given) same c.read-answer.ensures.kept c.read-answer.ensures.answer)

@@ -33,8 +33,8 @@ returns-in-Usage-clause-runs g c = λ words says.
     let now = c.new-site.ensures.now in
     let prints = rw now.1 at c.print_usage.ensures in
     let whole : SinkState → Whole = λ sink. whole_with (drawers_of g.D.Disk.state c.args.shelf.now.drawers)
-        (outside_of (g.C.Cabinet.state c.args.outside.now.files.now) (g.E.Entropy.state c.args.outside.now.entropy.now) (g.S.Source.state c.args.outside.now.input.now) sink) in
+    (outside_of (g.C.Cabinet.state c.args.outside.now.files.now) (g.E.Entropy.state c.args.outside.now.entropy.now) (g.S.Source.state c.args.outside.now.input.now) sink) in
     let printed = declined (line_of words) (whole (g.K.Sink.state c.args.outside.now.output.now)) (whole (g.K.Sink.state c.print_usage.new.output)) c.print_usage.result refl refl prints in
     let lawful = runs_lawfully words _ _ c.print_usage.result (runs_as words None _ _ c.print_usage.result said.0 (run_as_said words (line_of words) None _ _ c.print_usage.result refl said.1 printed))
-        c.hold_keyings.ensures c.names_differ.ensures in
+    c.hold_keyings.ensures c.names_differ.ensures in
     search (rules, lawful)

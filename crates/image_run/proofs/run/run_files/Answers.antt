@@ -1,5 +1,5 @@
 -- What was opened is what the run is over.
-use Rattle.std.proofs.Common.{◌∙◌, ap, inl, length, map, refl, rules, string_bytes, sym}
+use Rattle.std.proofs.Common.{◌≡◌, ◌∙◌, ap, inl, inr, length, map, refl, rules, string_bytes, sym}
 use Rattle.std.proofs.lemmas.List.{length-map}
 use Rattle.geli_core.proofs.ImageNames.{images_fit}
 use Rattle.geli_core.proofs.Said.{names_said}
@@ -9,8 +9,8 @@ use Rattle.image_run.proofs.Saying.{same_changes}
 use Rattle.image_run.proofs.Surviving.{survives_in_file}
 use Rattle.image_run.proofs.run.run_files.Goals as goal
 
-pub returns-in_default-read_words-clause-asked : goal.returns-in_default-read_words-clause-asked
-returns-in_default-read_words-clause-asked g c = inl (nothing_asked g.O.Opener.asked _ _ c.args.opener c.args.opener refl)
+pub returns-in_default-clause-asked : goal.returns-in_default-clause-asked
+returns-in_default-clause-asked g c = inl (nothing_asked g.O.Opener.asked _ _ c.args.opener c.args.opener refl)
 
 pub returns-in_err-names-clause-asked : goal.returns-in_err-names-clause-asked
 returns-in_err-names-clause-asked g c =
@@ -19,8 +19,8 @@ returns-in_err-names-clause-asked g c =
     let part = rw (same_changes words _ says, names_said words _ says) at c.in_err-names.ensures.asked_part in
     search (rules, part)
 
-pub run_over-requires-named : goal.run_over-requires-named
-run_over-requires-named g c =
+pub run_over-requires-clause-named : goal.run_over-requires-clause-named
+run_over-requires-clause-named g c =
     let opened = c.in_ok-names.field-0 in
     as_many g.O.Opener.leads g.O.Opener.answers _ _ _ g.O.Opener.asked _ _ opened.disks.items _ _ c.in_ok-names.ensures.opens.images
     ∙ ap length (sym c.in_ok-names.ensures.names) ∙ length-map opened.names.items string_bytes ∙ ap length (sym c.as_slice.ensures.value)
@@ -31,8 +31,13 @@ returns-in-Ok-run_over-clause-runs g c =
     let says = c.in-Ok.ensures.says in
     let opened = c.in_ok-names.field-0 in
     let named = ap (map string_bytes) c.as_slice.ensures.value ∙ c.in_ok-names.ensures.names ∙ names_said words _ says in
-    let over = over_new words _ _ _ _ _ _ _ _ _ named c.in_ok-names.ensures.files c.in_ok-names.ensures.random (c.in-Ok-run_over.ensures.runs words says) in
-    record {
+    let now = c.new-outside.ensures.now in
+    let ran = rw (now.0, now.1, now.2, now.3) at (c.in-Ok-run_over.ensures.runs words says) in
+    let over = over_new words _ _ _ _ _ _ _ _ _ named c.in_ok-names.ensures.files c.in_ok-names.ensures.random ran in
+    let files : c.files-2-1.given.0 ≡ c.run_over.new.outside.files.now = search rules in
+    let input : c.input-1.given.0 ≡ c.run_over.new.outside.input.now = search rules in
+    let output : c.output-1.given.0 ≡ c.run_over.new.outside.output.now = search rules in
+    rw (files, input, output) (record {
       disks = opened.disks.items;
       files = opened.files.images.items;
       random = opened.entropy;
@@ -42,7 +47,7 @@ returns-in-Ok-run_over-clause-runs g c =
       entropy = _;
       runs = over;
       survives = survives_in_file g.O.File.ImageFile.told (λ d. refl) _ _ opened.disks.items _ _ _ _ over c.in_ok-names.ensures.tells;
-    }
+    })
 
 pub memory_fault-requires : goal.memory_fault-requires
 memory_fault-requires g c =
@@ -50,9 +55,20 @@ memory_fault-requires g c =
     let named = ap (map string_bytes) c.as_slice.ensures.value ∙ c.in_ok-names.ensures.names ∙ names_said words _ c.in-Ok.ensures.says in
     images_fit words _ _ c.in-Err.refused.fault named c.in-Err.ensures.refused
 
-pub returns-in-Err-clause-asked : goal.returns-in-Err-clause-asked
-returns-in-Err-clause-asked g c =
+pub returns-clause-asked : goal.returns-clause-asked
+returns-clause-asked g c =
     let words = map string_bytes c.args.words.now in
     let says = c.in-Ok.ensures.says in
+    let opened = c.in_ok-names.field-0 in
     let opens = rw (same_changes words _ says, names_said words _ says) at c.in_ok-names.ensures.opens in
-    search (rules, opens)
+    let now = c.new-outside.ensures.now in
+    let nothing = c.in-Err.ensures.nothing in
+    let left : c.run_over.new.outside.files.now ≡ opened.files = nothing.2 ∙ now.2 in
+    let files : c.files-2-1.given.0 ≡ c.run_over.new.outside.files.now = search rules in
+    let handed : c.into_opener.result ≡ opened.files.opener = rw (files, left) at c.into_opener.ensures in
+    inr (record {
+      disks = opened.disks.items;
+      files = opened.files.images.items;
+      random = opened.entropy;
+      opens = rw handed opens;
+    })

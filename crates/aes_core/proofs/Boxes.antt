@@ -48,7 +48,7 @@ by_squares : map (λ b. affine (squares (twice (rows b 8)) 6)) (range_with_len 0
 unfolding squares twice rows pick
 by_squares = refl
 
-pub sbox_table_is : map sbox (range_with_len 0 256) ≡ sbox_table
+sbox_table_is : map sbox (range_with_len 0 256) ≡ sbox_table
 unfolding sbox
 sbox_table_is = (λ i. map (λ b. affine (power_254 b i)) (range_with_len 0 256)) ∙ by_squares
 
@@ -56,7 +56,7 @@ inverse_by_squares : map (λ b. squares (twice (rows (inverse_affine b) 8)) 6) (
 unfolding squares twice rows pick
 inverse_by_squares = refl
 
-pub inverse_sbox_table_is : map inverse_sbox (range_with_len 0 256) ≡ inverse_sbox_table
+inverse_sbox_table_is : map inverse_sbox (range_with_len 0 256) ≡ inverse_sbox_table
 unfolding inverse_sbox
 inverse_sbox_table_is = (λ i. map (λ b. power_254 (inverse_affine b) i) (range_with_len 0 256)) ∙ inverse_by_squares
 

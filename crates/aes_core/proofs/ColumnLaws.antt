@@ -251,7 +251,7 @@ word_at-xor x y i hx hy lt =
     (hx.bytes i) (hx.bytes (i + 1)) (hx.bytes (i + 2)) (hy.bytes i) (hy.bytes (i + 1)) (hy.bytes (i + 2)))
 
 -- the words of a round key stand in the schedule
-pub word_at-round_key : (keys : List ℕ) (r i : ℕ) → i + 3 < 16 → word_at (round_key keys r) i ≡ word_at keys (16 * r + i)
+word_at-round_key : (keys : List ℕ) (r i : ℕ) → i + 3 < 16 → word_at (round_key keys r) i ≡ word_at keys (16 * r + i)
 word_at-round_key keys r i lt =
     let at : (k : ℕ) → k < 16 → get_or (round_key keys r) k 0 ≡ get_or keys (16 * r + k) 0 = λ k small. get_or-chunk (16 * r) 16 keys k 0 small in
     let e0 = at i (omega arith) in

@@ -45,7 +45,7 @@ IsDone-end f p now j len h =
 -- ---- several blocks at a time
 
 -- the blocks from block j on, after those before it
-pub blocks-add : (f : ℕ → List ℕ) (j m : ℕ) → blocks f (j + m) ≡ blocks f j ++ blocks (λ i. f (j + i)) m
+blocks-add : (f : ℕ → List ℕ) (j m : ℕ) → blocks f (j + m) ≡ blocks f j ++ blocks (λ i. f (j + i)) m
 unfolding blocks
 blocks-add f j zero =
     let same : j + zero ≡ j = omega arith in

@@ -23,10 +23,10 @@ bit_times-le r a lt = elim (bit_times r a lt) [ inl l ↦ omega (arith, l.1) | i
 small_is : map (λ a. times_x a / 256) (range_with_len 0 256) ≡ map (λ a. 0) (range_with_len 0 256)
 small_is = refl
 
-pub times_x-lt : (a : ℕ) → a < 256 → times_x a < 256
+times_x-lt : (a : ℕ) → a < 256 → times_x a < 256
 times_x-lt a lt = let h = agree_at (λ a. times_x a / 256) (λ a. 0) 256 a small_is lt in omega (arith, h)
 
-pub times_bits-lt : (a b n : ℕ) → a < 256 → times_bits a b n < 256
+times_bits-lt : (a b n : ℕ) → a < 256 → times_bits a b n < 256
 times_bits-lt a b zero lt = omega arith
 times_bits-lt a b (suc n) lt =
     let one : b % 2 * a ≤ a = bit_times-le (b % 2) a (omega arith) in
@@ -51,13 +51,13 @@ sbox-lt b = omega arith
 sub_is : map (λ y. get_or inverse_sbox_table y 0) sbox_table ≡ range_with_len 0 256
 sub_is = refl
 
-pub inverse_sbox-sbox : (b : ℕ) → b < 256 → inverse_sbox (sbox b) ≡ b
+inverse_sbox-sbox : (b : ℕ) → b < 256 → inverse_sbox (sbox b) ≡ b
 inverse_sbox-sbox b lt =
     sym (inverse_sbox_entry (sbox b) (sbox-lt b)) ∙ ap (λ (y : ℕ). get_or inverse_sbox_table y 0) (sym (sbox_entry b lt))
     ∙ sym (get_or-map (λ y. get_or inverse_sbox_table y 0) sbox_table b 0 0 lt) ∙ ap (λ (l : List ℕ). get_or l b 0) sub_is
     ∙ get_or-range_with_len 0 256 b 0 lt ∙ zero-add b
 
-pub inverse_sub_bytes-sub_bytes : (s : List ℕ) → IsState s → inverse_sub_bytes (sub_bytes s) ≡ s
+inverse_sub_bytes-sub_bytes : (s : List ℕ) → IsState s → inverse_sub_bytes (sub_bytes s) ≡ s
 inverse_sub_bytes-sub_bytes s state =
     ext_get_or 0 _ s (length-map (sub_bytes s) inverse_sbox ∙ length-map s sbox)
     (λ i lt.
@@ -70,13 +70,13 @@ inverse_sub_bytes-sub_bytes s state =
 pub by_index : (s : List ℕ) → length s ≡ 16 → s ≡ bytes_by 16 (λ k. get_or s k 0)
 by_index s len = fill_by_all (λ k. get_or s k 0) s 16 0 len (λ k lt. refl)
 
-pub inverse_shift_rows-shift_rows : (s : List ℕ) → length s ≡ 16 → inverse_shift_rows (shift_rows s) ≡ s
+inverse_shift_rows-shift_rows : (s : List ℕ) → length s ≡ 16 → inverse_shift_rows (shift_rows s) ≡ s
 inverse_shift_rows-shift_rows s len = sym (by_index s len)
 
 -- ---- MixColumns
 
 -- a product is additive
-pub times_bits-xor : (a x y n : ℕ) → times_bits a (bit_xor x y) n ≡ bit_xor (times_bits a x n) (times_bits a y n)
+times_bits-xor : (a x y n : ℕ) → times_bits a (bit_xor x y) n ≡ bit_xor (times_bits a x n) (times_bits a y n)
 times_bits-xor a x y zero = refl
 times_bits-xor a x y (suc n) =
     let half : bit_xor x y / 2 ≡ bit_xor (x / 2) (y / 2) = xor_shr x y 1 in
@@ -102,13 +102,13 @@ pub sum4-rotated : (w x y z : ℕ) → sum4 x y z w ≡ sum4 w x y z
 sum4-rotated w x y z =
     xor_comm (bit_xor (bit_xor x y) z) w ∙ sym (xor_assoc w (bit_xor x y) z) ∙ ap (λ (k : ℕ). bit_xor k z) (sym (xor_assoc w x y))
 
-pub times-sum4 : (k w x y z : ℕ) → times k (sum4 w x y z) ≡ sum4 (times k w) (times k x) (times k y) (times k z)
+times-sum4 : (k w x y z : ℕ) → times k (sum4 w x y z) ≡ sum4 (times k w) (times k x) (times k y) (times k z)
 times-sum4 k w x y z =
     times-xor k (bit_xor (bit_xor w x) y) z
     ∙ ap (λ (n : ℕ). bit_xor n (times k z)) (times-xor k (bit_xor w x) y ∙ ap (λ (n : ℕ). bit_xor n (times k y)) (times-xor k w x))
 
 -- four rows of four terms, added by columns
-pub sum4-columns : (a b c d e f g h i j k l m n o p : ℕ)
+sum4-columns : (a b c d e f g h i j k l m n o p : ℕ)
     → sum4 (sum4 a b c d) (sum4 e f g h) (sum4 i j k l) (sum4 m n o p) ≡ sum4 (sum4 a e i m) (sum4 b f j n) (sum4 c g k o) (sum4 d h l p)
 sum4-columns a b c d e f g h i j k l m n o p =
     ap (λ (x : ℕ). bit_xor (bit_xor x (sum4 i j k l)) (sum4 m n o p)) (sum4-xor a b c d e f g h)
@@ -159,7 +159,7 @@ unmixed a b c d la lb lc ld =
     ∙ (λ i. sum4 (own i) (next i) (opposite i) (before i))
     ∙ xor_zero_r (bit_xor (bit_xor a 0) 0) ∙ xor_zero_r (bit_xor a 0) ∙ xor_zero_r a
 
-pub inverse_mix_columns-mix_columns : (s : List ℕ) → IsState s → inverse_mix_columns (mix_columns s) ≡ s
+inverse_mix_columns-mix_columns : (s : List ℕ) → IsState s → inverse_mix_columns (mix_columns s) ≡ s
 inverse_mix_columns-mix_columns s state =
     let at : (i j k l : ℕ) → sum4 (times 14 (mixed (get_or s i 0) (get_or s j 0) (get_or s k 0) (get_or s l 0))) (times 11 (mixed (get_or s j 0) (get_or s k 0) (get_or s l 0) (get_or s i 0))) (times 13 (mixed (get_or s k 0) (get_or s l 0) (get_or s i 0) (get_or s j 0))) (times 9 (mixed (get_or s l 0) (get_or s i 0) (get_or s j 0) (get_or s k 0))) ≡ get_or s i 0 =
     λ i j k l. unmixed (get_or s i 0) (get_or s j 0) (get_or s k 0) (get_or s l 0) (state.bytes i) (state.bytes j) (state.bytes k) (state.bytes l) in
@@ -250,7 +250,7 @@ unhalf : (s : List ℕ) → IsState s → inverse_sub_bytes (inverse_shift_rows 
 unhalf s h = ap inverse_sub_bytes (inverse_shift_rows-shift_rows (sub_bytes s) ((IsState-sub_bytes s h.long).long)) ∙ inverse_sub_bytes-sub_bytes s h
 
 -- after n inverse rounds of a block that m + 1 rounds gave: as after m - n rounds and half of the next
-pub after_inverse_rounds-enciphered : (w b : List ℕ) (m n : ℕ) → IsState b → AreRoundKeys w m → n ≤ m
+after_inverse_rounds-enciphered : (w b : List ℕ) (m n : ℕ) → IsState b → AreRoundKeys w m → n ≤ m
     → after_inverse_rounds w m (enciphered w m b) n ≡ half_round (after_rounds w b (m - n))
 unfolding after_inverse_rounds after_rounds
 after_inverse_rounds-enciphered w b m zero hb keys le =

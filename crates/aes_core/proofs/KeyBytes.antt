@@ -31,7 +31,7 @@ AreBytes-take n xs h k = elim (cases_lt k n) [
 pub AreBytes-chunk : (i n : ℕ) (xs : List ℕ) → AreBytes xs → AreBytes (chunk i n xs)
 AreBytes-chunk i n xs h = AreBytes-take n (drop i xs) (AreBytes-drop i xs h)
 
-pub AreBytes-xor : (xs ys : List ℕ) → length xs ≡ length ys → AreBytes xs → AreBytes ys → AreBytes (xor xs ys)
+AreBytes-xor : (xs ys : List ℕ) → length xs ≡ length ys → AreBytes xs → AreBytes ys → AreBytes (xor xs ys)
 AreBytes-xor xs ys same hx hy =
     let len = length-zip2 bit_xor xs ys same in
     get_or-small (xor xs ys) (λ i lt.
@@ -39,7 +39,7 @@ AreBytes-xor xs ys same hx hy =
     let small = xor_of_8 (get_or xs i 0) (get_or ys i 0) (hx i) (hy i) in
     omega (arith, e, small))
 
-pub AreBytes-sub_bytes : (xs : List ℕ) → AreBytes (sub_bytes xs)
+AreBytes-sub_bytes : (xs : List ℕ) → AreBytes (sub_bytes xs)
 AreBytes-sub_bytes xs =
     let len = length-map xs sbox in
     get_or-small (sub_bytes xs) (λ i lt.
@@ -97,7 +97,7 @@ key_words-bounds key h = elim h [
   ]
 ]
 
-pub key_of_words : (key : List ℕ) (nk : ℕ) → length key ≡ 4 * nk → 4 ≤ nk → nk ≤ 8 → nk % 2 ≡ 0 → IsKeyLength (length key)
+key_of_words : (key : List ℕ) (nk : ℕ) → length key ≡ 4 * nk → 4 ≤ nk → nk ≤ 8 → nk % 2 ≡ 0 → IsKeyLength (length key)
 key_of_words key nk len low high even = elim (cases_lt nk 5) [
   | inl lt ↦ inl (omega arith)
   | inr ge ↦ elim (cases_lt nk 7) [

@@ -45,7 +45,7 @@ unfolding times
 times_start a b = refl
 
 -- one bit of b more: x is what it adds
-pub times_step : (s x p b k t : ℕ) → bit_xor s (times_bits p b (suc k)) ≡ t → b % 2 * p ≡ x → bit_xor (bit_xor s x) (times_bits (times_x p) (b / 2) k) ≡ t
+times_step : (s x p b k t : ℕ) → bit_xor s (times_bits p b (suc k)) ≡ t → b % 2 * p ≡ x → bit_xor (bit_xor s x) (times_bits (times_x p) (b / 2) k) ≡ t
 times_step s x p b k t held e =
     let rest : ℕ = times_bits (times_x p) (b / 2) k in
     xor_assoc s x rest ∙ ap (λ (y : ℕ). bit_xor s (bit_xor y rest)) (sym e) ∙ held

@@ -27,7 +27,7 @@ use Rattle.aes_planes.proofs.TransposeLaw.{IsLinearHom, steps-keep, places-keep,
 pub every_state : (q : Planes) → AreStates q → Every IsState (planes_of q)
 every_state q h = (h.s7, (h.s6, (h.s5, (h.s4, (h.s3, (h.s2, (h.s1, (h.s0, tt))))))))
 
-pub long_of : (q : Planes) → AreStates q → AreLong q
+long_of : (q : Planes) → AreStates q → AreLong q
 long_of q h = record { l7 = h.s7.long; l6 = h.s6.long; l5 = h.s5.long; l4 = h.s4.long; l3 = h.s3.long; l2 = h.s2.long; l1 = h.s1.long; l0 = h.s0.long }
 
 pub states_from : (q : Planes) → Every IsState (planes_of q) → AreStates q
@@ -37,7 +37,7 @@ pub outputs-every : (P : List ℕ → Type 0) (places : List ℕ) (env : List (L
 outputs-every P [] env all none = tt
 outputs-every P (k ∷ places) env all none = (Every-get P env k (replicate 16 0) all none, outputs-every P places env all none)
 
-pub sub_states : (q r : Planes) → AreStates q → planes_of r ≡ outputs vector_ops sbox_outputs (run vector_ops sbox_gates (planes_of q)) → AreStates r
+sub_states : (q r : Planes) → AreStates q → planes_of r ≡ outputs vector_ops sbox_outputs (run vector_ops sbox_gates (planes_of q)) → AreStates r
 sub_states q r h e =
     let hom = vector_hom 0 0 (omega arith) (omega arith) in
     states_from r (subst (Every IsState) (sym e)
@@ -49,25 +49,25 @@ IsState-rows v h = IsState-lanes_by (λ k. k % 4 * 4 + k / 4) v h
 pub moved_states : (f : List ℕ → List ℕ) (q r : Planes) → ((v : List ℕ) → IsState v → IsState (f v)) → AreStates q → planes_of r ≡ map f (planes_of q) → AreStates r
 moved_states f q r keep h e = states_from r (subst (Every IsState) (sym e) (keep q.b7 h.s7, (keep q.b6 h.s6, (keep q.b5 h.s5, (keep q.b4 h.s4, (keep q.b3 h.s3, (keep q.b2 h.s2, (keep q.b1 h.s1, (keep q.b0 h.s0, tt)))))))))
 
-pub in_states : (q r : Planes) → AreStates q → planes_of r ≡ map shift_in (planes_of q) → AreStates r
+in_states : (q r : Planes) → AreStates q → planes_of r ≡ map shift_in (planes_of q) → AreStates r
 in_states q r h e = moved_states shift_in q r (λ v hv. IsState-rows (shift_rows v) (IsState-shift_rows v hv)) h e
 
-pub between_states : (q r : Planes) → AreStates q → planes_of r ≡ map shift_between (planes_of q) → AreStates r
+between_states : (q r : Planes) → AreStates q → planes_of r ≡ map shift_between (planes_of q) → AreStates r
 between_states q r h e = moved_states shift_between q r (λ v hv. IsState-rows (shift_rows (rows v)) (IsState-shift_rows (rows v) (IsState-rows v hv))) h e
 
-pub out_states : (q r : Planes) → AreStates q → planes_of r ≡ map shift_out (planes_of q) → AreStates r
+out_states : (q r : Planes) → AreStates q → planes_of r ≡ map shift_out (planes_of q) → AreStates r
 out_states q r h e = moved_states shift_out q r (λ v hv. IsState-shift_rows (rows v) (IsState-rows v hv)) h e
 
-pub in_law : (q r : Planes) (j : ℕ) → planes_of r ≡ map shift_in (planes_of q) → block_at (planes_of r) j ≡ shift_in (block_at (planes_of q) j)
+in_law : (q r : Planes) (j : ℕ) → planes_of r ≡ map shift_in (planes_of q) → block_at (planes_of r) j ≡ shift_in (block_at (planes_of q) j)
 in_law q r j e = ap (λ (ps : List (List ℕ)). block_at ps j) e
 
-pub between_law : (q r : Planes) (j : ℕ) → planes_of r ≡ map shift_between (planes_of q) → block_at (planes_of r) j ≡ shift_between (block_at (planes_of q) j)
+between_law : (q r : Planes) (j : ℕ) → planes_of r ≡ map shift_between (planes_of q) → block_at (planes_of r) j ≡ shift_between (block_at (planes_of q) j)
 between_law q r j e = ap (λ (ps : List (List ℕ)). block_at ps j) e
 
-pub out_law : (q r : Planes) (j : ℕ) → planes_of r ≡ map shift_out (planes_of q) → block_at (planes_of r) j ≡ shift_out (block_at (planes_of q) j)
+out_law : (q r : Planes) (j : ℕ) → planes_of r ≡ map shift_out (planes_of q) → block_at (planes_of r) j ≡ shift_out (block_at (planes_of q) j)
 out_law q r j e = ap (λ (ps : List (List ℕ)). block_at ps j) e
 
-pub mix_states : (q r : Planes) → AreStates q → planes_of r ≡ mixed_planes q → AreStates r
+mix_states : (q r : Planes) → AreStates q → planes_of r ≡ mixed_planes q → AreStates r
 mix_states q r h e =
     let n7 = IsState-with_next q.b7 h.s7 in let o7 = IsState-others q.b7 h.s7 in
     let n6 = IsState-with_next q.b6 h.s6 in let o6 = IsState-others q.b6 h.s6 in

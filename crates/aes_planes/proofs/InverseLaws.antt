@@ -46,7 +46,7 @@ inverse_of_bits a b c d e f g h la lb lc ld le lf lg lh =
     ∙ inverse_sbox_circuit x small
     ∙ inverse_sbox_entry (bit_xor x 0x63) (xor_of_8 x 0x63 small (lit< tt))
 
-pub inverse_sub_law : (q r : Planes) (j : ℕ) → j < 8 → AreStates q → IsInverseSub q r → block_at (planes_of r) j ≡ half_inverse_sub (block_at (planes_of q) j)
+inverse_sub_law : (q r : Planes) (j : ℕ) → j < 8 → AreStates q → IsInverseSub q r → block_at (planes_of r) j ≡ half_inverse_sub (block_at (planes_of q) j)
 inverse_sub_law q r j lj states e =
     let lane : (p : ℕ) → p < 16 → from_bits (map (bit_in p j) (planes_of r)) ≡ half_inverse (from_bits (map (bit_in p j) (planes_of q))) = λ p lp.
     let hom = vector_hom p j lp lj in
@@ -76,12 +76,12 @@ from_bits-quad a7 a6 a5 a4 a3 a2 a1 a0 la7 la6 la5 la4 la3 la2 la1 la0 =
     let ex = bits_back a7 a6 a5 a4 a3 a2 a1 a0 la7 la6 la5 la4 la3 la2 la1 la0 in
     ap (λ (l : List ℕ). from_bits (quad l)) (sym ex) ∙ agree_at (λ x. from_bits (quad (bits_of x))) (times 4) 256 x quad_is lx
 
-pub quadrupled_states : (q r : Planes) → AreStates q → planes_of r ≡ quadrupled_planes q → AreStates r
+quadrupled_states : (q r : Planes) → AreStates q → planes_of r ≡ quadrupled_planes q → AreStates r
 quadrupled_states q r h e =
     let s67 = IsState-xor q.b6 q.b7 h.s6 h.s7 in
     states_from r (subst (Every IsState) (sym e) (h.s5, (h.s4, (IsState-xor q.b3 q.b7 h.s3 h.s7, (IsState-xor q.b2 (zip2 bit_xor q.b6 q.b7) h.s2 s67, (IsState-xor q.b1 q.b6 h.s1 h.s6, (IsState-xor q.b0 q.b7 h.s0 h.s7, (s67, (h.s6, tt)))))))))
 
-pub quadrupled_law : (q r : Planes) (j : ℕ) → j < 8 → AreStates q → planes_of r ≡ quadrupled_planes q → block_at (planes_of r) j ≡ map (times 4) (block_at (planes_of q) j)
+quadrupled_law : (q r : Planes) (j : ℕ) → j < 8 → AreStates q → planes_of r ≡ quadrupled_planes q → block_at (planes_of r) j ≡ map (times 4) (block_at (planes_of q) j)
 quadrupled_law q r j lj h e =
     let s67 = IsState-xor q.b6 q.b7 h.s6 h.s7 in
     let lane : (p : ℕ) → p < 16 → from_bits (map (bit_in p j) (planes_of r)) ≡ times 4 (from_bits (map (bit_in p j) (planes_of q))) = λ p lp.
@@ -156,14 +156,14 @@ pre_by_rows : (b : List ℕ) → length b ≡ 16 → rows (pre_rows b) ≡ pre (
 pre_by_rows b l = explicit (λ x. rows (pre_rows x) ≡ pre (rows x)) b l refl
 
 -- a block of planes is a state
-pub block_state : (q : Planes) (j : ℕ) → IsState (block_at (planes_of q) j)
+block_state : (q : Planes) (j : ℕ) → IsState (block_at (planes_of q) j)
 block_state q j =
     IsState-bytes_by (λ p. from_bits (map (bit_in p j) (planes_of q))) (λ p.
     let l7 = bit_at-lt (get_or q.b7 p 0) j in let l6 = bit_at-lt (get_or q.b6 p 0) j in let l5 = bit_at-lt (get_or q.b5 p 0) j in let l4 = bit_at-lt (get_or q.b4 p 0) j in
     let l3 = bit_at-lt (get_or q.b3 p 0) j in let l2 = bit_at-lt (get_or q.b2 p 0) j in let l1 = bit_at-lt (get_or q.b1 p 0) j in let l0 = bit_at-lt (get_or q.b0 p 0) j in
     omega (arith, l7, l6, l5, l4, l3, l2, l1, l0))
 
-pub opposite_states : (q r : Planes) → AreStates q → planes_of r ≡ map opposite_row (planes_of q) → AreStates r
+opposite_states : (q r : Planes) → AreStates q → planes_of r ≡ map opposite_row (planes_of q) → AreStates r
 opposite_states q r h e = moved_states opposite_row q r (λ v hv. IsState-lanes_by (λ k. (k + 8) % 16) v hv) h e
 
 -- what is mixed
@@ -193,7 +193,7 @@ unmix_law q o u f s r j lj h eo eu ef es er =
 cancel_twice : (a : ℕ) → bit_xor (bit_xor a 0x63) 0x63 ≡ a
 cancel_twice a = xor_assoc a 0x63 0x63 ∙ xor_zero_r a
 
-pub xor_turned : (a b : List ℕ) → length a ≡ 16 → length b ≡ 16 → xor a (turned b) ≡ turned (xor a b)
+xor_turned : (a b : List ℕ) → length a ≡ 16 → length b ≡ 16 → xor a (turned b) ≡ turned (xor a b)
 xor_turned a b la lb =
     let f : ℕ → ℕ = λ k. get_or a k 0 in
     let g : ℕ → ℕ = λ k. get_or b k 0 in
@@ -237,10 +237,10 @@ unfolding after_inverse_rounds
 long_after w b m zero hb keys = (IsState-xor b (round_key w (m + 1)) hb (keys (m + 1) (omega arith))).long
 long_after w b m (suc n) hb keys = refl
 
-pub unshift_in_states : (q r : Planes) → AreStates q → planes_of r ≡ map unshift_in (planes_of q) → AreStates r
+unshift_in_states : (q r : Planes) → AreStates q → planes_of r ≡ map unshift_in (planes_of q) → AreStates r
 unshift_in_states q r h e = moved_states unshift_in q r (λ v hv. IsState-rows (inverse_shift_rows v) (IsState-lanes_by (λ k. (k + 12 * (k % 4)) % 16) v hv)) h e
 
-pub unshift_between_states : (q r : Planes) → AreStates q → planes_of r ≡ map unshift_between (planes_of q) → AreStates r
+unshift_between_states : (q r : Planes) → AreStates q → planes_of r ≡ map unshift_between (planes_of q) → AreStates r
 unshift_between_states q r h e = moved_states unshift_between q r (λ v hv. IsState-rows (inverse_shift_rows (rows v)) (IsState-lanes_by (λ k. (k + 12 * (k % 4)) % 16) (rows v) (IsState-rows v hv))) h e
 
 -- before the inverse S-box of inverse round n + 1

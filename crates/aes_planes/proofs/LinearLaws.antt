@@ -55,7 +55,7 @@ from_bits-double a7 a6 a5 a4 a3 a2 a1 a0 la7 la6 la5 la4 la3 la2 la1 la0 =
     ap (λ (l : List ℕ). from_bits (double l)) (sym ex) ∙ agree_at (λ x. from_bits (double (bits_of x))) times_x 256 x double_is lx
 
 -- MixColumns of a column, with one multiplication
-pub mix_once : (a b c d : ℕ) → a < 256 → b < 256 → c < 256 → d < 256
+mix_once : (a b c d : ℕ) → a < 256 → b < 256 → c < 256 → d < 256
     → sum4 (times 2 a) (times 3 b) (times 1 c) (times 1 d) ≡ bit_xor (bit_xor b (bit_xor c d)) (times_x (bit_xor a b))
 mix_once a b c d la lb lc ld =
     let lab = xor_of_8 a b la lb in

@@ -46,10 +46,10 @@ mixed_rows_are q l =
 
 -- ---- the constant
 
-pub cancel : (a b : ℕ) → bit_xor (bit_xor a 0x63) (bit_xor b 0x63) ≡ bit_xor a b
+cancel : (a b : ℕ) → bit_xor (bit_xor a 0x63) (bit_xor b 0x63) ≡ bit_xor a b
 cancel a b = xor_swap a 0x63 b 0x63 ∙ xor_zero_r (bit_xor a b)
 
-pub turned_xor : (a b : List ℕ) → length a ≡ 16 → length b ≡ 16 → xor (turned a) (turned b) ≡ xor a b
+turned_xor : (a b : List ℕ) → length a ≡ 16 → length b ≡ 16 → xor (turned a) (turned b) ≡ xor a b
 turned_xor a b la lb =
     let f : ℕ → ℕ = λ k. get_or a k 0 in
     let g : ℕ → ℕ = λ k. get_or b k 0 in
@@ -68,7 +68,7 @@ turned_byte a b c d =
     ∙ sym (sum4-xor (times 2 a) (times 3 b) (times 1 c) (times 1 d) (times 2 0x63) (times 3 0x63) (times 1 0x63) (times 1 0x63))
     ∙ ap (bit_xor (sum4 (times 2 a) (times 3 b) (times 1 c) (times 1 d))) column_of_constant
 
-pub turned_mix : (s : List ℕ) → length s ≡ 16 → mix_columns (turned s) ≡ turned (mix_columns s)
+turned_mix : (s : List ℕ) → length s ≡ 16 → mix_columns (turned s) ≡ turned (mix_columns s)
 turned_mix s l =
     let g : ℕ → ℕ = λ k. get_or s k 0 in
     let at : (a b c d : ℕ) → sum4 (times 2 (bit_xor (g a) 0x63)) (times 3 (bit_xor (g b) 0x63)) (times 1 (bit_xor (g c) 0x63)) (times 1 (bit_xor (g d) 0x63)) ≡ bit_xor (sum4 (times 2 (g a)) (times 3 (g b)) (times 1 (g c)) (times 1 (g d))) 0x63 = λ a b c d. turned_byte (g a) (g b) (g c) (g d) in

@@ -24,7 +24,7 @@ use Rattle.aes_planes.proofs.Hom.{IsHom, Every, run-hom, outputs-hom}
 pub small_get : (s : List ℕ) → ((k : ℕ) → k < length s → get_or s k 0 < 256) → (k : ℕ) → get_or s k 0 < 256
 small_get s here k = elim (cases_lt k (length s)) [ inl lt ↦ here k lt | inr ge ↦ let none : get_or s k 0 ≡ 0 = get_or_past s k 0 ge in omega (arith, none) ]
 
-pub IsState-and : (a b : List ℕ) → IsState a → IsState b → IsState (zip2 bit_and a b)
+IsState-and : (a b : List ℕ) → IsState a → IsState b → IsState (zip2 bit_and a b)
 IsState-and a b ha hb =
     let la = ha.long in let lb = hb.long in
     let l = length-zip2 bit_and a b (omega arith) in
@@ -37,7 +37,7 @@ IsState-and a b ha hb =
           omega (arith, e, le, h));
     }
 
-pub IsState-or : (a b : List ℕ) → IsState a → IsState b → IsState (zip2 bit_or a b)
+IsState-or : (a b : List ℕ) → IsState a → IsState b → IsState (zip2 bit_or a b)
 IsState-or a b ha hb =
     let la = ha.long in let lb = hb.long in
     let l = length-zip2 bit_or a b (omega arith) in

@@ -206,7 +206,7 @@ placed-from_bits a b c d e f g h la lb lc ld le lf lg lh =
     ap placed (sym (bits_back a b c d e f g h la lb lc ld le lf lg lh)) ∙ agree_at (λ z. placed (bits_of z)) (λ z. z) 256 z placed_is lz
 
 -- the network transposes
-pub net_is : (x0 x1 x2 x3 x4 x5 x6 x7 : ℕ) → x0 < 256 → x1 < 256 → x2 < 256 → x3 < 256 → x4 < 256 → x5 < 256 → x6 < 256 → x7 < 256 → net (x0 ∷ x1 ∷ x2 ∷ x3 ∷ x4 ∷ x5 ∷ x6 ∷ x7 ∷ []) ≡ from_bits (bit x0 7 ∷ bit x1 7 ∷ bit x2 7 ∷ bit x3 7 ∷ bit x4 7 ∷ bit x5 7 ∷ bit x6 7 ∷ bit x7 7 ∷ []) ∷ from_bits (bit x0 6 ∷ bit x1 6 ∷ bit x2 6 ∷ bit x3 6 ∷ bit x4 6 ∷ bit x5 6 ∷ bit x6 6 ∷ bit x7 6 ∷ []) ∷ from_bits (bit x0 5 ∷ bit x1 5 ∷ bit x2 5 ∷ bit x3 5 ∷ bit x4 5 ∷ bit x5 5 ∷ bit x6 5 ∷ bit x7 5 ∷ []) ∷ from_bits (bit x0 4 ∷ bit x1 4 ∷ bit x2 4 ∷ bit x3 4 ∷ bit x4 4 ∷ bit x5 4 ∷ bit x6 4 ∷ bit x7 4 ∷ []) ∷ from_bits (bit x0 3 ∷ bit x1 3 ∷ bit x2 3 ∷ bit x3 3 ∷ bit x4 3 ∷ bit x5 3 ∷ bit x6 3 ∷ bit x7 3 ∷ []) ∷ from_bits (bit x0 2 ∷ bit x1 2 ∷ bit x2 2 ∷ bit x3 2 ∷ bit x4 2 ∷ bit x5 2 ∷ bit x6 2 ∷ bit x7 2 ∷ []) ∷ from_bits (bit x0 1 ∷ bit x1 1 ∷ bit x2 1 ∷ bit x3 1 ∷ bit x4 1 ∷ bit x5 1 ∷ bit x6 1 ∷ bit x7 1 ∷ []) ∷ from_bits (bit x0 0 ∷ bit x1 0 ∷ bit x2 0 ∷ bit x3 0 ∷ bit x4 0 ∷ bit x5 0 ∷ bit x6 0 ∷ bit x7 0 ∷ []) ∷ []
+net_is : (x0 x1 x2 x3 x4 x5 x6 x7 : ℕ) → x0 < 256 → x1 < 256 → x2 < 256 → x3 < 256 → x4 < 256 → x5 < 256 → x6 < 256 → x7 < 256 → net (x0 ∷ x1 ∷ x2 ∷ x3 ∷ x4 ∷ x5 ∷ x6 ∷ x7 ∷ []) ≡ from_bits (bit x0 7 ∷ bit x1 7 ∷ bit x2 7 ∷ bit x3 7 ∷ bit x4 7 ∷ bit x5 7 ∷ bit x6 7 ∷ bit x7 7 ∷ []) ∷ from_bits (bit x0 6 ∷ bit x1 6 ∷ bit x2 6 ∷ bit x3 6 ∷ bit x4 6 ∷ bit x5 6 ∷ bit x6 6 ∷ bit x7 6 ∷ []) ∷ from_bits (bit x0 5 ∷ bit x1 5 ∷ bit x2 5 ∷ bit x3 5 ∷ bit x4 5 ∷ bit x5 5 ∷ bit x6 5 ∷ bit x7 5 ∷ []) ∷ from_bits (bit x0 4 ∷ bit x1 4 ∷ bit x2 4 ∷ bit x3 4 ∷ bit x4 4 ∷ bit x5 4 ∷ bit x6 4 ∷ bit x7 4 ∷ []) ∷ from_bits (bit x0 3 ∷ bit x1 3 ∷ bit x2 3 ∷ bit x3 3 ∷ bit x4 3 ∷ bit x5 3 ∷ bit x6 3 ∷ bit x7 3 ∷ []) ∷ from_bits (bit x0 2 ∷ bit x1 2 ∷ bit x2 2 ∷ bit x3 2 ∷ bit x4 2 ∷ bit x5 2 ∷ bit x6 2 ∷ bit x7 2 ∷ []) ∷ from_bits (bit x0 1 ∷ bit x1 1 ∷ bit x2 1 ∷ bit x3 1 ∷ bit x4 1 ∷ bit x5 1 ∷ bit x6 1 ∷ bit x7 1 ∷ []) ∷ from_bits (bit x0 0 ∷ bit x1 0 ∷ bit x2 0 ∷ bit x3 0 ∷ bit x4 0 ∷ bit x5 0 ∷ bit x6 0 ∷ bit x7 0 ∷ []) ∷ []
 net_is x0 x1 x2 x3 x4 x5 x6 x7 l0 l1 l2 l3 l4 l5 l6 l7 =
     let row : (i : ℕ) → placed (bit x0 i ∷ bit x1 i ∷ bit x2 i ∷ bit x3 i ∷ bit x4 i ∷ bit x5 i ∷ bit x6 i ∷ bit x7 i ∷ []) ≡ from_bits (bit x0 i ∷ bit x1 i ∷ bit x2 i ∷ bit x3 i ∷ bit x4 i ∷ bit x5 i ∷ bit x6 i ∷ bit x7 i ∷ []) =
     λ i. placed-from_bits (bit x0 i) (bit x1 i) (bit x2 i) (bit x3 i) (bit x4 i) (bit x5 i) (bit x6 i) (bit x7 i) (bit_at-lt x0 i) (bit_at-lt x1 i) (bit_at-lt x2 i) (bit_at-lt x3 i) (bit_at-lt x4 i) (bit_at-lt x5 i) (bit_at-lt x6 i) (bit_at-lt x7 i) in

@@ -1,4 +1,4 @@
--- Whole pieces that are opened, each behind the one before it.
+-- Whole units that are opened, each behind the one before it.
 use Rattle.std.proofs.Common.{◌≡◌, ℕ, ◌+◌, ◌-◌, List, [], ◌∷◌, ◌++◌, length, take, drop, Bool, cond, true, false, Result, Ok, Err, IsTrue, ◌↔◌, bytes_eq, is_ok, refl, sym, ap, ◌∙◌, arith, append-nil}
 use Rattle.std.proofs.lemmas.Bool.{cond-true, cond-false}
 use Rattle.std.proofs.lemmas.Slice.Eq.{bytes_eq-Decides}
@@ -9,15 +9,15 @@ use Rattle.eli_base.specs.Units.{tag_bytes, unit_bytes_of}
 use Rattle.eli_base.proofs.Units.{tag_and_unit}
 use Rattle.range_keys.specs.Keys.{tag_key}
 use Rattle.sealing.specs.Runs.{opened_run}
-use Rattle.sealing.specs.Pieces.{cipher_text_in, kept_tag, opened_piece, tag_of}
+use Rattle.sealing.specs.TaggedUnits.{cipher_text_in, kept_tag, opened_tagged, tag_of}
 use Rattle.sealing.specs.Sectors.{joined}
 use Rattle.sealing.proofs.Keys.{length-hmac_of}
-use Rattle.sealing.proofs.Pieces.{opened_piece-good}
+use Rattle.sealing.proofs.TaggedUnitLaws.{opened_tagged-good}
 use Rattle.auth_sectors.specs.Tags.{padded}
-use Rattle.auth_sectors.specs.Wholes.{opened_pieces}
-use Rattle.auth_sectors.proofs.Pieces.{same_front}
+use Rattle.auth_sectors.specs.Wholes.{opened_units}
+use Rattle.auth_sectors.proofs.UnitParts.{same_front}
 
--- the cipher text of a whole piece is all that stands behind the tag
+-- the cipher text of a whole unit is all that stands behind the tag
 whole_text : (k : Keying) (sector : List ℕ) → length sector ≡ 512 → cipher_text_in k (unit_bytes_of k.auth) sector ≡ drop (tag_bytes k.auth) sector
 whole_text k sector long = take_all (unit_bytes_of k.auth) (drop (tag_bytes k.auth) sector) (omega (arith, length-drop (tag_bytes k.auth) sector, tag_and_unit k.auth))
 
@@ -33,9 +33,9 @@ not_true : (b : Bool) → (b ≡ true → ⊥) → b ≡ false
 not_true true none = absurd (none refl)
 not_true false none = refl
 
--- where the tag is another, a whole piece reads as a fault
+-- where the tag is another, a whole unit reads as a fault
 pub reads_wrong : (k : Keying) (offset : ℕ) (sector code : List ℕ) (same : Bool) → length sector ≡ 512 → code ≡ padded (tag_of k offset (drop (tag_bytes k.auth) sector))
-    → (IsTrue same ↔ (padded (kept_tag k sector) ≡ code)) → same ≡ false → opened_piece k offset (unit_bytes_of k.auth) sector ≡ Err offset
+    → (IsTrue same ↔ (padded (kept_tag k sector) ≡ code)) → same ≡ false → opened_tagged k offset (unit_bytes_of k.auth) sector ≡ Err offset
 reads_wrong k offset sector code same long is tells wrong =
     let text : List ℕ = drop (tag_bytes k.auth) sector in
     let tag : List ℕ = tag_of k offset text in
@@ -47,7 +47,7 @@ reads_wrong k offset sector code same long is tells wrong =
 
 -- where it is that of the cipher text, it reads as what is deciphered of it
 pub reads_right : (k : Keying) (offset : ℕ) (sector code : List ℕ) (same : Bool) → length sector ≡ 512 → code ≡ padded (tag_of k offset (drop (tag_bytes k.auth) sector))
-    → (IsTrue same ↔ (padded (kept_tag k sector) ≡ code)) → same ≡ true → opened_piece k offset (unit_bytes_of k.auth) sector ≡ Ok (opened_run k offset (drop (tag_bytes k.auth) sector))
+    → (IsTrue same ↔ (padded (kept_tag k sector) ≡ code)) → same ≡ true → opened_tagged k offset (unit_bytes_of k.auth) sector ≡ Ok (opened_run k offset (drop (tag_bytes k.auth) sector))
 reads_right k offset sector code same long is tells right =
     let text : List ℕ = drop (tag_bytes k.auth) sector in
     let tag : List ℕ = tag_of k offset text in
@@ -59,12 +59,12 @@ reads_right k offset sector code same long is tells right =
     ∙ cond-true (bytes_eq (kept_tag k sector) tag) (Ok (opened_run k offset text)) (Err offset) good
 
 -- what four device sectors read as, cut one after the other
-pub pieces_of_four : (k : Keying) (offset : ℕ) (from a b c d behind rest : List ℕ) → length from ≡ 2048 → a ≡ take 512 from → behind ≡ drop 512 from → b ≡ take 512 behind
+pub units_of_four : (k : Keying) (offset : ℕ) (from a b c d behind rest : List ℕ) → length from ≡ 2048 → a ≡ take 512 from → behind ≡ drop 512 from → b ≡ take 512 behind
     → rest ≡ drop 512 behind → c ≡ take 512 rest → d ≡ drop 512 rest
-    → opened_pieces k offset (parts 512 4 from)
-    ≡ opened_piece k offset (unit_bytes_of k.auth) a ∷ opened_piece k (offset + 512) (unit_bytes_of k.auth) b ∷ opened_piece k (offset + 1024) (unit_bytes_of k.auth) c
-    ∷ opened_piece k (offset + 1536) (unit_bytes_of k.auth) d ∷ []
-pieces_of_four k offset from a b c d behind rest long ea eb b_is er c_is d_is =
+    → opened_units k offset (parts 512 4 from)
+    ≡ opened_tagged k offset (unit_bytes_of k.auth) a ∷ opened_tagged k (offset + 512) (unit_bytes_of k.auth) b ∷ opened_tagged k (offset + 1024) (unit_bytes_of k.auth) c
+    ∷ opened_tagged k (offset + 1536) (unit_bytes_of k.auth) d ∷ []
+units_of_four k offset from a b c d behind rest long ea eb b_is er c_is d_is =
     let u : ℕ = unit_bytes_of k.auth in
     let rest_is : rest ≡ drop 512 (drop 512 from) = er ∙ ap (drop 512) eb in
     let fourth : take 512 (drop 512 rest) ≡ d = take_all 512 (drop 512 rest) (omega (arith, length-drop 512 rest, ap (λ (l : List ℕ). length l) rest_is, length-drop 512 (drop 512 from), length-drop 512 from)) ∙ sym d_is in
@@ -73,25 +73,25 @@ pieces_of_four k offset from a b c d behind rest long ea eb b_is er c_is d_is =
     let second : take 512 (drop 512 from) ≡ b = ap (take 512) (sym eb) ∙ sym b_is in
     let third : take 512 (drop 512 (drop 512 from)) ≡ c = ap (take 512) (sym rest_is) ∙ sym c_is in
     let last : take 512 (drop 512 (drop 512 (drop 512 from))) ≡ d = ap (λ (l : List ℕ). take 512 (drop 512 l)) (sym rest_is) ∙ fourth in
-    λ i. opened_piece k offset u (sym ea i) ∷ opened_piece k (offset + 512) u (second i) ∷ opened_piece k (third_at i) u (third i) ∷ opened_piece k (fourth_at i) u (last i) ∷ []
+    λ i. opened_tagged k offset u (sym ea i) ∷ opened_tagged k (offset + 512) u (second i) ∷ opened_tagged k (third_at i) u (third i) ∷ opened_tagged k (fourth_at i) u (last i) ∷ []
 
 pub reading_of_four : (k : Keying) (offset : ℕ) (from a b c d behind rest : List ℕ) → length from ≡ 2048 → a ≡ take 512 from → behind ≡ drop 512 from → b ≡ take 512 behind
     → rest ≡ drop 512 behind → c ≡ take 512 rest → d ≡ drop 512 rest
-    → joined (opened_pieces k offset (parts 512 4 from))
-    ≡ joined (opened_piece k offset (unit_bytes_of k.auth) a ∷ opened_piece k (offset + 512) (unit_bytes_of k.auth) b ∷ opened_piece k (offset + 1024) (unit_bytes_of k.auth) c
-    ∷ opened_piece k (offset + 1536) (unit_bytes_of k.auth) d ∷ [])
-reading_of_four k offset from a b c d behind rest long ea eb b_is er c_is d_is = ap joined (pieces_of_four k offset from a b c d behind rest long ea eb b_is er c_is d_is)
+    → joined (opened_units k offset (parts 512 4 from))
+    ≡ joined (opened_tagged k offset (unit_bytes_of k.auth) a ∷ opened_tagged k (offset + 512) (unit_bytes_of k.auth) b ∷ opened_tagged k (offset + 1024) (unit_bytes_of k.auth) c
+    ∷ opened_tagged k (offset + 1536) (unit_bytes_of k.auth) d ∷ [])
+reading_of_four k offset from a b c d behind rest long ea eb b_is er c_is d_is = ap joined (units_of_four k offset from a b c d behind rest long ea eb b_is er c_is d_is)
 
 -- ---- what is told by the tag alone
 
 -- whether a device sector has the tag that was computed of its cipher text is whether it reads as bytes
 pub tag_tells : (k : Keying) (offset size : ℕ) (sector code : List ℕ) (same : Bool) → length sector ≡ 512 → code ≡ padded (tag_of k offset (cipher_text_in k size sector))
-    → (IsTrue same ↔ (padded (kept_tag k sector) ≡ code)) → is_ok (opened_piece k offset size sector) ≡ same
+    → (IsTrue same ↔ (padded (kept_tag k sector) ≡ code)) → is_ok (opened_tagged k offset size sector) ≡ same
 tag_tells k offset size sector code true long is tells =
     let text : List ℕ = cipher_text_in k size sector in
     let front : length (kept_tag k sector) ≡ tag_bytes k.auth = length-take-le (tag_bytes k.auth) sector (omega (arith, tag_and_unit k.auth)) in
     let equal : kept_tag k sector ≡ tag_of k offset text = same_front (tag_bytes k.auth) (kept_tag k sector) (tag_of k offset text) front (length-hmac_of k.auth (tag_key k offset) text) (tells.0 refl ∙ is) in
-    ap (λ (r : Result (List ℕ) ℕ). is_ok r) (opened_piece-good k offset size sector text equal refl)
+    ap (λ (r : Result (List ℕ) ℕ). is_ok r) (opened_tagged-good k offset size sector text equal refl)
 tag_tells k offset size sector code false long is tells =
     let text : List ℕ = cipher_text_in k size sector in
     let tag : List ℕ = tag_of k offset text in
@@ -106,13 +106,13 @@ code_in k offset tag size sector code wide is =
     let count : tag + size - tag ≡ size = omega arith in
     is ∙ (λ i. padded (tag_of k offset (take (count i) (drop (wide i) sector))))
 
--- what is deciphered of a piece that is accepted is what it reads as
+-- what is deciphered of a unit that is accepted is what it reads as
 opens_if : (same : Bool) (plain : List ℕ) (offset : ℕ) → is_ok (cond same (Ok plain) (Err offset)) ≡ true → cond same (Ok plain) (Err offset) ≡ Ok plain
 opens_if true plain offset accepted = refl
 opens_if false plain offset accepted = absurd cc
 
-pub opens_accepted : (k : Keying) (offset size : ℕ) (sector plain : List ℕ) → is_ok (opened_piece k offset size sector) ≡ true → plain ≡ opened_run k offset (cipher_text_in k size sector)
-    → opened_piece k offset size sector ≡ Ok plain
+pub opens_accepted : (k : Keying) (offset size : ℕ) (sector plain : List ℕ) → is_ok (opened_tagged k offset size sector) ≡ true → plain ≡ opened_run k offset (cipher_text_in k size sector)
+    → opened_tagged k offset size sector ≡ Ok plain
 opens_accepted k offset size sector plain accepted is =
     opens_if (bytes_eq (kept_tag k sector) (tag_of k offset (cipher_text_in k size sector))) (opened_run k offset (cipher_text_in k size sector)) offset accepted ∙ ap Ok (sym is)
 

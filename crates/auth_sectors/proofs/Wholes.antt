@@ -1,22 +1,22 @@
--- Whole pieces, each behind the one before it.
+-- Whole units, each behind the one before it.
 use Rattle.std.proofs.Common.{◌≡◌, ℕ, ◌+◌, ◌-◌, ◌*◌, List, [], ◌∷◌, ◌++◌, length, take, drop, replicate, refl, sym, ap, ◌∙◌, arith}
 use Rattle.std.proofs.lemmas.List.{take_at, drop_at, take_all, drop-drop}
 use Rattle.block_traits.specs.Parts.{parts}
 use Rattle.eli_base.specs.Keying.{Keying}
 use Rattle.eli_base.specs.Units.{tag_bytes, unit_bytes_of}
 use Rattle.range_keys.specs.Keys.{tag_key}
-use Rattle.sealing.specs.Pieces.{sealed_piece, tag_of}
+use Rattle.sealing.specs.TaggedUnits.{sealed_tagged, tag_of}
 use Rattle.sealing.specs.Runs.{sealed_run}
 use Rattle.sealing.proofs.Keys.{length-hmac_of}
 use Rattle.auth_sectors.specs.Tags.{padded}
-use Rattle.auth_sectors.proofs.Pieces.{front_of_code, sealed_parts}
+use Rattle.auth_sectors.proofs.UnitParts.{front_of_code, sealed_parts}
 
--- a tag in front of cipher text with zeros behind it is the piece
-pub piece_with_tag : (k now later : Keying) (offset size n : ℕ) (plain text code sector : List ℕ) → now ≡ k → later ≡ k → size ≡ tag_bytes k.auth → n ≡ length plain
+-- a tag in front of cipher text with zeros behind it is the unit
+pub unit_with_tag : (k now later : Keying) (offset size n : ℕ) (plain text code sector : List ℕ) → now ≡ k → later ≡ k → size ≡ tag_bytes k.auth → n ≡ length plain
     → length (sealed_run now offset plain) ≡ length plain → drop (tag_bytes now.auth) text ≡ sealed_run now offset plain ++ replicate (unit_bytes_of now.auth - length plain) 0
     → code ≡ padded (tag_of later offset (take (size + n - size) (drop size text))) → sector ≡ take size code ++ drop (length (take size code)) text
-    → sector ≡ sealed_piece k offset plain
-piece_with_tag k now later offset size n plain text code sector same still wide count long sealed coded put =
+    → sector ≡ sealed_tagged k offset plain
+unit_with_tag k now later offset size n plain text code sector same still wide count long sealed coded put =
     let run : List ℕ = sealed_run k offset plain in
     let room : ℕ = unit_bytes_of k.auth - length plain in
     let here : sealed_run now offset plain ≡ run = ap (λ (j : Keying). sealed_run j offset plain) same in
@@ -47,7 +47,7 @@ parts_of_four a b c d la lb lc ld =
     let fourth_is : take 512 (drop 512 (drop 512 (drop 512 (a ++ (b ++ (c ++ d)))))) ≡ d = ap (take 512) fourth ∙ take_all 512 d (omega arith) in
     λ i. first_is i ∷ second_is i ∷ third_is i ∷ fourth_is i ∷ []
 
--- the plain bytes of the second, third and fourth of four pieces
+-- the plain bytes of the second, third and fourth of four units
 pub second_part : (width u : ℕ) (plain : List ℕ) → width ≡ u → take (2 * width - width) (drop width plain) ≡ take u (drop u plain)
 second_part width u plain wide = let count : 2 * width - width ≡ u = omega arith in λ i. take (count i) (drop (wide i) plain)
 

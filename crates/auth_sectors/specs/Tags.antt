@@ -2,7 +2,7 @@
 use Rattle.std.specs.Prelude.{◌≡◌, ◌≢◌, ℕ, ◌-◌, List, ◌++◌, length, replicate}
 use Rattle.eli_base.specs.Keying.{Keying}
 use Rattle.eli_base.specs.Units.{tag_bytes}
-use Rattle.sealing.specs.Pieces.{cipher_text_in, kept_tag, tag_of}
+use Rattle.sealing.specs.TaggedUnits.{cipher_text_in, kept_tag, tag_of}
 use Rattle.auth_sectors.specs.declared.Mismatch.{Mismatch}
 
 -- bytes with so many zeros behind them that there are 64

@@ -1,6 +1,6 @@
 //! Device sectors of a GELI provider with authentication (geli(8), "DATA AUTHENTICATION"; g_eli_integrity.c).
 //!
-//! A piece is the part of a logical sector that stands in one device sector: a tag, the cipher text of the piece's
+//! A unit is the part of a logical sector that stands in one device sector: a tag, the cipher text of the unit's
 //! plain bytes, and zeros, all under the keys of the device sector's own byte offset. No call fails for want of
 //! memory.
 #![tactic(auto)]
@@ -8,10 +8,10 @@
 ghost use Rattle.std.specs.Prelude.{◌≡◌, ◌≢◌, ◌+◌, ◌*◌, ◌%◌, ◌^◌, ◌<◌, ◌≤◌, [], ◌∷◌, Ok, Err, MatchResult, is_ok, length, map, replicate, true};
 ghost use Rattle.block_traits.specs.Parts.{parts};
 ghost use Rattle.eli_base.specs.Units.{unit_bytes_of};
-ghost use Rattle.sealing.specs.Pieces.{opened_piece, sealed_piece};
+ghost use Rattle.sealing.specs.TaggedUnits.{opened_tagged, sealed_tagged};
 ghost use Rattle.sealing.specs.Sectors.{joined};
 ghost use Rattle.auth_sectors.specs.Tags.{ShowsMismatch};
-ghost use Rattle.auth_sectors.specs.Wholes.{opened_pieces, sealed_pieces};
+ghost use Rattle.auth_sectors.specs.Wholes.{opened_units, sealed_units};
 
 mod tags;
 mod whole;
@@ -35,13 +35,13 @@ pub struct Mismatch {
     pub computed: [u8; 64],
 }
 
-/// Seals the plain bytes of a piece into its device sector, which stands at this byte offset of the device.
+/// Seals the plain bytes of a unit into its device sector, which stands at this byte offset of the device.
 pub fn seal_piece(ring: &mut KeyRing, offset: u64, plain: &[u8], out: &mut Sector)
     requires on { ring.old.keying.auth ≢ Auth.Off }
     requires at_least { 16 ≤ length plain.now }
     requires at_most { length plain.now ≤ unit_bytes_of ring.old.keying.auth }
     requires blocks { length plain.now % 16 ≡ 0 }
-    ensures sealed { out.new ≡ sealed_piece ring.old.keying offset plain.now }
+    ensures sealed { out.new ≡ sealed_tagged ring.old.keying offset plain.now }
     ensures keying { ring.new.keying ≡ ring.old.keying }
 {
     let size = ring.auth().tag_bytes();
@@ -54,7 +54,7 @@ pub fn seal_piece(ring: &mut KeyRing, offset: u64, plain: &[u8], out: &mut Secto
     zeros.fill(0);
 }
 
-/// Seals the plain bytes of four pieces of one length into their device sectors. The first stands at this byte offset
+/// Seals the plain bytes of four units of one length into their device sectors. The first stands at this byte offset
 /// of the device, and each other `step` bytes behind the one before it.
 pub fn seal_apart(
     ring: &mut KeyRing,
@@ -74,10 +74,10 @@ pub fn seal_apart(
     requires fourth { length d.now ≡ length a.now }
     requires place { offset + 3 * step < 2 ^ 64 }
     ensures sealed { parts 512 4 out.new
-        ≡ sealed_piece ring.old.keying offset a.now
-        ∷ sealed_piece ring.old.keying (offset + step) b.now
-        ∷ sealed_piece ring.old.keying (offset + 2 * step) c.now
-        ∷ sealed_piece ring.old.keying (offset + 3 * step) d.now ∷ [] }
+        ≡ sealed_tagged ring.old.keying offset a.now
+        ∷ sealed_tagged ring.old.keying (offset + step) b.now
+        ∷ sealed_tagged ring.old.keying (offset + 2 * step) c.now
+        ∷ sealed_tagged ring.old.keying (offset + 3 * step) d.now ∷ [] }
     ensures keying { ring.new.keying ≡ ring.old.keying }
 {
     let size = ring.auth().tag_bytes();
@@ -104,13 +104,13 @@ pub fn seal_apart(
     put_tag(&tags[3][..size], fourth);
 }
 
-/// Seals the plain bytes of four whole pieces into their device sectors, each behind the one before it.
+/// Seals the plain bytes of four whole units into their device sectors, each behind the one before it.
 /// The first stands at this byte offset of the device.
 pub fn seal_four(ring: &mut KeyRing, offset: u64, plain: &[u8], out: &mut [u8; 2048])
     requires on { ring.old.keying.auth ≢ Auth.Off }
     requires plain { length plain.now ≡ 4 * unit_bytes_of ring.old.keying.auth }
     requires place { offset + 1536 < 2 ^ 64 }
-    ensures sealed { parts 512 4 out.new ≡ sealed_pieces ring.old.keying offset 4 plain.now }
+    ensures sealed { parts 512 4 out.new ≡ sealed_units ring.old.keying offset 4 plain.now }
     ensures keying { ring.new.keying ≡ ring.old.keying }
 {
     let width = ring.auth().data_bytes();
@@ -126,7 +126,7 @@ pub fn seal_four(ring: &mut KeyRing, offset: u64, plain: &[u8], out: &mut [u8; 2
     );
 }
 
-/// Opens a piece of as many plain bytes as `out` has, from its device sector, which stands at this byte offset of the
+/// Opens a unit of as many plain bytes as `out` has, from its device sector, which stands at this byte offset of the
 /// device. What is behind the cipher text isn't looked at.
 ///
 /// A mismatch is answered exactly where the tag differs, and `out` is then all zeros.
@@ -140,7 +140,7 @@ pub fn open_piece(
     requires at_least { 16 ≤ length out.old }
     requires at_most { length out.old ≤ unit_bytes_of ring.old.keying.auth }
     requires blocks { length out.old % 16 ≡ 0 }
-    ensures opened { let answer = opened_piece ring.old.keying offset (length out.old) from.now in
+    ensures opened { let answer = opened_tagged ring.old.keying offset (length out.old) from.now in
         MatchResult result (λ _. answer ≡ Ok out.new) (λ mismatch. answer ≡ Err offset) }
     ensures mismatch { MatchResult result (λ _. Unit {0})
         (λ mismatch. (out.new ≡ replicate (length out.old) 0) × ShowsMismatch ring.old.keying offset (length out.old) from.now mismatch) }
@@ -163,19 +163,19 @@ pub fn open_piece(
     Ok(())
 }
 
-/// Whether a piece of `size` plain bytes is accepted, from its device sector, which stands at this byte offset of the
+/// Whether a unit of `size` plain bytes is accepted, from its device sector, which stands at this byte offset of the
 /// device: whether the tag is that of its cipher text. Nothing is deciphered.
-pub fn piece_accepted(ring: &KeyRing, offset: u64, size: usize, from: &Sector) -> bool
+pub fn unit_accepted(ring: &KeyRing, offset: u64, size: usize, from: &Sector) -> bool
     requires on { ring.now.keying.auth ≢ Auth.Off }
     requires at_most { size ≤ unit_bytes_of ring.now.keying.auth }
-    ensures { result ≡ is_ok (opened_piece ring.now.keying offset size from.now) }
+    ensures { result ≡ is_ok (opened_tagged ring.now.keying offset size from.now) }
 {
     let tag = ring.auth().tag_bytes();
     let computed = tag_of(ring, offset, &from[tag..tag + size]);
     has_tag(ring, from, &computed)
 }
 
-/// Which of four pieces of `size` plain bytes are accepted, each from its device sector. The first stands at this byte
+/// Which of four units of `size` plain bytes are accepted, each from its device sector. The first stands at this byte
 /// offset of the device, and each other `step` bytes behind the one before it. Nothing is deciphered.
 pub fn apart_accepted(
     ring: &KeyRing,
@@ -194,10 +194,10 @@ pub fn apart_accepted(
     requires third { length c.now ≡ 512 }
     requires fourth { length d.now ≡ 512 }
     requires place { offset + 3 * step < 2 ^ 64 }
-    ensures { result ≡ is_ok (opened_piece ring.now.keying offset size a.now)
-        ∷ is_ok (opened_piece ring.now.keying (offset + step) size b.now)
-        ∷ is_ok (opened_piece ring.now.keying (offset + 2 * step) size c.now)
-        ∷ is_ok (opened_piece ring.now.keying (offset + 3 * step) size d.now) ∷ [] }
+    ensures { result ≡ is_ok (opened_tagged ring.now.keying offset size a.now)
+        ∷ is_ok (opened_tagged ring.now.keying (offset + step) size b.now)
+        ∷ is_ok (opened_tagged ring.now.keying (offset + 2 * step) size c.now)
+        ∷ is_ok (opened_tagged ring.now.keying (offset + 3 * step) size d.now) ∷ [] }
 {
     let tag = ring.auth().tag_bytes();
     let end = tag + size;
@@ -218,12 +218,12 @@ pub fn apart_accepted(
     ]
 }
 
-/// Which of four whole pieces are accepted, each from the device sector behind that of the one before it. The first
+/// Which of four whole units are accepted, each from the device sector behind that of the one before it. The first
 /// stands at this byte offset of the device. Nothing is deciphered.
 pub fn four_accepted(ring: &KeyRing, offset: u64, from: &[u8; 2048]) -> [bool; 4]
     requires on { ring.now.keying.auth ≢ Auth.Off }
     requires place { offset + 1536 < 2 ^ 64 }
-    ensures { result ≡ map is_ok (opened_pieces ring.now.keying offset (parts 512 4 from.now)) }
+    ensures { result ≡ map is_ok (opened_units ring.now.keying offset (parts 512 4 from.now)) }
 {
     let width = ring.auth().data_bytes();
     let (first, rest) = from.split_at(512);
@@ -232,14 +232,14 @@ pub fn four_accepted(ring: &KeyRing, offset: u64, from: &[u8; 2048]) -> [bool; 4
     apart_accepted(ring, offset, 512, width, first, second, third, fourth)
 }
 
-/// Opens a piece that is accepted, of as many plain bytes as `out` has, from its device sector, which stands at this
+/// Opens a unit that is accepted, of as many plain bytes as `out` has, from its device sector, which stands at this
 /// byte offset of the device. The tag isn't computed again.
 pub fn open_accepted(ring: &mut KeyRing, offset: u64, from: &[u8], out: &mut [u8])
     requires sector { length from.now ≡ 512 }
     requires at_most { length out.old ≤ unit_bytes_of ring.old.keying.auth }
     requires blocks { length out.old % 16 ≡ 0 }
-    requires accepted { is_ok (opened_piece ring.old.keying offset (length out.old) from.now) ≡ true }
-    ensures opened { opened_piece ring.old.keying offset (length out.old) from.now ≡ Ok out.new }
+    requires accepted { is_ok (opened_tagged ring.old.keying offset (length out.old) from.now) ≡ true }
+    ensures opened { opened_tagged ring.old.keying offset (length out.old) from.now ≡ Ok out.new }
     ensures keying { ring.new.keying ≡ ring.old.keying }
 {
     let size = ring.auth().tag_bytes();
@@ -247,10 +247,10 @@ pub fn open_accepted(ring: &mut KeyRing, offset: u64, from: &[u8], out: &mut [u8
     open_run(ring, offset, out);
 }
 
-/// Opens four whole pieces from their device sectors, each behind the one before it. The first stands at this byte
+/// Opens four whole units from their device sectors, each behind the one before it. The first stands at this byte
 /// offset of the device.
 ///
-/// A fault is answered exactly where a tag differs: the byte offset of the first piece whose tag does. `out` is then
+/// A fault is answered exactly where a tag differs: the byte offset of the first unit whose tag does. `out` is then
 /// as it was.
 pub fn open_four(
     ring: &mut KeyRing,
@@ -261,7 +261,7 @@ pub fn open_four(
     requires on { ring.old.keying.auth ≢ Auth.Off }
     requires out { length out.old ≡ 4 * unit_bytes_of ring.old.keying.auth }
     requires place { offset + 1536 < 2 ^ 64 }
-    ensures opened { let answer = joined (opened_pieces ring.old.keying offset (parts 512 4 from.now)) in
+    ensures opened { let answer = joined (opened_units ring.old.keying offset (parts 512 4 from.now)) in
         MatchResult result (λ _. answer ≡ Ok out.new) (λ bad. answer ≡ Err bad) }
     ensures keying { ring.new.keying ≡ ring.old.keying }
 {

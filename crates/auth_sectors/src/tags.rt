@@ -1,7 +1,7 @@
 //! Tags, in the first bytes of 64.
 
 ghost use Rattle.std.specs.Prelude.{◌≡◌, ◌≢◌, ◌↔◌, ◌+◌, ◌*◌, ◌-◌, ◌^◌, ◌<◌, ◌≤◌, [], ◌∷◌, ◌++◌, IsTrue, get_or, length, replicate};
-ghost use Rattle.sealing.specs.Pieces.{hmac_of, kept_tag, tag_of};
+ghost use Rattle.sealing.specs.TaggedUnits.{hmac_of, kept_tag, tag_of};
 ghost use Rattle.auth_sectors.specs.Tags.{padded};
 
 use eli_base::Auth;

@@ -1,4 +1,4 @@
-//! A piece in its device sector: a tag, cipher text behind it, and zeros behind that.
+//! A unit in its device sector: a tag, cipher text behind it, and zeros behind that.
 
 ghost use Rattle.std.specs.Prelude.{◌≡◌, ◌-◌, ◌%◌, ◌≤◌, ◌++◌, drop, length, replicate};
 ghost use Rattle.eli_base.specs.Units.{tag_bytes, unit_bytes_of};
@@ -7,7 +7,7 @@ ghost use Rattle.sealing.specs.Runs.{opened_run, sealed_run};
 use range_keys::KeyRing;
 use sealing::{open_run, seal_run};
 
-/// Enciphers the plain bytes of a piece into their place in its device sector, which is behind that of the tag, and
+/// Enciphers the plain bytes of a unit into their place in its device sector, which is behind that of the tag, and
 /// puts zeros behind them.
 pub fn encipher(ring: &mut KeyRing, offset: u64, plain: &[u8], sector: &mut [u8])
     requires at_most { length plain.now ≤ unit_bytes_of ring.old.keying.auth }
@@ -34,7 +34,7 @@ pub fn put_tag(tag: &[u8], sector: &mut [u8])
     sector[..tag.len()].copy_from_slice(tag);
 }
 
-/// Deciphers the cipher text of a whole piece, which stands behind the tag in its device sector.
+/// Deciphers the cipher text of a whole unit, which stands behind the tag in its device sector.
 pub fn decipher_whole(ring: &mut KeyRing, offset: u64, sector: &[u8], plain: &mut [u8])
     requires sector { length sector.now ≡ 512 }
     requires plain { length plain.old ≡ unit_bytes_of ring.old.keying.auth }

@@ -20,7 +20,7 @@ use Rattle.eli_metadata.specs.Place.{replace_events}
 use Rattle.eli_metadata.specs.declared.metadata.MetaFault.{MetaFault}
 use Rattle.eli_metadata.specs.declared.metadata.Metadata.{Metadata}
 use Rattle.eli_metadata.proofs.Laws.{encoded-fields, flags-fields, metadata_in-encoded, version-fields}
-use Rattle.backup_restore.specs.Restoring.{AreBytes, GivesMetadata, IsBackedUp, backed_up_sector, fitted, unless_fault}
+use Rattle.backup_restore.specs.Restoring.{AreAllBytes, GivesMetadata, IsBackedUp, backed_up_sector, fitted, unless_fault}
 
 -- ---- the sector of a backup
 
@@ -35,7 +35,7 @@ length-backed_up_sector bytes long =
     let whole : length (take 511 bytes) ≡ 511 = length-take-le 511 bytes long in
     omega (arith, length-append (take 511 bytes) (0 ∷ []))
 
-AreBytes-cut : (n : ℕ) (numbers : List ℕ) → AreBytes numbers → AreBytes (take n numbers ++ 0 ∷ [])
+AreBytes-cut : (n : ℕ) (numbers : List ℕ) → AreAllBytes numbers → AreAllBytes (take n numbers ++ 0 ∷ [])
 AreBytes-cut zero numbers fit zero = omega arith
 AreBytes-cut zero numbers fit (suc k) = omega arith
 AreBytes-cut (suc n) [] fit zero = omega arith
@@ -56,7 +56,7 @@ three_hold false b c value other x y z e = absurd (cc e)
 -- bytes that are read as metadata have a version that is read, and the metadata are written as they stand
 record IsRead (bytes : List ℕ) (m : Metadata) : Type 0 where
   version : is_served m.version m.flags ≡ true
-  written : AreBytes bytes → length bytes ≡ 512 → encoded m ≡ take 511 bytes ++ 0 ∷ []
+  written : AreAllBytes bytes → length bytes ≡ 512 → encoded m ≡ take 511 bytes ++ 0 ∷ []
 
 IsRead-Ok : (bytes : List ℕ) (m : Metadata) → metadata_in bytes ≡ Ok m → IsRead bytes m
 unfolding metadata_in

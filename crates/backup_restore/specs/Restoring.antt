@@ -36,12 +36,12 @@ restored bytes force sectors =
     else fitted (metadata_in (backed_up_sector bytes)) force sectors))
 
 -- each number is a byte
-abbrev pub AreBytes : List ℕ → Type 0
-AreBytes numbers = (k : ℕ) → slice_index numbers k < 256
+abbrev pub AreAllBytes : List ℕ → Type 0
+AreAllBytes numbers = (k : ℕ) → slice_index numbers k < 256
 
 -- these are the metadata of the bytes of a backup
 pub record GivesMetadata (bytes : List ℕ) (force : Bool) (sectors : ℕ) (m : Metadata) : Type 0 where
-  pub given : AreBytes bytes
+  pub given : AreAllBytes bytes
   pub served : restored bytes force sectors ≡ Ok m
   pub fits : IsWhole m
 

@@ -1,7 +1,7 @@
 //! Metadata that are put back from a backup.
 
 ghost use Rattle.std.specs.Prelude.{◌≡◌, ◌<◌, ◌≤◌, ◌^◌, OnOk, length};
-ghost use Rattle.backup_restore.specs.Restoring.{AreBytes, Restores, backed_up_sector, restored};
+ghost use Rattle.backup_restore.specs.Restoring.{AreAllBytes, Restores, backed_up_sector, restored};
 
 use block_traits::{Disk, Sector};
 use eli_base::Refusal;
@@ -22,7 +22,7 @@ fn check(bytes: &[u8], force: bool, sectors: u64) -> Result<Metadata, Refusal>
     requires { sectors < 2 ^ 44 }
     ensures answer { result ≡ restored bytes.now force sectors }
     ensures room { OnOk result (2 ≤ sectors) }
-    ensures given { AreBytes bytes.now }
+    ensures given { AreAllBytes bytes.now }
 {
     if sectors < 2 {
         return Err(Refusal::TooSmall {

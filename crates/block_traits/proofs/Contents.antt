@@ -15,7 +15,7 @@ last_of-written : (here : Bool) (values : List (List ℕ)) (value : List ℕ) �
 last_of-written true values value = last_of-push values value
 last_of-written false values value = refl
 
-pub last_of-kept_after : (events : List Event) (n : ℕ) (values : List (List ℕ)) → last_of (kept_after events n values) ≡ present_after events n (last_of values)
+last_of-kept_after : (events : List Event) (n : ℕ) (values : List (List ℕ)) → last_of (kept_after events n values) ≡ present_after events n (last_of values)
 last_of-kept_after [] n values = refl
 last_of-kept_after (Write m value ∷ events) n values =
     last_of-kept_after events n (cond (m == n) (values ++ value ∷ []) values) ∙ ap (present_after events n) (last_of-written (m == n) values value)

@@ -6,17 +6,17 @@ use Rattle.block_traits.specs.declared.disk.DiskFailed.{DiskFailed}
 use Rattle.block_traits.specs.EachWritten.{EachWritten}
 
 -- the sectors that are left behind the first j of them
-pub sectors_left : List ℕ → ℕ → List (List ℕ)
+sectors_left : List ℕ → ℕ → List (List ℕ)
 sectors_left bytes j = parts 512 (length bytes / 512 - j) (drop (512 * j) bytes)
 
-pub sectors_left-start : (bytes : List ℕ) → sectors_left bytes 0 ≡ parts 512 (length bytes / 512) bytes
+sectors_left-start : (bytes : List ℕ) → sectors_left bytes 0 ≡ parts 512 (length bytes / 512) bytes
 unfolding sectors_left
 sectors_left-start bytes =
     let count : ℕ = length bytes / 512 in
     let left : count - 0 ≡ count = omega arith in
     λ i. parts 512 (left i) bytes
 
-pub sectors_left-next : (bytes sector : List ℕ) (j : ℕ) → j < length bytes / 512 → sector ≡ part 512 j bytes → sectors_left bytes j ≡ sector ∷ sectors_left bytes (j + 1)
+sectors_left-next : (bytes sector : List ℕ) (j : ℕ) → j < length bytes / 512 → sector ≡ part 512 j bytes → sectors_left bytes j ≡ sector ∷ sectors_left bytes (j + 1)
 unfolding sectors_left
 sectors_left-next bytes sector j more is =
     let count : ℕ = length bytes / 512 in
@@ -26,7 +26,7 @@ sectors_left-next bytes sector j more is =
     ap (λ (m : ℕ). parts 512 m (drop (512 * j) bytes)) left
     ∙ (λ i. sym is i ∷ parts 512 (count - (j + 1)) (behind i))
 
-pub sectors_left-end : (bytes : List ℕ) (j : ℕ) → length bytes / 512 ≤ j → sectors_left bytes j ≡ []
+sectors_left-end : (bytes : List ℕ) (j : ℕ) → length bytes / 512 ≤ j → sectors_left bytes j ≡ []
 unfolding sectors_left
 sectors_left-end bytes j none =
     let left : length bytes / 512 - j ≡ 0 = omega arith in

@@ -29,7 +29,7 @@ pub record AllHold (P : List ℕ → Type 0) (values : List (List ℕ)) : Type 0
 pub AllHold-one : (P : List ℕ → Type 0) (value : List ℕ) → P value → AllHold P (value ∷ [])
 AllHold-one P value one = record { all = All-cons P value [] one (All-nil P); last = one }
 
-pub AllHold-some : (P : List ℕ → Type 0) (values : List (List ℕ)) → 0 < length values → All P values → AllHold P values
+AllHold-some : (P : List ℕ → Type 0) (values : List (List ℕ)) → 0 < length values → All P values → AllHold P values
 AllHold-some P values some all = record { all = all; last = All-last_of P values some all }
 
 -- after a write that may be to this sector
@@ -55,7 +55,7 @@ kept_values-more c events n = kept_after-append c.history events n (get_or c.bas
 pub flushed-more : (c : Content) (events : List Event) → IsFlushedSince c (with_events events c) → Contains events Flush
 flushed-more c events = subst (λ (since : List Event). Contains since Flush) (drop-append_seam c.history events)
 
-pub since-more : (c : Content) (events : List Event) → Contains events Flush → IsFlushedSince c (with_events events c)
+since-more : (c : Content) (events : List Event) → Contains events Flush → IsFlushedSince c (with_events events c)
 since-more c events = subst (λ (since : List Event). Contains since Flush) (sym (drop-append_seam c.history events))
 
 -- the first of the first events are the first of all
@@ -98,7 +98,7 @@ old_or P old n (Write m value) only = λ here. inr (only here)
 old_or P old n Flush only = tt
 
 -- there is a value that a sector may hold
-pub some-kept_values : (c : Content) (n : ℕ) → 0 < length (kept_values c n)
+some-kept_values : (c : Content) (n : ℕ) → 0 < length (kept_values c n)
 some-kept_values c n = some-kept_after c.history n (get_or c.base n [] ∷ []) (omega arith)
 
 All-writes : (P : List ℕ → Type 0) (old : List (List ℕ)) (n : ℕ) (events : List Event) → All (WritesHere P n) events → All (WritesHere (IsOldOr P old) n) events

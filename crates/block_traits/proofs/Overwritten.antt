@@ -27,13 +27,13 @@ IsWrite (Write m new) = Unit {0}
 IsWrite Flush = ⊥
 
 -- a write to the sector is the last of what it may hold
-pub last_of-write : (n : ℕ) (value : List ℕ) (olds : List (List ℕ)) → last_of (cond (n == n) (olds ++ value ∷ []) olds) ≡ value
+last_of-write : (n : ℕ) (value : List ℕ) (olds : List (List ℕ)) → last_of (cond (n == n) (olds ++ value ∷ []) olds) ≡ value
 last_of-write n value olds =
     let here : (n == n) ≡ true = eq-eqb n n refl in
     ap (λ (b : Bool). last_of (cond b (olds ++ value ∷ []) olds)) here ∙ last_of-push olds value
 
 -- once a flush landed, P holds of what the sector may hold where it holds of the values
-pub AllHold-overwrite : (P : List ℕ → Type 0) (n : ℕ) (values : List (List ℕ)) (k : ℕ) (olds : List (List ℕ)) → All P values → Contains (take k (overwrite_events n values)) Flush
+AllHold-overwrite : (P : List ℕ → Type 0) (n : ℕ) (values : List (List ℕ)) (k : ℕ) (olds : List (List ℕ)) → All P values → Contains (take k (overwrite_events n values)) Flush
     → AllHold P (kept_after (take k (overwrite_events n values)) n olds)
 AllHold-overwrite P n [] zero olds all flushed = absurd (All-contains IsWrite [] Flush (All-nil IsWrite) flushed)
 AllHold-overwrite P n [] (suc k) olds all flushed = absurd (All-contains IsWrite [] Flush (All-nil IsWrite) flushed)
@@ -111,7 +111,7 @@ length-passes_of n random size =
 -- ---- the loop that writes values over a sector
 
 -- the events that are left begin with those of one value
-pub left_from : (n i : ℕ) (values : List (List ℕ)) (all : List Event) {middle start : DiskState} → i < length values → Continues (overwrite_events n (drop i values)) all middle start
+left_from : (n i : ℕ) (values : List (List ℕ)) (all : List Event) {middle start : DiskState} → i < length values → Continues (overwrite_events n (drop i values)) all middle start
     → Continues (Write n (get_or values i []) ∷ Flush ∷ overwrite_events n (drop (i + 1) values)) all middle start
 left_from n i values all {middle} {start} small continues =
     let P : List (List ℕ) → Type 0 = λ more. Continues (overwrite_events n more) all middle start in

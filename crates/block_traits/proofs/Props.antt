@@ -6,7 +6,7 @@ use Rattle.block_traits.specs.declared.disk.Event.{Event}
 use Rattle.block_traits.specs.declared.disk.Event.TheVariants.{Write, Flush}
 use Rattle.block_traits.specs.Content.{Content, IsEventOf, IsContentOf}
 
-pub IsEventOf-prop : (size : ℕ) (event : Event) → IsProp (IsEventOf size event)
+IsEventOf-prop : (size : ℕ) (event : Event) → IsProp (IsEventOf size event)
 IsEventOf-prop size (Write n bytes) = hlevel props
 IsEventOf-prop size Flush = Unit-prop
 

@@ -17,7 +17,7 @@ length-sealed key iv p j long =
 pub length-cbc_seal : (key iv p : List ℕ) → IsKeyLength (length key) → length p % 16 ≡ 0 → length (cbc_seal key iv p) ≡ length p
 length-cbc_seal key iv p long whole = length-as_blocks (sealed key iv p) p (λ j lt. length-sealed key iv p j long) whole
 
-pub length-opened : (key iv c : List ℕ) (n j : ℕ) → IsKeyLength (length key) → length iv ≡ 16 → 16 * n ≤ length c → j < n → length (opened_block key iv c j) ≡ 16
+length-opened : (key iv c : List ℕ) (n j : ℕ) → IsKeyLength (length key) → length iv ≡ 16 → 16 * n ≤ length c → j < n → length (opened_block key iv c j) ≡ 16
 length-opened key iv c n j long leniv fits lt =
     let all = length-append iv c in
     let a = length-decrypt key (block c j) long in

@@ -5,7 +5,7 @@ ghost use Rattle.std.specs.Prelude.{◌≡◌, ◌%◌, length};
 ghost use Rattle.aes_core.specs.Aes.{xor, encrypt};
 ghost use Rattle.aes_core.specs.Schedule.{IsKeyLength};
 ghost use Rattle.cbc_mode.specs.Cbc.{cbc_seal, cbc_open};
-ghost use Rattle.cbc_mode.specs.Examples.{example_key, example_iv, example_plain, example_cipher};
+ghost use Rattle.cbc_mode.specs.Examples.{cbc_example_key, example_iv, cbc_example_plain, cbc_example_cipher};
 
 mod groups;
 mod laws;
@@ -77,5 +77,5 @@ pub fn cbc_open_undoes_cbc_seal(key: &[u8], iv: &[u8], plain: &[u8])
 
 /// The definition gives the example of the standard (NIST SP 800-38A, F.2.1).
 pub fn example_of_the_standard()
-    ensures { cbc_seal example_key example_iv example_plain ≡ example_cipher }
+    ensures { cbc_seal cbc_example_key example_iv cbc_example_plain ≡ cbc_example_cipher }
 {}

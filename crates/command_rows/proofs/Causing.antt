@@ -75,7 +75,7 @@ writable_by : (line : List ℕ) (command : Command) (a : Attachment) (readonly :
 writable_by line command a false old given middle is writes state h = rw h tt
 writable_by line command a true old given middle is writes state h = rw (h, is) (writes, state)
 
-pub writable_why : (line : List ℕ) (command : Command) (a : Attachment) (old : Reach) (given : Result (Unit {0}) Refusal) (middle : Reach) → old.holding ≡ IsAttached a → writes_data command ≡ true → NeedsWritable a old given middle → Why line command old given middle
+writable_why : (line : List ℕ) (command : Command) (a : Attachment) (old : Reach) (given : Result (Unit {0}) Refusal) (middle : Reach) → old.holding ≡ IsAttached a → writes_data command ≡ true → NeedsWritable a old given middle → Why line command old given middle
 writable_why line command a old given middle is writes h = writable_by line command a a.readonly old given middle is writes refl h.0
 
 -- ---- reading and writing

@@ -30,7 +30,7 @@ same_disk old new is = rw is (Logs-nothing old)
 pub quiet_failure : (old new : DiskState) → FailsIn [] old new → Logs [] old new
 quiet_failure old new f = let none : f.count ≡ 0 = omega (arith, f.within) in subst (λ (n : ℕ). Logs (take n []) old new) none f.logs
 
-pub quiet_metadata : (old new : DiskState) (read : Result Metadata ReadMetaFault) → ReadsMetadata old read new → Logs [] old new
+quiet_metadata : (old new : DiskState) (read : Result Metadata ReadMetaFault) → ReadsMetadata old read new → Logs [] old new
 quiet_metadata old new (Ok m) h = h.logs
 quiet_metadata old new (Err (TooSmall size)) h = same_disk old new h.2
 quiet_metadata old new (Err DeviceFault) h = quiet_failure old new h.fails
@@ -61,7 +61,7 @@ pub record Did {A : Type 0} (Row : List Event → Type 0) (stores : Bool) (old :
   pub logs : Logs events old new
   pub are : ResultEvents Row stores answer events
 
-pub none_breaks : (Row : List Event → Type 0) (stores : Bool) (refusal : Refusal) → BreaksOff Row stores refusal []
+none_breaks : (Row : List Event → Type 0) (stores : Bool) (refusal : Refusal) → BreaksOff Row stores refusal []
 none_breaks Row stores refusals.DeviceFault = inl refl
 none_breaks Row true (refusals.CabinetFault word) = inl refl
 none_breaks Row true refusals.NoMemory = inl refl

@@ -62,7 +62,7 @@ by_passed_gate line command old reply new Claim row refuses h =
     passed_refusal (refused_by (needs command) old.holding) (GoesThrough line command old reply new) (IsRefused old reply new) Claim row refuses h
 
 -- by which refusals
-pub gate_refusals : (wanted : Needs) (holding : Holding) (refusal : Refusal) → refused_by wanted holding ≡ Some refusal
+gate_refusals : (wanted : Needs) (holding : Holding) (refusal : Refusal) → refused_by wanted holding ≡ Some refusal
     → (refusal ≡ refusals.NotAttached) ⊎ (refusal ≡ refusals.StillAttached) ⊎ (refusal ≡ refusals.Suspended) ⊎ (refusal ≡ refusals.NotSuspended)
 gate_refusals AnIdle Idle refusal h = absurd (let none : ⊥ = cc h in none)
 gate_refusals AnIdle (IsAttached a) refusal h = inr (inl (cc h))

@@ -36,7 +36,7 @@ none_tried : (m : Metadata) (s : Settings) (slot : Option ℕ) (readonly : Bool)
 none_tried m s slot readonly (Err fault) = tt
 none_tried m s slot readonly (Ok key) = none_small _ _ (or_wrong_key s readonly _) (none_wrong s readonly _)
 
-pub none_next : {A : Type 0} (Next : A → Step Attachment) (given : Result A Refusal) (middle : Reach) (answer : Result Attachment Refusal) (new : Reach) → ((a : A) (start : Reach) → Next a start answer new → NoneOpen answer) → GoesOn Next given middle answer new → NoneOpen answer
+none_next : {A : Type 0} (Next : A → Step Attachment) (given : Result A Refusal) (middle : Reach) (answer : Result Attachment Refusal) (new : Reach) → ((a : A) (start : Reach) → Next a start answer new → NoneOpen answer) → GoesOn Next given middle answer new → NoneOpen answer
 none_next Next (Ok a) middle answer new next h = next a middle h
 none_next Next (Err refusal) middle answer new next h = subst NoneOpen (sym h.0) tt
 

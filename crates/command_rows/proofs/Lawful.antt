@@ -36,7 +36,7 @@ pub record LineDid (Row : List Event → Type 0) (stores : Bool) (answer : Answe
   pub logs : Logs events old new
   pub are : EventsBy Row stores answer events
 
-pub served_events : (Row : List Event → Type 0) (stores : Bool) (said : Answer) (events : List Event) → IsServed said → Row events → EventsBy Row stores said events
+served_events : (Row : List Event → Type 0) (stores : Bool) (said : Answer) (events : List Event) → IsServed said → Row events → EventsBy Row stores said events
 served_events Row stores (answers.Refused refusal) events served h = absurd served
 served_events Row stores said events served h = h
 

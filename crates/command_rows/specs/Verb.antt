@@ -25,13 +25,13 @@ pub data Places : Type 0 where
 
 -- what more is said of a line over a run than of its command alone: it reads logical sectors, or their digest, reaps a
 -- request, attaches a suspended drawer again, or sweeps; or nothing is
-pub data Kind : Type 0 where
-  OfRead : Span → ℕ → ℕ → Kind
-  OfSum : Span → ℕ → ℕ → Kind
-  OfReap : Span → ℕ → Kind
-  OfResume : Span → KeyWords → Kind
-  OfSweep : Span → Span → ℕ → Bool → Kind
-  OfOther : Kind
+pub data RunKind : Type 0 where
+  OfRead : Span → ℕ → ℕ → RunKind
+  OfSum : Span → ℕ → ℕ → RunKind
+  OfReap : Span → ℕ → RunKind
+  OfResume : Span → KeyWords → RunKind
+  OfSweep : Span → Span → ℕ → Bool → RunKind
+  OfOther : RunKind
 
 -- its row, of a drawer that it needs; what the row finds where nothing refuses it; for what it finds and is told a line
 -- is refused; for which file; the events of a line that is served to its end; what it changes in the metadata on the
@@ -48,7 +48,7 @@ pub record Verb : Type 1 where
   pub stored_file : Option Span
   pub asks : List ℕ → Asks
   pub places : List ℕ → Places
-  pub kind : Kind
+  pub kind : RunKind
 
 -- ---- what many verbs have
 

@@ -150,7 +150,7 @@ follow None o command = refl
 follow (Some usage) o command = refl
 
 -- What the operands of a verb say is what one pass over them gives.
-pub operands_taken : (verb : Verb) (form : List Operand) (words : List Word) (s : Settings) → form_of verb words ≡ Some form
+operands_taken : (verb : Verb) (form : List Operand) (words : List Word) (s : Settings) → form_of verb words ≡ Some form
     → unless_usage (operands_fault form words) (Ok (command_at verb s (operands_of form words))) ≡ and_then (taken_operands form words (operands_of [] [])) (λ read. Ok (command_at verb s read))
 operands_taken verb form words s h =
     rw (taken_is form words (operands_of [] []), form_agrees verb words form h words) (follow (operands_fault form words) (operands_of form words) (λ read. command_at verb s read))

@@ -21,7 +21,7 @@ use Rattle.command_words.specs.Reading.{settled, by_options, unless_usage}
 use Rattle.command_words.specs.Pass.{value_given, and_then, checked, files_so_far, with_value, with_switch, taken_letter, taken_letters, taken_word, taken_options}
 
 -- one value more
-pub last-push : (words : List Word) (word : Word) → last (words ++ word ∷ []) ≡ Some word
+last-push : (words : List Word) (word : Word) → last (words ++ word ∷ []) ≡ Some word
 last-push [] word = refl
 last-push (x ∷ []) word = refl
 last-push (x ∷ y ∷ words) word = last-push (y ∷ words) word
@@ -42,7 +42,7 @@ has_switch-push switch [] item = refl
 has_switch-push switch (x ∷ xs) item = rw (has_switch-push switch xs item) (or_swap (sets switch x) (sets switch item) (has_switch switch xs))
 
 -- one more option with a value, in the whole list of options and in what the pass keeps
-pub settings-push_value : (items : List Item) (option : Valued) (word : Word) → settings_given (items ++ Given option word ∷ []) ≡ with_value (settings_given items) option word
+settings-push_value : (items : List Item) (option : Valued) (word : Word) → settings_given (items ++ Given option word ∷ []) ≡ with_value (settings_given items) option word
 settings-push_value items AuthName word = simp (values-push, has_switch-push, append-nil, last-push)
 settings-push_value items CipherName word = simp (values-push, has_switch-push, append-nil, last-push)
 settings-push_value items Iterations word = simp (values-push, has_switch-push, append-nil, last-push)
@@ -57,7 +57,7 @@ settings-push_value items FreshFile word = simp (values-push, has_switch-push, a
 settings-push_value items FreshPass word = simp (values-push, has_switch-push, append-nil, map-append)
 
 -- one more option without a value
-pub settings-push_switch : (items : List Item) (switch : Switch) → settings_given (items ++ Set switch ∷ []) ≡ with_switch (settings_given items) switch
+settings-push_switch : (items : List Item) (switch : Switch) → settings_given (items ++ Set switch ∷ []) ≡ with_switch (settings_given items) switch
 settings-push_switch items WithoutOld = simp (values-push, has_switch-push, append-nil)
 settings-push_switch items WithoutFresh = simp (values-push, has_switch-push, append-nil)
 settings-push_switch items FixedSize = simp (values-push, has_switch-push, append-nil)

@@ -25,7 +25,7 @@ put_at-step : (same : Bool) (place : Option ℕ) (new file : NamedFile) (files o
 put_at-step true place new file files others behind = refl
 put_at-step false place new file files others behind = put_at-next place new file files ∙ ap (λ (l : List NamedFile). file ∷ l) behind
 
-pub put_at-file_place : (new : NamedFile) (files : List NamedFile) → put_at (file_place new.name files) new files ≡ replaced new files
+put_at-file_place : (new : NamedFile) (files : List NamedFile) → put_at (file_place new.name files) new files ≡ replaced new files
 put_at-file_place new [] = refl
 put_at-file_place new (file ∷ files) =
     put_at-step (bytes_eq file.name new.name) (file_place new.name files) new file files (replaced new files) (put_at-file_place new files)
@@ -62,7 +62,7 @@ file_in-step false name new file files others is behind =
     ∙ found_later (bytes_eq file.name name) (bytes_eq new.name name) (Some file.bytes) (Some new.bytes) (file_in name files)
     (λ first second. true≢false (sym ((bytes_eq-Decides file.name new.name).1 (same_name file.name name first ∙ sym (same_name new.name name second))) ∙ is))
 
-pub file_in-replaced : (name : List ℕ) (new : NamedFile) (files : List NamedFile) → file_in name (replaced new files) ≡ cond (bytes_eq new.name name) (Some new.bytes) (file_in name files)
+file_in-replaced : (name : List ℕ) (new : NamedFile) (files : List NamedFile) → file_in name (replaced new files) ≡ cond (bytes_eq new.name name) (Some new.bytes) (file_in name files)
 file_in-replaced name new [] = refl
 file_in-replaced name new (file ∷ files) =
     file_in-step (bytes_eq file.name new.name) name new file files (replaced new files) refl (file_in-replaced name new files)

@@ -5,7 +5,7 @@ use Rattle.std.proofs.lemmas.List.Elements.{All-map, All-nil, All-push, All-weak
 use Rattle.block_traits.specs.Content.{IsSector}
 use Rattle.crash_disk.specs.Image.{numbers_below, sectors_of, zero_sector}
 
-pub numbers_below-more : (n : ℕ) → numbers_below (n + 1) ≡ numbers_below n ++ n ∷ []
+numbers_below-more : (n : ℕ) → numbers_below (n + 1) ≡ numbers_below n ++ n ∷ []
 numbers_below-more n = rw add-one refl
 
 pub map-numbers_below-more : {A : Type 0} (f : ℕ → A) (n : ℕ) → map f (numbers_below (n + 1)) ≡ map f (numbers_below n) ++ f n ∷ []

@@ -87,7 +87,7 @@ good-not-bad c before pick bytes good (inr (inl again)) = let no = good.unpicked
 good-not-bad c before pick bytes good (inr (inr none)) = omega (arith, slice_get_within (kept_values c pick.n) pick.place bytes good.value)
 
 -- a pick, whatever is read past the end
-pub same_pick : (picks : List Pick) (i : ℕ) (pick d : Pick) → i < length picks → pick ≡ get_or picks i pick → get_or picks i d ≡ pick
+same_pick : (picks : List Pick) (i : ℕ) (pick d : Pick) → i < length picks → pick ≡ get_or picks i pick → get_or picks i d ≡ pick
 same_pick picks i pick d small at = get_or_default picks i d pick small ∙ sym at
 
 pub AllGood-more : (c : Content) (picks : List Pick) (index : ℕ) (d : Pick) (bytes : List ℕ) → index < length picks → IsGood c (take index picks) (get_or picks index d) bytes → AllGood c picks index → AllGood c picks (index + 1)

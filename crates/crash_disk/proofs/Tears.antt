@@ -84,7 +84,7 @@ good-not-bad c picks before n good (inr (inr (inl again))) = let no = good.whole
 good-not-bad c picks before n good (inr (inr (inr one))) = omega (arith, good.unsettled)
 
 -- an entry, whatever is read past the end
-pub same_tear : (torn : List Torn) (i : ℕ) (tear d : Torn) → i < length torn → tear ≡ get_or torn i tear → get_or torn i d ≡ tear
+same_tear : (torn : List Torn) (i : ℕ) (tear d : Torn) → i < length torn → tear ≡ get_or torn i tear → get_or torn i d ≡ tear
 same_tear torn i tear d small at = get_or_default torn i d tear small ∙ sym at
 
 pub AllGoodTears-more : (c : Content) (picks : List Pick) (torn : List Torn) (index : ℕ) (d : Torn) → index < length torn → IsGoodTear c picks (take index torn) (get_or torn index d).n → AllGoodTears c picks torn index → AllGoodTears c picks torn (index + 1)

@@ -21,8 +21,8 @@ pub record MemState : Type 0 where
   pub faults : ℕ
   pub plan : PlanState
 
-abbrev pub state_of : MemDisk → MemState
-state_of disk = record {
+abbrev pub mem_state_of : MemDisk → MemState
+mem_state_of disk = record {
   content = content_of disk.log;
   room = disk.log.room;
   faults = disk.faults;
@@ -30,8 +30,8 @@ state_of disk = record {
 }
 
 -- as a disk
-abbrev pub disk_of : MemDisk → DiskState
-disk_of disk = showing (content_of disk.log) disk.faults disk.plan.reads disk.log.small disk.log.fits
+abbrev pub mem_disk_of : MemDisk → DiskState
+mem_disk_of disk = showing (content_of disk.log) disk.faults disk.plan.reads disk.log.small disk.log.fits
 
 -- these sectors, to which nothing was done, and no call that fails
 abbrev pub fresh : List (List ℕ) → ℕ → MemState

@@ -11,8 +11,8 @@ use Rattle.crash_disk.specs.Writes.{written}
 abbrev pub sparse_content : WriteLog → Content
 sparse_content log = content (written log.size log.first.items) log.events.items
 
-abbrev pub state_of : SparseDisk → MemState
-state_of disk = record {
+abbrev pub sparse_state_of : SparseDisk → MemState
+sparse_state_of disk = record {
   content = sparse_content disk.log;
   room = disk.log.room;
   faults = disk.faults;
@@ -20,8 +20,8 @@ state_of disk = record {
 }
 
 -- as a disk
-abbrev pub disk_of : SparseDisk → DiskState
-disk_of disk = showing (sparse_content disk.log) disk.faults disk.plan.reads disk.log.small disk.log.fits
+abbrev pub sparse_disk_of : SparseDisk → DiskState
+sparse_disk_of disk = showing (sparse_content disk.log) disk.faults disk.plan.reads disk.log.small disk.log.fits
 
 -- sector n held these bytes at first
 abbrev pub with_first : ℕ → List ℕ → Content → Content

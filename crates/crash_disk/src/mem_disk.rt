@@ -20,13 +20,13 @@ pub struct MemDisk {
 impl MemDisk {
     ghost use Rattle.block_traits.specs.Content.{IsEventOf, IsSector};
     ghost use Rattle.crash_disk.specs.Count.{one_more};
-    ghost use Rattle.crash_disk.specs.MemDisk.{after_alter, after_change, change_fails, disk_of, fresh, state_of, with_plan};
+    ghost use Rattle.crash_disk.specs.MemDisk.{after_alter, after_change, change_fails, mem_disk_of, fresh, mem_state_of, with_plan};
     ghost use Rattle.crash_disk.specs.Plan.{with_entries};
 
     /// A disk of so many sectors of zeros, with room for so many events.
     pub fn new(alloc: Global, sectors: u64, room: u64) -> Result<MemDisk, NoMemory>
         requires { sectors < 2 ^ 44 }
-        ensures { IfOk result (λ disk. state_of disk ≡ fresh (replicate sectors zero_sector) room) }
+        ensures { IfOk result (λ disk. mem_state_of disk ≡ fresh (replicate sectors zero_sector) room) }
     {
         MemDisk::from_sectors(alloc, zero_sectors(alloc, sectors)?, room)
     }
@@ -35,7 +35,7 @@ impl MemDisk {
     /// behind the last whole piece are dropped.
     pub fn from_image(alloc: Global, image: &[u8], room: u64) -> Result<MemDisk, NoMemory>
         requires { length image.now / 512 < 2 ^ 44 }
-        ensures { IfOk result (λ disk. state_of disk ≡ fresh (sectors_of image.now) room) }
+        ensures { IfOk result (λ disk. mem_state_of disk ≡ fresh (sectors_of image.now) room) }
     {
         MemDisk::from_sectors(alloc, image_sectors(alloc, image)?, room)
     }
@@ -43,8 +43,8 @@ impl MemDisk {
     /// Sets which calls fail from now on, by their numbers since the disk was made. Of two entries
     /// for one call the first counts.
     pub fn fail_calls(&mut self, list: &[FailAt]) -> Result<(), NoMemory>
-        ensures ok { OnOk result (state_of self.new ≡ with_plan (with_entries list.now (state_of self.old).plan) (state_of self.old)) }
-        ensures err { OnErr result (state_of self.new ≡ state_of self.old) }
+        ensures ok { OnOk result (mem_state_of self.new ≡ with_plan (with_entries list.now (mem_state_of self.old).plan) (mem_state_of self.old)) }
+        ensures err { OnErr result (mem_state_of self.new ≡ mem_state_of self.old) }
     {
         self.plan.set(list)
     }
@@ -53,9 +53,9 @@ impl MemDisk {
     /// bytes. The history is then empty; the counts of calls and faults, and the calls that fail,
     /// stay. Takes no memory.
     pub fn alter(&mut self, n: u64, bytes: &Sector) -> Result<(), NoMemory>
-        requires { n < (disk_of self.old).size }
+        requires { n < (mem_disk_of self.old).size }
         ensures ok { IsOk result }
-        ensures after { state_of self.new ≡ after_alter n bytes.now (state_of self.old) }
+        ensures after { mem_state_of self.new ≡ after_alter n bytes.now (mem_state_of self.old) }
     {
         self.log.alter(n, bytes);
         Ok(())
@@ -63,21 +63,21 @@ impl MemDisk {
 
     /// What was done to the disk, the oldest event first.
     pub fn history(&self) -> &[Event]
-        ensures { result.now ≡ (state_of self.now).content.history }
+        ensures { result.now ≡ (mem_state_of self.now).content.history }
     {
         self.log.events()
     }
 
     /// How often the disk has failed.
     pub fn faults(&self) -> u64
-        ensures { result ≡ (state_of self.now).faults }
+        ensures { result ≡ (mem_state_of self.now).faults }
     {
         self.faults
     }
 
     // What the sectors held at first.
     pub(crate) fn base(&self) -> &[Sector]
-        ensures base { result.now ≡ (state_of self.now).content.base }
+        ensures base { result.now ≡ (mem_state_of self.now).content.base }
         ensures small { length result.now < 2 ^ 44 }
     {
         self.log.base()
@@ -85,15 +85,15 @@ impl MemDisk {
 
     // How many events there is room for.
     pub(crate) fn room(&self) -> u64
-        ensures { result ≡ (state_of self.now).room }
+        ensures { result ≡ (mem_state_of self.now).room }
     {
         self.log.room()
     }
 
     // What the sectors held after the first events.
     pub(crate) fn sectors_at(&self, alloc: Global, moment: usize) -> Result<Vec<Sector>, AllocError>
-        requires { moment ≤ length (state_of self.now).content.history }
-        ensures { let content = (state_of self.now).content in
+        requires { moment ≤ length (mem_state_of self.now).content.history }
+        ensures { let content = (mem_state_of self.now).content in
             IfOk result (λ image. image.items ≡ replayed content.base (take moment content.history)) }
     {
         self.log.at(alloc, moment)
@@ -107,7 +107,7 @@ impl MemDisk {
     ) -> Result<MemDisk, NoMemory>
         requires small { length base.items < 2 ^ 44 }
         requires sectors { All IsSector base.items }
-        ensures { IfOk result (λ disk. state_of disk ≡ fresh base.items room) }
+        ensures { IfOk result (λ disk. mem_state_of disk ≡ fresh base.items room) }
     {
         let log = SectorLog::new(alloc, base, room)?;
         Ok(MemDisk {
@@ -119,9 +119,9 @@ impl MemDisk {
 
     // Appends an event, or fails, as the plan and the room say.
     fn change(&mut self, kind: CallKind, event: Event) -> Result<(), DiskFailed>
-        requires { IsEventOf (disk_of self.old).size event }
-        ensures answer { is_err result ≡ change_fails kind (state_of self.old) }
-        ensures after { state_of self.new ≡ after_change kind event (state_of self.old) }
+        requires { IsEventOf (mem_disk_of self.old).size event }
+        ensures answer { is_err result ≡ change_fails kind (mem_state_of self.old) }
+        ensures after { mem_state_of self.new ≡ after_change kind event (mem_state_of self.old) }
         ensures later { self.old.faults ≤ self.new.faults }
     {
         match (self.log.is_full(), self.plan.next(kind)) {
@@ -153,22 +153,22 @@ impl Disk for MemDisk {
     ghost use Rattle.block_traits.specs.Disk.{FailsIn, Gives, Logs, write_events};
     ghost use Rattle.block_traits.specs.EachWritten.{EachWritten};
     ghost use Rattle.block_traits.specs.Parts.{parts};
-    ghost use Rattle.crash_disk.specs.MemDisk.{WritesSector, after_change, after_look, after_read, change_fails, disk_of, read_fails, state_of};
+    ghost use Rattle.crash_disk.specs.MemDisk.{WritesSector, after_change, after_look, after_read, change_fails, mem_disk_of, read_fails, mem_state_of};
 
-    ghost state = { disk_of };
+    ghost state = { mem_disk_of };
 
     fn sectors(&self) -> u64 {
         self.log.len()
     }
 
     fn read(&mut self, n: u64, into: &mut Sector) -> Result<(), DiskFailed>
-        requires { n < (disk_of self.old).size }
-        ensures bytes { OnOk result (Gives (disk_of self.old) n into.new) }
-        ensures ok { OnOk result (Logs [] (disk_of self.old) (disk_of self.new)) }
-        ensures err { OnErr result (FailsIn [] (disk_of self.old) (disk_of self.new)) }
-        ensures asked { Counted 1 (disk_of self.old).reads (disk_of self.new).reads }
-        ensures answer { is_err result ≡ read_fails (state_of self.old) }
-        ensures after { state_of self.new ≡ after_read (state_of self.old) }
+        requires { n < (mem_disk_of self.old).size }
+        ensures bytes { OnOk result (Gives (mem_disk_of self.old) n into.new) }
+        ensures ok { OnOk result (Logs [] (mem_disk_of self.old) (mem_disk_of self.new)) }
+        ensures err { OnErr result (FailsIn [] (mem_disk_of self.old) (mem_disk_of self.new)) }
+        ensures asked { Counted 1 (mem_disk_of self.old).reads (mem_disk_of self.new).reads }
+        ensures answer { is_err result ≡ read_fails (mem_state_of self.old) }
+        ensures after { mem_state_of self.new ≡ after_read (mem_state_of self.old) }
     {
         if self.plan.next(CallKind::Read).is_some() {
             return Err(self.fail());
@@ -178,20 +178,20 @@ impl Disk for MemDisk {
     }
 
     fn count_reads(&mut self, many: u64)
-        ensures asked { Counted many (disk_of self.old).reads (disk_of self.new).reads }
-        ensures logs { Logs [] (disk_of self.old) (disk_of self.new) }
-        ensures after { state_of self.new ≡ after_look many (state_of self.old) }
+        ensures asked { Counted many (mem_disk_of self.old).reads (mem_disk_of self.new).reads }
+        ensures logs { Logs [] (mem_disk_of self.old) (mem_disk_of self.new) }
+        ensures after { mem_state_of self.new ≡ after_look many (mem_state_of self.old) }
     {
         self.plan.count_reads(many);
     }
 
     fn write(&mut self, n: u64, from: &Sector) -> Result<(), DiskFailed>
-        requires { n < (disk_of self.old).size }
-        ensures ok { OnOk result (Logs (Event.Write n from.now ∷ []) (disk_of self.old) (disk_of self.new)) }
-        ensures err { OnErr result (FailsIn (Event.Write n from.now ∷ []) (disk_of self.old) (disk_of self.new)) }
-        ensures unasked { (disk_of self.new).reads ≡ (disk_of self.old).reads }
-        ensures answer { is_err result ≡ change_fails CallKind.Write (state_of self.old) }
-        ensures after { state_of self.new ≡ after_change CallKind.Write (Event.Write n from.now) (state_of self.old) }
+        requires { n < (mem_disk_of self.old).size }
+        ensures ok { OnOk result (Logs (Event.Write n from.now ∷ []) (mem_disk_of self.old) (mem_disk_of self.new)) }
+        ensures err { OnErr result (FailsIn (Event.Write n from.now ∷ []) (mem_disk_of self.old) (mem_disk_of self.new)) }
+        ensures unasked { (mem_disk_of self.new).reads ≡ (mem_disk_of self.old).reads }
+        ensures answer { is_err result ≡ change_fails CallKind.Write (mem_state_of self.old) }
+        ensures after { mem_state_of self.new ≡ after_change CallKind.Write (Event.Write n from.now) (mem_state_of self.old) }
     {
         self.change(CallKind::Write, Event::Write { n, bytes: *from })
     }
@@ -199,11 +199,11 @@ impl Disk for MemDisk {
     /// Each sector is a write of its own, in ascending order, up to the first that fails.
     fn write_sectors(&mut self, first: u64, from: &[u8]) -> Result<(), DiskFailed>
         requires whole { length from.now % 512 ≡ 0 }
-        requires inside { first + length from.now / 512 ≤ (disk_of self.old).size }
-        ensures ok { OnOk result (Logs (write_events first from.now) (disk_of self.old) (disk_of self.new)) }
-        ensures err { OnErr result (FailsIn (write_events first from.now) (disk_of self.old) (disk_of self.new)) }
-        ensures unasked { (disk_of self.new).reads ≡ (disk_of self.old).reads }
-        ensures answer { EachWritten WritesSector first (parts 512 (length from.now / 512) from.now) (state_of self.old) (state_of self.new) result }
+        requires inside { first + length from.now / 512 ≤ (mem_disk_of self.old).size }
+        ensures ok { OnOk result (Logs (write_events first from.now) (mem_disk_of self.old) (mem_disk_of self.new)) }
+        ensures err { OnErr result (FailsIn (write_events first from.now) (mem_disk_of self.old) (mem_disk_of self.new)) }
+        ensures unasked { (mem_disk_of self.new).reads ≡ (mem_disk_of self.old).reads }
+        ensures answer { EachWritten WritesSector first (parts 512 (length from.now / 512) from.now) (mem_state_of self.old) (mem_state_of self.new) result }
     {
         for j in 0..from.len() / 512 {
             self.write(first + j as u64, &sector_of(from, j))?;
@@ -212,11 +212,11 @@ impl Disk for MemDisk {
     }
 
     fn flush(&mut self) -> Result<(), DiskFailed>
-        ensures ok { OnOk result (Logs (Event.Flush ∷ []) (disk_of self.old) (disk_of self.new)) }
-        ensures err { OnErr result (FailsIn (Event.Flush ∷ []) (disk_of self.old) (disk_of self.new)) }
-        ensures unasked { (disk_of self.new).reads ≡ (disk_of self.old).reads }
-        ensures answer { is_err result ≡ change_fails CallKind.Flush (state_of self.old) }
-        ensures after { state_of self.new ≡ after_change CallKind.Flush Event.Flush (state_of self.old) }
+        ensures ok { OnOk result (Logs (Event.Flush ∷ []) (mem_disk_of self.old) (mem_disk_of self.new)) }
+        ensures err { OnErr result (FailsIn (Event.Flush ∷ []) (mem_disk_of self.old) (mem_disk_of self.new)) }
+        ensures unasked { (mem_disk_of self.new).reads ≡ (mem_disk_of self.old).reads }
+        ensures answer { is_err result ≡ change_fails CallKind.Flush (mem_state_of self.old) }
+        ensures after { mem_state_of self.new ≡ after_change CallKind.Flush Event.Flush (mem_state_of self.old) }
     {
         self.change(CallKind::Flush, Event::Flush)
     }

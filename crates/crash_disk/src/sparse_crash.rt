@@ -5,7 +5,7 @@ ghost use Rattle.block_traits.specs.Content.{IsSector, at_moment};
 ghost use Rattle.block_traits.specs.Crash.{IsImage, IsTorn};
 ghost use Rattle.crash_disk.specs.Survivor.{AllGood, AllGoodTears, IsBad, IsBadTear, IsFault, IsGood, IsGoodTear, IsTornImage, choice_of};
 ghost use Rattle.crash_disk.specs.MemDisk.{fresh};
-ghost use Rattle.crash_disk.specs.SparseDisk.{after_put, disk_of, state_of};
+ghost use Rattle.crash_disk.specs.SparseDisk.{after_put, sparse_disk_of, sparse_state_of};
 ghost use Rattle.crash_disk.specs.declared.survivor.Torn.{Torn};
 
 use crate::SparseDisk;
@@ -22,17 +22,17 @@ pub fn sparse_survivor(
     picks: &[Pick],
     torn: &[Torn],
 ) -> Result<SparseDisk, SurvivorFault>
-    requires { moment ≤ length (state_of disk.now).content.history }
-    ensures image { let left = at_moment moment (state_of disk.now).content in
-        IfOk result (λ survivor. IsTornImage left (choice_of left picks.now) torn.now (state_of survivor).content.base) }
-    ensures torn { let left = at_moment moment (state_of disk.now).content in
-        IfOk result (λ survivor. IsTorn left (state_of survivor).content.base) }
-    ensures good { let left = at_moment moment (state_of disk.now).content in
+    requires { moment ≤ length (sparse_state_of disk.now).content.history }
+    ensures image { let left = at_moment moment (sparse_state_of disk.now).content in
+        IfOk result (λ survivor. IsTornImage left (choice_of left picks.now) torn.now (sparse_state_of survivor).content.base) }
+    ensures torn { let left = at_moment moment (sparse_state_of disk.now).content in
+        IfOk result (λ survivor. IsTorn left (sparse_state_of survivor).content.base) }
+    ensures good { let left = at_moment moment (sparse_state_of disk.now).content in
         IfOk result (λ _. AllGood left picks.now (length picks.now)) }
-    ensures good_torn { let left = at_moment moment (state_of disk.now).content in
+    ensures good_torn { let left = at_moment moment (sparse_state_of disk.now).content in
         IfOk result (λ _. AllGoodTears left picks.now torn.now (length torn.now)) }
-    ensures rest { IfOk result (λ survivor. state_of survivor ≡ fresh (state_of survivor).content.base (state_of disk.now).room) }
-    ensures bad { IfErr result (IsFault (at_moment moment (state_of disk.now).content) picks.now torn.now) }
+    ensures rest { IfOk result (λ survivor. sparse_state_of survivor ≡ fresh (sparse_state_of survivor).content.base (sparse_state_of disk.now).room) }
+    ensures bad { IfErr result (IsFault (at_moment moment (sparse_state_of disk.now).content) picks.now torn.now) }
 {
     let mut made = picked_disk(alloc, disk, moment, picks)?;
     for (index, tear) in torn.iter().enumerate() {
@@ -53,13 +53,13 @@ fn picked_disk(
     moment: usize,
     picks: &[Pick],
 ) -> Result<SparseDisk, SurvivorFault>
-    requires { moment ≤ length (state_of disk.now).content.history }
-    ensures image { let left = at_moment moment (state_of disk.now).content in
-        IfOk result (λ made. IsImage left (choice_of left picks.now) (state_of made).content.base) }
-    ensures good { let left = at_moment moment (state_of disk.now).content in
+    requires { moment ≤ length (sparse_state_of disk.now).content.history }
+    ensures image { let left = at_moment moment (sparse_state_of disk.now).content in
+        IfOk result (λ made. IsImage left (choice_of left picks.now) (sparse_state_of made).content.base) }
+    ensures good { let left = at_moment moment (sparse_state_of disk.now).content in
         IfOk result (λ _. AllGood left picks.now (length picks.now)) }
-    ensures rest { IfOk result (λ made. state_of made ≡ fresh (state_of made).content.base (state_of disk.now).room) }
-    ensures bad { IfErr result (λ fault. (torn : List Torn) → IsFault (at_moment moment (state_of disk.now).content) picks.now torn fault) }
+    ensures rest { IfOk result (λ made. sparse_state_of made ≡ fresh (sparse_state_of made).content.base (sparse_state_of disk.now).room) }
+    ensures bad { IfErr result (λ fault. (torn : List Torn) → IsFault (at_moment moment (sparse_state_of disk.now).content) picks.now torn fault) }
 {
     let Ok(mut made) = disk.at(alloc, moment) else {
         return Err(SurvivorFault::NoMemory);
@@ -77,8 +77,8 @@ fn picked_disk(
 
 // Gives a sector these bytes.
 fn put(made: &mut SparseDisk, n: u64, bytes: &Sector) -> Result<(), NoMemory>
-    requires { n < (disk_of made.old).size }
-    ensures after { OnOk result (state_of made.new ≡ after_put n bytes.now (state_of made.old)) }
+    requires { n < (sparse_disk_of made.old).size }
+    ensures after { OnOk result (sparse_state_of made.new ≡ after_put n bytes.now (sparse_state_of made.old)) }
     ensures sector { IsSector bytes.now }
 {
     made.put(n, bytes)
@@ -86,9 +86,9 @@ fn put(made: &mut SparseDisk, n: u64, bytes: &Sector) -> Result<(), NoMemory>
 
 // The value that is picked, unless the pick is bad.
 fn picked_value(disk: &SparseDisk, moment: usize, before: &[Pick], pick: Pick) -> Option<Sector>
-    requires { moment ≤ length (state_of disk.now).content.history }
-    ensures good { IfSome result (IsGood (at_moment moment (state_of disk.now).content) before.now pick) }
-    ensures bad { IfNone result (IsBad (at_moment moment (state_of disk.now).content) before.now pick) }
+    requires { moment ≤ length (sparse_state_of disk.now).content.history }
+    ensures good { IfSome result (IsGood (at_moment moment (sparse_state_of disk.now).content) before.now pick) }
+    ensures bad { IfNone result (IsBad (at_moment moment (sparse_state_of disk.now).content) before.now pick) }
 {
     if pick.n >= disk.sectors() || is_picked(before, pick.n) {
         return None;
@@ -103,9 +103,9 @@ fn picked_value(disk: &SparseDisk, moment: usize, before: &[Pick], pick: Pick) -
 
 // Whether a sector may be torn.
 fn can_tear(disk: &SparseDisk, moment: usize, picks: &[Pick], before: &[Torn], n: u64) -> bool
-    requires { moment ≤ length (state_of disk.now).content.history }
-    ensures good { OnTrue result (IsGoodTear (at_moment moment (state_of disk.now).content) picks.now before.now n) }
-    ensures bad { OnFalse result (IsBadTear (at_moment moment (state_of disk.now).content) picks.now before.now n) }
+    requires { moment ≤ length (sparse_state_of disk.now).content.history }
+    ensures good { OnTrue result (IsGoodTear (at_moment moment (sparse_state_of disk.now).content) picks.now before.now n) }
+    ensures bad { OnFalse result (IsBadTear (at_moment moment (sparse_state_of disk.now).content) picks.now before.now n) }
 {
     n < disk.sectors().saturating_sub(1)
         && !is_picked(picks, n)

@@ -24,12 +24,12 @@ impl SparseDisk {
     ghost use Rattle.crash_disk.specs.Count.{one_more};
     ghost use Rattle.crash_disk.specs.MemDisk.{after_change, change_fails, fresh, with_plan};
     ghost use Rattle.crash_disk.specs.Plan.{no_plan, with_entries};
-    ghost use Rattle.crash_disk.specs.SparseDisk.{after_put, sparse_content, disk_of, state_of};
+    ghost use Rattle.crash_disk.specs.SparseDisk.{after_put, sparse_content, sparse_disk_of, sparse_state_of};
 
     /// A disk of so many sectors of zeros, with room for so many events.
     pub fn new(alloc: Global, sectors: u64, room: u64) -> Result<SparseDisk, NoMemory>
         requires { sectors < 2 ^ 44 }
-        ensures { IfOk result (λ disk. state_of disk ≡ fresh (replicate sectors zero_sector) room) }
+        ensures { IfOk result (λ disk. sparse_state_of disk ≡ fresh (replicate sectors zero_sector) room) }
     {
         let log = WriteLog::new(alloc, sectors, Vec::new(alloc), room)?;
         Ok(SparseDisk::of(alloc, log))
@@ -37,16 +37,16 @@ impl SparseDisk {
 
     /// A disk that had from the start what this one had after its first events. It has the same room.
     pub fn at(&self, alloc: Global, moment: usize) -> Result<SparseDisk, NoMemory>
-        requires { moment ≤ length (state_of self.now).content.history }
-        ensures { let content = (state_of self.now).content in
-            IfOk result (λ disk. state_of disk ≡ fresh (replayed content.base (take moment content.history)) (state_of self.now).room) }
+        requires { moment ≤ length (sparse_state_of self.now).content.history }
+        ensures { let content = (sparse_state_of self.now).content in
+            IfOk result (λ disk. sparse_state_of disk ≡ fresh (replayed content.base (take moment content.history)) (sparse_state_of self.now).room) }
     {
         Ok(SparseDisk::of(alloc, self.log.at(alloc, moment)?))
     }
 
     // A disk of these sectors, of which no call was made.
     fn of(alloc: Global, log: WriteLog) -> SparseDisk
-        ensures { state_of result ≡ record { content = sparse_content log; room = log.room; faults = 0; plan = no_plan } }
+        ensures { sparse_state_of result ≡ record { content = sparse_content log; room = log.room; faults = 0; plan = no_plan } }
     {
         SparseDisk {
             log,
@@ -57,9 +57,9 @@ impl SparseDisk {
 
     /// Makes sector `n` hold these bytes at first. The history stays.
     pub fn put(&mut self, n: u64, bytes: &Sector) -> Result<(), NoMemory>
-        requires { n < (disk_of self.old).size }
-        ensures ok { OnOk result (state_of self.new ≡ after_put n bytes.now (state_of self.old)) }
-        ensures err { OnErr result (state_of self.new ≡ state_of self.old) }
+        requires { n < (sparse_disk_of self.old).size }
+        ensures ok { OnOk result (sparse_state_of self.new ≡ after_put n bytes.now (sparse_state_of self.old)) }
+        ensures err { OnErr result (sparse_state_of self.new ≡ sparse_state_of self.old) }
     {
         self.log.put(n, bytes)
     }
@@ -67,54 +67,54 @@ impl SparseDisk {
     /// Sets which calls fail from now on, by their numbers since the disk was made. Of two entries
     /// for one call the first counts.
     pub fn fail_calls(&mut self, list: &[FailAt]) -> Result<(), NoMemory>
-        ensures ok { OnOk result (state_of self.new ≡ with_plan (with_entries list.now (state_of self.old).plan) (state_of self.old)) }
-        ensures err { OnErr result (state_of self.new ≡ state_of self.old) }
+        ensures ok { OnOk result (sparse_state_of self.new ≡ with_plan (with_entries list.now (sparse_state_of self.old).plan) (sparse_state_of self.old)) }
+        ensures err { OnErr result (sparse_state_of self.new ≡ sparse_state_of self.old) }
     {
         self.plan.set(list)
     }
 
     /// What was done to the disk, the oldest event first.
     pub fn history(&self) -> &[Event]
-        ensures { result.now ≡ (state_of self.now).content.history }
+        ensures { result.now ≡ (sparse_state_of self.now).content.history }
     {
         self.log.events()
     }
 
     /// What was written over zeros at first.
     pub fn earlier(&self) -> &[Event]
-        ensures { written (disk_of self.now).size result.now ≡ (state_of self.now).content.base }
+        ensures { written (sparse_disk_of self.now).size result.now ≡ (sparse_state_of self.now).content.base }
     {
         self.log.earlier()
     }
 
     /// What sector `n` held at first.
     pub fn first(&self, n: u64) -> Sector
-        requires { n < (disk_of self.now).size }
-        ensures { result ≡ get_or (state_of self.now).content.base n [] }
+        requires { n < (sparse_disk_of self.now).size }
+        ensures { result ≡ get_or (sparse_state_of self.now).content.base n [] }
     {
         self.log.first(n)
     }
 
     /// What stands in sector `n` now. This is no call that is counted.
     pub fn get(&self, n: u64) -> Sector
-        requires { n < (disk_of self.now).size }
-        ensures { result ≡ present (state_of self.now).content n }
+        requires { n < (sparse_disk_of self.now).size }
+        ensures { result ≡ present (sparse_state_of self.now).content n }
     {
         self.log.get(n)
     }
 
     /// How many events there is room for.
     pub fn room(&self) -> u64
-        ensures { result ≡ (state_of self.now).room }
+        ensures { result ≡ (sparse_state_of self.now).room }
     {
         self.log.room()
     }
 
     // Appends an event, or fails, as the plan and the room say.
     fn change(&mut self, kind: CallKind, event: Event) -> Result<(), DiskFailed>
-        requires { IsEventOf (disk_of self.old).size event }
-        ensures answer { is_err result ≡ change_fails kind (state_of self.old) }
-        ensures after { state_of self.new ≡ after_change kind event (state_of self.old) }
+        requires { IsEventOf (sparse_disk_of self.old).size event }
+        ensures answer { is_err result ≡ change_fails kind (sparse_state_of self.old) }
+        ensures after { sparse_state_of self.new ≡ after_change kind event (sparse_state_of self.old) }
         ensures later { self.old.faults ≤ self.new.faults }
     {
         match (self.log.is_full(), self.plan.next(kind)) {
@@ -147,22 +147,22 @@ impl Disk for SparseDisk {
     ghost use Rattle.block_traits.specs.EachWritten.{EachWritten};
     ghost use Rattle.block_traits.specs.Parts.{parts};
     ghost use Rattle.crash_disk.specs.MemDisk.{WritesSector, after_change, after_look, after_read, change_fails, read_fails};
-    ghost use Rattle.crash_disk.specs.SparseDisk.{disk_of, state_of};
+    ghost use Rattle.crash_disk.specs.SparseDisk.{sparse_disk_of, sparse_state_of};
 
-    ghost state = { disk_of };
+    ghost state = { sparse_disk_of };
 
     fn sectors(&self) -> u64 {
         self.log.len()
     }
 
     fn read(&mut self, n: u64, into: &mut Sector) -> Result<(), DiskFailed>
-        requires { n < (disk_of self.old).size }
-        ensures bytes { OnOk result (Gives (disk_of self.old) n into.new) }
-        ensures ok { OnOk result (Logs [] (disk_of self.old) (disk_of self.new)) }
-        ensures err { OnErr result (FailsIn [] (disk_of self.old) (disk_of self.new)) }
-        ensures asked { Counted 1 (disk_of self.old).reads (disk_of self.new).reads }
-        ensures answer { is_err result ≡ read_fails (state_of self.old) }
-        ensures after { state_of self.new ≡ after_read (state_of self.old) }
+        requires { n < (sparse_disk_of self.old).size }
+        ensures bytes { OnOk result (Gives (sparse_disk_of self.old) n into.new) }
+        ensures ok { OnOk result (Logs [] (sparse_disk_of self.old) (sparse_disk_of self.new)) }
+        ensures err { OnErr result (FailsIn [] (sparse_disk_of self.old) (sparse_disk_of self.new)) }
+        ensures asked { Counted 1 (sparse_disk_of self.old).reads (sparse_disk_of self.new).reads }
+        ensures answer { is_err result ≡ read_fails (sparse_state_of self.old) }
+        ensures after { sparse_state_of self.new ≡ after_read (sparse_state_of self.old) }
     {
         if self.plan.next(CallKind::Read).is_some() {
             return Err(self.fail());
@@ -172,20 +172,20 @@ impl Disk for SparseDisk {
     }
 
     fn count_reads(&mut self, many: u64)
-        ensures asked { Counted many (disk_of self.old).reads (disk_of self.new).reads }
-        ensures logs { Logs [] (disk_of self.old) (disk_of self.new) }
-        ensures after { state_of self.new ≡ after_look many (state_of self.old) }
+        ensures asked { Counted many (sparse_disk_of self.old).reads (sparse_disk_of self.new).reads }
+        ensures logs { Logs [] (sparse_disk_of self.old) (sparse_disk_of self.new) }
+        ensures after { sparse_state_of self.new ≡ after_look many (sparse_state_of self.old) }
     {
         self.plan.count_reads(many);
     }
 
     fn write(&mut self, n: u64, from: &Sector) -> Result<(), DiskFailed>
-        requires { n < (disk_of self.old).size }
-        ensures ok { OnOk result (Logs (Event.Write n from.now ∷ []) (disk_of self.old) (disk_of self.new)) }
-        ensures err { OnErr result (FailsIn (Event.Write n from.now ∷ []) (disk_of self.old) (disk_of self.new)) }
-        ensures unasked { (disk_of self.new).reads ≡ (disk_of self.old).reads }
-        ensures answer { is_err result ≡ change_fails CallKind.Write (state_of self.old) }
-        ensures after { state_of self.new ≡ after_change CallKind.Write (Event.Write n from.now) (state_of self.old) }
+        requires { n < (sparse_disk_of self.old).size }
+        ensures ok { OnOk result (Logs (Event.Write n from.now ∷ []) (sparse_disk_of self.old) (sparse_disk_of self.new)) }
+        ensures err { OnErr result (FailsIn (Event.Write n from.now ∷ []) (sparse_disk_of self.old) (sparse_disk_of self.new)) }
+        ensures unasked { (sparse_disk_of self.new).reads ≡ (sparse_disk_of self.old).reads }
+        ensures answer { is_err result ≡ change_fails CallKind.Write (sparse_state_of self.old) }
+        ensures after { sparse_state_of self.new ≡ after_change CallKind.Write (Event.Write n from.now) (sparse_state_of self.old) }
     {
         self.change(CallKind::Write, Event::Write { n, bytes: *from })
     }
@@ -193,11 +193,11 @@ impl Disk for SparseDisk {
     /// Each sector is a write of its own, in ascending order, up to the first that fails.
     fn write_sectors(&mut self, first: u64, from: &[u8]) -> Result<(), DiskFailed>
         requires whole { length from.now % 512 ≡ 0 }
-        requires inside { first + length from.now / 512 ≤ (disk_of self.old).size }
-        ensures ok { OnOk result (Logs (write_events first from.now) (disk_of self.old) (disk_of self.new)) }
-        ensures err { OnErr result (FailsIn (write_events first from.now) (disk_of self.old) (disk_of self.new)) }
-        ensures unasked { (disk_of self.new).reads ≡ (disk_of self.old).reads }
-        ensures answer { EachWritten WritesSector first (parts 512 (length from.now / 512) from.now) (state_of self.old) (state_of self.new) result }
+        requires inside { first + length from.now / 512 ≤ (sparse_disk_of self.old).size }
+        ensures ok { OnOk result (Logs (write_events first from.now) (sparse_disk_of self.old) (sparse_disk_of self.new)) }
+        ensures err { OnErr result (FailsIn (write_events first from.now) (sparse_disk_of self.old) (sparse_disk_of self.new)) }
+        ensures unasked { (sparse_disk_of self.new).reads ≡ (sparse_disk_of self.old).reads }
+        ensures answer { EachWritten WritesSector first (parts 512 (length from.now / 512) from.now) (sparse_state_of self.old) (sparse_state_of self.new) result }
     {
         for j in 0..from.len() / 512 {
             self.write(first + j as u64, &sector_of(from, j))?;
@@ -206,11 +206,11 @@ impl Disk for SparseDisk {
     }
 
     fn flush(&mut self) -> Result<(), DiskFailed>
-        ensures ok { OnOk result (Logs (Event.Flush ∷ []) (disk_of self.old) (disk_of self.new)) }
-        ensures err { OnErr result (FailsIn (Event.Flush ∷ []) (disk_of self.old) (disk_of self.new)) }
-        ensures unasked { (disk_of self.new).reads ≡ (disk_of self.old).reads }
-        ensures answer { is_err result ≡ change_fails CallKind.Flush (state_of self.old) }
-        ensures after { state_of self.new ≡ after_change CallKind.Flush Event.Flush (state_of self.old) }
+        ensures ok { OnOk result (Logs (Event.Flush ∷ []) (sparse_disk_of self.old) (sparse_disk_of self.new)) }
+        ensures err { OnErr result (FailsIn (Event.Flush ∷ []) (sparse_disk_of self.old) (sparse_disk_of self.new)) }
+        ensures unasked { (sparse_disk_of self.new).reads ≡ (sparse_disk_of self.old).reads }
+        ensures answer { is_err result ≡ change_fails CallKind.Flush (sparse_state_of self.old) }
+        ensures after { sparse_state_of self.new ≡ after_change CallKind.Flush Event.Flush (sparse_state_of self.old) }
     {
         self.change(CallKind::Flush, Event::Flush)
     }

@@ -5,7 +5,7 @@ ghost use Rattle.block_traits.specs.Content.{IsSector, at_moment, kept_after};
 ghost use Rattle.block_traits.specs.Crash.{IsImage, IsTorn};
 ghost use Rattle.crash_disk.specs.Replay.{content};
 ghost use Rattle.crash_disk.specs.Survivor.{AllGood, AllGoodTears, IsBad, IsBadTear, IsFault, IsGood, IsGoodTear, IsTornImage, KeepsOf, choice_of, is_picked, is_torn};
-ghost use Rattle.crash_disk.specs.MemDisk.{fresh, state_of};
+ghost use Rattle.crash_disk.specs.MemDisk.{fresh, mem_state_of};
 ghost use Rattle.crash_disk.specs.declared.survivor.Torn.{Torn};
 
 use crate::MemDisk;
@@ -51,13 +51,13 @@ pub fn survivor_whole(
     moment: usize,
     picks: &[Pick],
 ) -> Result<MemDisk, SurvivorFault>
-    requires { moment ≤ length (state_of disk.now).content.history }
-    ensures image { let left = at_moment moment (state_of disk.now).content in
-        IfOk result (λ survivor. IsImage left (choice_of left picks.now) (state_of survivor).content.base) }
-    ensures good { let left = at_moment moment (state_of disk.now).content in
+    requires { moment ≤ length (mem_state_of disk.now).content.history }
+    ensures image { let left = at_moment moment (mem_state_of disk.now).content in
+        IfOk result (λ survivor. IsImage left (choice_of left picks.now) (mem_state_of survivor).content.base) }
+    ensures good { let left = at_moment moment (mem_state_of disk.now).content in
         IfOk result (λ _. AllGood left picks.now (length picks.now)) }
-    ensures rest { IfOk result (λ survivor. state_of survivor ≡ fresh (state_of survivor).content.base (state_of disk.now).room) }
-    ensures bad { IfErr result (IsFault (at_moment moment (state_of disk.now).content) picks.now []) }
+    ensures rest { IfOk result (λ survivor. mem_state_of survivor ≡ fresh (mem_state_of survivor).content.base (mem_state_of disk.now).room) }
+    ensures bad { IfErr result (IsFault (at_moment moment (mem_state_of disk.now).content) picks.now []) }
 {
     let image = picked_image(alloc, disk, moment, picks)?;
     survivor_of(alloc, image, disk.room())
@@ -71,17 +71,17 @@ pub fn survivor_torn(
     picks: &[Pick],
     torn: &[Torn],
 ) -> Result<MemDisk, SurvivorFault>
-    requires { moment ≤ length (state_of disk.now).content.history }
-    ensures image { let left = at_moment moment (state_of disk.now).content in
-        IfOk result (λ survivor. IsTornImage left (choice_of left picks.now) torn.now (state_of survivor).content.base) }
-    ensures torn { let left = at_moment moment (state_of disk.now).content in
-        IfOk result (λ survivor. IsTorn left (state_of survivor).content.base) }
-    ensures good { let left = at_moment moment (state_of disk.now).content in
+    requires { moment ≤ length (mem_state_of disk.now).content.history }
+    ensures image { let left = at_moment moment (mem_state_of disk.now).content in
+        IfOk result (λ survivor. IsTornImage left (choice_of left picks.now) torn.now (mem_state_of survivor).content.base) }
+    ensures torn { let left = at_moment moment (mem_state_of disk.now).content in
+        IfOk result (λ survivor. IsTorn left (mem_state_of survivor).content.base) }
+    ensures good { let left = at_moment moment (mem_state_of disk.now).content in
         IfOk result (λ _. AllGood left picks.now (length picks.now)) }
-    ensures good_torn { let left = at_moment moment (state_of disk.now).content in
+    ensures good_torn { let left = at_moment moment (mem_state_of disk.now).content in
         IfOk result (λ _. AllGoodTears left picks.now torn.now (length torn.now)) }
-    ensures rest { IfOk result (λ survivor. state_of survivor ≡ fresh (state_of survivor).content.base (state_of disk.now).room) }
-    ensures bad { IfErr result (IsFault (at_moment moment (state_of disk.now).content) picks.now torn.now) }
+    ensures rest { IfOk result (λ survivor. mem_state_of survivor ≡ fresh (mem_state_of survivor).content.base (mem_state_of disk.now).room) }
+    ensures bad { IfErr result (IsFault (at_moment moment (mem_state_of disk.now).content) picks.now torn.now) }
 {
     let mut image = picked_image(alloc, disk, moment, picks)?;
     let base = disk.base();
@@ -99,7 +99,7 @@ pub fn survivor_torn(
 fn survivor_of(alloc: Global, image: Vec<Sector>, room: u64) -> Result<MemDisk, SurvivorFault>
     requires small { length image.items < 2 ^ 44 }
     requires sectors { All IsSector image.items }
-    ensures fresh { IfOk result (λ survivor. state_of survivor ≡ fresh image.items room) }
+    ensures fresh { IfOk result (λ survivor. mem_state_of survivor ≡ fresh image.items room) }
     ensures err { IfErr result (λ fault. fault ≡ SurvivorFault.NoMemory) }
 {
     MemDisk::from_sectors(alloc, image, room).map_err(|_| SurvivorFault::NoMemory)
@@ -112,13 +112,13 @@ fn picked_image(
     moment: usize,
     picks: &[Pick],
 ) -> Result<Vec<Sector>, SurvivorFault>
-    requires { moment ≤ length (state_of disk.now).content.history }
-    ensures image { let left = at_moment moment (state_of disk.now).content in
+    requires { moment ≤ length (mem_state_of disk.now).content.history }
+    ensures image { let left = at_moment moment (mem_state_of disk.now).content in
         IfOk result (λ image. IsImage left (choice_of left picks.now) image.items) }
     ensures sectors { IfOk result (λ image. All IsSector image.items) }
-    ensures good { let left = at_moment moment (state_of disk.now).content in
+    ensures good { let left = at_moment moment (mem_state_of disk.now).content in
         IfOk result (λ _. AllGood left picks.now (length picks.now)) }
-    ensures bad { IfErr result (λ fault. (torn : List Torn) → IsFault (at_moment moment (state_of disk.now).content) picks.now torn fault) }
+    ensures bad { IfErr result (λ fault. (torn : List Torn) → IsFault (at_moment moment (mem_state_of disk.now).content) picks.now torn fault) }
 {
     let Ok(mut image) = disk.sectors_at(alloc, moment) else {
         return Err(SurvivorFault::NoMemory);

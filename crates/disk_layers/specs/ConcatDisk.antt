@@ -5,5 +5,5 @@ use Rattle.disk_layers.specs.declared.concat.Concat.{Concat}
 use Rattle.disk_layers.specs.Concat.{joined_disks}
 
 module _ {A B : Type 0} {g : Ghosts A} {h : Ghosts B} where
-  abbrev pub disk_of : Concat A B g h → DiskState
-  disk_of c = joined_disks (g.state c.first) (h.state c.second) c.small
+  abbrev pub concat_disk_of : Concat A B g h → DiskState
+  concat_disk_of c = joined_disks (g.state c.first) (h.state c.second) c.small

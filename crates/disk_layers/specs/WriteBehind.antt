@@ -126,5 +126,5 @@ module _ {D : Type 0} {g : Ghosts D} where
   behind_of state w = record { under = state w.under; waiting = w.waiting.items; room = w.room; clean = w.clean }
 
   -- as a disk it has the size and the faults of the disk below, and tells no content
-  abbrev pub disk_of : (D → DiskState) → WriteBehind D g → DiskState
-  disk_of state w = untold (state w.under).size (state w.under).faults w.reads (state w.under).well_formed.bound
+  abbrev pub behind_disk_of : (D → DiskState) → WriteBehind D g → DiskState
+  behind_disk_of state w = untold (state w.under).size (state w.under).faults w.reads (state w.under).well_formed.bound

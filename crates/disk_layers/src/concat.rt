@@ -103,22 +103,22 @@ fn write_some<D: Disk>(disk: &mut D, first: u64, from: &[u8]) -> Result<(), Disk
 /// It tells its size, and the faults and reads of both disks. Its calls are `read_at`, `write_at` and `flush_all`; a
 /// run of sectors goes by one call of each disk that it reaches.
 impl<A: Disk, B: Disk> Disk for Concat<A, B> {
-    ghost use Rattle.disk_layers.specs.ConcatDisk.{disk_of};
+    ghost use Rattle.disk_layers.specs.ConcatDisk.{concat_disk_of};
     ghost use Rattle.block_traits.specs.Causes.{Counted};
     ghost use Rattle.block_traits.specs.Disk.{FailsIn, Gives, Logs};
 
-    ghost state = { disk_of };
+    ghost state = { concat_disk_of };
 
     fn sectors(&self) -> u64 {
         self.first.sectors() + self.second.sectors()
     }
 
     fn read(&mut self, n: u64, into: &mut Sector) -> Result<(), DiskFailed>
-        requires { n < (disk_of self.old).size }
-        ensures bytes { OnOk result (Gives (disk_of self.old) n into.new) }
-        ensures ok { OnOk result (Logs [] (disk_of self.old) (disk_of self.new)) }
-        ensures err { OnErr result (FailsIn [] (disk_of self.old) (disk_of self.new)) }
-        ensures asked { Counted 1 (disk_of self.old).reads (disk_of self.new).reads }
+        requires { n < (concat_disk_of self.old).size }
+        ensures bytes { OnOk result (Gives (concat_disk_of self.old) n into.new) }
+        ensures ok { OnOk result (Logs [] (concat_disk_of self.old) (concat_disk_of self.new)) }
+        ensures err { OnErr result (FailsIn [] (concat_disk_of self.old) (concat_disk_of self.new)) }
+        ensures asked { Counted 1 (concat_disk_of self.old).reads (concat_disk_of self.new).reads }
         ensures answer { AsksOne A.state B.state n into.new self.old.first self.new.first self.old.second self.new.second result }
     {
         self.read_at(n, into)
@@ -126,18 +126,18 @@ impl<A: Disk, B: Disk> Disk for Concat<A, B> {
 
     /// They are counted in the first.
     fn count_reads(&mut self, many: u64)
-        ensures asked { Counted many (disk_of self.old).reads (disk_of self.new).reads }
-        ensures logs { Logs [] (disk_of self.old) (disk_of self.new) }
+        ensures asked { Counted many (concat_disk_of self.old).reads (concat_disk_of self.new).reads }
+        ensures logs { Logs [] (concat_disk_of self.old) (concat_disk_of self.new) }
         ensures second { self.new.second ≡ self.old.second }
     {
         self.first.count_reads(many);
     }
 
     fn write(&mut self, n: u64, from: &Sector) -> Result<(), DiskFailed>
-        requires { n < (disk_of self.old).size }
-        ensures ok { OnOk result (Logs (Event.Write n from.now ∷ []) (disk_of self.old) (disk_of self.new)) }
-        ensures err { OnErr result (FailsIn (Event.Write n from.now ∷ []) (disk_of self.old) (disk_of self.new)) }
-        ensures unasked { (disk_of self.new).reads ≡ (disk_of self.old).reads }
+        requires { n < (concat_disk_of self.old).size }
+        ensures ok { OnOk result (Logs (Event.Write n from.now ∷ []) (concat_disk_of self.old) (concat_disk_of self.new)) }
+        ensures err { OnErr result (FailsIn (Event.Write n from.now ∷ []) (concat_disk_of self.old) (concat_disk_of self.new)) }
+        ensures unasked { (concat_disk_of self.new).reads ≡ (concat_disk_of self.old).reads }
         ensures answer { WritesOne A.state B.state n from.now self.old.first self.new.first self.old.second self.new.second result }
     {
         self.write_at(n, from)
@@ -145,19 +145,19 @@ impl<A: Disk, B: Disk> Disk for Concat<A, B> {
 
     fn write_sectors(&mut self, first: u64, from: &[u8]) -> Result<(), DiskFailed>
         requires whole { length from.now % 512 ≡ 0 }
-        requires inside { first + length from.now / 512 ≤ (disk_of self.old).size }
-        ensures ok { OnOk result (Logs (write_events first from.now) (disk_of self.old) (disk_of self.new)) }
-        ensures err { OnErr result (FailsIn (write_events first from.now) (disk_of self.old) (disk_of self.new)) }
-        ensures unasked { (disk_of self.new).reads ≡ (disk_of self.old).reads }
+        requires inside { first + length from.now / 512 ≤ (concat_disk_of self.old).size }
+        ensures ok { OnOk result (Logs (write_events first from.now) (concat_disk_of self.old) (concat_disk_of self.new)) }
+        ensures err { OnErr result (FailsIn (write_events first from.now) (concat_disk_of self.old) (concat_disk_of self.new)) }
+        ensures unasked { (concat_disk_of self.new).reads ≡ (concat_disk_of self.old).reads }
         ensures answer { BothDo A.state B.state (write_events first from.now) self.old.first self.new.first self.old.second self.new.second result }
     {
         self.write_run(first, from)
     }
 
     fn flush(&mut self) -> Result<(), DiskFailed>
-        ensures ok { OnOk result (Logs (Event.Flush ∷ []) (disk_of self.old) (disk_of self.new)) }
-        ensures err { OnErr result (FailsIn (Event.Flush ∷ []) (disk_of self.old) (disk_of self.new)) }
-        ensures unasked { (disk_of self.new).reads ≡ (disk_of self.old).reads }
+        ensures ok { OnOk result (Logs (Event.Flush ∷ []) (concat_disk_of self.old) (concat_disk_of self.new)) }
+        ensures err { OnErr result (FailsIn (Event.Flush ∷ []) (concat_disk_of self.old) (concat_disk_of self.new)) }
+        ensures unasked { (concat_disk_of self.new).reads ≡ (concat_disk_of self.old).reads }
         ensures answer { FlushesBoth A.state B.state self.old.first self.new.first self.old.second self.new.second result }
     {
         self.flush_all()

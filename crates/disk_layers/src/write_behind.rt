@@ -205,22 +205,22 @@ fn last_of(waiting: &VecDeque<Waiting>, n: u64) -> Option<Sector>
 impl<D: Disk> Disk for WriteBehind<D> {
     ghost use Rattle.std.specs.Prelude.{◌/◌, ◌%◌, ◌+◌};
     ghost use Rattle.block_traits.specs.EachWritten.{EachWritten};
-    ghost use Rattle.disk_layers.specs.WriteBehind.{FlushAnswers, BehindReadAnswers, BehindWriteAnswers, BehindWritesSector, behind_of, disk_of};
+    ghost use Rattle.disk_layers.specs.WriteBehind.{FlushAnswers, BehindReadAnswers, BehindWriteAnswers, BehindWritesSector, behind_of, behind_disk_of};
     ghost use Rattle.block_traits.specs.Disk.{FailsIn, Gives, write_events};
     ghost use Rattle.block_traits.specs.Parts.{parts};
 
-    ghost state = { disk_of D.state };
+    ghost state = { behind_disk_of D.state };
 
     fn sectors(&self) -> u64 {
         self.under.sectors()
     }
 
     fn read(&mut self, n: u64, into: &mut Sector) -> Result<(), DiskFailed>
-        requires { n < (disk_of D.state self.old).size }
-        ensures bytes { OnOk result (Gives (disk_of D.state self.old) n into.new) }
-        ensures ok { OnOk result (Logs [] (disk_of D.state self.old) (disk_of D.state self.new)) }
-        ensures err { OnErr result (FailsIn [] (disk_of D.state self.old) (disk_of D.state self.new)) }
-        ensures asked { Counted 1 (disk_of D.state self.old).reads (disk_of D.state self.new).reads }
+        requires { n < (behind_disk_of D.state self.old).size }
+        ensures bytes { OnOk result (Gives (behind_disk_of D.state self.old) n into.new) }
+        ensures ok { OnOk result (Logs [] (behind_disk_of D.state self.old) (behind_disk_of D.state self.new)) }
+        ensures err { OnErr result (FailsIn [] (behind_disk_of D.state self.old) (behind_disk_of D.state self.new)) }
+        ensures asked { Counted 1 (behind_disk_of D.state self.old).reads (behind_disk_of D.state self.new).reads }
         ensures answer { BehindReadAnswers (last_waiting n self.old.waiting.items) n into.new (behind_of D.state self.old) (behind_of D.state self.new) result }
     {
         self.read_at(n, into)
@@ -229,17 +229,17 @@ impl<D: Disk> Disk for WriteBehind<D> {
     /// Counted is here alone, and nothing is done below.
     fn count_reads(&mut self, many: u64)
         ensures asked { Counted many self.old.reads self.new.reads }
-        ensures logs { Logs [] (disk_of D.state self.old) (disk_of D.state self.new) }
+        ensures logs { Logs [] (behind_disk_of D.state self.old) (behind_disk_of D.state self.new) }
         ensures stays { behind_of D.state self.new ≡ behind_of D.state self.old }
     {
         self.reads = self.reads.saturating_add(many);
     }
 
     fn write(&mut self, n: u64, from: &Sector) -> Result<(), DiskFailed>
-        requires { n < (disk_of D.state self.old).size }
-        ensures ok { OnOk result (Logs (Event.Write n from.now ∷ []) (disk_of D.state self.old) (disk_of D.state self.new)) }
-        ensures err { OnErr result (FailsIn (Event.Write n from.now ∷ []) (disk_of D.state self.old) (disk_of D.state self.new)) }
-        ensures unasked { (disk_of D.state self.new).reads ≡ (disk_of D.state self.old).reads }
+        requires { n < (behind_disk_of D.state self.old).size }
+        ensures ok { OnOk result (Logs (Event.Write n from.now ∷ []) (behind_disk_of D.state self.old) (behind_disk_of D.state self.new)) }
+        ensures err { OnErr result (FailsIn (Event.Write n from.now ∷ []) (behind_disk_of D.state self.old) (behind_disk_of D.state self.new)) }
+        ensures unasked { (behind_disk_of D.state self.new).reads ≡ (behind_disk_of D.state self.old).reads }
         ensures answer { BehindWriteAnswers (record { n = n; bytes = from.now }) (behind_of D.state self.old) (behind_of D.state self.new) result }
     {
         self.write_at(n, from)
@@ -248,10 +248,10 @@ impl<D: Disk> Disk for WriteBehind<D> {
     /// Each sector is written as by `write`, in ascending order, up to the first that fails.
     fn write_sectors(&mut self, first: u64, from: &[u8]) -> Result<(), DiskFailed>
         requires whole { length from.now % 512 ≡ 0 }
-        requires inside { first + length from.now / 512 ≤ (disk_of D.state self.old).size }
-        ensures ok { OnOk result (Logs (write_events first from.now) (disk_of D.state self.old) (disk_of D.state self.new)) }
-        ensures err { OnErr result (FailsIn (write_events first from.now) (disk_of D.state self.old) (disk_of D.state self.new)) }
-        ensures unasked { (disk_of D.state self.new).reads ≡ (disk_of D.state self.old).reads }
+        requires inside { first + length from.now / 512 ≤ (behind_disk_of D.state self.old).size }
+        ensures ok { OnOk result (Logs (write_events first from.now) (behind_disk_of D.state self.old) (behind_disk_of D.state self.new)) }
+        ensures err { OnErr result (FailsIn (write_events first from.now) (behind_disk_of D.state self.old) (behind_disk_of D.state self.new)) }
+        ensures unasked { (behind_disk_of D.state self.new).reads ≡ (behind_disk_of D.state self.old).reads }
         ensures answer { EachWritten BehindWritesSector first (parts 512 (length from.now / 512) from.now) (behind_of D.state self.old) (behind_of D.state self.new) result }
     {
         for j in 0..from.len() / 512 {
@@ -261,9 +261,9 @@ impl<D: Disk> Disk for WriteBehind<D> {
     }
 
     fn flush(&mut self) -> Result<(), DiskFailed>
-        ensures ok { OnOk result (Logs (Event.Flush ∷ []) (disk_of D.state self.old) (disk_of D.state self.new)) }
-        ensures err { OnErr result (FailsIn (Event.Flush ∷ []) (disk_of D.state self.old) (disk_of D.state self.new)) }
-        ensures unasked { (disk_of D.state self.new).reads ≡ (disk_of D.state self.old).reads }
+        ensures ok { OnOk result (Logs (Event.Flush ∷ []) (behind_disk_of D.state self.old) (behind_disk_of D.state self.new)) }
+        ensures err { OnErr result (FailsIn (Event.Flush ∷ []) (behind_disk_of D.state self.old) (behind_disk_of D.state self.new)) }
+        ensures unasked { (behind_disk_of D.state self.new).reads ≡ (behind_disk_of D.state self.old).reads }
         ensures answer { FlushAnswers (behind_of D.state self.old) (behind_of D.state self.new) result }
     {
         self.flush_all()

@@ -10,7 +10,7 @@ use Rattle.block_traits.proofs.Logs.{logged-none}
 use Rattle.file_edge.specs.Told.{EndsTold, Leaves, ReadsTold, contents}
 use Rattle.edge_tests.specs.LoggedFile.{told_from, told_of, contents-told_from}
 
-pub contents-told_of : (d : DiskState) → contents (told_of d) ≡ d.content
+contents-told_of : (d : DiskState) → contents (told_of d) ≡ d.content
 contents-told_of d = contents-told_from d.size d.content d.well_formed.fits
 
 pub leaves_logged : (events : List Event) (sectors : ℕ) (old new : DiskState) → Logs events old new → Leaves events sectors true (contents (told_of old)) (contents (told_of new))

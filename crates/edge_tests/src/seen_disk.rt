@@ -30,9 +30,9 @@ impl SeenDisk {
 }
 
 impl Disk for SeenDisk {
-    ghost use Rattle.crash_disk.specs.MemDisk.{disk_of};
+    ghost use Rattle.crash_disk.specs.MemDisk.{mem_disk_of};
 
-    ghost state = { λ seen. disk_of seen.disk };
+    ghost state = { λ seen. mem_disk_of seen.disk };
 
     fn sectors(&self) -> u64 {
         self.disk.sectors()

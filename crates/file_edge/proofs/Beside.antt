@@ -7,10 +7,10 @@ use Rattle.file_edge.specs.Asked.{Asked, Make, Meet, asking, more, unmade}
 use Rattle.file_edge.specs.Storing.{beside_name, met}
 use Rattle.file_edge.proofs.Logs.{more_then}
 
-pub unmade_met : (mode : ℕ) (name : List ℕ) (kind : ErrorKind) → kind ≡ AlreadyExists → unmade mode name kind ≡ asking (Meet mode name) false
+unmade_met : (mode : ℕ) (name : List ℕ) (kind : ErrorKind) → kind ≡ AlreadyExists → unmade mode name kind ≡ asking (Meet mode name) false
 unmade_met mode name kind is = ap (unmade mode name) is
 
-pub unmade_other : (mode : ℕ) (name : List ℕ) (kind : ErrorKind) → (kind ≡ AlreadyExists → ⊥) → unmade mode name kind ≡ asking (Make mode name) false
+unmade_other : (mode : ℕ) (name : List ℕ) (kind : ErrorKind) → (kind ≡ AlreadyExists → ⊥) → unmade mode name kind ≡ asking (Make mode name) false
 unmade_other mode name AlreadyExists other = absurd (other refl)
 unmade_other mode name kind other = refl
 

@@ -2,7 +2,7 @@
 use Rattle.std.proofs.Common.{◌≡◌, List, ◌++◌, refl, ap, ◌∙◌, append_assoc, Option, Some, None}
 use Rattle.file_edge.specs.Asked.{more}
 
-pub more_twice : {A : Type 0} (xs ys : List A) (told : Option (List A)) → more ys (more xs told) ≡ more (xs ++ ys) told
+more_twice : {A : Type 0} (xs ys : List A) (told : Option (List A)) → more ys (more xs told) ≡ more (xs ++ ys) told
 more_twice xs ys None = refl
 more_twice xs ys (Some before) = ap Some (append_assoc before xs ys)
 

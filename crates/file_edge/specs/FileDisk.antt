@@ -14,8 +14,8 @@ use Rattle.file_edge.specs.Told.{Told, contents, of_size, told_in}
 use Rattle.file_edge.specs.ToldFits.{IsWellFormed-told}
 
 -- it tells what its file tells, where that has just its sectors, and shows no events
-abbrev pub state_of : {F : Type 0} → (F → Option Told) → FileDisk F → DiskState
-state_of told d = record {
+abbrev pub file_disk_state : {F : Type 0} → (F → Option Told) → FileDisk F → DiskState
+file_disk_state told d = record {
   size = d.sectors;
   shows = false;
   content = of_size d.sectors (contents (told_in told d.file));
@@ -26,7 +26,7 @@ state_of told d = record {
 
 -- it tells all that its file tells
 abbrev pub TellsFile : {F : Type 0} → (F → Option Told) → FileDisk F → Type 0
-TellsFile told d = (state_of told d).content ≡ contents (told_in told d.file)
+TellsFile told d = (file_disk_state told d).content ≡ contents (told_in told d.file)
 
 -- no file is opened, the disk has two sectors, and it is known which file it would have been, or not
 pub record IsUnopened {F : Type 0} (id : Option FileId) (disk : FileDisk F) : Type 0 where

@@ -285,19 +285,19 @@ fn sync_open<F: ImageFile>(file: &mut Option<F>) -> Result<(), DiskFailed>
 
 /// Sector n stands at byte 512 * n of the file. A file that isn't opened is a disk whose every call fails.
 impl<F: ImageFile + Drop> Disk for FileDisk<F> {
-    ghost use Rattle.file_edge.specs.FileDisk.{state_of};
+    ghost use Rattle.file_edge.specs.FileDisk.{file_disk_state};
 
-    ghost state = { state_of F.told };
+    ghost state = { file_disk_state F.told };
 
     fn sectors(&self) -> u64 {
         self.sectors
     }
 
     fn read(&mut self, n: u64, into: &mut Sector) -> Result<(), DiskFailed>
-        requires { n < (state_of F.told self.old).size }
-        ensures bytes { OnOk result (Gives (state_of F.told self.old) n into.new) }
-        ensures ok { OnOk result (Logs [] (state_of F.told self.old) (state_of F.told self.new)) }
-        ensures err { OnErr result (FailsIn [] (state_of F.told self.old) (state_of F.told self.new)) }
+        requires { n < (file_disk_state F.told self.old).size }
+        ensures bytes { OnOk result (Gives (file_disk_state F.told self.old) n into.new) }
+        ensures ok { OnOk result (Logs [] (file_disk_state F.told self.old) (file_disk_state F.told self.new)) }
+        ensures err { OnErr result (FailsIn [] (file_disk_state F.told self.old) (file_disk_state F.told self.new)) }
         ensures asked { Counted 1 self.old.reads self.new.reads }
         ensures placed { MatchOption self.old.file (IsErr result) (λ file. F.reads file (512 * n) (read_bytes result into.new)) }
         ensures asks { AsksFile F.calls (ReadAt (512 * n) 512) self.old.file self.new.file }
@@ -313,9 +313,9 @@ impl<F: ImageFile + Drop> Disk for FileDisk<F> {
     /// Besides what a disk does: a look is one read of the file, of all the bytes.
     fn peek(&mut self, first: u64, into: &mut [u8]) -> bool
         requires whole { length into.old % 512 ≡ 0 }
-        requires inside { first + length into.old / 512 ≤ (state_of F.told self.old).size }
-        ensures stand { result ≡ true → GivesEach (state_of F.told self.old) first into.new }
-        ensures stays { state_of F.told self.new ≡ state_of F.told self.old }
+        requires inside { first + length into.old / 512 ≤ (file_disk_state F.told self.old).size }
+        ensures stand { result ≡ true → GivesEach (file_disk_state F.told self.old) first into.new }
+        ensures stays { file_disk_state F.told self.new ≡ file_disk_state F.told self.old }
         ensures placed { MatchOption self.old.file (result ≡ false) (λ file. F.reads file (512 * first) (looked result into.new)) }
         ensures asks { AsksFile F.calls (ReadAt (512 * first) (length into.old)) self.old.file self.new.file }
         ensures unsynced { self.new.unsynced ≡ self.old.unsynced }
@@ -328,7 +328,7 @@ impl<F: ImageFile + Drop> Disk for FileDisk<F> {
 
     fn count_reads(&mut self, many: u64)
         ensures asked { Counted many self.old.reads self.new.reads }
-        ensures logs { Logs [] (state_of F.told self.old) (state_of F.told self.new) }
+        ensures logs { Logs [] (file_disk_state F.told self.old) (file_disk_state F.told self.new) }
         ensures file { self.new.file ≡ self.old.file }
         ensures unsynced { self.new.unsynced ≡ self.old.unsynced }
     {
@@ -337,9 +337,9 @@ impl<F: ImageFile + Drop> Disk for FileDisk<F> {
 
     /// Besides what a disk does: where the file became shorter, what stands behind its end isn't written.
     fn write(&mut self, n: u64, from: &Sector) -> Result<(), DiskFailed>
-        requires { n < (state_of F.told self.old).size }
-        ensures ok { OnOk result (Logs (Event.Write n from.now ∷ []) (state_of F.told self.old) (state_of F.told self.new)) }
-        ensures err { OnErr result (FailsIn (Event.Write n from.now ∷ []) (state_of F.told self.old) (state_of F.told self.new)) }
+        requires { n < (file_disk_state F.told self.old).size }
+        ensures ok { OnOk result (Logs (Event.Write n from.now ∷ []) (file_disk_state F.told self.old) (file_disk_state F.told self.new)) }
+        ensures err { OnErr result (FailsIn (Event.Write n from.now ∷ []) (file_disk_state F.told self.old) (file_disk_state F.told self.new)) }
         ensures unasked { self.new.reads ≡ self.old.reads }
         ensures placed { WritesFile F.ends F.writes F.calls (512 * n) from.now (is_ok result) self.old.file self.new.file }
         ensures unsynced { self.new.unsynced ≡ self.old.unsynced }
@@ -354,9 +354,9 @@ impl<F: ImageFile + Drop> Disk for FileDisk<F> {
     /// stands behind its end, none is written.
     fn write_sectors(&mut self, first: u64, from: &[u8]) -> Result<(), DiskFailed>
         requires whole { length from.now % 512 ≡ 0 }
-        requires inside { first + length from.now / 512 ≤ (state_of F.told self.old).size }
-        ensures ok { OnOk result (Logs (write_events first from.now) (state_of F.told self.old) (state_of F.told self.new)) }
-        ensures err { OnErr result (FailsIn (write_events first from.now) (state_of F.told self.old) (state_of F.told self.new)) }
+        requires inside { first + length from.now / 512 ≤ (file_disk_state F.told self.old).size }
+        ensures ok { OnOk result (Logs (write_events first from.now) (file_disk_state F.told self.old) (file_disk_state F.told self.new)) }
+        ensures err { OnErr result (FailsIn (write_events first from.now) (file_disk_state F.told self.old) (file_disk_state F.told self.new)) }
         ensures unasked { self.new.reads ≡ self.old.reads }
         ensures placed { WritesFile F.ends F.writes F.calls (512 * first) from.now (is_ok result) self.old.file self.new.file }
         ensures unsynced { self.new.unsynced ≡ self.old.unsynced }
@@ -370,8 +370,8 @@ impl<F: ImageFile + Drop> Disk for FileDisk<F> {
     /// Besides what a disk does: after a failed flush each one fails, since the system may have dropped what was
     /// written.
     fn flush(&mut self) -> Result<(), DiskFailed>
-        ensures ok { OnOk result (Logs (Event.Flush ∷ []) (state_of F.told self.old) (state_of F.told self.new)) }
-        ensures err { OnErr result (FailsIn (Event.Flush ∷ []) (state_of F.told self.old) (state_of F.told self.new)) }
+        ensures ok { OnOk result (Logs (Event.Flush ∷ []) (file_disk_state F.told self.old) (file_disk_state F.told self.new)) }
+        ensures err { OnErr result (FailsIn (Event.Flush ∷ []) (file_disk_state F.told self.old) (file_disk_state F.told self.new)) }
         ensures unasked { self.new.reads ≡ self.old.reads }
         ensures synced { self.old.unsynced ≡ false → MatchOption self.old.file (IsErr result) (λ file. F.syncs file (is_ok result)) }
         ensures stays { self.old.unsynced ≡ true → IsErr result }

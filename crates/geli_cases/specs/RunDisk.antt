@@ -8,8 +8,8 @@ use Rattle.geli_cases.specs.declared.run_disk.RunDisk.{RunDisk}
 use Rattle.geli_cases.specs.declared.run_disk.RunDisk.TheVariants.{Plain, Behind, Join, Provider}
 
 -- what the disk of its variant does
-abbrev pub state_of : RunDisk → DiskState
-state_of (Plain disk) = traced.disk_of disk
-state_of (Behind behind) = write_behind.disk_of traced.disk_of behind
-state_of (Join both) = concat.disk_of both
-state_of (Provider upon) = provider_disk.disk_of traced.disk_of upon
+abbrev pub run_disk_state : RunDisk → DiskState
+run_disk_state (Plain disk) = traced.traced_disk_of disk
+run_disk_state (Behind behind) = write_behind.behind_disk_of traced.traced_disk_of behind
+run_disk_state (Join both) = concat.concat_disk_of both
+run_disk_state (Provider upon) = provider_disk.provider_disk_of traced.traced_disk_of upon

@@ -4,5 +4,5 @@ use Rattle.crash_disk.specs.SparseDisk as sparse_disk
 use Rattle.geli_cases.specs.declared.traced_disk.TracedDisk.{TracedDisk}
 
 -- what the disk in it does
-abbrev pub disk_of : TracedDisk → DiskState
-disk_of traced = sparse_disk.disk_of traced.disk
+abbrev pub traced_disk_of : TracedDisk → DiskState
+traced_disk_of traced = sparse_disk.sparse_disk_of traced.disk

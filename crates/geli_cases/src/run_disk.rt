@@ -1,5 +1,5 @@
 //! The disk of a drawer of a run, by what stands between the drawer and the disks of the case.
-ghost use Rattle.geli_cases.specs.RunDisk.{state_of};
+ghost use Rattle.geli_cases.specs.RunDisk.{run_disk_state};
 
 use crate::traced_disk::TracedDisk;
 use block_traits::{Disk, DiskFailed, Event, Sector};
@@ -21,7 +21,7 @@ pub enum RunDisk {
 
 /// It is the disk of its variant.
 impl Disk for RunDisk {
-    ghost state = { state_of };
+    ghost state = { run_disk_state };
 
     fn sectors(&self) -> u64 {
         match self {

@@ -1,5 +1,5 @@
 //! The disks of a run, whose events can be looked at also where a layer has them.
-ghost use Rattle.geli_cases.specs.TracedDisk.{disk_of};
+ghost use Rattle.geli_cases.specs.TracedDisk.{traced_disk_of};
 
 use crate::fault::Fault;
 use block_traits::{Disk, DiskFailed, Event, Sector};
@@ -59,7 +59,7 @@ impl TracedDisk {
 
 /// It is the disk in it.
 impl Disk for TracedDisk {
-    ghost state = { disk_of };
+    ghost state = { traced_disk_of };
 
     fn sectors(&self) -> u64 {
         self.disk.sectors()

@@ -157,11 +157,11 @@ read_on sep line (Ok (Some command)) (Some said) before old new n asked found h 
 line_on : (sep : Sep) (line : List ℕ) (answer : Option Answer) (before : DrawerState) (old new : World) (n : ℕ) → slice_get old.drawers n ≡ Some before → ServesLine sep line old answer new → LineOn sep line answer before new.drawers
 line_on sep line answer before old new n found h = read_on sep line (line_reading sep line) answer before old new n refl found h
 
-pub step_name : (sep : Sep) (line : List ℕ) (answer : Option Answer) (old : DrawerState) (events : List Event) (new : DrawerState) → DrawerSteps sep line answer old events new → new.name ≡ old.name
+step_name : (sep : Sep) (line : List ℕ) (answer : Option Answer) (old : DrawerState) (events : List Event) (new : DrawerState) → DrawerSteps sep line answer old events new → new.name ≡ old.name
 step_name sep line answer old events new (inl stays) = ap (λ (d : DrawerState). d.name) stays.0
 step_name sep line answer old events new (inr h) = h.name
 
-pub step_logs : (sep : Sep) (line : List ℕ) (answer : Option Answer) (old : DrawerState) (events : List Event) (new : DrawerState) → DrawerSteps sep line answer old events new → Logs events old.disk new.disk
+step_logs : (sep : Sep) (line : List ℕ) (answer : Option Answer) (old : DrawerState) (events : List Event) (new : DrawerState) → DrawerSteps sep line answer old events new → Logs events old.disk new.disk
 step_logs sep line answer old events new (inl stays) = rw (stays.0, stays.1) (Logs-nothing old.disk)
 step_logs sep line answer old events new (inr h) = h.logs
 

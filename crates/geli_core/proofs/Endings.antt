@@ -269,12 +269,12 @@ ended_broken bytes old middle new source after failed h limit gave met closes sa
 
 -- ---- the refusals of the closing
 
-pub failures_text-add : (n m : ℕ) → answers_text (closing_answers (n + m)) ≡ answers_text (closing_answers n) ++ answers_text (closing_answers m)
+failures_text-add : (n m : ℕ) → answers_text (closing_answers (n + m)) ≡ answers_text (closing_answers n) ++ answers_text (closing_answers m)
 failures_text-add n m =
     ap answers_text (sym (replicate-append-replicate n m (Some (answers.Refused refusals.DeviceFault))))
     ∙ flat_map-append text_of (closing_answers n) (closing_answers m)
 
-pub failures_text-one : answers_text (closing_answers 1) ≡ answer_text (answers.Refused refusals.DeviceFault)
+failures_text-one : answers_text (closing_answers 1) ≡ answer_text (answers.Refused refusals.DeviceFault)
 failures_text-one = append-nil _
 
 pub failures_text-more : (n : ℕ) → answers_text (closing_answers (n + 1)) ≡ answers_text (closing_answers n) ++ answer_text (answers.Refused refusals.DeviceFault)

@@ -11,7 +11,7 @@ use Rattle.std.proofs.Common.{Bool}
 use Rattle.geli_core.specs.declared.feeding.Stop.{Stop}
 
 -- bytes that were given after others
-pub prepend_known-more : (first second : List ℕ) (known : Option (List ℕ)) → prepend_known first (prepend_known second known) ≡ prepend_known (first ++ second) known
+prepend_known-more : (first second : List ℕ) (known : Option (List ℕ)) → prepend_known first (prepend_known second known) ≡ prepend_known (first ++ second) known
 prepend_known-more first second None = refl
 prepend_known-more first second (Some bytes) = ap Some (sym (append_assoc first second bytes))
 

@@ -170,7 +170,7 @@ came sep (l ∷ lines) start end drawer run there =
 -- ---- its play
 
 -- what its disk tells, as the play says
-pub Tells : Type 0 → Option Content → Play → DrawerState → Type 0
+Tells : Type 0 → Option Content → Play → DrawerState → Type 0
 Tells Fresh told m drawer = MatchOption told (drawer.disk.content ≡ None) (λ c. Follows Fresh c m drawer.holding drawer.disk)
 
 still_none : (c : Content) (m : Play) (d : DiskState) → Rests c m d → Rests c (goes_on [] m.tasks m) d
@@ -268,17 +268,17 @@ follows_tasks : (Fresh : Type 0) (c : Content) (m : Play) (found : Option Attach
 follows_tasks Fresh c m None d r fresh = r.none
 follows_tasks Fresh c m (Some a) d t fresh = t.whole fresh
 
-pub tells_content : (Fresh : Type 0) (told : Option Content) (m : Play) (drawer : DrawerState) → Tells Fresh told m drawer → drawer.disk.content ≡ option_map (after m.steps) told
+tells_content : (Fresh : Type 0) (told : Option Content) (m : Play) (drawer : DrawerState) → Tells Fresh told m drawer → drawer.disk.content ≡ option_map (after m.steps) told
 unfolding Tells
 tells_content Fresh None m drawer t = t
 tells_content Fresh (Some c) m drawer t = follows_told Fresh c m (attachment_in drawer.holding) drawer.disk t
 
-pub tells_endures : (Fresh : Type 0) (told : Option Content) (m : Play) (drawer : DrawerState) → Tells Fresh told m drawer → IfSome told (EnduresCrashes m.steps)
+tells_endures : (Fresh : Type 0) (told : Option Content) (m : Play) (drawer : DrawerState) → Tells Fresh told m drawer → IfSome told (EnduresCrashes m.steps)
 unfolding Tells
 tells_endures Fresh None m drawer t = tt
 tells_endures Fresh (Some c) m drawer t = follows_endures Fresh c m (attachment_in drawer.holding) drawer.disk t
 
-pub tells_tasks : (Fresh : Type 0) (told : Option Content) (m : Play) (drawer : DrawerState) → Tells Fresh told m drawer → Fresh → IfSome told (λ c. HasTasks drawer.holding m.tasks)
+tells_tasks : (Fresh : Type 0) (told : Option Content) (m : Play) (drawer : DrawerState) → Tells Fresh told m drawer → Fresh → IfSome told (λ c. HasTasks drawer.holding m.tasks)
 unfolding Tells
 tells_tasks Fresh None m drawer t fresh = tt
 tells_tasks Fresh (Some c) m drawer t fresh = follows_tasks Fresh c m (attachment_in drawer.holding) drawer.disk t fresh

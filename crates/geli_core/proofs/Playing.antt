@@ -38,7 +38,7 @@ use Rattle.command_rows.proofs.Gate.{by_gate, with_attached}
 use Rattle.command_rows.proofs.Generated.{length-generated}
 use Rattle.command_rows.specs.Verb.{Places, PlacesNothing}
 use Rattle.command_rows.specs.verbs.{verb_of}
-use Rattle.command_rows.specs.verbs.Fill.{generator, words_of, workload}
+use Rattle.command_rows.specs.verbs.Fill.{generator, words_of_sectors, workload}
 use Rattle.command_rows.specs.verbs.Reap.{ReapRow, reap_answer}
 use Rattle.command_rows.specs.verbs.Step.{StepRow, next_events, step_refusal}
 use Rattle.command_rows.specs.verbs.Submit.{SubmitRow, submit_refusal}
@@ -160,11 +160,11 @@ write_kept Fresh c m (Some a) d new line prov sector hex told said events logs o
     (subst (λ (e : List Event). Logs e d new) (row_events (data_writes a.keying sector count bytes) said events of_line) logs)
 
 fill_kept : (Fresh : Type 0) (c : Content) (m : Play) (found : Option Attachment) (d new : DiskState) (line : List ℕ) (prov : Span) (seed start count : ℕ) (told : Option Content) (said : Answer) (events : List Event) → Logs events d new
-    → EventsBy (λ wanted. MatchOption found ⊥ (λ a. wanted ≡ data_writes a.keying start count (workload seed (words_of a.keying.sectorsize count)))) false said events
+    → EventsBy (λ wanted. MatchOption found ⊥ (λ a. wanted ≡ data_writes a.keying start count (workload seed (words_of_sectors a.keying.sectorsize count)))) false said events
     → FollowsBy Fresh c m found d → FollowsBy Fresh c (played_by found line (commands.Fill prov seed start count) told said events m) found new
 fill_kept Fresh c m None d new line prov seed start count told said events logs of_line f = rests_raw c m d new events f logs
 fill_kept Fresh c m (Some a) d new line prov seed start count told said events logs of_line f =
-    let words : ℕ = words_of a.keying.sectorsize count in
+    let words : ℕ = words_of_sectors a.keying.sectorsize count in
     let bytes : List ℕ = workload seed words in
     let long : length bytes ≡ 8 * words = length-generated words (generator seed) in
     tracks_write Fresh c m a.keying a.queue d new start count (length events) bytes f (generated-bytes words (generator seed)) (omega (arith, long, whole_words a.keying.sectorsize count f.shows.play.keying.whole))

@@ -51,7 +51,7 @@ put_step new r queue tag false false is more h =
     ap (λ (o : Option Request). cond (r.tag == tag) (Some r) o) (more h)
     ∙ put_swap new r (request_with tag queue) (r.tag == tag) (new.tag == tag) (λ at own. (eqb-false r.tag new.tag is) (eqb-true r.tag tag at ∙ sym (eqb-true new.tag tag own)))
 
-pub request_with-put_in : (new : Request) (queue : List Request) (tag : ℕ) → request_with new.tag queue ≡ None → request_with tag (put_in new queue) ≡ cond (new.tag == tag) (Some new) (request_with tag queue)
+request_with-put_in : (new : Request) (queue : List Request) (tag : ℕ) → request_with new.tag queue ≡ None → request_with tag (put_in new queue) ≡ cond (new.tag == tag) (Some new) (request_with tag queue)
 request_with-put_in new [] tag free = refl
 request_with-put_in new (r ∷ queue) tag free = put_step new r queue tag (nat_lt new.tag r.tag) (r.tag == new.tag) refl (request_with-put_in new queue tag) free
 
@@ -73,7 +73,7 @@ exchange_step new r queue tag true is more =
     ∙ ap (λ (b : Bool). cond (new.tag == tag) (option_map (λ (x : Request). new) (cond b (Some r) (request_with tag queue))) (cond b (Some r) (request_with tag queue))) (sym (same_as r.tag new.tag tag is))
 exchange_step new r queue tag false is more = exchange_there new r (request_with tag queue) (request_with tag (exchanged new queue)) (r.tag == tag) (new.tag == tag) (apart_from r.tag new.tag tag is) more
 
-pub request_with-exchanged : (new : Request) (queue : List Request) (tag : ℕ) → request_with tag (exchanged new queue) ≡ cond (new.tag == tag) (option_map (λ (x : Request). new) (request_with tag queue)) (request_with tag queue)
+request_with-exchanged : (new : Request) (queue : List Request) (tag : ℕ) → request_with tag (exchanged new queue) ≡ cond (new.tag == tag) (option_map (λ (x : Request). new) (request_with tag queue)) (request_with tag queue)
 request_with-exchanged new [] tag = elim (new.tag == tag) as (λ b. None ≡ cond b (option_map (λ (x : Request). new) None) None) [ true ↦ refl | false ↦ refl ]
 request_with-exchanged new (r ∷ queue) tag = exchange_step new r queue tag (r.tag == new.tag) refl (request_with-exchanged new queue tag)
 
@@ -83,7 +83,7 @@ without_step : (named : ℕ) (r : Request) (queue : List Request) (tag : ℕ) (s
 without_step named r queue tag true is unlike more = ap (λ (b : Bool). cond b (Some r) (request_with tag queue)) (sym (same_as r.tag named tag is ∙ unlike))
 without_step named r queue tag false is unlike more = ap (λ (o : Option Request). cond (r.tag == tag) (Some r) o) more
 
-pub request_with-without : (named : ℕ) (queue : List Request) (tag : ℕ) → (named == tag) ≡ false → request_with tag (without named queue) ≡ request_with tag queue
+request_with-without : (named : ℕ) (queue : List Request) (tag : ℕ) → (named == tag) ≡ false → request_with tag (without named queue) ≡ request_with tag queue
 request_with-without named [] tag unlike = refl
 request_with-without named (r ∷ queue) tag unlike = without_step named r queue tag (r.tag == named) refl unlike (request_with-without named queue tag unlike)
 
@@ -94,7 +94,7 @@ none_step named r queue tag same true is more h = absurd (let none : ⊥ = cc h 
 none_step named r queue tag true false is more h = h
 none_step named r queue tag false false is more h = ap (λ (b : Bool). cond b (Some r) (request_with tag (without named queue))) is ∙ more h
 
-pub none_without : (named : ℕ) (queue : List Request) (tag : ℕ) → request_with tag queue ≡ None → request_with tag (without named queue) ≡ None
+none_without : (named : ℕ) (queue : List Request) (tag : ℕ) → request_with tag queue ≡ None → request_with tag (without named queue) ≡ None
 none_without named [] tag h = h
 none_without named (r ∷ queue) tag h = none_step named r queue tag (r.tag == named) (r.tag == tag) refl (none_without named queue tag) h
 

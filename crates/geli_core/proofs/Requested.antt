@@ -65,7 +65,7 @@ pub record IsWhole (size bytes whole : ℕ) : Type 0 where
   pub is : bytes ≡ whole * size
   pub count : whole ≡ bytes / size
 
-pub whole_is : (size bytes whole : ℕ) → 0 < size → whole_sectors size bytes ≡ Ok whole → IsWhole size bytes whole
+whole_is : (size bytes whole : ℕ) → 0 < size → whole_sectors size bytes ≡ Ok whole → IsWhole size bytes whole
 whole_is size bytes whole positive h =
     let p = passed _ (bytes / size) whole (refusals.BadLength bytes size) h in
     let outer = both (nat_le 1 bytes && nat_le bytes 131072) (bytes % size == 0) p.0 in

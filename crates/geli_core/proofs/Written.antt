@@ -17,11 +17,11 @@ use Rattle.command_rows.specs.Answer.{Answer}
 use Rattle.command_rows.specs.Answer as answers
 use Rattle.command_rows.specs.Digits.{bytes_spelled, decoded}
 use Rattle.command_rows.specs.Histories.{AreFirst, BreaksOff, EventsBy}
-use Rattle.command_rows.specs.verbs.Fill.{generated, words_of}
+use Rattle.command_rows.specs.verbs.Fill.{generated, words_of_sectors}
 
 -- ---- the events
 
-pub take-taken : {X : Type 0} (n : ℕ) (xs : List X) → take n xs ≡ take (length (take n xs)) xs
+take-taken : {X : Type 0} (n : ℕ) (xs : List X) → take n xs ≡ take (length (take n xs)) xs
 take-taken zero [] = refl
 take-taken (suc n) [] = refl
 take-taken zero (x ∷ xs) = refl
@@ -69,7 +69,7 @@ generated-bytes (suc words) g =
     let before = generated words g in
     AreBytes-append before.0 (to_le_bytes w64 (pcg64 before.1).0) (generated-bytes words g) (low_first-bytes 0 8 (pcg64 before.1).0)
 
-pub whole_words : (size count : ℕ) → size % 512 ≡ 0 → count * size ≡ 8 * words_of size count
+pub whole_words : (size count : ℕ) → size % 512 ≡ 0 → count * size ≡ 8 * words_of_sectors size count
 whole_words size count whole =
     let eight : size ≡ 8 * (size / 8) = omega arith in
     ap (λ (s : ℕ). count * s) eight ∙ omega arith

@@ -2,15 +2,15 @@
 use Rattle.std.specs.Prelude.{Option, Some, None, Result, Ok, Err}
 use Rattle.command_words.specs.declared.commands.Command.{Command}
 use Rattle.command_words.specs.declared.commands.Usage.{Usage}
-use Rattle.command_rows.specs.Verb.{Kind, OfOther}
+use Rattle.command_rows.specs.Verb.{RunKind, OfOther}
 use Rattle.command_rows.specs.verbs.{verb_of}
 
 -- by the verb of the command
-abbrev pub line_kind : Command → Kind
+abbrev pub line_kind : Command → RunKind
 line_kind command = (verb_of command).kind
 
 -- of what a line says
-abbrev pub kind_read : Result (Option Command) Usage → Kind
+abbrev pub kind_read : Result (Option Command) Usage → RunKind
 kind_read (Ok (Some command)) = line_kind command
 kind_read (Ok None) = OfOther
 kind_read (Err usage) = OfOther

@@ -16,7 +16,7 @@ use Rattle.readings.specs.Writes.{data_steps}
 use Rattle.command_rows.specs.Answer.{Answer}
 use Rattle.command_rows.specs.Answer as answers
 use Rattle.command_rows.specs.World.{Attachment, DrawerState, IsAttached, World, place_of}
-use Rattle.command_rows.specs.Verb.{Kind}
+use Rattle.command_rows.specs.Verb.{RunKind}
 use Rattle.command_rows.specs.Verb as kinds
 use Rattle.geli_core.specs.Placing.{DrawerPlays}
 use Rattle.geli_core.specs.Survivors.{SurvivesBy}
@@ -65,7 +65,7 @@ IsDoneAsAsked tag k c m = IfSome (task_with tag m.tasks) (λ t. IsAmongSteps m.s
 -- their SHA-256; or a fault at a byte offset by the first that they say. A `reap` of a read is answered by the bytes of
 -- the writings that stood in its device sectors at its own steps, or by the first fault that they say; and when a write
 -- is reaped, each of its units was done.
-abbrev pub LineReads : Sep → World → List ServedLine → World → Kind → List ℕ → Option Answer → Type 0
+abbrev pub LineReads : Sep → World → List ServedLine → World → RunKind → List ℕ → Option Answer → Type 0
 LineReads sep entry served start (kinds.OfRead prov sector count) line (Some (answers.Payload bytes)) =
     StandsSo sep entry served start line prov (λ k c m. data_read k sector count (cell c m.steps) ≡ Ok bytes)
 LineReads sep entry served start (kinds.OfRead prov sector count) line (Some (answers.Refused (refusals.Integrity offset))) =

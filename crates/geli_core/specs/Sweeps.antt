@@ -13,7 +13,7 @@ use Rattle.verify_sweep.specs.Parts.{cut_count, place_after, sectors_after}
 use Rattle.command_rows.specs.Answer.{Answer}
 use Rattle.command_rows.specs.Answer as answers
 use Rattle.command_rows.specs.World.{Attachment, DrawerState, IsAttached, World, place_of}
-use Rattle.command_rows.specs.Verb.{Kind, OfSweep}
+use Rattle.command_rows.specs.Verb.{RunKind, OfSweep}
 use Rattle.command_rows.specs.verbs.Verify.{ListsUnits}
 use Rattle.geli_core.specs.Kinds.{kind_read}
 use Rattle.geli_core.specs.Trace.{ServedLine}
@@ -50,7 +50,7 @@ pub record AskedSweep : Type 0 where
   pub restart : Bool
 
 -- a line of the course is a `verify` that names the drawer and the file
-abbrev pub asked_by : Course → List ℕ → Kind → Option AskedSweep
+abbrev pub asked_by : Course → List ℕ → RunKind → Option AskedSweep
 asked_by course line (OfSweep prov file count restart) =
     if bytes_eq (bytes_at line prov) course.name && bytes_eq (bytes_at line file) course.file then Some (record { count = count; restart = restart }) else None
 asked_by course line kind = None

@@ -25,9 +25,9 @@ impl CountingDisk {
 }
 
 impl Disk for CountingDisk {
-    ghost use Rattle.crash_disk.specs.MemDisk.{disk_of};
+    ghost use Rattle.crash_disk.specs.MemDisk.{mem_disk_of};
 
-    ghost state = { λ counting. disk_of counting.disk };
+    ghost state = { λ counting. mem_disk_of counting.disk };
 
     fn sectors(&self) -> u64 {
         self.disk.sectors()

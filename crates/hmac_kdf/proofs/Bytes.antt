@@ -11,7 +11,7 @@ use Rattle.sha2.proofs.Facts256.{length-sha256}
 use Rattle.sha2.proofs.Facts512.{length-sha384, length-sha512}
 use Rattle.hmac_kdf.specs.Bytes.{AreSoManyBytes}
 use Rattle.hmac_kdf.specs.Hmac.{hmac256, hmac384, hmac512}
-use Rattle.hmac_kdf.specs.Pbkdf2.{xor, iterate, sum_of_iterates, pbkdf2}
+use Rattle.hmac_kdf.specs.Pbkdf2.{xor_lists, iterate, sum_of_iterates, pbkdf2}
 
 -- each number of the list is a byte
 abbrev pub AreSmall : List ℕ → Type 0
@@ -85,7 +85,7 @@ AreSoManyBytes-hmac512 key m = AreSoManyBytes-sha512 _
 
 -- ---- what PBKDF2 derives
 
-AreSoManyBytes-xor : (n : ℕ) (xs ys : List ℕ) → AreSoManyBytes n xs → AreSoManyBytes n ys → AreSoManyBytes n (xor xs ys)
+AreSoManyBytes-xor : (n : ℕ) (xs ys : List ℕ) → AreSoManyBytes n xs → AreSoManyBytes n ys → AreSoManyBytes n (xor_lists xs ys)
 AreSoManyBytes-xor n xs ys hx hy =
     let lx = hx.long in
     let ly = hy.long in
@@ -97,7 +97,7 @@ AreSoManyBytes-xor n xs ys hx hy =
             let e = get_or-zip2 bit_xor xs ys k 0 0 0 (omega arith) (omega arith) in
             let both = xor_of_8 (get_or xs k 0) (get_or ys k 0) (hx.small k) (hy.small k) in
             omega (arith, e, both)
-        | inr ge ↦ let none : get_or (xor xs ys) k 0 ≡ 0 = get_or_past (xor xs ys) k 0 (omega arith) in omega (arith, none)
+        | inr ge ↦ let none : get_or (xor_lists xs ys) k 0 ≡ 0 = get_or_past (xor_lists xs ys) k 0 (omega arith) in omega (arith, none)
       ];
     }
 

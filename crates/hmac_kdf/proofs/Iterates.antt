@@ -1,7 +1,7 @@
 -- The iterates of PBKDF2 and their sum, one more at a time.
 use Rattle.std.proofs.Common.{◌≡◌, ℕ, suc, List, ◌++◌, ap, ◌∙◌}
 use Rattle.hmac_kdf.specs.Hmac.{hmac512}
-use Rattle.hmac_kdf.specs.Pbkdf2.{xor, block_number, iterate, sum_of_iterates}
+use Rattle.hmac_kdf.specs.Pbkdf2.{xor_lists, block_number, iterate, sum_of_iterates}
 
 pub first_iterate : (p s u : List ℕ) → u ≡ hmac512 p (s ++ block_number) → u ≡ iterate p s 0
 unfolding iterate
@@ -15,6 +15,6 @@ pub first_sum : (p s u : List ℕ) → u ≡ iterate p s 0 → u ≡ sum_of_iter
 unfolding sum_of_iterates
 first_sum p s u e = e
 
-pub next_sum : (p s o r v : List ℕ) (n : ℕ) → o ≡ sum_of_iterates p s n → v ≡ iterate p s (suc n) → r ≡ xor o v → r ≡ sum_of_iterates p s (suc n)
+pub next_sum : (p s o r v : List ℕ) (n : ℕ) → o ≡ sum_of_iterates p s n → v ≡ iterate p s (suc n) → r ≡ xor_lists o v → r ≡ sum_of_iterates p s (suc n)
 unfolding sum_of_iterates
-next_sum p s o r v n eo ev er = er ∙ (λ i. xor (eo i) (ev i))
+next_sum p s o r v n eo ev er = er ∙ (λ i. xor_lists (eo i) (ev i))

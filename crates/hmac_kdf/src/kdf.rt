@@ -3,7 +3,7 @@
 ghost use Rattle.std.specs.Prelude.{◌≡◌, ℕ, List, [], ◌≤◌, ◌++◌};
 ghost use Rattle.hmac_kdf.specs.Hmac.{hmac512};
 ghost use Rattle.hmac_kdf.specs.Hashers.{HoldsUnder512};
-ghost use Rattle.hmac_kdf.specs.Pbkdf2.{xor, block_number, pbkdf2};
+ghost use Rattle.hmac_kdf.specs.Pbkdf2.{xor_lists, block_number, pbkdf2};
 
 use crate::mac512::Hmac512;
 
@@ -41,7 +41,7 @@ fn next_iterate(keyed: &Hmac512, iterate: &[u8; 64]) -> [u8; 64]
 
 // The two blocks added bit by bit.
 fn xored(a: &[u8; 64], b: &[u8; 64]) -> [u8; 64]
-    ensures { result ≡ xor a.now b.now }
+    ensures { result ≡ xor_lists a.now b.now }
 {
     let mut sum = [0u8; 64];
     for i in 0..64 {

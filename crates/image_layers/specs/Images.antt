@@ -46,10 +46,10 @@ file_led_to (Some id) = id ∷ []
 
 module _ {F : Type 0} {g : Ghosts (FileDisk F)} where
   -- what the disk of an image tells of itself
-  abbrev pub state_of : ImageDisk F g → DiskState
-  state_of (Plain disk) = g.state disk
-  state_of (Behind behind) = write_behind.disk_of g.state behind
-  state_of (Join both) = concat.disk_of both
+  abbrev pub image_disk_state : ImageDisk F g → DiskState
+  image_disk_state (Plain disk) = g.state disk
+  image_disk_state (Behind behind) = write_behind.behind_disk_of g.state behind
+  image_disk_state (Join both) = concat.concat_disk_of both
 
   -- a disk for which 256 writes may wait, and none does; no call below was refused
   abbrev pub WaitsFor : FileDisk F → ImageDisk F g → Type 0

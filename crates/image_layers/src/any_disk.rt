@@ -1,5 +1,5 @@
 //! A disk of any kind is a disk.
-ghost use Rattle.image_layers.specs.Images.{state_of};
+ghost use Rattle.image_layers.specs.Images.{image_disk_state};
 
 use crate::ImageDisk;
 use block_traits::{Disk, DiskFailed, Event, Sector};
@@ -7,7 +7,7 @@ use file_edge::ImageFile;
 
 /// The disk of an image is the disk in it.
 impl<F: ImageFile + Drop> Disk for ImageDisk<F> {
-    ghost state = { λ d. state_of d };
+    ghost state = { λ d. image_disk_state d };
 
     fn sectors(&self) -> u64 {
         match self {

@@ -12,7 +12,7 @@ use Rattle.geli_core.proofs.Drawn.{same_some}
 use Rattle.geli_core.specs.Images.{OutsideState, RunsOver, idle_drawers}
 use Rattle.geli_core.specs.Survivors.{EnduresCrashes}
 use Rattle.geli_core.specs.declared.status.Status.{Status}
-use Rattle.image_layers.specs.Images.{TellsImage, state_of}
+use Rattle.image_layers.specs.Images.{TellsImage, image_disk_state}
 use Rattle.image_layers.specs.declared.image_disks.ImageDisk.{ImageDisk}
 use Rattle.image_layers.specs.declared.image_disks.ImageDisk.TheVariants.{Plain, Behind, Join}
 use Rattle.image_run.specs.Surviving.{IfFileTells, SurvivesInFile}
@@ -31,11 +31,11 @@ module _ {F : Type 0} {g : Ghosts (FileDisk F)} (told : F → Option Told) where
     pub disk : ImageDisk F g
     pub named : slice_get names place ≡ Some drawer.name
     pub opened : slice_get disks place ≡ Some disk
-    pub state : state_of disk ≡ drawer.disk
+    pub state : image_disk_state disk ≡ drawer.disk
     pub telling : TellsImage told disk
 
   is_of : (names : List (List ℕ)) (disks : List (ImageDisk F g)) (drawer : DrawerState) (place : ℕ) → All (TellsImage told) disks
-      → slice_get (idle_drawers names (map state_of disks)) place ≡ Some drawer → IsOf names disks drawer
+      → slice_get (idle_drawers names (map image_disk_state disks)) place ≡ Some drawer → IsOf names disks drawer
   is_of [] disks drawer place tell found = absurd (cc found)
   is_of (name ∷ names) [] drawer place tell found = absurd (cc found)
   is_of (name ∷ names) (disk ∷ disks) drawer zero tell found =
@@ -52,8 +52,8 @@ module _ {F : Type 0} {g : Ghosts (FileDisk F)} (told : F → Option Told) where
       let r = is_of names disks drawer place (λ i d inside. tell (suc i) d (omega (arith, inside))) found in
       record { place = suc r.place; disk = r.disk; named = r.named; opened = r.opened; state = r.state; telling = r.telling }
 
-  in_file : (same : (d : FileDisk F) → (g.state d).content ≡ (file.state_of told d).content) (disk : ImageDisk F g) (now : Option Content) (steps : List Step) → TellsImage told disk
-      → now ≡ option_map (after steps) (state_of disk).content → IfSome (state_of disk).content (EnduresCrashes steps) → IfFileTells told disk (λ c. (now ≡ Some (after steps c)) × EnduresCrashes steps c)
+  in_file : (same : (d : FileDisk F) → (g.state d).content ≡ (file.file_disk_state told d).content) (disk : ImageDisk F g) (now : Option Content) (steps : List Step) → TellsImage told disk
+      → now ≡ option_map (after steps) (image_disk_state disk).content → IfSome (image_disk_state disk).content (EnduresCrashes steps) → IfFileTells told disk (λ c. (now ≡ Some (after steps c)) × EnduresCrashes steps c)
   in_file same (Plain disk) now steps tells grew endures =
       let P : Option Content → Type 0 = λ k. IfSome k (λ c. (now ≡ Some (after steps c)) × EnduresCrashes steps c) in
       subst P (same disk ∙ tells) (grown (g.state disk).content now steps grew endures)
@@ -61,8 +61,8 @@ module _ {F : Type 0} {g : Ghosts (FileDisk F)} (told : F → Option Told) where
   in_file same (Join both) now steps tells grew endures = tt
 
   -- each drawer that a run left
-  pub survives_in_file : (same : (d : FileDisk F) → (g.state d).content ≡ (file.state_of told d).content) (words names : List (List ℕ)) (disks : List (ImageDisk F g)) (old : OutsideState) (status : Status)
-      (left : List DrawerState) (new : OutsideState) (run : RunsOver words names (map state_of disks) old status left new) → All (TellsImage told) disks → (drawer : DrawerState) (among : IsAmong left drawer)
+  pub survives_in_file : (same : (d : FileDisk F) → (g.state d).content ≡ (file.file_disk_state told d).content) (words names : List (List ℕ)) (disks : List (ImageDisk F g)) (old : OutsideState) (status : Status)
+      (left : List DrawerState) (new : OutsideState) (run : RunsOver words names (map image_disk_state disks) old status left new) → All (TellsImage told) disks → (drawer : DrawerState) (among : IsAmong left drawer)
       → SurvivesInFile told names disks drawer (run.lawful.exit drawer among).play.steps
   survives_in_file same words names disks old status left new run tell drawer among =
       let survives = run.lawful.exit drawer among in

@@ -25,7 +25,7 @@ use Rattle.geli_core.specs.Images.{RunsOver, outside_of}
 use Rattle.geli_core.specs.declared.status.Status.{Status}
 use Rattle.geli_core.specs.declared.words.Words.{Words}
 use Rattle.geli_core.specs.declared.words.Words.TheVariants.{Script, One, Usage}
-use Rattle.image_layers.specs.Images.{AsksFirst, OpensImages, TellsImage, opening, state_of}
+use Rattle.image_layers.specs.Images.{AsksFirst, OpensImages, TellsImage, opening, image_disk_state}
 use Rattle.image_layers.specs.declared.image_disks.ImageDisk.{ImageDisk}
 use Rattle.image_run.specs.Surviving.{SurvivesInFile}
 
@@ -103,7 +103,7 @@ module _ {O F : Type 0} (g : Ghosts (FileDisk F)) (leads : O → List ℕ → Re
       pub opens : OpensAll leads answers tells locks ends log_of words disks files random opener opened
       pub telling : All (TellsImage told) disks
       pub entropy : EntropyState
-      pub runs : RunsOver words (image_names words) (map state_of disks) (outside_of new_cabinet new_entropy source sink) status left (outside_of cabinet entropy source_after sink_after)
+      pub runs : RunsOver words (image_names words) (map image_disk_state disks) (outside_of new_cabinet new_entropy source sink) status left (outside_of cabinet entropy source_after sink_after)
       pub survives : (drawer : DrawerState) (among : IsAmong left drawer) → SurvivesInFile told (image_names words) disks drawer (runs.lawful.exit drawer among).play.steps
 
     -- they were, and these drawers and this cabinet were left

@@ -18,14 +18,14 @@ pub KeepsFiles-then : {old middle new : CabinetState} → KeepsFiles old middle 
 KeepsFiles-then first second =
     record { files = second.files ∙ first.files; faults = omega (arith, first.faults, second.faults); misses = omega (arith, first.misses, second.misses) }
 
-pub MayRefuse-earlier : (named : ℕ) (old middle new : CabinetState) (refusal : Refusal) → KeepsFiles old middle → MayRefuse named middle new refusal → MayRefuse named old new refusal
+MayRefuse-earlier : (named : ℕ) (old middle new : CabinetState) (refusal : Refusal) → KeepsFiles old middle → MayRefuse named middle new refusal → MayRefuse named old new refusal
 MayRefuse-earlier named old middle new (CabinetFault word) keeps may = Rose-earlier old.faults middle.faults new.faults keeps.faults may
 MayRefuse-earlier named old middle new (FileAbsent word) keeps may = Rose-earlier old.misses middle.misses new.misses keeps.misses may
 MayRefuse-earlier named old middle new (FileTooLong word limit) keeps may = (may.0, Rose-earlier old.misses middle.misses new.misses keeps.misses may.1)
 MayRefuse-earlier named old middle new NoMemory keeps may = tt
 MayRefuse-earlier named old middle new refusal keeps may = may
 
-pub MayRefusePassphrase-earlier : (old middle new : CabinetState) (refusal : Refusal) → KeepsFiles old middle → MayRefusePassphrase middle new refusal → MayRefusePassphrase old new refusal
+MayRefusePassphrase-earlier : (old middle new : CabinetState) (refusal : Refusal) → KeepsFiles old middle → MayRefusePassphrase middle new refusal → MayRefusePassphrase old new refusal
 MayRefusePassphrase-earlier old middle new (FileTooLong word limit) keeps (inl may) = inl (MayRefuse-earlier file_limit old middle new (FileTooLong word limit) keeps may)
 MayRefusePassphrase-earlier old middle new (FileTooLong word limit) keeps (inr own) = inr own
 MayRefusePassphrase-earlier old middle new refusal keeps may = MayRefuse-earlier file_limit old middle new refusal keeps may

@@ -16,7 +16,7 @@ option_or-assoc : (a b c : Option Refusal) → option_or (option_or a b) c ≡ o
 option_or-assoc None b c = refl
 option_or-assoc (Some r) b c = refl
 
-pub first_fault-append : (taking : Taking) (files : Files) (line : List ℕ) (used : ℕ) (spans more : List Span)
+first_fault-append : (taking : Taking) (files : Files) (line : List ℕ) (used : ℕ) (spans more : List Span)
     → first_fault taking files line used (spans ++ more)
     ≡ option_or (first_fault taking files line used spans) (first_fault taking files line (used + length (joined_files taking files line spans)) more)
 first_fault-append taking files line used [] more = ap (λ n. first_fault taking files line n more) (omega arith)
@@ -52,7 +52,7 @@ next_fault taking files line spans bytes span behind taken =
     ∙ ap (λ f. option_or f (first_fault taking files line (0 + length (joined_files taking files line spans)) (span ∷ behind))) taken.fault
     ∙ ap (λ n. first_fault taking files line n (span ∷ behind)) used
 
-pub Taken-more : (taking : Taking) (files : Files) (line : List ℕ) (spans : List Span) (bytes : List ℕ) (span : Span) (piece : List ℕ)
+Taken-more : (taking : Taking) (files : Files) (line : List ℕ) (spans : List Span) (bytes : List ℕ) (span : Span) (piece : List ℕ)
     → Taken taking files line spans bytes
     → taking.fault span.word (length bytes) (files (bytes_at line span)) ≡ None
     → piece ≡ taking.piece (named_bytes files line span)
@@ -63,7 +63,7 @@ Taken-more taking files line spans bytes span piece taken good is = record {
 }
 
 -- a value is answered only where nothing is refused
-pub unless_refused-ok : {T : Type 0} (fault : Option Refusal) (value got : T) → Ok got ≡ unless_refused fault value → (fault ≡ None) × (got ≡ value)
+unless_refused-ok : {T : Type 0} (fault : Option Refusal) (value got : T) → Ok got ≡ unless_refused fault value → (fault ≡ None) × (got ≡ value)
 unless_refused-ok None value got is = (refl, cc)
 unless_refused-ok (Some refusal) value got is = cc
 
@@ -71,7 +71,7 @@ unless_refused-err : {T : Type 0} (fault : Option Refusal) (value : T) (refusal 
 unless_refused-err None value refusal is = cc
 unless_refused-err (Some other) value refusal is = cc
 
-pub IsRefusal-weaker : {T U : Type 0} (answer : Result T Refusal) (other : Result U Refusal) (refusal : Refusal) → (Err refusal ≡ answer → Err refusal ≡ other) → IsRefusal answer refusal → IsRefusal other refusal
+IsRefusal-weaker : {T U : Type 0} (answer : Result T Refusal) (other : Result U Refusal) (refusal : Refusal) → (Err refusal ≡ answer → Err refusal ≡ other) → IsRefusal answer refusal → IsRefusal other refusal
 IsRefusal-weaker answer other (CabinetFault word) same is = tt
 IsRefusal-weaker answer other NoMemory same is = tt
 IsRefusal-weaker answer other refusal same is = same is
@@ -85,7 +85,7 @@ abbrev pub PieceIs : Taking → Option Files → List ℕ → ℕ → Span → R
 PieceIs taking told line used span result =
     IfSome told (λ files. IsAnswer (unless_refused (taking.fault span.word used (files (bytes_at line span))) (taking.piece (named_bytes files line span))) result)
 
-pub TakenSo-more : (taking : Taking) (told : Option Files) (line : List ℕ) (spans : List Span) (bytes : List ℕ) (span : Span) (piece : List ℕ)
+TakenSo-more : (taking : Taking) (told : Option Files) (line : List ℕ) (spans : List Span) (bytes : List ℕ) (span : Span) (piece : List ℕ)
     → TakenSo taking told line spans bytes → PieceIs taking told line (length bytes) span (Ok piece)
     → TakenSo taking told line (spans ++ span ∷ []) (bytes ++ piece)
 TakenSo-more taking None line spans bytes span piece taken is = tt
@@ -98,7 +98,7 @@ abbrev pub PartIs : Taking → Option Files → List ℕ → List Span → Resul
 PartIs taking told line spans result =
     IfSome told (λ files. IsAnswer (unless_refused (first_fault taking files line 0 spans) (joined_files taking files line spans)) result)
 
-pub PartIs-refused : (taking : Taking) (told : Option Files) (line : List ℕ) (spans : List Span) (bytes : List ℕ) (span : Span) (behind : List Span) (refusal : Refusal)
+PartIs-refused : (taking : Taking) (told : Option Files) (line : List ℕ) (spans : List Span) (bytes : List ℕ) (span : Span) (behind : List Span) (refusal : Refusal)
     → TakenSo taking told line spans bytes → PieceIs taking told line (length bytes) span (Err refusal)
     → PartIs taking told line (spans ++ span ∷ behind) (Err refusal)
 PartIs-refused taking None line spans bytes span behind refusal taken is = tt
@@ -123,7 +123,7 @@ at_word taking told line spans bytes span behind None taken named = tt
 at_word taking told line spans bytes span behind (Some w) taken named =
     record { before = spans; span = span; behind = behind; place = refl; named = named; served = served taking told line spans bytes taken }
 
-pub IsAt-refused : (taking : Taking) (told : Option Files) (line : List ℕ) (spans : List Span) (bytes : List ℕ) (span : Span) (behind : List Span) (refusal : Refusal)
+IsAt-refused : (taking : Taking) (told : Option Files) (line : List ℕ) (spans : List Span) (bytes : List ℕ) (span : Span) (behind : List Span) (refusal : Refusal)
     → TakenSo taking told line spans bytes → IfSome (refused_word refusal) (λ w. span.word ≡ w)
     → IfSome (refused_word refusal) (IsAt taking told line (spans ++ span ∷ behind))
 IsAt-refused taking told line spans bytes span behind refusal taken named = at_word taking told line spans bytes span behind (refused_word refusal) taken named

@@ -24,7 +24,7 @@ tested true r fault x h = refl
 tested false r fault x h = absurd cc
 
 -- the metadata have the size of the disk in bytes
-pub size_is : (m : Metadata) (sectors : ℕ) → size_matches m sectors ≡ Ok tt → m.provsize ≡ 512 * sectors
+size_is : (m : Metadata) (sectors : ℕ) → size_matches m sectors ≡ Ok tt → m.provsize ≡ 512 * sectors
 size_is m sectors h = eqb-true m.provsize (512 * sectors) (tested (m.provsize == 512 * sectors) _ _ _ h)
 
 -- what is known of a disk that is attached by metadata that were checked

@@ -11,9 +11,9 @@ use Rattle.eli_base.specs.declared.algorithms.Auth.TheVariants.{Off}
 use Rattle.eli_base.specs.Keying.{Keying}
 use Rattle.eli_base.specs.Units.{media_sectors, unit_bytes_of}
 use Rattle.eli_base.proofs.Units.{units_reach}
-use Rattle.sealing.specs.Pieces.{opened_piece, sealed_piece}
+use Rattle.sealing.specs.TaggedUnits.{opened_tagged, sealed_tagged}
 use Rattle.sealing.specs.Sectors.{device_sectors, joined, reading, seal, unit_readings, units}
-use Rattle.sealing.proofs.Pieces.{length-unit_readings-tagged, sealed_unit-tagged, unit_reading-tagged}
+use Rattle.sealing.proofs.TaggedUnitLaws.{length-unit_readings-tagged, sealed_unit-tagged, unit_reading-tagged}
 use Rattle.sealing.proofs.Sectors.{length-seal}
 use Rattle.provider.proofs.Cuts.{parts-put}
 use Rattle.provider.proofs.Sealed.{number_at}
@@ -72,7 +72,7 @@ stands_at k auth size width j end low whole same wide long lt e =
 
 -- the unit that is sealed next
 pub sealed_next : (k now : Keying) (sector j n start end width : ℕ) (plain out piece : List ℕ) → k.auth ≢ Off → now ≡ k → length plain ≡ k.sectorsize → length out ≡ 512 * units k → j < units k
-    → n ≡ sector * units k + j → IsUnit k.auth k.sectorsize j start end → piece ≡ sealed_piece now (512 * n) (take (end - start) (drop start plain)) → length piece ≡ 512
+    → n ≡ sector * units k + j → IsUnit k.auth k.sectorsize j start end → piece ≡ sealed_tagged now (512 * n) (take (end - start) (drop start plain)) → length piece ≡ 512
     → parts 512 j out ≡ take j (seal k sector plain) → parts 512 (j + 1) (put_mid (512 * j) width out piece) ≡ take (j + 1) (seal k sector plain)
 sealed_next k now sector j n start end width plain out piece on same size long lt at unit is len so =
     let d : ℕ = unit_bytes_of k.auth in
@@ -82,7 +82,7 @@ sealed_next k now sector j n start end width plain out piece on same size long l
     ∙ ap (λ (m : ℕ). take (min d m) (drop (d * j) plain)) (length-drop (d * j) plain ∙ ap (λ (m : ℕ). m - d * j) size)
     ∙ (λ i. take (sym unit.bytes i) (drop (sym unit.starts i) plain)) in
     let here : get_or (seal k sector plain) j [] ≡ piece =
-    sealed_unit-tagged k sector j plain on lt ∙ (λ i. sealed_piece (sym same i) (offset i) (cut i)) ∙ sym is in
+    sealed_unit-tagged k sector j plain on lt ∙ (λ i. sealed_tagged (sym same i) (offset i) (cut i)) ∙ sym is in
     parts-put j width out piece len (omega arith)
     ∙ (λ i. so i ++ sym here i ∷ [])
     ∙ sym (ap (λ (m : ℕ). take m (seal k sector plain)) (add-one j) ∙ take-suc (seal k sector plain) j [] (rw (length-seal k sector plain) lt))
@@ -94,35 +94,35 @@ sealed_all k sector j plain out all so =
 
 -- what the unit that is opened next reads as
 unit_here : (k now : Keying) (sector j n start end : ℕ) (device piece : List ℕ) (answer : Result (List ℕ) ℕ) → k.auth ≢ Off → now ≡ k → j < units k → n ≡ sector * units k + j
-    → IsUnit k.auth k.sectorsize j start end → piece ≡ take 512 (drop (512 * j) device) → opened_piece now (512 * n) (end - start) piece ≡ answer
+    → IsUnit k.auth k.sectorsize j start end → piece ≡ take 512 (drop (512 * j) device) → opened_tagged now (512 * n) (end - start) piece ≡ answer
     → get_or (unit_readings k sector (device_sectors k device)) j (Ok []) ≡ answer
 unit_here k now sector j n start end device piece answer on same lt at unit is opened =
     let offset : 512 * (sector * units k) + 512 * j ≡ 512 * n = omega arith in
     unit_reading-tagged k sector j (device_sectors k device) on (rw (length-parts 512 (units k) device) lt)
-    ∙ (λ i. opened_piece (sym same i) (offset i) (sym unit.bytes i) ((get_or-parts 512 (units k) j device lt ∙ sym is) i))
+    ∙ (λ i. opened_tagged (sym same i) (offset i) (sym unit.bytes i) ((get_or-parts 512 (units k) j device lt ∙ sym is) i))
     ∙ opened
 
 pub opened_next : (k now : Keying) (sector j n size start end : ℕ) (device out piece sector_bytes : List ℕ) → k.auth ≢ Off → now ≡ k → j < units k → n ≡ sector * units k + j → size ≡ end - start
     → IsUnit k.auth k.sectorsize j start end → length out ≡ k.sectorsize → length piece ≡ end - start → sector_bytes ≡ take 512 (drop (512 * j) device)
-    → joined (take j (unit_readings k sector (device_sectors k device))) ≡ Ok (take start out) → opened_piece now (512 * n) size sector_bytes ≡ Ok piece
+    → joined (take j (unit_readings k sector (device_sectors k device))) ≡ Ok (take start out) → opened_tagged now (512 * n) size sector_bytes ≡ Ok piece
     → joined (take (j + 1) (unit_readings k sector (device_sectors k device))) ≡ Ok (take end (put_mid start (end - start) out piece))
 opened_next k now sector j n size start end device out piece sector_bytes on same lt at count unit long len is so opened =
     let readings = unit_readings k sector (device_sectors k device) in
     let all : length readings ≡ units k = length-unit_readings-tagged k sector (device_sectors k device) on ∙ length-parts 512 (units k) device in
     let order = unit.order in
     let within = unit.within in
-    let there : opened_piece now (512 * n) (end - start) sector_bytes ≡ Ok piece = ap (λ (m : ℕ). opened_piece now (512 * n) m sector_bytes) (sym count) ∙ opened in
+    let there : opened_tagged now (512 * n) (end - start) sector_bytes ≡ Ok piece = ap (λ (m : ℕ). opened_tagged now (512 * n) m sector_bytes) (sym count) ∙ opened in
     joined-next readings j start end out piece (omega (arith, all)) so
     (unit_here k now sector j n start end device sector_bytes (Ok piece) on same lt at unit is there) (omega arith) (omega arith)
 
 pub opened_fault : (k now : Keying) (sector j n size start end : ℕ) (device out sector_bytes : List ℕ) → k.auth ≢ Off → now ≡ k → j < units k → n ≡ sector * units k + j → size ≡ end - start
     → IsUnit k.auth k.sectorsize j start end → sector_bytes ≡ take 512 (drop (512 * j) device)
-    → joined (take j (unit_readings k sector (device_sectors k device))) ≡ Ok (take start out) → opened_piece now (512 * n) size sector_bytes ≡ Err (512 * n)
+    → joined (take j (unit_readings k sector (device_sectors k device))) ≡ Ok (take start out) → opened_tagged now (512 * n) size sector_bytes ≡ Err (512 * n)
     → reading k sector (device_sectors k device) ≡ Err (512 * n)
 opened_fault k now sector j n size start end device out sector_bytes on same lt at count unit is so opened =
     let readings = unit_readings k sector (device_sectors k device) in
     let all : length readings ≡ units k = length-unit_readings-tagged k sector (device_sectors k device) on ∙ length-parts 512 (units k) device in
-    let there : opened_piece now (512 * n) (end - start) sector_bytes ≡ Err (512 * n) = ap (λ (m : ℕ). opened_piece now (512 * n) m sector_bytes) (sym count) ∙ opened in
+    let there : opened_tagged now (512 * n) (end - start) sector_bytes ≡ Err (512 * n) = ap (λ (m : ℕ). opened_tagged now (512 * n) m sector_bytes) (sym count) ∙ opened in
     joined-fault readings j (take start out) (512 * n) (omega (arith, all)) so
     (unit_here k now sector j n start end device sector_bytes (Err (512 * n)) on same lt at unit is there)
 

@@ -11,7 +11,7 @@ use Rattle.provider.specs.Reading.{standing, StandFrom, sector_reading, sector_r
 use Rattle.provider.proofs.Cuts.{parts-put}
 
 -- one device sector more
-pub standing-suc : (c : Content) (n count : ℕ) → standing c n (suc count) ≡ standing c n count ++ present c (n + count) ∷ []
+standing-suc : (c : Content) (n count : ℕ) → standing c n (suc count) ≡ standing c n count ++ present c (n + count) ∷ []
 standing-suc c n zero = ap (λ (m : ℕ). present c m ∷ []) (sym (add-zero n))
 standing-suc c n (suc count) =
     let at : n + 1 + count ≡ n + suc count = omega arith in

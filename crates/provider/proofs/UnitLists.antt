@@ -1,4 +1,4 @@
--- Logical sectors with authentication, piece by piece.
+-- Logical sectors with authentication, unit by unit.
 use Rattle.std.proofs.Common.{◌≡◌, ◌≢◌, ℕ, zero, suc, ◌+◌, ◌-◌, ◌*◌, ◌%◌, ◌<◌, ◌≤◌, min, List, [], ◌∷◌, ◌++◌, length, get_or, take, drop, Option, Some, None, IfSome, Result, Ok, Err, IsOk, OnErr, map, subst, refl, sym, ap, ◌∙◌, arith, add-one}
 use Rattle.std.specs.List.{concat}
 use Rattle.std.proofs.Math.Seq.{take-suc, drop-cons}
@@ -16,12 +16,12 @@ use Rattle.eli_base.specs.declared.algorithms.Auth.TheVariants.{Off, Sha256, Sha
 use Rattle.eli_base.specs.Keying.{Keying}
 use Rattle.eli_base.specs.Units.{unit_bytes_of, units_per_sector}
 use Rattle.eli_base.proofs.Units.{units_reach}
-use Rattle.sealing.specs.Pieces.{opened_piece}
+use Rattle.sealing.specs.TaggedUnits.{opened_tagged}
 use Rattle.sealing.specs.Runs.{opened_run}
 use Rattle.sealing.specs.Sectors.{before, joined, opened_with, units}
-use Rattle.sealing.proofs.Pieces.{unit_reading-tagged, length-unit_readings-tagged}
+use Rattle.sealing.proofs.TaggedUnitLaws.{unit_reading-tagged, length-unit_readings-tagged}
 use Rattle.provider.specs.Reading.{standing, sector_reading, units_read}
-use Rattle.provider.specs.Reads.{AreAccepted, PieceAnswers, SectorAnswers}
+use Rattle.provider.specs.Reads.{AreAccepted, UnitAnswers, SectorAnswers}
 use Rattle.provider.specs.declared.faults.ReadFault.{ReadFault}
 use Rattle.provider.specs.declared.faults.ReadFault.TheVariants.{OutOfRange, DeviceFault, Integrity}
 use Rattle.provider.proofs.Readings.{before-ok, joined-push}
@@ -78,19 +78,19 @@ length-standing : (c : Content) (n count : ℕ) → length (standing c n count) 
 length-standing c n zero = refl
 length-standing c n (suc count) = ap suc (length-standing c (n + 1) count)
 
-pub length-units_read : (k : Keying) (c : Content) (sector : ℕ) → k.auth ≢ Off → length (units_read k c sector) ≡ units k
+length-units_read : (k : Keying) (c : Content) (sector : ℕ) → k.auth ≢ Off → length (units_read k c sector) ≡ units k
 length-units_read k c sector on =
     length-unit_readings-tagged k sector (standing c (sector * units k) (units k)) on ∙ length-standing c (sector * units k) (units k)
 
--- each is that of a piece
-pub unit_now : (k : Keying) (c : Content) (sector j n size : ℕ) → k.auth ≢ Off → j < units k → n ≡ sector * units k + j
-    → size ≡ min (unit_bytes_of k.auth) (k.sectorsize - unit_bytes_of k.auth * j) → get_or (units_read k c sector) j (Ok []) ≡ opened_piece k (512 * n) size (present c n)
+-- each is that of a unit
+unit_now : (k : Keying) (c : Content) (sector j n size : ℕ) → k.auth ≢ Off → j < units k → n ≡ sector * units k + j
+    → size ≡ min (unit_bytes_of k.auth) (k.sectorsize - unit_bytes_of k.auth * j) → get_or (units_read k c sector) j (Ok []) ≡ opened_tagged k (512 * n) size (present c n)
 unit_now k c sector j n size on lt at bytes =
     let offset : 512 * (sector * units k) + 512 * j ≡ 512 * n = omega arith in
     unit_reading-tagged k sector j (standing c (sector * units k) (units k)) on (rw (length-standing c (sector * units k) (units k)) lt)
-    ∙ (λ i. opened_piece k (offset i) (sym bytes i) ((get_or-standing c (sector * units k) (units k) j lt ∙ ap (present c) (sym at)) i))
+    ∙ (λ i. opened_tagged k (offset i) (sym bytes i) ((get_or-standing c (sector * units k) (units k) j lt ∙ ap (present c) (sym at)) i))
 
-pub joined-more : (readings : List (Result (List ℕ) ℕ)) (j : ℕ) (front piece : List ℕ) → j < length readings → joined (take j readings) ≡ Ok front
+joined-more : (readings : List (Result (List ℕ) ℕ)) (j : ℕ) (front piece : List ℕ) → j < length readings → joined (take j readings) ≡ Ok front
     → get_or readings j (Ok []) ≡ Ok piece → joined (take (suc j) readings) ≡ Ok (front ++ piece)
 joined-more readings j front piece lt so here =
     ap joined (take-suc readings j (Ok []) lt) ∙ ap (λ (r : Result (List ℕ) ℕ). joined (take j readings ++ r ∷ [])) here ∙ joined-push (take j readings) front piece so
@@ -119,37 +119,37 @@ joined-next readings j start end block piece lt so here long room =
     ∙ joined-more readings j (take start block) piece lt so here
     ∙ ap Ok (sym (take-put_mid start (end - start) block piece end long room))
 
--- ---- what reading a piece adds to what was read before, where the content is told
+-- ---- what reading a unit adds to what was read before, where the content is told
 
 pub read_next : (told now_told : Option Content) (k now : Keying) (sector j n size start end : ℕ) (block piece : List ℕ) → k.auth ≢ Off → now ≡ k → now_told ≡ told → j < units k
     → n ≡ sector * units k + j → size ≡ end - start → IsUnit k.auth k.sectorsize j start end → length block ≡ k.sectorsize → length piece ≡ end - start
     → IfSome told (λ (c : Content). joined (take j (units_read k c sector)) ≡ Ok (take start block))
-    → IfSome now_told (λ (c : Content). opened_piece now (512 * n) size (present c n) ≡ Ok piece)
+    → IfSome now_told (λ (c : Content). opened_tagged now (512 * n) size (present c n) ≡ Ok piece)
     → IfSome told (λ (c : Content). joined (take (j + 1) (units_read k c sector)) ≡ Ok (take end (put_mid start (end - start) block piece)))
 read_next None now_told k now sector j n size start end block piece on same there lt at count unit long len so gives = tt
 read_next (Some c) now_told k now sector j n size start end block piece on same there lt at count unit long len so gives =
-    let P : Option Content → Type 0 = λ told. IfSome told (λ (c : Content). opened_piece now (512 * n) size (present c n) ≡ Ok piece) in
-    let here : opened_piece now (512 * n) size (present c n) ≡ Ok piece = subst P there gives in
+    let P : Option Content → Type 0 = λ told. IfSome told (λ (c : Content). opened_tagged now (512 * n) size (present c n) ≡ Ok piece) in
+    let here : opened_tagged now (512 * n) size (present c n) ≡ Ok piece = subst P there gives in
     let order = unit.order in
     let within = unit.within in
     joined-next (units_read k c sector) j start end block piece (rw (length-units_read k c sector on) lt) so
-    (unit_now k c sector j n size on lt at (count ∙ unit.bytes) ∙ ap (λ (h : Keying). opened_piece h (512 * n) size (present c n)) (sym same) ∙ here)
+    (unit_now k c sector j n size on lt at (count ∙ unit.bytes) ∙ ap (λ (h : Keying). opened_tagged h (512 * n) size (present c n)) (sym same) ∙ here)
     (omega arith) (omega arith)
 
 read_faulty : (told now_told : Option Content) (k now : Keying) (sector j n size start end offset : ℕ) (block : List ℕ) → k.auth ≢ Off → now ≡ k → now_told ≡ told → j < units k
     → n ≡ sector * units k + j → size ≡ end - start → IsUnit k.auth k.sectorsize j start end
     → IfSome told (λ (c : Content). joined (take j (units_read k c sector)) ≡ Ok (take start block))
-    → IfSome now_told (λ (c : Content). opened_piece now (512 * n) size (present c n) ≡ Err offset)
+    → IfSome now_told (λ (c : Content). opened_tagged now (512 * n) size (present c n) ≡ Err offset)
     → IfSome told (λ (c : Content). sector_reading k c sector ≡ Err offset)
 read_faulty None now_told k now sector j n size start end offset block on same there lt at count unit so gives = tt
 read_faulty (Some c) now_told k now sector j n size start end offset block on same there lt at count unit so gives =
-    let P : Option Content → Type 0 = λ told. IfSome told (λ (c : Content). opened_piece now (512 * n) size (present c n) ≡ Err offset) in
-    let here : opened_piece now (512 * n) size (present c n) ≡ Err offset = subst P there gives in
+    let P : Option Content → Type 0 = λ told. IfSome told (λ (c : Content). opened_tagged now (512 * n) size (present c n) ≡ Err offset) in
+    let here : opened_tagged now (512 * n) size (present c n) ≡ Err offset = subst P there gives in
     joined-fault (units_read k c sector) j (take start block) offset (rw (length-units_read k c sector on) lt) so
-    (unit_now k c sector j n size on lt at (count ∙ unit.bytes) ∙ ap (λ (h : Keying). opened_piece h (512 * n) size (present c n)) (sym same) ∙ here)
+    (unit_now k c sector j n size on lt at (count ∙ unit.bytes) ∙ ap (λ (h : Keying). opened_tagged h (512 * n) size (present c n)) (sym same) ∙ here)
 
 -- units that were joined are accepted
-pub accepted_so : (told : Option Content) (k : Keying) (sector j : ℕ) (front : List ℕ) → IfSome told (λ (c : Content). joined (take j (units_read k c sector)) ≡ Ok front)
+accepted_so : (told : Option Content) (k : Keying) (sector j : ℕ) (front : List ℕ) → IfSome told (λ (c : Content). joined (take j (units_read k c sector)) ≡ Ok front)
     → IfSome told (λ (c : Content). AreAccepted k c sector j)
 accepted_so None k sector j front so = tt
 accepted_so (Some c) k sector j front so = let P : Result (List ℕ) ℕ → Type 0 = λ r. IsOk r in subst P (sym so) refl
@@ -174,7 +174,7 @@ accepted-off (Some c) k sector unit off =
 pub fault_next : (fault : ReadFault) (first middle last : DiskState) (k now : Keying) (sector j n size start end : ℕ) (block piece bytes : List ℕ) → k.auth ≢ Off → now ≡ k → Counted j first.reads middle.reads → Logs [] first middle
     → j < units k → n ≡ sector * units k + j → size ≡ end - start → IsUnit k.auth k.sectorsize j start end
     → IfSome first.content (λ (c : Content). joined (take j (units_read k c sector)) ≡ Ok (take start block))
-    → PieceAnswers now n size middle last piece (Err fault) → SectorAnswers k sector first last bytes (Err fault)
+    → UnitAnswers now n size middle last piece (Err fault) → SectorAnswers k sector first last bytes (Err fault)
 fault_next (OutOfRange a b m) first middle last k now sector j n size start end block piece bytes on same asked logs lt at count unit so gives = absurd gives
 fault_next DeviceFault first middle last k now sector j n size start end block piece bytes on same asked logs lt at count unit so gives = record {
   unit = j;

@@ -4,7 +4,7 @@ use Rattle.block_traits.specs.Content.{Content, present}
 use Rattle.block_traits.specs.Disk.{DiskState}
 use Rattle.eli_base.specs.Keying.{Keying}
 use Rattle.eli_base.specs.Units.{unit_bytes_of}
-use Rattle.sealing.specs.Sectors.{joined, piece_reading, reading, unit_readings, units}
+use Rattle.sealing.specs.Sectors.{joined, unit_reading_at, reading, unit_readings, units}
 
 -- so many device sectors from number n on, as they stand now
 abbrev pub standing : Content → ℕ → ℕ → List (List ℕ)
@@ -44,7 +44,7 @@ ReadsAs d k sector count answer = ReadsFrom d.content k sector count answer
 -- which of these device sectors are accepted, each as the unit that stands there; the first is the one of number n
 abbrev pub units_accepted : Keying → ℕ → List (List ℕ) → List Bool
 units_accepted k n [] = []
-units_accepted k n (sector ∷ sectors) = is_ok (piece_reading k n sector) ∷ units_accepted k (n + 1) sectors
+units_accepted k n (sector ∷ sectors) = is_ok (unit_reading_at k n sector) ∷ units_accepted k (n + 1) sectors
 
 -- four device sectors, the first of number n, have whole units of one logical sector
 abbrev pub HasWholeFour : Keying → ℕ → Type 0

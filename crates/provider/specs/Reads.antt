@@ -1,4 +1,4 @@
--- What reading a piece, a logical sector, or some of them came to, each answer with its cause. Units are read in
+-- What reading a unit, a logical sector, or some of them came to, each answer with its cause. Units are read in
 -- order, and each is looked at before the next one is read: so a fault is that of the first unit that has one, and
 -- where a call of the disk failed, every unit before the one that was to be read was accepted. A read leaves no
 -- event, but the disk counts it: the unit with a fault, and the one whose read failed, is that of the last read, and
@@ -9,7 +9,7 @@ use Rattle.block_traits.specs.Content.{Content, present}
 use Rattle.block_traits.specs.Disk.{DiskState, FailsIn, Logs}
 use Rattle.eli_base.specs.declared.algorithms.Auth.TheVariants.{Off}
 use Rattle.eli_base.specs.Keying.{Keying}
-use Rattle.sealing.specs.Pieces.{opened_piece}
+use Rattle.sealing.specs.TaggedUnits.{opened_tagged}
 use Rattle.sealing.specs.Sectors.{joined, units}
 use Rattle.provider.specs.declared.faults.ReadFault.{ReadFault}
 use Rattle.provider.specs.declared.faults.ReadFault.TheVariants.{OutOfRange, DeviceFault, Integrity}
@@ -32,12 +32,12 @@ pub record FailsAmong (count : ℕ) (old new : DiskState) : Type 0 where
   pub within : unit < count
   pub fails : FailsAt (unit + 1) old new
 
--- what reading a piece of so many plain bytes in device sector n answers
-abbrev pub PieceAnswers : Keying → ℕ → ℕ → DiskState → DiskState → List ℕ → Result (Unit {0}) ReadFault → Type 0
-PieceAnswers k n size old new bytes (Ok done) = ReadSo 1 old new (λ c. opened_piece k (512 * n) size (present c n) ≡ Ok bytes)
-PieceAnswers k n size old new bytes (Err (Integrity offset)) = (offset ≡ 512 * n) × ReadSo 1 old new (λ c. opened_piece k (512 * n) size (present c n) ≡ Err offset)
-PieceAnswers k n size old new bytes (Err DeviceFault) = FailsAt 1 old new
-PieceAnswers k n size old new bytes (Err (OutOfRange sector count media)) = ⊥
+-- what reading a unit of so many plain bytes in device sector n answers
+abbrev pub UnitAnswers : Keying → ℕ → ℕ → DiskState → DiskState → List ℕ → Result (Unit {0}) ReadFault → Type 0
+UnitAnswers k n size old new bytes (Ok done) = ReadSo 1 old new (λ c. opened_tagged k (512 * n) size (present c n) ≡ Ok bytes)
+UnitAnswers k n size old new bytes (Err (Integrity offset)) = (offset ≡ 512 * n) × ReadSo 1 old new (λ c. opened_tagged k (512 * n) size (present c n) ≡ Err offset)
+UnitAnswers k n size old new bytes (Err DeviceFault) = FailsAt 1 old new
+UnitAnswers k n size old new bytes (Err (OutOfRange sector count media)) = ⊥
 
 -- ---- one logical sector
 

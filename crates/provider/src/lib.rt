@@ -7,10 +7,10 @@
 mod attaching;
 mod faults;
 mod laws;
-mod pieces;
 mod provider;
 mod runs;
 mod sectors;
+mod tagged_units;
 mod units;
 
 pub use attaching::opened;

@@ -11,12 +11,12 @@ ghost use Rattle.provider.specs.Attached.{IsKept, has_tags, media};
 ghost use Rattle.provider.specs.Reading.{units_accepted};
 ghost use Rattle.provider.specs.Rest.{rest_of};
 ghost use Rattle.range_keys.specs.Ring.{IsKeying};
-ghost use Rattle.sealing.specs.Sectors.{device_sectors, piece_reading, reading, seal, units};
+ghost use Rattle.sealing.specs.Sectors.{device_sectors, unit_reading_at, reading, seal, units};
 
 use crate::attaching::{opened, reserve};
-use crate::pieces::{has_whole_four, piece_ok};
 use crate::runs::{read_run, write_run};
 use crate::sectors::{open_sector, seal_sector};
+use crate::tagged_units::{has_whole_four, tag_fits};
 use crate::{AttachFault, BadUnit, OutOfRange, ReadFault, WriteFault};
 use auth_sectors::four_accepted;
 use block_traits::{Disk, DiskFailed, Event, MetaPlace, Sector, load_last, store_last};
@@ -362,11 +362,11 @@ impl<D: Disk> Provider<D> {
     pub fn unit_ok(&mut self, n: u64, from: &Sector) -> bool
         requires on { self.old.keying.auth ≢ Auth.Off }
         requires inside { n < media self.old.keying (D.state self.old.disk) * units self.old.keying }
-        ensures answer { result ≡ is_ok (piece_reading self.old.keying n from.now) }
+        ensures answer { result ≡ is_ok (unit_reading_at self.old.keying n from.now) }
         ensures stays { self.new ≡ self.old }
     {
         let size = self.params.sectorsize as usize;
-        piece_ok(&self.ring, n, size, from)
+        tag_fits(&self.ring, n, size, from)
     }
 
     /// Looks at four device sectors at once, the first of number `n`, where they have whole units of one logical

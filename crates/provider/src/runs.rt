@@ -10,8 +10,8 @@ ghost use Rattle.provider.specs.Reads.{FailsAmong, RunAnswers, SectorAnswers};
 ghost use Rattle.provider.specs.Writing.{data_writes};
 
 use crate::ReadFault;
-use crate::pieces::read_pieces;
 use crate::sectors::{open_sectors, seal_sectors};
+use crate::tagged_units::read_tagged_units;
 use crate::units::{read_units, unit_count};
 use block_traits::{Disk, DiskFailed};
 use eli_base::Auth;
@@ -54,7 +54,7 @@ fn read_sector<D: Disk>(
     ensures keying { ring.new.keying ≡ ring.old.keying }
 {
     if ring.auth() != Auth::Off {
-        return read_pieces(ring, disk, sector, block);
+        return read_tagged_units(ring, disk, sector, block);
     }
     match read_whole(ring, disk, sector, block) {
         Ok(()) => Ok(()),

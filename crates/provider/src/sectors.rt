@@ -10,7 +10,7 @@ ghost use Rattle.provider.specs.Reading.{ReadsFrom};
 ghost use Rattle.provider.specs.Writing.{data_writes};
 
 use crate::BadUnit;
-use crate::pieces::unit_end;
+use crate::tagged_units::unit_end;
 use crate::units::unit_count;
 use auth_sectors::{open_four, open_piece, seal_four, seal_piece};
 use block_traits::{Sector, sector_of};
@@ -66,14 +66,14 @@ fn seal_rest(ring: &mut KeyRing, sector: u64, passed: usize, plain: &[u8], out: 
         let start = j * width;
         let end = unit_end(plain.len(), start, width);
         let n = first + j as u64;
-        let mut piece: Sector = [0; 512];
-        seal_piece(ring, 512 * n, &plain[start..end], &mut piece);
-        out[512 * j..512 * j + 512].copy_from_slice(&piece);
+        let mut device: Sector = [0; 512];
+        seal_piece(ring, 512 * n, &plain[start..end], &mut device);
+        out[512 * j..512 * j + 512].copy_from_slice(&device);
     }
 }
 
 // Seals one logical sector with authentication, whole units four at a time while there are four.
-fn seal_pieces(ring: &mut KeyRing, sector: u64, plain: &[u8], out: &mut [u8])
+fn seal_tagged_units(ring: &mut KeyRing, sector: u64, plain: &[u8], out: &mut [u8])
     requires on { ring.old.keying.auth ≢ Off }
     requires plain { length plain.now ≡ ring.old.keying.sectorsize }
     requires out { length out.old ≡ 512 * units ring.old.keying }
@@ -109,7 +109,7 @@ pub fn seal_sector(ring: &mut KeyRing, sector: u64, plain: &[u8], out: &mut [u8]
     ensures keying { ring.new.keying ≡ ring.old.keying }
 {
     if ring.auth() != Auth::Off {
-        return seal_pieces(ring, sector, plain, out);
+        return seal_tagged_units(ring, sector, plain, out);
     }
     seal_whole(ring, sector, plain, out)
 }
@@ -211,7 +211,7 @@ fn open_rest(
 }
 
 // Opens one logical sector with authentication, whole units four at a time while there are four.
-fn open_pieces(
+fn open_tagged_units(
     ring: &mut KeyRing,
     sector: u64,
     device: &[u8],
@@ -261,7 +261,7 @@ pub fn open_sector(
     ensures keying { ring.new.keying ≡ ring.old.keying }
 {
     if ring.auth() != Auth::Off {
-        return open_pieces(ring, sector, device, out);
+        return open_tagged_units(ring, sector, device, out);
     }
     open_whole(ring, sector, device, out);
     Ok(())

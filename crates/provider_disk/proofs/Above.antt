@@ -10,7 +10,7 @@ use Rattle.readings.specs.Steps.{Step, after, events_of}
 use Rattle.readings.specs.Survivors.{content_media, moment}
 use Rattle.readings.proofs.Crashes.{endures}
 use Rattle.provider_disk.specs.Above.{AreStepsOver, EnduresBelow, content_above, content_below, steps_above}
-use Rattle.provider_disk.specs.Opened.{KeepsLastData, opened_content, opened_events, opened_sectors}
+use Rattle.provider_disk.specs.Opened.{KeepsLastData, opened_content, opened_events, opened_data_sectors}
 use Rattle.provider_disk.specs.OpenedFits.{IsContentOf-opened, length-opened_sectors}
 use Rattle.provider_disk.proofs.OpenedImages.{altered_above, image_above, torn_above}
 use Rattle.provider_disk.proofs.OpenedLemmas.{opened_events-append, take-opened}
@@ -35,7 +35,7 @@ moment_of_steps k c events steps t same =
     take-append-add front (events_of steps) (length some)
     ∙ ap (λ (l : List Event). front ++ take (length some) l) (sym here)
     ∙ ap (λ (l : List Event). front ++ l) (take-opened k count t events) in
-    ap (λ (events : List Event). record { base = opened_sectors k c.base; history = events }) (left ∙ sym right)
+    ap (λ (events : List Event). record { base = opened_data_sectors k c.base; history = events }) (left ∙ sym right)
 
 -- what the disk upon the provider tells of a moment below is what it told after the steps done until then
 told_above : (k : Keying) (c : Content) (events : List Event) (steps : List Step) (t : ℕ) → AreStepsOver k c events steps
@@ -43,21 +43,21 @@ told_above : (k : Keying) (c : Content) (events : List Event) (steps : List Step
 told_above k c events steps t over = moment_of_steps k c events steps t over.same
 
 IsImage-above : (k : Keying) (c : Content) (events : List Event) (steps : List Step) (t : ℕ) (choice : ℕ → ℕ) (image : List (List ℕ)) → AreStepsOver k c events steps
-    → IsImage (content_below c events t) choice image → IsImage (content_above k c events steps t) choice (opened_sectors k image)
+    → IsImage (content_below c events t) choice image → IsImage (content_above k c events steps t) choice (opened_data_sectors k image)
 IsImage-above k c events steps t choice image over left =
-    let P : Content → Type 0 = λ now. IsImage now choice (opened_sectors k image) in
+    let P : Content → Type 0 = λ now. IsImage now choice (opened_data_sectors k image) in
     subst P (told_above k c events steps t over) (image_above k (content_below c events t) choice image left)
 
 IsTorn-above : (k : Keying) (c : Content) (events : List Event) (steps : List Step) (t : ℕ) (image : List (List ℕ)) → AreStepsOver k c events steps
-    → IsTorn (content_below c events t) image → KeepsLastData (content_below c events t) image → IsTorn (content_above k c events steps t) (opened_sectors k image)
+    → IsTorn (content_below c events t) image → KeepsLastData (content_below c events t) image → IsTorn (content_above k c events steps t) (opened_data_sectors k image)
 IsTorn-above k c events steps t image over left kept =
-    let P : Content → Type 0 = λ now. IsTorn now (opened_sectors k image) in
+    let P : Content → Type 0 = λ now. IsTorn now (opened_data_sectors k image) in
     subst P (told_above k c events steps t over) (torn_above k (content_below c events t) image over.valid over.single kept left)
 
 IsAltered-above : (k : Keying) (c : Content) (events : List Event) (steps : List Step) (t : ℕ) (image : List (List ℕ)) → AreStepsOver k c events steps
-    → IsAltered (content_below c events t) image → KeepsLastData (content_below c events t) image → IsAltered (content_above k c events steps t) (opened_sectors k image)
+    → IsAltered (content_below c events t) image → KeepsLastData (content_below c events t) image → IsAltered (content_above k c events steps t) (opened_data_sectors k image)
 IsAltered-above k c events steps t image over left kept =
-    let P : Content → Type 0 = λ now. IsAltered now (opened_sectors k image) in
+    let P : Content → Type 0 = λ now. IsAltered now (opened_data_sectors k image) in
     subst P (told_above k c events steps t over) (altered_above k (content_below c events t) image over.valid over.single kept left)
 
 fits_above : (k : Keying) (c : Content) (events : List Event) (steps : List Step) → AreStepsOver k c events steps → IsContentOf (length (opened_content k c).base) (opened_content k c)
@@ -71,8 +71,8 @@ pub endures_below : (k j : Keying) (c : Content) (events : List Event) (steps : 
 endures_below k j c events steps t sector over valid small =
     let endured = endures (opened_content k c) steps (steps_above k c events t) j sector (fits_above k c events steps over) over.good valid small in
     record {
-      whole = λ choice image left. endured.whole choice (opened_sectors k image) (IsImage-above k c events steps t choice image over left);
-      torn = λ image left kept. endured.torn (opened_sectors k image) (IsTorn-above k c events steps t image over left kept);
-      altered = λ image left kept. endured.altered (opened_sectors k image) (IsAltered-above k c events steps t image over left kept);
-      flushed = λ place p lt flushed is image left kept. endured.flushed place p lt flushed is (opened_sectors k image) (IsTorn-above k c events steps t image over left kept);
+      whole = λ choice image left. endured.whole choice (opened_data_sectors k image) (IsImage-above k c events steps t choice image over left);
+      torn = λ image left kept. endured.torn (opened_data_sectors k image) (IsTorn-above k c events steps t image over left kept);
+      altered = λ image left kept. endured.altered (opened_data_sectors k image) (IsAltered-above k c events steps t image over left kept);
+      flushed = λ place p lt flushed is image left kept. endured.flushed place p lt flushed is (opened_data_sectors k image) (IsTorn-above k c events steps t image over left kept);
     }

@@ -15,7 +15,7 @@ use Rattle.provider.specs.Writing.{data_writes, sector_writes}
 use Rattle.range_keys.specs.Ring.{IsKeying}
 use Rattle.sealing.specs.Sectors.{IsSingle, joined, reading, seal, units}
 use Rattle.sealing.proofs.Sectors.{length-seal, reading-seal}
-use Rattle.provider_disk.specs.Opened.{opened, opened_content, opened_events, plain_of}
+use Rattle.provider_disk.specs.Opened.{opened_single, opened_content, opened_events, plain_of}
 
 -- ---- events
 
@@ -26,11 +26,11 @@ cond-append false event events more = refl
 pub opened_events-append : (k : Keying) (count : ℕ) (events more : List Event) → opened_events k count (events ++ more) ≡ opened_events k count events ++ opened_events k count more
 opened_events-append k count [] more = refl
 opened_events-append k count (Write n bytes ∷ events) more =
-    ap (λ (l : List Event). cond (nat_lt n count) (Write n (opened k n bytes) ∷ l) l) (opened_events-append k count events more)
-    ∙ cond-append (nat_lt n count) (Write n (opened k n bytes)) (opened_events k count events) (opened_events k count more)
+    ap (λ (l : List Event). cond (nat_lt n count) (Write n (opened_single k n bytes) ∷ l) l) (opened_events-append k count events more)
+    ∙ cond-append (nat_lt n count) (Write n (opened_single k n bytes)) (opened_events k count events) (opened_events k count more)
 opened_events-append k count (Flush ∷ events) more = ap (λ (l : List Event). Flush ∷ l) (opened_events-append k count events more)
 
--- what is logged below is logged here, opened
+-- what is logged below is logged here, opened_single
 logged-opened : (k : Keying) (size : ℕ) (events : List Event) (told : Option Content) → FitsSize size told
     → option_map (opened_content k) (logged events told) ≡ logged (opened_events k (size - 1) events) (option_map (opened_content k) told)
 logged-opened k size events None fits = refl
@@ -57,7 +57,7 @@ Logs-opened k events {below} {later} {old} {new} is will logs = record {
   faults = let a = will.faults in let b = is.faults in let c = logs.faults in omega arith;
 }
 
--- the first of some events, opened, are the first of the opened ones
+-- the first of some events, opened_single, are the first of the opened_single ones
 pub take-opened : (k : Keying) (size count : ℕ) (events : List Event)
     → take (length (opened_events k size (take count events))) (opened_events k size events) ≡ opened_events k size (take count events)
 take-opened k size count events =
@@ -95,10 +95,10 @@ one_of [] one = absurd (omega arith)
 one_of (bytes ∷ []) one = refl
 one_of (bytes ∷ next ∷ sectors) one = absurd (omega arith)
 
--- the write of a logical sector, opened, is the write of its bytes
+-- the write of a logical sector, opened_single, is the write of its bytes
 pub opened-writes : (k : Keying) (size n count : ℕ) (bytes : List ℕ) → IsKeying k → IsSingle k → AreBytes bytes → IsSector bytes → n < size → count ≡ 1
     → opened_events k size (data_writes k n count bytes) ≡ Write n bytes ∷ []
-unfolding opened
+unfolding opened_single
 opened-writes k size n count bytes valid single small sized inside one =
     let sector : length bytes ≡ k.sectorsize = sized ∙ sym single.size in
     let all : take k.sectorsize bytes ≡ bytes = take_all k.sectorsize bytes (omega arith) in
@@ -110,10 +110,10 @@ opened-writes k size n count bytes valid single small sized inside one =
     ∙ ap (sector_writes k n) all
     ∙ (λ i. writes_from (place i) (is i)) in
     let test : nat_lt n size ≡ true = lt-ltb n size inside in
-    let gives : opened k n (get_or (seal k n bytes) 0 []) ≡ bytes =
+    let gives : opened_single k n (get_or (seal k n bytes) 0 []) ≡ bytes =
     ap (λ (l : List (List ℕ)). plain_of (reading k n l)) (sym is) ∙ ap plain_of (reading-seal k n bytes valid small sector) in
     ap (opened_events k size) writes
-    ∙ ap (λ (b : Bool). cond b (Write n (opened k n (get_or (seal k n bytes) 0 [])) ∷ []) []) test
+    ∙ ap (λ (b : Bool). cond b (Write n (opened_single k n (get_or (seal k n bytes) 0 [])) ∷ []) []) test
     ∙ ap (λ (l : List ℕ). Write n l ∷ []) gives
 
 -- what one logical sector reads as
@@ -121,14 +121,14 @@ joined-one : (r : Result (List ℕ) ℕ) (bytes : List ℕ) → joined (r ∷ []
 joined-one (Ok found) bytes is = let e : Ok (found ++ []) ≡ Ok bytes = is in let same : found ++ [] ≡ bytes = cc e in sym same ∙ append-nil found
 joined-one (Err offset) bytes is = absurd (cc is)
 
--- what stands here is what stands below, opened
+-- what stands here is what stands below, opened_single
 present_of : (k : Keying) (c : Content) (n : ℕ) → IsSingle k → sector_reading k c n ≡ reading k n (present c n ∷ [])
 present_of k c n single =
     let place : n * units k ≡ n = ap (λ (u : ℕ). n * u) (units_of k single) ∙ omega arith in
     ap (λ (u : ℕ). reading k n (standing c (n * units k) u)) (units_of k single) ∙ ap (λ (m : ℕ). reading k n (standing c m 1)) place
 
-pub reads-opened : (k : Keying) (c : Content) (n count : ℕ) (bytes : List ℕ) → IsSingle k → count ≡ 1 → data_reading k c n count ≡ Ok bytes → bytes ≡ opened k n (present c n)
-unfolding opened
+pub reads-opened : (k : Keying) (c : Content) (n count : ℕ) (bytes : List ℕ) → IsSingle k → count ≡ 1 → data_reading k c n count ≡ Ok bytes → bytes ≡ opened_single k n (present c n)
+unfolding opened_single
 reads-opened k c n count bytes single one is =
     let read : joined (sector_reading k c n ∷ []) ≡ Ok bytes = ap (data_reading k c n) (sym one) ∙ is in
     joined-one (sector_reading k c n) bytes read ∙ ap plain_of (present_of k c n single)

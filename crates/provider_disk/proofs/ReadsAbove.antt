@@ -19,12 +19,12 @@ use Rattle.readings.specs.Steps.{Step}
 use Rattle.readings.specs.Survivors.{content_media}
 use Rattle.sealing.specs.Sectors.{joined}
 use Rattle.provider_disk.specs.Above.{AreStepsOver, ReadsChosen, cells_above, content_below, data_chosen, sectors_chosen}
-use Rattle.provider_disk.specs.Opened.{opened_content, opened_sectors}
+use Rattle.provider_disk.specs.Opened.{opened_content, opened_data_sectors}
 use Rattle.provider_disk.specs.OpenedFits.{length-opened_sectors}
 use Rattle.provider_disk.proofs.Above.{endures_below}
 
 -- a disk upon a provider on an image has that image, opened
-pub has_opened : (k : Keying) (image : List (List ℕ)) (told : Option Content) → told ≡ Some (survivor image) → option_map (opened_content k) told ≡ Some (survivor (opened_sectors k image))
+pub has_opened : (k : Keying) (image : List (List ℕ)) (told : Option Content) → told ≡ Some (survivor image) → option_map (opened_content k) told ≡ Some (survivor (opened_data_sectors k image))
 has_opened k image told has = ap (option_map (opened_content k)) has
 
 -- its size is the image's
@@ -34,7 +34,7 @@ size_of image disk has = let fits : IsContentOf disk.size (survivor image) = sub
 module _ (k j : Keying) (c : Content) (events : List Event) (steps : List Step) (t : ℕ) (choice : ℕ → ℕ) (image : List (List ℕ))
     (over : AreStepsOver k c events steps) (valid : IsKeying j) (left : IsImage (content_below c events t) choice image) where
   sectors_read : (sector count : ℕ) → sector + count ≤ content_media j (opened_content k c)
-      → image_sectors j sector count (opened_sectors k image) ≡ sectors_chosen j sector count (cells_above k c events steps t) choice
+      → image_sectors j sector count (opened_data_sectors k image) ≡ sectors_chosen j sector count (cells_above k c events steps t) choice
   sectors_read sector zero fits = refl
   sectors_read sector (suc count) fits =
       let here = (endures_below k j c events steps t sector over valid (omega arith)).whole choice image left in
@@ -42,24 +42,24 @@ module _ (k j : Keying) (c : Content) (events : List Event) (steps : List Step) 
       λ i. joined (here i) ∷ more i
 
   data_read : (sector count : ℕ) → sector + count ≤ content_media j (opened_content k c)
-      → image_data j sector count (opened_sectors k image) ≡ data_chosen j sector count (cells_above k c events steps t) choice
+      → image_data j sector count (opened_data_sectors k image) ≡ data_chosen j sector count (cells_above k c events steps t) choice
   data_read sector count fits = ap joined (sectors_read sector count fits)
 
   -- as many logical sectors as the disk upon the provider had
-  same_media : (disk : DiskState) → HasImage (opened_sectors k image) disk → media_sectors j.auth j.sectorsize (512 * disk.size) ≡ content_media j (opened_content k c)
+  same_media : (disk : DiskState) → HasImage (opened_data_sectors k image) disk → media_sectors j.auth j.sectorsize (512 * disk.size) ≡ content_media j (opened_content k c)
   same_media disk has =
-      let size : disk.size ≡ length (opened_sectors k c.base) =
-      size_of (opened_sectors k image) disk has ∙ length-opened_sectors k image ∙ ap (λ (n : ℕ). n - 1) left.size ∙ sym (length-opened_sectors k c.base) in
+      let size : disk.size ≡ length (opened_data_sectors k c.base) =
+      size_of (opened_data_sectors k image) disk has ∙ length-opened_sectors k image ∙ ap (λ (n : ℕ). n - 1) left.size ∙ sym (length-opened_sectors k c.base) in
       ap (λ (n : ℕ). media_sectors j.auth j.sectorsize (512 * n)) size
 
-  inside : (disk : DiskState) (sector count : ℕ) → HasImage (opened_sectors k image) disk → sector + count ≤ media_sectors j.auth j.sectorsize (512 * disk.size) → sector + count ≤ content_media j (opened_content k c)
+  inside : (disk : DiskState) (sector count : ℕ) → HasImage (opened_data_sectors k image) disk → sector + count ≤ media_sectors j.auth j.sectorsize (512 * disk.size) → sector + count ≤ content_media j (opened_content k c)
   inside disk sector count has fits = let P : ℕ → Type 0 = λ n. sector + count ≤ n in subst P (same_media disk has) fits
 
 reads_chosen : {D : Type 0} (state : D → DiskState) (k : Keying) (c : Content) (events : List Event) (steps : List Step) (t : ℕ) (choice : ℕ → ℕ) (image : List (List ℕ))
     (sector : ℕ) (into bytes : List ℕ) (old new : Attached D) (answer : Result (Unit {0}) ReadFault)
-    → AreStepsOver k c events steps → IsKeying old.keying → IsImage (content_below c events t) choice image → HasImage (opened_sectors k image) (state old.disk)
+    → AreStepsOver k c events steps → IsKeying old.keying → IsImage (content_below c events t) choice image → HasImage (opened_data_sectors k image) (state old.disk)
     → ReadAnswers state (request state old sector into) bytes old new answer
-    → ReadsImage old.keying (request state old sector into) (opened_sectors k image) bytes answer (state old.disk) (state new.disk)
+    → ReadsImage old.keying (request state old sector into) (opened_data_sectors k image) bytes answer (state old.disk) (state new.disk)
     → ReadsChosen old.keying (request state old sector into) (cells_above k c events steps t) choice bytes answer (state old.disk) (state new.disk)
 reads_chosen state k c events steps t choice image sector into bytes old new (Ok done) over valid left has h read =
     let count : ℕ = length into / old.keying.sectorsize in
@@ -72,10 +72,10 @@ reads_chosen state k c events steps t choice image sector into bytes old new (Er
 
 pub survivor_reads : {D : Type 0} (state : D → DiskState) (k : Keying) (c : Content) (events : List Event) (steps : List Step) (t : ℕ) (choice : ℕ → ℕ) (image : List (List ℕ))
     (sector : ℕ) (into bytes : List ℕ) (old new : Attached D) (answer : Result (Unit {0}) ReadFault)
-    → AreStepsOver k c events steps → IsKeying old.keying → IsImage (content_below c events t) choice image → HasImage (opened_sectors k image) (state old.disk)
+    → AreStepsOver k c events steps → IsKeying old.keying → IsImage (content_below c events t) choice image → HasImage (opened_data_sectors k image) (state old.disk)
     → ReadAnswers state (request state old sector into) bytes old new answer
     → ReadsChosen old.keying (request state old sector into) (cells_above k c events steps t) choice bytes answer (state old.disk) (state new.disk)
-    × HasImage (opened_sectors k image) (state new.disk)
+    × HasImage (opened_data_sectors k image) (state new.disk)
 survivor_reads state k c events steps t choice image sector into bytes old new answer over valid left has h =
-    let both = reads state (opened_sectors k image) sector into bytes old new answer has valid h in
+    let both = reads state (opened_data_sectors k image) sector into bytes old new answer has valid h in
     (reads_chosen state k c events steps t choice image sector into bytes old new answer over valid left has h both.0, both.1)

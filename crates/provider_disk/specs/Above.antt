@@ -17,7 +17,7 @@ use Rattle.readings.specs.Steps.{Step, after, cell}
 use Rattle.readings.specs.Survivors.{AreSteps, ReadsAsPut, chosen, moment}
 use Rattle.readings.specs.Writings.{PutUnit, Put, Writing}
 use Rattle.sealing.specs.Sectors.{IsSingle, joined, unit_place, units}
-use Rattle.provider_disk.specs.Opened.{KeepsLastData, opened_content, opened_events, opened_sectors}
+use Rattle.provider_disk.specs.Opened.{KeepsLastData, opened_content, opened_events, opened_data_sectors}
 
 -- ---- what is done below and above
 
@@ -53,16 +53,16 @@ content_above k c events steps t = moment (steps_above k c events t) steps (open
 -- metadata above.
 pub record EnduresBelow (k j : Keying) (c : Content) (events : List Event) (steps : List Step) (t sector : ℕ) : Type 0 where
   pub whole : (choice : ℕ → ℕ) (image : List (List ℕ)) → IsImage (content_below c events t) choice image →
-      image_units j sector (opened_sectors k image) ≡ read j sector (chosen j sector (cells_above k c events steps t) choice)
+      image_units j sector (opened_data_sectors k image) ≡ read j sector (chosen j sector (cells_above k c events steps t) choice)
   pub torn : (image : List (List ℕ)) → IsTorn (content_below c events t) image → KeepsLastData (content_below c events t) image →
       ReadsWithCauses j sector (cells_above k c events steps t) (IsUnsettled (content_above k c events steps t))
-      (ever (opened_content k c) (take (steps_above k c events t) steps)) (opened_sectors k image)
+      (ever (opened_content k c) (take (steps_above k c events t) steps)) (opened_data_sectors k image)
   pub altered : (image : List (List ℕ)) → IsAltered (content_below c events t) image → KeepsLastData (content_below c events t) image →
       ReadsWithCauses j sector (cells_above k c events steps t) (λ n. Unit {0})
-      (ever (opened_content k c) (take (steps_above k c events t) steps)) (opened_sectors k image)
+      (ever (opened_content k c) (take (steps_above k c events t) steps)) (opened_data_sectors k image)
   pub flushed : (place : ℕ) (p : PutUnit) → place < units j → IsFlushed (take (steps_above k c events t) steps) (unit_place j sector place) (Put p) →
       Matches j sector place (Put p) p → (image : List (List ℕ)) → IsTorn (content_below c events t) image → KeepsLastData (content_below c events t) image →
-      ReadsAsPut j p (image_unit j sector (opened_sectors k image) place)
+      ReadsAsPut j p (image_unit j sector (opened_data_sectors k image) place)
 
 -- ---- what a provider on the survivor answers
 

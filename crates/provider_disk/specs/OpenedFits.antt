@@ -15,10 +15,10 @@ use Rattle.sealing.specs.Sectors.{IsSingle}
 use Rattle.sealing.proofs.Keys.{IsKey-first_key}
 use Rattle.sealing.proofs.Runs.{length-xts_open}
 use Rattle.sealing.proofs.Single.{reads_alone}
-use Rattle.provider_disk.specs.Opened.{opened, opened_content, opened_events, opened_from, opened_sectors, plain_of}
+use Rattle.provider_disk.specs.Opened.{opened_single, opened_content, opened_events, opened_from, opened_data_sectors, plain_of}
 
-pub length-opened : (k : Keying) (n : ℕ) (bytes : List ℕ) → IsKeying k → IsSingle k → IsSector bytes → IsSector (opened k n bytes)
-unfolding opened
+pub length-opened : (k : Keying) (n : ℕ) (bytes : List ℕ) → IsKeying k → IsSingle k → IsSector bytes → IsSector (opened_single k n bytes)
+unfolding opened_single
 length-opened k n bytes valid single size =
     ap (λ r. length (plain_of r)) (reads_alone k n bytes valid single size)
     ∙ length-xts_open (first_key k (n * 512)) (second_key k (n * 512)) (tweak (n * 512)) bytes (IsKey-first_key k (n * 512) valid).long (omega arith)
@@ -31,13 +31,13 @@ length-opened_from k n (bytes ∷ sectors) = ap suc (length-opened_from k (n + 1
 pub All-opened_from : (k : Keying) (n : ℕ) (sectors : List (List ℕ)) → IsKeying k → IsSingle k → All IsSector sectors → All IsSector (opened_from k n sectors)
 All-opened_from k n [] valid single sized = All-nil IsSector
 All-opened_from k n (bytes ∷ sectors) valid single sized =
-    All-cons IsSector (opened k n bytes) (opened_from k (n + 1) sectors) (length-opened k n bytes valid single (All-head IsSector bytes sectors sized))
+    All-cons IsSector (opened_single k n bytes) (opened_from k (n + 1) sectors) (length-opened k n bytes valid single (All-head IsSector bytes sectors sized))
     (All-opened_from k (n + 1) sectors valid single (All-tail IsSector bytes sectors sized))
 
 -- a write that may be left out
-All-opened_write : (inside : Bool) (k : Keying) (count n : ℕ) (bytes : List ℕ) (events : List Event) → nat_lt n count ≡ inside → IsSector (opened k n bytes) → All (IsEventOf count) events
-    → All (IsEventOf count) (cond inside (Write n (opened k n bytes) ∷ events) events)
-All-opened_write true k count n bytes events is size rest = All-cons (IsEventOf count) (Write n (opened k n bytes)) events (ltb-true n count is, size) rest
+All-opened_write : (inside : Bool) (k : Keying) (count n : ℕ) (bytes : List ℕ) (events : List Event) → nat_lt n count ≡ inside → IsSector (opened_single k n bytes) → All (IsEventOf count) events
+    → All (IsEventOf count) (cond inside (Write n (opened_single k n bytes) ∷ events) events)
+All-opened_write true k count n bytes events is size rest = All-cons (IsEventOf count) (Write n (opened_single k n bytes)) events (ltb-true n count is, size) rest
 All-opened_write false k count n bytes events is size rest = rest
 
 All-opened_events : (k : Keying) (size count : ℕ) (events : List Event) → IsKeying k → IsSingle k → All (IsEventOf size) events → All (IsEventOf count) (opened_events k count events)
@@ -48,7 +48,7 @@ All-opened_events k size count (Write n bytes ∷ events) valid single fit =
 All-opened_events k size count (Flush ∷ events) valid single fit =
     All-cons (IsEventOf count) Flush (opened_events k count events) tt (All-opened_events k size count events valid single (All-tail (IsEventOf size) Flush events fit))
 
-pub length-opened_sectors : (k : Keying) (sectors : List (List ℕ)) → length (opened_sectors k sectors) ≡ length sectors - 1
+pub length-opened_sectors : (k : Keying) (sectors : List (List ℕ)) → length (opened_data_sectors k sectors) ≡ length sectors - 1
 length-opened_sectors k sectors = length-opened_from k 0 (take (length sectors - 1) sectors) ∙ length-take-le (length sectors - 1) sectors (omega arith)
 
 pub IsContentOf-opened : (k : Keying) (size : ℕ) (c : Content) → IsKeying k → IsSingle k → IsContentOf size c → IsContentOf (size - 1) (opened_content k c)

@@ -8,8 +8,8 @@ use Rattle.provider_disk.specs.OpenedFits.{IsWellFormed-opened}
 
 -- as a disk it has all sectors of the disk below but the last, tells what they read as where that disk is told, shows
 -- no events, and has the faults and the reads of that disk
-abbrev pub disk_of : {D : Type 0} → (D → DiskState) → ProviderDisk D → DiskState
-disk_of state p = record {
+abbrev pub provider_disk_of : {D : Type 0} → (D → DiskState) → ProviderDisk D → DiskState
+provider_disk_of state p = record {
   size = (state p.on.disk).size - 1;
   shows = false;
   content = option_map (opened_content p.on.keying) (state p.on.disk).content;

@@ -55,9 +55,9 @@ impl<D: Disk> ProviderDisk<D> {
 /// Each call is one of the provider for one logical sector: a read reads one sector below, and nothing else does. It is
 /// refused only where the disk below failed.
 impl<D: Disk> Disk for ProviderDisk<D> {
-    ghost use Rattle.provider_disk.specs.ProviderDisk.{disk_of};
+    ghost use Rattle.provider_disk.specs.ProviderDisk.{provider_disk_of};
 
-    ghost state = { disk_of D.state };
+    ghost state = { provider_disk_of D.state };
 
     fn sectors(&self) -> u64 {
         self.on.sectors()

@@ -30,7 +30,7 @@ pub among_then : {X : Type 0} (xs ys zs : List X) → AreAmong ys xs → AreAmon
 among_then xs ys zs a b = All-weaker (Contains ys) (Contains zs) (λ x h. All-contains (Contains zs) ys x b h) xs a
 
 -- what holds of each of those holds of these
-pub all_among : {X : Type 0} (P : X → Type 0) (those these : List X) → All P those → AreAmong those these → All P these
+all_among : {X : Type 0} (P : X → Type 0) (those these : List X) → All P those → AreAmong those these → All P these
 all_among P those these all in_those = All-weaker (Contains those) P (λ x h. All-contains P those x all h) these in_those
 
 -- ---- steps that fit
@@ -56,13 +56,13 @@ fit_front next steps more are =
 abbrev pub PlacesAmong : Keying → List Writing → Task → Type 0
 PlacesAmong k those t = AreAmong those (placed (steps_of k t.work))
 
-pub pending-from : (k : Keying) (those : List Writing) (tasks : List Task) → All (PlacesAmong k those) tasks → AreAmong those (placed (pending k tasks))
+pending-from : (k : Keying) (those : List Writing) (tasks : List Task) → All (PlacesAmong k those) tasks → AreAmong those (placed (pending k tasks))
 pending-from k those [] all = All-nil (Contains those)
 pending-from k those (t ∷ tasks) all =
     subst (AreAmong those) (sym (placed-append (steps_of k t.work) (pending k tasks)))
     (All-append (Contains those) (placed (steps_of k t.work)) (placed (pending k tasks)) (All-head (PlacesAmong k those) t tasks all) (pending-from k those tasks (All-tail (PlacesAmong k those) t tasks all)))
 
-pub pending-to : (k : Keying) (those : List Writing) (tasks : List Task) → AreAmong those (placed (pending k tasks)) → All (PlacesAmong k those) tasks
+pending-to : (k : Keying) (those : List Writing) (tasks : List Task) → AreAmong those (placed (pending k tasks)) → All (PlacesAmong k those) tasks
 pending-to k those [] all = All-nil (PlacesAmong k those)
 pending-to k those (t ∷ tasks) all =
     let split : AreAmong those (placed (steps_of k t.work) ++ placed (pending k tasks)) = subst (AreAmong those) (placed-append (steps_of k t.work) (pending k tasks)) all in

@@ -51,7 +51,7 @@ still k c m old new d d' queue disk shows = record {
   queue = queue ∙ shows.queue;
 }
 
-pub moved : (c : Content) (call : QueueCall) (m : Play) (old new : InFlight) → ShowsIn old.keying c m old → IsMade call old new → IsMoved c call m old new
+moved : (c : Content) (call : QueueCall) (m : Play) (old new : InFlight) → ShowsIn old.keying c m old → IsMade call old new → IsMoved c call m old new
 moved c (Submit job from (Ok tag)) m old new shows h = record {
   play = submitted tag job from m;
   move = (

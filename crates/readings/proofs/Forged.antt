@@ -1,13 +1,13 @@
--- One piece with authentication: a fault, a known cipher text, or forged.
+-- One unit with authentication: a fault, a known cipher text, or forged.
 use Rattle.std.proofs.Common.{◌≡◌, ◌≢◌, ◌↔◌, ◌⊎◌, inl, inr, ℕ, ◌*◌, List, [], ◌∷◌, true, Result, Ok, Err, Contains, bytes_eq, refl, sym, ap, subst, ◌∙◌, arith, true≢false}
 use Rattle.std.proofs.lemmas.Bool.{cases_Bool, cond-false, false_from_ne_true}
 use Rattle.std.proofs.lemmas.List.Elements.{Contains-append_cases, Contains-append_right, Contains-push_cases}
 use Rattle.std.proofs.lemmas.Slice.Eq.{bytes_eq-Decides}
 use Rattle.eli_base.specs.Keying.{Keying}
 use Rattle.sealing.specs.Runs.{opened_run}
-use Rattle.sealing.specs.Pieces.{tag_of, kept_tag}
-use Rattle.sealing.specs.Sectors.{piece_size, piece_reading}
-use Rattle.sealing.proofs.Pieces.{opened_piece-good}
+use Rattle.sealing.specs.TaggedUnits.{tag_of, kept_tag}
+use Rattle.sealing.specs.Sectors.{unit_size_at, unit_reading_at}
+use Rattle.sealing.proofs.TaggedUnitLaws.{opened_tagged-good}
 use Rattle.readings.specs.Writings.{Writing, device_bytes}
 use Rattle.readings.specs.Ever.{cipher_text_at, is_accepted, HasCipherTextOf, IsForged, HasNewTag, CollidesWithOneOf, ReadsAsOneOf}
 
@@ -44,10 +44,10 @@ tag_accepted : (k : Keying) (n : ℕ) (bytes : List ℕ) → kept_tag k bytes �
 tag_accepted k n bytes h = (bytes_eq-Decides (kept_tag k bytes) (tag_of k (512 * n) (cipher_text_at k n bytes))).1 h
 
 reads_good : (k : Keying) (n : ℕ) (bytes : List ℕ) → kept_tag k bytes ≡ tag_of k (512 * n) (cipher_text_at k n bytes)
-    → piece_reading k n bytes ≡ Ok (opened_run k (512 * n) (cipher_text_at k n bytes))
-reads_good k n bytes tag = opened_piece-good k (512 * n) (piece_size k n) bytes (cipher_text_at k n bytes) tag refl
+    → unit_reading_at k n bytes ≡ Ok (opened_run k (512 * n) (cipher_text_at k n bytes))
+reads_good k n bytes tag = opened_tagged-good k (512 * n) (unit_size_at k n) bytes (cipher_text_at k n bytes) tag refl
 
-pub fault-is : (k : Keying) (n : ℕ) (bytes : List ℕ) → (piece_reading k n bytes ≡ Err (512 * n)) ↔ (kept_tag k bytes ≢ tag_of k (512 * n) (cipher_text_at k n bytes))
+pub fault-is : (k : Keying) (n : ℕ) (bytes : List ℕ) → (unit_reading_at k n bytes ≡ Err (512 * n)) ↔ (kept_tag k bytes ≢ tag_of k (512 * n) (cipher_text_at k n bytes))
 fault-is k n bytes =
     let good : Result (List ℕ) ℕ = Ok (opened_run k (512 * n) (cipher_text_at k n bytes)) in (
       λ fault tag. absurd (cc (fault, reads_good k n bytes tag)),

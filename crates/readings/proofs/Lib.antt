@@ -4,7 +4,7 @@ pub mod Local
 pub mod Matching
 pub mod Sectors
 pub mod Plain
-pub mod Pieces
+pub mod UnitsAlone
 pub mod Readings
 pub mod Forged
 pub mod Survivors

@@ -8,7 +8,7 @@ use Rattle.eli_base.specs.Keying.{Keying}
 use Rattle.readings.specs.Writings.{PutUnit, Writing, Put, Raw}
 use Rattle.readings.specs.Read.{same_keying, is_put_of, matching, Matches}
 
-pub same_keying-true : (a b : Keying) → same_keying a b ≡ true → a ≡ b
+same_keying-true : (a b : Keying) → same_keying a b ≡ true → a ≡ b
 same_keying-true a b h =
     let h1 = and_parts _ _ h in
     let h2 = and_parts _ _ h1.1 in
@@ -23,7 +23,7 @@ same_keying-true a b h =
     let master = (bytes_eq-Decides a.master b.master).0 h5.1 in
     (λ i. record { version = version i; auth = auth i; cipher = cipher i; keylen = keylen i; sectorsize = sectorsize i; master = master i })
 
-pub same_keying-refl : (a : Keying) → same_keying a a ≡ true
+same_keying-refl : (a : Keying) → same_keying a a ≡ true
 same_keying-refl a =
     and_from _ _ (eq-eqb a.version a.version refl) (and_from _ _ (eq-eqb (auth_number a.auth) _ refl) (and_from _ _ (eq-eqb (cipher_number a.cipher) _ refl)
     (and_from _ _ (eq-eqb a.keylen a.keylen refl) (and_from _ _ (eq-eqb a.sectorsize a.sectorsize refl) ((bytes_eq-Decides a.master a.master).1 refl)))))

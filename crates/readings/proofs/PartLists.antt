@@ -27,7 +27,7 @@ part-concat (sector ∷ sectors) (suc j) all lt =
     ∙ part-concat sectors j (All-tail IsSector sector sectors all) (omega arith)
 
 -- a block of a part is a block of the list
-pub block-part : (j i : ℕ) (bytes : List ℕ) → i < 32 → block (part 512 j bytes) i ≡ block bytes (32 * j + i)
+block-part : (j i : ℕ) (bytes : List ℕ) → i < 32 → block (part 512 j bytes) i ≡ block bytes (32 * j + i)
 block-part j i bytes lt =
     let rest : ℕ = 512 - 16 * i in
     let both : 512 ≡ 16 * i + rest = omega arith in

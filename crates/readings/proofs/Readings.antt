@@ -15,8 +15,8 @@ use Rattle.block_traits.proofs.PartLists.{length-parts}
 use Rattle.readings.specs.Writings.{Writing, AreWritings, device_bytes, all_device_bytes}
 use Rattle.readings.specs.Read.{read_unit, read}
 use Rattle.readings.proofs.Plain.{opened_unit-plain}
-use Rattle.sealing.proofs.Pieces.{length-unit_readings-tagged}
-use Rattle.readings.proofs.Pieces.{opened_unit-tagged}
+use Rattle.sealing.proofs.TaggedUnitLaws.{length-unit_readings-tagged}
+use Rattle.readings.proofs.UnitsAlone.{opened_unit-tagged}
 
 length-off : (k : Keying) (sector : ℕ) (sectors : List (List ℕ)) → k.auth ≡ Off → length (unit_readings k sector sectors) ≡ units k
 length-off k sector sectors off =
@@ -25,13 +25,13 @@ length-off k sector sectors off =
     ap (λ (a : Auth). length (opened_with a k sector sectors)) off
     ∙ length-map (parts 512 (units k) run) ok ∙ length-parts 512 (units k) run
 
-pub unit_readings-plain : (k : Keying) (sector : ℕ) (ws : List Writing) → IsKeying k → k.auth ≡ Off → AreWritings k ws
+unit_readings-plain : (k : Keying) (sector : ℕ) (ws : List Writing) → IsKeying k → k.auth ≡ Off → AreWritings k ws
     → unit_readings k sector (all_device_bytes ws) ≡ read k sector ws
 unit_readings-plain k sector ws is off are =
     fill_by_all (read_unit k sector ws) (unit_readings k sector (all_device_bytes ws)) (units k) (Ok []) (length-off k sector (all_device_bytes ws) off)
     (λ j lt. opened_unit-plain k sector j ws is off are lt)
 
-pub unit_readings-tagged : (k : Keying) (sector : ℕ) (ws : List Writing) → IsKeying k → k.auth ≢ Off → AreWritings k ws
+unit_readings-tagged : (k : Keying) (sector : ℕ) (ws : List Writing) → IsKeying k → k.auth ≢ Off → AreWritings k ws
     → unit_readings k sector (all_device_bytes ws) ≡ read k sector ws
 unit_readings-tagged k sector ws is on are =
     let count = length-unit_readings-tagged k sector (all_device_bytes ws) on ∙ length-map ws device_bytes ∙ are.count in

@@ -13,9 +13,9 @@ use Rattle.block_traits.specs.Crash.{IsTorn, IsUnsettled}
 use Rattle.block_traits.proofs.Contents.{last_of-kept_values}
 use Rattle.range_keys.specs.Ring.{IsKeying}
 use Rattle.sealing.specs.Runs.{opened_run}
-use Rattle.sealing.specs.Pieces.{kept_tag, tag_of}
-use Rattle.sealing.specs.Sectors.{unit_place, units, piece_reading, unit_readings}
-use Rattle.sealing.proofs.Pieces.{unit_reading-piece}
+use Rattle.sealing.specs.TaggedUnits.{kept_tag, tag_of}
+use Rattle.sealing.specs.Sectors.{unit_place, units, unit_reading_at, unit_readings}
+use Rattle.sealing.proofs.TaggedUnitLaws.{unit_reading-alone}
 use Rattle.readings.specs.Writings.{PutUnit, Writing, Put, Raw, AreWritings, device_bytes, all_device_bytes, plain_bytes}
 use Rattle.readings.specs.Steps.{Step, Place, Flush, after, last_writing, cell_after, cell}
 use Rattle.readings.specs.Read.{Matches, matching, writing_in, opened_unit, opened_bytes, are_chained, loses_front, unit_from, read_unit, read}
@@ -156,7 +156,7 @@ ok_is_no_fault : (k : Keying) (j : ℕ) (own left : Option PutUnit) (opened : Re
 ok_is_no_fault k j None left opened offset e = refl
 ok_is_no_fault k j (Some p) left opened offset e = absurd (cc e)
 
--- a piece is a fault at its own offset alone
+-- a unit is a fault at its own offset alone
 fault-offset : (accepted : Bool) (plain : List ℕ) (own offset : ℕ) (r : Result (List ℕ) ℕ) → r ≡ cond accepted (Ok plain) (Err own) → r ≡ Err offset → offset ≡ own
 fault-offset true plain own offset r is e = absurd (cc (is, e))
 fault-offset false plain own offset r is e = cc (is, e)
@@ -168,7 +168,7 @@ tagged_alone k sector j ws offset lt count e = elim (off_or_not k.auth) [
   | inr on ↦
       let n : ℕ = unit_place k sector j in
       let bytes : List ℕ = get_or (all_device_bytes ws) j [] in
-      let piece = unit_reading-piece k sector j (all_device_bytes ws) on (length-map ws device_bytes ∙ count) lt in
+      let piece = unit_reading-alone k sector j (all_device_bytes ws) on (length-map ws device_bytes ∙ count) lt in
       (on, fault-offset (is_accepted k n bytes) (opened_run k (512 * n) (cipher_text_at k n bytes)) (512 * n) offset (opened_unit k sector ws j) piece e)
 ]
 
@@ -182,7 +182,7 @@ fault-cause k sector j ws offset is are lt e =
 
 pub tagged-image : (k : Keying) (sector j : ℕ) (image : List (List ℕ)) (ever : List Writing) → k.auth ≢ Off → sector * units k + units k ≤ length image → j < units k
     → let n = unit_place k sector j in let there = get_or image n [] in let reading = get_or (unit_readings k sector (sectors_in k sector image)) j (Ok []) in
-    (reading ≡ Err (512 * n)) ⊎ ((reading ≡ piece_reading k n there) × (ReadsAsOneOf k n there ever ⊎ IsForged k n there ever))
+    (reading ≡ Err (512 * n)) ⊎ ((reading ≡ unit_reading_at k n there) × (ReadsAsOneOf k n there ever ⊎ IsForged k n there ever))
 tagged-image k sector j image ever on fits lt =
     let n : ℕ = unit_place k sector j in
     let there : List ℕ = get_or image n [] in
@@ -190,7 +190,7 @@ tagged-image k sector j image ever on fits lt =
     let left = length-drop (sector * units k) image in
     let count : length (take (units k) rest) ≡ units k = length-take-le (units k) rest (omega arith) in
     let at : get_or (sectors_in k sector image) j [] ≡ there = get_or-take (units k) rest j [] lt ∙ get_or-drop (sector * units k) image j [] in
-    let piece = unit_reading-piece k sector j (sectors_in k sector image) on count lt ∙ ap (piece_reading k n) at in
+    let piece = unit_reading-alone k sector j (sectors_in k sector image) on count lt ∙ ap (unit_reading_at k n) at in
     elim (same_bytes (kept_tag k there) (tag_of k (512 * n) (cipher_text_at k n there))) [
       | inl tag ↦ inr (piece, known_or_forged k n there ever tag)
       | inr differs ↦ inl (piece ∙ (fault-is k n there).1 differs)

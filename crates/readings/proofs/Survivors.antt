@@ -131,7 +131,7 @@ chosen-there c now steps choice image n is_now image_is small =
           ∙ get_or_from_slice_get (kept_values now n) (choice n) (get_or image n []) [] value,
     )
 
-pub image-reads : (c now : Content) (steps : List Step) (choice : ℕ → ℕ) (image : List (List ℕ)) (k : Keying) (sector : ℕ) → now ≡ after steps c
+image-reads : (c now : Content) (steps : List Step) (choice : ℕ → ℕ) (image : List (List ℕ)) (k : Keying) (sector : ℕ) → now ≡ after steps c
     → IsContentOf (length c.base) c → AreSteps steps → IsKeying k → sector < content_media k c → IsImage now choice image
     → unit_readings k sector (sectors_in k sector image) ≡ read k sector (chosen k sector (cell c steps) choice)
 image-reads c now steps choice image k sector is_now content are is below image_is =
@@ -217,7 +217,7 @@ held-may ws there w may (inl kept) (inr h) =
     absurd (h.none v (Contains-get_or ws kept.0 (Raw []) lt) (sym (get_or-map device_bytes ws kept.0 (Raw []) there lt) ∙ kept.2))
 
 -- an image with sectors, in which each device sector of the logical sector has a kept value, or may be strange
-pub image-from_cells : (c : Content) (steps : List Step) (image : List (List ℕ)) (k : Keying) (sector : ℕ) (may : ℕ → Type 0)
+image-from_cells : (c : Content) (steps : List Step) (image : List (List ℕ)) (k : Keying) (sector : ℕ) (may : ℕ → Type 0)
     → IsContentOf (length c.base) c → AreSteps steps → IsKeying k → sector < content_media k c → length image ≡ length c.base → All IsSector image
     → ((n : ℕ) → n + 1 < length c.base → Contains (all_device_bytes (cell c steps n)) (get_or image n []) ⊎ may n)
     → ReadFromCells k sector (cell c steps) may image

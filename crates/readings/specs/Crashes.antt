@@ -4,7 +4,7 @@ use Rattle.block_traits.specs.Content.{Content}
 use Rattle.block_traits.specs.Crash.{IsAltered, IsImage, IsTorn, IsUnsettled}
 use Rattle.eli_base.specs.declared.algorithms.Auth.TheVariants.{Off}
 use Rattle.eli_base.specs.Keying.{Keying}
-use Rattle.sealing.specs.Sectors.{unit_place, units, unit_readings, piece_reading}
+use Rattle.sealing.specs.Sectors.{unit_place, units, unit_readings, unit_reading_at}
 use Rattle.readings.specs.Writings.{PutUnit, Writing, Put}
 use Rattle.readings.specs.Steps.{Step, Place, Flush, cell}
 use Rattle.readings.specs.Read.{Matches, matching, read}
@@ -37,13 +37,13 @@ pub record HasFaultCause (k : Keying) (sector j : ℕ) (cells : ℕ → List Wri
 
 -- ---- a unit that is accepted
 
--- with authentication unit j of a logical sector is a fault; or it reads as a piece, namely as one of these writings,
+-- with authentication unit j of a logical sector is a fault; or it reads by itself, namely as one of these writings,
 -- which is accepted there and has its cipher text, or its bytes are forged
 abbrev pub FaultsOrIsKnownOrForged : Keying → ℕ → ℕ → List (List ℕ) → List Writing → Type 0
 FaultsOrIsKnownOrForged k sector j image known =
     let n = unit_place k sector j in let there = get_or image n [] in
     (image_unit k sector image j ≡ Err (512 * n))
-    ⊎ ((image_unit k sector image j ≡ piece_reading k n there) × (ReadsAsOneOf k n there known ⊎ IsForged k n there known))
+    ⊎ ((image_unit k sector image j ≡ unit_reading_at k n there) × (ReadsAsOneOf k n there known ⊎ IsForged k n there known))
 
 -- ---- a logical sector of an image
 

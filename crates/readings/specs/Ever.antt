@@ -1,12 +1,12 @@
--- What was ever at a place of the disk, and pieces that were forged.
+-- What was ever at a place of the disk, and units that were forged.
 use Rattle.std.specs.Prelude.{◌≡◌, ◌≢◌, ℕ, ◌*◌, ◌==◌, Bool, IsTrue, List, [], ◌∷◌, ◌++◌, map, get_or, if◌then◌else◌, Contains}
 use Rattle.std.specs.Str.{bytes_eq}
 use Rattle.block_traits.specs.declared.disk.Event.{Event}
 use Rattle.block_traits.specs.declared.disk.Event.TheVariants as event
 use Rattle.block_traits.specs.Content.{Content}
 use Rattle.eli_base.specs.Keying.{Keying}
-use Rattle.sealing.specs.Pieces.{tag_of, kept_tag, cipher_text_in}
-use Rattle.sealing.specs.Sectors.{piece_size, piece_reading}
+use Rattle.sealing.specs.TaggedUnits.{tag_of, kept_tag, cipher_text_in}
+use Rattle.sealing.specs.Sectors.{unit_size_at, unit_reading_at}
 use Rattle.readings.specs.Writings.{Writing, Raw, device_bytes}
 use Rattle.readings.specs.Steps.{Step, Place, Flush}
 
@@ -26,13 +26,13 @@ placed_at (Flush ∷ steps) n = placed_at steps n
 abbrev pub ever : Content → List Step → ℕ → List Writing
 ever c steps n = map Raw (get_or c.base n [] ∷ written_to c.history n) ++ placed_at steps n
 
--- ---- the piece in device sector n, of a provider with authentication
+-- ---- the unit in device sector n, of a provider with authentication
 
--- the cipher text that these bytes have as the piece in device sector n
+-- the cipher text that these bytes have as the unit in device sector n
 abbrev pub cipher_text_at : Keying → ℕ → List ℕ → List ℕ
-cipher_text_at k n bytes = cipher_text_in k (piece_size k n) bytes
+cipher_text_at k n bytes = cipher_text_in k (unit_size_at k n) bytes
 
--- whether their tag is that of their cipher text: then the piece is accepted
+-- whether their tag is that of their cipher text: then the unit is accepted
 abbrev pub is_accepted : Keying → ℕ → List ℕ → Bool
 is_accepted k n bytes = bytes_eq (kept_tag k bytes) (tag_of k (512 * n) (cipher_text_at k n bytes))
 
@@ -64,4 +64,4 @@ pub record ReadsAsOneOf (k : Keying) (n : ℕ) (bytes : List ℕ) (ever : List W
   pub member : Writing
   pub is_in : Contains ever member
   pub same : HasCipherTextOf k n bytes member
-  pub reading : piece_reading k n bytes ≡ piece_reading k n (device_bytes member)
+  pub reading : unit_reading_at k n bytes ≡ unit_reading_at k n (device_bytes member)

@@ -7,8 +7,8 @@ ghost use Rattle.block_traits.specs.Crash.{IsAltered, IsImage, IsTorn, IsUnsettl
 ghost use Rattle.eli_base.specs.declared.algorithms.Auth.TheVariants.{Off};
 ghost use Rattle.eli_base.specs.Keying.{Keying};
 ghost use Rattle.range_keys.specs.Ring.{IsKeying};
-ghost use Rattle.sealing.specs.Pieces.{kept_tag, tag_of};
-ghost use Rattle.sealing.specs.Sectors.{piece_reading, seal, unit_readings, unit_place, units};
+ghost use Rattle.sealing.specs.TaggedUnits.{kept_tag, tag_of};
+ghost use Rattle.sealing.specs.Sectors.{unit_reading_at, seal, unit_readings, unit_place, units};
 ghost use Rattle.readings.specs.Writings.{AreWritings, Put, PutUnit, Writing, all_device_bytes};
 ghost use Rattle.readings.specs.Steps.{Flush, Place, Step, after, cell, events_of};
 ghost use Rattle.readings.specs.Read.{Matches, matching, opened_unit, read, read_unit, writing_in};
@@ -51,12 +51,12 @@ pub fn matching_is_put_there()
         (matching k sector j w ≡ Some p) ↔ Matches k sector j w p }
 {}
 
-/// What any bytes read as, as the piece in a device sector of a provider with authentication, for any list of
+/// What any bytes read as, as the unit in a device sector of a provider with authentication, for any list of
 /// writings: a fault at the byte offset of the device sector exactly where the tag in them isn't that of their
 /// cipher text; else as one of these writings that is accepted there and has their cipher text; else they are forged.
-pub fn pieces_fault_or_are_known_or_forged()
+pub fn units_fault_or_are_known_or_forged()
     ensures fault { (k : Keying) (n : ℕ) (bytes : List ℕ) →
-        (piece_reading k n bytes ≡ Err (512 * n)) ↔ (kept_tag k bytes ≢ tag_of k (512 * n) (cipher_text_at k n bytes)) }
+        (unit_reading_at k n bytes ≡ Err (512 * n)) ↔ (kept_tag k bytes ≢ tag_of k (512 * n) (cipher_text_at k n bytes)) }
     ensures accepted { (k : Keying) (n : ℕ) (bytes : List ℕ) (ever : List Writing) →
         kept_tag k bytes ≡ tag_of k (512 * n) (cipher_text_at k n bytes) →
         ReadsAsOneOf k n bytes ever ⊎ IsForged k n bytes ever }
@@ -64,7 +64,7 @@ pub fn pieces_fault_or_are_known_or_forged()
 
 /// Forged bytes have a tag that no accepted one of these writings has, or their cipher text and that of one of these
 /// writings are a collision of HMAC under one key.
-pub fn forged_pieces_are_new_tags_or_collisions()
+pub fn forged_units_are_new_tags_or_collisions()
     ensures { (k : Keying) (n : ℕ) (bytes : List ℕ) (ever : List Writing) → IsForged k n bytes ever →
         HasNewTag k n bytes ever ⊎ CollidesWithOneOf k n bytes ever }
 {}
@@ -131,7 +131,7 @@ pub fn tagged_units_fault_or_are_known_or_forged()
         let n = unit_place k sector j in let there = get_or image n [] in
         let reading = get_or (unit_readings k sector (sectors_in k sector image)) j (Ok []) in
         (reading ≡ Err (512 * n))
-        ⊎ ((reading ≡ piece_reading k n there) × (ReadsAsOneOf k n there ever ⊎ IsForged k n there ever)) }
+        ⊎ ((reading ≡ unit_reading_at k n there) × (ReadsAsOneOf k n there ever ⊎ IsForged k n there ever)) }
 {}
 
 /// The moment after some of the steps is that after these steps alone.

@@ -8,9 +8,9 @@ mod laws;
 
 pub use laws::{
     altered_image_reads_from_cells, cells_were_ever_there, faults_are_of_units_that_do_not_match,
-    flushed_writing_is_alone, forged_pieces_are_new_tags_or_collisions, image_reads_as_chosen,
+    flushed_writing_is_alone, forged_units_are_new_tags_or_collisions, image_reads_as_chosen,
     kept_values_are_cells, matching_is_put_there, matching_units_read_as_put,
-    moment_is_after_first_steps, other_steps_fit, pieces_fault_or_are_known_or_forged,
+    moment_is_after_first_steps, other_steps_fit, units_fault_or_are_known_or_forged,
     puts_are_sealed, raw_steps_log_their_events, sectors_read_as_they_stand,
     settled_unit_reads_as_put, steps_endure_crashes, tagged_units_fault_or_are_known_or_forged,
     torn_image_reads_from_cells, units_read_as_written, write_has_its_own_number,

@@ -12,15 +12,15 @@ unfolding digits
 digits-start n bytes long = (64, lit≤ tt, rw (drop_all 8 bytes (omega arith)) refl)
 
 -- the last digit of what is left
-pub digits_onto-next : (k n : ℕ) (after : List ℕ) → n / 16 ≢ 0 → digits_onto (suc k) 16 false n after ≡ digits_onto k 16 false (n / 16) (digit_glyph false (n % 16) ∷ after)
+digits_onto-next : (k n : ℕ) (after : List ℕ) → n / 16 ≢ 0 → digits_onto (suc k) 16 false n after ≡ digits_onto k 16 false (n / 16) (digit_glyph false (n % 16) ∷ after)
 digits_onto-next k n after more = grind (arith, nat_tests)
 
 -- the first digit
-pub digits_onto-last : (k n : ℕ) (after : List ℕ) → n / 16 ≡ 0 → digits_onto (suc k) 16 false n after ≡ digit_glyph false (n % 16) ∷ after
+digits_onto-last : (k n : ℕ) (after : List ℕ) → n / 16 ≡ 0 → digits_onto (suc k) 16 false n after ≡ digit_glyph false (n % 16) ∷ after
 digits_onto-last k n after none = rw none refl
 
 -- a byte put in front of the last ones
-pub drop-set_front : (bytes : List ℕ) (start byte : ℕ) → 1 ≤ start → start ≤ length bytes → drop (start - 1) (set bytes (start - 1) byte) ≡ byte ∷ drop start bytes
+drop-set_front : (bytes : List ℕ) (start byte : ℕ) → 1 ≤ start → start ≤ length bytes → drop (start - 1) (set bytes (start - 1) byte) ≡ byte ∷ drop start bytes
 drop-set_front bytes zero byte some inside = absurd (omega arith)
 drop-set_front bytes (suc start) byte some inside =
     let first : start < length (set bytes start byte) = omega (arith, length-set bytes start byte) in

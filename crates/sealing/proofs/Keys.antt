@@ -15,7 +15,7 @@ use Rattle.hmac_kdf.proofs.Bytes.{AreSoManyBytes-sha256, AreSoManyBytes-hmac512}
 use Rattle.hmac_kdf.proofs.Lengths.{length-hmac256, length-hmac384, length-hmac512}
 use Rattle.range_keys.specs.Keys.{range_key, first_key, iv, iv_key, le64, key_bytes}
 use Rattle.range_keys.specs.Ring.{IsKeying}
-use Rattle.sealing.specs.Pieces.{hmac_of}
+use Rattle.sealing.specs.TaggedUnits.{hmac_of}
 use Rattle.sha2.specs.Sha256.{sha256}
 use Rattle.sha2.proofs.Facts256.{length-sha256}
 

@@ -2,6 +2,6 @@ pub mod Joined
 pub mod Plain
 pub mod Keys
 pub mod Runs
-pub mod Pieces
+pub mod TaggedUnitLaws
 pub mod Sectors
 pub mod Single

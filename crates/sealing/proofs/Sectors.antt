@@ -15,9 +15,9 @@ use Rattle.eli_base.proofs.Units.{off_or_not, unit_whole, units_reach}
 use Rattle.range_keys.specs.Ring.{IsKeying}
 use Rattle.sealing.specs.Runs.{sealed_run, opened_run}
 use Rattle.sealing.specs.Sectors.{units, units_in, seal, sealed_with, opened_with, unit_readings, joined, reading}
-use Rattle.sealing.specs.Pieces.{opened_piece}
+use Rattle.sealing.specs.TaggedUnits.{opened_tagged}
 use Rattle.sealing.proofs.Joined.{joined-ok}
-use Rattle.sealing.proofs.Pieces.{length-tagged, length-seal-tagged, sealed_unit-tagged, opened_piece-sealed, length-unit_readings-tagged, unit_reading-tagged}
+use Rattle.sealing.proofs.TaggedUnitLaws.{length-tagged, length-seal-tagged, sealed_unit-tagged, opened_tagged-sealed, length-unit_readings-tagged, unit_reading-tagged}
 use Rattle.sealing.proofs.Plain.{units_fill}
 use Rattle.sealing.proofs.Runs.{length-sealed_run, opened-sealed_run}
 
@@ -113,8 +113,8 @@ opened_seal-tagged k sector bytes is on small size =
     (λ j lt.
     let inside : j < units k = rw count at lt in
     unit_reading-tagged k sector j (seal k sector bytes) on (rw sealed inside)
-    ∙ ap (opened_piece k (512 * (sector * units k) + 512 * j) (min d (k.sectorsize - d * j))) (sealed_unit-tagged k sector j bytes on inside)
-    ∙ opened_piece-sealed k (512 * (sector * units k) + 512 * j) (min d (k.sectorsize - d * j)) (part d j bytes) is (AreBytes-chunk (d * j) d bytes small) (blocks_of_unit k j bytes is size) (length-unit k j bytes size)
+    ∙ ap (opened_tagged k (512 * (sector * units k) + 512 * j) (min d (k.sectorsize - d * j))) (sealed_unit-tagged k sector j bytes on inside)
+    ∙ opened_tagged-sealed k (512 * (sector * units k) + 512 * j) (min d (k.sectorsize - d * j)) (part d j bytes) is (AreBytes-chunk (d * j) d bytes small) (blocks_of_unit k j bytes is size) (length-unit k j bytes size)
     ∙ ap Ok (sym (get_or-parts d (units k) j bytes inside))
     ∙ sym (get_or-map ok (units_in k bytes) j [] (Ok []) (rw same inside)))
 

@@ -1,3 +1,3 @@
 pub mod Runs
-pub mod Pieces
+pub mod TaggedUnits
 pub mod Sectors

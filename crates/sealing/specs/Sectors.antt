@@ -9,7 +9,7 @@ use Rattle.eli_base.specs.declared.algorithms.Cipher.TheVariants.{AesXts}
 use Rattle.eli_base.specs.Keying.{Keying}
 use Rattle.eli_base.specs.Units.{units_per_sector, unit_bytes_of}
 use Rattle.sealing.specs.Runs.{sealed_run, opened_run}
-use Rattle.sealing.specs.Pieces.{sealed_piece, opened_piece}
+use Rattle.sealing.specs.TaggedUnits.{sealed_tagged, opened_tagged}
 
 -- the device sectors of a logical sector
 abbrev pub units : Keying → ℕ
@@ -35,7 +35,7 @@ units_in k bytes = parts (unit_bytes_of k.auth) (units k) bytes
 
 -- with authentication, the device sector of unit j of a logical sector with these bytes
 abbrev pub sealed_unit : Keying → ℕ → List ℕ → ℕ → List ℕ
-sealed_unit k sector bytes j = sealed_piece k (512 * unit_place k sector j) (part (unit_bytes_of k.auth) j bytes)
+sealed_unit k sector bytes j = sealed_tagged k (512 * unit_place k sector j) (part (unit_bytes_of k.auth) j bytes)
 
 -- without authentication the whole logical sector is one run, which stands at its number times its size; with it
 -- each unit is a run of its own, with a tag
@@ -51,7 +51,7 @@ seal k sector bytes = sealed_with k.auth k sector bytes
 
 -- with authentication, what unit j of a logical sector reads as, from its device sectors
 abbrev pub unit_reading : Keying → ℕ → List (List ℕ) → ℕ → Result (List ℕ) ℕ
-unit_reading k sector sectors j = opened_piece k (512 * unit_place k sector j) (unit_size k j) (get_or sectors j [])
+unit_reading k sector sectors j = opened_tagged k (512 * unit_place k sector j) (unit_size k j) (get_or sectors j [])
 
 abbrev pub opened_with : Auth → Keying → ℕ → List (List ℕ) → List (Result (List ℕ) ℕ)
 opened_with Off k sector sectors = map Ok (parts 512 (units k) (opened_run k (sector * k.sectorsize) (concat sectors)))
@@ -78,13 +78,13 @@ reading k sector sectors = joined (unit_readings k sector sectors)
 
 -- ---- one device sector alone, with authentication
 
--- the plain bytes of the piece in device sector n
-abbrev pub piece_size : Keying → ℕ → ℕ
-piece_size k n = unit_size k (n % units k)
+-- the plain bytes of the unit in device sector n
+abbrev pub unit_size_at : Keying → ℕ → ℕ
+unit_size_at k n = unit_size k (n % units k)
 
 -- what it reads as there
-abbrev pub piece_reading : Keying → ℕ → List ℕ → Result (List ℕ) ℕ
-piece_reading k n sector = opened_piece k (512 * n) (piece_size k n) sector
+abbrev pub unit_reading_at : Keying → ℕ → List ℕ → Result (List ℕ) ℕ
+unit_reading_at k n sector = opened_tagged k (512 * n) (unit_size_at k n) sector
 
 -- ---- one device sector alone, without authentication
 

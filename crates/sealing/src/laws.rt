@@ -6,8 +6,8 @@ ghost use Rattle.eli_base.specs.declared.algorithms.Auth.TheVariants.{Off};
 ghost use Rattle.eli_base.specs.Keying.{Keying};
 ghost use Rattle.range_keys.specs.Keys.{first_key, second_key, tweak};
 ghost use Rattle.range_keys.specs.Ring.{IsKeying};
-ghost use Rattle.sealing.specs.Pieces.{sealed_piece};
-ghost use Rattle.sealing.specs.Sectors.{IsSingle, piece_reading, reading, seal, unit_place, unit_readings, units, units_in};
+ghost use Rattle.sealing.specs.TaggedUnits.{sealed_tagged};
+ghost use Rattle.sealing.specs.Sectors.{IsSingle, unit_reading_at, reading, seal, unit_place, unit_readings, units, units_in};
 ghost use Rattle.xts_mode.specs.Xts.{xts_open, xts_seal};
 
 /// A law: what a logical sector is sealed to reads as its plain bytes, unit by unit and as a whole.
@@ -35,9 +35,9 @@ pub fn each_unit_is_read()
 /// sector and of its bytes.
 pub fn tagged_units_stand_alone()
     ensures sealed { (k : Keying) (sector j : ℕ) (bytes : List ℕ) → k.auth ≢ Off → j < units k →
-        get_or (seal k sector bytes) j [] ≡ sealed_piece k (512 * unit_place k sector j) (get_or (units_in k bytes) j []) }
+        get_or (seal k sector bytes) j [] ≡ sealed_tagged k (512 * unit_place k sector j) (get_or (units_in k bytes) j []) }
     ensures read { (k : Keying) (sector j : ℕ) (sectors : List (List ℕ)) → k.auth ≢ Off → length sectors ≡ units k → j < units k →
-        get_or (unit_readings k sector sectors) j (Ok []) ≡ piece_reading k (unit_place k sector j) (get_or sectors j []) }
+        get_or (unit_readings k sector sectors) j (Ok []) ≡ unit_reading_at k (unit_place k sector j) (get_or sectors j []) }
 {}
 
 /// A law: so are they with logical sectors of 512 bytes, AES-XTS and no authentication: XTS at the device sector's byte

@@ -22,7 +22,7 @@ use Rattle.sealing.specs.Sectors.{units}
 use Rattle.sha_stream.specs.Hasher.{Holds256}
 use Rattle.sha_stream.specs.declared.hasher.Sha256.{Sha256}
 use Rattle.command_rows.specs.Steps.{SectorsAnswer}
-use Rattle.command_rows.specs.verbs.Fill.{generated, words_of}
+use Rattle.command_rows.specs.verbs.Fill.{generated, words_of_sectors}
 use Rattle.command_rows.proofs.Generated.{fill-whole, generated-more}
 
 -- ---- the size of a batch
@@ -54,7 +54,7 @@ same_media k now d d' same size = λ i. media_sectors (same i).auth (same i).sec
 
 -- the writes of so many sectors with the next words of a generator
 abbrev pub left_writes : Keying → ℕ → ℕ → Lcg → List Event
-left_writes k sector left g = data_writes k sector left (generated (words_of k.sectorsize left) g).0
+left_writes k sector left g = data_writes k sector left (generated (words_of_sectors k.sectorsize left) g).0
 
 words_bytes : (n w size : ℕ) → size ≡ 8 * w → n * size ≡ 8 * (n * w)
 words_bytes n w size h = ap (λ (s : ℕ). n * s) h ∙ omega arith

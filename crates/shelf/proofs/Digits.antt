@@ -32,7 +32,7 @@ parts (Some h) (Some l) a b i w e = record { high = h; low = l; first = refl; se
 parts (Some h) None a b i w e = cc e
 parts None p a b i w e = cc e
 
-pub pair_is : (a b i w : ℕ) → pair_value a b i ≡ Ok w → w ≡ (digit_value a * 16 % 256 + digit_value b) % 256
+pair_is : (a b i w : ℕ) → pair_value a b i ≡ Ok w → w ≡ (digit_value a * 16 % 256 + digit_value b) % 256
 pair_is a b i w e =
     let p = parts (hex_digit_value a) (hex_digit_value b) a b i w e in
     let ha = value_is a p.high p.first in

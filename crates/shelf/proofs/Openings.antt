@@ -56,7 +56,7 @@ tried_as t slot readonly found room opens =
     ∙ ap (or_wrong_key (settings_of t.params) readonly) opens
 
 -- it has none
-pub tried_small : (t : Trial) (slot : Option ℕ) (readonly : Bool) → media_sectors t.params.auth t.params.sectorsize t.params.provsize ≡ 0 → tried_in slot readonly t ≡ Err (refusals.TooSmall t.params.provsize)
+tried_small : (t : Trial) (slot : Option ℕ) (readonly : Bool) → media_sectors t.params.auth t.params.sectorsize t.params.provsize ≡ 0 → tried_in slot readonly t ≡ Err (refusals.TooSmall t.params.provsize)
 tried_small t slot readonly none =
     let by : ℕ → Result Attachment Refusal = λ n. if n == 0 then Err (refusals.TooSmall t.params.provsize) else or_wrong_key (settings_of t.params) readonly (opened t.meta t.key.bytes slot) in
     ap by none

@@ -34,7 +34,7 @@ use Rattle.shelf.proofs.Sectors.{at, whole_is, whole_sectors-count}
 -- ---- `submit`
 
 -- the queue answered so
-pub submits : {D : Type 0} (state : D → DiskState) (cabinet : CabinetState) (entropy : EntropyState) (old new : Attached D) (queue left : List Request) (job : Job) (from : List ℕ) (result : Result ℕ SubmitFault) → new ≡ old
+submits : {D : Type 0} (state : D → DiskState) (cabinet : CabinetState) (entropy : EntropyState) (old new : Attached D) (queue left : List Request) (job : Job) (from : List ℕ) (result : Result ℕ SubmitFault) → new ≡ old
     → SubmitAnswers old.keying old.readonly (state old.disk) job from queue left result
     → Submits (attachment_of queue old) job from (at state queue cabinet entropy old) (or_refusal submit_refusal result) (at state left cabinet entropy new)
 submits state cabinet entropy old new queue left job from result same h =

@@ -22,7 +22,7 @@ use Rattle.reply_text.specs.Text.{numbers_in}
 use Rattle.reply_text.proofs.Offsets.{numbers_in-next}
 use Rattle.sealing.specs.Sectors.{units}
 use Rattle.verify_sweep.specs.Parts.{sweep_at}
-use Rattle.verify_sweep.specs.Sweeping.{ListsFailing, failing_units, faults_in, le64s, pieces_read, sectors_swept}
+use Rattle.verify_sweep.specs.Sweeping.{ListsFailing, failing_units, faults_in, le64s, unit_readings_at, sectors_swept}
 use Rattle.verify_sweep.specs.declared.sweeping.Swept.{Swept}
 use Rattle.command_rows.specs.Steps.{StoresBytes, Then}
 use Rattle.command_rows.specs.World.{Holding, Reach, reach_of}
@@ -51,9 +51,9 @@ read_next : (accepted : Bool) (bytes : List ℕ) (offset : ℕ) (readings : List
 read_next true bytes offset readings more small rest = rest
 read_next false bytes offset readings more small rest = read_one offset (faults_in readings) more small rest
 
-pub offsets_read : (k : Keying) (n : ℕ) (sectors : List (List ℕ)) (more : List ℕ) → 512 * (n + length sectors) ≤ 2 ^ 64 → AreRead more (failing_units k n sectors)
+offsets_read : (k : Keying) (n : ℕ) (sectors : List (List ℕ)) (more : List ℕ) → 512 * (n + length sectors) ≤ 2 ^ 64 → AreRead more (failing_units k n sectors)
 offsets_read k n [] more small = read_none more
-offsets_read k n (sector ∷ sectors) more small = read_next _ _ (512 * n) (pieces_read k (n + 1) sectors) more (omega arith) (offsets_read k (n + 1) sectors more (omega arith))
+offsets_read k n (sector ∷ sectors) more small = read_next _ _ (512 * n) (unit_readings_at k (n + 1) sectors) more (omega arith) (offsets_read k (n + 1) sectors more (omega arith))
 
 -- ---- no more are listed than units were read
 
@@ -64,7 +64,7 @@ fewer_next false bytes offset readings most rest = omega arith
 
 fewer_listed : (k : Keying) (n : ℕ) (sectors : List (List ℕ)) → length (failing_units k n sectors) ≤ length sectors
 fewer_listed k n [] = omega arith
-fewer_listed k n (sector ∷ sectors) = fewer_next _ _ (512 * n) (pieces_read k (n + 1) sectors) (length sectors) (fewer_listed k (n + 1) sectors)
+fewer_listed k n (sector ∷ sectors) = fewer_next _ _ (512 * n) (unit_readings_at k (n + 1) sectors) (length sectors) (fewer_listed k (n + 1) sectors)
 
 few_units : (count units : ℕ) → count ≤ 16384 / units → count * units ≤ 16384
 few_units count units few =

@@ -12,7 +12,7 @@ use Rattle.provider.specs.Attached.{Attached, IsKept, media}
 use Rattle.provider.specs.Writing.{data_writes}
 use Rattle.rand_pcg.specs.Lcg.{Lcg}
 use Rattle.command_rows.specs.Steps.{DoesEvents, NeedsSectors, NeedsWritable, ReadsSectors, if_writable, in_range, or_refusal}
-use Rattle.command_rows.specs.verbs.Fill.{FillRow, generated, generator, words_of, workload}
+use Rattle.command_rows.specs.verbs.Fill.{FillRow, generated, generator, words_of_sectors, workload}
 use Rattle.command_rows.specs.verbs.Sum.{SumAnswer, SumRow}
 use Rattle.shelf.specs.Shelved.{attachment_of}
 use Rattle.shelf.proofs.Rows.{Then-goes_on, Then-refused}
@@ -41,12 +41,12 @@ written events old new (Err failed) ok err = err
 -- the sectors were written, or the disk failed
 pub fill_writes : {D : Type 0} (state : D → DiskState) (queue : List Request) (cabinet : CabinetState) (entropy : EntropyState) (old new : Attached D) (seed start count many : ℕ) (g : Lcg) (result : Result (Unit {0}) DiskFailed) → old.readonly ≡ false
     → Ok tt ≡ in_range start count (media old.keying (state old.disk)) → IsKept old new → many ≡ count → g ≡ generator seed
-    → OnOk result (Logs (data_writes old.keying start many (generated (words_of old.keying.sectorsize many) g).0) (state old.disk) (state new.disk))
-    → OnErr result (FailsIn (data_writes old.keying start many (generated (words_of old.keying.sectorsize many) g).0) (state old.disk) (state new.disk)) → (state new.disk).reads ≡ (state old.disk).reads
+    → OnOk result (Logs (data_writes old.keying start many (generated (words_of_sectors old.keying.sectorsize many) g).0) (state old.disk) (state new.disk))
+    → OnErr result (FailsIn (data_writes old.keying start many (generated (words_of_sectors old.keying.sectorsize many) g).0) (state old.disk) (state new.disk)) → (state new.disk).reads ≡ (state old.disk).reads
     → FillRow seed start count (attachment_of queue old) (at state queue cabinet entropy old) (or_refusal (λ failed. refusals.DeviceFault) result) (at state queue cabinet entropy new)
 fill_writes state queue cabinet entropy old new seed start count many g result writable fits kept all begun ok err unasked =
-    let events : data_writes old.keying start many (generated (words_of old.keying.sectorsize many) g).0 ≡ data_writes old.keying start count (workload seed (words_of old.keying.sectorsize count)) =
-    λ i. data_writes old.keying start (all i) (generated (words_of old.keying.sectorsize (all i)) (begun i)).0 in
+    let events : data_writes old.keying start many (generated (words_of_sectors old.keying.sectorsize many) g).0 ≡ data_writes old.keying start count (workload seed (words_of_sectors old.keying.sectorsize count)) =
+    λ i. data_writes old.keying start (all i) (generated (words_of_sectors old.keying.sectorsize (all i)) (begun i)).0 in
     Then-goes_on (NeedsWritable (attachment_of queue old)) _ (at state queue cabinet entropy old) (at state queue cabinet entropy old) tt _ _ (sym (ap if_writable writable), refl)
     (Then-goes_on (NeedsSectors (attachment_of queue old) start count) _ (at state queue cabinet entropy old) (at state queue cabinet entropy old) tt _ _ (fits, refl)
     (record {

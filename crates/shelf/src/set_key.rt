@@ -10,7 +10,7 @@ ghost use Rattle.command_rows.specs.Turn.{GoesThrough};
 ghost use Rattle.eli_metadata.specs.Checks.{settings_of, supported};
 ghost use Rattle.key_commands.specs.NewKey.{KeyChange};
 ghost use Rattle.command_rows.specs.World.{Holding, Idle, reach_of};
-ghost use Rattle.command_rows.specs.verbs.Setkey.{SetkeyAttachedRow, SetkeyIdleRow, StoresKey, if_there, opened_by, usable};
+ghost use Rattle.command_rows.specs.verbs.Setkey.{SetkeyAttachedRow, SetkeyIdleRow, StoresKey, if_there, slot_opened_by, usable};
 ghost use Rattle.reply_text.specs.Text.{FitsPayload};
 ghost use Rattle.shelf.specs.Shelved.{reach_in, reach_on};
 ghost use Rattle.shelf.specs.Verbs.{IsSetkey};
@@ -56,7 +56,7 @@ fn needs_slot(slot: Option<u8>) -> Result<(), Refusal>
 // The master key that the components of a key open, and the number of the first slot that they open.
 fn open(meta: &Metadata, params: &Params, parts: &Components) -> Result<(MasterKey, u8), Refusal>
     requires { supported meta.now ≡ Ok (settings_of params.now) }
-    ensures answer { result ≡ opened_by meta.now (user_key parts.now meta.now.salt meta.now.iterations) }
+    ensures answer { result ≡ slot_opened_by meta.now (user_key parts.now meta.now.salt meta.now.iterations) }
     ensures slot { IfOk result (λ found. found.1 < 2) }
 {
     let key = match derive(parts, &meta.salt, meta.iterations) {

@@ -11,7 +11,7 @@ ghost use Rattle.provider.specs.Writing.{data_writes};
 ghost use Rattle.command_rows.specs.Requests.{handed_out};
 ghost use Rattle.command_rows.specs.Steps.{SectorsAnswer, in_range};
 ghost use Rattle.eli_base.specs.Requests.{request_limit};
-ghost use Rattle.command_rows.specs.verbs.Fill.{FillRow, generated, words_of};
+ghost use Rattle.command_rows.specs.verbs.Fill.{FillRow, generated, words_of_sectors};
 ghost use Rattle.command_rows.specs.verbs.Sum.{SumAnswer, SumRow};
 ghost use Rattle.shelf.specs.Shelved.{attachment_of, reach_on};
 
@@ -77,9 +77,9 @@ fn write_words<D: Disk>(
     requires writable { provider.old.readonly ≡ false }
     requires order { start ≤ end }
     requires there { end ≤ media provider.old.keying (D.state provider.old.disk) }
-    ensures ok { OnOk result (Logs (data_writes provider.old.keying start (end - start) (generated (words_of provider.old.keying.sectorsize (end - start)) generator.old).0)
+    ensures ok { OnOk result (Logs (data_writes provider.old.keying start (end - start) (generated (words_of_sectors provider.old.keying.sectorsize (end - start)) generator.old).0)
         (D.state provider.old.disk) (D.state provider.new.disk)) }
-    ensures err { OnErr result (FailsIn (data_writes provider.old.keying start (end - start) (generated (words_of provider.old.keying.sectorsize (end - start)) generator.old).0)
+    ensures err { OnErr result (FailsIn (data_writes provider.old.keying start (end - start) (generated (words_of_sectors provider.old.keying.sectorsize (end - start)) generator.old).0)
         (D.state provider.old.disk) (D.state provider.new.disk)) }
     ensures unasked { (D.state provider.new.disk).reads ≡ (D.state provider.old.disk).reads }
     ensures kept { IsKept provider.old provider.new }

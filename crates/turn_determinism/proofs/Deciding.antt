@@ -14,7 +14,7 @@ use Rattle.turn_determinism.proofs.Alike.{Alike}
 use Rattle.turn_determinism.proofs.Steps.{Both, HasMemory, Later, Settled, Sure, settled, settled_still, still_later}
 
 -- what is decided by what is reached, the same of reaches that are alike
-pub decides_by : {A : Type 0} (decided : Reach → Result A Refusal) → ((r r' : Reach) → Alike r r' → decided r' ≡ decided r) → Sure (λ old answer new. Decides (decided old) old answer new)
+decides_by : {A : Type 0} (decided : Reach → Result A Refusal) → ((r r' : Reach) → Alike r r' → decided r' ≡ decided r) → Sure (λ old answer new. Decides (decided old) old answer new)
 decides_by decided same = record {
   goes = λ old answer new h. still_later old new h.1;
   settles = λ old old' answer answer' new new' both memory memory' h h'. settled_still old old' answer answer' new new' both (h'.0 ∙ same old old' both.same ∙ sym h.0) h.1 h'.1;

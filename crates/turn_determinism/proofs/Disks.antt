@@ -52,19 +52,19 @@ same_holding old old' new new' same is is' = is' ∙ same.holding ∙ sym is
 
 -- ---- events
 
-pub events_later : (events : List Event) (old : DiskState) (answer : Result (Unit {0}) Refusal) (new : DiskState) → DoesEvents events old answer new → old.faults ≤ new.faults
+events_later : (events : List Event) (old : DiskState) (answer : Result (Unit {0}) Refusal) (new : DiskState) → DoesEvents events old answer new → old.faults ≤ new.faults
 events_later events old (Ok done) new h = h.faults
 events_later events old (Err refusals.DeviceFault) new h = h.logs.faults
 events_later events old (Err refusal) new h = absurd h
 
 -- all are logged, where the disk doesn't fail
-pub events_done : (events : List Event) (old : DiskState) (answer : Result (Unit {0}) Refusal) (new : DiskState) → ¬ Rose old.faults new.faults → DoesEvents events old answer new → (answer ≡ Ok tt) × Logs events old new
+events_done : (events : List Event) (old : DiskState) (answer : Result (Unit {0}) Refusal) (new : DiskState) → ¬ Rose old.faults new.faults → DoesEvents events old answer new → (answer ≡ Ok tt) × Logs events old new
 events_done events old (Ok done) new quiet h = (refl, h)
 events_done events old (Err refusals.DeviceFault) new quiet h = absurd (quiet h.rose)
 events_done events old (Err refusal) new quiet h = absurd h
 
 -- the same events are done, and nothing is read
-pub events_alike : (events : List Event) (d d' : DiskState) (answer answer' : Result (Unit {0}) Refusal) (e e' : DiskState) → AlikeDisk d d' → ¬ Rose d.faults e.faults → ¬ Rose d'.faults e'.faults
+events_alike : (events : List Event) (d d' : DiskState) (answer answer' : Result (Unit {0}) Refusal) (e e' : DiskState) → AlikeDisk d d' → ¬ Rose d.faults e.faults → ¬ Rose d'.faults e'.faults
     → DoesEvents events d answer e → DoesEvents events d' answer' e' → e.reads ≡ d.reads → e'.reads ≡ d'.reads → (answer' ≡ answer) × AlikeDisk e e'
 events_alike events d d' answer answer' e e' same quiet quiet' h h' unasked unasked' =
     let is = events_done events d answer e quiet h in
@@ -122,7 +122,7 @@ record FindsLast (d : DiskState) (c : Content) (read : Result Metadata ReadMetaF
   logs : Logs [] d e
   asked : Counted 1 d.reads e.reads
 
-pub metadata_later : (d : DiskState) (read : Result Metadata ReadMetaFault) (e : DiskState) → ReadsMetadata d read e → d.faults ≤ e.faults
+metadata_later : (d : DiskState) (read : Result Metadata ReadMetaFault) (e : DiskState) → ReadsMetadata d read e → d.faults ≤ e.faults
 metadata_later d (Ok m) e h = h.logs.faults
 metadata_later d (Err (TooSmall size)) e h = same_disk_later d e h.2
 metadata_later d (Err DeviceFault) e h = h.fails.logs.faults
@@ -154,7 +154,7 @@ metadata_by d d' read read' e e' same (inr h) (inl h') = absurd (omega (arith, h
 metadata_by d d' read read' e e' same (inr h) (inr h') =
     (h'.is ∙ ap (λ (n : ℕ). as_read (metadata_in (present same.content (n - 1)))) same.size ∙ sym h.is, logs_alike [] d d' e e' same h.logs h'.logs (counted_same 1 same.reads h.asked h'.asked))
 
-pub metadata_alike : (d d' : DiskState) (read read' : Result Metadata ReadMetaFault) (e e' : DiskState) → AlikeDisk d d' → ¬ Rose d.faults e.faults → ¬ Rose d'.faults e'.faults → ReadsMetadata d read e → ReadsMetadata d' read' e'
+metadata_alike : (d d' : DiskState) (read read' : Result Metadata ReadMetaFault) (e e' : DiskState) → AlikeDisk d d' → ¬ Rose d.faults e.faults → ¬ Rose d'.faults e'.faults → ReadsMetadata d read e → ReadsMetadata d' read' e'
     → (read' ≡ read) × AlikeDisk e e'
 metadata_alike d d' read read' e e' same quiet quiet' h h' =
     metadata_by d d' read read' e e' same (metadata_is d same.content read e same.told quiet h) (metadata_is d' same.content read' e' same.told' quiet' h')
@@ -170,7 +170,7 @@ reads_last_sure = record {
 
 -- ---- sectors are read
 
-pub run_later : (k : Keying) (sector count : ℕ) (d : DiskState) (answer : Result (List ℕ) Refusal) (e : DiskState) → SectorsAnswer k sector count d answer e → d.faults ≤ e.faults
+run_later : (k : Keying) (sector count : ℕ) (d : DiskState) (answer : Result (List ℕ) Refusal) (e : DiskState) → SectorsAnswer k sector count d answer e → d.faults ≤ e.faults
 run_later k sector count d (Ok bytes) e h = h.1.faults
 run_later k sector count d (Err (refusals.Integrity offset)) e h = h.logs.faults
 run_later k sector count d (Err refusals.DeviceFault) e h = h.fails.logs.faults
@@ -214,7 +214,7 @@ unfolding units_asked
 asks_same k sector count (Ok bytes) many many' h h' = h' ∙ sym h
 asks_same k sector count (Err offset) many many' h h' = omega (arith, h, h')
 
-pub run_alike : (k : Keying) (sector count : ℕ) (d d' : DiskState) (answer answer' : Result (List ℕ) Refusal) (e e' : DiskState) → AlikeDisk d d' → ¬ Rose d.faults e.faults → ¬ Rose d'.faults e'.faults
+run_alike : (k : Keying) (sector count : ℕ) (d d' : DiskState) (answer answer' : Result (List ℕ) Refusal) (e e' : DiskState) → AlikeDisk d d' → ¬ Rose d.faults e.faults → ¬ Rose d'.faults e'.faults
     → SectorsAnswer k sector count d answer e → SectorsAnswer k sector count d' answer' e' → (answer' ≡ answer) × AlikeDisk e e'
 run_alike k sector count d d' answer answer' e e' same quiet quiet' h h' =
     let r = run_is k sector count same.content d answer e same.told quiet h in

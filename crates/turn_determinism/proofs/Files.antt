@@ -139,7 +139,7 @@ place_file_settled line file old old' answer answer' new new' both memory memory
     let s = file_settled place_size line file old old' h.loaded h'.loaded new new' both (absent_memory h.loaded (subst P h.answered memory)) (absent_memory h'.loaded (subst P h'.answered memory')) h.loads h'.loads in
     settled both.counts answer answer' new new' (h'.answered ∙ ap unless_absent s.agrees ∙ sym h.answered) s.same (λ on. counted_same 1 (both.loads on) h.loads.asked h'.loads.asked)
 
-pub place_file_sure : (line : List ℕ) (file : Span) → Sure (LoadsPlace line file)
+place_file_sure : (line : List ℕ) (file : Span) → Sure (LoadsPlace line file)
 place_file_sure line file = record { goes = λ old answer new h. cabinet_later old new h.loads.keeps.faults h.loads.disk h.loads.entropy; settles = place_file_settled line file }
 
 pub finds_place_sure : (restart : Bool) (line : List ℕ) (file : Span) → Sure (FindsPlace restart line file)

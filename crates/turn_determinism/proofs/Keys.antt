@@ -26,7 +26,7 @@ use Rattle.user_key.specs.declared.components.UserKey.{UserKey}
 use Rattle.command_rows.specs.Steps.{MakesProvider, without_value}
 use Rattle.command_rows.specs.World.{Reach}
 use Rattle.command_rows.specs.verbs.Delkey.{TakesKeysOut}
-use Rattle.command_rows.specs.verbs.Restore.{WritesBack}
+use Rattle.command_rows.specs.verbs.Restore.{RestoresBackup}
 use Rattle.command_rows.specs.verbs.Setkey.{StoresKey}
 use Rattle.turn_determinism.proofs.Alike.{AlikeDisk, AlikeEntropy, logs_alike, still_cabinet, still_disk, still_entropy, takes_alike, takes_same, uncounted_same}
 use Rattle.turn_determinism.proofs.Disks.{beside_later, beside_settled, same_holding, same_loads}
@@ -310,7 +310,7 @@ restores_by bytes force d d' made made' e e' same (inr x) (inr x') =
     let refusal : x'.refusal ≡ x.refusal = cc given in
     (x'.is ∙ ap (λ (r : Refusal). Err r) refusal ∙ sym x.is, still_disk d d' e e' same x.disk x'.disk)
 
-pub writes_back_sure : (bytes : List ℕ) (force : Bool) → Sure (WritesBack bytes force)
+pub writes_back_sure : (bytes : List ℕ) (force : Bool) → Sure (RestoresBackup bytes force)
 writes_back_sure bytes force = record {
   goes = λ old answer new h. beside_later old new (restores_later bytes force old.disk answer new.disk h.restores) h.outside.cabinet h.outside.entropy;
   settles = λ old old' answer answer' new new' both memory memory' h h'.

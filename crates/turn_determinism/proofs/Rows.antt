@@ -23,13 +23,13 @@ use Rattle.command_rows.specs.Turn.{AttachRow, AttachesUnless, ReadRow, WriteRow
 use Rattle.command_rows.specs.World.{Attachment, Holding, Kept, Reach, attachment_in}
 use Rattle.command_rows.specs.verbs.Backup.{BackupRow, FindsLastSector}
 use Rattle.command_rows.specs.verbs.Delkey.{DeletesRow, DelkeyRow, NamesSlots, named_slots, slot_of}
-use Rattle.command_rows.specs.verbs.Fill.{FillRow, words_of, workload}
+use Rattle.command_rows.specs.verbs.Fill.{FillRow, words_of_sectors, workload}
 use Rattle.command_rows.specs.verbs.Init.{InitRow}
 use Rattle.command_rows.specs.verbs.Kill.{DestroysMetadata, KillRow, Withdraws}
 use Rattle.command_rows.specs.verbs.Reap.{ReapRow, ReapsRequest}
-use Rattle.command_rows.specs.verbs.Restore.{RestoreRow, WritesBack}
+use Rattle.command_rows.specs.verbs.Restore.{RestoreRow, RestoresBackup}
 use Rattle.command_rows.specs.verbs.Resume.{AttachesAgain, NeedsSameKey, ResumeRow, same_key}
-use Rattle.command_rows.specs.verbs.Setkey.{IsUsed, NeedsSlot, OpensSlot, SetkeyAttachedRow, SetkeyIdleRow, SetkeyRow, if_there, opened_by}
+use Rattle.command_rows.specs.verbs.Setkey.{IsUsed, NeedsSlot, OpensSlot, SetkeyAttachedRow, SetkeyIdleRow, SetkeyRow, if_there, slot_opened_by}
 use Rattle.command_rows.specs.verbs.Step.{StepRow, StepsRequest}
 use Rattle.command_rows.specs.verbs.Submit.{SubmitRow, Submits}
 use Rattle.command_rows.specs.verbs.Sum.{SumRow}
@@ -62,7 +62,7 @@ write_row_sure sector bytes a =
 
 pub fill_row_sure : (seed start count : ℕ) (a : Attachment) → Sure (FillRow seed start count a)
 fill_row_sure seed start count a =
-    let bytes : List ℕ = workload seed (words_of a.keying.sectorsize count) in
+    let bytes : List ℕ = workload seed (words_of_sectors a.keying.sectorsize count) in
     then_sure (NeedsWritable a) (λ _. Then (NeedsSectors a start count) (λ _. WritesSectors a start count bytes)) (decides_sure (if_writable a.readonly))
     (λ _. written_sure a start count bytes)
 
@@ -74,7 +74,7 @@ sum_row_sure start count a =
 
 -- ---- keys
 
-pub try_row_sure : (line : List ℕ) (slot : Option ℕ) (readonly : Bool) (words : KeyWords) → Sure (TryRow line slot readonly words)
+try_row_sure : (line : List ℕ) (slot : Option ℕ) (readonly : Bool) (words : KeyWords) → Sure (TryRow line slot readonly words)
 try_row_sure line slot readonly words =
     then_sure ReadsLastSector _ reads_last_sure
     (λ m. then_sure (Admits m slot) _ (admits_sure m slot)
@@ -101,17 +101,17 @@ init_row_sure line options fresh backup =
     (λ parts. then_sure (MakesProvider options parts) (λ m. BacksUp line backup m) (makes_sure options parts)
     (λ m. backs_up_sure line backup m))
 
-pub setkey_idle_sure : (line : List ℕ) (iterations : Option ℤ) (slot : Option ℕ) (words fresh : KeyWords) → Sure (SetkeyIdleRow line iterations slot words fresh)
+setkey_idle_sure : (line : List ℕ) (iterations : Option ℤ) (slot : Option ℕ) (words fresh : KeyWords) → Sure (SetkeyIdleRow line iterations slot words fresh)
 setkey_idle_sure line iterations slot words fresh =
     then_sure ReadsLastSector _ reads_last_sure
     (λ m. then_sure (Admits m None) _ (admits_sure m None)
     (λ _. then_sure (NeedsSlot slot) _ (decides_sure (if_there slot))
     (λ _. then_sure (LoadsComponents line words) _ (components_sure line words)
     (λ parts. then_sure (LoadsComponents line fresh) _ (components_sure line fresh)
-    (λ next. then_sure (OpensSlot m parts) _ (decides_sure (opened_by m (user_key parts m.salt m.iterations)))
+    (λ next. then_sure (OpensSlot m parts) _ (decides_sure (slot_opened_by m (user_key parts m.salt m.iterations)))
     (λ found. stores_key_sure (record { meta = m; master = found.0.bytes; slot = unwrap_or slot found.1; iterations = iterations; parts = next })))))))
 
-pub setkey_attached_sure : (line : List ℕ) (iterations : Option ℤ) (slot : ℕ) (master : List ℕ) (fresh : KeyWords) → Sure (SetkeyAttachedRow line iterations slot master fresh)
+setkey_attached_sure : (line : List ℕ) (iterations : Option ℤ) (slot : ℕ) (master : List ℕ) (fresh : KeyWords) → Sure (SetkeyAttachedRow line iterations slot master fresh)
 setkey_attached_sure line iterations slot master fresh =
     then_sure ReadsLastSector _ reads_last_sure
     (λ m. then_sure (IsUsed m) _ (used_sure m)
@@ -146,7 +146,7 @@ setkey_row_sure line iterations slot words fresh =
     (setkey_idle_sure line iterations slot words fresh)
     (λ a. setkey_attached_sure line iterations (unwrap_or slot a.slot) a.keying.master fresh)
 
-pub deletes_row_sure : (all force : Bool) (slot : Option ℕ) → Sure (DeletesRow all force slot)
+deletes_row_sure : (all force : Bool) (slot : Option ℕ) → Sure (DeletesRow all force slot)
 deletes_row_sure all force slot =
     then_sure ReadsLastSector _ reads_last_sure
     (λ m. then_sure (NamesSlots all slot) _ (decides_sure (named_slots all slot))
@@ -170,8 +170,8 @@ backup_row_sure line file = then_sure FindsLastSector (λ bytes. StoresBytes lin
 
 pub restore_row_sure : (line : List ℕ) (file : Span) (force : Bool) → Sure (RestoreRow line file force)
 restore_row_sure line file force =
-    then_sure (LoadsFile file_limit line file) (λ bytes. Then (WritesBack bytes force) (λ m. Decides (Ok tt))) (file_sure file_limit line file)
-    (λ bytes. then_sure (WritesBack bytes force) (λ m. Decides (Ok tt)) (writes_back_sure bytes force)
+    then_sure (LoadsFile file_limit line file) (λ bytes. Then (RestoresBackup bytes force) (λ m. Decides (Ok tt))) (file_sure file_limit line file)
+    (λ bytes. then_sure (RestoresBackup bytes force) (λ m. Decides (Ok tt)) (writes_back_sure bytes force)
     (λ m. decides_sure (Ok tt)))
 
 pub verify_row_sure : (line : List ℕ) (file : Span) (count : ℕ) (restart : Bool) (a : Attachment) → Sure (VerifyRow line file count restart a)

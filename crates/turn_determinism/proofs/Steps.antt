@@ -23,13 +23,13 @@ pub record Later (old new : Reach) : Type 0 where
   pub cabinet : old.cabinet.faults ≤ new.cabinet.faults
   pub entropy : old.entropy.faults ≤ new.entropy.faults
 
-pub later_self : (r : Reach) → Later r r
+later_self : (r : Reach) → Later r r
 later_self r = record { disk = omega arith; cabinet = omega arith; entropy = omega arith }
 
 pub still_later : (old new : Reach) → new ≡ old → Later old new
 still_later old new is = rw is (later_self old)
 
-pub later_then : (old middle new : Reach) → Later old middle → Later middle new → Later old new
+later_then : (old middle new : Reach) → Later old middle → Later middle new → Later old new
 later_then old middle new a b = record {
   disk = omega (arith, a.disk, b.disk);
   cabinet = omega (arith, a.cabinet, b.cabinet);

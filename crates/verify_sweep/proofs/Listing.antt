@@ -19,18 +19,18 @@ use Rattle.provider.specs.Reading.{StandFrom, standing, units_accepted}
 use Rattle.provider.specs.Reads.{FailsAmong}
 use Rattle.provider.proofs.Looks.{StandFrom-each}
 use Rattle.range_keys.specs.Keys.{le64}
-use Rattle.sealing.specs.Sectors.{piece_reading, units}
-use Rattle.verify_sweep.specs.Sweeping.{Lists, ListsFailing, Looks, Sweep, SweepAnswers, failing_units, faults_in, le64s, pieces_read, refused_at, sectors_swept}
+use Rattle.sealing.specs.Sectors.{unit_reading_at, units}
+use Rattle.verify_sweep.specs.Sweeping.{Lists, ListsFailing, Looks, Sweep, SweepAnswers, failing_units, faults_in, le64s, unit_readings_at, refused_at, sectors_swept}
 use Rattle.verify_sweep.specs.declared.sweeping.Swept.{Swept}
 
 -- ---- lists of units and of numbers, one behind the other
 
-pub pieces_read-append : (k : Keying) (n : ℕ) (front behind : List (List ℕ)) → pieces_read k n (front ++ behind) ≡ pieces_read k n front ++ pieces_read k (n + length front) behind
-pieces_read-append k n [] behind = ap (λ (m : ℕ). pieces_read k m behind) (sym (add-zero n))
-pieces_read-append k n (sector ∷ front) behind =
+pub unit_readings_at-append : (k : Keying) (n : ℕ) (front behind : List (List ℕ)) → unit_readings_at k n (front ++ behind) ≡ unit_readings_at k n front ++ unit_readings_at k (n + length front) behind
+unit_readings_at-append k n [] behind = ap (λ (m : ℕ). unit_readings_at k m behind) (sym (add-zero n))
+unit_readings_at-append k n (sector ∷ front) behind =
     let at : n + 1 + length front ≡ n + suc (length front) = omega arith in
-    ap (λ (l : List (Result (List ℕ) ℕ)). piece_reading k n sector ∷ l) (pieces_read-append k (n + 1) front behind
-    ∙ ap (λ (m : ℕ). pieces_read k (n + 1) front ++ pieces_read k m behind) at)
+    ap (λ (l : List (Result (List ℕ) ℕ)). unit_reading_at k n sector ∷ l) (unit_readings_at-append k (n + 1) front behind
+    ∙ ap (λ (m : ℕ). unit_readings_at k (n + 1) front ++ unit_readings_at k m behind) at)
 
 faults_in-append : (front behind : List (Result (List ℕ) ℕ)) → faults_in (front ++ behind) ≡ faults_in front ++ faults_in behind
 faults_in-append [] behind = refl
@@ -38,7 +38,7 @@ faults_in-append (Ok bytes ∷ front) behind = faults_in-append front behind
 faults_in-append (Err offset ∷ front) behind = ap (λ (l : List ℕ). offset ∷ l) (faults_in-append front behind)
 
 pub failing_units-append : (k : Keying) (n : ℕ) (front behind : List (List ℕ)) → failing_units k n (front ++ behind) ≡ failing_units k n front ++ failing_units k (n + length front) behind
-failing_units-append k n front behind = ap faults_in (pieces_read-append k n front behind) ∙ faults_in-append (pieces_read k n front) (pieces_read k (n + length front) behind)
+failing_units-append k n front behind = ap faults_in (unit_readings_at-append k n front behind) ∙ faults_in-append (unit_readings_at k n front) (unit_readings_at k (n + length front) behind)
 
 le64s-append : (front behind : List ℕ) → le64s (front ++ behind) ≡ le64s front ++ le64s behind
 le64s-append [] behind = refl
@@ -58,9 +58,9 @@ faults-of true bytes offset readings = inl (refl, refl)
 faults-of false bytes offset readings = inr (refl, refl)
 
 pub failing-of : (k : Keying) (n : ℕ) (sector : List ℕ) (sectors : List (List ℕ)) →
-    ((is_ok (piece_reading k n sector) ≡ true) × (failing_units k n (sector ∷ sectors) ≡ failing_units k (n + 1) sectors))
-    ⊎ ((piece_reading k n sector ≡ Err (512 * n)) × (failing_units k n (sector ∷ sectors) ≡ 512 * n ∷ failing_units k (n + 1) sectors))
-failing-of k n sector sectors = faults-of _ _ (512 * n) (pieces_read k (n + 1) sectors)
+    ((is_ok (unit_reading_at k n sector) ≡ true) × (failing_units k n (sector ∷ sectors) ≡ failing_units k (n + 1) sectors))
+    ⊎ ((unit_reading_at k n sector ≡ Err (512 * n)) × (failing_units k n (sector ∷ sectors) ≡ 512 * n ∷ failing_units k (n + 1) sectors))
+failing-of k n sector sectors = faults-of _ _ (512 * n) (unit_readings_at k (n + 1) sectors)
 
 -- ---- what is listed
 
@@ -156,7 +156,7 @@ StandFrom-one : (told : Option Content) (n : ℕ) (bytes : List ℕ) → GivesFr
 StandFrom-one None n bytes gives = tt
 StandFrom-one (Some c) n bytes gives = ap (λ (b : List ℕ). b ∷ []) gives
 
-pub Looks-one : (k : Keying) (n bad now : ℕ) (accepted : Bool) (unit before after : List ℕ) (old new : DiskState) → length unit ≡ 512 → Gives old n unit → accepted ≡ is_ok (piece_reading k n unit)
+pub Looks-one : (k : Keying) (n bad now : ℕ) (accepted : Bool) (unit before after : List ℕ) (old new : DiskState) → length unit ≡ 512 → Gives old n unit → accepted ≡ is_ok (unit_reading_at k n unit)
     → Lists (refused_at n (accepted ∷ [])) bad now before after → Counted 1 old.reads new.reads → Logs [] old new → Looks k n 1 bad now before after old new
 Looks-one k n bad now accepted unit before after old new long gives so lists asked logs =
     let P : List ℕ → Type 0 = λ l. Lists l bad now before after in

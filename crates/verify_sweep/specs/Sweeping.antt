@@ -8,15 +8,15 @@ use Rattle.eli_base.specs.Keying.{Keying}
 use Rattle.provider.specs.Reading.{StandFrom}
 use Rattle.provider.specs.Reads.{FailsAmong}
 use Rattle.range_keys.specs.Keys.{le64}
-use Rattle.sealing.specs.Sectors.{piece_reading, units}
+use Rattle.sealing.specs.Sectors.{unit_reading_at, units}
 use Rattle.verify_sweep.specs.declared.sweeping.Swept.{Swept}
 
 -- ---- which units fail
 
 -- what each of these device sectors reads as, as the unit that stands there; the first is the one of number n
-abbrev pub pieces_read : Keying → ℕ → List (List ℕ) → List (Result (List ℕ) ℕ)
-pieces_read k n [] = []
-pieces_read k n (sector ∷ sectors) = piece_reading k n sector ∷ pieces_read k (n + 1) sectors
+abbrev pub unit_readings_at : Keying → ℕ → List (List ℕ) → List (Result (List ℕ) ℕ)
+unit_readings_at k n [] = []
+unit_readings_at k n (sector ∷ sectors) = unit_reading_at k n sector ∷ unit_readings_at k (n + 1) sectors
 
 -- the faults among what was read, in order
 abbrev pub faults_in : List (Result (List ℕ) ℕ) → List ℕ
@@ -26,13 +26,13 @@ faults_in (Err offset ∷ readings) = offset ∷ faults_in readings
 
 -- the byte offsets of the units that fail among these device sectors, of which the first is the one of number n
 abbrev pub failing_units : Keying → ℕ → List (List ℕ) → List ℕ
-failing_units k n sectors = faults_in (pieces_read k n sectors)
+failing_units k n sectors = faults_in (unit_readings_at k n sectors)
 
 -- one of these device sectors reads as a fault at this offset
 pub record Fails (k : Keying) (n : ℕ) (sectors : List (List ℕ)) (offset : ℕ) : Type 0 where
   pub place : ℕ
   pub within : place < length sectors
-  pub reads : piece_reading k (n + place) (get_or sectors place []) ≡ Err offset
+  pub reads : unit_reading_at k (n + place) (get_or sectors place []) ≡ Err offset
 
 -- numbers one after the other, each as eight bytes
 abbrev pub le64s : List ℕ → List ℕ

@@ -7,14 +7,14 @@ ghost use Rattle.eli_base.specs.declared.algorithms.Auth.TheVariants.{Off};
 ghost use Rattle.eli_base.specs.Keying.{Keying};
 ghost use Rattle.provider.specs.Reading.{standing};
 ghost use Rattle.sealing.specs.Sectors.{units};
-ghost use Rattle.verify_sweep.specs.Sweeping.{Fails, failing_units, pieces_read};
+ghost use Rattle.verify_sweep.specs.Sweeping.{Fails, failing_units, unit_readings_at};
 ghost use Rattle.verify_sweep.specs.Parts.{cut_count, place_after, sectors_after, units_read_from};
 
 /// A law: what the device sectors of some logical sectors read as, each alone, is what the units of these sectors
 /// read as.
 pub fn units_are_those_of_their_sectors()
     ensures { (k : Keying) (c : Content) (sector count : ℕ) → k.auth ≢ Off →
-        pieces_read k (sector * units k) (standing c (sector * units k) (count * units k)) ≡ units_read_from k c sector count }
+        unit_readings_at k (sector * units k) (standing c (sector * units k) (count * units k)) ≡ units_read_from k c sector count }
 {}
 
 /// A law: an offset is listed exactly where the unit there fails. The list ascends, so each is listed once.

@@ -4,7 +4,7 @@
 ghost use Rattle.std.specs.Prelude.{◌≡◌, ◌%◌, length};
 ghost use Rattle.aes_core.specs.Schedule.{IsKeyLength};
 ghost use Rattle.xts_mode.specs.Xts.{xts_seal, xts_open};
-ghost use Rattle.xts_mode.specs.Examples.{example_key1, example_key2, example_unit, example_plain, example_cipher};
+ghost use Rattle.xts_mode.specs.Examples.{example_key1, example_key2, example_unit, xts_example_plain, xts_example_cipher};
 
 mod doubling;
 mod groups;
@@ -77,5 +77,5 @@ pub fn xts_open_undoes_xts_seal(key1: &[u8], key2: &[u8], tweak: u64, plain: &[u
 
 /// The definition gives the example of the standard (IEEE 1619, annex B, vector 2).
 pub fn example_of_the_standard()
-    ensures { xts_seal example_key1 example_key2 example_unit example_plain ≡ example_cipher }
+    ensures { xts_seal example_key1 example_key2 example_unit xts_example_plain ≡ xts_example_cipher }
 {}

@@ -1,8 +1,8 @@
 use Rattle.std.proofs.Common.{◌≡◌, ℕ, ◌+◌, List, Result, ◌∷◌, [], is_ok, map, ap, ◌∙◌, sym, arith}
 use Rattle.eli_base.specs.declared.algorithms.Auth.{Auth}
 use Rattle.eli_base.specs.Units.{unit_bytes_of}
-use Rattle.sealing.specs.Pieces.{opened_piece}
-use Rattle.auth_sectors.proofs.Openings.{pieces_of_four}
+use Rattle.sealing.specs.TaggedUnits.{opened_tagged}
+use Rattle.auth_sectors.proofs.Openings.{units_of_four}
 use Rattle.auth_sectors.proofs.four_accepted.Goals as goal
 
 pub returns : goal.returns
@@ -14,9 +14,9 @@ returns c =
     let second = c.split_at-2.result.0.now in
     let third = c.split_at-3.result.0.now in
     let fourth = c.split_at-3.result.1.now in
-    let four = pieces_of_four k o c.args.from.now first second third fourth c.split_at.result.1.now c.split_at-2.result.1.now
+    let four = units_of_four k o c.args.from.now first second third fourth c.split_at.result.1.now c.split_at-2.result.1.now
     (omega arith) c.split_at.ensures.front c.split_at.ensures.back c.split_at-2.ensures.front c.split_at-2.ensures.back c.split_at-3.ensures.front c.split_at-3.ensures.back in
     c.apart_accepted.ensures
-    ∙ (λ i. is_ok (opened_piece k o (wide i) first) ∷ is_ok (opened_piece k (o + 512) (wide i) second) ∷ is_ok (opened_piece k (o + 1024) (wide i) third)
-    ∷ is_ok (opened_piece k (o + 1536) (wide i) fourth) ∷ [])
+    ∙ (λ i. is_ok (opened_tagged k o (wide i) first) ∷ is_ok (opened_tagged k (o + 512) (wide i) second) ∷ is_ok (opened_tagged k (o + 1024) (wide i) third)
+    ∷ is_ok (opened_tagged k (o + 1536) (wide i) fourth) ∷ [])
     ∙ sym (ap (λ (l : List (Result (List ℕ) ℕ)). map (λ (r : Result (List ℕ) ℕ). is_ok r) l) four)

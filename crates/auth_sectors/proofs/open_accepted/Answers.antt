@@ -2,7 +2,7 @@ use Rattle.std.proofs.Common.{◌≡◌, ℕ, ◌+◌, ◌-◌, List, length, ta
 use Rattle.eli_base.specs.declared.algorithms.Auth.{Auth}
 use Rattle.eli_base.specs.Units.{tag_bytes}
 use Rattle.sealing.specs.Runs.{opened_run}
-use Rattle.sealing.specs.Pieces.{cipher_text_in}
+use Rattle.sealing.specs.TaggedUnits.{cipher_text_in}
 use Rattle.auth_sectors.proofs.Openings.{opens_accepted}
 use Rattle.auth_sectors.proofs.open_accepted.Goals as goal
 

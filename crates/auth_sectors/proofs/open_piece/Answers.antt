@@ -2,9 +2,9 @@ use Rattle.std.proofs.Common.{◌≡◌, ℕ, ◌+◌, ◌-◌, List, length, ta
 use Rattle.eli_base.specs.declared.algorithms.Auth.{Auth}
 use Rattle.eli_base.specs.Units.{tag_bytes}
 use Rattle.sealing.specs.Runs.{opened_run}
-use Rattle.sealing.specs.Pieces.{cipher_text_in, tag_of}
+use Rattle.sealing.specs.TaggedUnits.{cipher_text_in, tag_of}
 use Rattle.auth_sectors.specs.Tags.{padded}
-use Rattle.auth_sectors.proofs.Pieces.{opens}
+use Rattle.auth_sectors.proofs.UnitParts.{opens}
 use Rattle.auth_sectors.proofs.open_piece.Goals as goal
 
 pub returns-clause-opened : goal.returns-clause-opened

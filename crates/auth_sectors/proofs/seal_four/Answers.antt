@@ -1,7 +1,7 @@
 use Rattle.std.proofs.Common.{◌≡◌, ℕ, ◌+◌, ◌∷◌, [], take, ap, ◌∙◌, arith}
 use Rattle.eli_base.specs.declared.algorithms.Auth.{Auth}
 use Rattle.eli_base.specs.Units.{unit_bytes_of}
-use Rattle.sealing.specs.Pieces.{sealed_piece}
+use Rattle.sealing.specs.TaggedUnits.{sealed_tagged}
 use Rattle.auth_sectors.proofs.Wholes.{second_part, third_part, fourth_part}
 use Rattle.auth_sectors.proofs.seal_four.Goals as goal
 
@@ -16,5 +16,5 @@ returns-clause-sealed c =
     let third_at : offset + 1024 ≡ offset + 512 + 512 = omega arith in
     let fourth_at : offset + 1536 ≡ offset + 512 + 512 + 512 = omega arith in
     c.seal_apart.ensures.sealed
-    ∙ (λ i. sealed_piece k offset (take (unit i) plain) ∷ sealed_piece k (offset + 512) (second_part width u plain unit i) ∷ sealed_piece k (third_at i) (third_part width u plain unit i)
-    ∷ sealed_piece k (fourth_at i) (fourth_part width u plain unit c.requires.plain i) ∷ [])
+    ∙ (λ i. sealed_tagged k offset (take (unit i) plain) ∷ sealed_tagged k (offset + 512) (second_part width u plain unit i) ∷ sealed_tagged k (third_at i) (third_part width u plain unit i)
+    ∷ sealed_tagged k (fourth_at i) (fourth_part width u plain unit c.requires.plain i) ∷ [])

@@ -3,8 +3,8 @@ use Rattle.eli_base.specs.declared.algorithms.Auth.{Auth}
 use Rattle.eli_base.specs.Units.{tag_bytes, unit_bytes_of}
 use Rattle.eli_base.proofs.Units.{tag_and_unit}
 use Rattle.sealing.specs.Runs.{sealed_run}
-use Rattle.sealing.specs.Pieces.{tag_of}
-use Rattle.auth_sectors.proofs.Pieces.{front_of_code, sealed_parts}
+use Rattle.sealing.specs.TaggedUnits.{tag_of}
+use Rattle.auth_sectors.proofs.UnitParts.{front_of_code, sealed_parts}
 use Rattle.auth_sectors.proofs.seal_piece.Goals as goal
 
 pub returns-clause-sealed : goal.returns-clause-sealed

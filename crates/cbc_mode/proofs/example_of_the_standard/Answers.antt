@@ -4,7 +4,7 @@ use Rattle.aes_core.specs.Aes.{xor, encrypt}
 use Rattle.aes_core.specs.Blocks.{block, blocks}
 use Rattle.aes_core.proofs.Cached.{encrypt_cached}
 use Rattle.cbc_mode.specs.Cbc.{chained}
-use Rattle.cbc_mode.specs.Examples.{example_key, example_iv, example_plain}
+use Rattle.cbc_mode.specs.Examples.{cbc_example_key, example_iv, cbc_example_plain}
 use Rattle.cbc_mode.proofs.example_of_the_standard.Goals as goal
 
 -- the chain with its cipher as a parameter
@@ -20,5 +20,5 @@ chained_is key iv p (suc j) = ap (λ (l : List ℕ). encrypt key (xor (block p j
 pub returns : goal.returns
 unfolding times power blocks
 returns c =
-    (λ i. blocks (λ j. chained_is example_key example_iv example_plain (j + 1) i) (length example_plain / 16))
-    ∙ (λ i. blocks (λ j. chained_by (λ x. encrypt_cached example_key x i) example_iv example_plain (j + 1)) (length example_plain / 16))
+    (λ i. blocks (λ j. chained_is cbc_example_key example_iv cbc_example_plain (j + 1) i) (length cbc_example_plain / 16))
+    ∙ (λ i. blocks (λ j. chained_by (λ x. encrypt_cached cbc_example_key x i) example_iv cbc_example_plain (j + 1)) (length cbc_example_plain / 16))

@@ -33,12 +33,12 @@ quiet_unless : (only_check : Bool) (a : Attachment) → Quiet (AttachesUnless on
 quiet_unless true a old answer new h = same_disk old.disk new.disk (ap (λ (r : Reach). r.disk) h.1)
 quiet_unless false a old answer new h = quiet_attaching a old answer new h
 
-pub quiet_attach_row : (line : List ℕ) (only_check readonly : Bool) (slot : Option ℕ) (words : KeyWords) → Quiet (AttachRow line only_check readonly slot words)
+quiet_attach_row : (line : List ℕ) (only_check readonly : Bool) (slot : Option ℕ) (words : KeyWords) → Quiet (AttachRow line only_check readonly slot words)
 quiet_attach_row line only_check readonly slot words =
     quiet_then (TryRow line slot readonly words) _ (quiet_trial line slot readonly words)
     (λ a. quiet_unless only_check a)
 
-pub unless_counts : (only_check : Bool) (a : Attachment) → Counts (AttachesUnless only_check a)
+unless_counts : (only_check : Bool) (a : Attachment) → Counts (AttachesUnless only_check a)
 unless_counts true a old answer new h = decision_counts {A = Unit {0}} (Ok tt) old answer new tt h
 unless_counts false a old answer new h = attaching_counts a old answer new h
 
@@ -61,7 +61,7 @@ unless_why : (line : List ℕ) (command : Command) (start : Reach) (only_check :
 unless_why line command start true a old answer new memory h = rw h.0 tt
 unless_why line command start false a old answer new memory h = attaching_why line command start a old answer new memory h
 
-pub attach_why : (line : List ℕ) (prov : Span) (only_check readonly : Bool) (slot : Option ℕ) (words : KeyWords) (old : Reach) (answer : Result (Unit {0}) Refusal) (new : Reach)
+attach_why : (line : List ℕ) (prov : Span) (only_check readonly : Bool) (slot : Option ℕ) (words : KeyWords) (old : Reach) (answer : Result (Unit {0}) Refusal) (new : Reach)
     → AttachRow line only_check readonly slot words old answer new → Why line (commands.Attach prov only_check readonly slot words) old answer new
 attach_why line prov only_check readonly slot words old answer new h =
     let command : Command = commands.Attach prov only_check readonly slot words in

@@ -38,7 +38,7 @@ quiet_saves old before (Err refusal) bytes new h = h.reads.logs
 quiet_finding : Quiet FindsLastSector
 quiet_finding old answer new h = quiet_saves old.disk h.finds.before h.finds.read h.finds.bytes new.disk h.finds.saves
 
-pub quiet_backup_row : (line : List ℕ) (file : Span) → Quiet (BackupRow line file)
+quiet_backup_row : (line : List ℕ) (file : Span) → Quiet (BackupRow line file)
 quiet_backup_row line file = quiet_then FindsLastSector _ quiet_finding (λ bytes. quiet_storing line file bytes)
 
 saved_uncounted : (old : DiskState) (before : List ℕ) (read : Result (Unit {0}) Refusal) (bytes : List ℕ) (new : DiskState) → Saves old before read bytes new → UncountedAnswer (handed_out bytes read)
@@ -47,7 +47,7 @@ saved_uncounted old before (Err (refusals.TooSmall size)) bytes new h = tt
 saved_uncounted old before (Err refusals.DeviceFault) bytes new h = tt
 saved_uncounted old before (Err refusal) bytes new h = subst (λ (r : Refusal). Uncounted r) (sym h.cause) (plain_uncounted (refusal_of h.fault) (meta_plain h.fault))
 
-pub finding_counts : Counts FindsLastSector
+finding_counts : Counts FindsLastSector
 finding_counts old answer new h =
     uncounted_step old answer new (subst (λ (r : Result (List ℕ) Refusal). UncountedAnswer r) (sym h.finds.answered) (saved_uncounted old.disk h.finds.before h.finds.read h.finds.bytes new.disk h.finds.saves)) h.outside.cabinet h.outside.entropy
 
@@ -64,7 +64,7 @@ finding_why : (line : List ℕ) (command : Command) (old : Reach) (answer : Resu
 finding_why line command old answer new lacks h =
     subst (λ (r : Result (List ℕ) Refusal). Why line command old r new) (sym h.finds.answered) (saves_why line command old h.finds.before h.finds.read h.finds.bytes new lacks h.finds.saves)
 
-pub backup_why : (line : List ℕ) (prov file : Span) (old : Reach) (answer : Result (Unit {0}) Refusal) (new : Reach) → BackupRow line file old answer new → Why line (commands.Backup prov file) old answer new
+backup_why : (line : List ℕ) (prov file : Span) (old : Reach) (answer : Result (Unit {0}) Refusal) (new : Reach) → BackupRow line file old answer new → Why line (commands.Backup prov file) old answer new
 backup_why line prov file old answer new h =
     let command : Command = commands.Backup prov file in
     then_why line command FindsLastSector (λ bytes. StoresBytes line file bytes) old answer new (λ given middle first. finding_why line command old given middle (λ refusal lacks. lacks) first)
@@ -76,7 +76,7 @@ finding_sound = sound_step FindsLastSector finding_counts (λ old answer new h. 
 backup_sound : (line : List ℕ) (file : Span) → Sound (BackupRow line file)
 backup_sound line file = sound_then FindsLastSector _ finding_sound (λ bytes. storing_sound line file bytes)
 
-pub backup_stays : (line : List ℕ) (file : Span) → Stays (BackupRow line file)
+backup_stays : (line : List ℕ) (file : Span) → Stays (BackupRow line file)
 backup_stays line file = stays_then FindsLastSector _ (λ old answer new h. h.holding) (λ bytes old answer new h. h.holding)
 
 finding_unstored : Unstored FindsLastSector

@@ -73,10 +73,10 @@ deletes_row_did start all force slot =
     (λ m. after_quiet (OverwritesKeys start) start (NamesSlots all slot) _ (λ old answer new h. quiet_same old _ answer new h)
     (λ which. deletes_did start (record { meta = m; which = which; force = force })))
 
-pub delkey_did : (all force : Bool) (slot : Option ℕ) (old : Reach) (answer : Result (Unit {0}) Refusal) (new : Reach) → DelkeyRow all force slot old answer new → Did (OverwritesKeys old.disk) false old.disk answer new.disk
+delkey_did : (all force : Bool) (slot : Option ℕ) (old : Reach) (answer : Result (Unit {0}) Refusal) (new : Reach) → DelkeyRow all force slot old answer new → Did (OverwritesKeys old.disk) false old.disk answer new.disk
 delkey_did all force slot old answer new h = deletes_row_did old.disk all force (option_or slot (slot_of old.holding)) old answer new refl h
 
-pub named_plain : (all : Bool) (slot : Option ℕ) → PlainAnswer (named_slots all slot)
+named_plain : (all : Bool) (slot : Option ℕ) → PlainAnswer (named_slots all slot)
 named_plain true slot = tt
 named_plain false (Some slot) = tt
 named_plain false None = tt
@@ -87,7 +87,7 @@ deletion_by false true three slot = tt
 deletion_by false false true slot = tt
 deletion_by false false false slot = tt
 
-pub deletion_plain : (m : Metadata) (which : Which) (force : Bool) → PlainOption (deletion_refusal m which force)
+deletion_plain : (m : Metadata) (which : Which) (force : Bool) → PlainOption (deletion_refusal m which force)
 deletion_plain m slots.All force = tt
 deletion_plain m (slots.One slot) force = deletion_by _ _ _ slot
 
@@ -98,7 +98,7 @@ delete_counts asked old new (Err refusals.EntropyFault) h same = (h.none.rose, b
 delete_counts asked old new (Err refusal) h same =
     uncounted_step {A = Unit {0}} old (Err refusal) new (some_uncounted (deletion_refusal asked.meta asked.which asked.force) refusal (deletion_plain asked.meta asked.which asked.force) h.cause) same h.entropy_unchanged
 
-pub deleting_counts : (asked : Deletion) → Counts (TakesKeysOut asked)
+deleting_counts : (asked : Deletion) → Counts (TakesKeysOut asked)
 deleting_counts asked old answer new h =
     subst (λ (r : Result (Unit {0}) Refusal). CountsResult old r new × Later old new) (sym h.answered) (delete_counts asked old new h.made h.deletes h.cabinet)
 
@@ -120,7 +120,7 @@ delkey_sound all force slot = record {
   keeps = λ old answer new h. (deletes_sound all force (option_or slot (slot_of old.holding))).keeps old answer new h;
 }
 
-pub deletes_stays : (all force : Bool) (slot : Option ℕ) → Stays (DeletesRow all force slot)
+deletes_stays : (all force : Bool) (slot : Option ℕ) → Stays (DeletesRow all force slot)
 deletes_stays all force slot =
     stays_then ReadsLastSector _ (λ old answer new h. h.holding)
     (λ m. stays_then (NamesSlots all slot) _ (λ old answer new h. same_reach old new h.1)
@@ -147,7 +147,7 @@ names_why line command all force slot m start old answer new ground since h =
     (λ given middle first. decides_why line command start (named_slots all slot) old given middle (named_plain all slot) (λ refusal is. ground refusal (inl is)) first)
     (λ which middle first next. takes_why line command _ start middle answer new (λ refusal is. ground refusal (inr (record { which = which; names = sym first.0; refused = is }))) (since_same start old middle since first.1) next) h
 
-pub delkey_why : (line : List ℕ) (prov : Span) (all force : Bool) (slot : Option ℕ) (old : Reach) (answer : Result (Unit {0}) Refusal) (new : Reach) → DelkeyRow all force slot old answer new → Why line (commands.Delkey prov all force slot) old answer new
+delkey_why : (line : List ℕ) (prov : Span) (all force : Bool) (slot : Option ℕ) (old : Reach) (answer : Result (Unit {0}) Refusal) (new : Reach) → DelkeyRow all force slot old answer new → Why line (commands.Delkey prov all force slot) old answer new
 delkey_why line prov all force slot old answer new h =
     let command : Command = commands.Delkey prov all force slot in
     let named : Option ℕ = option_or slot (slot_of old.holding) in
@@ -220,7 +220,7 @@ delkey_by_left holding all force slot old answer new h =
     deletes_left holding all force slot asked old.disk r2 answer new b2.same (reading_has old m r1 f1) (sym f2.0) refl n2)
     n1) h
 
-pub delkey_left : (all force : Bool) (slot : Option ℕ) (old : Reach) (answer : Result (Unit {0}) Refusal) (new : Reach) → DelkeyRow all force slot old answer new → Left (ClearsKeys old.holding all force slot) old.disk answer new.disk
+delkey_left : (all force : Bool) (slot : Option ℕ) (old : Reach) (answer : Result (Unit {0}) Refusal) (new : Reach) → DelkeyRow all force slot old answer new → Left (ClearsKeys old.holding all force slot) old.disk answer new.disk
 delkey_left all force slot old answer new h = delkey_by_left old.holding all force slot old answer new h
 
 naming_unstored : (all : Bool) (slot : Option ℕ) → Unstored (NamesSlots all slot)

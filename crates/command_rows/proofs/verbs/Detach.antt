@@ -19,13 +19,13 @@ use Rattle.command_rows.proofs.Replies.{done_replying}
 use Rattle.command_rows.proofs.Sound.{Sound, idles, sound_reply}
 use Rattle.command_rows.proofs.Storing.{Unstored, same_files, unstored_reply}
 
-pub detach_why : (line : List ℕ) (command : Command) (old : Reach) (answer : Result (Unit {0}) Refusal) (new : Reach) → DetachRow old answer new → Why line command old answer new
+detach_why : (line : List ℕ) (command : Command) (old : Reach) (answer : Result (Unit {0}) Refusal) (new : Reach) → DetachRow old answer new → Why line command old answer new
 detach_why line command old answer new h = events_why line command (Flush ∷ []) old answer new h.flushes
 
-pub detaches_did : (old : Reach) (answer : Result (Unit {0}) Refusal) (new : Reach) → DetachRow old answer new → Did (λ events. events ≡ Flush ∷ []) false old.disk answer new.disk
+detaches_did : (old : Reach) (answer : Result (Unit {0}) Refusal) (new : Reach) → DetachRow old answer new → Did (λ events. events ≡ Flush ∷ []) false old.disk answer new.disk
 detaches_did old answer new h = does_did (Flush ∷ []) false old.disk answer new.disk h.flushes
 
-pub detaching_counts : Counts Detaches
+detaching_counts : Counts Detaches
 detaching_counts old answer new h = uncounted_step old answer new (does_uncounted (Flush ∷ []) old.disk answer new.disk h.flushes) h.outside.cabinet h.outside.entropy
 
 detaching_sound : Sound Detaches

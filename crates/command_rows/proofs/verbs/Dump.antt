@@ -18,7 +18,7 @@ use Rattle.command_rows.proofs.Sound.{reading_sound, sound_reply}
 use Rattle.command_rows.proofs.Storing.{reading_unstored, unstored_reply}
 use Rattle.command_rows.proofs.Keeping.{row_keeps}
 
-pub dump_why : (line : List ℕ) (prov : Span) (old : Reach) (answer : Result Metadata Refusal) (new : Reach) → DumpRow old answer new → Why line (commands.Dump prov) old answer new
+dump_why : (line : List ℕ) (prov : Span) (old : Reach) (answer : Result Metadata Refusal) (new : Reach) → DumpRow old answer new → Why line (commands.Dump prov) old answer new
 dump_why line prov old answer new h = reading_why line (commands.Dump prov) old answer new (λ refusal lacks. lacks) h
 
 pub dump_lawful : (prov : Span) → IsLawful (commands.Dump prov)

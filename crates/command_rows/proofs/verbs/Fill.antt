@@ -11,7 +11,7 @@ use Rattle.command_rows.specs.Replies.{done_or}
 use Rattle.command_rows.specs.Steps.{NeedsSectors, NeedsWritable}
 use Rattle.command_rows.specs.Storing.{StoresNone}
 use Rattle.command_rows.specs.World.{AttachedWith, Attachment, Holding, IsAttached, Reach}
-use Rattle.command_rows.specs.verbs.Fill.{FillRow, FitsFill, WritesWorkload, words_of, workload}
+use Rattle.command_rows.specs.verbs.Fill.{FillRow, FitsFill, WritesWorkload, words_of_sectors, workload}
 use Rattle.command_rows.proofs.Becoming.{Stays, same_reach, stays_so, stays_then}
 use Rattle.command_rows.proofs.Causing.{Why, writable_write_why}
 use Rattle.command_rows.proofs.Events.{Did, writable_did}
@@ -29,9 +29,9 @@ fill_sound seed start count a =
     (λ done. sound_then (NeedsSectors a start count) _ (range_sound a start count)
     (λ there. doing_sound _))
 
-pub fill_did : (seed start count : ℕ) (a : Attachment) (old : Reach) (answer : Result (Unit {0}) Refusal) (new : Reach) → FillRow seed start count a old answer new
+fill_did : (seed start count : ℕ) (a : Attachment) (old : Reach) (answer : Result (Unit {0}) Refusal) (new : Reach) → FillRow seed start count a old answer new
     → Did (WritesWorkload (IsAttached a) seed start count) false old.disk answer new.disk
-fill_did seed start count a old answer new h = writable_did a start count (workload seed (words_of a.keying.sectorsize count)) old answer new h
+fill_did seed start count a old answer new h = writable_did a start count (workload seed (words_of_sectors a.keying.sectorsize count)) old answer new h
 
 pub fill_stays : (seed start count : ℕ) (a : Attachment) → Stays (FillRow seed start count a)
 fill_stays seed start count a =
@@ -39,10 +39,10 @@ fill_stays seed start count a =
     (λ done. stays_then (NeedsSectors a start count) _ (λ old answer new h. same_reach old new h.1)
     (λ there old answer new h. h.holding))
 
-pub fill_why : (line : List ℕ) (prov : Span) (seed start count : ℕ) (a : Attachment) (old : Reach) (answer : Result (Unit {0}) Refusal) (new : Reach) → old.holding ≡ IsAttached a → FillRow seed start count a old answer new
+fill_why : (line : List ℕ) (prov : Span) (seed start count : ℕ) (a : Attachment) (old : Reach) (answer : Result (Unit {0}) Refusal) (new : Reach) → old.holding ≡ IsAttached a → FillRow seed start count a old answer new
     → Why line (commands.Fill prov seed start count) old answer new
 fill_why line prov seed start count a old answer new is h =
-    writable_write_why line (commands.Fill prov seed start count) start count (workload seed (words_of a.keying.sectorsize count)) a old answer new is refl (refl, refl) h
+    writable_write_why line (commands.Fill prov seed start count) start count (workload seed (words_of_sectors a.keying.sectorsize count)) a old answer new is refl (refl, refl) h
 
 fill_out : (line : List ℕ) (prov : Span) (seed start count : ℕ) (old : Reach) → refused_by (needs (commands.Fill prov seed start count)) old.holding ≡ None → AttachedWith old.holding (FitsFill start count old.disk) → RulesOut line (commands.Fill prov seed start count) old
 fill_out line prov seed start count old gate f = record {

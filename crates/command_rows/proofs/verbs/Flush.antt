@@ -18,10 +18,10 @@ use Rattle.command_rows.proofs.Sound.{Sound, doing_sound, sound_reply}
 use Rattle.command_rows.proofs.Storing.{doing_unstored, unstored_reply}
 use Rattle.command_rows.proofs.Keeping.{row_keeps}
 
-pub flush_why : (line : List ℕ) (command : Command) (old : Reach) (answer : Result (Unit {0}) Refusal) (new : Reach) → FlushRow old answer new → Why line command old answer new
+flush_why : (line : List ℕ) (command : Command) (old : Reach) (answer : Result (Unit {0}) Refusal) (new : Reach) → FlushRow old answer new → Why line command old answer new
 flush_why line command old answer new h = events_why line command (Flush ∷ []) old answer new h.does
 
-pub flushes_did : (old : Reach) (answer : Result (Unit {0}) Refusal) (new : Reach) → FlushRow old answer new → Did (λ events. events ≡ Flush ∷ []) false old.disk answer new.disk
+flushes_did : (old : Reach) (answer : Result (Unit {0}) Refusal) (new : Reach) → FlushRow old answer new → Did (λ events. events ≡ Flush ∷ []) false old.disk answer new.disk
 flushes_did old answer new h = does_did (Flush ∷ []) false old.disk answer new.disk h.does
 
 flush_sound : Sound FlushRow

@@ -76,7 +76,7 @@ made_did line options parts backup old (Err refusals.EntropyFault) middle answer
 made_did line options parts backup old (Err refusal) middle answer new inits next =
     rw (next.0, ap (λ (r : Reach). r.disk) next.1) (nothing_done _ (is_some backup) refusal old.disk middle.disk (same_disk old.disk middle.disk inits.disk_unchanged))
 
-pub init_did : (line : List ℕ) (options : InitOptions) (fresh : KeyWords) (backup : Option Span) (old : Reach) (answer : Result (Unit {0}) Refusal) (new : Reach) → InitRow line options fresh backup old answer new
+init_did : (line : List ℕ) (options : InitOptions) (fresh : KeyWords) (backup : Option Span) (old : Reach) (answer : Result (Unit {0}) Refusal) (new : Reach) → InitRow line options fresh backup old answer new
     → Did (WritesMetadata old.disk) (is_some backup) old.disk answer new.disk
 init_did line options fresh backup old answer new h =
     did_then (WritesMetadata old.disk) (is_some backup) (LoadsComponents line fresh) _ old answer new (quiet_loading line fresh)
@@ -91,10 +91,10 @@ early_by false true three keylen sectorsize size key = tt
 early_by false false true keylen sectorsize size key = tt
 early_by false false false keylen sectorsize size key = key_option key
 
-pub early_plain : (options : InitOptions) (parts : Components) (sectors : ℕ) → PlainOption (early_refusal options parts sectors)
+early_plain : (options : InitOptions) (parts : Components) (sectors : ℕ) → PlainOption (early_refusal options parts sectors)
 early_plain options parts sectors = early_by _ _ _ options.keylen options.sectorsize (512 * sectors) (user_key parts [] options.iterations)
 
-pub backing_counts : (line : List ℕ) (backup : Option Span) (m : Metadata) → Counts (BacksUp line backup m)
+backing_counts : (line : List ℕ) (backup : Option Span) (m : Metadata) → Counts (BacksUp line backup m)
 backing_counts line None m old answer new h = decision_counts {A = Unit {0}} (Ok tt) old answer new tt h
 backing_counts line (Some span) m old answer new h = storing_counts line span _ old answer new h
 
@@ -106,13 +106,13 @@ made_counts options parts old new (Err refusal) h same =
     uncounted_step {A = Metadata} old (Err refusal) new
     (some_uncounted (early_refusal options parts old.disk.size) refusal (early_plain options parts old.disk.size) h.cause) same h.entropy_unchanged
 
-pub making_counts : (options : InitOptions) (parts : Components) → Counts (MakesProvider options parts)
+making_counts : (options : InitOptions) (parts : Components) → Counts (MakesProvider options parts)
 making_counts options parts old answer new h = made_counts options parts old new answer h.inits h.cabinet
 
-pub since_here : (old : Reach) → Since old old
+since_here : (old : Reach) → Since old old
 since_here old = record { size = refl; files = refl; disk = omega arith; cabinet = omega arith; misses = omega arith; entropy = omega arith }
 
-pub backing_stays : (line : List ℕ) (backup : Option Span) (m : Metadata) (old : Reach) (answer : Result (Unit {0}) Refusal) (new : Reach) → BacksUp line backup m old answer new → new.holding ≡ old.holding
+backing_stays : (line : List ℕ) (backup : Option Span) (m : Metadata) (old : Reach) (answer : Result (Unit {0}) Refusal) (new : Reach) → BacksUp line backup m old answer new → new.holding ≡ old.holding
 backing_stays line None m old answer new h = ap (λ (r : Reach). r.holding) h.1
 backing_stays line (Some span) m old answer new h = h.holding
 
@@ -149,7 +149,7 @@ making_why line command options fresh backup parts start old answer new memory g
     (λ m middle first next. backing_why line command backup m start middle answer new memory
     (subst (λ (c : CabinetState). start.cabinet.faults ≤ c.faults) (sym first.cabinet) since.cabinet) next) h
 
-pub init_why : (line : List ℕ) (command : Command) (options : InitOptions) (fresh : KeyWords) (backup : Option Span) (old : Reach) (answer : Result (Unit {0}) Refusal) (new : Reach) → may_lack_memory command ≡ true
+init_why : (line : List ℕ) (command : Command) (options : InitOptions) (fresh : KeyWords) (backup : Option Span) (old : Reach) (answer : Result (Unit {0}) Refusal) (new : Reach) → may_lack_memory command ≡ true
     → BadFiles line command old (RefusesFiles line fresh old.cabinet) → Grounds line command old (RefusesNew line options fresh old) → InitRow line options fresh backup old answer new
     → Why line command old answer new
 init_why line command options fresh backup old answer new memory bad ground h =
@@ -158,7 +158,7 @@ init_why line command options fresh backup old answer new memory bad ground h =
     (λ parts middle first next. making_why line command options fresh backup parts old middle answer new memory ground (loading_parts line fresh old old parts middle refl first)
     (loading_since line fresh old old (Ok parts) middle (since_here old) first) next) h
 
-pub init_stays : (line : List ℕ) (options : InitOptions) (fresh : KeyWords) (backup : Option Span) → Stays (InitRow line options fresh backup)
+init_stays : (line : List ℕ) (options : InitOptions) (fresh : KeyWords) (backup : Option Span) → Stays (InitRow line options fresh backup)
 init_stays line options fresh backup =
     stays_then (LoadsComponents line fresh) _ (λ old answer new h. h.holding)
     (λ parts. stays_then (MakesProvider options parts) _ (λ old answer new h. h.holding)
@@ -212,7 +212,7 @@ made_left told line options fresh parts backup start old (Err refusals.EntropyFa
 made_left told line options fresh parts backup start old (Err refusal) middle answer new same named h next =
     rw (next.0, ap (λ (r : Reach). r.disk) next.1) (inl (ap (λ (d : DiskState). d.content) h.disk_unchanged ∙ same.content))
 
-pub init_left : (line : List ℕ) (options : InitOptions) (fresh : KeyWords) (backup : Option Span) (old : Reach) (answer : Result (Unit {0}) Refusal) (new : Reach) → InitRow line options fresh backup old answer new
+init_left : (line : List ℕ) (options : InitOptions) (fresh : KeyWords) (backup : Option Span) (old : Reach) (answer : Result (Unit {0}) Refusal) (new : Reach) → InitRow line options fresh backup old answer new
     → Left (PutsNew old.cabinet.files line options fresh) old.disk answer new.disk
 init_left line options fresh backup old answer new h =
     let Changes : Change = PutsNew old.cabinet.files line options fresh in

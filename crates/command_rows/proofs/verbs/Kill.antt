@@ -13,7 +13,7 @@ use Rattle.resize_kill.specs.Trash.{trash_sectors}
 use Rattle.command_rows.specs.Replies.{done_or}
 use Rattle.command_rows.specs.Stops.{ChangesMetadata}
 use Rattle.command_rows.specs.World.{Idle, Reach, attachment_in}
-use Rattle.command_rows.specs.verbs.Kill.{Destroys, DestroysMetadata, KillRow, OverwritesLast, Withdraws}
+use Rattle.command_rows.specs.verbs.Kill.{LeavesNoMetadata, DestroysMetadata, KillRow, OverwritesLast, Withdraws}
 use Rattle.command_rows.proofs.Becoming.{becomes_as, same_reach, stays_next}
 use Rattle.command_rows.proofs.Causing.{Why, then_why}
 use Rattle.command_rows.proofs.Counting.{Counts, CountsResult, Later, UncountedAnswer, beside, uncounted_step}
@@ -54,10 +54,10 @@ kills_did start old answer new size h = killed_did start old.disk old.entropy an
 quiet_withdrawal : Quiet Withdraws
 quiet_withdrawal old answer new h = same_disk old.disk new.disk (ap (λ (r : Reach). r.disk) h.1)
 
-pub kill_did : (old : Reach) (answer : Result (Unit {0}) Refusal) (new : Reach) → KillRow old answer new → Did (OverwritesLast old.disk) false old.disk answer new.disk
+kill_did : (old : Reach) (answer : Result (Unit {0}) Refusal) (new : Reach) → KillRow old answer new → Did (OverwritesLast old.disk) false old.disk answer new.disk
 kill_did old answer new h = after_quiet (OverwritesLast old.disk) old.disk Withdraws _ quiet_withdrawal (λ done. kills_did old.disk) old answer new refl h
 
-pub withdrawing_counts : Counts Withdraws
+withdrawing_counts : Counts Withdraws
 withdrawing_counts old answer new h =
     uncounted_step old answer new (subst (λ (r : Result (Unit {0}) Refusal). UncountedAnswer r) (sym h.0) tt) (ap (λ (r : Reach). r.cabinet) h.1) (ap (λ (r : Reach). r.entropy) h.1)
 
@@ -68,7 +68,7 @@ killed_counts old new (Err refusals.EntropyFault) h same = (h.none.rose, beside 
 killed_counts old new (Err (refusals.TooSmall size)) h same = uncounted_step {A = Unit {0}} old (Err (refusals.TooSmall size)) new tt same h.entropy_unchanged
 killed_counts old new (Err refusal) h same = absurd h
 
-pub killing_counts : Counts DestroysMetadata
+killing_counts : Counts DestroysMetadata
 killing_counts old answer new h = killed_counts old new answer h.kills h.cabinet
 
 kills_why : (line : List ℕ) (prov : Span) (old : Reach) (answer : Result (Unit {0}) Refusal) (new : Reach) → Kills old.disk old.entropy answer new.disk new.entropy → Why line (commands.Kill prov) old answer new
@@ -79,7 +79,7 @@ kills_why line prov old (Err (refusals.TooSmall size)) new h = (tt, (h.small, ap
 kills_why line prov old (Err refusal) new h = absurd h
 
 -- detaching first leaves the disk and the entropy as they are
-pub kill_why : (line : List ℕ) (prov : Span) (old : Reach) (answer : Result (Unit {0}) Refusal) (new : Reach) → KillRow old answer new → Why line (commands.Kill prov) old answer new
+kill_why : (line : List ℕ) (prov : Span) (old : Reach) (answer : Result (Unit {0}) Refusal) (new : Reach) → KillRow old answer new → Why line (commands.Kill prov) old answer new
 kill_why line prov old answer new h =
     then_why line (commands.Kill prov) Withdraws (λ _. DestroysMetadata) old answer new (λ given middle first. rw first.0 tt)
     (λ done middle first next. kills_why line prov old answer new (subst (λ (r : Reach). Kills r.disk r.entropy answer new.disk new.entropy) first.1 next.kills)) h
@@ -93,10 +93,10 @@ withdrawing_sound = record { counts = withdrawing_counts; keeps = λ old answer 
 kill_sound : Sound KillRow
 kill_sound = sound_then Withdraws _ withdrawing_sound (λ done. killing_sound)
 
-pub kill_idles : (old : Reach) (answer : Result (Unit {0}) Refusal) (new : Reach) → KillRow old answer new → new.holding ≡ Idle
+kill_idles : (old : Reach) (answer : Result (Unit {0}) Refusal) (new : Reach) → KillRow old answer new → new.holding ≡ Idle
 kill_idles old answer new h = stays_next (λ _. DestroysMetadata) h.given h.middle answer new (λ done old answer new d. d.holding) h.next ∙ same_reach _ h.middle h.first.1
 
-killed_left : (start disk : DiskState) (entropy : EntropyState) (answer : Result (Unit {0}) Refusal) (disk' : DiskState) (entropy' : EntropyState) → Same start disk → Kills disk entropy answer disk' entropy' → Left Destroys start answer disk'
+killed_left : (start disk : DiskState) (entropy : EntropyState) (answer : Result (Unit {0}) Refusal) (disk' : DiskState) (entropy' : EntropyState) → Same start disk → Kills disk entropy answer disk' entropy' → Left LeavesNoMetadata start answer disk'
 killed_left start disk entropy (Ok done) disk' entropy' same h = moments_from (λ n. HoldsNoMetadata n) start disk disk'.content same (gone-Logs h.random disk disk' h.logs)
 killed_left start disk entropy (Err refusals.DeviceFault) disk' entropy' same h = inr (moments_from (λ n. HoldsNoMetadata n) start disk disk'.content same (gone-FailsIn h.random disk disk' h.fails))
 killed_left start disk entropy (Err refusals.EntropyFault) disk' entropy' same h = inl (ap (λ (d : DiskState). d.content) h.unchanged ∙ same.content)
@@ -106,9 +106,9 @@ killed_left start disk entropy (Err refusal) disk' entropy' same h = absurd h
 early_withdrawal : Early Withdraws
 early_withdrawal old answer new h = record { quiet = same_disk old.disk new.disk (ap (λ (r : Reach). r.disk) h.1); files = ap (λ (r : Reach). r.cabinet.files) h.1 }
 
-pub kill_left : (old : Reach) (answer : Result (Unit {0}) Refusal) (new : Reach) → KillRow old answer new → Left Destroys old.disk answer new.disk
+kill_left : (old : Reach) (answer : Result (Unit {0}) Refusal) (new : Reach) → KillRow old answer new → Left LeavesNoMetadata old.disk answer new.disk
 kill_left old answer new h =
-    left_then Destroys old Withdraws _ old answer new (before_all old) early_withdrawal
+    left_then LeavesNoMetadata old Withdraws _ old answer new (before_all old) early_withdrawal
     (λ done r1 b1 f1 n1. killed_left old.disk r1.disk r1.entropy answer new.disk new.entropy b1.same n1.kills) h
 
 killing_unstored : Unstored DestroysMetadata

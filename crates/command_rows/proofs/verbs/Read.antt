@@ -38,7 +38,7 @@ range_read_why line prov sector count a whole old answer new is wholly h =
     (λ done middle first next. subst (λ (r : Reach). Why line (commands.Read prov sector count) r answer new) first.1
     (sectors_why line prov sector count a whole middle answer new (ap (λ (r : Reach). r.holding) first.1 ∙ is) wholly next)) h
 
-pub read_why : (line : List ℕ) (prov : Span) (sector count : ℕ) (a : Attachment) (old : Reach) (answer : Result (List ℕ) Refusal) (new : Reach) → old.holding ≡ IsAttached a
+read_why : (line : List ℕ) (prov : Span) (sector count : ℕ) (a : Attachment) (old : Reach) (answer : Result (List ℕ) Refusal) (new : Reach) → old.holding ≡ IsAttached a
     → ReadRow sector count a old answer new → Why line (commands.Read prov sector count) old answer new
 read_why line prov sector count a old answer new is h =
     then_why line (commands.Read prov sector count) (NeedsWhole a (count * a.keying.sectorsize)) (λ whole. Then (NeedsSectors a sector whole) (λ _. ReadsSectors a sector whole)) old answer new
@@ -46,7 +46,7 @@ read_why line prov sector count a old answer new is h =
     (λ whole middle first next. subst (λ (r : Reach). Why line (commands.Read prov sector count) r answer new) first.1
     (range_read_why line prov sector count a whole middle answer new (ap (λ (r : Reach). r.holding) first.1 ∙ is) (sym first.0) next)) h
 
-pub quiet_read_row : (sector count : ℕ) (a : Attachment) → Quiet (ReadRow sector count a)
+quiet_read_row : (sector count : ℕ) (a : Attachment) → Quiet (ReadRow sector count a)
 quiet_read_row sector count a =
     quiet_then (NeedsWhole a (count * a.keying.sectorsize)) _ (λ old answer new h. same_disk old.disk new.disk (ap (λ (r : Reach). r.disk) h.1))
     (λ whole. quiet_then (NeedsSectors a sector whole) _ (λ old answer new h. same_disk old.disk new.disk (ap (λ (r : Reach). r.disk) h.1))
@@ -58,7 +58,7 @@ read_sound sector count a =
     (λ whole. sound_then (NeedsSectors a sector whole) _ (range_sound a sector whole)
     (λ done. sectors_sound a sector whole))
 
-pub read_stays : (sector count : ℕ) (a : Attachment) → Stays (ReadRow sector count a)
+read_stays : (sector count : ℕ) (a : Attachment) → Stays (ReadRow sector count a)
 read_stays sector count a =
     stays_then (NeedsWhole a (count * a.keying.sectorsize)) _ (λ old answer new h. same_reach old new h.1)
     (λ whole. stays_then (NeedsSectors a sector whole) _ (λ old answer new h. same_reach old new h.1)

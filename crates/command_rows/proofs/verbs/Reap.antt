@@ -45,15 +45,15 @@ reaps_count : (a : Attachment) (tag : ℕ) → Counts (ReapsRequest a tag)
 reaps_count a tag old answer new h =
     uncounted_step old answer new (subst (λ (r : Result (Option (List ℕ)) Refusal). UncountedAnswer r) (sym h.answered) (reap_uncounted tag h.after h.given)) (ap (λ (r : Reach). r.cabinet) h.left) (ap (λ (r : Reach). r.entropy) h.left)
 
-pub reap_counts : (tag : ℕ) (a : Attachment) → Counts (ReapRow tag a)
+reap_counts : (tag : ℕ) (a : Attachment) → Counts (ReapRow tag a)
 reap_counts tag a = then_counts (NeedsRequest a tag) _ (needs_counts a tag) (λ done. reaps_count a tag)
 
-pub reap_holds : (tag : ℕ) (a : Attachment) (old : Reach) (answer : Result (Option (List ℕ)) Refusal) (new : Reach) → old.holding ≡ IsAttached a → ReapRow tag a old answer new → HoldsSame a new.holding
+reap_holds : (tag : ℕ) (a : Attachment) (old : Reach) (answer : Result (Option (List ℕ)) Refusal) (new : Reach) → old.holding ≡ IsAttached a → ReapRow tag a old answer new → HoldsSame a new.holding
 reap_holds tag a old answer new is h =
     holds_next a (λ _. ReapsRequest a tag) h.given h.middle answer new (ap (λ (r : Reach). r.holding) (needs_same a tag old h.given h.middle h.first) ∙ is)
     (λ done next. queue_holds a new next.queue (ap (λ (r : Reach). r.holding) next.left)) h.next
 
-pub quiet_reap_row : (tag : ℕ) (a : Attachment) → Quiet (ReapRow tag a)
+quiet_reap_row : (tag : ℕ) (a : Attachment) → Quiet (ReapRow tag a)
 quiet_reap_row tag a =
     quiet_then (NeedsRequest a tag) _ (quiet_needs a tag) (λ done old answer new h. same_disk old.disk new.disk (ap (λ (r : Reach). r.disk) h.left))
 
@@ -70,7 +70,7 @@ reaps_why : (line : List ℕ) (prov : Span) (tag : ℕ) (a : Attachment) (old : 
 reaps_why line prov tag a old answer new is h =
     subst (λ (r : Result (Option (List ℕ)) Refusal). Why line (commands.Reap prov tag) old r new) (sym h.answered) (given_why line prov tag a h.queue h.before h.after old h.given new is h.reaps)
 
-pub reap_why : (line : List ℕ) (prov : Span) (tag : ℕ) (a : Attachment) (old : Reach) (answer : Result (Option (List ℕ)) Refusal) (new : Reach) → old.holding ≡ IsAttached a → ReapRow tag a old answer new
+reap_why : (line : List ℕ) (prov : Span) (tag : ℕ) (a : Attachment) (old : Reach) (answer : Result (Option (List ℕ)) Refusal) (new : Reach) → old.holding ≡ IsAttached a → ReapRow tag a old answer new
     → Why line (commands.Reap prov tag) old answer new
 reap_why line prov tag a old answer new is h =
     let command : Command = commands.Reap prov tag in
@@ -86,12 +86,12 @@ some_left a tag named left r same found none h =
     let some : 1 ≤ left = h.some in
     omega arith
 
-pub reap_found : (tag : ℕ) (disk : DiskState) (refusal : Refusal) (a : Attachment) → FitsReap tag disk a → QueueRefuses (AsksToReap tag) disk refusal a → ⊥
+reap_found : (tag : ℕ) (disk : DiskState) (refusal : Refusal) (a : Attachment) → FitsReap tag disk a → QueueRefuses (AsksToReap tag) disk refusal a → ⊥
 reap_found tag disk (refusals.NoRequest named) a f h = is_served a named tag disk f.request h.0 f.found f.is_of h.1
 reap_found tag disk (refusals.RequestNotDone named left) a f h = some_left a named tag left f.request h.0 f.found f.none h.1
 reap_found tag disk refusal a f h = absurd h
 
-pub reap_right : (tag : ℕ) (disk : DiskState) (offset : ℕ) (a : Attachment) → FitsReap tag disk a → HasReadFault tag offset a → ⊥
+reap_right : (tag : ℕ) (disk : DiskState) (offset : ℕ) (a : Attachment) → FitsReap tag disk a → HasReadFault tag offset a → ⊥
 reap_right tag disk offset a f h =
     let is = one_request (request_with tag a.queue) f.request h.request f.found h.found in
     f.right offset (subst (λ (r : Request). HasBadUnit a.keying r.job r.device offset) is h.bad)

@@ -73,7 +73,7 @@ moved_did oldsize start disk entropy (Err refusal) disk' entropy' size h = nothi
 moves_did : (start : DiskState) (oldsize : ℕ) → DoesFrom (MovesLast oldsize start) start (MovesMetadata oldsize)
 moves_did start oldsize old answer new size h = moved_did oldsize start old.disk old.entropy answer new.disk new.entropy size h.resizes
 
-pub resize_did : (oldsize : ℕ) (old : Reach) (answer : Result (Unit {0}) Refusal) (new : Reach) → ResizeRow oldsize old answer new → Did (MovesLast oldsize old.disk) false old.disk answer new.disk
+resize_did : (oldsize : ℕ) (old : Reach) (answer : Result (Unit {0}) Refusal) (new : Reach) → ResizeRow oldsize old answer new → Did (MovesLast oldsize old.disk) false old.disk answer new.disk
 resize_did oldsize old answer new h = moves_did old.disk oldsize old answer new refl h
 
 sizes_by : (small grown : Bool) (size given : ℕ) → PlainOption (cond small (Some (refusals.TooSmall size)) (cond grown (Some (refusals.NotGrown size given)) None))
@@ -81,14 +81,14 @@ sizes_by true grown size given = tt
 sizes_by false true size given = tt
 sizes_by false false size given = tt
 
-pub sizes_plain : (sectors oldsize : ℕ) → PlainOption (size_refusal sectors oldsize)
+sizes_plain : (sectors oldsize : ℕ) → PlainOption (size_refusal sectors oldsize)
 sizes_plain sectors oldsize = sizes_by (nat_lt sectors 2) (nat_le (512 * sectors) oldsize) (512 * sectors) oldsize
 
 other_plain : (same : Bool) (kept given : ℕ) → PlainOption (cond same None (Some (refusals.OldSizeMismatch kept given)))
 other_plain true kept given = tt
 other_plain false kept given = tt
 
-pub old_plain : (found : Result Metadata MetaFault) (oldsize : ℕ) → PlainOption (old_refusal found oldsize)
+old_plain : (found : Result Metadata MetaFault) (oldsize : ℕ) → PlainOption (old_refusal found oldsize)
 old_plain (Err fault) oldsize = meta_plain fault
 old_plain (Ok m) oldsize = other_plain (m.provsize == oldsize) m.provsize oldsize
 
@@ -107,7 +107,7 @@ moved_counts oldsize old new (Err refusals.DeviceFault) (inr h) same = (tt, besi
 moved_counts oldsize old new (Err refusals.EntropyFault) h same = (h.none.rose, beside old new same h.none.later)
 moved_counts oldsize old new (Err refusal) h same = unmoved_counts oldsize old new refusal h same
 
-pub moving_counts : (oldsize : ℕ) → Counts (MovesMetadata oldsize)
+moving_counts : (oldsize : ℕ) → Counts (MovesMetadata oldsize)
 moving_counts oldsize old answer new h = moved_counts oldsize old new answer h.resizes h.cabinet
 
 unmoved_why : (line : List ℕ) (prov : Span) (oldsize : ℕ) (old : Reach) (refusal : Refusal) (new : Reach)
@@ -131,7 +131,7 @@ moves_why line prov oldsize old (Err refusals.DeviceFault) new (inr h) = h.fails
 moves_why line prov oldsize old (Err refusals.EntropyFault) new h = h.none.rose
 moves_why line prov oldsize old (Err refusal) new h = unmoved_why line prov oldsize old refusal new h
 
-pub resize_why : (line : List ℕ) (prov : Span) (oldsize : ℕ) (old : Reach) (answer : Result (Unit {0}) Refusal) (new : Reach) → ResizeRow oldsize old answer new → Why line (commands.Resize prov oldsize) old answer new
+resize_why : (line : List ℕ) (prov : Span) (oldsize : ℕ) (old : Reach) (answer : Result (Unit {0}) Refusal) (new : Reach) → ResizeRow oldsize old answer new → Why line (commands.Resize prov oldsize) old answer new
 resize_why line prov oldsize old answer new h = moves_why line prov oldsize old answer new h.resizes
 
 moving_sound : (oldsize : ℕ) → Sound (MovesMetadata oldsize)
@@ -186,7 +186,7 @@ moved_left oldsize start disk entropy (Err refusals.DeviceFault) disk' entropy' 
 moved_left oldsize start disk entropy (Err refusals.EntropyFault) disk' entropy' same h = inl (same_content disk disk' h.finds.finds.logs ∙ same.content)
 moved_left oldsize start disk entropy (Err refusal) disk' entropy' same h = inl (refused_left oldsize disk entropy refusal disk' entropy' h ∙ same.content)
 
-pub resize_left : (oldsize : ℕ) (old : Reach) (answer : Result (Unit {0}) Refusal) (new : Reach) → ResizeRow oldsize old answer new → Left (MovesToEnd oldsize) old.disk answer new.disk
+resize_left : (oldsize : ℕ) (old : Reach) (answer : Result (Unit {0}) Refusal) (new : Reach) → ResizeRow oldsize old answer new → Left (MovesToEnd oldsize) old.disk answer new.disk
 resize_left oldsize old answer new h = moved_left oldsize old.disk old.disk old.entropy answer new.disk new.entropy (before_all old).same h.resizes
 
 moving_unstored : (oldsize : ℕ) → Unstored (MovesMetadata oldsize)

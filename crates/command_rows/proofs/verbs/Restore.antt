@@ -27,7 +27,7 @@ use Rattle.command_rows.specs.Replies.{done_or}
 use Rattle.command_rows.specs.Steps.{Decides, GoesOn, LoadsFile, Then}
 use Rattle.command_rows.specs.Stops.{ChangesMetadata}
 use Rattle.command_rows.specs.World.{Reach}
-use Rattle.command_rows.specs.verbs.Restore.{FindsBackup, PutsBack, RefusesBackup, RestoreRow, WritesBack}
+use Rattle.command_rows.specs.verbs.Restore.{FindsBackup, PutsBack, RefusesRestore, RestoreRow, RestoresBackup}
 use Rattle.command_rows.proofs.Becoming.{Stays, same_reach, stays_so, stays_then}
 use Rattle.command_rows.proofs.Causing.{Why, then_since, then_why}
 use Rattle.command_rows.proofs.Counting.{Counts, UncountedAnswer, file_counts, plain_uncounted, uncounted_step}
@@ -61,14 +61,14 @@ written_did bytes force start old (Err refusals.DeviceFault) middle answer new s
 written_did bytes force start old (Err refusal) middle answer new size h next =
     rw (next.0, ap (λ (r : Reach). r.disk) next.1) (nothing_done (WritesMetadata start) false refusal old.disk middle.disk (same_disk old.disk middle.disk h.unchanged))
 
-restores_did : (start : DiskState) (bytes : List ℕ) (force : Bool) → DoesFrom (WritesMetadata start) start (Then (WritesBack bytes force) (λ m. Decides {A = Unit {0}} (Ok tt)))
+restores_did : (start : DiskState) (bytes : List ℕ) (force : Bool) → DoesFrom (WritesMetadata start) start (Then (RestoresBackup bytes force) (λ m. Decides {A = Unit {0}} (Ok tt)))
 restores_did start bytes force old answer new size h = written_did bytes force start old h.given h.middle answer new size h.first.restores h.next
 
-pub restore_did : (line : List ℕ) (file : Span) (force : Bool) (old : Reach) (answer : Result (Unit {0}) Refusal) (new : Reach) → RestoreRow line file force old answer new → Did (WritesMetadata old.disk) false old.disk answer new.disk
+restore_did : (line : List ℕ) (file : Span) (force : Bool) (old : Reach) (answer : Result (Unit {0}) Refusal) (new : Reach) → RestoreRow line file force old answer new → Did (WritesMetadata old.disk) false old.disk answer new.disk
 restore_did line file force old answer new h =
     after_quiet (WritesMetadata old.disk) old.disk (LoadsFile file_limit line file) _ (quiet_file file_limit line file) (λ bytes. restores_did old.disk bytes force) old answer new refl h
 
-pub plain_err : {A : Type 0} (answer : Result A Refusal) (refusal : Refusal) → PlainAnswer answer → answer ≡ Err refusal → IsGround refusal
+plain_err : {A : Type 0} (answer : Result A Refusal) (refusal : Refusal) → PlainAnswer answer → answer ≡ Err refusal → IsGround refusal
 plain_err {A} answer refusal plain is = subst (λ (r : Result A Refusal). PlainAnswer r) is plain
 
 unless_plain : (found : Result (Unit {0}) MetaFault) (m : Metadata) → PlainAnswer (unless_fault found m)
@@ -85,7 +85,7 @@ restored_by true short size count fit h = tt
 restored_by false true size count fit h = tt
 restored_by false false size count fit h = h
 
-pub restored_plain : (bytes : List ℕ) (force : Bool) (sectors : ℕ) → PlainAnswer (restored bytes force sectors)
+restored_plain : (bytes : List ℕ) (force : Bool) (sectors : ℕ) → PlainAnswer (restored bytes force sectors)
 restored_plain bytes force sectors = restored_by (nat_lt sectors 2) (nat_lt (length bytes) 511) (512 * sectors) (length bytes) _ (fitted_plain _ force sectors)
 
 restored_uncounted : (bytes : List ℕ) (force : Bool) (old : DiskState) (made : Result Metadata Refusal) (new : DiskState) → Restores bytes force old made new → UncountedAnswer made
@@ -93,7 +93,7 @@ restored_uncounted bytes force old (Ok m) new h = tt
 restored_uncounted bytes force old (Err refusals.DeviceFault) new h = tt
 restored_uncounted bytes force old (Err refusal) new h = plain_uncounted refusal (plain_err (restored bytes force old.size) refusal (restored_plain bytes force old.size) h.cause)
 
-pub writing_counts : (bytes : List ℕ) (force : Bool) → Counts (WritesBack bytes force)
+writing_counts : (bytes : List ℕ) (force : Bool) → Counts (RestoresBackup bytes force)
 writing_counts bytes force old answer new h = uncounted_step old answer new (restored_uncounted bytes force old.disk answer new.disk h.restores) h.outside.cabinet h.outside.entropy
 
 file_why : (line : List ℕ) (file prov : Span) (force : Bool) (old : Reach) (answer : Result (List ℕ) Refusal) (new : Reach) → LoadsFile file_limit line file old answer new → Why line (commands.Restore file prov force) old answer new
@@ -113,16 +113,16 @@ restores_why line command bytes force start old (Err refusal) new ground since h
     (ground refusal (subst (λ (n : ℕ). restored bytes force n ≡ Err refusal) since.size h.cause))
 
 writes_why : (line : List ℕ) (command : Command) (bytes : List ℕ) (force : Bool) (start old : Reach) (answer : Result (Unit {0}) Refusal) (new : Reach) → Grounds line command start (λ refusal. restored bytes force start.disk.size ≡ Err refusal) → Since start old
-    → Then (WritesBack bytes force) (λ m. Decides {A = Unit {0}} (Ok tt)) old answer new → Why line command start answer new
+    → Then (RestoresBackup bytes force) (λ m. Decides {A = Unit {0}} (Ok tt)) old answer new → Why line command start answer new
 writes_why line command bytes force start old answer new ground since h =
-    then_since line command start (WritesBack bytes force) (λ m. Decides {A = Unit {0}} (Ok tt)) old answer new (λ made middle first. restores_why line command bytes force start old made middle ground since first.restores)
+    then_since line command start (RestoresBackup bytes force) (λ m. Decides {A = Unit {0}} (Ok tt)) old answer new (λ made middle first. restores_why line command bytes force start old made middle ground since first.restores)
     (λ m middle first next. rw next.0 tt) h
 
-pub restore_why : (line : List ℕ) (file prov : Span) (force : Bool) (old : Reach) (answer : Result (Unit {0}) Refusal) (new : Reach)
+restore_why : (line : List ℕ) (file prov : Span) (force : Bool) (old : Reach) (answer : Result (Unit {0}) Refusal) (new : Reach)
     → RestoreRow line file force old answer new → Why line (commands.Restore file prov force) old answer new
 restore_why line file prov force old answer new h =
     let command : Command = commands.Restore file prov force in
-    then_why line command (LoadsFile file_limit line file) (λ bytes. Then (WritesBack bytes force) (λ m. Decides {A = Unit {0}} (Ok tt))) old answer new (λ given middle first. file_why line file prov force old given middle first)
+    then_why line command (LoadsFile file_limit line file) (λ bytes. Then (RestoresBackup bytes force) (λ m. Decides {A = Unit {0}} (Ok tt))) old answer new (λ given middle first. file_why line file prov force old given middle first)
     (λ bytes middle first next. writes_why line command bytes force old middle answer new
     (λ refusal is. record { bytes = bytes; named = loading_bytes file_limit line file old old bytes middle refl first; refused = is })
     (since_cabinet old middle first.disk first.entropy first.keeps.files first.keeps.faults first.keeps.misses) next) h
@@ -130,19 +130,19 @@ restore_why line file prov force old answer new h =
 file_sound : (limit : ℕ) (line : List ℕ) (file : Span) → Sound (LoadsFile limit line file)
 file_sound limit line file = sound_step (LoadsFile limit line file) (file_counts limit line file) (λ old answer new h. h.holding)
 
-writing_sound : (bytes : List ℕ) (force : Bool) → Sound (WritesBack bytes force)
-writing_sound bytes force = sound_step (WritesBack bytes force) (writing_counts bytes force) (λ old answer new h. h.holding)
+writing_sound : (bytes : List ℕ) (force : Bool) → Sound (RestoresBackup bytes force)
+writing_sound bytes force = sound_step (RestoresBackup bytes force) (writing_counts bytes force) (λ old answer new h. h.holding)
 
 restore_sound : (line : List ℕ) (file : Span) (force : Bool) → Sound (RestoreRow line file force)
 restore_sound line file force =
     sound_then (LoadsFile file_limit line file) _ (file_sound file_limit line file)
-    (λ bytes. sound_then (WritesBack bytes force) _ (writing_sound bytes force)
+    (λ bytes. sound_then (RestoresBackup bytes force) _ (writing_sound bytes force)
     (λ m. done_sound tt))
 
-pub restore_stays : (line : List ℕ) (file : Span) (force : Bool) → Stays (RestoreRow line file force)
+restore_stays : (line : List ℕ) (file : Span) (force : Bool) → Stays (RestoreRow line file force)
 restore_stays line file force =
     stays_then (LoadsFile file_limit line file) _ (λ old answer new h. h.holding)
-    (λ bytes. stays_then (WritesBack bytes force) _ (λ old answer new h. h.holding)
+    (λ bytes. stays_then (RestoresBackup bytes force) _ (λ old answer new h. h.holding)
     (λ m old answer new h. same_reach old new h.1))
 
 -- the same of one file
@@ -157,7 +157,7 @@ no_file_refused limit line file bytes old refusal new names h =
     let none : ⊥ = cc (bad, names.named) in
     none
 
-restore_fits : (line : List ℕ) (file : Span) (force : Bool) (old : Reach) (f : FindsBackup line file force old) (refusal : Refusal) → RefusesBackup line file force old refusal → ⊥
+restore_fits : (line : List ℕ) (file : Span) (force : Bool) (old : Reach) (f : FindsBackup line file force old) (refusal : Refusal) → RefusesRestore line file force old refusal → ⊥
 restore_fits line file force old f refusal h =
     let bytes : h.bytes ≡ f.bytes = bytes_same file_limit line file old.cabinet f.bytes h.bytes f.names h.named in
     not_both _ f.m refusal f.served (subst (λ (b : List ℕ). restored b force old.disk.size ≡ Err refusal) bytes h.refused)
@@ -191,7 +191,7 @@ written_left told line file bytes force start old (Err refusal) middle answer ne
 early_file : (limit : ℕ) (line : List ℕ) (file : Span) → Early (LoadsFile limit line file)
 early_file limit line file old answer new h = record { quiet = same_disk old.disk new.disk h.disk; files = h.keeps.files }
 
-pub restore_left : (line : List ℕ) (file : Span) (force : Bool) (old : Reach) (answer : Result (Unit {0}) Refusal) (new : Reach) → RestoreRow line file force old answer new
+restore_left : (line : List ℕ) (file : Span) (force : Bool) (old : Reach) (answer : Result (Unit {0}) Refusal) (new : Reach) → RestoreRow line file force old answer new
     → Left (PutsBack old.cabinet.files line file force) old.disk answer new.disk
 restore_left line file force old answer new h =
     let Changes : Change = PutsBack old.cabinet.files line file force in
@@ -201,13 +201,13 @@ restore_left line file force old answer new h =
 file_unstored : (limit : ℕ) (line : List ℕ) (file : Span) → Unstored (LoadsFile limit line file)
 file_unstored limit line file old answer new h = record { files = h.keeps.files; stores = h.unstored }
 
-writing_unstored : (bytes : List ℕ) (force : Bool) → Unstored (WritesBack bytes force)
+writing_unstored : (bytes : List ℕ) (force : Bool) → Unstored (RestoresBackup bytes force)
 writing_unstored bytes force old answer new h = same_files old.cabinet new.cabinet h.outside.cabinet
 
 restore_row : (line : List ℕ) (file : Span) (force : Bool) → Unstored (RestoreRow line file force)
 restore_row line file force =
     unstored_then (LoadsFile file_limit line file) _ (file_unstored file_limit line file)
-    (λ bytes. unstored_then (WritesBack bytes force) _ (writing_unstored bytes force)
+    (λ bytes. unstored_then (RestoresBackup bytes force) _ (writing_unstored bytes force)
     (λ m. done_unstored tt))
 
 pub restore_lawful : (file : Span) (prov : Span) (force : Bool) → IsLawful (commands.Restore file prov force)

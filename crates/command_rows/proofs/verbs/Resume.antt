@@ -23,7 +23,7 @@ use Rattle.command_rows.specs.Storing.{StoresNone}
 use Rattle.command_rows.specs.Trying.{TryRow}
 use Rattle.command_rows.specs.World.{Attachment, Holding, HoldsKeying, Idle, IsAttached, IsSuspended, Kept, Reach, SuspendedWith, attachment_in}
 use Rattle.command_rows.specs.verbs.Attach.{OpensWith, RefusesAttach}
-use Rattle.command_rows.specs.verbs.Resume.{AttachesAgain, FindsSameKey, NeedsSameKey, OpensAnother, RefusesResume, ResumeRow, same_key}
+use Rattle.command_rows.specs.verbs.Resume.{AttachesAgain, FindsSameKey, NeedsSameKey, OpensOtherMaster, RefusesResume, ResumeRow, same_key}
 use Rattle.command_rows.proofs.Becoming.{becomes_as, same_reach, stays_quiet, try_stays}
 use Rattle.command_rows.proofs.Causing.{Why, then_since, then_why}
 use Rattle.command_rows.proofs.Counting.{Counts, attaching_counts, by_plain, then_counts}
@@ -46,7 +46,7 @@ same_by : (same : Bool) → PlainAnswer {A = Unit {0}} (cond same (Ok tt) (Err r
 same_by true = tt
 same_by false = tt
 
-pub same_plain : (kept : Kept) (a : Attachment) → PlainAnswer (same_key kept a)
+same_plain : (kept : Kept) (a : Attachment) → PlainAnswer (same_key kept a)
 same_plain kept a = same_by (bytes_eq (sha256 a.keying.master) kept.mark)
 
 same_sound : (kept : Kept) (a : Attachment) → Sound (NeedsSameKey kept a)
@@ -89,7 +89,7 @@ again_why line prov words kept a start old answer new is opens h =
     (λ refusal other. inr (suspended start.holding (λ k. RefusesResume line words k start refusal) kept is (inr (record { a = a; opens = opens; refused = other })))) first)
     (λ done middle first next. attaching_why line command start a middle answer new refl next) h
 
-pub resume_why : (line : List ℕ) (prov : Span) (words : KeyWords) (kept : Kept) (old : Reach) (answer : Result (Unit {0}) Refusal) (new : Reach) → old.holding ≡ IsSuspended kept → ResumeRow line words kept old answer new
+resume_why : (line : List ℕ) (prov : Span) (words : KeyWords) (kept : Kept) (old : Reach) (answer : Result (Unit {0}) Refusal) (new : Reach) → old.holding ≡ IsSuspended kept → ResumeRow line words kept old answer new
     → Why line (commands.Resume prov words) old answer new
 resume_why line prov words kept old answer new is h =
     let command : Command = commands.Resume prov words in
@@ -97,7 +97,7 @@ resume_why line prov words kept old answer new is h =
     (λ given middle first. trial_why line command None kept.readonly words old given middle refl (λ refusal cabinet bad. bad) (λ refusal ground. resume_ground line words kept prov old refusal is ground) first)
     (λ a middle first next. again_why line prov words kept a old middle answer new is (trial_opens line None kept.readonly words old a middle first) next) h
 
-pub quiet_resume_row : (line : List ℕ) (words : KeyWords) (kept : Kept) → Quiet (ResumeRow line words kept)
+quiet_resume_row : (line : List ℕ) (words : KeyWords) (kept : Kept) → Quiet (ResumeRow line words kept)
 quiet_resume_row line words kept =
     quiet_then (TryRow line None kept.readonly words) _ (quiet_trial line None kept.readonly words)
     (λ a. quiet_then (NeedsSameKey kept a) _ (λ old answer new h. same_disk old.disk new.disk (ap (λ (r : Reach). r.disk) h.1))
@@ -132,7 +132,7 @@ kept_fits Fit Holds (IsAttached a) f never h = h
 kept_fits Fit Holds (IsSuspended kept) f never h = never kept f h
 
 -- the key that opens is the one that was found
-another_fits : (line : List ℕ) (words : KeyWords) (old : Reach) (refusal : Refusal) (kept : Kept) (f : FindsSameKey line words old kept) → OpensAnother line words kept old refusal → ⊥
+another_fits : (line : List ℕ) (words : KeyWords) (old : Reach) (refusal : Refusal) (kept : Kept) (f : FindsSameKey line words old kept) → OpensOtherMaster line words kept old refusal → ⊥
 another_fits line words old refusal kept f h =
     let m : h.opens.m ≡ f.key.m = has_same old.disk f.key.m h.opens.m f.key.shows h.opens.found in
     let admits : admitted f.key.m old.disk.size None ≡ Ok h.opens.settings = subst (λ (x : Metadata). admitted x old.disk.size None ≡ Ok h.opens.settings) m h.opens.admits in

@@ -32,7 +32,7 @@ use Rattle.command_rows.specs.Steps.{Admits, LoadsComponents, ReadsLastSector, T
 use Rattle.command_rows.specs.Stops.{ChangesMetadata}
 use Rattle.command_rows.specs.Storing.{StoresNone}
 use Rattle.command_rows.specs.World.{Attachment, Holding, HoldsKeying, IsAttached, Reach, attachment_in}
-use Rattle.command_rows.specs.verbs.Setkey.{FindsAttached, FindsNewKey, FindsOldKey, FindsSetkey, IsUsed, NeedsSlot, OpensSlot, PutsKey, RefusesChange, RefusesNewKey, RefusesNext, RefusesOldKey, RefusesSetkey, SetkeyAttachedRow, SetkeyIdleRow, SetkeyRow, SetsOpened, StoresKey, StoresMetadata, WrapsKey, WrapsOpened, if_there, opened_by, or_wrong, usable}
+use Rattle.command_rows.specs.verbs.Setkey.{FindsAttached, FindsNewKey, FindsOldKey, FindsSetkey, IsUsed, NeedsSlot, OpensSlot, PutsKey, RefusesChange, RefusesNewKey, RefusesNext, RefusesOldKey, RefusesSetkey, SetkeyAttachedRow, SetkeyIdleRow, SetkeyRow, SetsOpened, StoresKey, StoresMetadata, WrapsKey, WrapsOpened, if_there, slot_opened_by, or_wrong, usable}
 use Rattle.command_rows.proofs.Becoming.{Stays, same_reach, stays_so, stays_then}
 use Rattle.command_rows.proofs.Causing.{Why, then_since, then_why}
 use Rattle.command_rows.proofs.Counting.{Counts, CountsResult, Later, UncountedAnswer, by_plain, some_uncounted, uncounted_step}
@@ -85,7 +85,7 @@ setkey_attached_did start line iterations slot master fresh =
     (λ done. after_quiet (StoresMetadata start) start (LoadsComponents line fresh) _ (quiet_loading line fresh)
     (λ parts. stores_did start (record { meta = m; master = master; slot = slot; iterations = iterations; parts = parts })))))
 
-pub setkey_did : (line : List ℕ) (iterations : Option ℤ) (slot : Option ℕ) (words fresh : KeyWords) (old : Reach) (answer : Result (Unit {0}) Refusal) (new : Reach)
+setkey_did : (line : List ℕ) (iterations : Option ℤ) (slot : Option ℕ) (words fresh : KeyWords) (old : Reach) (answer : Result (Unit {0}) Refusal) (new : Reach)
     → SetkeyRow line iterations slot words fresh old answer new → Did (StoresMetadata old.disk) false old.disk answer new.disk
 setkey_did line iterations slot words fresh old answer new h =
     by_attachment old.holding _ _ (Did (StoresMetadata old.disk) false old.disk answer new.disk) (λ is row. setkey_idle_did old.disk line iterations slot words fresh old answer new refl row)
@@ -95,7 +95,7 @@ there_by : (slot : ℕ) (there : Bool) → PlainAnswer {A = Unit {0}} (cond ther
 there_by slot true = tt
 there_by slot false = tt
 
-pub there_plain : (slot : Option ℕ) → PlainAnswer (if_there slot)
+there_plain : (slot : Option ℕ) → PlainAnswer (if_there slot)
 there_plain None = tt
 there_plain (Some slot) = there_by slot (nat_le slot 1)
 
@@ -103,7 +103,7 @@ wrong_plain : (found : Option (MasterKey × ℕ)) → PlainAnswer (or_wrong foun
 wrong_plain None = tt
 wrong_plain (Some found) = tt
 
-pub opened_plain : (m : Metadata) (key : Result UserKey KeyFault) → PlainAnswer (opened_by m key)
+opened_plain : (m : Metadata) (key : Result UserKey KeyFault) → PlainAnswer (slot_opened_by m key)
 opened_plain m (Err fault) = key_plain fault
 opened_plain m (Ok key) = wrong_plain _
 
@@ -111,7 +111,7 @@ change_by : (given : Bool) (key : Result UserKey KeyFault) → PlainOption (cond
 change_by true key = tt
 change_by false key = key_option key
 
-pub change_plain : (asked : KeyChange) → PlainOption (change_refusal asked)
+change_plain : (asked : KeyChange) → PlainOption (change_refusal asked)
 change_plain asked = change_by _ _
 
 set_uncounted : (asked : KeyChange) (disk : DiskState) (made : Result Metadata Refusal) (disk' : DiskState) → SetsKey asked disk made disk' → UncountedAnswer (without_value made)
@@ -119,7 +119,7 @@ set_uncounted asked disk (Ok m) disk' h = tt
 set_uncounted asked disk (Err refusals.DeviceFault) disk' h = tt
 set_uncounted asked disk (Err refusal) disk' h = some_uncounted (change_refusal asked) refusal (change_plain asked) h.cause
 
-pub setting_counts : (asked : KeyChange) → Counts (StoresKey asked)
+setting_counts : (asked : KeyChange) → Counts (StoresKey asked)
 setting_counts asked old answer new h =
     uncounted_step old answer new (subst (λ (r : Result (Unit {0}) Refusal). UncountedAnswer r) (sym h.answered) (set_uncounted asked old.disk h.made new.disk h.sets)) h.cabinet h.entropy
 
@@ -130,7 +130,7 @@ slot_sound : (slot : Option ℕ) → Sound (NeedsSlot slot)
 slot_sound slot = sound_decision (λ r. if_there slot) (λ r. by_plain (if_there slot) (there_plain slot))
 
 opening_sound : (m : Metadata) (parts : Components) → Sound (OpensSlot m parts)
-opening_sound m parts = sound_decision (λ r. opened_by m (user_key parts m.salt m.iterations)) (λ r. by_plain _ (opened_plain m (user_key parts m.salt m.iterations)))
+opening_sound m parts = sound_decision (λ r. slot_opened_by m (user_key parts m.salt m.iterations)) (λ r. by_plain _ (opened_plain m (user_key parts m.salt m.iterations)))
 
 setting_sound : (asked : KeyChange) → Sound (StoresKey asked)
 setting_sound asked = sound_step (StoresKey asked) (setting_counts asked) (λ old answer new h. h.holding)
@@ -179,7 +179,7 @@ setkey_attached_stays line iterations slot master fresh =
     (λ done. stays_then (LoadsComponents line fresh) _ (λ old answer new h. h.holding)
     (λ parts old answer new h. h.holding))))
 
-pub setkey_stays : (line : List ℕ) (iterations : Option ℤ) (slot : Option ℕ) (words fresh : KeyWords) → Stays (SetkeyRow line iterations slot words fresh)
+setkey_stays : (line : List ℕ) (iterations : Option ℤ) (slot : Option ℕ) (words fresh : KeyWords) → Stays (SetkeyRow line iterations slot words fresh)
 setkey_stays line iterations slot words fresh old answer new h =
     by_attachment old.holding _ _ (new.holding ≡ old.holding) (λ is row. setkey_idle_stays line iterations slot words fresh old answer new row)
     (λ a is row. setkey_attached_stays line iterations (unwrap_or slot a.slot) a.keying.master fresh old answer new row) h
@@ -210,7 +210,7 @@ opens_why : (line : List ℕ) (command : Command) (iterations : Option ℤ) (slo
     → Then (OpensSlot m parts) (λ found. SetsOpened line iterations slot m next_parts found) old answer new → Why line command start answer new
 opens_why line command iterations slot words fresh m parts next_parts start old answer new ground named next_named since h =
     then_since line command start (OpensSlot m parts) (λ found. SetsOpened line iterations slot m next_parts found) old answer new
-    (λ given middle first. decides_why line command start (opened_by m (user_key parts m.salt m.iterations)) old given middle (opened_plain m _)
+    (λ given middle first. decides_why line command start (slot_opened_by m (user_key parts m.salt m.iterations)) old given middle (opened_plain m _)
     (λ refusal is. ground refusal (inr (inr (inl (record { parts = parts; named = named; refused = is }))))) first)
     (λ found middle first next. stores_why line command _ start middle answer new
     (λ refusal is. ground refusal (inr (inr (inr (record {
@@ -308,7 +308,7 @@ setkey_attached_why line command iterations slot master fresh old answer new mem
     (λ given middle first. reading_why line command old given middle lacks first)
     (λ m middle first next. uses_why line command iterations slot master fresh m old middle answer new memory bad (ground m (reading_has old m middle first)) (reading_since old m middle first) next) h
 
-pub setkey_why : (line : List ℕ) (prov : Span) (iterations : Option ℤ) (slot : Option ℕ) (words fresh : KeyWords) (old : Reach) (answer : Result (Unit {0}) Refusal) (new : Reach) → SetkeyRow line iterations slot words fresh old answer new
+setkey_why : (line : List ℕ) (prov : Span) (iterations : Option ℤ) (slot : Option ℕ) (words fresh : KeyWords) (old : Reach) (answer : Result (Unit {0}) Refusal) (new : Reach) → SetkeyRow line iterations slot words fresh old answer new
     → Why line (commands.Setkey prov iterations slot words fresh) old answer new
 setkey_why line prov iterations slot words fresh old answer new h =
     let command : Command = commands.Setkey prov iterations slot words fresh in
@@ -332,10 +332,10 @@ old_key_fits line iterations slot words fresh m old f refusal (inl h) = not_both
 old_key_fits line iterations slot words fresh m old f refusal (inr (inl h)) = not_both _ tt refusal f.there h
 old_key_fits line iterations slot words fresh m old f refusal (inr (inr (inl h))) =
     let parts : h.parts ≡ f.parts = parts_same line words old.cabinet f.parts h.parts f.names h.named in
-    not_both _ f.found refusal f.opens (subst (λ (p : Components). opened_by m (user_key p m.salt m.iterations) ≡ Err refusal) parts h.refused)
+    not_both _ f.found refusal f.opens (subst (λ (p : Components). slot_opened_by m (user_key p m.salt m.iterations) ≡ Err refusal) parts h.refused)
 old_key_fits line iterations slot words fresh m old f refusal (inr (inr (inr h))) =
     let parts : h.parts ≡ f.parts = parts_same line words old.cabinet f.parts h.parts f.names h.named in
-    let opens : opened_by m (user_key f.parts m.salt m.iterations) ≡ Ok h.found = subst (λ (p : Components). opened_by m (user_key p m.salt m.iterations) ≡ Ok h.found) parts h.opens in
+    let opens : slot_opened_by m (user_key f.parts m.salt m.iterations) ≡ Ok h.found = subst (λ (p : Components). slot_opened_by m (user_key p m.salt m.iterations) ≡ Ok h.found) parts h.opens in
     let found : h.found ≡ f.found = cc (f.opens, opens) in
     new_key_fits line iterations (unwrap_or slot f.found.1) f.found.0.bytes fresh m old f.next refusal
     (subst (λ (k : MasterKey × ℕ). RefusesNewKey line iterations (unwrap_or slot k.1) k.0.bytes fresh m old refusal) found h.refuses)
@@ -413,7 +413,7 @@ opened_as found None h = absurd (let no : ⊥ = cc h in no)
 opened_as found (Some other) h = cc h
 
 wraps_opened : (told : Option Files) (line : List ℕ) (words : KeyWords) (slot : Option ℕ) (asked : KeyChange) (parts : Components) (found : MasterKey × ℕ) (derived : Result UserKey KeyFault) → AreComponents told line words parts
-    → user_key parts asked.meta.salt asked.meta.iterations ≡ derived → Ok found ≡ opened_by asked.meta derived → asked.master ≡ found.0.bytes → asked.slot ≡ unwrap_or slot found.1
+    → user_key parts asked.meta.salt asked.meta.iterations ≡ derived → Ok found ≡ slot_opened_by asked.meta derived → asked.master ≡ found.0.bytes → asked.slot ≡ unwrap_or slot found.1
     → WrapsOpened told line words slot asked
 wraps_opened told line words slot asked parts found (Err fault) named is h master target = absurd (let no : ⊥ = cc h in no)
 wraps_opened told line words slot asked parts found (Ok key) named is h master target =
@@ -456,7 +456,7 @@ setkey_attached_left line iterations slot holding target master words fresh old 
     stored_left holding old.cabinet.files line iterations slot words fresh asked old.disk r4.disk n4.made new.disk answer b4.same begins n4.sets n4.answered)
     n3) n2) n1) h
 
-pub setkey_left : (line : List ℕ) (iterations : Option ℤ) (slot : Option ℕ) (words fresh : KeyWords) (old : Reach) (answer : Result (Unit {0}) Refusal) (new : Reach)
+setkey_left : (line : List ℕ) (iterations : Option ℤ) (slot : Option ℕ) (words fresh : KeyWords) (old : Reach) (answer : Result (Unit {0}) Refusal) (new : Reach)
     → SetkeyRow line iterations slot words fresh old answer new → Left (PutsKey old.holding old.cabinet.files line iterations slot words fresh) old.disk answer new.disk
 setkey_left line iterations slot words fresh old answer new h =
     by_attachment old.holding _ _ (Left (PutsKey old.holding old.cabinet.files line iterations slot words fresh) old.disk answer new.disk)
@@ -470,7 +470,7 @@ slot_unstored : (slot : Option ℕ) → Unstored (NeedsSlot slot)
 slot_unstored slot = decision_unstored (λ r. if_there slot)
 
 opening_unstored : (m : Metadata) (parts : Components) → Unstored (OpensSlot m parts)
-opening_unstored m parts = decision_unstored (λ r. opened_by m (user_key parts m.salt m.iterations))
+opening_unstored m parts = decision_unstored (λ r. slot_opened_by m (user_key parts m.salt m.iterations))
 
 setting_unstored : (asked : KeyChange) → Unstored (StoresKey asked)
 setting_unstored asked old answer new h = same_files old.cabinet new.cabinet h.cabinet

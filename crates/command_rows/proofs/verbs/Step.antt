@@ -44,10 +44,10 @@ step_uncounted tag (Err step.DeviceFault) = tt
 steps_count : (a : Attachment) (tag : ℕ) → Counts (StepsRequest a tag)
 steps_count a tag old answer new h = uncounted_step old answer new (subst (λ (r : Result ℕ Refusal). UncountedAnswer r) (sym h.answered) (step_uncounted tag h.left)) h.outside.cabinet h.outside.entropy
 
-pub step_counts : (tag : ℕ) (a : Attachment) → Counts (StepRow tag a)
+step_counts : (tag : ℕ) (a : Attachment) → Counts (StepRow tag a)
 step_counts tag a = then_counts (NeedsRequest a tag) _ (needs_counts a tag) (λ done. steps_count a tag)
 
-pub step_holds : (tag : ℕ) (a : Attachment) (old : Reach) (answer : Result ℕ Refusal) (new : Reach) → old.holding ≡ IsAttached a → StepRow tag a old answer new → HoldsSame a new.holding
+step_holds : (tag : ℕ) (a : Attachment) (old : Reach) (answer : Result ℕ Refusal) (new : Reach) → old.holding ≡ IsAttached a → StepRow tag a old answer new → HoldsSame a new.holding
 step_holds tag a old answer new is h =
     holds_next a (λ _. StepsRequest a tag) h.given h.middle answer new (ap (λ (r : Reach). r.holding) (needs_same a tag old h.given h.middle h.first) ∙ is) (λ done next. queue_holds a new next.queue next.holding) h.next
 
@@ -68,7 +68,7 @@ steps_did : (a : Attachment) (tag : ℕ) (old : Reach) (answer : Result ℕ Refu
 steps_did a tag old answer new h =
     subst (λ (r : Result ℕ Refusal). Did (DoesNext (IsAttached a) tag) false old.disk r new.disk) (sym h.answered) (left_did a tag h.queue old.disk h.left new.disk h.steps)
 
-pub step_did : (tag : ℕ) (a : Attachment) (old : Reach) (answer : Result ℕ Refusal) (new : Reach) → StepRow tag a old answer new → Did (DoesNext (IsAttached a) tag) false old.disk answer new.disk
+step_did : (tag : ℕ) (a : Attachment) (old : Reach) (answer : Result ℕ Refusal) (new : Reach) → StepRow tag a old answer new → Did (DoesNext (IsAttached a) tag) false old.disk answer new.disk
 step_did tag a old answer new h =
     did_then (DoesNext (IsAttached a) tag) false (NeedsRequest a tag) (λ _. StepsRequest a tag) old answer new (quiet_needs a tag) (λ done middle first next. steps_did a tag middle answer new next) h
 
@@ -84,7 +84,7 @@ steps_why : (line : List ℕ) (prov : Span) (tag : ℕ) (a : Attachment) (old : 
 steps_why line prov tag a old answer new is h =
     subst (λ (r : Result ℕ Refusal). Why line (commands.Step prov tag) old r new) (sym h.answered) (left_why line prov tag a h.queue old h.left new is h.steps)
 
-pub step_why : (line : List ℕ) (prov : Span) (tag : ℕ) (a : Attachment) (old : Reach) (answer : Result ℕ Refusal) (new : Reach) → old.holding ≡ IsAttached a → StepRow tag a old answer new
+step_why : (line : List ℕ) (prov : Span) (tag : ℕ) (a : Attachment) (old : Reach) (answer : Result ℕ Refusal) (new : Reach) → old.holding ≡ IsAttached a → StepRow tag a old answer new
     → Why line (commands.Step prov tag) old answer new
 step_why line prov tag a old answer new is h =
     let command : Command = commands.Step prov tag in
@@ -99,7 +99,7 @@ none_left a tag named r same found more h =
     let none : left_of r ≡ 0 = subst (λ (x : Request). left_of x ≡ 0) is h.none in
     omega arith
 
-pub step_found : (tag : ℕ) (disk : DiskState) (refusal : Refusal) (a : Attachment) → FitsStep tag disk a → QueueRefuses (AsksToStep tag) disk refusal a → ⊥
+step_found : (tag : ℕ) (disk : DiskState) (refusal : Refusal) (a : Attachment) → FitsStep tag disk a → QueueRefuses (AsksToStep tag) disk refusal a → ⊥
 step_found tag disk (refusals.NoRequest named) a f h = is_served a named tag disk f.request h.0 f.found f.is_of h.1
 step_found tag disk (refusals.RequestDone named) a f h = none_left a named tag f.request h.0 f.found f.more h.1
 step_found tag disk refusal a f h = absurd h

@@ -53,7 +53,7 @@ submits_count a job from old answer new h =
 whole_counts : (a : Attachment) (bytes : ℕ) → Counts (NeedsWhole a bytes)
 whole_counts a bytes old answer new h = decision_counts _ old answer new (whole_uncounted a.keying.sectorsize bytes _) h
 
-pub submit_counts : (line : List ℕ) (asked : JobWords) (a : Attachment) → Counts (SubmitRow line asked a)
+submit_counts : (line : List ℕ) (asked : JobWords) (a : Attachment) → Counts (SubmitRow line asked a)
 submit_counts line (words.Read sector count) a = then_counts (NeedsWhole a (count * a.keying.sectorsize)) _ (whole_counts a (count * a.keying.sectorsize)) (λ whole. submits_count a (jobs.Read sector whole) [])
 submit_counts line (words.Write sector hex) a =
     let bytes : List ℕ = bytes_spelled (bytes_at line hex) in
@@ -63,7 +63,7 @@ submit_counts line words.Flush a = submits_count a jobs.Flush []
 submits_hold : (a : Attachment) (job : Job) (from : List ℕ) (old : Reach) (answer : Result ℕ Refusal) (new : Reach) → Submits a job from old answer new → HoldsSame a new.holding
 submits_hold a job from old answer new h = queue_holds a new h.queue (ap (λ (r : Reach). r.holding) h.left)
 
-pub submit_holds : (line : List ℕ) (asked : JobWords) (a : Attachment) (old : Reach) (answer : Result ℕ Refusal) (new : Reach) → old.holding ≡ IsAttached a → SubmitRow line asked a old answer new → HoldsSame a new.holding
+submit_holds : (line : List ℕ) (asked : JobWords) (a : Attachment) (old : Reach) (answer : Result ℕ Refusal) (new : Reach) → old.holding ≡ IsAttached a → SubmitRow line asked a old answer new → HoldsSame a new.holding
 submit_holds line (words.Read sector count) a old answer new is h =
     holds_next a (λ whole. Submits a (jobs.Read sector whole) []) h.given h.middle answer new (ap (λ (r : Reach). r.holding) h.first.1 ∙ is) (λ whole next. submits_hold a (jobs.Read sector whole) [] h.middle answer new next) h.next
 submit_holds line (words.Write sector hex) a old answer new is h =
@@ -74,7 +74,7 @@ submit_holds line words.Flush a old answer new is h = submits_hold a jobs.Flush 
 quiet_submit : (a : Attachment) (job : Job) (from : List ℕ) → Quiet (Submits a job from)
 quiet_submit a job from old answer new h = same_disk old.disk new.disk (ap (λ (r : Reach). r.disk) h.left)
 
-pub quiet_submit_row : (line : List ℕ) (asked : JobWords) (a : Attachment) → Quiet (SubmitRow line asked a)
+quiet_submit_row : (line : List ℕ) (asked : JobWords) (a : Attachment) → Quiet (SubmitRow line asked a)
 quiet_submit_row line (words.Read sector count) a =
     quiet_then (NeedsWhole a (count * a.keying.sectorsize)) _ (λ old answer new h. same_disk old.disk new.disk (ap (λ (r : Reach). r.disk) h.1))
     (λ whole. quiet_submit a (jobs.Read sector whole) [])
@@ -115,7 +115,7 @@ read_worded line sector count whole a wholly = record { writes = λ none. absurd
 write_worded : (line : List ℕ) (sector : ℕ) (hex : Span) (whole : ℕ) (a : Attachment) → whole_sectors a.keying.sectorsize (length (bytes_spelled (bytes_at line hex))) ≡ Ok whole → IsWorded line (words.Write sector hex) a (jobs.Write sector whole)
 write_worded line sector hex whole a wholly = record { writes = λ done. refl; sectors = λ end first many there h. (h.1, wholly ∙ ap Ok (sym h.2)) }
 
-pub submit_why : (line : List ℕ) (prov : Span) (asked : JobWords) (a : Attachment) (old : Reach) (answer : Result ℕ Refusal) (new : Reach) → old.holding ≡ IsAttached a → SubmitRow line asked a old answer new
+submit_why : (line : List ℕ) (prov : Span) (asked : JobWords) (a : Attachment) (old : Reach) (answer : Result ℕ Refusal) (new : Reach) → old.holding ≡ IsAttached a → SubmitRow line asked a old answer new
     → Why line (commands.Submit prov asked) old answer new
 submit_why line prov (words.Read sector count) a old answer new is h =
     let command : Command = commands.Submit prov (words.Read sector count) in
@@ -133,7 +133,7 @@ submit_why line prov (words.Write sector hex) a old answer new is h =
 submit_why line prov words.Flush a old answer new is h =
     submits_why line prov words.Flush a jobs.Flush [] old answer new is (record { writes = λ none. absurd none; sectors = λ end first many there none. none }) h
 
-pub job_writable : (line : List ℕ) (asked : JobWords) (disk : DiskState) (a : Attachment) → FitsJob line asked disk a → IsTrue (job_writes asked) → a.readonly ≡ true → ⊥
+job_writable : (line : List ℕ) (asked : JobWords) (disk : DiskState) (a : Attachment) → FitsJob line asked disk a → IsTrue (job_writes asked) → a.readonly ≡ true → ⊥
 job_writable line (words.Read sector count) disk a f writes only = let none : ⊥ = cc writes in none
 job_writable line (words.Write sector hex) disk a f writes only = let none : ⊥ = cc (f.0, only) in none
 job_writable line words.Flush disk a f writes only = let none : ⊥ = cc writes in none
@@ -146,7 +146,7 @@ bytes_within sector bytes disk a f first many there first_is whole there_is over
     let same : many ≡ f.sectors = cc (whole, f.whole) in
     within_end sector f.sectors first many there (media a.keying disk) first_is same there_is over f.within
 
-pub job_within : (line : List ℕ) (asked : JobWords) (disk : DiskState) (a : Attachment) → FitsJob line asked disk a → (first many there : ℕ) → AsksSectorsFrom (AsksToOpen (job_sectors line asked)) first many a → there ≡ media a.keying disk → there < first + many → ⊥
+job_within : (line : List ℕ) (asked : JobWords) (disk : DiskState) (a : Attachment) → FitsJob line asked disk a → (first many there : ℕ) → AsksSectorsFrom (AsksToOpen (job_sectors line asked)) first many a → there ≡ media a.keying disk → there < first + many → ⊥
 job_within line (words.Read sector count) disk a f first many there asks is over = bytes_within sector _ disk a f first many there asks.0 asks.1 is over
 job_within line (words.Write sector hex) disk a f first many there asks is over = bytes_within sector _ disk a f.1 first many there asks.0 asks.1 is over
 job_within line words.Flush disk a f first many there asks is over = absurd asks
@@ -157,12 +157,12 @@ bytes_whole sector bytes disk a f given refusal is bad =
     let none : ⊥ = cc (same, f.whole) in
     none
 
-pub job_whole : (line : List ℕ) (asked : JobWords) (disk : DiskState) (a : Attachment) → FitsJob line asked disk a → (given : ℕ) (refusal : Refusal) → AsksBytesAtOnce (AsksToOpen (job_sectors line asked)) given a → whole_sectors a.keying.sectorsize given ≡ Err refusal → ⊥
+job_whole : (line : List ℕ) (asked : JobWords) (disk : DiskState) (a : Attachment) → FitsJob line asked disk a → (given : ℕ) (refusal : Refusal) → AsksBytesAtOnce (AsksToOpen (job_sectors line asked)) given a → whole_sectors a.keying.sectorsize given ≡ Err refusal → ⊥
 job_whole line (words.Read sector count) disk a f given refusal asks bad = bytes_whole sector _ disk a f given refusal asks bad
 job_whole line (words.Write sector hex) disk a f given refusal asks bad = bytes_whole sector _ disk a f.1 given refusal asks bad
 job_whole line words.Flush disk a f given refusal asks bad = absurd asks
 
-pub room_left : (line : List ℕ) (asked : JobWords) (disk : DiskState) (refusal : Refusal) (a : Attachment) → length a.queue < 32 → QueueRefuses (AsksToOpen (job_sectors line asked)) disk refusal a → ⊥
+room_left : (line : List ℕ) (asked : JobWords) (disk : DiskState) (refusal : Refusal) (a : Attachment) → length a.queue < 32 → QueueRefuses (AsksToOpen (job_sectors line asked)) disk refusal a → ⊥
 room_left line asked disk refusals.QueueFull a room h = omega arith
 room_left line asked disk refusal a room h = absurd h
 

@@ -31,13 +31,13 @@ sum_sound start count a =
     (λ there. sound_then (ReadsSectors a start count) _ (sectors_sound a start count)
     (λ bytes. done_sound (sha256 bytes)))
 
-pub quiet_sum_row : (start count : ℕ) (a : Attachment) → Quiet (SumRow start count a)
+quiet_sum_row : (start count : ℕ) (a : Attachment) → Quiet (SumRow start count a)
 quiet_sum_row start count a =
     quiet_then (NeedsSectors a start count) _ (λ old answer new h. same_disk old.disk new.disk (ap (λ (r : Reach). r.disk) h.1))
     (λ done. quiet_then (ReadsSectors a start count) _ (quiet_sectors a start count)
     (λ bytes old answer new h. same_disk old.disk new.disk (ap (λ (r : Reach). r.disk) h.1)))
 
-pub sum_stays : (start count : ℕ) (a : Attachment) → Stays (SumRow start count a)
+sum_stays : (start count : ℕ) (a : Attachment) → Stays (SumRow start count a)
 sum_stays start count a =
     stays_then (NeedsSectors a start count) _ (λ old answer new h. same_reach old new h.1)
     (λ there. stays_then (ReadsSectors a start count) _ (λ old answer new h. h.holding)
@@ -55,7 +55,7 @@ digest_why line prov start count a old answer new is h =
     then_why line (commands.Sum prov start count) (ReadsSectors a start count) (λ bytes. Decides (Ok (sha256 bytes))) old answer new (λ given middle first. reads_why line prov start count a old given middle is first)
     (λ bytes middle first next. rw next.0 tt) h
 
-pub sum_why : (line : List ℕ) (prov : Span) (start count : ℕ) (a : Attachment) (old : Reach) (answer : Result (List ℕ) Refusal) (new : Reach) → old.holding ≡ IsAttached a
+sum_why : (line : List ℕ) (prov : Span) (start count : ℕ) (a : Attachment) (old : Reach) (answer : Result (List ℕ) Refusal) (new : Reach) → old.holding ≡ IsAttached a
     → SumRow start count a old answer new → Why line (commands.Sum prov start count) old answer new
 sum_why line prov start count a old answer new is h =
     then_why line (commands.Sum prov start count) (NeedsSectors a start count) (λ _. Then (ReadsSectors a start count) (λ bytes. Decides (Ok (sha256 bytes)))) old answer new

@@ -30,7 +30,7 @@ use Rattle.command_rows.proofs.Sound.{Sound, SoundReply, sound_decision, sound_r
 use Rattle.command_rows.proofs.Storing.{Unstored, decision_unstored, same_files, unstored_reply, unstored_then}
 use Rattle.command_rows.proofs.Keeping.{KeepsRequests}
 
-pub suspending_counts : (a : Attachment) → Counts (Suspends a)
+suspending_counts : (a : Attachment) → Counts (Suspends a)
 suspending_counts a old answer new h = uncounted_step old answer new (does_uncounted (Flush ∷ []) old.disk answer new.disk h.flushes) h.outside.cabinet h.outside.entropy
 
 open_uncounted : (queue : List Request) → UncountedAnswer (if_none_open queue)
@@ -50,14 +50,14 @@ open_why : (line : List ℕ) (prov : Span) (a : Attachment) (queue : List Reques
 open_why line prov a [] old middle is are = tt
 open_why line prov a (r ∷ queue) old middle is are = let some : 1 ≤ length (r ∷ queue) = omega arith in rw is (ap length (sym are), some)
 
-pub suspend_why : (line : List ℕ) (prov : Span) (a : Attachment) (old : Reach) (answer : Result (Unit {0}) Refusal) (new : Reach) → old.holding ≡ IsAttached a → SuspendRow a old answer new → Why line (commands.Suspend prov) old answer new
+suspend_why : (line : List ℕ) (prov : Span) (a : Attachment) (old : Reach) (answer : Result (Unit {0}) Refusal) (new : Reach) → old.holding ≡ IsAttached a → SuspendRow a old answer new → Why line (commands.Suspend prov) old answer new
 suspend_why line prov a old answer new is h =
     let command : Command = commands.Suspend prov in
     then_why line command (NeedsNoRequests a) (λ _. Suspends a) old answer new
     (λ given middle first. subst (λ (r : Result (Unit {0}) Refusal). Why line command old r middle) (sym first.0) (open_why line prov a a.queue old middle is refl))
     (λ done middle first next. subst (λ (r : Reach). Why line command r answer new) first.1 (events_why line command (Flush ∷ []) middle answer new next.flushes)) h
 
-pub suspends_did : (a : Attachment) (old : Reach) (answer : Result (Unit {0}) Refusal) (new : Reach) → SuspendRow a old answer new → Did (λ events. events ≡ Flush ∷ []) false old.disk answer new.disk
+suspends_did : (a : Attachment) (old : Reach) (answer : Result (Unit {0}) Refusal) (new : Reach) → SuspendRow a old answer new → Did (λ events. events ≡ Flush ∷ []) false old.disk answer new.disk
 suspends_did a old answer new h =
     did_then (λ events. events ≡ Flush ∷ []) false (NeedsNoRequests a) (λ _. Suspends a) old answer new
     (λ old given new h. same_disk old.disk new.disk (ap (λ (r : Reach). r.disk) h.1))

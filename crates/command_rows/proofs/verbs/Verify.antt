@@ -40,7 +40,7 @@ use Rattle.command_rows.proofs.Storing.{Stored, Unstored, bytes_stored, decision
 use Rattle.command_rows.proofs.SweepPlaces.{OfFile, eight_loaded, eight_says, found_place, from_stays, is_inside, place_stays, was_loaded}
 use Rattle.command_rows.proofs.Keeping.{attached_keeps}
 
-pub tagged_uncounted : (tagged : Bool) → UncountedAnswer (if_tagged tagged)
+tagged_uncounted : (tagged : Bool) → UncountedAnswer (if_tagged tagged)
 tagged_uncounted true = tt
 tagged_uncounted false = tt
 
@@ -50,7 +50,7 @@ absent_counts old (Ok bytes) new h = tt
 absent_counts old (Err (refusals.FileAbsent word)) new h = tt
 absent_counts old (Err refusal) new h = h
 
-pub loading_place_counts : (line : List ℕ) (file : Span) → Counts (LoadsPlace line file)
+loading_place_counts : (line : List ℕ) (file : Span) → Counts (LoadsPlace line file)
 loading_place_counts line file old answer new h =
     let counts = file_counts place_size line file old h.loaded new h.loads in
     (subst (λ (r : Result (Option (List ℕ)) Refusal). CountsResult old r new) (sym h.answered) (absent_counts old h.loaded new counts.0), counts.1)
@@ -60,7 +60,7 @@ part_uncounted s old (Ok part) new h = tt
 part_uncounted s old (Err refusals.DeviceFault) new h = tt
 part_uncounted s old (Err refusal) new h = absurd h
 
-pub sweeping_counts : (a : Attachment) (place count : ℕ) → Counts (Sweeps a place count)
+sweeping_counts : (a : Attachment) (place count : ℕ) → Counts (Sweeps a place count)
 sweeping_counts a place count old answer new h = uncounted_step old answer new (part_uncounted _ old.disk answer new.disk h.sweeps) h.outside.cabinet h.outside.entropy
 
 tags_by : (line : List ℕ) (command : Command) (a : Attachment) (tagged : Bool) (old : Reach) (given : Result (Unit {0}) Refusal) (middle : Reach) → old.holding ≡ IsAttached a → needs_tags command ≡ true → has_tags a.keying.auth ≡ tagged → given ≡ if_tagged tagged
@@ -85,7 +85,7 @@ short_plain : (word long place : ℕ) (short : Bool) → PlainAnswer {A = ℕ} (
 short_plain word long place true = tt
 short_plain word long place false = tt
 
-pub place_plain : (word : ℕ) (found : Option (List ℕ)) → PlainAnswer (place_in word found)
+place_plain : (word : ℕ) (found : Option (List ℕ)) → PlainAnswer (place_in word found)
 place_plain word None = tt
 place_plain word (Some bytes) = short_plain word (length bytes) _ _
 
@@ -114,7 +114,7 @@ inside_found : (place there : ℕ) (inside : Bool) → PlainAnswer {A = Unit {0}
 inside_found place there true = tt
 inside_found place there false = tt
 
-pub inside_plain : (place there : ℕ) → PlainAnswer (if_inside place there)
+inside_plain : (place there : ℕ) → PlainAnswer (if_inside place there)
 inside_plain place there = inside_found place there _
 
 -- a place that isn't there was said by the file
@@ -167,7 +167,7 @@ placed_why line prov file count restart a old answer new is h =
     (λ part swept sweeps stores. stored_why line command file part old swept answer new refl
     (later_faults old.cabinet.faults middle.cabinet.faults swept.cabinet.faults middle.cabinet swept.cabinet stays.files.faults refl (from_stays a place count middle (Ok part) swept sweeps).outside.cabinet refl) stores) next) h
 
-pub verify_why : (line : List ℕ) (prov file : Span) (count : ℕ) (restart : Bool) (a : Attachment) (old : Reach) (answer : Result SweptPart Refusal) (new : Reach) → old.holding ≡ IsAttached a → VerifyRow line file count restart a old answer new
+verify_why : (line : List ℕ) (prov file : Span) (count : ℕ) (restart : Bool) (a : Attachment) (old : Reach) (answer : Result SweptPart Refusal) (new : Reach) → old.holding ≡ IsAttached a → VerifyRow line file count restart a old answer new
     → Why line (commands.Verify prov file count restart) old answer new
 verify_why line prov file count restart a old answer new is h =
     let command : Command = commands.Verify prov file count restart in
@@ -213,7 +213,7 @@ quiet_place line file part =
     quiet_then (StoresBytes line file (le64 part.next)) _ (quiet_storing line file (le64 part.next))
     (λ done old answer new h. same_disk old.disk new.disk (ap (λ (r : Reach). r.disk) h.1))
 
-pub quiet_verify_row : (line : List ℕ) (file : Span) (count : ℕ) (restart : Bool) (a : Attachment) → Quiet (VerifyRow line file count restart a)
+quiet_verify_row : (line : List ℕ) (file : Span) (count : ℕ) (restart : Bool) (a : Attachment) → Quiet (VerifyRow line file count restart a)
 quiet_verify_row line file count restart a =
     quiet_then (NeedsTags a) _ (λ old answer new h. same_disk old.disk new.disk (ap (λ (r : Reach). r.disk) h.1))
     (λ done. quiet_then (FindsPlace restart line file) _ (λ old answer new h. same_disk old.disk new.disk (place_stays restart line file old answer new h).disk)
@@ -224,7 +224,7 @@ found_stays : (restart : Bool) (line : List ℕ) (file : Span) → Stays (FindsP
 found_stays true line file = λ old answer new h. same_reach old new h.1
 found_stays false line file = stays_then (LoadsPlace line file) _ (λ old answer new h. h.loads.holding) (λ found old answer new h. same_reach old new h.1)
 
-pub verify_stays : (line : List ℕ) (file : Span) (count : ℕ) (restart : Bool) (a : Attachment) → Stays (VerifyRow line file count restart a)
+verify_stays : (line : List ℕ) (file : Span) (count : ℕ) (restart : Bool) (a : Attachment) → Stays (VerifyRow line file count restart a)
 verify_stays line file count restart a =
     stays_then (NeedsTags a) _ (λ old answer new h. same_reach old new h.1)
     (λ done. stays_then (FindsPlace restart line file) _ (found_stays restart line file)

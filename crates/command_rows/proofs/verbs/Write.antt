@@ -28,7 +28,7 @@ use Rattle.command_rows.proofs.Sound.{Sound, SoundReply, doing_sound, range_soun
 use Rattle.command_rows.proofs.Storing.{Unstored, doing_unstored, range_unstored, unstored_reply, unstored_then, whole_unstored, writable_unstored}
 use Rattle.command_rows.proofs.Keeping.{attached_keeps}
 
-pub write_why : (line : List ℕ) (prov : Span) (sector : ℕ) (hex : Span) (a : Attachment) (old : Reach) (answer : Result (Unit {0}) Refusal) (new : Reach) → old.holding ≡ IsAttached a
+write_why : (line : List ℕ) (prov : Span) (sector : ℕ) (hex : Span) (a : Attachment) (old : Reach) (answer : Result (Unit {0}) Refusal) (new : Reach) → old.holding ≡ IsAttached a
     → WriteRow sector (bytes_spelled (bytes_at line hex)) a old answer new
     → Why line (commands.Write prov sector hex) old answer new
 write_why line prov sector hex a old answer new is h =
@@ -43,7 +43,7 @@ counted : (size bytes count : ℕ) (whole : Bool) (refusal : Refusal) → Ok cou
 counted size bytes count true refusal h = cc h
 counted size bytes count false refusal h = absurd (let no : ⊥ = cc h in no)
 
-pub writes_did : (a : Attachment) (sector : ℕ) (bytes : List ℕ) (old : Reach) (answer : Result (Unit {0}) Refusal) (new : Reach)
+writes_did : (a : Attachment) (sector : ℕ) (bytes : List ℕ) (old : Reach) (answer : Result (Unit {0}) Refusal) (new : Reach)
     → WriteRow sector bytes a old answer new
     → Did (WritesData (IsAttached a) sector bytes) false old.disk answer new.disk
 writes_did a sector bytes old answer new h =

@@ -12,7 +12,7 @@ use Rattle.command_rows.specs.Verb.{NoBadFile, NoChanges, NoEvents, OfOther, Ver
 use Rattle.command_rows.specs.World.{Reach}
 
 -- the last sector was read, into a place that had other bytes before; it is answered where it has metadata
-pub record Finds (old : DiskState) (answer : Result (List ℕ) Refusal) (new : DiskState) : Type 0 where
+pub record ReadsForBackup (old : DiskState) (answer : Result (List ℕ) Refusal) (new : DiskState) : Type 0 where
   pub before : List ℕ
   pub bytes : List ℕ
   pub read : Result (Unit {0}) Refusal
@@ -21,7 +21,7 @@ pub record Finds (old : DiskState) (answer : Result (List ℕ) Refusal) (new : D
 
 -- the last sector is read as it is, if it has metadata, and all else stays
 pub record FindsLastSector (old : Reach) (answer : Result (List ℕ) Refusal) (new : Reach) : Type 0 where
-  pub finds : Finds old.disk answer new.disk
+  pub finds : ReadsForBackup old.disk answer new.disk
   pub holding : new.holding ≡ old.holding
   pub outside : KeepsOutside old new
 

@@ -31,15 +31,15 @@ abbrev pub workload : ℕ → ℕ → List ℕ
 workload seed words = (generated words (generator seed)).0
 
 -- the words of so many logical sectors of so many bytes
-abbrev pub words_of : ℕ → ℕ → ℕ
-words_of size count = count * (size / 8)
+abbrev pub words_of_sectors : ℕ → ℕ → ℕ
+words_of_sectors size count = count * (size / 8)
 
 -- `fill`, of an attached drawer: the sectors are written with the words of one generator, in order
 abbrev pub FillRow : ℕ → ℕ → ℕ → Attachment → Reach → Result (Unit {0}) Refusal → Reach → Type 0
 FillRow seed start count a old answer new =
     Then (NeedsWritable a)
     (λ _. Then (NeedsSectors a start count)
-    (λ _. WritesSectors a start count (workload seed (words_of a.keying.sectorsize count)))) old answer new
+    (λ _. WritesSectors a start count (workload seed (words_of_sectors a.keying.sectorsize count)))) old answer new
 
 -- the provider may be written, and the sectors are there
 pub record FitsFill (start count : ℕ) (disk : DiskState) (a : Attachment) : Type 0 where
@@ -48,7 +48,7 @@ pub record FitsFill (start count : ℕ) (disk : DiskState) (a : Attachment) : Ty
 
 -- so many sectors of generated words are sealed and written, in ascending order
 abbrev pub WritesWorkload : Holding → ℕ → ℕ → ℕ → List Event → Type 0
-WritesWorkload holding seed start count events = AttachedWith holding (λ a. events ≡ data_writes a.keying start count (workload seed (words_of a.keying.sectorsize count)))
+WritesWorkload holding seed start count events = AttachedWith holding (λ a. events ≡ data_writes a.keying start count (workload seed (words_of_sectors a.keying.sectorsize count)))
 
 -- the verb
 abbrev pub fill_verb : Span → ℕ → ℕ → ℕ → Verb

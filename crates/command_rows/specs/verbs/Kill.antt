@@ -35,8 +35,8 @@ pub record OverwritesLast (disk : DiskState) (events : List Event) : Type 0 wher
   pub are : events ≡ kill_events disk random
 
 -- once a flush landed, no value that the last sector may hold is metadata
-abbrev pub Destroys : DiskState → Bool → DiskState → Type 0
-Destroys old done new = AtEachMoment (HoldsNoMetadata (last_sector old)) old.content new.content
+abbrev pub LeavesNoMetadata : DiskState → Bool → DiskState → Type 0
+LeavesNoMetadata old done new = AtEachMoment (HoldsNoMetadata (last_sector old)) old.content new.content
 
 -- the verb
 abbrev pub kill_verb : Span → Verb
@@ -46,7 +46,7 @@ kill_verb prov = record {
   grounds = λ line old refusal. LacksRoom old.disk refusal;
   bad_file = NoBadFile;
   events = λ line disk holding events. OverwritesLast disk events;
-  changes = λ line told holding old done new. Destroys old done new;
+  changes = λ line told holding old done new. LeavesNoMetadata old done new;
   stored_file = None;
   asks = asks_nothing;
   places = places_nothing;

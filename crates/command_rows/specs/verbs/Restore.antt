@@ -17,7 +17,7 @@ use Rattle.command_rows.specs.Verb.{OfOther, Verb, asks_nothing, places_nothing}
 use Rattle.command_rows.specs.World.{Reach}
 
 -- metadata are put into the last sector from a backup, and all else stays
-pub record WritesBack (bytes : List ℕ) (force : Bool) (old : Reach) (answer : Result Metadata Refusal) (new : Reach) : Type 0 where
+pub record RestoresBackup (bytes : List ℕ) (force : Bool) (old : Reach) (answer : Result Metadata Refusal) (new : Reach) : Type 0 where
   pub restores : Restores bytes force old.disk answer new.disk
   pub holding : new.holding ≡ old.holding
   pub outside : KeepsOutside old new
@@ -26,7 +26,7 @@ pub record WritesBack (bytes : List ℕ) (force : Bool) (old : Reach) (answer : 
 abbrev pub RestoreRow : List ℕ → Span → Bool → Reach → Result (Unit {0}) Refusal → Reach → Type 0
 RestoreRow line file force old answer new =
     Then (LoadsFile file_limit line file)
-    (λ bytes. Then (WritesBack bytes force)
+    (λ bytes. Then (RestoresBackup bytes force)
     (λ m. Decides (Ok tt))) old answer new
 
 -- `restore`: the file has metadata for the image
@@ -37,7 +37,7 @@ pub record FindsBackup (line : List ℕ) (file : Span) (force : Bool) (old : Rea
   pub served : restored bytes force old.disk.size ≡ Ok m
 
 -- the image or the backup is refused
-pub record RefusesBackup (line : List ℕ) (file : Span) (force : Bool) (old : Reach) (refusal : Refusal) : Type 0 where
+pub record RefusesRestore (line : List ℕ) (file : Span) (force : Bool) (old : Reach) (refusal : Refusal) : Type 0 where
   pub bytes : List ℕ
   pub named : IsFile file_limit old.cabinet.files line file bytes
   pub refused : restored bytes force old.disk.size ≡ Err refusal
@@ -58,7 +58,7 @@ abbrev pub restore_verb : Span → Span → Bool → Verb
 restore_verb file prov force = record {
   goes_through = λ line old reply new. Replies done_or (RestoreRow line file force) old reply new;
   fits = λ line old. FindsBackup line file force old;
-  grounds = λ line old refusal. RefusesBackup line file force old refusal;
+  grounds = λ line old refusal. RefusesRestore line file force old refusal;
   bad_file = λ line holding old refusal new. RefusesFile file_limit line file old refusal new;
   events = λ line disk holding events. WritesMetadata disk events;
   changes = λ line told holding old done new. PutsBack told line file force old done new;

@@ -38,14 +38,14 @@ pub record FindsSameKey (line : List ℕ) (words : KeyWords) (old : Reach) (kept
   pub same : same_key kept key.a ≡ Ok tt
 
 -- the key opens another master key than the suspended provider had
-pub record OpensAnother (line : List ℕ) (words : KeyWords) (kept : Kept) (old : Reach) (refusal : Refusal) : Type 0 where
+pub record OpensOtherMaster (line : List ℕ) (words : KeyWords) (kept : Kept) (old : Reach) (refusal : Refusal) : Type 0 where
   pub a : Attachment
   pub opens : OpensWith line None kept.readonly words old a
   pub refused : same_key kept a ≡ Err refusal
 
 -- the metadata aren't admitted, the key isn't, or it is another
 abbrev pub RefusesResume : List ℕ → KeyWords → Kept → Reach → Refusal → Type 0
-RefusesResume line words kept old refusal = RefusesAttach line None kept.readonly words old refusal ⊎ OpensAnother line words kept old refusal
+RefusesResume line words kept old refusal = RefusesAttach line None kept.readonly words old refusal ⊎ OpensOtherMaster line words kept old refusal
 
 -- the verb
 abbrev pub resume_verb : Span → KeyWords → Verb

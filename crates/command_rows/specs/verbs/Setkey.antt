@@ -48,12 +48,12 @@ abbrev pub or_wrong : Option (MasterKey × ℕ) → Result (MasterKey × ℕ) Re
 or_wrong None = Err refusals.WrongKey
 or_wrong (Some found) = Ok found
 
-abbrev pub opened_by : Metadata → Result UserKey KeyFault → Result (MasterKey × ℕ) Refusal
-opened_by m (Err fault) = Err (key_refusal_of fault)
-opened_by m (Ok key) = or_wrong (opened m key.bytes None)
+abbrev pub slot_opened_by : Metadata → Result UserKey KeyFault → Result (MasterKey × ℕ) Refusal
+slot_opened_by m (Err fault) = Err (key_refusal_of fault)
+slot_opened_by m (Ok key) = or_wrong (opened m key.bytes None)
 
 abbrev pub OpensSlot : Metadata → Components → Reach → Result (MasterKey × ℕ) Refusal → Reach → Type 0
-OpensSlot m parts old answer new = Decides (opened_by m (user_key parts m.salt m.iterations)) old answer new
+OpensSlot m parts old answer new = Decides (slot_opened_by m (user_key parts m.salt m.iterations)) old answer new
 
 -- the new key is stored, and all else stays
 pub record StoresKey (asked : KeyChange) (old : Reach) (answer : Result (Unit {0}) Refusal) (new : Reach) : Type 0 where
@@ -110,7 +110,7 @@ pub record FindsOldKey (line : List ℕ) (iterations : Option ℤ) (slot : Optio
   pub parts : Components
   pub names : NamesParts line words old.cabinet parts
   pub found : MasterKey × ℕ
-  pub opens : opened_by m (user_key parts m.salt m.iterations) ≡ Ok found
+  pub opens : slot_opened_by m (user_key parts m.salt m.iterations) ≡ Ok found
   pub next : FindsNewKey line iterations (unwrap_or slot found.1) found.0.bytes fresh m old
 
 -- of an attached drawer: the metadata can be used
@@ -144,14 +144,14 @@ pub record RefusesNewKey (line : List ℕ) (iterations : Option ℤ) (slot : ℕ
 pub record RefusesOldKey (line : List ℕ) (words : KeyWords) (m : Metadata) (old : Reach) (refusal : Refusal) : Type 0 where
   pub parts : Components
   pub named : AreComponents old.cabinet.files line words parts
-  pub refused : opened_by m (user_key parts m.salt m.iterations) ≡ Err refusal
+  pub refused : slot_opened_by m (user_key parts m.salt m.iterations) ≡ Err refusal
 
 -- it opens one, and the new key is refused for the slot that is named, or else for that one
 pub record RefusesNext (line : List ℕ) (iterations : Option ℤ) (slot : Option ℕ) (words fresh : KeyWords) (m : Metadata) (old : Reach) (refusal : Refusal) : Type 0 where
   pub parts : Components
   pub named : AreComponents old.cabinet.files line words parts
   pub found : MasterKey × ℕ
-  pub opens : opened_by m (user_key parts m.salt m.iterations) ≡ Ok found
+  pub opens : slot_opened_by m (user_key parts m.salt m.iterations) ≡ Ok found
   pub refuses : RefusesNewKey line iterations (unwrap_or slot found.1) found.0.bytes fresh m old refusal
 
 -- the metadata can't be used, there is no slot of the number that is named, or one of the keys is refused

@@ -4,7 +4,7 @@ use Rattle.std.proofs.lemmas.Result.{err_from_is_err_and}
 use Rattle.block_traits.specs.Content.{at_moment}
 use Rattle.block_traits.proofs.Images.{IsTorn-image}
 use Rattle.crash_disk.specs.MemDisk.{MemState, fresh}
-use Rattle.crash_disk.specs.SparseDisk.{after_put, sparse_content, state_of}
+use Rattle.crash_disk.specs.SparseDisk.{after_put, sparse_content, sparse_state_of}
 use Rattle.crash_disk.specs.Survivor.{choice_of}
 use Rattle.crash_disk.proofs.SurvivorLemmas.{IsContentOf-at_moment}
 use Rattle.crash_disk.proofs.Tears.{AllGoodTears-more, IsTorn-more, IsTornImage-more, IsTornImage-start}
@@ -21,7 +21,7 @@ loop-index-init c =
     let content = sparse_content log in
     let left = at_moment c.args.moment content in
     let choice = choice_of left c.args.picks.now in
-    let base = (state_of c.in_ok-made.made).content.base in
+    let base = (sparse_state_of c.in_ok-made.made).content.base in
     let fits = IsContentOf-at_moment (length content.base) c.args.moment content log.fits in
     record {
       image = IsTornImage-start left choice base c.in_ok-made.ensures.image;
@@ -40,7 +40,7 @@ loop-index-preserved c =
     let tear = get_or torn index (record { n = 0; bytes = [] }) in
     let here = get_or_default torn index (record { n = 0; bytes = [] }) tear c.loop-index-test.true in
     let good = c.if-not-can_tear.ensures.good in
-    let old = (state_of c.loop-index.made).content.base in
+    let old = (sparse_state_of c.loop-index.made).content.base in
     let is = ap (λ (s : MemState). s.content.base) c.in-Ok.ensures.after in
     record {
       image = rw is (IsTornImage-more left (choice_of left picks) picks torn old index tear c.loop-index-test.true here good c.loop-index.invariant.image);

@@ -1,5 +1,5 @@
 -- The image below, opened, is that of the disk upon the provider.
-use Rattle.provider_disk.specs.ProviderDisk.{disk_of}
+use Rattle.provider_disk.specs.ProviderDisk.{provider_disk_of}
 use Rattle.provider_disk.proofs.ReadsAbove.{has_opened, survivor_reads}
 use Rattle.provider_disk.proofs.laws.survivors_below_are_read_above.Goals as goal
 
@@ -7,4 +7,4 @@ pub returns-clause-has : goal.returns-clause-has
 returns-clause-has g c = λ image p has. has_opened p.on.keying image (g.D.Disk.state p.on.disk).content has
 
 pub returns-clause-reads : goal.returns-clause-reads
-returns-clause-reads g c = survivor_reads (disk_of g.D.Disk.state)
+returns-clause-reads g c = survivor_reads (provider_disk_of g.D.Disk.state)

@@ -7,27 +7,27 @@ use Rattle.block_traits.specs.Disk.{Continues, write_events}
 use Rattle.block_traits.proofs.Logs.{Continues-then, FailsIn-part, Continues-start, Continues-end}
 use Rattle.block_traits.proofs.SectorWrites.{writes_left, writes_left-start, writes_left-next, writes_left-end}
 use Rattle.crash_disk.specs.MemDisk.{WritesSector}
-use Rattle.crash_disk.specs.SparseDisk.{disk_of, state_of}
+use Rattle.crash_disk.specs.SparseDisk.{sparse_disk_of, sparse_state_of}
 use Rattle.block_traits.proofs.EachWritten.{Goes-start, Goes-next, Goes-fail, Goes-end}
 use Rattle.crash_disk.proofs.sparse_disk.SparseDiskDisk.write_sectors.Goals as goal
 
 pub loop-j-init : goal.loop-j-init
 loop-j-init c =
-    let start = disk_of c.args.self.now in
+    let start = sparse_disk_of c.args.self.now in
     let all = write_events c.args.first c.args.from.now in
     let P : List Event → Type 0 = λ events. Continues events all start start in
     record {
       size = refl;
       unasked = refl;
       events = subst P (sym (writes_left-start c.args.first c.args.from.now)) (Continues-start all start);
-      goes = Goes-start WritesSector c.args.first c.args.from.now (state_of c.args.self.now);
+      goes = Goes-start WritesSector c.args.first c.args.from.now (sparse_state_of c.args.self.now);
     }
 
 pub returns-in_err-write-clause-err : goal.returns-in_err-write-clause-err
 returns-in_err-write-clause-err c =
     let all = write_events c.args.first c.args.from.now in
     let left = writes_left c.args.first c.args.from.now (c.loop-j.j + 1) in
-    let P : List Event → Type 0 = λ events. Continues events all (disk_of c.loop-j.self) (disk_of c.args.self.now) in
+    let P : List Event → Type 0 = λ events. Continues events all (sparse_disk_of c.loop-j.self) (sparse_disk_of c.args.self.now) in
     let here = subst P (writes_left-next c.args.first c.args.from.now c.sector_of.result c.loop-j.j c.loop-j-test.true c.sector_of.ensures) c.loop-j.invariant.events in
     let fails = FailsIn-part (Write (c.args.first + c.loop-j.j) c.sector_of.result ∷ []) left all here c.in_err-write.ensures.err in
     search rules
@@ -35,27 +35,27 @@ returns-in_err-write-clause-err c =
 pub returns-in_err-write-clause-answer : goal.returns-in_err-write-clause-answer
 returns-in_err-write-clause-answer c =
     let failed : DiskFailed = record {} in
-    let answer = Goes-fail WritesSector c.args.first c.args.from.now c.loop-j.j c.sector_of.result (state_of c.args.self.now) (state_of c.loop-j.self) (state_of c.write.new.self) failed c.loop-j-test.true c.sector_of.ensures c.loop-j.invariant.goes (record { answer = c.in_err-write.ensures.answer; after = c.write.ensures.after }) in
+    let answer = Goes-fail WritesSector c.args.first c.args.from.now c.loop-j.j c.sector_of.result (sparse_state_of c.args.self.now) (sparse_state_of c.loop-j.self) (sparse_state_of c.write.new.self) failed c.loop-j-test.true c.sector_of.ensures c.loop-j.invariant.goes (record { answer = c.in_err-write.ensures.answer; after = c.write.ensures.after }) in
     search (rules, answer)
 
 pub loop-j-preserved : goal.loop-j-preserved
 loop-j-preserved c =
     let all = write_events c.args.first c.args.from.now in
     let left = writes_left c.args.first c.args.from.now (c.loop-j.j + 1) in
-    let P : List Event → Type 0 = λ events. Continues events all (disk_of c.loop-j.self) (disk_of c.args.self.now) in
+    let P : List Event → Type 0 = λ events. Continues events all (sparse_disk_of c.loop-j.self) (sparse_disk_of c.args.self.now) in
     let here = subst P (writes_left-next c.args.first c.args.from.now c.sector_of.result c.loop-j.j c.loop-j-test.true c.sector_of.ensures) c.loop-j.invariant.events in
     record {
       size = c.in_ok-write.ensures.ok.size ∙ c.loop-j.invariant.size;
       unasked = c.write.ensures.unasked ∙ c.loop-j.invariant.unasked;
       events = Continues-then (Write (c.args.first + c.loop-j.j) c.sector_of.result ∷ []) left all here c.in_ok-write.ensures.ok;
-      goes = Goes-next WritesSector c.args.first c.args.from.now c.loop-j.j c.sector_of.result (state_of c.args.self.now) (state_of c.loop-j.self) _ c.loop-j-test.true c.sector_of.ensures c.loop-j.invariant.goes (record { answer = c.in_ok-write.ensures.answer; after = c.write.ensures.after });
+      goes = Goes-next WritesSector c.args.first c.args.from.now c.loop-j.j c.sector_of.result (sparse_state_of c.args.self.now) (sparse_state_of c.loop-j.self) _ c.loop-j-test.true c.sector_of.ensures c.loop-j.invariant.goes (record { answer = c.in_ok-write.ensures.answer; after = c.write.ensures.after });
     }
 
 pub returns-clause-ok : goal.returns-clause-ok
 returns-clause-ok c =
     let all = write_events c.args.first c.args.from.now in
-    let P : List Event → Type 0 = λ events. Continues events all (disk_of c.loop-j.self) (disk_of c.args.self.now) in
+    let P : List Event → Type 0 = λ events. Continues events all (sparse_disk_of c.loop-j.self) (sparse_disk_of c.args.self.now) in
     Continues-end all (subst P (writes_left-end c.args.first c.args.from.now c.loop-j.j c.loop-j-test.false) c.loop-j.invariant.events)
 
 pub returns-clause-answer : goal.returns-clause-answer
-returns-clause-answer c = Goes-end WritesSector c.args.first c.args.from.now c.loop-j.j (state_of c.args.self.now) (state_of c.loop-j.self) c.loop-j-test.false c.loop-j.invariant.goes
+returns-clause-answer c = Goes-end WritesSector c.args.first c.args.from.now c.loop-j.j (sparse_state_of c.args.self.now) (sparse_state_of c.loop-j.self) c.loop-j-test.false c.loop-j.invariant.goes

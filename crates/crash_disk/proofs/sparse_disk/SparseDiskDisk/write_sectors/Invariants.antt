@@ -3,14 +3,14 @@ use Rattle.std.proofs.Common.{◌≡◌}
 use Rattle.block_traits.specs.Disk.{Continues, write_events}
 use Rattle.block_traits.proofs.SectorWrites.{writes_left}
 use Rattle.crash_disk.specs.MemDisk.{WritesSector}
-use Rattle.crash_disk.specs.SparseDisk.{disk_of, state_of}
+use Rattle.crash_disk.specs.SparseDisk.{sparse_disk_of, sparse_state_of}
 use Rattle.block_traits.proofs.EachWritten.{Goes}
 use Rattle.crash_disk.proofs.sparse_disk.SparseDiskDisk.write_sectors.Given as goal
 
 abbrev pub invariant-loop-j : goal.invariant-loop-j
 invariant-loop-j l = record {
-  size : (disk_of l.self).size ≡ (disk_of l.initial.self).size;
-  unasked : (disk_of l.self).reads ≡ (disk_of l.initial.self).reads;
-  events : Continues (writes_left l.first l.from l.j) (write_events l.first l.from) (disk_of l.self) (disk_of l.initial.self);
-  goes : Goes WritesSector l.first l.from l.j (state_of l.self) (state_of l.initial.self);
+  size : (sparse_disk_of l.self).size ≡ (sparse_disk_of l.initial.self).size;
+  unasked : (sparse_disk_of l.self).reads ≡ (sparse_disk_of l.initial.self).reads;
+  events : Continues (writes_left l.first l.from l.j) (write_events l.first l.from) (sparse_disk_of l.self) (sparse_disk_of l.initial.self);
+  goes : Goes WritesSector l.first l.from l.j (sparse_state_of l.self) (sparse_state_of l.initial.self);
 }

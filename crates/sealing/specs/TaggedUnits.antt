@@ -26,8 +26,8 @@ abbrev pub tagged : Keying → ℕ → List ℕ → List ℕ
 tagged k offset cipher_text = tag_of k offset cipher_text ++ cipher_text ++ replicate (unit_bytes_of k.auth - length cipher_text) 0
 
 -- the device sector of a unit's plain bytes
-abbrev pub sealed_piece : Keying → ℕ → List ℕ → List ℕ
-sealed_piece k offset plain = tagged k offset (sealed_run k offset plain)
+abbrev pub sealed_tagged : Keying → ℕ → List ℕ → List ℕ
+sealed_tagged k offset plain = tagged k offset (sealed_run k offset plain)
 
 -- the tag that a device sector has
 abbrev pub kept_tag : Keying → List ℕ → List ℕ
@@ -38,7 +38,7 @@ abbrev pub cipher_text_in : Keying → ℕ → List ℕ → List ℕ
 cipher_text_in k size sector = take size (drop (tag_bytes k.auth) sector)
 
 -- the plain bytes of a unit of this size, or where the tag isn't that of its cipher text, a fault at its byte offset
-abbrev pub opened_piece : Keying → ℕ → ℕ → List ℕ → Result (List ℕ) ℕ
-opened_piece k offset size sector =
+abbrev pub opened_tagged : Keying → ℕ → ℕ → List ℕ → Result (List ℕ) ℕ
+opened_tagged k offset size sector =
     (if bytes_eq (kept_tag k sector) (tag_of k offset (cipher_text_in k size sector)) then Ok (opened_run k offset (cipher_text_in k size sector))
     else Err offset)

@@ -5,7 +5,7 @@ use Rattle.block_traits.specs.Disk.{Logs}
 use Rattle.eli_base.specs.Units.{unit_bytes_of}
 use Rattle.sealing.specs.Sectors.{joined}
 use Rattle.provider.specs.Reading.{units_read}
-use Rattle.provider.proofs.pieces.read_pieces.Given as goal
+use Rattle.provider.proofs.tagged_units.read_tagged_units.Given as goal
 
 abbrev pub invariant-loop-j : goal.invariant-loop-j
 invariant-loop-j g l =

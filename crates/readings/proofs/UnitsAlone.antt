@@ -12,23 +12,23 @@ use Rattle.eli_base.specs.Units.{unit_bytes_of}
 use Rattle.aes_core.proofs.KeyBytes.{AreBytes-chunk}
 use Rattle.block_traits.proofs.PartLists.{part}
 use Rattle.range_keys.specs.Ring.{IsKeying}
-use Rattle.sealing.specs.Pieces.{opened_piece}
+use Rattle.sealing.specs.TaggedUnits.{opened_tagged}
 use Rattle.sealing.specs.Sectors.{units}
-use Rattle.sealing.proofs.Pieces.{opened_piece-sealed, unit_reading-tagged}
+use Rattle.sealing.proofs.TaggedUnitLaws.{opened_tagged-sealed, unit_reading-tagged}
 use Rattle.sealing.proofs.Sectors.{length-unit, blocks_of_unit}
 use Rattle.readings.specs.Writings.{PutUnit, Writing, Raw, IsPut, IsWriting, AreWritings, device_bytes, all_device_bytes, plain_bytes}
 use Rattle.readings.specs.Read.{Matches, matching, writing_in, opened_unit, are_chained, loses_front, unit_from, read_unit}
 use Rattle.readings.proofs.Matching.{matching-cases}
 use Rattle.readings.proofs.Sectors.{device_bytes-tagged, plain_bytes-unit}
 
--- unit j is a piece at its own offset
-pub opened_unit-piece : (k : Keying) (sector j : ℕ) (ws : List Writing) → k.auth ≢ Off → j < length ws
+-- unit j is read at its own offset alone
+opened_unit-alone : (k : Keying) (sector j : ℕ) (ws : List Writing) → k.auth ≢ Off → j < length ws
     → opened_unit k sector ws j
-    ≡ opened_piece k (512 * (sector * units k) + 512 * j) (min (unit_bytes_of k.auth) (k.sectorsize - unit_bytes_of k.auth * j)) (device_bytes (writing_in ws j))
-opened_unit-piece k sector j ws on lt =
+    ≡ opened_tagged k (512 * (sector * units k) + 512 * j) (min (unit_bytes_of k.auth) (k.sectorsize - unit_bytes_of k.auth * j)) (device_bytes (writing_in ws j))
+opened_unit-alone k sector j ws on lt =
     let same : length (all_device_bytes ws) ≡ length ws = length-map ws device_bytes in
     unit_reading-tagged k sector j (all_device_bytes ws) on (rw same lt)
-    ∙ ap (opened_piece k (512 * (sector * units k) + 512 * j) (min (unit_bytes_of k.auth) (k.sectorsize - unit_bytes_of k.auth * j))) (get_or-map device_bytes ws j (Raw []) [] lt)
+    ∙ ap (opened_tagged k (512 * (sector * units k) + 512 * j) (min (unit_bytes_of k.auth) (k.sectorsize - unit_bytes_of k.auth * j))) (get_or-map device_bytes ws j (Raw []) [] lt)
 
 -- no front is lost
 unchained : (c : Cipher) (a : Auth) → a ≢ Off → are_chained c a ≡ false
@@ -50,9 +50,9 @@ opened_put k sector j ws p is on are lt m =
     let count = are.count in
     let put : IsPut p = subst IsWriting m.is (All-get_or IsWriting ws j (Raw []) (omega arith) are.each) in
     let long : length p.bytes ≡ k.sectorsize = put.size ∙ ap (λ (a : Keying). a.sectorsize) m.keying in
-    opened_unit-piece k sector j ws on (omega arith)
-    ∙ ap (opened_piece k offset size) (device_bytes-tagged k sector j (writing_in ws j) p on lt m)
-    ∙ opened_piece-sealed k offset size (part d j p.bytes) is (AreBytes-chunk (d * j) d p.bytes put.bytes) (blocks_of_unit k j p.bytes is long) (length-unit k j p.bytes long)
+    opened_unit-alone k sector j ws on (omega arith)
+    ∙ ap (opened_tagged k offset size) (device_bytes-tagged k sector j (writing_in ws j) p on lt m)
+    ∙ opened_tagged-sealed k offset size (part d j p.bytes) is (AreBytes-chunk (d * j) d p.bytes put.bytes) (blocks_of_unit k j p.bytes is long) (length-unit k j p.bytes long)
     ∙ ap Ok (sym (plain_bytes-unit k sector j (writing_in ws j) p lt m))
 
 -- what unit j opens to is what it reads as

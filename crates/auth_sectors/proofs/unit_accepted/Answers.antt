@@ -2,7 +2,7 @@ use Rattle.std.proofs.Common.{◌≡◌, ap, ◌∙◌, sym, arith}
 use Rattle.eli_base.specs.declared.algorithms.Auth.{Auth}
 use Rattle.eli_base.specs.Units.{tag_bytes}
 use Rattle.auth_sectors.proofs.Openings.{code_in, tag_tells}
-use Rattle.auth_sectors.proofs.piece_accepted.Goals as goal
+use Rattle.auth_sectors.proofs.unit_accepted.Goals as goal
 
 pub returns : goal.returns
 returns c =

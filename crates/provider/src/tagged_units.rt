@@ -2,12 +2,12 @@
 ghost use Rattle.std.specs.Prelude.{◌≡◌, ◌≢◌, ◌+◌, ◌*◌, ◌^◌, ◌<◌, ◌≤◌, ◌%◌, ◌↔◌, IsTrue, min, is_ok, length};
 ghost use Rattle.eli_base.specs.declared.algorithms.Auth.TheVariants.{Off};
 ghost use Rattle.eli_base.specs.Units.{unit_bytes_of};
-ghost use Rattle.sealing.specs.Sectors.{piece_reading, units};
+ghost use Rattle.sealing.specs.Sectors.{unit_reading_at, units};
 ghost use Rattle.provider.specs.Reading.{HasWholeFour};
-ghost use Rattle.provider.specs.Reads.{PieceAnswers, SectorAnswers};
+ghost use Rattle.provider.specs.Reads.{UnitAnswers, SectorAnswers};
 
 use crate::ReadFault;
-use auth_sectors::{open_piece, piece_accepted};
+use auth_sectors::{open_piece, unit_accepted};
 use block_traits::{Disk, Sector};
 use range_keys::KeyRing;
 
@@ -23,19 +23,19 @@ pub fn unit_end(size: usize, start: usize, width: usize) -> usize
     }
 }
 
-// Reads the piece in device sector `n`.
-fn read_piece<D: Disk>(
+// Reads the unit in device sector `n`.
+fn read_tagged<D: Disk>(
     ring: &mut KeyRing,
     disk: &mut D,
     n: u64,
-    piece: &mut [u8],
+    out: &mut [u8],
 ) -> Result<(), ReadFault>
     requires on { ring.old.keying.auth ≢ Off }
-    requires at_least { 16 ≤ length piece.old }
-    requires at_most { length piece.old ≤ unit_bytes_of ring.old.keying.auth }
-    requires blocks { length piece.old % 16 ≡ 0 }
+    requires at_least { 16 ≤ length out.old }
+    requires at_most { length out.old ≤ unit_bytes_of ring.old.keying.auth }
+    requires blocks { length out.old % 16 ≡ 0 }
     requires inside { n < (D.state disk.old).size }
-    ensures answer { PieceAnswers ring.old.keying n (length piece.old) (D.state disk.old) (D.state disk.new) piece.new result }
+    ensures answer { UnitAnswers ring.old.keying n (length out.old) (D.state disk.old) (D.state disk.new) out.new result }
     ensures keying { ring.new.keying ≡ ring.old.keying }
 {
     let mut sector: Sector = [0; 512];
@@ -43,25 +43,25 @@ fn read_piece<D: Disk>(
         return Err(ReadFault::DeviceFault);
     }
     let offset = 512 * n;
-    match open_piece(ring, offset, &sector, piece) {
+    match open_piece(ring, offset, &sector, out) {
         Ok(()) => Ok(()),
         Err(_) => Err(ReadFault::Integrity { offset }),
     }
 }
 
-/// Whether these bytes are accepted as the piece in device sector `n`, of logical sectors of `size` bytes.
-pub fn piece_ok(ring: &KeyRing, n: u64, size: usize, from: &Sector) -> bool
+/// Whether these bytes are accepted as the unit in device sector `n`, of logical sectors of `size` bytes.
+pub fn tag_fits(ring: &KeyRing, n: u64, size: usize, from: &Sector) -> bool
     requires on { ring.now.keying.auth ≢ Off }
     requires size { size ≡ ring.now.keying.sectorsize }
     requires small { n < 2 ^ 44 }
-    ensures { result ≡ is_ok (piece_reading ring.now.keying n from.now) }
+    ensures { result ≡ is_ok (unit_reading_at ring.now.keying n from.now) }
 {
     ring.is_of_a_keying();
     let width = ring.auth().data_bytes();
     let units = (size - 1) / width + 1;
     let start = (n % units as u64) as usize * width;
     let end = unit_end(size, start, width);
-    piece_accepted(ring, 512 * n, end - start, from)
+    unit_accepted(ring, 512 * n, end - start, from)
 }
 
 /// Whether four device sectors, the first of number `n`, have whole units of one logical sector of `size` bytes.
@@ -77,7 +77,7 @@ pub fn has_whole_four(ring: &KeyRing, n: u64, size: usize) -> bool
 }
 
 /// Reads one logical sector.
-pub fn read_pieces<D: Disk>(
+pub fn read_tagged_units<D: Disk>(
     ring: &mut KeyRing,
     disk: &mut D,
     sector: u64,
@@ -96,7 +96,7 @@ pub fn read_pieces<D: Disk>(
     let mut start = 0;
     for j in 0..count {
         let end = unit_end(block.len(), start, width);
-        match read_piece(ring, disk, first + j as u64, &mut block[start..end]) {
+        match read_tagged(ring, disk, first + j as u64, &mut block[start..end]) {
             Ok(()) => start = end,
             Err(fault) => return Err(fault),
         }

@@ -1,10 +1,10 @@
 use Rattle.std.proofs.Common.{◌≡◌, ◌+◌, ◌-◌, ◌*◌, ◌/◌, ◌%◌, ◌<◌, min, ℕ, is_ok, refl, subst, sym, ap, ◌∙◌, arith}
 use Rattle.eli_base.specs.declared.algorithms.Auth.{Auth}
 use Rattle.eli_base.specs.Units.{unit_bytes_of}
-use Rattle.sealing.specs.Pieces.{opened_piece}
-use Rattle.sealing.specs.Sectors.{piece_size, unit_size, units}
+use Rattle.sealing.specs.TaggedUnits.{opened_tagged}
+use Rattle.sealing.specs.Sectors.{unit_size_at, unit_size, units}
 use Rattle.provider.proofs.UnitLists.{IsUnit, is_unit_at}
-use Rattle.provider.proofs.pieces.piece_ok.Goals as goal
+use Rattle.provider.proofs.tagged_units.tag_fits.Goals as goal
 
 pub returns : goal.returns
 returns c =
@@ -21,5 +21,5 @@ returns c =
     let end : ℕ = c.unit_end-end.result in
     let ends : end ≡ min k.sectorsize (start + width) = c.unit_end-end.ensures ∙ ap (λ (m : ℕ). min m (start + width)) long in
     let unit : IsUnit k.auth k.sectorsize j start end = is_unit_at k.auth k.sectorsize width j start end c.is_of_a_keying.ensures.at_least c.is_of_a_keying.ensures.whole lt wide refl ends in
-    let size : end - start ≡ piece_size k c.args.n = unit.bytes ∙ ap (unit_size k) at in
-    c.piece_accepted.ensures ∙ ap (λ (m : ℕ). is_ok (opened_piece k (512 * c.args.n) m c.args.from.now)) size
+    let size : end - start ≡ unit_size_at k c.args.n = unit.bytes ∙ ap (unit_size k) at in
+    c.unit_accepted.ensures ∙ ap (λ (m : ℕ). is_ok (opened_tagged k (512 * c.args.n) m c.args.from.now)) size

@@ -7,7 +7,7 @@ use Rattle.eli_base.specs.declared.algorithms.Auth.{Auth}
 use Rattle.eli_base.specs.Units.{unit_bytes_of}
 use Rattle.sealing.specs.Sectors.{units}
 use Rattle.provider.proofs.UnitLists.{IsUnit, is_unit, fault_next, length-between, read_all, read_next}
-use Rattle.provider.proofs.pieces.read_pieces.Goals as goal
+use Rattle.provider.proofs.tagged_units.read_tagged_units.Goals as goal
 
 pub returns-in-Err-clause-answer : goal.returns-in-Err-clause-answer
 returns-in-Err-clause-answer g c =
@@ -30,8 +30,8 @@ returns-in-Err-clause-answer g c =
     let order = unit.order in
     let within = unit.within in
     let bytes : length (take (end - start) (drop start c.loop-j.block)) ≡ end - start = length-between start end c.loop-j.block order (omega arith) in
-    fault_next c.in-Err.fault (state c.args.disk.now) (state c.loop-j.disk) (state c.read_piece.new.disk) k c.loop-j.ring.keying c.args.sector j n _ start end c.loop-j.block c.read_piece.new.piece
-    (put_mid start (end - start) c.loop-j.block c.read_piece.new.piece) c.requires.on c.loop-j.invariant.keying c.loop-j.invariant.asked c.loop-j.invariant.logs lt at bytes unit c.loop-j.invariant.reads c.in-Err.ensures.answer
+    fault_next c.in-Err.fault (state c.args.disk.now) (state c.loop-j.disk) (state c.read_tagged.new.disk) k c.loop-j.ring.keying c.args.sector j n _ start end c.loop-j.block c.read_tagged.new.out
+    (put_mid start (end - start) c.loop-j.block c.read_tagged.new.out) c.requires.on c.loop-j.invariant.keying c.loop-j.invariant.asked c.loop-j.invariant.logs lt at bytes unit c.loop-j.invariant.reads c.in-Err.ensures.answer
 
 pub loop-j-preserved : goal.loop-j-preserved
 loop-j-preserved g c =
@@ -55,13 +55,13 @@ loop-j-preserved g c =
     let within = unit.within in
     let bytes : length (take (end - start) (drop start c.loop-j.block)) ≡ end - start = length-between start end c.loop-j.block order (omega arith) in
     let told = c.loop-j.invariant.logs.content ∙ logged-none (state c.args.disk.now).content in
-    let put : length c.read_piece.new.piece ≡ end - start = omega (arith, bytes, c.read_piece.auto.piece) in
+    let put : length c.read_tagged.new.out ≡ end - start = omega (arith, bytes, c.read_tagged.auto.out) in
     record {
       keying = c.in-Ok.ensures.keying ∙ c.loop-j.invariant.keying;
       asked = Counted-then j 1 (j + 1) refl c.loop-j.invariant.asked c.in-Ok.ensures.answer.asked;
       logs = Logs-then [] [] c.loop-j.invariant.logs c.in-Ok.ensures.answer.logs;
       start = unit.next ∙ ap (min (unit_bytes_of k.auth * (j + 1))) (sym long);
-      reads = read_next (state c.args.disk.now).content (state c.loop-j.disk).content k c.loop-j.ring.keying c.args.sector j n _ start end c.loop-j.block c.read_piece.new.piece
+      reads = read_next (state c.args.disk.now).content (state c.loop-j.disk).content k c.loop-j.ring.keying c.args.sector j n _ start end c.loop-j.block c.read_tagged.new.out
           c.requires.on c.loop-j.invariant.keying told lt at bytes unit all put c.loop-j.invariant.reads c.in-Ok.ensures.answer.reads;
     }
 

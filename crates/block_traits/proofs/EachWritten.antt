@@ -6,7 +6,7 @@ use Rattle.block_traits.specs.declared.disk.DiskFailed.{DiskFailed}
 use Rattle.block_traits.specs.EachWritten.{EachWritten}
 
 -- the sectors that are left behind the first j of them
-sectors_left : List ℕ → ℕ → List (List ℕ)
+pub sectors_left : List ℕ → ℕ → List (List ℕ)
 sectors_left bytes j = parts 512 (length bytes / 512 - j) (drop (512 * j) bytes)
 
 sectors_left-start : (bytes : List ℕ) → sectors_left bytes 0 ≡ parts 512 (length bytes / 512) bytes

@@ -170,7 +170,7 @@ came sep (l ∷ lines) start end drawer run there =
 -- ---- its play
 
 -- what its disk tells, as the play says
-Tells : Type 0 → Option Content → Play → DrawerState → Type 0
+pub Tells : Type 0 → Option Content → Play → DrawerState → Type 0
 Tells Fresh told m drawer = MatchOption told (drawer.disk.content ≡ None) (λ c. Follows Fresh c m drawer.holding drawer.disk)
 
 still_none : (c : Content) (m : Play) (d : DiskState) → Rests c m d → Rests c (goes_on [] m.tasks m) d

@@ -13,7 +13,7 @@ import sys
 from definitions import outward
 
 CRATES = os.path.join(os.path.dirname(os.path.abspath(__file__)), "..", "crates")
-USE = re.compile(r"(?:pub )?use Rattle\.(\w+)\.specs\.([\w.]+?)(?:\.\{(.*)\})?(?: as (\w+))?$")
+USE = re.compile(r"(?:unfoldable )?(?:pub )?use Rattle\.(\w+)\.specs\.([\w.]+?)(?:\.\{(.*)\})?(?: as (\w+))?$")
 HEAD = re.compile(r"(?:abbrev |unfoldable |pub |record |data )*([^\s({:]+)")
 files = {}
 
@@ -22,7 +22,7 @@ def load(crate, module):
     """The imports of a file, by the names in it, and its definitions, each with its lines."""
     if (crate, module) in files:
         return files[crate, module]
-    path = os.path.join(CRATES, crate, "specs", module + ".antt")
+    path = os.path.join(CRATES, crate, "specs", module.replace(".", "/") + ".antt")
     if not os.path.exists(path):
         files[crate, module] = None
         return None
@@ -59,6 +59,9 @@ def reach(crate, module, name, reached):
     if not loaded:
         return
     imports, definitions = loaded
+    if name in imports and not owner(definitions, name):  # a module that passes the name on
+        reach(*imports[name], reached)
+        return
     name = owner(definitions, name)
     if name is None or (crate, module, name) in reached:
         return

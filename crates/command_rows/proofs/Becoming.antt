@@ -1,20 +1,13 @@
 -- What steps and rows leave of what a drawer does with its disk.
-use Rattle.command_words.specs.declared.commands.Command.{Command}
-use Rattle.command_words.specs.declared.spans.KeyWords.{KeyWords}
-use Rattle.eli_base.specs.declared.refusals.Refusal.{Refusal}
 use Rattle.eli_base.specs.declared.refusals.Refusal.TheVariants as refusals
-use Rattle.sha2.specs.Sha256.{sha256}
-use Rattle.command_rows.specs.Answer.{Answer}
 use Rattle.command_rows.specs.Gate.{ASuspended, AnAttached, AnIdle, AnyOne, Needs, NoIdle, NoSuspended, needs, refused_by}
-use Rattle.command_rows.specs.Trying.{TryRow}
+use Rattle.command_rows.specs.Rows.{Admits, Answer, Attaches, Attachment, GoesOn, Holding, Idle, IsAttached, IsSuspended, Kept, LoadsComponents, Reach, ReadsLastSector, Then, TryRow}
+use Rattle.command_rows.specs.Vocabulary.{Command, KeyWords, Logs, Refusal, sha256}
 use Rattle.command_rows.proofs.Causing.{Step}
 use Rattle.command_rows.proofs.SameKey.{key_is_same}
 use Rattle.command_rows.proofs.SuspendCauses.{trial_opens, went_on}
 use Rattle.std.proofs.Common.{Bool, Err, List, None, Ok, Option, Result, Some, [], ap, false, inl, refl, subst, sym, true, ℕ, ◌∙◌, ◌≡◌}
-use Rattle.block_traits.specs.Disk.{Logs}
 use Rattle.command_rows.specs.Becoming.{Becomes, BecomesBy, changes_requests}
-use Rattle.command_rows.specs.Steps.{Admits, Attaches, GoesOn, LoadsComponents, ReadsLastSector, Then}
-use Rattle.command_rows.specs.World.{Attachment, Holding, Idle, IsAttached, IsSuspended, Kept, Reach}
 use Rattle.command_rows.specs.verbs.Attach.{OpensWith}
 use Rattle.command_rows.specs.verbs.Resume.{AttachesAgain, ResumeRow}
 use Rattle.command_rows.proofs.QueueingSound.{HoldsSame}

@@ -1,17 +1,12 @@
 -- Why each row is refused.
-use Rattle.std.specs.Prelude.{nat_le}
 use Rattle.std.proofs.lemmas.Bool.Decides.{nat_tests}
-use Rattle.block_traits.specs.declared.disk.Event.{Event}
-use Rattle.command_words.specs.declared.commands.Command.{Command}
-use Rattle.eli_base.specs.declared.refusals.Refusal.{Refusal}
 use Rattle.eli_base.specs.declared.refusals.Refusal.TheVariants as refusals
-use Rattle.provider.specs.Attached.{media}
 use Rattle.command_rows.specs.Causes.{AsksBytes, AsksSectors, LineHasCause, writes_data}
 use Rattle.command_rows.specs.Gate.{needs, refused_by}
-use Rattle.command_rows.specs.World.{Attachment, IsAttached, Reach}
+use Rattle.command_rows.specs.Rows.{Attachment, DoesEvents, GoesOn, IsAttached, NeedsSectors, NeedsWhole, NeedsWritable, Reach, Then, WritesSectors, if_writable, whole_sectors}
+use Rattle.command_rows.specs.Vocabulary.{Command, Event, Refusal, media}
 use Rattle.command_rows.proofs.Gate.{by_gate_refusal}
-use Rattle.std.proofs.Common.{Bool, Err, List, Ok, Result, Some, ap, arith, cond, false, refl, subst, sym, true, ℕ, ◌+◌, ◌/◌, ◌∙◌, ◌≡◌}
-use Rattle.command_rows.specs.Steps.{DoesEvents, GoesOn, NeedsSectors, NeedsWhole, NeedsWritable, Then, WritesSectors, if_writable, whole_sectors}
+use Rattle.std.proofs.Common.{Bool, Err, List, Ok, Result, Some, ap, arith, cond, false, refl, subst, sym, true, ℕ, ◌+◌, ◌/◌, ◌∙◌, ◌≡◌, nat_le}
 
 abbrev pub Step : Type 0 → Type 1
 Step A = Reach → Result A Refusal → Reach → Type 0

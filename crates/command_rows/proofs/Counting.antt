@@ -1,28 +1,14 @@
 -- Each step keeps the counts of the cabinet and the entropy from falling, and answers their failures only where they
 -- rose.
-use Rattle.std.specs.Prelude.{IfErr}
-use Rattle.block_traits.specs.Cabinet.{CabinetState}
-use Rattle.block_traits.specs.Disk.{DiskState}
-use Rattle.block_traits.specs.Streams.{EntropyState}
-use Rattle.block_traits.specs.declared.disk.Event.{Event}
 use Rattle.block_traits.proofs.Causes.{Rose-earlier}
-use Rattle.command_words.specs.declared.spans.KeyWords.{KeyWords}
-use Rattle.command_words.specs.declared.spans.Span.{Span}
-use Rattle.eli_base.specs.declared.refusals.Refusal.{Refusal}
 use Rattle.eli_base.specs.declared.refusals.Refusal.TheVariants as refusals
-use Rattle.eli_metadata.specs.Refusals.{read_refusal_of, refusal_of}
-use Rattle.eli_metadata.specs.declared.metadata.Metadata.{Metadata}
-use Rattle.eli_metadata.specs.declared.place.ReadMetaFault.{ReadMetaFault}
 use Rattle.eli_metadata.specs.declared.place.ReadMetaFault.TheVariants.{TooSmall, DeviceFault, Meta}
-use Rattle.key_components.specs.Answers.{MayRefuse, StopsAtFile}
-use Rattle.key_components.specs.Files.{file_limit}
-use Rattle.user_key.specs.declared.components.Components.{Components}
 use Rattle.command_rows.specs.Counts.{CountsRefusal}
-use Rattle.command_rows.specs.World.{Attachment, Reach}
+use Rattle.command_rows.specs.Rows.{Attaches, Attachment, Decides, Does, DoesEvents, GoesOn, LoadsComponents, LoadsFile, Reach, ReadsLastSector, ReadsSectors, SectorsAnswer, StoreAnswers, StoresBytes, Then, if_writable, or_refusal}
+use Rattle.command_rows.specs.Vocabulary.{CabinetState, Components, DiskState, EntropyState, Event, KeyWords, MayRefuse, Metadata, ReadMetaFault, Refusal, Span, StopsAtFile, file_limit, read_refusal_of, refusal_of}
 use Rattle.command_rows.proofs.Causing.{Step}
 use Rattle.command_rows.specs.Grounds.{IsGround}
-use Rattle.std.proofs.Common.{Bool, Err, List, Ok, Option, Result, Some, ap, arith, cond, false, inl, inr, subst, sym, true, ℕ, ◌/◌, ◌≡◌, ◌≤◌}
-use Rattle.command_rows.specs.Steps.{Attaches, Decides, Does, DoesEvents, GoesOn, LoadsComponents, LoadsFile, ReadsLastSector, ReadsSectors, SectorsAnswer, StoreAnswers, StoresBytes, Then, if_writable, or_refusal}
+use Rattle.std.proofs.Common.{Bool, Err, List, Ok, Option, Result, Some, ap, arith, cond, false, inl, inr, subst, sym, true, ℕ, ◌/◌, ◌≡◌, ◌≤◌, IfErr}
 use Rattle.command_rows.proofs.Plain.{PlainAnswer, PlainOption, meta_plain, plain_some}
 
 -- ---- refusals that are no failure of the cabinet or the entropy

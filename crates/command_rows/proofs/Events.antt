@@ -1,20 +1,11 @@
 -- The events of each row.
-use Rattle.block_traits.specs.Disk.{DiskState, FailsIn, Logs}
-use Rattle.block_traits.specs.declared.disk.Event.{Event}
 use Rattle.block_traits.proofs.Logs.{Logs-nothing, Logs-then}
-use Rattle.command_words.specs.declared.spans.KeyWords.{KeyWords}
-use Rattle.eli_base.specs.declared.refusals.Refusal.{Refusal}
 use Rattle.eli_base.specs.declared.refusals.Refusal.TheVariants as refusals
-use Rattle.eli_metadata.specs.declared.metadata.Metadata.{Metadata}
-use Rattle.eli_metadata.specs.declared.place.ReadMetaFault.{ReadMetaFault}
 use Rattle.eli_metadata.specs.declared.place.ReadMetaFault.TheVariants.{TooSmall, DeviceFault, Meta}
-use Rattle.provider.specs.Writing.{data_writes}
 use Rattle.command_rows.specs.Histories.{BreaksOff}
-use Rattle.command_rows.specs.Trying.{TryRow}
 use Rattle.std.proofs.Common.{Bool, Err, List, Ok, Option, Result, [], ap, arith, false, inl, inr, refl, subst, sym, take, true, ℕ, ◌≡◌}
-use Rattle.eli_metadata.specs.Place.{ReadsMetadata}
-use Rattle.command_rows.specs.Steps.{Admits, Attaches, DoesEvents, GoesOn, LoadsComponents, NeedsSectors, NeedsWritable, ReadsLastSector, ReadsSectors, Then, WritesSectors}
-use Rattle.command_rows.specs.World.{Attachment, Reach}
+use Rattle.command_rows.specs.Rows.{Admits, Attaches, Attachment, DoesEvents, GoesOn, LoadsComponents, NeedsSectors, NeedsWritable, Reach, ReadsLastSector, ReadsSectors, Then, TryRow, WritesSectors}
+use Rattle.command_rows.specs.Vocabulary.{DiskState, Event, FailsIn, KeyWords, Logs, Metadata, ReadMetaFault, ReadsMetadata, Refusal, data_writes}
 
 -- ---- steps without events
 

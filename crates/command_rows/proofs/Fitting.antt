@@ -1,28 +1,11 @@
 -- What a line that finds what its verb needs rules out.
-use Rattle.block_traits.specs.Cabinet.{CabinetState, Files}
-use Rattle.block_traits.specs.Content.{Content, present}
-use Rattle.block_traits.specs.Disk.{DiskState, GivesFrom, last_sector}
-use Rattle.command_words.specs.declared.commands.Command.{Command}
-use Rattle.command_words.specs.declared.spans.KeyWords.{KeyWords}
-use Rattle.eli_base.specs.declared.refusals.Refusal.{Refusal}
-use Rattle.eli_metadata.specs.Format.{metadata_in}
-use Rattle.eli_metadata.specs.declared.metadata.Metadata.{Metadata}
-use Rattle.eli_metadata.specs.declared.metadata.MetaFault.{MetaFault}
-use Rattle.key_components.specs.Key.{components_of}
-use Rattle.provider.specs.Reading.{ReadsAs}
-use Rattle.user_key.specs.Derivation.{user_key}
-use Rattle.user_key.specs.declared.components.Components.{Components}
 use Rattle.command_rows.specs.Gate.{needs, refused_by}
 use Rattle.command_rows.specs.Grounds.{FindsBadFile, HasGround}
+use Rattle.command_rows.specs.Rows.{AreComponents, Asks, AsksBytesAtOnce, AsksNothing, AsksSectorsFrom, AttachedWith, Attachment, FaultOf, HasMetadata, Holding, IsReadAs, LacksMetadata, NamesParts, QueueRefuses, Reach, RefusesFiles, ShowsMetadata, ShowsMetadataAt, admitted, attachment_in, tried}
+use Rattle.command_rows.specs.Vocabulary.{CabinetState, Command, Components, Content, DiskState, Files, GivesFrom, KeyWords, MetaFault, Metadata, ReadsAs, Refusal, components_of, has_tags, last_sector, metadata_in, present, user_key}
 use Rattle.command_rows.specs.verbs.Attach.{FindsKey, RefusesAttach, RefusesTrial}
-use Rattle.std.proofs.Common.{Bool, Err, List, None, Ok, Option, Result, Some, ap, arith, false, inl, inr, subst, sym, true, ℕ, ◌+◌, ◌<◌, ◌∙◌, ◌≡◌, ◌≤◌, ◌⊎◌}
-use Rattle.std.specs.Prelude.{IfSome, IsTrue, MatchOption}
-use Rattle.provider.specs.Attached.{has_tags}
-use Rattle.command_rows.specs.Asks.{Asks, AsksBytesAtOnce, AsksNothing, AsksSectorsFrom, FaultOf, QueueRefuses}
+use Rattle.std.proofs.Common.{Bool, Err, List, None, Ok, Option, Result, Some, ap, arith, false, inl, inr, subst, sym, true, ℕ, ◌+◌, ◌<◌, ◌∙◌, ◌≡◌, ◌≤◌, ◌⊎◌, IfSome, IsTrue, MatchOption}
 use Rattle.command_rows.specs.Causes.{FindsBadUnit, FindsInQueue, HasBadLength, LinePassesEnd, asks_of, needs_tags, writes_data}
-use Rattle.command_rows.specs.Findings.{AreComponents, HasMetadata, IsReadAs, LacksMetadata, NamesParts, RefusesFiles, ShowsMetadata, ShowsMetadataAt}
-use Rattle.command_rows.specs.Steps.{admitted, tried}
-use Rattle.command_rows.specs.World.{AttachedWith, Attachment, Holding, Reach, attachment_in}
 use Rattle.command_rows.proofs.Gate.{with_attached}
 
 -- ---- what is told decides

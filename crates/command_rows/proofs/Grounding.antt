@@ -1,30 +1,13 @@
 -- Why steps on metadata, keys and files are refused, by what the line found at its start.
-use Rattle.std.proofs.Common.{◌≡◌, ◌∙◌, ℕ, ◌≤◌, List, refl, ap, sym, subst, inl, inr, arith, true, Option, None, Some, Result, Ok, Err}
-use Rattle.std.specs.Prelude.{IfSome}
-use Rattle.block_traits.specs.Cabinet.{CabinetState, Files}
-use Rattle.block_traits.specs.Disk.{DiskState}
-use Rattle.block_traits.specs.Streams.{EntropyState}
+use Rattle.std.proofs.Common.{◌≡◌, ◌∙◌, ℕ, ◌≤◌, List, refl, ap, sym, subst, inl, inr, arith, true, Option, None, Some, Result, Ok, Err, IfSome}
 use Rattle.block_traits.proofs.Causes.{Rose-earlier}
-use Rattle.command_words.specs.Places.{bytes_at}
-use Rattle.command_words.specs.declared.commands.Command.{Command}
-use Rattle.command_words.specs.declared.spans.KeyWords.{KeyWords}
-use Rattle.command_words.specs.declared.spans.Span.{Span}
-use Rattle.eli_base.specs.declared.refusals.Refusal.{Refusal}
 use Rattle.eli_base.specs.declared.refusals.Refusal.TheVariants as refusals
-use Rattle.eli_metadata.specs.Place.{ReadsLast, ReadsMetadata}
-use Rattle.eli_metadata.specs.Refusals.{read_refusal_of, refusal_of}
-use Rattle.eli_metadata.specs.declared.metadata.Metadata.{Metadata}
-use Rattle.eli_metadata.specs.declared.place.ReadMetaFault.{ReadMetaFault}
 use Rattle.eli_metadata.specs.declared.place.ReadMetaFault.TheVariants.{TooSmall, DeviceFault, Meta}
-use Rattle.key_components.specs.Answers.{file_answer}
-use Rattle.key_components.specs.Key.{components_of}
 use Rattle.key_components.proofs.Causes.{StopsAtFile-cause, StopsAtFile-earlier}
-use Rattle.user_key.specs.declared.components.Components.{Components}
 use Rattle.command_rows.specs.Causes.{LineHasCause, may_lack_memory}
 use Rattle.command_rows.specs.Grounds.{FindsBadFile, HasGround, IsGround}
-use Rattle.command_rows.specs.Steps.{Decides, LoadsComponents, LoadsFile, ReadsLastSector, StoreAnswers, or_refusal}
-use Rattle.command_rows.specs.World.{Reach}
-use Rattle.command_rows.specs.Findings.{AreComponents, HasMetadata, HoldsNone, IsFile, LacksMetadata, RefusesFiles}
+use Rattle.command_rows.specs.Rows.{AreComponents, Decides, HasMetadata, HoldsNone, IsFile, LacksMetadata, LoadsComponents, LoadsFile, Reach, ReadsLastSector, RefusesFiles, StoreAnswers, or_refusal}
+use Rattle.command_rows.specs.Vocabulary.{CabinetState, Command, Components, DiskState, EntropyState, Files, KeyWords, Metadata, ReadMetaFault, ReadsLast, ReadsMetadata, Refusal, Span, bytes_at, components_of, file_answer, read_refusal_of, refusal_of}
 use Rattle.command_rows.proofs.Causing.{Why}
 use Rattle.command_rows.proofs.Plain.{PlainAnswer, meta_plain}
 

@@ -1,18 +1,8 @@
 -- What a row leaves attached: the same, or nothing, or what has no open request where nothing was attached before.
 use Rattle.std.proofs.Common.{Bool, Err, List, None, Ok, Option, Result, Some, [], ap, cond, false, inl, inr, refl, subst, sym, true, ℕ, ◌≡◌, ◌⊎◌}
-use Rattle.command_words.specs.declared.spans.KeyWords.{KeyWords}
-use Rattle.eli_base.specs.declared.parameters.MasterKey.{MasterKey}
-use Rattle.eli_base.specs.declared.refusals.Refusal.{Refusal}
 use Rattle.eli_base.specs.declared.refusals.Refusal.TheVariants as refusals
-use Rattle.eli_metadata.specs.Checks.{Settings}
-use Rattle.eli_metadata.specs.declared.metadata.Metadata.{Metadata}
-use Rattle.user_key.specs.declared.components.KeyFault.{KeyFault}
-use Rattle.user_key.specs.declared.components.UserKey.{UserKey}
-use Rattle.command_rows.specs.Answer.{Answer}
-use Rattle.command_rows.specs.Replies.{Replies}
-use Rattle.command_rows.specs.Steps.{GoesOn, or_wrong_key, tried}
-use Rattle.command_rows.specs.Trying.{TryRow}
-use Rattle.command_rows.specs.World.{AttachedWith, Attachment, Holding, IsAttached, Reach, attachment_in}
+use Rattle.command_rows.specs.Rows.{Answer, AttachedWith, Attachment, GoesOn, Holding, IsAttached, Reach, Replies, TryRow, attachment_in, or_wrong_key, tried}
+use Rattle.command_rows.specs.Vocabulary.{KeyFault, KeyWords, MasterKey, Metadata, Refusal, Settings, UserKey}
 use Rattle.command_rows.specs.verbs.Attach.{AttachesUnless}
 use Rattle.command_rows.proofs.Becoming.{Stays}
 use Rattle.command_rows.proofs.Causing.{Step}

@@ -1,10 +1,7 @@
 -- The events of `setkey` and `delkey`.
-use Rattle.block_traits.specs.declared.disk.Event.{Event}
-use Rattle.eli_base.specs.declared.refusals.Refusal.{Refusal}
-use Rattle.command_rows.specs.World.{Reach}
+use Rattle.command_rows.specs.Rows.{Decides, Reach, Then}
+use Rattle.command_rows.specs.Vocabulary.{DiskState, Event, Logs, Refusal}
 use Rattle.std.proofs.Common.{List, Ok, Result, [], ap, false, ◌∙◌, ◌≡◌}
-use Rattle.block_traits.specs.Disk.{DiskState, Logs}
-use Rattle.command_rows.specs.Steps.{Decides, Then}
 use Rattle.command_rows.proofs.Events.{Did, Quiet, Step, did_then, same_disk}
 
 -- ---- events behind steps without events, on a disk of the same size

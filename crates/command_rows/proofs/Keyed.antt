@@ -1,26 +1,12 @@
 -- A key that is tried gives a keying that a provider may have.
-use Rattle.std.proofs.Common.{◌≡◌, ◌∙◌, ◌⊎◌, inl, inr, ℕ, ◌^◌, ◌≤◌, ◌%◌, ◌==◌, List, [], ◌∷◌, refl, sym, subst, arith, Bool, true, false, cond, Option, None, Some, Result, Ok, Err}
-use Rattle.std.specs.Prelude.{◌||◌, IfOk}
+use Rattle.std.proofs.Common.{◌≡◌, ◌∙◌, ◌⊎◌, inl, inr, ℕ, ◌^◌, ◌≤◌, ◌%◌, ◌==◌, List, [], ◌∷◌, refl, sym, subst, arith, Bool, true, false, cond, Option, None, Some, Result, Ok, Err, ◌||◌, IfOk}
 use Rattle.std.specs.List.{AllByRecursion, list_any}
 use Rattle.std.proofs.lemmas.Bool.{eqb-true}
-use Rattle.command_words.specs.declared.spans.KeyWords.{KeyWords}
 use Rattle.eli_base.specs.Algorithms.{allows_length}
 use Rattle.eli_base.specs.SectorSize.{is_sector_size}
-use Rattle.eli_base.specs.declared.parameters.MasterKey.{MasterKey}
-use Rattle.eli_base.specs.declared.refusals.Refusal.{Refusal}
-use Rattle.eli_metadata.specs.Checks.{Settings, size_matches, slot_matches, supported}
 use Rattle.eli_metadata.proofs.Supported.{said}
-use Rattle.eli_metadata.specs.Refusals.{refusal_of}
-use Rattle.eli_metadata.specs.declared.metadata.Metadata.{Metadata}
-use Rattle.eli_metadata.specs.declared.metadata.MetaFault.{MetaFault}
-use Rattle.provider.specs.Attached.{opened}
-use Rattle.range_keys.specs.Ring.{IsKeying}
-use Rattle.user_key.specs.Derivation.{user_key}
-use Rattle.user_key.specs.declared.components.KeyFault.{KeyFault}
-use Rattle.user_key.specs.declared.components.UserKey.{UserKey}
-use Rattle.command_rows.specs.Steps.{GoesOn, admitted, attachment_by, or_refusal, or_wrong_key, settings_for_size, tried, unless_faulty}
-use Rattle.command_rows.specs.Trying.{TryRow}
-use Rattle.command_rows.specs.World.{Attachment, Reach}
+use Rattle.command_rows.specs.Rows.{Attachment, GoesOn, Reach, TryRow, admitted, attachment_by, or_refusal, or_wrong_key, settings_for_size, tried, unless_faulty}
+use Rattle.command_rows.specs.Vocabulary.{IsKeying, KeyFault, KeyWords, MasterKey, MetaFault, Metadata, Refusal, Settings, UserKey, opened, refusal_of, size_matches, slot_matches, supported, user_key}
 use Rattle.command_rows.proofs.Causing.{Step}
 
 -- ---- the keying of metadata that are checked

@@ -1,23 +1,16 @@
 -- What is proved of each verb, as one value, and how a row says so by its answer.
 use Rattle.std.proofs.Common.{Bool, Err, List, None, Ok, Option, Result, false, inr, subst, ℕ, ◌≡◌}
-use Rattle.block_traits.specs.Cabinet.{Files}
-use Rattle.block_traits.specs.Disk.{DiskState, Logs}
-use Rattle.block_traits.specs.declared.disk.Event.{Event}
-use Rattle.command_words.specs.declared.commands.Command.{Command}
-use Rattle.eli_base.specs.declared.refusals.Refusal.{Refusal}
-use Rattle.command_rows.specs.Answer.{Answer}
 use Rattle.command_rows.specs.Answer as answers
 use Rattle.command_rows.specs.Becoming.{Becomes, changes_requests}
 use Rattle.command_rows.specs.Causes.{LineHasCause}
 use Rattle.command_rows.specs.Fits.{FitsRow}
 use Rattle.command_rows.specs.Gate.{needs, refused_by}
 use Rattle.command_rows.specs.Histories.{AreRowEvents, EventsBy, stores_last}
-use Rattle.command_rows.specs.Replies.{done_or}
+use Rattle.command_rows.specs.Rows.{Answer, Holding, NoChanges, Reach, done_or}
 use Rattle.command_rows.specs.Stops.{ChangesMetadata, ChangesOrStays}
 use Rattle.command_rows.specs.Storing.{StoresAt, stored_file}
 use Rattle.command_rows.specs.Turn.{GoesThrough}
-use Rattle.command_rows.specs.Verb.{NoChanges}
-use Rattle.command_rows.specs.World.{Holding, Reach}
+use Rattle.command_rows.specs.Vocabulary.{Command, DiskState, Event, Files, Logs, Refusal}
 use Rattle.command_rows.proofs.Causing.{Why}
 use Rattle.command_rows.proofs.Events.{Did, ResultEvents}
 use Rattle.command_rows.proofs.Fitting.{RulesOut, RulesOutTags}

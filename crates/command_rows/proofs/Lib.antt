@@ -37,4 +37,5 @@ pub mod SweepPlaces
 pub mod SweepRows
 pub mod Turns
 pub mod Untouched
+pub mod VerbLaws
 pub mod verbs

@@ -1,12 +1,9 @@
 -- What each line makes of what its drawer does with its disk.
-use Rattle.std.proofs.Common.{Bool, List, ap, subst, sym, ℕ}
-use Rattle.std.specs.Prelude.{MatchOption}
-use Rattle.command_words.specs.declared.commands.Command.{Command}
-use Rattle.eli_base.specs.declared.refusals.Refusal.{Refusal}
-use Rattle.command_rows.specs.Answer.{Answer}
+use Rattle.std.proofs.Common.{Bool, List, ap, subst, sym, ℕ, MatchOption}
 use Rattle.command_rows.specs.Becoming.{Becomes, BecomesAt, BecomesSo, BecomesUnless}
+use Rattle.command_rows.specs.Rows.{Answer, Reach, World}
 use Rattle.command_rows.specs.Turn.{ChangesAt, IsRefused, Serves, Turn, reach, takes_out}
-use Rattle.command_rows.specs.World.{Reach, World}
+use Rattle.command_rows.specs.Vocabulary.{Command, Refusal}
 use Rattle.command_rows.proofs.Becoming.{same_reach, stays_quiet}
 use Rattle.command_rows.proofs.Events.{same_disk}
 use Rattle.command_rows.proofs.Gate.{by_passed_gate}

@@ -1,14 +1,12 @@
 -- Why each line is refused.
-use Rattle.std.specs.Prelude.{MatchOption}
-use Rattle.command_words.specs.declared.commands.Command.{Command}
-use Rattle.eli_base.specs.declared.refusals.Refusal.{Refusal}
 use Rattle.eli_base.specs.declared.refusals.Refusal.TheVariants as refusals
 use Rattle.command_rows.specs.Answer as answers
 use Rattle.command_rows.specs.Causes.{Caused, CausedAt, LineHasCause}
-use Rattle.command_rows.specs.World.{DrawerState, Reach, World}
+use Rattle.command_rows.specs.Rows.{DrawerState, Reach, World}
+use Rattle.command_rows.specs.Vocabulary.{Command, Refusal}
 use Rattle.command_rows.proofs.Untouched.{get-set}
 use Rattle.command_rows.proofs.Turns.{by_turn}
-use Rattle.std.proofs.Common.{List, refl, subst, ℕ, ◌≡◌}
+use Rattle.std.proofs.Common.{List, refl, subst, ℕ, ◌≡◌, MatchOption}
 use Rattle.command_rows.specs.Turn.{ChangesAt, ListsAs, Serves, Turn, reach}
 use Rattle.command_rows.proofs.Causing.{gate_why}
 use Rattle.command_rows.proofs.Gate.{by_gate}

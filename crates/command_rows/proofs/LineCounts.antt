@@ -1,17 +1,12 @@
 -- What each line counts, and that what is attached keeps its keying.
 use Rattle.std.proofs.Common.{Err, List, Some, ap, arith, ℕ, ◌≡◌}
-use Rattle.block_traits.specs.Cabinet.{CabinetState}
-use Rattle.block_traits.specs.Streams.{EntropyState}
-use Rattle.command_words.specs.declared.commands.Command.{Command}
-use Rattle.eli_base.specs.declared.refusals.Refusal.{Refusal}
 use Rattle.eli_base.specs.declared.refusals.Refusal.TheVariants as refusals
-use Rattle.command_rows.specs.Answer.{Answer}
 use Rattle.command_rows.specs.Answer as answers
 use Rattle.command_rows.specs.Counts.{CountsAnswer, CountsFailures}
 use Rattle.command_rows.specs.Gate.{Needs, needs, refused_by}
-use Rattle.command_rows.specs.Replies.{done_or}
+use Rattle.command_rows.specs.Rows.{Answer, DrawerState, Holding, Reach, World, done_or}
 use Rattle.command_rows.specs.Turn.{ChangesAt, IsRefused, ListsAs, Serves, Turn, reach}
-use Rattle.command_rows.specs.World.{DrawerState, Holding, Reach, World}
+use Rattle.command_rows.specs.Vocabulary.{CabinetState, Command, EntropyState, Refusal}
 use Rattle.command_rows.proofs.Counting.{Uncounted, uncounted_step}
 use Rattle.command_rows.proofs.Gate.{by_gate, by_gate_refusal}
 use Rattle.command_rows.proofs.Replies.{done_replying}

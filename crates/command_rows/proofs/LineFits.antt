@@ -1,16 +1,12 @@
 -- That nothing refuses a line that finds what it needs.
-use Rattle.std.proofs.Common.{List, Option, Some, refl, subst, ℕ, ◌≡◌}
-use Rattle.std.specs.Prelude.{IsTrue, MatchOption}
-use Rattle.command_words.specs.Places.{bytes_at, provider_of}
-use Rattle.command_words.specs.declared.commands.Command.{Command}
-use Rattle.command_words.specs.declared.spans.Span.{Span}
-use Rattle.eli_base.specs.declared.refusals.Refusal.{Refusal}
+use Rattle.std.proofs.Common.{List, Option, Some, refl, subst, ℕ, ◌≡◌, IsTrue, MatchOption}
 use Rattle.eli_base.specs.declared.refusals.Refusal.TheVariants as refusals
 use Rattle.command_rows.specs.Answer as answers
 use Rattle.command_rows.specs.Causes.{Caused, CausedAt, CausedBy, LineHasCause, may_lack_memory}
 use Rattle.command_rows.specs.Fits.{FailsNowhere, FindsAt, Fits}
+use Rattle.command_rows.specs.Rows.{DrawerState, Reach, World, place_of}
 use Rattle.command_rows.specs.Turn.{Turn, reach}
-use Rattle.command_rows.specs.World.{DrawerState, Reach, World, place_of}
+use Rattle.command_rows.specs.Vocabulary.{Command, Refusal, Span, bytes_at, provider_of}
 use Rattle.command_rows.proofs.Fitting.{RulesOut, RulesOutTags, not_some}
 use Rattle.command_rows.proofs.LineCauses.{refusal_caused}
 use Rattle.command_rows.proofs.verbs.{lawful}

@@ -1,10 +1,9 @@
 -- That each line stores the file that it names, or none.
 use Rattle.std.proofs.Common.{List, ap, ℕ, ◌≡◌}
-use Rattle.command_words.specs.declared.commands.Command.{Command}
-use Rattle.command_rows.specs.Answer.{Answer}
+use Rattle.command_rows.specs.Rows.{Answer, Reach, World}
 use Rattle.command_rows.specs.Storing.{StoresAt, StoresItsFile, stored_file}
 use Rattle.command_rows.specs.Turn.{Serves, Turn, reach}
-use Rattle.command_rows.specs.World.{Reach, World}
+use Rattle.command_rows.specs.Vocabulary.{Command}
 use Rattle.command_rows.proofs.Gate.{by_gate}
 use Rattle.command_rows.proofs.Storing.{none_at, same_files}
 use Rattle.command_rows.proofs.Turns.{by_each_turn}

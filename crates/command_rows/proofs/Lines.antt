@@ -1,13 +1,9 @@
 -- The events of each line.
-use Rattle.block_traits.specs.declared.disk.Event.{Event}
-use Rattle.command_words.specs.declared.commands.Command.{Command}
-use Rattle.eli_base.specs.declared.refusals.Refusal.{Refusal}
-use Rattle.command_rows.specs.Answer.{Answer}
 use Rattle.std.proofs.Common.{Bool, Err, List, ap, ℕ}
 use Rattle.command_rows.specs.Histories.{AreRowEvents, stores_last}
-use Rattle.command_rows.specs.Replies.{done_or}
+use Rattle.command_rows.specs.Rows.{Answer, Reach, done_or}
 use Rattle.command_rows.specs.Turn.{IsRefused, Serves}
-use Rattle.command_rows.specs.World.{Reach}
+use Rattle.command_rows.specs.Vocabulary.{Command, Event, Refusal}
 use Rattle.command_rows.proofs.Events.{nothing_done, same_disk}
 use Rattle.command_rows.proofs.Gate.{by_gate}
 use Rattle.command_rows.proofs.Lawful.{LineDid, reply_line}

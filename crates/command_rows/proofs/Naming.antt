@@ -5,7 +5,7 @@ use Rattle.std.specs.Option.{option_map}
 use Rattle.std.specs.Str.{bytes_eq}
 use Rattle.std.proofs.Math.ListN.{set}
 use Rattle.std.proofs.lemmas.Slice.Eq.{bytes_eq-Decides}
-use Rattle.command_rows.specs.World.{DrawerState, NamesDiffer, place_of}
+use Rattle.command_rows.specs.Rows.{DrawerState, NamesDiffer, place_of}
 
 -- the place of a name by whether the first drawer has it, and its place behind that
 abbrev pub place_by : Bool → Option ℕ → Option ℕ

@@ -3,45 +3,17 @@ use Rattle.std.proofs.Common.{Bool, ◌≡◌, ◌==◌, ◌∙◌, ℕ, ◌-◌
 use Rattle.std.proofs.Math.Nat.{zero-div}
 use Rattle.std.proofs.lemmas.Grind.{common_steps}
 use Rattle.std.proofs.lemmas.Bool.Decides.{Decides-eqb}
-use Rattle.block_traits.specs.Cabinet.{CabinetState, Files}
-use Rattle.block_traits.specs.Causes.{Rose}
-use Rattle.block_traits.specs.Content.{Content, logged, present, present_after, with_events}
-use Rattle.block_traits.specs.Disk.{DiskState, Gives, GivesFrom, Logs, FitsSize, last_sector}
-use Rattle.block_traits.specs.declared.disk.Event.{Event}
 use Rattle.block_traits.specs.declared.disk.Event.TheVariants.{Write, Flush}
 use Rattle.block_traits.proofs.Causes.{Rose-earlier}
 use Rattle.block_traits.proofs.Contents.{present_after-append}
-use Rattle.command_words.specs.declared.spans.KeyWords.{KeyWords}
-use Rattle.eli_base.specs.Units.{media_sectors, units_per_sector}
-use Rattle.eli_base.specs.declared.algorithms.Auth.{Auth}
-use Rattle.eli_base.specs.declared.parameters.MasterKey.{MasterKey}
-use Rattle.eli_base.specs.declared.refusals.Refusal.{Refusal}
 use Rattle.eli_base.specs.declared.refusals.Refusal.TheVariants as refusals
-use Rattle.eli_metadata.specs.Checks.{Settings, size_matches, slot_matches}
-use Rattle.eli_metadata.specs.Format.{encoded, metadata_in}
-use Rattle.eli_metadata.specs.Place.{ReadsMetadata}
-use Rattle.eli_metadata.specs.Refusals.{read_refusal_of, refusal_of}
-use Rattle.eli_metadata.specs.declared.metadata.Metadata.{Metadata}
-use Rattle.eli_metadata.specs.declared.metadata.MetaFault.{MetaFault}
-use Rattle.eli_metadata.specs.declared.place.ReadMetaFault.{ReadMetaFault}
 use Rattle.eli_metadata.specs.declared.place.ReadMetaFault.TheVariants.{TooSmall, DeviceFault, Meta}
-use Rattle.key_commands.specs.NewProvider.{init_events}
-use Rattle.key_commands.specs.Random.{master_key_in}
-use Rattle.key_commands.specs.Usable.{IsAccepted, IsUsable, OpensFirst, settings_for}
-use Rattle.key_commands.specs.declared.options.InitOptions.{InitOptions}
 use Rattle.key_commands.proofs.Making.{IsUsable-makes}
-use Rattle.key_components.specs.Answers.{IsAnswer, IsRefusal, MayRefusePassphrase}
 use Rattle.key_components.proofs.Causes.{StopsAtFile-cause}
 use Rattle.key_slots.specs.Slots.{numbered}
-use Rattle.key_components.specs.Key.{components_of}
-use Rattle.provider.specs.Attached.{opened}
-use Rattle.user_key.specs.Derivation.{user_key}
-use Rattle.user_key.specs.declared.components.Components.{Components}
-use Rattle.user_key.specs.declared.components.UserKey.{UserKey}
 use Rattle.command_rows.specs.Opening.{NamesSameKey, OpensOrFails}
-use Rattle.command_rows.specs.Steps.{Admits, GoesOn, LoadsComponents, MakesProvider, Reads, Then, TriesKey, admitted, attachment_by, or_refusal, or_wrong_key, tried, unless_faulty}
-use Rattle.command_rows.specs.Trying.{TryRow}
-use Rattle.command_rows.specs.World.{Attachment, Reach}
+use Rattle.command_rows.specs.Rows.{Admits, Attachment, GoesOn, LoadsComponents, MakesProvider, Reach, Reads, Then, TriesKey, TryRow, admitted, attachment_by, or_refusal, or_wrong_key, tried, unless_faulty}
+use Rattle.command_rows.specs.Vocabulary.{Auth, CabinetState, Components, Content, DiskState, Event, Files, FitsSize, Gives, GivesFrom, InitOptions, IsAccepted, IsAnswer, IsRefusal, IsUsable, KeyWords, Logs, MasterKey, MayRefusePassphrase, MetaFault, Metadata, OpensFirst, ReadMetaFault, ReadsMetadata, Refusal, Rose, Settings, UserKey, components_of, encoded, init_events, last_sector, logged, master_key_in, media_sectors, metadata_in, opened, present, present_after, read_refusal_of, refusal_of, settings_for, size_matches, slot_matches, units_per_sector, user_key, with_events}
 
 -- ---- what `init` leaves
 

@@ -1,13 +1,7 @@
 -- Why `backup`, `restore`, `resize` and `kill` are refused.
-use Rattle.std.specs.Prelude.{IfSome}
-use Rattle.command_words.specs.Places.{bytes_at}
-use Rattle.command_words.specs.declared.spans.Span.{Span}
-use Rattle.eli_base.specs.declared.refusals.Refusal.{Refusal}
-use Rattle.key_components.specs.Answers.{file_answer}
-use Rattle.command_rows.specs.World.{Reach}
-use Rattle.std.proofs.Common.{Err, List, ℕ, ◌≡◌}
-use Rattle.command_rows.specs.Findings.{RefusesFile}
-use Rattle.command_rows.specs.Steps.{LoadsFile}
+use Rattle.command_rows.specs.Rows.{LoadsFile, Reach, RefusesFile}
+use Rattle.command_rows.specs.Vocabulary.{Refusal, Span, bytes_at, file_answer}
+use Rattle.std.proofs.Common.{Err, List, ℕ, ◌≡◌, IfSome}
 use Rattle.command_rows.proofs.Grounding.{told_sym}
 
 -- ---- `restore`

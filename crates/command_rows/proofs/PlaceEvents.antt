@@ -1,12 +1,8 @@
 -- The events of `backup`, `restore`, `resize` and `kill`.
 use Rattle.block_traits.specs.declared.disk.Event.TheVariants.{Flush, Write}
-use Rattle.command_words.specs.declared.spans.Span.{Span}
-use Rattle.eli_metadata.specs.Format.{encoded}
-use Rattle.eli_metadata.specs.Place.{replace_events}
-use Rattle.eli_metadata.specs.declared.metadata.Metadata.{Metadata}
 use Rattle.std.proofs.Common.{List, [], ap, ℕ, ◌-◌, ◌∷◌, ◌≡◌}
-use Rattle.block_traits.specs.Disk.{DiskState}
-use Rattle.command_rows.specs.Steps.{StoresBytes}
+use Rattle.command_rows.specs.Rows.{StoresBytes}
+use Rattle.command_rows.specs.Vocabulary.{DiskState, Metadata, Span, encoded, replace_events}
 use Rattle.command_rows.proofs.Events.{Quiet, same_disk}
 
 -- ---- `backup`

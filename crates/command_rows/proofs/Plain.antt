@@ -1,20 +1,11 @@
 -- Refusals for which what a line found is the one cause.
-use Rattle.eli_base.specs.declared.parameters.MasterKey.{MasterKey}
-use Rattle.eli_base.specs.declared.refusals.Refusal.{Refusal}
 use Rattle.eli_base.specs.declared.refusals.Refusal.TheVariants as refusals
-use Rattle.eli_metadata.specs.Checks.{Settings}
-use Rattle.eli_metadata.specs.Refusals.{refusal_of}
-use Rattle.eli_metadata.specs.declared.metadata.Metadata.{Metadata}
-use Rattle.eli_metadata.specs.declared.metadata.MetaFault.{MetaFault}
 use Rattle.eli_metadata.specs.declared.metadata.MetaFault.TheVariants.{BadMagic, BadVersion, BadHash, UnsupportedFlags, UnsupportedCipher, BadKeyLength, UnsupportedAuth, BadSectorSize, BadSize, NoValidKeys, KeyNumberOutOfRange, KeyNotSet}
-use Rattle.user_key.specs.Refusals.{key_refusal_of}
-use Rattle.user_key.specs.declared.components.KeyFault.{KeyFault}
 use Rattle.user_key.specs.declared.components.KeyFault.TheVariants.{NoKeyComponents, PassphraseNeeded, PassphraseNotSet}
-use Rattle.user_key.specs.declared.components.UserKey.{UserKey}
 use Rattle.command_rows.specs.Grounds.{IsGround}
-use Rattle.command_rows.specs.Steps.{or_refusal, or_wrong_key, tried}
 use Rattle.std.proofs.Common.{Bool, Err, None, Ok, Option, Result, Some, cond, false, subst, true, ℕ, ◌≡◌}
-use Rattle.key_commands.specs.Options.{key_refusal}
+use Rattle.command_rows.specs.Rows.{or_refusal, or_wrong_key, tried}
+use Rattle.command_rows.specs.Vocabulary.{KeyFault, MasterKey, MetaFault, Metadata, Refusal, Settings, UserKey, key_refusal, key_refusal_of, refusal_of}
 
 -- a refusal that is answered, or found, is a ground
 abbrev pub PlainAnswer : {A : Type 0} → Result A Refusal → Type 0

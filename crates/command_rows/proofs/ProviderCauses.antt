@@ -1,18 +1,10 @@
 -- Why `dump`, `attach` and `init` are refused.
-use Rattle.command_words.specs.declared.commands.Command.{Command}
-use Rattle.command_words.specs.declared.spans.KeyWords.{KeyWords}
-use Rattle.eli_base.specs.declared.refusals.Refusal.{Refusal}
 use Rattle.eli_base.specs.declared.refusals.Refusal.TheVariants as refusals
-use Rattle.eli_metadata.specs.Checks.{Settings}
-use Rattle.eli_metadata.specs.declared.metadata.Metadata.{Metadata}
-use Rattle.user_key.specs.Derivation.{user_key}
 use Rattle.command_rows.specs.Causes.{may_lack_memory}
-use Rattle.command_rows.specs.Trying.{TryRow}
-use Rattle.command_rows.specs.World.{Attachment, Reach}
+use Rattle.command_rows.specs.Rows.{Admits, Attaches, Attachment, LacksMetadata, LoadsComponents, Reach, ReadsLastSector, RefusesFiles, Then, TriesKey, TryRow, admitted, tried}
+use Rattle.command_rows.specs.Vocabulary.{Command, KeyWords, Metadata, Refusal, Settings, user_key}
 use Rattle.command_rows.proofs.Causing.{Why, then_since, then_why}
 use Rattle.std.proofs.Common.{Bool, Err, List, Ok, Option, Result, inl, inr, subst, sym, true, ℕ, ◌≡◌, ◌⊎◌}
-use Rattle.command_rows.specs.Findings.{LacksMetadata, RefusesFiles}
-use Rattle.command_rows.specs.Steps.{Admits, Attaches, LoadsComponents, ReadsLastSector, Then, TriesKey, admitted, tried}
 use Rattle.command_rows.specs.verbs.Attach.{RefusesAttach, RefusesTrial}
 use Rattle.command_rows.proofs.Grounding.{BadFiles, Grounds, Since, decides_why, loading_parts, loading_why, reading_has, reading_since, reading_why, since_same}
 use Rattle.command_rows.proofs.Plain.{or_plain, tried_plain}

@@ -1,16 +1,9 @@
 -- Why `submit`, `step` and `reap` are refused.
-use Rattle.std.specs.Prelude.{IsSomeAnd}
-use Rattle.bio_queue.specs.Owners.{IsOf}
-use Rattle.bio_queue.specs.Requests.{Request, request_with}
-use Rattle.block_traits.specs.Disk.{DiskState}
-use Rattle.command_words.specs.declared.commands.Command.{Command}
-use Rattle.eli_base.specs.declared.refusals.Refusal.{Refusal}
 use Rattle.eli_base.specs.declared.refusals.Refusal.TheVariants as refusals
-use Rattle.provider.specs.Attached.{media}
 use Rattle.command_rows.specs.Causes.{FindsInQueue}
-use Rattle.command_rows.specs.World.{Attachment, IsAttached, Reach}
-use Rattle.std.proofs.Common.{Err, List, None, Ok, Option, Result, subst, ℕ, ◌≡◌}
-use Rattle.command_rows.specs.Queueing.{HasRequest, NeedsRequest}
+use Rattle.command_rows.specs.Rows.{Attachment, HasRequest, IsAttached, NeedsRequest, Reach}
+use Rattle.command_rows.specs.Vocabulary.{Command, DiskState, IsOf, Refusal, Request, media, request_with}
+use Rattle.std.proofs.Common.{Err, List, None, Ok, Option, Result, subst, ℕ, ◌≡◌, IsSomeAnd}
 use Rattle.command_rows.proofs.Causing.{Why}
 
 -- ---- `step` and `reap`

@@ -1,8 +1,7 @@
 -- The events of `submit`, `step` and `reap`.
 use Rattle.eli_base.specs.declared.refusals.Refusal.TheVariants as refusals
 use Rattle.std.proofs.Common.{Err, Ok, ap, ℕ}
-use Rattle.command_rows.specs.Queueing.{NeedsRequest}
-use Rattle.command_rows.specs.World.{Attachment, Reach}
+use Rattle.command_rows.specs.Rows.{Attachment, NeedsRequest, Reach}
 use Rattle.command_rows.proofs.Events.{Quiet, same_disk}
 
 -- ---- `step`

@@ -1,12 +1,7 @@
 -- That the open requests of a drawer refuse no request that fits them.
-use Rattle.bio_queue.specs.Owners.{IsOf}
-use Rattle.block_traits.specs.Disk.{DiskState}
-use Rattle.provider.specs.Attached.{media}
-use Rattle.command_rows.specs.Queueing.{HasRequest}
-use Rattle.command_rows.specs.World.{Attachment}
-use Rattle.std.proofs.Common.{Option, Some, subst, sym, ℕ, ◌≡◌}
-use Rattle.std.specs.Prelude.{IsSomeAnd}
-use Rattle.bio_queue.specs.Requests.{Request, request_with}
+use Rattle.command_rows.specs.Rows.{Attachment, HasRequest}
+use Rattle.command_rows.specs.Vocabulary.{DiskState, IsOf, Request, media, request_with}
+use Rattle.std.proofs.Common.{Option, Some, subst, sym, ℕ, ◌≡◌, IsSomeAnd}
 
 -- ---- `step` and `reap`
 

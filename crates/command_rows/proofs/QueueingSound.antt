@@ -1,15 +1,10 @@
 -- The rows of `submit`, `step` and `reap` count no failure of the cabinet or the entropy, and the provider stays
 -- attached with its keying.
-use Rattle.bio_queue.specs.Requests.{Request}
-use Rattle.eli_base.specs.declared.refusals.Refusal.{Refusal}
 use Rattle.eli_base.specs.declared.refusals.Refusal.TheVariants as refusals
-use Rattle.eli_base.specs.Keying.{Keying}
-use Rattle.range_keys.specs.Ring.{IsKeying}
-use Rattle.command_rows.specs.World.{Attachment, Holding, HoldsKeying, IsAttached, Reach}
+use Rattle.command_rows.specs.Rows.{Attachment, GoesOn, Holding, HoldsKeying, IsAttached, NeedsRequest, Reach, with_queue}
+use Rattle.command_rows.specs.Vocabulary.{IsKeying, Keying, Refusal, Request}
 use Rattle.command_rows.proofs.Causing.{Step}
 use Rattle.std.proofs.Common.{Err, List, Ok, Result, ap, refl, subst, sym, ℕ, ◌∙◌, ◌≡◌}
-use Rattle.command_rows.specs.Queueing.{NeedsRequest, with_queue}
-use Rattle.command_rows.specs.Steps.{GoesOn}
 use Rattle.command_rows.proofs.Counting.{Counts, uncounted_step}
 
 -- ---- counts

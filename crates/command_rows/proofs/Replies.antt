@@ -1,12 +1,11 @@
 -- What the answer of a row comes to as a reply, whatever is answered, and its text.
 use Rattle.std.proofs.Common.{◌≡◌, ◌∙◌, ℕ, zero, suc, List, length, drop, refl, ap, sym, subst, Option, Some, None, Result, Ok, Err}
-use Rattle.eli_base.specs.declared.refusals.Refusal.{Refusal}
 use Rattle.reply_text.specs.Text.{numbers_in, reply_text, verified_text}
 use Rattle.reply_text.specs.declared.reply.Reply.{Reply}
 use Rattle.reply_text.specs.declared.reply.Reply.TheVariants as replies
-use Rattle.command_rows.specs.Answer.{Answer, answer_of, answer_text}
 use Rattle.command_rows.specs.Answer as answers
-use Rattle.command_rows.specs.Replies.{digest_or, done_or, dump_or, left_or, payload_or, reaped_or, tag_or}
+use Rattle.command_rows.specs.Rows.{Answer, answer_of, answer_text, digest_or, done_or, dump_or, left_or, payload_or, reaped_or, tag_or}
+use Rattle.command_rows.specs.Vocabulary.{Refusal}
 use Rattle.command_rows.specs.verbs.Verify.{verified_or}
 
 -- it is no refusal

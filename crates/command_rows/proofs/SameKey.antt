@@ -1,10 +1,9 @@
 -- What comparing the digest of a master key with the one that was kept comes to.
 use Rattle.std.proofs.Common.{◌≡◌, ◌≢◌, ℕ, List, refl, ap, Bool, true, false, cond, Result, Ok, Err, bytes_eq}
 use Rattle.std.proofs.lemmas.Slice.Eq.{bytes_eq-Decides}
-use Rattle.eli_base.specs.declared.refusals.Refusal.{Refusal}
 use Rattle.eli_base.specs.declared.refusals.Refusal.TheVariants as refusals
-use Rattle.sha2.specs.Sha256.{sha256}
-use Rattle.command_rows.specs.World.{Attachment, Kept}
+use Rattle.command_rows.specs.Rows.{Attachment, Kept}
+use Rattle.command_rows.specs.Vocabulary.{Refusal, sha256}
 use Rattle.command_rows.specs.verbs.Resume.{same_key}
 
 abbrev by_test : Bool → Result (Unit {0}) Refusal

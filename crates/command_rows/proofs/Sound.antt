@@ -1,28 +1,12 @@
 -- Each row is made of sound steps: no count of the cabinet or the entropy falls, their failures are answered only where
 -- they rose, and what is attached keeps a keying that a provider may have.
-use Rattle.block_traits.specs.Cabinet.{CabinetState}
-use Rattle.block_traits.specs.Streams.{EntropyState}
-use Rattle.block_traits.specs.declared.disk.Event.{Event}
-use Rattle.command_words.specs.declared.spans.KeyWords.{KeyWords}
-use Rattle.command_words.specs.declared.spans.Span.{Span}
-use Rattle.eli_base.specs.declared.refusals.Refusal.{Refusal}
 use Rattle.eli_base.specs.declared.refusals.Refusal.TheVariants as refusals
-use Rattle.eli_metadata.specs.Checks.{Settings}
-use Rattle.eli_metadata.specs.declared.metadata.Metadata.{Metadata}
-use Rattle.user_key.specs.declared.components.Components.{Components}
-use Rattle.command_rows.specs.Answer.{Answer}
 use Rattle.command_rows.specs.Answer as answers
-use Rattle.command_rows.specs.Trying.{TryRow}
+use Rattle.command_rows.specs.Rows.{Admits, Answer, Attachment, Decides, Does, GoesOn, Holding, HoldsKeying, Idle, IsAttached, LoadsComponents, NeedsSectors, NeedsWhole, NeedsWritable, Reach, ReadsLastSector, ReadsSectors, Replies, StoresBytes, Then, TriesKey, TryRow, admitted, if_writable, in_range, tried, whole_sectors}
+use Rattle.command_rows.specs.Vocabulary.{CabinetState, Components, EntropyState, Event, IsKeying, KeyWords, Metadata, Refusal, Settings, Span, media, user_key}
 use Rattle.command_rows.proofs.Causing.{Step}
-use Rattle.eli_metadata.specs.Checks.{Settings}
-use Rattle.range_keys.specs.Ring.{IsKeying}
-use Rattle.user_key.specs.Derivation.{user_key}
 use Rattle.std.proofs.Common.{Bool, Err, List, Ok, Option, Result, ap, false, refl, subst, sym, true, ℕ, ◌≡◌}
-use Rattle.provider.specs.Attached.{media}
 use Rattle.command_rows.specs.Counts.{CountsAnswer}
-use Rattle.command_rows.specs.Replies.{Replies}
-use Rattle.command_rows.specs.Steps.{Admits, Decides, Does, GoesOn, LoadsComponents, NeedsSectors, NeedsWhole, NeedsWritable, ReadsLastSector, ReadsSectors, StoresBytes, Then, TriesKey, admitted, if_writable, in_range, tried, whole_sectors}
-use Rattle.command_rows.specs.World.{Attachment, Holding, HoldsKeying, Idle, IsAttached, Reach}
 use Rattle.command_rows.specs.verbs.Attach.{AttachesUnless}
 use Rattle.command_rows.proofs.Counting.{Counts, CountsResult, Later, UncountedAnswer, by_plain, components_counts, decision_counts, does_counts, range_uncounted, reading_counts, sectors_counts, storing_counts, then_counts, whole_uncounted, writable_uncounted}
 use Rattle.command_rows.proofs.Plain.{or_plain, tried_plain}

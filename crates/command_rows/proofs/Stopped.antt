@@ -1,15 +1,11 @@
 -- What the disk of the named drawer may hold at each moment of a line.
-use Rattle.std.specs.Prelude.{MatchOption}
-use Rattle.block_traits.specs.Disk.{DiskState}
-use Rattle.command_words.specs.declared.commands.Command.{Command}
-use Rattle.eli_base.specs.declared.refusals.Refusal.{Refusal}
-use Rattle.command_rows.specs.Answer.{Answer}
+use Rattle.command_rows.specs.Rows.{Answer, Reach, World}
 use Rattle.command_rows.specs.Stops.{ChangesMetadata, ChangesOrStays, LeavesOldOrNew, LeavesPlace, LeavesUnless}
-use Rattle.command_rows.specs.World.{Reach, World}
+use Rattle.command_rows.specs.Vocabulary.{Command, DiskState, Refusal}
 use Rattle.command_rows.proofs.Untouched.{get-set}
 use Rattle.command_rows.proofs.Gate.{by_gate}
 use Rattle.command_rows.proofs.Turns.{by_turn}
-use Rattle.std.proofs.Common.{Bool, Err, List, ap, inl, subst, sym, ℕ}
+use Rattle.std.proofs.Common.{Bool, Err, List, ap, inl, subst, sym, ℕ, MatchOption}
 use Rattle.command_rows.specs.Turn.{ChangesAt, IsRefused, Serves, Turn, reach, takes_out}
 use Rattle.command_rows.proofs.Lawful.{done_left}
 use Rattle.command_rows.proofs.verbs.{lawful}

@@ -1,14 +1,8 @@
 -- What the disk may hold at each moment of a row.
-use Rattle.block_traits.specs.Content.{Content}
 use Rattle.block_traits.proofs.Logs.{logged-none}
-use Rattle.command_words.specs.declared.spans.KeyWords.{KeyWords}
-use Rattle.eli_base.specs.declared.refusals.Refusal.{Refusal}
 use Rattle.std.proofs.Common.{Bool, Err, List, Ok, Option, Result, [], ap, false, inl, refl, subst, true, ℕ, ◌-◌, ◌∙◌, ◌≡◌, ◌⊎◌}
-use Rattle.block_traits.specs.Cabinet.{CabinetState}
-use Rattle.block_traits.specs.Disk.{DiskState, Logs, last_sector}
-use Rattle.block_traits.specs.Moments.{AtEachMoment, KeepsAlone}
-use Rattle.command_rows.specs.Steps.{Decides, GoesOn, LoadsComponents, ReadsLastSector, Then}
-use Rattle.command_rows.specs.World.{Reach}
+use Rattle.command_rows.specs.Rows.{Decides, GoesOn, LoadsComponents, Reach, ReadsLastSector, Then}
+use Rattle.command_rows.specs.Vocabulary.{AtEachMoment, CabinetState, Content, DiskState, KeepsAlone, KeyWords, Logs, Refusal, last_sector}
 use Rattle.command_rows.proofs.Events.{Step, quiet_loading, quiet_reading, same_disk}
 
 -- ---- steps before which the disk holds what it held

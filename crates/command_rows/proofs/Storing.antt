@@ -1,26 +1,10 @@
 -- Steps that store nothing.
-use Rattle.block_traits.specs.Cabinet.{CabinetState, Files, stored}
-use Rattle.block_traits.specs.Causes.{Counted}
-use Rattle.block_traits.specs.declared.disk.Event.{Event}
-use Rattle.command_words.specs.Places.{bytes_at}
-use Rattle.command_words.specs.declared.spans.KeyWords.{KeyWords}
-use Rattle.command_words.specs.declared.spans.Span.{Span}
-use Rattle.eli_base.specs.declared.refusals.Refusal.{Refusal}
 use Rattle.eli_base.specs.declared.refusals.Refusal.TheVariants as refusals
-use Rattle.eli_metadata.specs.Checks.{Settings}
-use Rattle.eli_metadata.specs.declared.metadata.Metadata.{Metadata}
-use Rattle.user_key.specs.Derivation.{user_key}
-use Rattle.user_key.specs.declared.components.Components.{Components}
-use Rattle.command_rows.specs.Answer.{Answer}
-use Rattle.command_rows.specs.Trying.{TryRow}
-use Rattle.command_rows.specs.Replies.{Replies}
+use Rattle.command_rows.specs.Rows.{Admits, Answer, Attaches, Attachment, Decides, Does, GoesOn, LoadsComponents, NeedsRequest, NeedsSectors, NeedsWhole, NeedsWritable, Reach, ReadsLastSector, ReadsSectors, Replies, StoreAnswers, StoresBytes, Then, TriesKey, TryRow, admitted, if_writable, in_range, tried, whole_sectors}
+use Rattle.command_rows.specs.Vocabulary.{CabinetState, Components, Counted, Event, Files, KeyWords, Metadata, Refusal, Settings, Span, bytes_at, media, stored, user_key}
 use Rattle.command_rows.proofs.Causing.{Step}
 use Rattle.std.proofs.Common.{Bool, Err, List, None, Ok, Option, Result, Some, ap, inl, inr, subst, ℕ, ◌∙◌, ◌≡◌, ◌⊎◌}
-use Rattle.provider.specs.Attached.{media}
-use Rattle.command_rows.specs.Queueing.{NeedsRequest}
-use Rattle.command_rows.specs.Steps.{Admits, Attaches, Decides, Does, GoesOn, LoadsComponents, NeedsSectors, NeedsWhole, NeedsWritable, ReadsLastSector, ReadsSectors, StoreAnswers, StoresBytes, Then, TriesKey, admitted, if_writable, in_range, tried, whole_sectors}
 use Rattle.command_rows.specs.Storing.{StoresAt, StoresNone, StoresOne}
-use Rattle.command_rows.specs.World.{Attachment, Reach}
 
 -- ---- nothing is stored
 

@@ -1,12 +1,7 @@
 -- Why `suspend` and `resume` are refused.
-use Rattle.command_words.specs.declared.spans.KeyWords.{KeyWords}
-use Rattle.eli_base.specs.declared.refusals.Refusal.{Refusal}
-use Rattle.eli_metadata.specs.declared.metadata.Metadata.{Metadata}
-use Rattle.user_key.specs.declared.components.Components.{Components}
-use Rattle.command_rows.specs.Trying.{TryRow}
 use Rattle.std.proofs.Common.{Bool, Err, List, Ok, Option, Result, refl, subst, sym, ℕ, ◌∙◌, ◌≡◌}
-use Rattle.command_rows.specs.Steps.{GoesOn, LoadsComponents, ReadsLastSector, admitted}
-use Rattle.command_rows.specs.World.{Attachment, Reach}
+use Rattle.command_rows.specs.Rows.{Attachment, GoesOn, LoadsComponents, Reach, ReadsLastSector, TryRow, admitted}
+use Rattle.command_rows.specs.Vocabulary.{Components, KeyWords, Metadata, Refusal}
 use Rattle.command_rows.specs.verbs.Attach.{OpensWith}
 use Rattle.command_rows.proofs.Causing.{Step}
 use Rattle.command_rows.proofs.Grounding.{loading_parts, reading_has, reading_since, since_same}

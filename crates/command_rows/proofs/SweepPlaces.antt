@@ -1,17 +1,11 @@
 -- Where a sweep begins, and what its steps leave.
-use Rattle.std.proofs.Common.{◌≡◌, ◌⊎◌, inl, inr, ℕ, ◌≤◌, List, length, refl, sym, subst, arith, Bool, true, false, cond, Option, None, Some, Result, Ok, Err}
-use Rattle.std.specs.Prelude.{nat_le, nat_lt}
+use Rattle.std.proofs.Common.{◌≡◌, ◌⊎◌, inl, inr, ℕ, ◌≤◌, List, length, refl, sym, subst, arith, Bool, true, false, cond, Option, None, Some, Result, Ok, Err, nat_le, nat_lt}
 use Rattle.std.specs.Int.{from_le_bytes, w64}
 use Rattle.std.proofs.lemmas.Bool.Decides.{nat_tests}
-use Rattle.block_traits.specs.Cabinet.{Files}
 use Rattle.block_traits.specs.declared.cabinet.LoadFault.TheVariants as load
-use Rattle.command_words.specs.declared.spans.Span.{Span}
-use Rattle.eli_base.specs.declared.refusals.Refusal.{Refusal}
 use Rattle.eli_base.specs.declared.refusals.Refusal.TheVariants as refusals
-use Rattle.key_components.specs.Answers.{KeepsFiles, file_answer, refused}
-use Rattle.command_rows.specs.Steps.{Decides, GoesOn, KeepsOutside, LoadsFile}
-use Rattle.command_rows.specs.World.{Attachment, Reach}
-use Rattle.command_rows.specs.Findings.{IsFile}
+use Rattle.command_rows.specs.Rows.{Attachment, Decides, GoesOn, IsFile, KeepsOutside, LoadsFile, Reach}
+use Rattle.command_rows.specs.Vocabulary.{Files, KeepsFiles, Refusal, Span, file_answer, refused}
 use Rattle.command_rows.specs.verbs.Verify.{FindsPlace, LoadsPlace, Sweeps, SweepsFrom, SweptPart, if_inside, place_in, place_size, unless_absent}
 use Rattle.command_rows.proofs.Grounding.{loading_bytes}
 

@@ -1,23 +1,11 @@
 -- What the row of `verify` comes to: what was swept and stored, and that a refusal leaves the file.
-use Rattle.std.proofs.Common.{◌≡◌, ◌∙◌, ℕ, ◌+◌, ◌*◌, ◌^◌, ◌<◌, ◌≤◌, List, refl, ap, sym, subst, arith, Bool, true, false, cond, Option, Some, Result, Ok, Err}
-use Rattle.std.specs.Prelude.{IfSome, nat_le}
+use Rattle.std.proofs.Common.{◌≡◌, ◌∙◌, ℕ, ◌+◌, ◌*◌, ◌^◌, ◌<◌, ◌≤◌, List, refl, ap, sym, subst, arith, Bool, true, false, cond, Option, Some, Result, Ok, Err, IfSome, nat_le}
 use Rattle.std.specs.Int.{from_le_bytes, w64}
 use Rattle.std.proofs.lemmas.Nat.{from_le_bytes-to_le_bytes_8}
 use Rattle.std.proofs.lemmas.Bool.Decides.{nat_tests}
-use Rattle.block_traits.specs.Cabinet.{CabinetState, Files, stored}
-use Rattle.block_traits.specs.Disk.{DiskState}
-use Rattle.command_words.specs.Places.{bytes_at}
-use Rattle.command_words.specs.declared.spans.Span.{Span}
-use Rattle.eli_base.specs.declared.refusals.Refusal.{Refusal}
 use Rattle.eli_base.specs.declared.refusals.Refusal.TheVariants as refusals
-use Rattle.key_components.specs.Answers.{IsAnswer, file_answer}
-use Rattle.provider.specs.Attached.{media}
-use Rattle.range_keys.specs.Keys.{le64}
-use Rattle.sealing.specs.Sectors.{units}
-use Rattle.verify_sweep.specs.Parts.{sweep_at}
-use Rattle.verify_sweep.specs.Sweeping.{sectors_swept}
-use Rattle.command_rows.specs.Steps.{Decides, GoesOn, LoadsFile, StoreAnswers, StoresBytes, Then}
-use Rattle.command_rows.specs.World.{Attachment, Reach}
+use Rattle.command_rows.specs.Rows.{Attachment, Decides, GoesOn, LoadsFile, Reach, StoreAnswers, StoresBytes, Then}
+use Rattle.command_rows.specs.Vocabulary.{CabinetState, DiskState, Files, IsAnswer, Refusal, Span, bytes_at, file_answer, le64, media, sectors_swept, stored, sweep_at, units}
 use Rattle.command_rows.specs.verbs.Verify.{FindsPlace, ListsUnits, LoadsPlace, StoresPlace, Sweeps, SweepsFrom, SweptPart, VerifyRow, if_inside, if_tagged, place_in, place_size, unless_absent}
 use Rattle.command_rows.proofs.SweepPlaces.{eight_loaded, eight_says, from_stays, place_stays}
 

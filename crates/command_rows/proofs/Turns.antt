@@ -1,12 +1,8 @@
 -- From what a line does to the world to the row of the drawer that it names.
-use Rattle.std.proofs.Common.{◌≡◌, ℕ, List, refl, Bool, true, false, Option, None, Some}
-use Rattle.std.specs.Prelude.{MatchOption}
-use Rattle.command_words.specs.Places.{bytes_at, provider_of}
-use Rattle.command_words.specs.declared.commands.Command.{Command}
-use Rattle.command_words.specs.declared.spans.Span.{Span}
-use Rattle.command_rows.specs.Answer.{Answer}
+use Rattle.std.proofs.Common.{◌≡◌, ℕ, List, refl, Bool, true, false, Option, None, Some, MatchOption}
+use Rattle.command_rows.specs.Rows.{Answer, World, place_of}
 use Rattle.command_rows.specs.Turn.{ChangesAt, IsUnknown, ListsDrawers, Serves, ServesAt, TakesOutDrawer, Turn, TurnOf, takes_out}
-use Rattle.command_rows.specs.World.{World, place_of}
+use Rattle.command_rows.specs.Vocabulary.{Command, Span, bytes_at, provider_of}
 
 by_out : (out taken : Bool) (line : List ℕ) (command : Command) (old : World) (answer : Answer) (new : World) (place : ℕ) (Claim : Type 0) → out ≡ taken → (out ≡ true → TakesOutDrawer old answer new place → Claim)
     → (out ≡ false → ChangesAt (Serves line command) old answer new place → Claim) → ServesAt taken line command old answer new place → Claim

@@ -1,14 +1,10 @@
 -- A line changes only the drawer that it names, or takes it out.
-use Rattle.std.proofs.Common.{◌≡◌, ℕ, zero, suc, List, [], ◌∷◌, refl, ap, Bool, Option, None, Some, slice_get, subst, sym}
-use Rattle.std.specs.Prelude.{MatchOption, option_and_then}
+use Rattle.std.proofs.Common.{◌≡◌, ℕ, zero, suc, List, [], ◌∷◌, refl, ap, Bool, Option, None, Some, slice_get, subst, sym, MatchOption, option_and_then}
 use Rattle.std.proofs.Math.ListN.{set}
-use Rattle.command_words.specs.Places.{bytes_at, provider_of}
-use Rattle.command_words.specs.declared.commands.Command.{Command}
-use Rattle.command_words.specs.declared.spans.Span.{Span}
-use Rattle.command_rows.specs.Answer.{Answer}
 use Rattle.command_rows.specs.Histories.{ChangesBy, LeavesAt, OnlyAt, OnlySteps, StepsAt}
+use Rattle.command_rows.specs.Rows.{Answer, World, place_of}
 use Rattle.command_rows.specs.Turn.{ChangesAt, Serves, TakesOutDrawer, Turn, reach}
-use Rattle.command_rows.specs.World.{World, place_of}
+use Rattle.command_rows.specs.Vocabulary.{Command, Span, bytes_at, provider_of}
 use Rattle.command_rows.proofs.Lines.{line_did}
 use Rattle.command_rows.proofs.Turns.{by_turn}
 

@@ -20,8 +20,8 @@ pub mod Sum
 pub mod Suspend
 pub mod Verify
 pub mod Write
-use Rattle.command_words.specs.declared.commands.Command.{Command}
 use Rattle.command_words.specs.declared.commands.Command.TheVariants as commands
+use Rattle.command_rows.specs.Vocabulary.{Command}
 use Rattle.command_rows.proofs.Lawful.{IsLawful, rowless_lawful}
 use Rattle.command_rows.proofs.verbs.Attach.{attach_lawful}
 use Rattle.command_rows.proofs.verbs.Backup.{backup_lawful}

@@ -1,13 +1,9 @@
 -- What a line asks of an attached provider, and how that may be refused.
 use Rattle.std.specs.Prelude.{Err, MatchOption, None, Ok, Option, Some, length, ℕ, ◌*◌, ◌≡◌, ◌≤◌}
-use Rattle.bio_queue.specs.Answers.{HasBadUnit, IsAllDone, IsNotDone}
-use Rattle.bio_queue.specs.Requests.{Request, left_of, request_with}
-use Rattle.block_traits.specs.Disk.{DiskState}
-use Rattle.eli_base.specs.declared.refusals.Refusal.{Refusal}
 use Rattle.eli_base.specs.declared.refusals.Refusal.TheVariants as refusals
-use Rattle.provider.specs.Reading.{ReadsAs}
 use Rattle.command_rows.specs.Queueing.{HasRequest}
 use Rattle.command_rows.specs.Steps.{whole_sectors}
+use Rattle.command_rows.specs.Vocabulary.{DiskState, HasBadUnit, IsAllDone, IsNotDone, ReadsAs, Refusal, Request, left_of, request_with}
 use Rattle.command_rows.specs.World.{Attachment}
 
 -- logical sectors from one on: as many as are named, at once; as many as so many bytes are, at once; or as many as are

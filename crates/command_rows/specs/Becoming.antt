@@ -1,19 +1,13 @@
 -- What a line makes of what a drawer does with its disk: by which verbs the drawer becomes idle, attached and
 -- suspended, and with what.
 use Rattle.std.specs.Prelude.{Bool, IsTrue, List, MatchOption, None, Option, Some, [], false, slice_get, true, ℕ, ◌∷◌, ◌≡◌, ◌⊎◌}
-use Rattle.block_traits.specs.Disk.{FailsIn, Logs}
 use Rattle.block_traits.specs.declared.disk.Event.TheVariants.{Flush}
-use Rattle.command_words.specs.Places.{bytes_at, provider_of}
-use Rattle.command_words.specs.declared.commands.Command.{Command}
 use Rattle.command_words.specs.declared.commands.Command.TheVariants as commands
-use Rattle.command_words.specs.declared.spans.KeyWords.{KeyWords}
-use Rattle.command_words.specs.declared.spans.Span.{Span}
-use Rattle.sha2.specs.Sha256.{sha256}
-use Rattle.command_rows.specs.Answer.{Answer}
 use Rattle.command_rows.specs.Answer as answers
 use Rattle.command_rows.specs.Gate.{traits_of}
+use Rattle.command_rows.specs.Rows.{Answer, Attachment, DrawerState, Holding, Idle, IsAttached, IsSuspended, Kept, Reach, World, place_of}
 use Rattle.command_rows.specs.Turn.{reach, takes_out}
-use Rattle.command_rows.specs.World.{Attachment, DrawerState, Holding, Idle, IsAttached, IsSuspended, Kept, Reach, World, place_of}
+use Rattle.command_rows.specs.Vocabulary.{Command, FailsIn, KeyWords, Logs, Span, bytes_at, provider_of, sha256}
 use Rattle.command_rows.specs.verbs.Attach.{OpensWith}
 use Rattle.command_rows.specs.verbs.Suspend.{kept_by}
 

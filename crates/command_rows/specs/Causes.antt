@@ -1,19 +1,11 @@
 -- Why a line is refused, whatever its row.
 use Rattle.std.specs.Prelude.{Bool, Err, IsTrue, List, MatchOption, Option, Some, false, slice_get, true, ℕ, ◌+◌, ◌<◌, ◌≡◌}
-use Rattle.block_traits.specs.Causes.{Rose}
-use Rattle.block_traits.specs.Disk.{DiskState}
-use Rattle.command_words.specs.Places.{bytes_at, provider_of}
-use Rattle.command_words.specs.declared.commands.Command.{Command}
-use Rattle.command_words.specs.declared.spans.Span.{Span}
-use Rattle.eli_base.specs.declared.refusals.Refusal.{Refusal}
 use Rattle.eli_base.specs.declared.refusals.Refusal.TheVariants as refusals
-use Rattle.provider.specs.Attached.{has_tags, media}
-use Rattle.command_rows.specs.Asks.{Asks, AsksBytesAtOnce, AsksSectorsFrom, FaultOf, QueueRefuses}
 use Rattle.command_rows.specs.Gate.{needs, refused_by, traits_of}
 use Rattle.command_rows.specs.Grounds.{FindsBadFile, HasGround, IsGround}
-use Rattle.command_rows.specs.Steps.{whole_sectors}
+use Rattle.command_rows.specs.Rows.{Asks, AsksBytesAtOnce, AsksSectorsFrom, AttachedWith, Attachment, DrawerState, FaultOf, QueueRefuses, Reach, World, place_of, whole_sectors}
 use Rattle.command_rows.specs.Turn.{reach}
-use Rattle.command_rows.specs.World.{AttachedWith, Attachment, DrawerState, Reach, World, place_of}
+use Rattle.command_rows.specs.Vocabulary.{Command, DiskState, Refusal, Rose, Span, bytes_at, has_tags, media, provider_of}
 use Rattle.command_rows.specs.verbs.{verb_of}
 
 -- whether a command may answer that there was no memory

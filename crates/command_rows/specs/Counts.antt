@@ -1,15 +1,10 @@
 -- The counts of the cabinet and the entropy through a line: none falls, and a failure of theirs is answered only where
 -- its count rose.
 use Rattle.std.specs.Prelude.{◌≡◌, ◌⊎◌, ◌≤◌}
-use Rattle.block_traits.specs.Cabinet.{CabinetState}
-use Rattle.block_traits.specs.Causes.{Rose}
-use Rattle.block_traits.specs.Streams.{EntropyState}
-use Rattle.eli_base.specs.declared.refusals.Refusal.{Refusal}
 use Rattle.eli_base.specs.declared.refusals.Refusal.TheVariants as refusals
-use Rattle.key_components.specs.Files.{passphrase_limit}
-use Rattle.command_rows.specs.Answer.{Answer}
 use Rattle.command_rows.specs.Answer as answers
-use Rattle.command_rows.specs.World.{World}
+use Rattle.command_rows.specs.Rows.{Answer, World}
+use Rattle.command_rows.specs.Vocabulary.{CabinetState, EntropyState, Refusal, Rose, passphrase_limit}
 
 -- Where this is refused, the count of such failures rose. That a passphrase is longer than its own limit is no miss of
 -- the cabinet. Each refusal is named, so that a new one has to be decided on.

@@ -1,22 +1,7 @@
 -- What stands on a disk and in files, where that is told, and what a line finds there and is refused for.
 use Rattle.std.specs.Prelude.{Err, IfSome, List, Ok, Option, Result, Some, length, ℕ, ◌*◌, ◌<◌, ◌≡◌, ◌≤◌, ◌⊎◌}
-use Rattle.block_traits.specs.Cabinet.{CabinetState, Files}
-use Rattle.block_traits.specs.Content.{Content, present}
-use Rattle.block_traits.specs.Disk.{DiskState, Gives, last_sector}
-use Rattle.block_traits.specs.declared.disk.Event.{Event}
-use Rattle.command_words.specs.Places.{bytes_at}
-use Rattle.command_words.specs.declared.spans.KeyWords.{KeyWords}
-use Rattle.command_words.specs.declared.spans.Span.{Span}
-use Rattle.eli_base.specs.declared.refusals.Refusal.{Refusal}
 use Rattle.eli_base.specs.declared.refusals.Refusal.TheVariants as refusals
-use Rattle.eli_metadata.specs.Format.{metadata_in}
-use Rattle.eli_metadata.specs.Place.{replace_events}
-use Rattle.eli_metadata.specs.Refusals.{refusal_of}
-use Rattle.eli_metadata.specs.declared.metadata.MetaFault.{MetaFault}
-use Rattle.eli_metadata.specs.declared.metadata.Metadata.{Metadata}
-use Rattle.key_components.specs.Answers.{MayRefuse, StopsAtFile, file_answer, refused_word}
-use Rattle.key_components.specs.Key.{FitsWords, components_of}
-use Rattle.user_key.specs.declared.components.Components.{Components}
+use Rattle.command_rows.specs.Vocabulary.{CabinetState, Components, Content, DiskState, Event, Files, FitsWords, Gives, KeyWords, MayRefuse, MetaFault, Metadata, Refusal, Span, StopsAtFile, bytes_at, components_of, file_answer, last_sector, metadata_in, present, refusal_of, refused_word, replace_events}
 use Rattle.command_rows.specs.World.{Reach}
 
 -- the disk tells its content, of which a sector is read as these metadata

@@ -1,10 +1,9 @@
 -- What a line finds where nothing refuses it, in a drawer and a cabinet that tell what they hold.
 use Rattle.std.specs.Prelude.{List, None, Some, slice_get, ℕ, ◌≡◌}
-use Rattle.block_traits.specs.Causes.{Rose}
-use Rattle.command_words.specs.declared.commands.Command.{Command}
 use Rattle.command_rows.specs.Gate.{needs, refused_by}
+use Rattle.command_rows.specs.Rows.{DrawerState, Reach, World, place_of}
 use Rattle.command_rows.specs.Turn.{reach}
-use Rattle.command_rows.specs.World.{DrawerState, Reach, World, place_of}
+use Rattle.command_rows.specs.Vocabulary.{Command, Rose}
 use Rattle.command_rows.specs.verbs.{verb_of}
 
 -- what the row of its verb finds then

@@ -4,9 +4,9 @@ use Rattle.std.specs.Prelude.{Option, Some, None}
 pub use Rattle.command_words.specs.Traits.{job_writes, needs, traits_of}
 pub use Rattle.command_words.specs.declared.verbs.Needs.{Needs}
 pub use Rattle.command_words.specs.declared.verbs.Needs.TheVariants.{AnIdle, AnAttached, ASuspended, NoIdle, NoSuspended, AnyOne}
-use Rattle.eli_base.specs.declared.refusals.Refusal.{Refusal}
 use Rattle.eli_base.specs.declared.refusals.Refusal.TheVariants as refusals
-use Rattle.command_rows.specs.World.{Holding, Idle, IsAttached, IsSuspended}
+use Rattle.command_rows.specs.Rows.{Holding, Idle, IsAttached, IsSuspended}
+use Rattle.command_rows.specs.Vocabulary.{Refusal}
 
 -- why a drawer isn't such a one, if it isn't
 abbrev pub refused_by : Needs → Holding → Option Refusal

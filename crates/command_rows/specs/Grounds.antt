@@ -1,11 +1,8 @@
 -- For what the metadata, the files of a key or a backup, the image and the words of a line are like, it is refused.
 use Rattle.std.specs.Prelude.{List, length, ℕ}
-use Rattle.block_traits.specs.Cabinet.{CabinetState}
-use Rattle.command_words.specs.declared.commands.Command.{Command}
-use Rattle.eli_base.specs.declared.refusals.Refusal.{Refusal}
 use Rattle.eli_base.specs.declared.refusals.Refusal.TheVariants as refusals
-use Rattle.provider.specs.Attached.{media}
-use Rattle.command_rows.specs.World.{Holding, Reach}
+use Rattle.command_rows.specs.Rows.{Holding, Reach}
+use Rattle.command_rows.specs.Vocabulary.{CabinetState, Command, Refusal, media}
 use Rattle.command_rows.specs.verbs.{verb_of}
 
 -- ---- what stands in files

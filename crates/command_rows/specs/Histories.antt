@@ -2,17 +2,12 @@
 -- history of its disk grows by events of the line.
 use Rattle.std.specs.List.{remove}
 use Rattle.std.specs.Prelude.{Bool, List, None, Option, Some, [], false, option_and_then, slice_get, slice_set, take, true, ℕ, ◌≡◌, ◌⊎◌}
-use Rattle.block_traits.specs.Disk.{DiskState, Logs}
-use Rattle.block_traits.specs.declared.disk.Event.{Event}
-use Rattle.command_words.specs.Places.{bytes_at, provider_of}
-use Rattle.command_words.specs.declared.commands.Command.{Command}
-use Rattle.eli_base.specs.declared.refusals.Refusal.{Refusal}
 use Rattle.eli_base.specs.declared.refusals.Refusal.TheVariants as refusals
-use Rattle.command_rows.specs.Answer.{Answer}
 use Rattle.command_rows.specs.Answer as answers
 use Rattle.command_rows.specs.Gate.{traits_of}
+use Rattle.command_rows.specs.Rows.{Answer, DrawerState, Holding, place_of}
 use Rattle.command_rows.specs.Turn.{takes_out}
-use Rattle.command_rows.specs.World.{DrawerState, Holding, place_of}
+use Rattle.command_rows.specs.Vocabulary.{Command, DiskState, Event, Logs, Refusal, bytes_at, provider_of}
 use Rattle.command_rows.specs.verbs.{verb_of}
 
 -- ---- the events of a line

@@ -13,11 +13,13 @@ pub mod Opening
 pub mod Queueing
 pub mod Replies
 pub mod Requests
+pub mod Rows
 pub mod Steps
 pub mod Stops
 pub mod Storing
 pub mod Trying
 pub mod Turn
 pub mod Verb
+pub mod Vocabulary
 pub mod World
 pub mod verbs

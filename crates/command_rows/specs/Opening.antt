@@ -1,12 +1,8 @@
 -- That `attach -C` opens what `init` made.
 use Rattle.std.specs.Prelude.{◌≡◌, ℕ, List, Some, Result, Ok, Err}
-use Rattle.block_traits.specs.Cabinet.{CabinetState, Files}
-use Rattle.block_traits.specs.Causes.{Rose}
-use Rattle.command_words.specs.declared.spans.KeyWords.{KeyWords}
-use Rattle.eli_base.specs.declared.refusals.Refusal.{Refusal}
 use Rattle.eli_base.specs.declared.refusals.Refusal.TheVariants as refusals
-use Rattle.key_components.specs.Key.{components_of}
-use Rattle.command_rows.specs.World.{Reach}
+use Rattle.command_rows.specs.Rows.{Reach}
+use Rattle.command_rows.specs.Vocabulary.{CabinetState, Files, KeyWords, Refusal, Rose, components_of}
 
 -- both cabinets tell their files, and by them the words of the one line name the same components as those of the other
 pub record NamesSameKey (line : List ℕ) (words : KeyWords) (cabinet : CabinetState) (line' : List ℕ) (words' : KeyWords) (cabinet' : CabinetState) : Type 0 where

@@ -1,11 +1,7 @@
 -- The open requests of an attached provider, as `submit`, `step`, `reap` and `suspend` see them.
 use Rattle.std.specs.Prelude.{Err, List, Ok, Result, ℕ, ◌≡◌}
-use Rattle.bio_queue.specs.Owners.{IsOpenRequest}
-use Rattle.bio_queue.specs.Requests.{Request}
-use Rattle.block_traits.specs.Disk.{DiskState}
-use Rattle.eli_base.specs.declared.refusals.Refusal.{Refusal}
 use Rattle.eli_base.specs.declared.refusals.Refusal.TheVariants as refusals
-use Rattle.provider.specs.Attached.{media}
+use Rattle.command_rows.specs.Vocabulary.{DiskState, IsOpenRequest, Refusal, Request, media}
 use Rattle.command_rows.specs.World.{Attachment, Reach}
 
 -- the same provider, on which these requests are open

@@ -1,9 +1,8 @@
 -- The answers to a line, by what its row answers.
 use Rattle.std.specs.Prelude.{Err, List, None, Ok, Option, Result, Some, ℕ, ◌≡◌}
-use Rattle.eli_base.specs.declared.refusals.Refusal.{Refusal}
-use Rattle.eli_metadata.specs.declared.metadata.Metadata.{Metadata}
 use Rattle.command_rows.specs.Answer.{Answer}
 use Rattle.command_rows.specs.Answer as answers
+use Rattle.command_rows.specs.Vocabulary.{Metadata, Refusal}
 use Rattle.command_rows.specs.World.{Reach}
 
 abbrev pub done_or : Result (Unit {0}) Refusal → Answer

@@ -1,42 +1,12 @@
 -- The steps of which commands consist. A step answers a value or a refusal, and may change what the command reaches.
 use Rattle.std.specs.Prelude.{Bool, Err, IfErr, IfOk, IfSome, List, None, Ok, Option, Result, Some, [], false, if◌then◌else◌, length, nat_le, true, ℕ, ◌%◌, ◌&&◌, ◌*◌, ◌++◌, ◌+◌, ◌/◌, ◌==◌, ◌||◌, ◌∷◌, ◌≡◌, ◌≤◌}
-use Rattle.block_traits.specs.Cabinet.{CabinetState, stored}
-use Rattle.block_traits.specs.Causes.{Counted, Rose}
-use Rattle.block_traits.specs.Disk.{DiskState, FailsIn, Logs}
 use Rattle.block_traits.specs.declared.cabinet.StoreFault.{StoreFault}
 use Rattle.block_traits.specs.declared.cabinet.StoreFault.TheVariants as store
-use Rattle.block_traits.specs.declared.disk.Event.{Event}
 use Rattle.block_traits.specs.declared.disk.Event.TheVariants.{Flush}
-use Rattle.command_words.specs.Places.{bytes_at}
-use Rattle.command_words.specs.declared.spans.KeyWords.{KeyWords}
-use Rattle.command_words.specs.declared.spans.Span.{Span}
-use Rattle.eli_base.specs.Keying.{Keying}
 use Rattle.eli_base.specs.Requests.{request_limit}
-use Rattle.eli_base.specs.Units.{media_sectors}
-use Rattle.eli_base.specs.declared.parameters.MasterKey.{MasterKey}
-use Rattle.eli_base.specs.declared.refusals.Refusal.{Refusal}
 use Rattle.eli_base.specs.declared.refusals.Refusal.TheVariants as refusals
-use Rattle.eli_metadata.specs.Checks.{Settings, size_matches, slot_matches, supported}
-use Rattle.eli_metadata.specs.Format.{encoded}
-use Rattle.eli_metadata.specs.Place.{ReadsMetadata}
-use Rattle.eli_metadata.specs.Refusals.{read_refusal_of, refusal_of}
-use Rattle.eli_metadata.specs.declared.metadata.MetaFault.{MetaFault}
-use Rattle.eli_metadata.specs.declared.metadata.Metadata.{Metadata}
-use Rattle.eli_metadata.specs.declared.place.ReadMetaFault.{ReadMetaFault}
-use Rattle.key_commands.specs.NewProvider.{Inits}
-use Rattle.key_commands.specs.declared.options.InitOptions.{InitOptions}
-use Rattle.key_components.specs.Answers.{IsAnswer, KeepsFiles, LoadsEach, MayRefuse, StopsAtFile, file_answer, refused_word}
-use Rattle.key_components.specs.Key.{FitsWords, components_of}
-use Rattle.provider.specs.Attached.{media, opened}
-use Rattle.provider.specs.Reading.{ReadsAs}
 use Rattle.provider.specs.Reads.{RunFails, RunFault}
-use Rattle.provider.specs.Writing.{data_writes}
-use Rattle.sealing.specs.Sectors.{units}
-use Rattle.user_key.specs.Derivation.{user_key}
-use Rattle.user_key.specs.Refusals.{key_refusal_of}
-use Rattle.user_key.specs.declared.components.Components.{Components}
-use Rattle.user_key.specs.declared.components.KeyFault.{KeyFault}
-use Rattle.user_key.specs.declared.components.UserKey.{UserKey}
+use Rattle.command_rows.specs.Vocabulary.{CabinetState, Components, Counted, DiskState, Event, FailsIn, FitsWords, InitOptions, Inits, IsAnswer, KeepsFiles, KeyFault, KeyWords, Keying, LoadsEach, Logs, MasterKey, MayRefuse, MetaFault, Metadata, ReadMetaFault, ReadsAs, ReadsMetadata, Refusal, Rose, Settings, Span, StopsAtFile, UserKey, bytes_at, components_of, data_writes, encoded, file_answer, key_refusal_of, media, media_sectors, opened, read_refusal_of, refusal_of, refused_word, size_matches, slot_matches, stored, supported, units, user_key}
 use Rattle.command_rows.specs.World.{Attachment, Idle, IsAttached, Reach}
 
 -- ---- one step after another

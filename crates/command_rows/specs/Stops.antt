@@ -1,13 +1,9 @@
 -- What a disk may hold at each moment of a line that changes its metadata, whenever power fails: the old or the new.
 use Rattle.std.specs.Prelude.{Bool, List, MatchOption, Option, Some, false, slice_get, true, ℕ, ◌≡◌, ◌⊎◌}
-use Rattle.block_traits.specs.Cabinet.{Files}
-use Rattle.block_traits.specs.Disk.{DiskState}
-use Rattle.command_words.specs.Places.{bytes_at, provider_of}
-use Rattle.command_words.specs.declared.commands.Command.{Command}
-use Rattle.command_rows.specs.Answer.{Answer}
 use Rattle.command_rows.specs.Answer as answers
+use Rattle.command_rows.specs.Rows.{Answer, DrawerState, Holding, World, place_of}
 use Rattle.command_rows.specs.Turn.{takes_out}
-use Rattle.command_rows.specs.World.{DrawerState, Holding, World, place_of}
+use Rattle.command_rows.specs.Vocabulary.{Command, DiskState, Files, bytes_at, provider_of}
 use Rattle.command_rows.specs.verbs.{verb_of}
 
 -- ---- a line

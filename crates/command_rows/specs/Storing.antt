@@ -1,11 +1,7 @@
 -- The file that a line stores: no other file changes, and no more than one store is made.
 use Rattle.std.specs.Prelude.{List, None, Option, Some, ℕ, ◌≡◌, ◌⊎◌}
-use Rattle.block_traits.specs.Cabinet.{CabinetState, stored}
-use Rattle.block_traits.specs.Causes.{Counted}
-use Rattle.command_words.specs.Places.{bytes_at}
-use Rattle.command_words.specs.declared.commands.Command.{Command}
-use Rattle.command_words.specs.declared.spans.Span.{Span}
-use Rattle.command_rows.specs.World.{World}
+use Rattle.command_rows.specs.Rows.{World}
+use Rattle.command_rows.specs.Vocabulary.{CabinetState, Command, Counted, Span, bytes_at, stored}
 use Rattle.command_rows.specs.verbs.{verb_of}
 
 -- the place of the name of the file that a command stores, if it stores one

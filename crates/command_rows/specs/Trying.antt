@@ -1,8 +1,7 @@
 -- A key is tried on the provider of a disk (geli(8), "attach").
 use Rattle.std.specs.Prelude.{ℕ, Bool, List, Option, Result}
-use Rattle.command_words.specs.declared.spans.KeyWords.{KeyWords}
-use Rattle.eli_base.specs.declared.refusals.Refusal.{Refusal}
 use Rattle.command_rows.specs.Steps.{Admits, LoadsComponents, ReadsLastSector, Then, TriesKey}
+use Rattle.command_rows.specs.Vocabulary.{KeyWords, Refusal}
 use Rattle.command_rows.specs.World.{Attachment, Reach}
 
 -- the metadata are read and admitted, the files are loaded, and the key is tried

@@ -1,5 +1,7 @@
 -- What a command does to the world: the row of its verb at the drawer that it names (geli(8)).
 pub use Rattle.command_rows.specs.Replies.{Replies, digest_or, done_or, dump_or, left_or, payload_or, reaped_or, tag_or}
+use Rattle.command_rows.specs.Rows.{Answer, DrawerState, Holding, Idle, IsAttached, IsSuspended, Reach, World, is_idle, place_of}
+use Rattle.command_rows.specs.Vocabulary.{Command, DiskState, Event, IsHistory, Refusal, bytes_at, media, provider_of}
 pub use Rattle.command_rows.specs.verbs.Attach.{AttachRow, AttachesUnless}
 pub use Rattle.command_rows.specs.verbs.Detach.{DetachRow}
 pub use Rattle.command_rows.specs.verbs.Dump.{DumpRow}
@@ -9,18 +11,10 @@ pub use Rattle.command_rows.specs.verbs.Verify.{verified_or}
 pub use Rattle.command_rows.specs.verbs.Write.{WriteRow}
 use Rattle.std.specs.List.{remove}
 use Rattle.std.specs.Prelude.{Bool, List, MatchOption, None, Option, Some, false, is_some, map, slice_get, slice_set, true, ℕ, ◌≡◌}
-use Rattle.block_traits.specs.Disk.{DiskState, IsHistory}
-use Rattle.block_traits.specs.declared.disk.Event.{Event}
-use Rattle.command_words.specs.Places.{bytes_at, provider_of}
-use Rattle.command_words.specs.declared.commands.Command.{Command}
-use Rattle.eli_base.specs.declared.refusals.Refusal.{Refusal}
 use Rattle.eli_base.specs.declared.refusals.Refusal.TheVariants as refusals
-use Rattle.provider.specs.Attached.{media}
 use Rattle.reply_text.specs.declared.rows.Row.{Row}
-use Rattle.command_rows.specs.Answer.{Answer}
 use Rattle.command_rows.specs.Answer as answers
 use Rattle.command_rows.specs.Gate.{needs, refused_by, traits_of}
-use Rattle.command_rows.specs.World.{DrawerState, Holding, Idle, IsAttached, IsSuspended, Reach, World, is_idle, place_of}
 use Rattle.command_rows.specs.verbs.{verb_of}
 
 -- ---- the row

@@ -1,15 +1,9 @@
 -- What a verb is, as one value: all that rows, laws and a run ask of a command but what its traits say.
 use Rattle.std.specs.Prelude.{Bool, List, None, Option, [], ℕ, ◌∷◌, ◌≡◌}
-use Rattle.block_traits.specs.Cabinet.{CabinetState, Files}
-use Rattle.block_traits.specs.Disk.{DiskState}
-use Rattle.block_traits.specs.declared.disk.Event.{Event}
 use Rattle.block_traits.specs.declared.disk.Event.TheVariants.{Flush}
-use Rattle.command_words.specs.declared.commands.JobWords.{JobWords}
-use Rattle.command_words.specs.declared.spans.KeyWords.{KeyWords}
-use Rattle.command_words.specs.declared.spans.Span.{Span}
-use Rattle.eli_base.specs.declared.refusals.Refusal.{Refusal}
 use Rattle.command_rows.specs.Answer.{Answer}
 use Rattle.command_rows.specs.Asks.{Asks, AsksNothing}
+use Rattle.command_rows.specs.Vocabulary.{CabinetState, DiskState, Event, Files, JobWords, KeyWords, Refusal, Span}
 use Rattle.command_rows.specs.World.{Holding, Reach}
 
 -- what a line places on the disk of an attached drawer, or makes of the open requests: nothing that is known; these

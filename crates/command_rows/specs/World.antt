@@ -2,13 +2,7 @@
 use Rattle.std.specs.Prelude.{◌≡◌, ℕ, ◌+◌, Bool, true, false, List, [], ◌∷◌, Option, Some, None, map, if◌then◌else◌, slice_get, IfSome, MatchOption}
 use Rattle.std.specs.Option.{option_map}
 use Rattle.std.specs.Str.{bytes_eq}
-use Rattle.bio_queue.specs.Requests.{Request}
-use Rattle.block_traits.specs.Cabinet.{CabinetState}
-use Rattle.block_traits.specs.Content.{Content}
-use Rattle.block_traits.specs.Disk.{DiskState}
-use Rattle.block_traits.specs.Streams.{EntropyState}
-use Rattle.eli_base.specs.Keying.{Keying}
-use Rattle.range_keys.specs.Ring.{IsKeying}
+use Rattle.command_rows.specs.Vocabulary.{CabinetState, Content, DiskState, EntropyState, IsKeying, Keying, Request}
 
 -- with what a provider is attached: the slot that gave the master key, the keying, whether it is read-only, and the
 -- requests that are open on it, in order of their tags

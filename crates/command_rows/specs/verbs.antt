@@ -20,9 +20,9 @@ pub mod Sum
 pub mod Suspend
 pub mod Verify
 pub mod Write
-use Rattle.command_words.specs.declared.commands.Command.{Command}
 use Rattle.command_words.specs.declared.commands.Command.TheVariants as commands
-use Rattle.command_rows.specs.Verb.{Verb, no_row}
+use Rattle.command_rows.specs.Rows.{Verb, no_row}
+use Rattle.command_rows.specs.Vocabulary.{Command}
 use Rattle.command_rows.specs.verbs.Attach.{attach_verb}
 use Rattle.command_rows.specs.verbs.Backup.{backup_verb}
 use Rattle.command_rows.specs.verbs.Delkey.{delkey_verb}

@@ -2,13 +2,8 @@
 use Rattle.std.proofs.Common.{◌≡◌, ◌∙◌, ℕ, ◌≤◌, List, ◌++◌, length, take, drop, ap, sym, subst, arith, Option, None, Some}
 use Rattle.std.specs.Io.KnownBytes.{prepend_known}
 use Rattle.std.proofs.Math.Seq.{drop-append_seam, take-append_seam}
-use Rattle.block_traits.specs.Cabinet.{CabinetState, Files, stored, with_file}
-use Rattle.block_traits.specs.Causes.{Counted, Rose}
-use Rattle.block_traits.specs.Content.{Content, logged, present, with_events}
-use Rattle.block_traits.specs.Disk.{DiskState, Gives, GivesFrom, Logs}
-use Rattle.block_traits.specs.Streams.{EntropyState, Takes}
-use Rattle.block_traits.specs.declared.disk.Event.{Event}
-use Rattle.command_rows.specs.World.{Reach}
+use Rattle.command_rows.specs.Rows.{Reach}
+use Rattle.command_rows.specs.Vocabulary.{CabinetState, Content, Counted, DiskState, EntropyState, Event, Files, Gives, GivesFrom, Logs, Rose, Takes, logged, present, stored, with_events, with_file}
 use Rattle.turn_determinism.specs.Same.{IsSameCount}
 
 -- ---- counts

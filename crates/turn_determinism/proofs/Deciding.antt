@@ -1,12 +1,9 @@
 -- Steps that change nothing, and those that change only what a drawer does with its disk.
 use Rattle.std.proofs.Common.{◌≡◌, ◌∙◌, ℕ, ◌*◌, refl, ap, sym, arith, Bool, true, false, Option, Result, Ok, Err}
-use Rattle.eli_base.specs.Units.{media_sectors}
-use Rattle.eli_base.specs.declared.refusals.Refusal.{Refusal}
+use Rattle.command_rows.specs.Rows.{Admits, Attaches, Attachment, Decides, Holding, Idle, IsAttached, NeedsSectors, Reach, admitted, in_range}
+use Rattle.command_rows.specs.Vocabulary.{Metadata, Refusal, media_sectors}
 use Rattle.eli_base.specs.declared.refusals.Refusal.TheVariants as refusals
-use Rattle.eli_metadata.specs.declared.metadata.Metadata.{Metadata}
-use Rattle.command_rows.specs.Steps.{Admits, Attaches, Decides, NeedsSectors, admitted, in_range}
 use Rattle.command_rows.specs.Turn.{AttachesUnless}
-use Rattle.command_rows.specs.World.{Attachment, Holding, Idle, IsAttached, Reach}
 use Rattle.command_rows.specs.verbs.Kill.{Withdraws}
 use Rattle.command_rows.specs.verbs.Setkey.{IsUsed, usable}
 use Rattle.command_rows.specs.verbs.Verify.{NeedsPlace, if_inside}

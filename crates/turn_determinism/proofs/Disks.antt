@@ -1,25 +1,10 @@
 -- Steps that read the disk and write it, and those that flush it and change what the drawer does with it.
 use Rattle.std.proofs.Common.{◌≡◌, ◌∙◌, ◌⊎◌, inl, inr, ℕ, ◌+◌, ◌-◌, ◌*◌, ◌≤◌, List, [], ◌∷◌, refl, ap, sym, subst, arith, Option, Some, Result, Ok, Err}
-use Rattle.block_traits.specs.Causes.{Counted, Rose}
-use Rattle.block_traits.specs.Content.{Content, present}
-use Rattle.block_traits.specs.Disk.{DiskState, Logs, last_sector}
-use Rattle.block_traits.specs.declared.disk.Event.{Event}
 use Rattle.block_traits.specs.declared.disk.Event.TheVariants.{Flush}
-use Rattle.eli_base.specs.Keying.{Keying}
-use Rattle.eli_base.specs.declared.refusals.Refusal.{Refusal}
+use Rattle.command_rows.specs.Rows.{Attachment, Detaches, Does, DoesEvents, IsSuspended, Reach, ReadsLastSector, ReadsSectors, SectorsAnswer, WritesSectors, or_refusal}
+use Rattle.command_rows.specs.Vocabulary.{Content, Counted, DiskState, Event, Keying, Logs, MetaFault, Metadata, ReadMetaFault, ReadsAs, ReadsFrom, ReadsMetadata, Refusal, Rose, data_reading, data_writes, last_sector, metadata_in, present, read_refusal_of, units}
 use Rattle.eli_base.specs.declared.refusals.Refusal.TheVariants as refusals
-use Rattle.eli_metadata.specs.Format.{metadata_in}
-use Rattle.eli_metadata.specs.Place.{ReadsMetadata}
-use Rattle.eli_metadata.specs.Refusals.{read_refusal_of}
-use Rattle.eli_metadata.specs.declared.metadata.Metadata.{Metadata}
-use Rattle.eli_metadata.specs.declared.metadata.MetaFault.{MetaFault}
-use Rattle.eli_metadata.specs.declared.place.ReadMetaFault.{ReadMetaFault}
 use Rattle.eli_metadata.specs.declared.place.ReadMetaFault.TheVariants.{TooSmall, DeviceFault, Meta}
-use Rattle.provider.specs.Reading.{ReadsAs, ReadsFrom, data_reading}
-use Rattle.provider.specs.Writing.{data_writes}
-use Rattle.sealing.specs.Sectors.{units}
-use Rattle.command_rows.specs.Steps.{Detaches, Does, DoesEvents, ReadsLastSector, ReadsSectors, SectorsAnswer, WritesSectors, or_refusal}
-use Rattle.command_rows.specs.World.{Attachment, IsSuspended, Reach}
 use Rattle.command_rows.specs.verbs.Suspend.{Suspends, kept_by}
 use Rattle.turn_determinism.specs.Same.{IsSameCount}
 use Rattle.turn_determinism.proofs.Alike.{Alike, AlikeDisk, counted_same, given_by, logs_alike, still_cabinet, still_disk, still_entropy, uncounted_same}

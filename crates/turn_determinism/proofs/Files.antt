@@ -1,21 +1,8 @@
 -- Steps that load files and store them.
-use Rattle.std.proofs.Common.{◌≡◌, ◌≢◌, ◌∙◌, inl, inr, ℕ, ◌≤◌, List, ◌++◌, length, refl, ap, sym, subst, Bool, true, false, Option, None, Some, Result, Ok, Err}
-use Rattle.std.specs.Prelude.{IfErr, IfSome}
-use Rattle.block_traits.specs.Cabinet.{CabinetState, Files}
-use Rattle.block_traits.specs.Causes.{Rose}
-use Rattle.command_words.specs.Places.{bytes_at}
-use Rattle.command_words.specs.declared.spans.KeyWords.{KeyWords}
-use Rattle.command_words.specs.declared.spans.Span.{Span}
-use Rattle.eli_base.specs.declared.refusals.Refusal.{Refusal}
+use Rattle.std.proofs.Common.{◌≡◌, ◌≢◌, ◌∙◌, inl, inr, ℕ, ◌≤◌, List, ◌++◌, length, refl, ap, sym, subst, Bool, true, false, Option, None, Some, Result, Ok, Err, IfErr, IfSome}
+use Rattle.command_rows.specs.Rows.{BacksUp, Decides, LoadsComponents, LoadsFile, Reach, StoreAnswers, StoresBytes, StoresFile}
+use Rattle.command_rows.specs.Vocabulary.{CabinetState, Components, Files, IsAnswer, KeyWords, LoadsEach, MayRefuse, MayRefusePassphrase, Metadata, Refusal, Rose, Span, StopsAtFile, bytes_at, components_of, encoded, file_answer, file_limit}
 use Rattle.eli_base.specs.declared.refusals.Refusal.TheVariants as refusals
-use Rattle.eli_metadata.specs.Format.{encoded}
-use Rattle.eli_metadata.specs.declared.metadata.Metadata.{Metadata}
-use Rattle.key_components.specs.Answers.{IsAnswer, LoadsEach, MayRefuse, MayRefusePassphrase, StopsAtFile, file_answer}
-use Rattle.key_components.specs.Files.{file_limit}
-use Rattle.key_components.specs.Key.{components_of}
-use Rattle.user_key.specs.declared.components.Components.{Components}
-use Rattle.command_rows.specs.Steps.{BacksUp, Decides, LoadsComponents, LoadsFile, StoreAnswers, StoresBytes, StoresFile}
-use Rattle.command_rows.specs.World.{Reach}
 use Rattle.command_rows.specs.verbs.Verify.{FindsPlace, LoadsPlace, place_in, place_size, unless_absent}
 use Rattle.turn_determinism.specs.Same.{IsSameCount, LoadsUnlessMissed}
 use Rattle.turn_determinism.proofs.Alike.{Alike, AlikeCabinet, counted_same, keeps_alike, still_disk, still_entropy, stored_alike, uncounted_same}

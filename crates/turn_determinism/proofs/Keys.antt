@@ -1,30 +1,8 @@
 -- Steps that make metadata, change their keys and write them.
 use Rattle.std.proofs.Common.{◌≡◌, ◌∙◌, ◌⊎◌, inl, inr, ℕ, ◌≤◌, List, length, refl, ap, sym, subst, Bool, Option, None, Some, Result, Ok, Err}
-use Rattle.block_traits.specs.Causes.{Rose}
-use Rattle.block_traits.specs.Disk.{DiskState, Logs}
-use Rattle.block_traits.specs.Streams.{EntropyState, Takes}
-use Rattle.block_traits.specs.declared.disk.Event.{Event}
-use Rattle.eli_base.specs.declared.refusals.Refusal.{Refusal}
+use Rattle.command_rows.specs.Rows.{MakesProvider, Reach, without_value}
+use Rattle.command_rows.specs.Vocabulary.{Components, DeletesKeys, Deletion, DiskState, EntropyState, Event, InitOptions, Inits, KeyChange, KeyFault, Logs, MakesKey, MakesMetadata, Metadata, Refusal, Restores, Rose, SetsKey, Takes, UserKey, change_refusal, changed_iterations, deletion_refusal, early_refusal, encoded, filler_size, init_events, pass_events, random_size, replace_events, restored, salt_in, store_events, user_key, with_key}
 use Rattle.eli_base.specs.declared.refusals.Refusal.TheVariants as refusals
-use Rattle.eli_metadata.specs.Format.{encoded}
-use Rattle.eli_metadata.specs.Place.{replace_events}
-use Rattle.eli_metadata.specs.declared.metadata.Metadata.{Metadata}
-use Rattle.backup_restore.specs.Restoring.{Restores, restored}
-use Rattle.block_traits.specs.Disk.{store_events}
-use Rattle.key_commands.specs.DeleteKeys.{DeletesKeys, Deletion}
-use Rattle.key_commands.specs.NewKey.{KeyChange, MakesKey, change_refusal, changed_iterations, with_key}
-use Rattle.key_commands.specs.NewProvider.{Inits, MakesMetadata, init_events}
-use Rattle.key_commands.specs.Options.{early_refusal}
-use Rattle.key_commands.specs.Overwriting.{deletion_refusal, filler_size, pass_events}
-use Rattle.key_commands.specs.Random.{random_size, salt_in}
-use Rattle.key_commands.specs.SetKey.{SetsKey}
-use Rattle.key_commands.specs.declared.options.InitOptions.{InitOptions}
-use Rattle.user_key.specs.Derivation.{user_key}
-use Rattle.user_key.specs.declared.components.Components.{Components}
-use Rattle.user_key.specs.declared.components.KeyFault.{KeyFault}
-use Rattle.user_key.specs.declared.components.UserKey.{UserKey}
-use Rattle.command_rows.specs.Steps.{MakesProvider, without_value}
-use Rattle.command_rows.specs.World.{Reach}
 use Rattle.command_rows.specs.verbs.Delkey.{TakesKeysOut}
 use Rattle.command_rows.specs.verbs.Restore.{RestoresBackup}
 use Rattle.command_rows.specs.verbs.Setkey.{StoresKey}

@@ -1,20 +1,13 @@
 -- Each line does one thing to what it reaches.
-use Rattle.std.proofs.Common.{◌≡◌, ◌∙◌, ℕ, List, [], ◌∷◌, ap, sym, subst, Bool, true, Option, None, Some, Result, Ok, Err}
-use Rattle.std.specs.Prelude.{MatchOption}
-use Rattle.block_traits.specs.Cabinet.{CabinetState}
+use Rattle.std.proofs.Common.{◌≡◌, ◌∙◌, ℕ, List, [], ◌∷◌, ap, sym, subst, Bool, true, Option, None, Some, Result, Ok, Err, MatchOption}
 use Rattle.block_traits.specs.declared.disk.Event.TheVariants.{Flush}
-use Rattle.command_words.specs.Places.{bytes_at}
-use Rattle.command_words.specs.declared.commands.Command.{Command}
+use Rattle.command_rows.specs.Rows.{Answer, AttachedWith, Attachment, Holding, Kept, Reach, SuspendedWith, attachment_in, bytes_spelled, kept_in}
+use Rattle.command_rows.specs.Vocabulary.{CabinetState, Command, InitOptions, Refusal, bytes_at}
 use Rattle.command_words.specs.declared.commands.Command.TheVariants as commands
-use Rattle.eli_base.specs.declared.refusals.Refusal.{Refusal}
 use Rattle.eli_base.specs.declared.refusals.Refusal.TheVariants as refusals
-use Rattle.key_commands.specs.declared.options.InitOptions.{InitOptions}
-use Rattle.command_rows.specs.Answer.{Answer}
 use Rattle.command_rows.specs.Answer as answers
-use Rattle.command_rows.specs.Digits.{bytes_spelled}
 use Rattle.command_rows.specs.Gate.{needs, refused_by}
 use Rattle.command_rows.specs.Turn.{AttachRow, DetachRow, DumpRow, FlushRow, GoesThrough, IsRefused, ReadRow, Replies, Serves, WriteRow, digest_or, done_or, dump_or, left_or, payload_or, reaped_or, tag_or, verified_or}
-use Rattle.command_rows.specs.World.{AttachedWith, Attachment, Holding, Kept, Reach, SuspendedWith, attachment_in, kept_in}
 use Rattle.command_rows.specs.verbs.Backup.{BackupRow}
 use Rattle.command_rows.specs.verbs.Delkey.{DelkeyRow}
 use Rattle.command_rows.specs.verbs.Fill.{FillRow}

@@ -1,29 +1,9 @@
 -- Steps that find the last sector, move metadata, destroy them and sweep units.
 use Rattle.std.proofs.Common.{◌≡◌, ◌∙◌, ◌⊎◌, inl, inr, ℕ, ◌+◌, ◌*◌, ◌-◌, ◌==◌, ◌≤◌, List, [], refl, ap, sym, subst, arith, Bool, true, cond, Option, None, Some, Result, Ok, Err}
 use Rattle.std.proofs.lemmas.Bool.{eq-eqb}
-use Rattle.backup_restore.specs.Saving.{Saves}
-use Rattle.block_traits.specs.Causes.{Counted, Rose}
-use Rattle.block_traits.specs.Content.{Content, present}
-use Rattle.block_traits.specs.Disk.{DiskState, Logs, last_sector}
-use Rattle.block_traits.specs.Streams.{EntropyState}
-use Rattle.block_traits.specs.declared.disk.Event.{Event}
-use Rattle.eli_base.specs.Units.{media_sectors}
-use Rattle.eli_base.specs.declared.refusals.Refusal.{Refusal}
+use Rattle.command_rows.specs.Rows.{Attachment, Reach, handed_out}
+use Rattle.command_rows.specs.Vocabulary.{Content, Counted, DiskState, EntropyState, Event, Finds, Kills, Logs, MetaFault, Metadata, Refusal, RefusesOld, RefusesSizes, Resizes, Rose, Saves, StandFrom, Sweep, TakesTrash, failing_units, grown, kill_events, last_sector, media, media_sectors, metadata_in, move_events, old_place, old_refusal, present, refusal_of, sectors_swept, size_refusal, standing, sweep_at, trash_size, units}
 use Rattle.eli_base.specs.declared.refusals.Refusal.TheVariants as refusals
-use Rattle.eli_metadata.specs.Format.{metadata_in}
-use Rattle.eli_metadata.specs.Refusals.{refusal_of}
-use Rattle.eli_metadata.specs.declared.metadata.Metadata.{Metadata}
-use Rattle.eli_metadata.specs.declared.metadata.MetaFault.{MetaFault}
-use Rattle.provider.specs.Attached.{media}
-use Rattle.provider.specs.Reading.{StandFrom, standing}
-use Rattle.resize_kill.specs.Killing.{Kills, kill_events}
-use Rattle.resize_kill.specs.Resizing.{Finds, RefusesOld, RefusesSizes, Resizes, grown, move_events, old_place, old_refusal, size_refusal}
-use Rattle.resize_kill.specs.Trash.{TakesTrash, trash_size}
-use Rattle.sealing.specs.Sectors.{units}
-use Rattle.verify_sweep.specs.Parts.{sweep_at}
-use Rattle.verify_sweep.specs.Sweeping.{Sweep, failing_units, sectors_swept}
-use Rattle.command_rows.specs.Requests.{handed_out}
-use Rattle.command_rows.specs.World.{Attachment, Reach}
 use Rattle.command_rows.specs.verbs.Backup.{FindsLastSector}
 use Rattle.command_rows.specs.verbs.Kill.{DestroysMetadata}
 use Rattle.command_rows.specs.verbs.Resize.{MovesMetadata}

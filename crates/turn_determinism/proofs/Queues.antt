@@ -1,30 +1,14 @@
 -- Steps on the requests that are open.
-use Rattle.std.proofs.Common.{◌≡◌, ◌≢◌, ◌∙◌, ◌⊎◌, inl, inr, ℕ, ◌*◌, ◌<◌, ◌≤◌, List, [], ◌∷◌, ◌++◌, length, take, drop, refl, ap, sym, subst, arith, Bool, true, false, Option, None, Some, Result, Ok, Err}
-use Rattle.std.specs.Prelude.{IsSome}
+use Rattle.std.proofs.Common.{◌≡◌, ◌≢◌, ◌∙◌, ◌⊎◌, inl, inr, ℕ, ◌*◌, ◌<◌, ◌≤◌, List, [], ◌∷◌, ◌++◌, length, take, drop, refl, ap, sym, subst, arith, Bool, true, false, Option, None, Some, Result, Ok, Err, IsSome}
 use Rattle.std.proofs.Math.Seq.{take-append_seam}
-use Rattle.bio_queue.specs.Answers.{AsksReads, Gave, HasBadUnit, IsAdmitted, IsGiven, IsWrite, JobPassesEnd, ReapAnswers, StepAnswers, SubmitAnswers, TakesJob, asked}
-use Rattle.bio_queue.specs.Requests.{IsLeastFree, Request, device_after, exchanged, left_of, next_of, put_in, request_with, step_events, stepped, without}
 use Rattle.bio_queue.specs.Sectors.{opened_data}
-use Rattle.bio_queue.specs.declared.faults.ReapFault.{ReapFault}
 use Rattle.bio_queue.specs.declared.faults.ReapFault.TheVariants as reap
-use Rattle.bio_queue.specs.declared.faults.StepFault.{StepFault}
 use Rattle.bio_queue.specs.declared.faults.StepFault.TheVariants as step
-use Rattle.bio_queue.specs.declared.faults.SubmitFault.{SubmitFault}
 use Rattle.bio_queue.specs.declared.faults.SubmitFault.TheVariants as submit
-use Rattle.bio_queue.specs.declared.job.Job.{Job}
 use Rattle.bio_queue.specs.declared.job.Job.TheVariants as jobs
-use Rattle.bio_queue.specs.declared.job.Reaped.{Reaped}
-use Rattle.bio_queue.specs.Owners.{IsOpenRequest}
-use Rattle.block_traits.specs.Causes.{Rose}
-use Rattle.block_traits.specs.Disk.{DiskState, Logs}
-use Rattle.eli_base.specs.Keying.{Keying}
-use Rattle.eli_base.specs.Units.{media_sectors}
-use Rattle.eli_base.specs.declared.refusals.Refusal.{Refusal}
+use Rattle.command_rows.specs.Rows.{Attachment, IsAttached, NeedsRequest, Reach, or_refusal, with_queue}
+use Rattle.command_rows.specs.Vocabulary.{AsksReads, DiskState, Gave, HasBadUnit, IsAdmitted, IsGiven, IsLeastFree, IsOpenRequest, IsWrite, Job, JobPassesEnd, Keying, Logs, ReapAnswers, ReapFault, Reaped, Refusal, Request, Rose, StepAnswers, StepFault, SubmitAnswers, SubmitFault, TakesJob, asked, device_after, exchanged, left_of, media, media_sectors, next_of, put_in, request_with, step_events, stepped, without}
 use Rattle.eli_base.specs.declared.refusals.Refusal.TheVariants as refusals
-use Rattle.provider.specs.Attached.{media}
-use Rattle.command_rows.specs.Queueing.{NeedsRequest, with_queue}
-use Rattle.command_rows.specs.Steps.{or_refusal}
-use Rattle.command_rows.specs.World.{Attachment, IsAttached, Reach}
 use Rattle.command_rows.specs.verbs.Reap.{ReapsRequest, reap_answer}
 use Rattle.command_rows.specs.verbs.Step.{StepsRequest, step_refusal}
 use Rattle.command_rows.specs.verbs.Submit.{Submits, submit_refusal}

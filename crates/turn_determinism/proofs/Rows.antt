@@ -1,26 +1,11 @@
 -- Each row does one thing.
-use Rattle.std.proofs.Common.{ℕ, ◌*◌, List, [], length, subst, Bool, Option, None, Some, Result, Ok}
-use Rattle.std.specs.Prelude.{ℤ, MatchOption, unwrap_or}
+use Rattle.std.proofs.Common.{ℕ, ◌*◌, List, [], length, subst, Bool, Option, None, Some, Result, Ok, ℤ, MatchOption, unwrap_or}
 use Rattle.std.specs.Option.{option_or}
 use Rattle.bio_queue.specs.declared.job.Job.TheVariants as jobs
-use Rattle.command_words.specs.Places.{bytes_at}
-use Rattle.command_words.specs.declared.commands.JobWords.{JobWords}
+use Rattle.command_rows.specs.Rows.{Admits, Attaches, Attachment, BacksUp, Decides, Holding, Kept, LoadsComponents, LoadsFile, MakesProvider, NeedsRequest, NeedsSectors, NeedsWhole, NeedsWritable, Reach, ReadsLastSector, ReadsSectors, StoresBytes, Then, TriesKey, TryRow, WritesSectors, attachment_in, bytes_spelled, if_writable, tried, whole_sectors}
+use Rattle.command_rows.specs.Vocabulary.{InitOptions, JobWords, KeyWords, Refusal, Span, bytes_at, file_limit, has_tags, le64, sha256, user_key}
 use Rattle.command_words.specs.declared.commands.JobWords.TheVariants as words
-use Rattle.command_words.specs.declared.spans.KeyWords.{KeyWords}
-use Rattle.command_words.specs.declared.spans.Span.{Span}
-use Rattle.eli_base.specs.declared.refusals.Refusal.{Refusal}
-use Rattle.key_commands.specs.declared.options.InitOptions.{InitOptions}
-use Rattle.key_components.specs.Files.{file_limit}
-use Rattle.provider.specs.Attached.{has_tags}
-use Rattle.range_keys.specs.Keys.{le64}
-use Rattle.sha2.specs.Sha256.{sha256}
-use Rattle.user_key.specs.Derivation.{user_key}
-use Rattle.command_rows.specs.Digits.{bytes_spelled}
-use Rattle.command_rows.specs.Queueing.{NeedsRequest}
-use Rattle.command_rows.specs.Steps.{Admits, Attaches, BacksUp, Decides, LoadsComponents, LoadsFile, MakesProvider, NeedsSectors, NeedsWhole, NeedsWritable, ReadsLastSector, ReadsSectors, StoresBytes, Then, TriesKey, WritesSectors, if_writable, tried, whole_sectors}
-use Rattle.command_rows.specs.Trying.{TryRow}
 use Rattle.command_rows.specs.Turn.{AttachRow, AttachesUnless, ReadRow, WriteRow}
-use Rattle.command_rows.specs.World.{Attachment, Holding, Kept, Reach, attachment_in}
 use Rattle.command_rows.specs.verbs.Backup.{BackupRow, FindsLastSector}
 use Rattle.command_rows.specs.verbs.Delkey.{DeletesRow, DelkeyRow, NamesSlots, named_slots, slot_of}
 use Rattle.command_rows.specs.verbs.Fill.{FillRow, words_of_sectors, workload}

@@ -1,14 +1,9 @@
 -- Steps that do one thing, one after another.
 use Rattle.std.proofs.Common.{◌≡◌, ◌≢◌, ◌∙◌, ℕ, ◌≤◌, refl, ap, sym, subst, arith, Bool, true, Result, Ok, Err}
-use Rattle.block_traits.specs.Cabinet.{CabinetState}
-use Rattle.block_traits.specs.Causes.{Rose}
-use Rattle.block_traits.specs.Disk.{DiskState}
-use Rattle.block_traits.specs.Streams.{EntropyState}
-use Rattle.eli_base.specs.declared.refusals.Refusal.{Refusal}
+use Rattle.command_rows.specs.Rows.{GoesOn, Reach, Then}
+use Rattle.command_rows.specs.Vocabulary.{CabinetState, DiskState, EntropyState, Refusal, Rose}
 use Rattle.eli_base.specs.declared.refusals.Refusal.TheVariants as refusals
 use Rattle.command_rows.specs.Fits.{FailsNowhere}
-use Rattle.command_rows.specs.Steps.{GoesOn, Then}
-use Rattle.command_rows.specs.World.{Reach}
 use Rattle.turn_determinism.specs.Same.{IsSameCount, LoadsUnlessMissed}
 use Rattle.turn_determinism.proofs.Alike.{Alike, still_alike, uncounted_same}
 

@@ -1,18 +1,13 @@
 -- Each turn does one thing to the world.
-use Rattle.std.proofs.Common.{◌≡◌, ◌∙◌, ℕ, zero, suc, List, [], ◌∷◌, ◌++◌, take, drop, refl, ap, sym, subst, Bool, true, false, Option, None, Some, slice_get, map}
-use Rattle.std.specs.Prelude.{IfSome, IsSome, MatchOption}
+use Rattle.std.proofs.Common.{◌≡◌, ◌∙◌, ℕ, zero, suc, List, [], ◌∷◌, ◌++◌, take, drop, refl, ap, sym, subst, Bool, true, false, Option, None, Some, slice_get, map, IfSome, IsSome, MatchOption}
 use Rattle.std.proofs.Math.ListN.{set}
-use Rattle.block_traits.specs.Disk.{DiskState}
-use Rattle.command_words.specs.Places.{bytes_at, provider_of}
-use Rattle.command_words.specs.declared.commands.Command.{Command}
-use Rattle.command_words.specs.declared.spans.Span.{Span}
+use Rattle.command_rows.specs.Rows.{Answer, DrawerState, Holding, Idle, IsAttached, IsSuspended, Reach, World, place_of}
+use Rattle.command_rows.specs.Vocabulary.{Command, DiskState, Span, bytes_at, provider_of}
 use Rattle.eli_base.specs.declared.refusals.Refusal.TheVariants as refusals
-use Rattle.command_rows.specs.Answer.{Answer}
 use Rattle.command_rows.specs.Answer as answers
 use Rattle.command_rows.specs.Counts.{CountsFailures}
 use Rattle.command_rows.specs.Fits.{FailsNowhere}
 use Rattle.command_rows.specs.Turn.{ChangesAt, IsUnknown, ListsDrawers, ListsAs, Serves, ServesAt, TakesOutDrawer, Turn, TurnOf, entry_by, entry_of, reach, takes_out}
-use Rattle.command_rows.specs.World.{DrawerState, Holding, Idle, IsAttached, IsSuspended, Reach, World, place_of}
 use Rattle.command_rows.proofs.Lines.{line_did}
 use Rattle.command_rows.proofs.Untouched.{get-set}
 use Rattle.command_rows.proofs.LineCounts.{turn_counts}

@@ -1,6 +1,6 @@
 -- Where a drawer stands.
 use Rattle.std.specs.Prelude.{◌≡◌, ℕ, List, Some, slice_get}
-use Rattle.command_rows.specs.World.{DrawerState, World, place_of}
+use Rattle.command_rows.specs.Rows.{DrawerState, World, place_of}
 
 -- the drawer stands at this place
 abbrev pub StandsAt : World → ℕ → DrawerState → Type 0

@@ -1,12 +1,9 @@
 -- Lines in which nothing outside fails, and no memory lacks.
 use Rattle.std.specs.Prelude.{◌≡◌, ◌≢◌, ℕ, List, IfSome}
-use Rattle.block_traits.specs.Causes.{Rose}
-use Rattle.command_words.specs.Places.{bytes_at, provider_of}
-use Rattle.command_words.specs.declared.commands.Command.{Command}
+use Rattle.command_rows.specs.Rows.{Answer, DrawerState, World}
+use Rattle.command_rows.specs.Vocabulary.{Command, Rose, bytes_at, provider_of}
 use Rattle.eli_base.specs.declared.refusals.Refusal.TheVariants as refusals
-use Rattle.command_rows.specs.Answer.{Answer}
 use Rattle.command_rows.specs.Answer as answers
-use Rattle.command_rows.specs.World.{DrawerState, World}
 use Rattle.turn_determinism.specs.Places.{IsNamedAt, StandsAt}
 
 -- the count of faults of the disk of the drawer with this name didn't rise, if the drawer is in its place still

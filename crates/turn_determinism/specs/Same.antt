@@ -1,13 +1,9 @@
 -- Worlds that are the same, in all but what no line says.
 use Rattle.std.specs.Prelude.{◌≡◌, ℕ, ◌-◌, ◌^◌, min, List, [], ◌∷◌}
-use Rattle.block_traits.specs.Cabinet.{CabinetState}
-use Rattle.block_traits.specs.Disk.{DiskState}
-use Rattle.block_traits.specs.Streams.{EntropyState}
-use Rattle.eli_base.specs.declared.refusals.Refusal.{Refusal}
+use Rattle.command_rows.specs.Rows.{Answer, DrawerState, World}
+use Rattle.command_rows.specs.Vocabulary.{CabinetState, DiskState, EntropyState, Refusal}
 use Rattle.eli_base.specs.declared.refusals.Refusal.TheVariants as refusals
-use Rattle.command_rows.specs.Answer.{Answer}
 use Rattle.command_rows.specs.Answer as answers
-use Rattle.command_rows.specs.World.{DrawerState, World}
 
 -- both counts are the same, or neither is below the last value
 abbrev pub IsSameCount : ℕ → ℕ → Type 0

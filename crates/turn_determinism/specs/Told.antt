@@ -1,8 +1,7 @@
 -- Objects that tell what they hold.
 use Rattle.std.specs.Prelude.{ℕ, List, IfSome, IsSome}
-use Rattle.command_words.specs.Places.{bytes_at, provider_of}
-use Rattle.command_words.specs.declared.commands.Command.{Command}
-use Rattle.command_rows.specs.World.{DrawerState, World}
+use Rattle.command_rows.specs.Rows.{DrawerState, World}
+use Rattle.command_rows.specs.Vocabulary.{Command, bytes_at, provider_of}
 use Rattle.turn_determinism.specs.Places.{IsNamedAt}
 
 -- the disk of the drawer with this name tells its content, if there is such a drawer

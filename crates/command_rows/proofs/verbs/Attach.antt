@@ -1,33 +1,14 @@
 -- That `attach` is lawful.
 use Rattle.std.proofs.Common.{Bool, Err, List, None, Ok, Option, Result, ap, false, inl, inr, refl, subst, true, ℕ, ◌∙◌, ◌≡◌, ◌⊎◌}
-use Rattle.command_words.specs.declared.commands.Command.{Command}
 use Rattle.command_words.specs.declared.commands.Command.TheVariants as commands
-use Rattle.command_words.specs.declared.spans.KeyWords.{KeyWords}
-use Rattle.command_words.specs.declared.spans.Span.{Span}
-use Rattle.eli_base.specs.declared.refusals.Refusal.{Refusal}
 use Rattle.eli_base.specs.declared.refusals.Refusal.TheVariants as refusals
-use Rattle.command_rows.specs.Answer.{Answer}
-use Rattle.command_rows.specs.Becoming.{Becomes}
-use Rattle.command_rows.specs.Causes.{may_lack_memory}
-use Rattle.command_rows.specs.Gate.{AnIdle, refused_by}
-use Rattle.command_rows.specs.Replies.{done_or}
-use Rattle.command_rows.specs.Steps.{GoesOn}
-use Rattle.command_rows.specs.Trying.{TryRow}
-use Rattle.command_rows.specs.World.{Attachment, Holding, Idle, IsAttached, IsSuspended, Reach, attachment_in}
+use Rattle.command_rows.specs.Rows.{Answer, Attachment, GoesOn, Holding, Idle, IsAttached, IsSuspended, Reach, TryRow, attachment_in, done_or}
+use Rattle.command_rows.specs.Vocabulary.{Command, KeyWords, Refusal, Span}
 use Rattle.command_rows.specs.verbs.Attach.{AttachRow, AttachesUnless, OpensWith}
-use Rattle.command_rows.proofs.Becoming.{becomes_as, same_reach, some_is_none, try_stays}
-use Rattle.command_rows.proofs.Causing.{Why, then_why}
-use Rattle.command_rows.proofs.Counting.{Counts, attaching_counts, decision_counts, then_counts}
-use Rattle.command_rows.proofs.Events.{Quiet, quiet_attaching, quiet_did, quiet_then, quiet_trial, same_disk}
-use Rattle.command_rows.proofs.Fitting.{apart_out, attach_fits, false_is_true, no_bad_file}
 use Rattle.command_rows.proofs.Keyed.{GivesAttachment, attachment_keyed, try_gives}
-use Rattle.command_rows.proofs.Lawful.{IsLawful, nothing_changed, reply_line, row_refused}
 use Rattle.command_rows.proofs.ProviderCauses.{attaching_why, trial_why}
-use Rattle.command_rows.proofs.Replies.{done_replying}
-use Rattle.command_rows.proofs.Sound.{Keeps, Sound, attaches_keep, keeps_next, sound_reply, try_sound}
-use Rattle.command_rows.proofs.Storing.{Unstored, attaching_unstored, done_unstored, try_row, unstored_reply, unstored_then}
 use Rattle.command_rows.proofs.SuspendCauses.{trial_opens}
-use Rattle.command_rows.proofs.Keeping.{IsNew, KeepsRequests, NoneOpen, attached_new, none_try}
+use Rattle.command_rows.proofs.VerbLaws.{AnIdle, Becomes, Counts, IsLawful, IsNew, Keeps, KeepsRequests, NoneOpen, Quiet, Sound, Unstored, Why, apart_out, attach_fits, attached_new, attaches_keep, attaching_counts, attaching_unstored, becomes_as, decision_counts, done_replying, done_unstored, false_is_true, keeps_next, may_lack_memory, no_bad_file, none_try, nothing_changed, quiet_attaching, quiet_did, quiet_then, quiet_trial, refused_by, reply_line, row_refused, same_disk, same_reach, some_is_none, sound_reply, then_counts, then_why, try_row, try_sound, try_stays, unstored_reply, unstored_then}
 
 quiet_unless : (only_check : Bool) (a : Attachment) → Quiet (AttachesUnless only_check a)
 quiet_unless true a old answer new h = same_disk old.disk new.disk (ap (λ (r : Reach). r.disk) h.1)

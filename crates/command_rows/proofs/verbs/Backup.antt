@@ -1,33 +1,11 @@
 -- That `backup` is lawful.
 use Rattle.std.proofs.Common.{Err, List, Ok, Result, Some, [], ap, arith, false, inl, inr, refl, subst, sym, ℕ}
-use Rattle.backup_restore.specs.Saving.{Saves}
-use Rattle.block_traits.specs.Disk.{DiskState, Logs}
-use Rattle.command_words.specs.declared.commands.Command.{Command}
 use Rattle.command_words.specs.declared.commands.Command.TheVariants as commands
-use Rattle.command_words.specs.declared.spans.Span.{Span}
-use Rattle.eli_base.specs.declared.refusals.Refusal.{Refusal}
 use Rattle.eli_base.specs.declared.refusals.Refusal.TheVariants as refusals
-use Rattle.eli_metadata.specs.Refusals.{refusal_of}
-use Rattle.command_rows.specs.Findings.{HoldsNone, LacksMetadata}
-use Rattle.command_rows.specs.Grounds.{IsGround}
-use Rattle.command_rows.specs.Replies.{done_or}
-use Rattle.command_rows.specs.Requests.{handed_out}
-use Rattle.command_rows.specs.Steps.{StoresBytes}
-use Rattle.command_rows.specs.World.{Reach}
+use Rattle.command_rows.specs.Rows.{HoldsNone, LacksMetadata, Reach, StoresBytes, done_or, handed_out}
+use Rattle.command_rows.specs.Vocabulary.{Command, DiskState, Logs, Refusal, Saves, Span, refusal_of}
 use Rattle.command_rows.specs.verbs.Backup.{BackupRow, FindsLastSector}
-use Rattle.command_rows.proofs.Becoming.{Stays, stays_quiet, stays_then}
-use Rattle.command_rows.proofs.Causing.{Why, then_why}
-use Rattle.command_rows.proofs.Counting.{Counts, Uncounted, UncountedAnswer, plain_uncounted, uncounted_step}
-use Rattle.command_rows.proofs.Events.{Quiet, quiet_did, quiet_failure, quiet_then, same_disk}
-use Rattle.command_rows.proofs.Fitting.{apart_out, false_is_true, has_metadata}
-use Rattle.command_rows.proofs.Grounding.{Grounds, plain_cause, storing_why}
-use Rattle.command_rows.proofs.Lawful.{IsLawful, nothing_changed, reply_line, row_refused}
-use Rattle.command_rows.proofs.PlaceEvents.{quiet_storing}
-use Rattle.command_rows.proofs.Plain.{meta_plain}
-use Rattle.command_rows.proofs.Replies.{done_replying}
-use Rattle.command_rows.proofs.Sound.{Sound, sound_reply, sound_step, sound_then, storing_sound}
-use Rattle.command_rows.proofs.Storing.{Stored, Unstored, bytes_stored, same_files, stored_then}
-use Rattle.command_rows.proofs.Keeping.{row_keeps}
+use Rattle.command_rows.proofs.VerbLaws.{Counts, Grounds, IsGround, IsLawful, Quiet, Sound, Stays, Stored, Uncounted, UncountedAnswer, Unstored, Why, apart_out, bytes_stored, done_replying, false_is_true, has_metadata, meta_plain, nothing_changed, plain_cause, plain_uncounted, quiet_did, quiet_failure, quiet_storing, quiet_then, reply_line, row_keeps, row_refused, same_disk, same_files, sound_reply, sound_step, sound_then, stays_quiet, stays_then, stored_then, storing_sound, storing_why, then_why, uncounted_step}
 
 quiet_saves : (old : DiskState) (before : List ℕ) (read : Result (Unit {0}) Refusal) (bytes : List ℕ) (new : DiskState) → Saves old before read bytes new → Logs [] old new
 quiet_saves old before (Ok done) bytes new h = h.reads.logs

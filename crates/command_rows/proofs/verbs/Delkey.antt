@@ -2,41 +2,15 @@
 use Rattle.std.proofs.Common.{Bool, Err, List, None, Ok, Option, Result, Some, ap, cond, false, inl, inr, refl, subst, sym, take, true, ℕ, ◌-◌, ◌∙◌, ◌≡◌, ◌⊎◌}
 use Rattle.std.specs.Option.{option_or}
 use Rattle.block_traits.proofs.Causes.{Rose-earlier}
-use Rattle.block_traits.specs.Disk.{DiskState}
-use Rattle.block_traits.specs.Moments.{HoldsOldOr, HoldsOnceFlushed}
-use Rattle.block_traits.specs.Overwriting.{overwrite_events}
-use Rattle.block_traits.specs.Streams.{EntropyState}
-use Rattle.command_words.specs.declared.commands.Command.{Command}
 use Rattle.command_words.specs.declared.commands.Command.TheVariants as commands
-use Rattle.command_words.specs.declared.spans.Span.{Span}
-use Rattle.eli_base.specs.declared.refusals.Refusal.{Refusal}
 use Rattle.eli_base.specs.declared.refusals.Refusal.TheVariants as refusals
-use Rattle.eli_metadata.specs.Format.{encoded}
-use Rattle.eli_metadata.specs.declared.metadata.Metadata.{Metadata}
 use Rattle.key_commands.proofs.Passes.{HasOtherKeys-Deletes, KeepsAlone-Deletes, Overwrites-Deletes, Overwrites-DeletesPart}
-use Rattle.key_commands.specs.DeleteKeys.{DeletesKeys, Deletion, Overwrites}
-use Rattle.key_commands.specs.Overwriting.{HasNoKey, deletion_refusal, pass_events, pass_sectors}
 use Rattle.key_commands.specs.declared.overwriting.Which.{Which}
 use Rattle.key_commands.specs.declared.overwriting.Which.TheVariants as slots
-use Rattle.command_rows.specs.Findings.{HasMetadata, LacksMetadata}
-use Rattle.command_rows.specs.Replies.{done_or}
-use Rattle.command_rows.specs.Steps.{ReadsLastSector, Then, without_value}
-use Rattle.command_rows.specs.Stops.{ChangesMetadata}
-use Rattle.command_rows.specs.World.{Holding, Reach}
+use Rattle.command_rows.specs.Rows.{HasMetadata, Holding, LacksMetadata, Reach, ReadsLastSector, Then, done_or, without_value}
+use Rattle.command_rows.specs.Vocabulary.{Command, DeletesKeys, Deletion, DiskState, EntropyState, HasNoKey, HoldsOldOr, HoldsOnceFlushed, Metadata, Overwrites, Refusal, Span, deletion_refusal, encoded, overwrite_events, pass_events, pass_sectors}
 use Rattle.command_rows.specs.verbs.Delkey.{ClearsKeys, DeletesRow, DelkeyRow, FindsSlots, NamesSlots, OverwritesKeys, RefusesDelkey, RefusesSlots, TakesKeysOut, named_slots, slot_of}
-use Rattle.command_rows.proofs.Becoming.{Stays, same_reach, stays_so, stays_then}
-use Rattle.command_rows.proofs.Causing.{Why, then_since, then_why}
-use Rattle.command_rows.proofs.Counting.{Counts, CountsResult, Later, beside, by_plain, some_uncounted, uncounted_step}
-use Rattle.command_rows.proofs.Events.{Did, nothing_done, quiet_reading, same_disk}
-use Rattle.command_rows.proofs.Fitting.{apart_out, false_is_true, has_metadata, has_same, not_both, not_some}
-use Rattle.command_rows.proofs.Grounding.{Grounds, Since, decides_why, plain_cause, reading_has, reading_since, reading_why, since_same}
-use Rattle.command_rows.proofs.KeyEvents.{DoesFrom, after_quiet, quiet_same}
-use Rattle.command_rows.proofs.Lawful.{IsLawful, done_left, reply_line, row_refused}
-use Rattle.command_rows.proofs.Plain.{PlainAnswer, PlainOption, plain_some}
-use Rattle.command_rows.proofs.Replies.{done_replying}
-use Rattle.command_rows.proofs.Sound.{Sound, reading_sound, sound_decision, sound_reply, sound_step, sound_then}
-use Rattle.command_rows.proofs.Stopping.{Change, Left, Same, alone_from, before_all, early_decision, early_reading, left_then, moments_from, not_done}
-use Rattle.command_rows.proofs.Storing.{Unstored, decision_unstored, reading_unstored, same_files, unstored_reply, unstored_then}
+use Rattle.command_rows.proofs.VerbLaws.{Change, ChangesMetadata, Counts, CountsResult, Did, DoesFrom, Grounds, IsLawful, Later, Left, PlainAnswer, PlainOption, Same, Since, Sound, Stays, Unstored, Why, after_quiet, alone_from, apart_out, before_all, beside, by_plain, decides_why, decision_unstored, done_left, done_replying, early_decision, early_reading, false_is_true, has_metadata, has_same, left_then, moments_from, not_both, not_done, not_some, nothing_done, plain_cause, plain_some, quiet_reading, quiet_same, reading_has, reading_since, reading_sound, reading_unstored, reading_why, reply_line, row_refused, same_disk, same_files, same_reach, since_same, some_uncounted, sound_decision, sound_reply, sound_step, sound_then, stays_so, stays_then, then_since, then_why, uncounted_step, unstored_reply, unstored_then}
 
 same_passes : (disk start : DiskState) (asked : Deletion) (random : List ℕ) → disk.size ≡ start.size → pass_events disk asked.meta asked.which random ≡ pass_events start asked.meta asked.which random
 same_passes disk start asked random size = ap (λ (n : ℕ). overwrite_events (n - 1) (pass_sectors asked.meta asked.which random)) size

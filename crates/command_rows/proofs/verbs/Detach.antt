@@ -1,23 +1,11 @@
 -- That `detach` is lawful.
 use Rattle.std.proofs.Common.{List, Result, [], ap, false, inl, inr, refl, ℕ, ◌∷◌, ◌≡◌}
 use Rattle.block_traits.specs.declared.disk.Event.TheVariants.{Flush}
-use Rattle.command_words.specs.declared.commands.Command.{Command}
 use Rattle.command_words.specs.declared.commands.Command.TheVariants as commands
-use Rattle.command_words.specs.declared.spans.Span.{Span}
-use Rattle.eli_base.specs.declared.refusals.Refusal.{Refusal}
-use Rattle.command_rows.specs.Replies.{done_or}
-use Rattle.command_rows.specs.Steps.{Detaches}
-use Rattle.command_rows.specs.World.{Idle, Reach, attachment_in}
+use Rattle.command_rows.specs.Rows.{Detaches, Idle, Reach, attachment_in, done_or}
+use Rattle.command_rows.specs.Vocabulary.{Command, Refusal, Span}
 use Rattle.command_rows.specs.verbs.Detach.{DetachRow}
-use Rattle.command_rows.proofs.Becoming.{becomes_as}
-use Rattle.command_rows.proofs.Causing.{Why, events_why}
-use Rattle.command_rows.proofs.Counting.{Counts, does_uncounted, uncounted_step}
-use Rattle.command_rows.proofs.Events.{Did, does_did}
-use Rattle.command_rows.proofs.Fitting.{apart_out, false_is_true}
-use Rattle.command_rows.proofs.Lawful.{IsLawful, nothing_changed, reply_line, row_refused}
-use Rattle.command_rows.proofs.Replies.{done_replying}
-use Rattle.command_rows.proofs.Sound.{Sound, idles, sound_reply}
-use Rattle.command_rows.proofs.Storing.{Unstored, same_files, unstored_reply}
+use Rattle.command_rows.proofs.VerbLaws.{Counts, Did, IsLawful, Sound, Unstored, Why, apart_out, becomes_as, does_did, does_uncounted, done_replying, events_why, false_is_true, idles, nothing_changed, reply_line, row_refused, same_files, sound_reply, uncounted_step, unstored_reply}
 
 detach_why : (line : List ℕ) (command : Command) (old : Reach) (answer : Result (Unit {0}) Refusal) (new : Reach) → DetachRow old answer new → Why line command old answer new
 detach_why line command old answer new h = events_why line command (Flush ∷ []) old answer new h.flushes

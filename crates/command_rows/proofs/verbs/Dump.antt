@@ -1,22 +1,10 @@
 -- That `dump` is lawful.
 use Rattle.std.proofs.Common.{List, Result, false, refl, ℕ}
 use Rattle.command_words.specs.declared.commands.Command.TheVariants as commands
-use Rattle.command_words.specs.declared.spans.Span.{Span}
-use Rattle.eli_base.specs.declared.refusals.Refusal.{Refusal}
-use Rattle.eli_metadata.specs.declared.metadata.Metadata.{Metadata}
-use Rattle.command_rows.specs.Replies.{dump_or}
-use Rattle.command_rows.specs.World.{Reach}
+use Rattle.command_rows.specs.Rows.{Reach, dump_or}
+use Rattle.command_rows.specs.Vocabulary.{Metadata, Refusal, Span}
 use Rattle.command_rows.specs.verbs.Dump.{DumpRow}
-use Rattle.command_rows.proofs.Becoming.{stays_quiet}
-use Rattle.command_rows.proofs.Causing.{Why}
-use Rattle.command_rows.proofs.Events.{quiet_did, quiet_reading}
-use Rattle.command_rows.proofs.Fitting.{apart_out, false_is_true, has_metadata}
-use Rattle.command_rows.proofs.Grounding.{reading_why}
-use Rattle.command_rows.proofs.Lawful.{IsLawful, nothing_changed, reply_line, row_refused}
-use Rattle.command_rows.proofs.Replies.{dump_replying}
-use Rattle.command_rows.proofs.Sound.{reading_sound, sound_reply}
-use Rattle.command_rows.proofs.Storing.{reading_unstored, unstored_reply}
-use Rattle.command_rows.proofs.Keeping.{row_keeps}
+use Rattle.command_rows.proofs.VerbLaws.{IsLawful, Why, apart_out, dump_replying, false_is_true, has_metadata, nothing_changed, quiet_did, quiet_reading, reading_sound, reading_unstored, reading_why, reply_line, row_keeps, row_refused, sound_reply, stays_quiet, unstored_reply}
 
 dump_why : (line : List ℕ) (prov : Span) (old : Reach) (answer : Result Metadata Refusal) (new : Reach) → DumpRow old answer new → Why line (commands.Dump prov) old answer new
 dump_why line prov old answer new h = reading_why line (commands.Dump prov) old answer new (λ refusal lacks. lacks) h

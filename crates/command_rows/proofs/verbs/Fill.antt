@@ -1,27 +1,10 @@
 -- That `fill` is lawful.
 use Rattle.std.proofs.Common.{List, None, Result, false, refl, subst, sym, ℕ, ◌∙◌, ◌≡◌}
 use Rattle.command_words.specs.declared.commands.Command.TheVariants as commands
-use Rattle.command_words.specs.declared.spans.Span.{Span}
-use Rattle.eli_base.specs.declared.refusals.Refusal.{Refusal}
-use Rattle.provider.specs.Attached.{media}
-use Rattle.command_rows.specs.Becoming.{Becomes}
-use Rattle.command_rows.specs.Causes.{LineHasCause}
-use Rattle.command_rows.specs.Gate.{needs, refused_by}
-use Rattle.command_rows.specs.Replies.{done_or}
-use Rattle.command_rows.specs.Steps.{NeedsSectors, NeedsWritable}
-use Rattle.command_rows.specs.Storing.{StoresNone}
-use Rattle.command_rows.specs.World.{AttachedWith, Attachment, Holding, IsAttached, Reach}
+use Rattle.command_rows.specs.Rows.{AttachedWith, Attachment, Holding, IsAttached, NeedsSectors, NeedsWritable, Reach, done_or}
+use Rattle.command_rows.specs.Vocabulary.{Refusal, Span, media}
 use Rattle.command_rows.specs.verbs.Fill.{FillRow, FitsFill, WritesWorkload, words_of_sectors, workload}
-use Rattle.command_rows.proofs.Becoming.{Stays, same_reach, stays_so, stays_then}
-use Rattle.command_rows.proofs.Causing.{Why, writable_write_why}
-use Rattle.command_rows.proofs.Events.{Did, writable_did}
-use Rattle.command_rows.proofs.Fitting.{RulesOut, false_is_true, never_both, never_holds, passes}
-use Rattle.command_rows.proofs.Gate.{with_attached}
-use Rattle.command_rows.proofs.Lawful.{IsLawful, LineDid, nothing_changed, reply_line, row_refused}
-use Rattle.command_rows.proofs.Replies.{done_replying}
-use Rattle.command_rows.proofs.Sound.{Sound, SoundReply, doing_sound, range_sound, sound_reply, sound_then, writable_sound}
-use Rattle.command_rows.proofs.Storing.{Unstored, doing_unstored, range_unstored, unstored_reply, unstored_then, writable_unstored}
-use Rattle.command_rows.proofs.Keeping.{attached_keeps}
+use Rattle.command_rows.proofs.VerbLaws.{Becomes, Did, IsLawful, LineDid, LineHasCause, RulesOut, Sound, SoundReply, Stays, StoresNone, Unstored, Why, attached_keeps, doing_sound, doing_unstored, done_replying, false_is_true, needs, never_both, never_holds, nothing_changed, passes, range_sound, range_unstored, refused_by, reply_line, row_refused, same_reach, sound_reply, sound_then, stays_so, stays_then, unstored_reply, unstored_then, with_attached, writable_did, writable_sound, writable_unstored, writable_write_why}
 
 fill_sound : (seed start count : ℕ) (a : Attachment) → Sound (FillRow seed start count a)
 fill_sound seed start count a =

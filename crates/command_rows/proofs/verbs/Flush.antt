@@ -1,22 +1,11 @@
 -- That `flush` is lawful.
 use Rattle.std.proofs.Common.{List, Result, [], false, refl, ℕ, ◌∷◌, ◌≡◌}
 use Rattle.block_traits.specs.declared.disk.Event.TheVariants.{Flush}
-use Rattle.command_words.specs.declared.commands.Command.{Command}
 use Rattle.command_words.specs.declared.commands.Command.TheVariants as commands
-use Rattle.command_words.specs.declared.spans.Span.{Span}
-use Rattle.eli_base.specs.declared.refusals.Refusal.{Refusal}
-use Rattle.command_rows.specs.Replies.{done_or}
-use Rattle.command_rows.specs.World.{Reach}
+use Rattle.command_rows.specs.Rows.{Reach, done_or}
+use Rattle.command_rows.specs.Vocabulary.{Command, Refusal, Span}
 use Rattle.command_rows.specs.verbs.Flush.{FlushRow}
-use Rattle.command_rows.proofs.Becoming.{stays_so}
-use Rattle.command_rows.proofs.Causing.{Why, events_why}
-use Rattle.command_rows.proofs.Events.{Did, does_did}
-use Rattle.command_rows.proofs.Fitting.{apart_out, false_is_true}
-use Rattle.command_rows.proofs.Lawful.{IsLawful, nothing_changed, reply_line, row_refused}
-use Rattle.command_rows.proofs.Replies.{done_replying}
-use Rattle.command_rows.proofs.Sound.{Sound, doing_sound, sound_reply}
-use Rattle.command_rows.proofs.Storing.{doing_unstored, unstored_reply}
-use Rattle.command_rows.proofs.Keeping.{row_keeps}
+use Rattle.command_rows.proofs.VerbLaws.{Did, IsLawful, Sound, Why, apart_out, does_did, doing_sound, doing_unstored, done_replying, events_why, false_is_true, nothing_changed, reply_line, row_keeps, row_refused, sound_reply, stays_so, unstored_reply}
 
 flush_why : (line : List ℕ) (command : Command) (old : Reach) (answer : Result (Unit {0}) Refusal) (new : Reach) → FlushRow old answer new → Why line command old answer new
 flush_why line command old answer new h = events_why line command (Flush ∷ []) old answer new h.does

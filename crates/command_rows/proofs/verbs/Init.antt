@@ -1,52 +1,15 @@
 -- That `init` is lawful.
-use Rattle.std.proofs.Common.{Bool, Err, List, None, Ok, Option, Result, Some, [], ap, arith, cond, false, inl, inr, refl, subst, sym, take, true, ℕ, ◌*◌, ◌∙◌, ◌≡◌, ◌≤◌}
-use Rattle.std.specs.Prelude.{is_some, ℤ}
+use Rattle.std.proofs.Common.{Bool, Err, List, None, Ok, Option, Result, Some, [], ap, arith, cond, false, inl, inr, refl, subst, sym, take, true, ℕ, ◌*◌, ◌∙◌, ◌≡◌, ◌≤◌, is_some, ℤ}
 use Rattle.block_traits.proofs.Causes.{Rose-earlier}
-use Rattle.block_traits.specs.Cabinet.{CabinetState, Files}
-use Rattle.block_traits.specs.Disk.{DiskState, Logs}
-use Rattle.block_traits.specs.Moments.{HoldsOldOr}
-use Rattle.command_words.specs.declared.commands.Command.{Command}
 use Rattle.command_words.specs.declared.commands.Command.TheVariants as commands
-use Rattle.command_words.specs.declared.spans.KeyWords.{KeyWords}
-use Rattle.command_words.specs.declared.spans.Span.{Span}
-use Rattle.eli_base.specs.declared.algorithms.Auth.{Auth}
 use Rattle.eli_base.specs.declared.algorithms.Cipher.{Cipher}
-use Rattle.eli_base.specs.declared.refusals.Refusal.{Refusal}
 use Rattle.eli_base.specs.declared.refusals.Refusal.TheVariants as refusals
 use Rattle.eli_metadata.proofs.Replaced.{KeepsOldOr-replace, KeepsOldOr-replace_part}
-use Rattle.eli_metadata.specs.Format.{encoded}
-use Rattle.eli_metadata.specs.Place.{IsSectorOf, replace_events}
-use Rattle.eli_metadata.specs.declared.metadata.Metadata.{Metadata}
 use Rattle.key_commands.proofs.Making.{IsUsable-makes, KeepsAlone-replace}
-use Rattle.key_commands.specs.NewProvider.{Inits}
-use Rattle.key_commands.specs.Options.{early_refusal, key_refusal}
-use Rattle.key_commands.specs.Random.{master_key_in}
-use Rattle.key_commands.specs.Usable.{IsUsable}
-use Rattle.key_commands.specs.declared.options.InitOptions.{InitOptions}
-use Rattle.user_key.specs.Derivation.{user_key}
-use Rattle.user_key.specs.declared.components.Components.{Components}
-use Rattle.user_key.specs.declared.components.KeyFault.{KeyFault}
-use Rattle.user_key.specs.declared.components.UserKey.{UserKey}
-use Rattle.command_rows.specs.Causes.{may_lack_memory}
-use Rattle.command_rows.specs.Findings.{AreComponents, RefusesFiles, WritesMetadata}
-use Rattle.command_rows.specs.Replies.{done_or}
-use Rattle.command_rows.specs.Steps.{BacksUp, GoesOn, LoadsComponents, MakesProvider, Then}
-use Rattle.command_rows.specs.Stops.{ChangesMetadata}
-use Rattle.command_rows.specs.World.{Reach}
+use Rattle.command_rows.specs.Rows.{AreComponents, BacksUp, GoesOn, LoadsComponents, MakesProvider, Reach, RefusesFiles, Then, WritesMetadata, done_or}
+use Rattle.command_rows.specs.Vocabulary.{Auth, CabinetState, Command, Components, DiskState, Files, HoldsOldOr, InitOptions, Inits, IsSectorOf, IsUsable, KeyFault, KeyWords, Logs, Metadata, Refusal, Span, UserKey, early_refusal, encoded, key_refusal, master_key_in, replace_events, user_key}
 use Rattle.command_rows.specs.verbs.Init.{FindsNew, InitRow, PutsNew, RefusesNew}
-use Rattle.command_rows.proofs.Becoming.{Stays, stays_so, stays_then}
-use Rattle.command_rows.proofs.Causing.{Why, then_since, then_why}
-use Rattle.command_rows.proofs.Counting.{Counts, CountsResult, Later, beside, decision_counts, some_uncounted, storing_counts, uncounted_step}
-use Rattle.command_rows.proofs.Events.{Did, did_then, nothing_done, quiet_loading, same_disk}
-use Rattle.command_rows.proofs.Fitting.{apart_out, false_is_true, no_bad_file, not_some, parts_same}
-use Rattle.command_rows.proofs.Grounding.{BadFiles, Grounds, Since, loading_parts, loading_since, loading_why, plain_cause, storing_why}
-use Rattle.command_rows.proofs.Lawful.{IsLawful, done_left, reply_line, row_refused}
-use Rattle.command_rows.proofs.Plain.{PlainOption, key_option, plain_some}
-use Rattle.command_rows.proofs.Replies.{done_replying}
-use Rattle.command_rows.proofs.Sound.{Sound, components_sound, sound_reply, sound_step, sound_then}
-use Rattle.command_rows.proofs.Stopping.{Change, Left, Same, alone_from, before_all, early_loading, left_then, moments_from, not_done}
-use Rattle.command_rows.proofs.Storing.{Stored, Unstored, bytes_stored, components_unstored, same_files, stored_then}
-use Rattle.command_rows.proofs.Keeping.{row_keeps}
+use Rattle.command_rows.proofs.VerbLaws.{BadFiles, Change, ChangesMetadata, Counts, CountsResult, Did, Grounds, IsLawful, Later, Left, PlainOption, Same, Since, Sound, Stays, Stored, Unstored, Why, alone_from, apart_out, before_all, beside, bytes_stored, components_sound, components_unstored, decision_counts, did_then, done_left, done_replying, early_loading, false_is_true, key_option, left_then, loading_parts, loading_since, loading_why, may_lack_memory, moments_from, no_bad_file, not_done, not_some, nothing_done, parts_same, plain_cause, plain_some, quiet_loading, reply_line, row_keeps, row_refused, same_disk, same_files, some_uncounted, sound_reply, sound_step, sound_then, stays_so, stays_then, stored_then, storing_counts, storing_why, then_since, then_why, uncounted_step}
 
 -- the metadata were written, and then the backup was stored or refused
 stored_did : (line : List ℕ) (backup : Option Span) (m : Metadata) (start : DiskState) (old : Reach) (answer : Result (Unit {0}) Refusal) (new : Reach) → Logs (replace_events start m) start old.disk → BacksUp line backup m old answer new

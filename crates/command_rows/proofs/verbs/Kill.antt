@@ -1,30 +1,12 @@
 -- That `kill` is lawful.
 use Rattle.std.proofs.Common.{Err, List, Ok, Result, ap, arith, false, inl, inr, refl, subst, sym, take, ℕ, ◌-◌, ◌∙◌, ◌≡◌}
-use Rattle.block_traits.specs.Disk.{DiskState}
-use Rattle.block_traits.specs.Overwriting.{overwrite_events}
-use Rattle.block_traits.specs.Streams.{EntropyState}
 use Rattle.command_words.specs.declared.commands.Command.TheVariants as commands
-use Rattle.command_words.specs.declared.spans.Span.{Span}
-use Rattle.eli_base.specs.declared.refusals.Refusal.{Refusal}
 use Rattle.eli_base.specs.declared.refusals.Refusal.TheVariants as refusals
 use Rattle.resize_kill.proofs.Destroyed.{gone-FailsIn, gone-Logs}
-use Rattle.resize_kill.specs.Killing.{HoldsNoMetadata, Kills, kill_events}
-use Rattle.resize_kill.specs.Trash.{trash_sectors}
-use Rattle.command_rows.specs.Replies.{done_or}
-use Rattle.command_rows.specs.Stops.{ChangesMetadata}
-use Rattle.command_rows.specs.World.{Idle, Reach, attachment_in}
+use Rattle.command_rows.specs.Rows.{Idle, Reach, attachment_in, done_or}
+use Rattle.command_rows.specs.Vocabulary.{DiskState, EntropyState, HoldsNoMetadata, Kills, Refusal, Span, kill_events, overwrite_events, trash_sectors}
 use Rattle.command_rows.specs.verbs.Kill.{LeavesNoMetadata, DestroysMetadata, KillRow, OverwritesLast, Withdraws}
-use Rattle.command_rows.proofs.Becoming.{becomes_as, same_reach, stays_next}
-use Rattle.command_rows.proofs.Causing.{Why, then_why}
-use Rattle.command_rows.proofs.Counting.{Counts, CountsResult, Later, UncountedAnswer, beside, uncounted_step}
-use Rattle.command_rows.proofs.Events.{Did, Quiet, nothing_done, same_disk}
-use Rattle.command_rows.proofs.Fitting.{apart_out, false_is_true}
-use Rattle.command_rows.proofs.KeyEvents.{DoesFrom, after_quiet}
-use Rattle.command_rows.proofs.Lawful.{IsLawful, done_left, reply_line, row_refused}
-use Rattle.command_rows.proofs.Replies.{done_replying}
-use Rattle.command_rows.proofs.Sound.{Sound, idles, sound_reply, sound_step, sound_then}
-use Rattle.command_rows.proofs.Stopping.{Early, Left, Same, before_all, left_then, moments_from}
-use Rattle.command_rows.proofs.Storing.{Unstored, same_files, unstored_reply, unstored_then}
+use Rattle.command_rows.proofs.VerbLaws.{ChangesMetadata, Counts, CountsResult, Did, DoesFrom, Early, IsLawful, Later, Left, Quiet, Same, Sound, UncountedAnswer, Unstored, Why, after_quiet, apart_out, becomes_as, before_all, beside, done_left, done_replying, false_is_true, idles, left_then, moments_from, nothing_done, reply_line, row_refused, same_disk, same_files, same_reach, sound_reply, sound_step, sound_then, stays_next, then_why, uncounted_step, unstored_reply, unstored_then}
 
 same_killing : (disk start : DiskState) (random : List ℕ) → disk.size ≡ start.size → kill_events disk random ≡ kill_events start random
 same_killing disk start random size = ap (λ (n : ℕ). overwrite_events (n - 1) (trash_sectors random)) size

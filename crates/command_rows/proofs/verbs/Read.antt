@@ -1,28 +1,11 @@
 -- That `read` is lawful.
 use Rattle.std.proofs.Common.{Err, List, None, Ok, Result, [], ap, false, refl, subst, sym, ℕ, ◌*◌, ◌∙◌, ◌≡◌}
 use Rattle.command_words.specs.declared.commands.Command.TheVariants as commands
-use Rattle.command_words.specs.declared.spans.Span.{Span}
-use Rattle.eli_base.specs.declared.refusals.Refusal.{Refusal}
 use Rattle.eli_base.specs.declared.refusals.Refusal.TheVariants as refusals
-use Rattle.provider.specs.Attached.{media}
-use Rattle.command_rows.specs.Becoming.{Becomes}
-use Rattle.command_rows.specs.Causes.{LineHasCause}
-use Rattle.command_rows.specs.Gate.{needs, refused_by}
-use Rattle.command_rows.specs.Replies.{payload_or}
-use Rattle.command_rows.specs.Steps.{NeedsSectors, NeedsWhole, ReadsSectors, Then, whole_sectors}
-use Rattle.command_rows.specs.Storing.{StoresNone}
-use Rattle.command_rows.specs.World.{AttachedWith, Attachment, IsAttached, Reach}
+use Rattle.command_rows.specs.Rows.{AttachedWith, Attachment, IsAttached, NeedsSectors, NeedsWhole, Reach, ReadsSectors, Then, payload_or, whole_sectors}
+use Rattle.command_rows.specs.Vocabulary.{Refusal, Span, media}
 use Rattle.command_rows.specs.verbs.Read.{FitsRead, ReadRow}
-use Rattle.command_rows.proofs.Becoming.{Stays, same_reach, stays_so, stays_then}
-use Rattle.command_rows.proofs.Causing.{Why, range_why, then_why, whole_why}
-use Rattle.command_rows.proofs.Events.{Quiet, quiet_did, quiet_sectors, quiet_then, same_disk}
-use Rattle.command_rows.proofs.Fitting.{RulesOut, false_is_true, never_both, never_holds, not_both, passes, read_at}
-use Rattle.command_rows.proofs.Gate.{with_attached}
-use Rattle.command_rows.proofs.Lawful.{IsLawful, LineDid, nothing_changed, reply_line, row_refused}
-use Rattle.command_rows.proofs.Replies.{payload_replying}
-use Rattle.command_rows.proofs.Sound.{Sound, SoundReply, range_sound, sectors_sound, sound_reply, sound_then, whole_sound}
-use Rattle.command_rows.proofs.Storing.{Unstored, range_unstored, sectors_unstored, unstored_reply, unstored_then, whole_unstored}
-use Rattle.command_rows.proofs.Keeping.{attached_keeps}
+use Rattle.command_rows.proofs.VerbLaws.{Becomes, IsLawful, LineDid, LineHasCause, Quiet, RulesOut, Sound, SoundReply, Stays, StoresNone, Unstored, Why, attached_keeps, false_is_true, needs, never_both, never_holds, not_both, nothing_changed, passes, payload_replying, quiet_did, quiet_sectors, quiet_then, range_sound, range_unstored, range_why, read_at, refused_by, reply_line, row_refused, same_disk, same_reach, sectors_sound, sectors_unstored, sound_reply, sound_then, stays_so, stays_then, then_why, unstored_reply, unstored_then, whole_sound, whole_unstored, whole_why, with_attached}
 
 sectors_why : (line : List ℕ) (prov : Span) (sector count : ℕ) (a : Attachment) (whole : ℕ) (old : Reach) (answer : Result (List ℕ) Refusal) (new : Reach) → old.holding ≡ IsAttached a
     → whole_sectors a.keying.sectorsize (count * a.keying.sectorsize) ≡ Ok whole → ReadsSectors a sector whole old answer new → Why line (commands.Read prov sector count) old answer new

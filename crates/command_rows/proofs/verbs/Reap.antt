@@ -1,39 +1,15 @@
 -- That `reap` is lawful.
 use Rattle.std.proofs.Common.{Err, List, None, Ok, Option, Result, Some, [], ap, arith, false, refl, subst, sym, ℕ, ◌∙◌, ◌≡◌, ◌≤◌}
-use Rattle.bio_queue.specs.Answers.{HasBadUnit, IsNotDone, ReapAnswers}
-use Rattle.bio_queue.specs.Requests.{Request, left_of, request_with}
-use Rattle.bio_queue.specs.declared.faults.ReapFault.{ReapFault}
 use Rattle.bio_queue.specs.declared.faults.ReapFault.TheVariants as reap
-use Rattle.bio_queue.specs.declared.job.Reaped.{Reaped}
-use Rattle.block_traits.specs.Disk.{DiskState}
-use Rattle.command_words.specs.declared.commands.Command.{Command}
 use Rattle.command_words.specs.declared.commands.Command.TheVariants as commands
-use Rattle.command_words.specs.declared.spans.Span.{Span}
-use Rattle.eli_base.specs.declared.refusals.Refusal.{Refusal}
 use Rattle.eli_base.specs.declared.refusals.Refusal.TheVariants as refusals
-use Rattle.command_rows.specs.Asks.{AsksToReap, HasReadFault, QueueRefuses}
-use Rattle.command_rows.specs.Becoming.{Becomes}
-use Rattle.command_rows.specs.Causes.{LineHasCause}
-use Rattle.command_rows.specs.Gate.{needs, refused_by}
-use Rattle.command_rows.specs.Queueing.{NeedsRequest}
-use Rattle.command_rows.specs.Replies.{reaped_or}
-use Rattle.command_rows.specs.Storing.{StoresNone}
-use Rattle.command_rows.specs.World.{AttachedWith, Attachment, IsAttached, Reach}
+use Rattle.command_rows.specs.Rows.{AsksToReap, AttachedWith, Attachment, HasReadFault, IsAttached, NeedsRequest, QueueRefuses, Reach, reaped_or}
+use Rattle.command_rows.specs.Vocabulary.{Command, DiskState, HasBadUnit, IsNotDone, ReapAnswers, ReapFault, Reaped, Refusal, Request, Span, left_of, request_with}
 use Rattle.command_rows.specs.verbs.Reap.{FitsReap, ReapRow, ReapsRequest, reap_answer}
-use Rattle.command_rows.proofs.Becoming.{holds_same}
-use Rattle.command_rows.proofs.Causing.{Why, then_why}
-use Rattle.command_rows.proofs.Counting.{Counts, UncountedAnswer, then_counts, uncounted_step}
-use Rattle.command_rows.proofs.Events.{Quiet, quiet_did, quiet_then, same_disk}
-use Rattle.command_rows.proofs.Fitting.{RulesOut, false_is_true, never_both, never_holds}
-use Rattle.command_rows.proofs.Gate.{with_attached}
-use Rattle.command_rows.proofs.Lawful.{IsLawful, LineDid, nothing_changed, reply_line, row_refused}
 use Rattle.command_rows.proofs.QueueingCauses.{has_none, needs_why}
 use Rattle.command_rows.proofs.QueueingEvents.{quiet_needs}
 use Rattle.command_rows.proofs.QueueingFits.{is_served, one_request}
-use Rattle.command_rows.proofs.QueueingSound.{HoldsSame, holds_next, needs_counts, needs_same, queue_holds}
-use Rattle.command_rows.proofs.Replies.{reaped_replying}
-use Rattle.command_rows.proofs.Sound.{SoundReply, attached_reply}
-use Rattle.command_rows.proofs.Storing.{Unstored, request_unstored, same_files, unstored_reply, unstored_then}
+use Rattle.command_rows.proofs.VerbLaws.{Becomes, Counts, HoldsSame, IsLawful, LineDid, LineHasCause, Quiet, RulesOut, SoundReply, StoresNone, UncountedAnswer, Unstored, Why, attached_reply, false_is_true, holds_next, holds_same, needs, needs_counts, needs_same, never_both, never_holds, nothing_changed, queue_holds, quiet_did, quiet_then, reaped_replying, refused_by, reply_line, request_unstored, row_refused, same_disk, same_files, then_counts, then_why, uncounted_step, unstored_reply, unstored_then, with_attached}
 
 reap_uncounted : (tag : ℕ) (after : List ℕ) (given : Result Reaped ReapFault) → UncountedAnswer (reap_answer tag after given)
 reap_uncounted tag after (Ok given) = tt

@@ -1,43 +1,12 @@
 -- That `resize` is lawful.
 use Rattle.std.proofs.Common.{◌==◌, Bool, Err, List, None, Ok, Option, Result, Some, [], ap, cond, false, inl, inr, nat_le, nat_lt, refl, subst, sym, take, true, ℕ, ◌*◌, ◌++◌, ◌-◌, ◌∙◌, ◌≡◌, ◌⊎◌}
-use Rattle.block_traits.specs.Content.{Content}
-use Rattle.block_traits.specs.Disk.{DiskState, GivesFrom, Logs}
-use Rattle.block_traits.specs.Moments.{HoldsOldOr, KeepsAlone, WaitsForFlush}
-use Rattle.block_traits.specs.Overwriting.{overwrite_events}
-use Rattle.block_traits.specs.Streams.{EntropyState}
-use Rattle.block_traits.specs.declared.disk.Event.{Event}
-use Rattle.command_words.specs.declared.commands.Command.{Command}
 use Rattle.command_words.specs.declared.commands.Command.TheVariants as commands
-use Rattle.command_words.specs.declared.spans.Span.{Span}
-use Rattle.eli_base.specs.declared.refusals.Refusal.{Refusal}
 use Rattle.eli_base.specs.declared.refusals.Refusal.TheVariants as refusals
-use Rattle.eli_metadata.specs.Format.{encoded}
-use Rattle.eli_metadata.specs.Place.{IsSectorOf}
-use Rattle.eli_metadata.specs.declared.metadata.MetaFault.{MetaFault}
-use Rattle.eli_metadata.specs.declared.metadata.Metadata.{Metadata}
 use Rattle.resize_kill.proofs.Moved.{KeepsAlone-Moves, KeepsOneOf-Moves, KeepsOneOf-MovesPart}
-use Rattle.resize_kill.specs.Resizing.{HoldsOneOf, KeepsOneOf, RefusesOld, RefusesSizes, Resizes, grown, move_events, old_place, old_refusal, size_refusal}
-use Rattle.resize_kill.specs.Trash.{trash_sectors}
-use Rattle.command_rows.specs.Causes.{LineHasCause}
-use Rattle.command_rows.specs.Replies.{done_or}
-use Rattle.command_rows.specs.Stops.{ChangesMetadata}
-use Rattle.command_rows.specs.World.{Reach}
+use Rattle.command_rows.specs.Rows.{Reach, done_or}
+use Rattle.command_rows.specs.Vocabulary.{Command, Content, DiskState, EntropyState, Event, GivesFrom, HoldsOldOr, HoldsOneOf, IsSectorOf, KeepsAlone, KeepsOneOf, Logs, MetaFault, Metadata, Refusal, RefusesOld, RefusesSizes, Resizes, Span, WaitsForFlush, encoded, grown, move_events, old_place, old_refusal, overwrite_events, size_refusal, trash_sectors}
 use Rattle.command_rows.specs.verbs.Resize.{FindsOldPlace, MovesLast, MovesMetadata, MovesToEnd, RefusesOldPlace, ResizeRow}
-use Rattle.command_rows.proofs.Becoming.{stays_so}
-use Rattle.command_rows.proofs.Causing.{Why}
-use Rattle.command_rows.proofs.Counting.{Counts, CountsResult, Later, beside, some_uncounted, uncounted_step}
-use Rattle.command_rows.proofs.Events.{Did, nothing_done, quiet_failure, same_disk}
-use Rattle.command_rows.proofs.Fitting.{apart_out, false_is_true, not_some, reads_same}
-use Rattle.command_rows.proofs.Grounding.{plain_cause}
-use Rattle.command_rows.proofs.KeyEvents.{DoesFrom}
-use Rattle.command_rows.proofs.Lawful.{IsLawful, done_left, reply_line, row_refused}
-use Rattle.command_rows.proofs.PlaceEvents.{same_replacing}
-use Rattle.command_rows.proofs.Plain.{PlainOption, meta_plain, plain_some}
-use Rattle.command_rows.proofs.Replies.{done_replying}
-use Rattle.command_rows.proofs.Sound.{Sound, sound_reply, sound_step}
-use Rattle.command_rows.proofs.Stopping.{Left, Same, before_all, moments_from, not_done, same_content}
-use Rattle.command_rows.proofs.Storing.{Unstored, same_files, unstored_reply}
-use Rattle.command_rows.proofs.Keeping.{row_keeps}
+use Rattle.command_rows.proofs.VerbLaws.{ChangesMetadata, Counts, CountsResult, Did, DoesFrom, IsLawful, Later, Left, LineHasCause, PlainOption, Same, Sound, Unstored, Why, apart_out, before_all, beside, done_left, done_replying, false_is_true, meta_plain, moments_from, not_done, not_some, nothing_done, plain_cause, plain_some, quiet_failure, reads_same, reply_line, row_keeps, row_refused, same_content, same_disk, same_files, same_replacing, some_uncounted, sound_reply, sound_step, stays_so, uncounted_step, unstored_reply}
 
 same_moving : (oldsize : ℕ) (disk start : DiskState) (m : Metadata) (random : List ℕ) → disk.size ≡ start.size → move_events disk (old_place oldsize) m random ≡ move_events start (old_place oldsize) m random
 same_moving oldsize disk start m random size = ap (λ (events : List Event). events ++ overwrite_events (old_place oldsize) (trash_sectors random)) (same_replacing disk start m size)

@@ -1,49 +1,16 @@
 -- That `restore` is lawful.
-use Rattle.std.proofs.Common.{Bool, Err, List, Ok, Option, Result, ap, cond, false, inl, inr, length, nat_lt, refl, subst, take, true, ℕ, ◌*◌, ◌∙◌, ◌≡◌}
-use Rattle.std.specs.Prelude.{IfSome}
+use Rattle.std.proofs.Common.{Bool, Err, List, Ok, Option, Result, ap, cond, false, inl, inr, length, nat_lt, refl, subst, take, true, ℕ, ◌*◌, ◌∙◌, ◌≡◌, IfSome}
 use Rattle.backup_restore.proofs.Restored.{IsBackedUp-gives}
-use Rattle.backup_restore.specs.Restoring.{GivesMetadata, Restores, fitted, restored, unless_fault}
 use Rattle.block_traits.proofs.Causes.{Rose-earlier}
-use Rattle.block_traits.specs.Cabinet.{CabinetState, Files}
-use Rattle.block_traits.specs.Disk.{DiskState}
-use Rattle.block_traits.specs.Moments.{HoldsOldOr}
-use Rattle.command_words.specs.Places.{bytes_at}
-use Rattle.command_words.specs.declared.commands.Command.{Command}
 use Rattle.command_words.specs.declared.commands.Command.TheVariants as commands
-use Rattle.command_words.specs.declared.spans.Span.{Span}
-use Rattle.eli_base.specs.declared.refusals.Refusal.{Refusal}
 use Rattle.eli_base.specs.declared.refusals.Refusal.TheVariants as refusals
 use Rattle.eli_metadata.proofs.Replaced.{KeepsOldOr-replace, KeepsOldOr-replace_part}
-use Rattle.eli_metadata.specs.Format.{encoded}
-use Rattle.eli_metadata.specs.Place.{IsSectorOf, replace_events}
-use Rattle.eli_metadata.specs.declared.metadata.MetaFault.{MetaFault}
-use Rattle.eli_metadata.specs.declared.metadata.Metadata.{Metadata}
 use Rattle.key_commands.proofs.Making.{KeepsAlone-replace}
-use Rattle.key_components.specs.Answers.{file_answer}
-use Rattle.key_components.specs.Files.{file_limit}
-use Rattle.command_rows.specs.Findings.{IsFile, NamesFile, RefusesFile, WritesMetadata}
-use Rattle.command_rows.specs.Grounds.{IsGround}
-use Rattle.command_rows.specs.Replies.{done_or}
-use Rattle.command_rows.specs.Steps.{Decides, GoesOn, LoadsFile, Then}
-use Rattle.command_rows.specs.Stops.{ChangesMetadata}
-use Rattle.command_rows.specs.World.{Reach}
+use Rattle.command_rows.specs.Rows.{Decides, GoesOn, IsFile, LoadsFile, NamesFile, Reach, RefusesFile, Then, WritesMetadata, done_or}
+use Rattle.command_rows.specs.Vocabulary.{CabinetState, Command, DiskState, Files, GivesMetadata, HoldsOldOr, IsSectorOf, MetaFault, Metadata, Refusal, Restores, Span, bytes_at, encoded, file_answer, file_limit, fitted, replace_events, restored, unless_fault}
 use Rattle.command_rows.specs.verbs.Restore.{FindsBackup, PutsBack, RefusesRestore, RestoreRow, RestoresBackup}
-use Rattle.command_rows.proofs.Becoming.{Stays, same_reach, stays_so, stays_then}
-use Rattle.command_rows.proofs.Causing.{Why, then_since, then_why}
-use Rattle.command_rows.proofs.Counting.{Counts, UncountedAnswer, file_counts, plain_uncounted, uncounted_step}
-use Rattle.command_rows.proofs.Events.{Did, Quiet, nothing_done, same_disk}
-use Rattle.command_rows.proofs.Fitting.{apart_out, false_is_true, not_both}
-use Rattle.command_rows.proofs.Grounding.{Grounds, Since, loading_bytes, plain_cause, since_cabinet}
-use Rattle.command_rows.proofs.KeyEvents.{DoesFrom, after_quiet}
-use Rattle.command_rows.proofs.Lawful.{IsLawful, done_left, reply_line, row_refused}
 use Rattle.command_rows.proofs.PlaceCauses.{wrong_file}
-use Rattle.command_rows.proofs.PlaceEvents.{same_replacing}
-use Rattle.command_rows.proofs.Plain.{PlainAnswer, meta_plain}
-use Rattle.command_rows.proofs.Replies.{done_replying}
-use Rattle.command_rows.proofs.Sound.{Sound, done_sound, sound_reply, sound_step, sound_then}
-use Rattle.command_rows.proofs.Stopping.{Change, Early, Left, Same, alone_from, before_all, left_then, moments_from, not_done}
-use Rattle.command_rows.proofs.Storing.{Unstored, done_unstored, same_files, unstored_reply, unstored_then}
-use Rattle.command_rows.proofs.Keeping.{row_keeps}
+use Rattle.command_rows.proofs.VerbLaws.{Change, ChangesMetadata, Counts, Did, DoesFrom, Early, Grounds, IsGround, IsLawful, Left, PlainAnswer, Quiet, Same, Since, Sound, Stays, UncountedAnswer, Unstored, Why, after_quiet, alone_from, apart_out, before_all, done_left, done_replying, done_sound, done_unstored, false_is_true, file_counts, left_then, loading_bytes, meta_plain, moments_from, not_both, not_done, nothing_done, plain_cause, plain_uncounted, reply_line, row_keeps, row_refused, same_disk, same_files, same_reach, same_replacing, since_cabinet, sound_reply, sound_step, sound_then, stays_so, stays_then, then_since, then_why, uncounted_step, unstored_reply, unstored_then}
 
 quiet_file : (limit : ℕ) (line : List ℕ) (file : Span) → Quiet (LoadsFile limit line file)
 quiet_file limit line file old answer new h = same_disk old.disk new.disk h.disk

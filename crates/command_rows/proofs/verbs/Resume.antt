@@ -1,46 +1,17 @@
 -- That `resume` is lawful.
 use Rattle.std.proofs.Common.{Bool, Err, List, None, Ok, Result, [], ap, cond, false, inl, inr, refl, subst, sym, true, ℕ, ◌∙◌, ◌≡◌, ◌⊎◌}
 use Rattle.std.specs.Str.{bytes_eq}
-use Rattle.block_traits.specs.Disk.{Logs}
-use Rattle.command_words.specs.declared.commands.Command.{Command}
 use Rattle.command_words.specs.declared.commands.Command.TheVariants as commands
-use Rattle.command_words.specs.declared.spans.KeyWords.{KeyWords}
-use Rattle.command_words.specs.declared.spans.Span.{Span}
-use Rattle.eli_base.specs.declared.refusals.Refusal.{Refusal}
 use Rattle.eli_base.specs.declared.refusals.Refusal.TheVariants as refusals
-use Rattle.eli_metadata.specs.declared.metadata.Metadata.{Metadata}
-use Rattle.range_keys.specs.Ring.{IsKeying}
-use Rattle.sha2.specs.Sha256.{sha256}
-use Rattle.user_key.specs.Derivation.{user_key}
-use Rattle.command_rows.specs.Answer.{Answer}
-use Rattle.command_rows.specs.Becoming.{Becomes}
-use Rattle.command_rows.specs.Causes.{LineHasCause}
-use Rattle.command_rows.specs.Findings.{LacksMetadata}
-use Rattle.command_rows.specs.Grounds.{HasGround}
-use Rattle.command_rows.specs.Replies.{done_or}
-use Rattle.command_rows.specs.Steps.{Attaches, GoesOn, admitted, tried}
-use Rattle.command_rows.specs.Storing.{StoresNone}
-use Rattle.command_rows.specs.Trying.{TryRow}
-use Rattle.command_rows.specs.World.{Attachment, Holding, HoldsKeying, Idle, IsAttached, IsSuspended, Kept, Reach, SuspendedWith, attachment_in}
+use Rattle.command_rows.specs.Rows.{Answer, Attaches, Attachment, GoesOn, Holding, HoldsKeying, Idle, IsAttached, IsSuspended, Kept, LacksMetadata, Reach, SuspendedWith, TryRow, admitted, attachment_in, done_or, tried}
+use Rattle.command_rows.specs.Vocabulary.{Command, IsKeying, KeyWords, Logs, Metadata, Refusal, Span, sha256, user_key}
 use Rattle.command_rows.specs.verbs.Attach.{OpensWith, RefusesAttach}
 use Rattle.command_rows.specs.verbs.Resume.{AttachesAgain, FindsSameKey, NeedsSameKey, OpensOtherMaster, RefusesResume, ResumeRow, same_key}
-use Rattle.command_rows.proofs.Becoming.{becomes_as, same_reach, stays_quiet, try_stays}
-use Rattle.command_rows.proofs.Causing.{Why, then_since, then_why}
-use Rattle.command_rows.proofs.Counting.{Counts, attaching_counts, by_plain, then_counts}
-use Rattle.command_rows.proofs.Events.{Quiet, quiet_attaching, quiet_did, quiet_then, quiet_trial, same_disk}
-use Rattle.command_rows.proofs.Fitting.{apart_out, attach_fits, false_is_true, has_metadata, has_same, no_bad_file, not_both, parts_same}
-use Rattle.command_rows.proofs.Gate.{suspended, with_suspended}
-use Rattle.command_rows.proofs.Grounding.{decides_why}
 use Rattle.command_rows.proofs.Keyed.{GivesAttachment, attachment_keyed, try_gives}
-use Rattle.command_rows.proofs.Lawful.{IsLawful, LineDid, nothing_changed, reply_line, row_refused}
-use Rattle.command_rows.proofs.Plain.{PlainAnswer}
 use Rattle.command_rows.proofs.ProviderCauses.{attaching_why, trial_why}
-use Rattle.command_rows.proofs.Replies.{done_replying}
 use Rattle.command_rows.proofs.SameKey.{key_is_same}
-use Rattle.command_rows.proofs.Sound.{Keeps, Sound, SoundReply, attaches_keep, keeps_next, sound_decision, sound_reply, try_sound}
-use Rattle.command_rows.proofs.Storing.{Unstored, attaching_unstored, decision_unstored, try_row, unstored_reply, unstored_then}
 use Rattle.command_rows.proofs.SuspendCauses.{trial_opens}
-use Rattle.command_rows.proofs.Keeping.{IsNew, KeepsRequests, NoneOpen, attached_new, none_try}
+use Rattle.command_rows.proofs.VerbLaws.{Becomes, Counts, HasGround, IsLawful, IsNew, Keeps, KeepsRequests, LineDid, LineHasCause, NoneOpen, PlainAnswer, Quiet, Sound, SoundReply, StoresNone, Unstored, Why, apart_out, attach_fits, attached_new, attaches_keep, attaching_counts, attaching_unstored, becomes_as, by_plain, decides_why, decision_unstored, done_replying, false_is_true, has_metadata, has_same, keeps_next, no_bad_file, none_try, not_both, nothing_changed, parts_same, quiet_attaching, quiet_did, quiet_then, quiet_trial, reply_line, row_refused, same_disk, same_reach, sound_decision, sound_reply, stays_quiet, suspended, then_counts, then_since, then_why, try_row, try_sound, try_stays, unstored_reply, unstored_then, with_suspended}
 
 same_by : (same : Bool) → PlainAnswer {A = Unit {0}} (cond same (Ok tt) (Err refusals.DifferentKey))
 same_by true = tt

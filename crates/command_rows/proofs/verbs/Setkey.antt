@@ -1,53 +1,15 @@
 -- That `setkey` is lawful.
-use Rattle.std.proofs.Common.{Bool, Err, List, None, Ok, Option, Result, Some, [], ap, cond, false, inl, inr, nat_le, refl, subst, sym, take, true, ℕ, ◌-◌, ◌∙◌, ◌∷◌, ◌≡◌, ◌⊎◌}
-use Rattle.std.specs.Prelude.{MatchOption, unwrap_or, ℤ}
+use Rattle.std.proofs.Common.{Bool, Err, List, None, Ok, Option, Result, Some, [], ap, cond, false, inl, inr, nat_le, refl, subst, sym, take, true, ℕ, ◌-◌, ◌∙◌, ◌∷◌, ◌≡◌, ◌⊎◌, MatchOption, unwrap_or, ℤ}
 use Rattle.block_traits.proofs.Causes.{Rose-earlier}
-use Rattle.block_traits.specs.Cabinet.{CabinetState, Files}
-use Rattle.block_traits.specs.Disk.{DiskState, store_events}
-use Rattle.block_traits.specs.Moments.{HoldsOldOr}
 use Rattle.block_traits.specs.declared.disk.Event.TheVariants.{Flush, Write}
-use Rattle.command_words.specs.declared.commands.Command.{Command}
 use Rattle.command_words.specs.declared.commands.Command.TheVariants as commands
-use Rattle.command_words.specs.declared.spans.KeyWords.{KeyWords}
-use Rattle.command_words.specs.declared.spans.Span.{Span}
-use Rattle.eli_base.specs.declared.parameters.MasterKey.{MasterKey}
-use Rattle.eli_base.specs.declared.refusals.Refusal.{Refusal}
 use Rattle.eli_base.specs.declared.refusals.Refusal.TheVariants as refusals
 use Rattle.eli_metadata.proofs.Replaced.{KeepsAlone-store, KeepsOldOr-store, KeepsOldOr-store_part}
-use Rattle.eli_metadata.specs.Format.{encoded}
-use Rattle.eli_metadata.specs.Place.{IsSectorOf}
-use Rattle.eli_metadata.specs.declared.metadata.Metadata.{Metadata}
 use Rattle.key_commands.proofs.Changing.{HasNewKey-makes}
-use Rattle.key_commands.specs.NewKey.{KeyChange, change_refusal}
-use Rattle.key_commands.specs.Options.{key_refusal}
-use Rattle.key_commands.specs.SetKey.{SetsKey}
-use Rattle.user_key.specs.Derivation.{user_key}
-use Rattle.user_key.specs.declared.components.Components.{Components}
-use Rattle.user_key.specs.declared.components.KeyFault.{KeyFault}
-use Rattle.user_key.specs.declared.components.UserKey.{UserKey}
-use Rattle.command_rows.specs.Causes.{may_lack_memory}
-use Rattle.command_rows.specs.Findings.{AreComponents, HasMetadata, LacksMetadata, RefusesFiles}
-use Rattle.command_rows.specs.Replies.{done_or}
-use Rattle.command_rows.specs.Steps.{Admits, LoadsComponents, ReadsLastSector, Then, admitted, without_value}
-use Rattle.command_rows.specs.Stops.{ChangesMetadata}
-use Rattle.command_rows.specs.Storing.{StoresNone}
-use Rattle.command_rows.specs.World.{Attachment, Holding, HoldsKeying, IsAttached, Reach, attachment_in}
+use Rattle.command_rows.specs.Rows.{Admits, AreComponents, Attachment, HasMetadata, Holding, HoldsKeying, IsAttached, LacksMetadata, LoadsComponents, Reach, ReadsLastSector, RefusesFiles, Then, admitted, attachment_in, done_or, without_value}
+use Rattle.command_rows.specs.Vocabulary.{CabinetState, Command, Components, DiskState, Files, HoldsOldOr, IsSectorOf, KeyChange, KeyFault, KeyWords, MasterKey, Metadata, Refusal, SetsKey, Span, UserKey, change_refusal, encoded, key_refusal, store_events, user_key}
 use Rattle.command_rows.specs.verbs.Setkey.{FindsAttached, FindsNewKey, FindsOldKey, FindsSetkey, IsUsed, NeedsSlot, OpensSlot, PutsKey, RefusesChange, RefusesNewKey, RefusesNext, RefusesOldKey, RefusesSetkey, SetkeyAttachedRow, SetkeyIdleRow, SetkeyRow, SetsOpened, StoresKey, StoresMetadata, WrapsKey, WrapsOpened, if_there, slot_opened_by, or_wrong, usable}
-use Rattle.command_rows.proofs.Becoming.{Stays, same_reach, stays_so, stays_then}
-use Rattle.command_rows.proofs.Causing.{Why, then_since, then_why}
-use Rattle.command_rows.proofs.Counting.{Counts, CountsResult, Later, UncountedAnswer, by_plain, some_uncounted, uncounted_step}
-use Rattle.command_rows.proofs.Events.{Did, nothing_done, quiet_loading, quiet_reading, same_disk}
-use Rattle.command_rows.proofs.Fitting.{apart_out, false_is_true, has_metadata, has_same, no_bad_file, not_both, not_some, parts_same}
-use Rattle.command_rows.proofs.Gate.{attached, by_attachment, unattached}
-use Rattle.command_rows.proofs.Grounding.{BadFiles, Grounds, Since, decides_why, loading_parts, loading_since, loading_why, plain_cause, reading_has, reading_since, reading_why, since_same}
-use Rattle.command_rows.proofs.KeyEvents.{DoesFrom, after_quiet, quiet_same}
-use Rattle.command_rows.proofs.Lawful.{IsLawful, done_left, reply_line, row_refused}
-use Rattle.command_rows.proofs.Plain.{PlainAnswer, PlainOption, key_option, key_plain, or_plain, plain_some}
-use Rattle.command_rows.proofs.Replies.{done_replying}
-use Rattle.command_rows.proofs.Sound.{Sound, admitting_sound, components_sound, reading_sound, sound_decision, sound_reply, sound_step, sound_then}
-use Rattle.command_rows.proofs.Stopping.{Change, Left, Same, alone_from, before_all, early_decision, early_loading, early_reading, left_then, moments_from, not_done}
-use Rattle.command_rows.proofs.Storing.{Unstored, admitting_unstored, components_unstored, decision_unstored, reading_unstored, same_files, unstored_reply, unstored_then}
-use Rattle.command_rows.proofs.Keeping.{row_keeps}
+use Rattle.command_rows.proofs.VerbLaws.{BadFiles, Change, ChangesMetadata, Counts, CountsResult, Did, DoesFrom, Grounds, IsLawful, Later, Left, PlainAnswer, PlainOption, Same, Since, Sound, Stays, StoresNone, UncountedAnswer, Unstored, Why, admitting_sound, admitting_unstored, after_quiet, alone_from, apart_out, attached, before_all, by_attachment, by_plain, components_sound, components_unstored, decides_why, decision_unstored, done_left, done_replying, early_decision, early_loading, early_reading, false_is_true, has_metadata, has_same, key_option, key_plain, left_then, loading_parts, loading_since, loading_why, may_lack_memory, moments_from, no_bad_file, not_both, not_done, not_some, nothing_done, or_plain, parts_same, plain_cause, plain_some, quiet_loading, quiet_reading, quiet_same, reading_has, reading_since, reading_sound, reading_unstored, reading_why, reply_line, row_keeps, row_refused, same_disk, same_files, same_reach, since_same, some_uncounted, sound_decision, sound_reply, sound_step, sound_then, stays_so, stays_then, then_since, then_why, unattached, uncounted_step, unstored_reply, unstored_then}
 
 same_store : (disk start : DiskState) (bytes : List ℕ) → disk.size ≡ start.size → store_events disk bytes ≡ store_events start bytes
 same_store disk start bytes size = ap (λ (n : ℕ). Write (n - 1) bytes ∷ Flush ∷ []) size

@@ -1,39 +1,15 @@
 -- That `step` is lawful.
 use Rattle.std.proofs.Common.{Err, List, None, Ok, Result, Some, ap, arith, false, inr, refl, subst, sym, take, ℕ, ◌∙◌, ◌≡◌, ◌≤◌}
-use Rattle.bio_queue.specs.Answers.{IsAllDone, StepAnswers}
-use Rattle.bio_queue.specs.Requests.{Request, left_of, request_with, step_events}
-use Rattle.bio_queue.specs.declared.faults.StepFault.{StepFault}
 use Rattle.bio_queue.specs.declared.faults.StepFault.TheVariants as step
-use Rattle.block_traits.specs.Disk.{DiskState}
-use Rattle.command_words.specs.declared.commands.Command.{Command}
 use Rattle.command_words.specs.declared.commands.Command.TheVariants as commands
-use Rattle.command_words.specs.declared.spans.Span.{Span}
-use Rattle.eli_base.specs.declared.refusals.Refusal.{Refusal}
 use Rattle.eli_base.specs.declared.refusals.Refusal.TheVariants as refusals
-use Rattle.command_rows.specs.Asks.{AsksToStep, QueueRefuses}
-use Rattle.command_rows.specs.Becoming.{Becomes}
-use Rattle.command_rows.specs.Causes.{LineHasCause}
-use Rattle.command_rows.specs.Gate.{needs, refused_by}
-use Rattle.command_rows.specs.Queueing.{NeedsRequest}
-use Rattle.command_rows.specs.Replies.{left_or}
-use Rattle.command_rows.specs.Steps.{or_refusal}
-use Rattle.command_rows.specs.Storing.{StoresNone}
-use Rattle.command_rows.specs.World.{AttachedWith, Attachment, Holding, IsAttached, Reach}
+use Rattle.command_rows.specs.Rows.{AsksToStep, AttachedWith, Attachment, Holding, IsAttached, NeedsRequest, QueueRefuses, Reach, left_or, or_refusal}
+use Rattle.command_rows.specs.Vocabulary.{Command, DiskState, IsAllDone, Refusal, Request, Span, StepAnswers, StepFault, left_of, request_with, step_events}
 use Rattle.command_rows.specs.verbs.Step.{DoesNext, FitsStep, StepRow, StepsRequest, next_events, step_refusal}
-use Rattle.command_rows.proofs.Becoming.{holds_same}
-use Rattle.command_rows.proofs.Causing.{Why, then_why}
-use Rattle.command_rows.proofs.Counting.{Counts, UncountedAnswer, then_counts, uncounted_step}
-use Rattle.command_rows.proofs.Events.{Did, did_then, nothing_done, same_disk}
-use Rattle.command_rows.proofs.Fitting.{RulesOut, false_is_true, never_both, never_holds}
-use Rattle.command_rows.proofs.Gate.{with_attached}
-use Rattle.command_rows.proofs.Lawful.{IsLawful, LineDid, nothing_changed, reply_line, row_refused}
 use Rattle.command_rows.proofs.QueueingCauses.{has_none, needs_why}
 use Rattle.command_rows.proofs.QueueingEvents.{quiet_needs}
 use Rattle.command_rows.proofs.QueueingFits.{is_served, one_request}
-use Rattle.command_rows.proofs.QueueingSound.{HoldsSame, holds_next, needs_counts, needs_same, queue_holds}
-use Rattle.command_rows.proofs.Replies.{left_replying}
-use Rattle.command_rows.proofs.Sound.{SoundReply, attached_reply}
-use Rattle.command_rows.proofs.Storing.{Unstored, request_unstored, same_files, unstored_reply, unstored_then}
+use Rattle.command_rows.proofs.VerbLaws.{Becomes, Counts, Did, HoldsSame, IsLawful, LineDid, LineHasCause, RulesOut, SoundReply, StoresNone, UncountedAnswer, Unstored, Why, attached_reply, did_then, false_is_true, holds_next, holds_same, left_replying, needs, needs_counts, needs_same, never_both, never_holds, nothing_changed, nothing_done, queue_holds, refused_by, reply_line, request_unstored, row_refused, same_disk, same_files, then_counts, then_why, uncounted_step, unstored_reply, unstored_then, with_attached}
 
 step_uncounted : (tag : ℕ) (left : Result ℕ StepFault) → UncountedAnswer (or_refusal (step_refusal tag) left)
 step_uncounted tag (Ok left) = tt

@@ -1,43 +1,14 @@
 -- That `submit` is lawful.
-use Rattle.std.proofs.Common.{Err, List, None, Ok, Result, [], ap, arith, false, length, refl, subst, sym, true, ℕ, ◌*◌, ◌+◌, ◌<◌, ◌∙◌, ◌≡◌, ◌≤◌}
-use Rattle.std.specs.Prelude.{IsTrue}
-use Rattle.bio_queue.specs.Answers.{IsWrite, JobPassesEnd, SubmitAnswers}
-use Rattle.bio_queue.specs.Requests.{Request}
-use Rattle.bio_queue.specs.declared.faults.SubmitFault.{SubmitFault}
+use Rattle.std.proofs.Common.{Err, List, None, Ok, Result, [], ap, arith, false, length, refl, subst, sym, true, ℕ, ◌*◌, ◌+◌, ◌<◌, ◌∙◌, ◌≡◌, ◌≤◌, IsTrue}
 use Rattle.bio_queue.specs.declared.faults.SubmitFault.TheVariants as submit
-use Rattle.bio_queue.specs.declared.job.Job.{Job}
 use Rattle.bio_queue.specs.declared.job.Job.TheVariants as jobs
-use Rattle.block_traits.specs.Disk.{DiskState}
-use Rattle.command_words.specs.Places.{bytes_at}
-use Rattle.command_words.specs.declared.commands.Command.{Command}
 use Rattle.command_words.specs.declared.commands.Command.TheVariants as commands
-use Rattle.command_words.specs.declared.commands.JobWords.{JobWords}
 use Rattle.command_words.specs.declared.commands.JobWords.TheVariants as words
-use Rattle.command_words.specs.declared.spans.Span.{Span}
-use Rattle.eli_base.specs.declared.refusals.Refusal.{Refusal}
 use Rattle.eli_base.specs.declared.refusals.Refusal.TheVariants as refusals
-use Rattle.provider.specs.Attached.{media}
-use Rattle.command_rows.specs.Asks.{AsksBytesAtOnce, AsksSectorsFrom, AsksToOpen, QueueRefuses}
-use Rattle.command_rows.specs.Becoming.{Becomes}
-use Rattle.command_rows.specs.Causes.{LineHasCause}
-use Rattle.command_rows.specs.Digits.{bytes_spelled}
-use Rattle.command_rows.specs.Gate.{job_writes, needs, refused_by}
-use Rattle.command_rows.specs.Replies.{tag_or}
-use Rattle.command_rows.specs.Steps.{NeedsWhole, or_refusal, whole_sectors}
-use Rattle.command_rows.specs.Storing.{StoresNone}
-use Rattle.command_rows.specs.World.{AttachedWith, Attachment, IsAttached, Reach}
+use Rattle.command_rows.specs.Rows.{AsksBytesAtOnce, AsksSectorsFrom, AsksToOpen, AttachedWith, Attachment, IsAttached, NeedsWhole, QueueRefuses, Reach, bytes_spelled, or_refusal, tag_or, whole_sectors}
+use Rattle.command_rows.specs.Vocabulary.{Command, DiskState, IsWrite, Job, JobPassesEnd, JobWords, Refusal, Request, Span, SubmitAnswers, SubmitFault, bytes_at, media}
 use Rattle.command_rows.specs.verbs.Submit.{FitsBytes, FitsJob, FitsSubmit, SubmitRow, Submits, job_sectors, submit_refusal}
-use Rattle.command_rows.proofs.Becoming.{holds_same}
-use Rattle.command_rows.proofs.Causing.{Why, then_why, whole_why}
-use Rattle.command_rows.proofs.Counting.{Counts, UncountedAnswer, decision_counts, then_counts, uncounted_step, whole_uncounted}
-use Rattle.command_rows.proofs.Events.{Quiet, quiet_did, quiet_then, same_disk}
-use Rattle.command_rows.proofs.Fitting.{RulesOut, false_is_true, never_both, never_holds}
-use Rattle.command_rows.proofs.Gate.{with_attached}
-use Rattle.command_rows.proofs.Lawful.{IsLawful, LineDid, nothing_changed, reply_line, row_refused}
-use Rattle.command_rows.proofs.QueueingSound.{HoldsSame, holds_next, queue_holds}
-use Rattle.command_rows.proofs.Replies.{tag_replying}
-use Rattle.command_rows.proofs.Sound.{SoundReply, attached_reply}
-use Rattle.command_rows.proofs.Storing.{Unstored, same_files, unstored_reply, unstored_then, whole_unstored}
+use Rattle.command_rows.proofs.VerbLaws.{Becomes, Counts, HoldsSame, IsLawful, LineDid, LineHasCause, Quiet, RulesOut, SoundReply, StoresNone, UncountedAnswer, Unstored, Why, attached_reply, decision_counts, false_is_true, holds_next, holds_same, job_writes, needs, never_both, never_holds, nothing_changed, queue_holds, quiet_did, quiet_then, refused_by, reply_line, row_refused, same_disk, same_files, tag_replying, then_counts, then_why, uncounted_step, unstored_reply, unstored_then, whole_uncounted, whole_unstored, whole_why, with_attached}
 
 submit_uncounted : (tag : Result ℕ SubmitFault) → UncountedAnswer (or_refusal submit_refusal tag)
 submit_uncounted (Ok tag) = tt

@@ -1,29 +1,11 @@
 -- That `sum` is lawful.
 use Rattle.std.proofs.Common.{Err, List, None, Ok, Result, [], ap, false, refl, subst, ℕ, ◌∙◌, ◌≡◌}
 use Rattle.command_words.specs.declared.commands.Command.TheVariants as commands
-use Rattle.command_words.specs.declared.spans.Span.{Span}
-use Rattle.eli_base.specs.declared.refusals.Refusal.{Refusal}
 use Rattle.eli_base.specs.declared.refusals.Refusal.TheVariants as refusals
-use Rattle.provider.specs.Attached.{media}
-use Rattle.sha2.specs.Sha256.{sha256}
-use Rattle.command_rows.specs.Becoming.{Becomes}
-use Rattle.command_rows.specs.Causes.{LineHasCause}
-use Rattle.command_rows.specs.Gate.{needs, refused_by}
-use Rattle.command_rows.specs.Replies.{digest_or}
-use Rattle.command_rows.specs.Steps.{Decides, NeedsSectors, ReadsSectors, Then}
-use Rattle.command_rows.specs.Storing.{StoresNone}
-use Rattle.command_rows.specs.World.{AttachedWith, Attachment, IsAttached, Reach}
+use Rattle.command_rows.specs.Rows.{AttachedWith, Attachment, Decides, IsAttached, NeedsSectors, Reach, ReadsSectors, Then, digest_or}
+use Rattle.command_rows.specs.Vocabulary.{Refusal, Span, media, sha256}
 use Rattle.command_rows.specs.verbs.Sum.{FitsSum, SumRow}
-use Rattle.command_rows.proofs.Becoming.{Stays, same_reach, stays_so, stays_then}
-use Rattle.command_rows.proofs.Causing.{Why, range_why, then_why}
-use Rattle.command_rows.proofs.Events.{Quiet, quiet_did, quiet_sectors, quiet_then, same_disk}
-use Rattle.command_rows.proofs.Fitting.{RulesOut, false_is_true, never_both, never_holds, passes, read_at}
-use Rattle.command_rows.proofs.Gate.{with_attached}
-use Rattle.command_rows.proofs.Lawful.{IsLawful, LineDid, nothing_changed, reply_line, row_refused}
-use Rattle.command_rows.proofs.Replies.{digest_replying}
-use Rattle.command_rows.proofs.Sound.{Sound, SoundReply, done_sound, range_sound, sectors_sound, sound_reply, sound_then}
-use Rattle.command_rows.proofs.Storing.{Unstored, done_unstored, range_unstored, sectors_unstored, unstored_reply, unstored_then}
-use Rattle.command_rows.proofs.Keeping.{attached_keeps}
+use Rattle.command_rows.proofs.VerbLaws.{Becomes, IsLawful, LineDid, LineHasCause, Quiet, RulesOut, Sound, SoundReply, Stays, StoresNone, Unstored, Why, attached_keeps, digest_replying, done_sound, done_unstored, false_is_true, needs, never_both, never_holds, nothing_changed, passes, quiet_did, quiet_sectors, quiet_then, range_sound, range_unstored, range_why, read_at, refused_by, reply_line, row_refused, same_disk, same_reach, sectors_sound, sectors_unstored, sound_reply, sound_then, stays_so, stays_then, then_why, unstored_reply, unstored_then, with_attached}
 
 sum_sound : (start count : ℕ) (a : Attachment) → Sound (SumRow start count a)
 sum_sound start count a =

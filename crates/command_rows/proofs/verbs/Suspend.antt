@@ -1,34 +1,12 @@
 -- That `suspend` is lawful.
 use Rattle.std.proofs.Common.{Err, List, None, Ok, Result, [], ap, arith, false, inl, inr, length, refl, subst, sym, ℕ, ◌∙◌, ◌∷◌, ◌≡◌, ◌≤◌, ◌⊎◌}
-use Rattle.bio_queue.specs.Requests.{Request}
-use Rattle.block_traits.specs.Disk.{DiskState, FailsIn, Logs}
 use Rattle.block_traits.specs.declared.disk.Event.TheVariants.{Flush}
-use Rattle.command_words.specs.declared.commands.Command.{Command}
 use Rattle.command_words.specs.declared.commands.Command.TheVariants as commands
-use Rattle.command_words.specs.declared.spans.Span.{Span}
-use Rattle.eli_base.specs.declared.refusals.Refusal.{Refusal}
 use Rattle.eli_base.specs.declared.refusals.Refusal.TheVariants as refusals
-use Rattle.command_rows.specs.Answer.{Answer}
-use Rattle.command_rows.specs.Asks.{AsksForNone, QueueRefuses}
-use Rattle.command_rows.specs.Becoming.{Becomes}
-use Rattle.command_rows.specs.Causes.{LineHasCause}
-use Rattle.command_rows.specs.Gate.{needs, refused_by}
-use Rattle.command_rows.specs.Replies.{done_or}
-use Rattle.command_rows.specs.Steps.{DoesEvents, GoesOn}
-use Rattle.command_rows.specs.Storing.{StoresNone}
-use Rattle.command_rows.specs.World.{AttachedWith, Attachment, HoldsKeying, IsAttached, IsSuspended, Reach, attachment_in}
+use Rattle.command_rows.specs.Rows.{Answer, AsksForNone, AttachedWith, Attachment, DoesEvents, GoesOn, HoldsKeying, IsAttached, IsSuspended, QueueRefuses, Reach, attachment_in, done_or}
+use Rattle.command_rows.specs.Vocabulary.{Command, DiskState, FailsIn, Logs, Refusal, Request, Span}
 use Rattle.command_rows.specs.verbs.Suspend.{NeedsNoRequests, SuspendRow, Suspends, if_none_open, kept_by}
-use Rattle.command_rows.proofs.Becoming.{becomes_as, same_reach}
-use Rattle.command_rows.proofs.Causing.{Why, events_why, then_why}
-use Rattle.command_rows.proofs.Counting.{Counts, UncountedAnswer, does_uncounted, uncounted_step}
-use Rattle.command_rows.proofs.Events.{Did, did_then, does_did, same_disk}
-use Rattle.command_rows.proofs.Fitting.{RulesOut, false_is_true, never_both, never_holds}
-use Rattle.command_rows.proofs.Gate.{with_attached}
-use Rattle.command_rows.proofs.Lawful.{IsLawful, LineDid, nothing_changed, reply_line, row_refused}
-use Rattle.command_rows.proofs.Replies.{done_replying}
-use Rattle.command_rows.proofs.Sound.{Sound, SoundReply, sound_decision, sound_reply, sound_then}
-use Rattle.command_rows.proofs.Storing.{Unstored, decision_unstored, same_files, unstored_reply, unstored_then}
-use Rattle.command_rows.proofs.Keeping.{KeepsRequests}
+use Rattle.command_rows.proofs.VerbLaws.{Becomes, Counts, Did, IsLawful, KeepsRequests, LineDid, LineHasCause, RulesOut, Sound, SoundReply, StoresNone, UncountedAnswer, Unstored, Why, becomes_as, decision_unstored, did_then, does_did, does_uncounted, done_replying, events_why, false_is_true, needs, never_both, never_holds, nothing_changed, refused_by, reply_line, row_refused, same_disk, same_files, same_reach, sound_decision, sound_reply, sound_then, then_why, uncounted_step, unstored_reply, unstored_then, with_attached}
 
 suspending_counts : (a : Attachment) → Counts (Suspends a)
 suspending_counts a old answer new h = uncounted_step old answer new (does_uncounted (Flush ∷ []) old.disk answer new.disk h.flushes) h.outside.cabinet h.outside.entropy

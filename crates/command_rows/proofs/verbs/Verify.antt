@@ -1,44 +1,14 @@
 -- That `verify` is lawful.
-use Rattle.std.proofs.Common.{Bool, Err, List, None, Ok, Option, Result, Some, [], ap, arith, cond, false, inl, inr, length, refl, subst, sym, true, ℕ, ◌∙◌, ◌≡◌, ◌≤◌, ◌⊎◌}
+use Rattle.std.proofs.Common.{Bool, Err, List, None, Ok, Option, Result, Some, [], ap, arith, cond, false, inl, inr, length, refl, subst, sym, true, ℕ, ◌∙◌, ◌≡◌, ◌≤◌, ◌⊎◌, IfSome}
 use Rattle.std.specs.Int.{from_le_bytes, w64}
-use Rattle.std.specs.Prelude.{IfSome}
-use Rattle.block_traits.specs.Cabinet.{CabinetState, Files, stored}
-use Rattle.block_traits.specs.Causes.{Counted}
-use Rattle.block_traits.specs.Disk.{DiskState, Logs}
-use Rattle.command_words.specs.Places.{bytes_at}
-use Rattle.command_words.specs.declared.commands.Command.{Command}
 use Rattle.command_words.specs.declared.commands.Command.TheVariants as commands
-use Rattle.command_words.specs.declared.spans.Span.{Span}
-use Rattle.eli_base.specs.declared.refusals.Refusal.{Refusal}
 use Rattle.eli_base.specs.declared.refusals.Refusal.TheVariants as refusals
-use Rattle.key_components.specs.Answers.{file_answer}
-use Rattle.provider.specs.Attached.{has_tags, media}
-use Rattle.range_keys.specs.Keys.{le64}
-use Rattle.verify_sweep.specs.Sweeping.{Sweep}
-use Rattle.command_rows.specs.Becoming.{Becomes}
-use Rattle.command_rows.specs.Causes.{LineHasCause, may_lack_memory, needs_tags}
-use Rattle.command_rows.specs.Findings.{IsFile}
-use Rattle.command_rows.specs.Gate.{needs}
-use Rattle.command_rows.specs.Steps.{Decides, LoadsFile, StoresBytes, Then}
-use Rattle.command_rows.specs.Storing.{StoresAt, StoresNone, StoresOne}
-use Rattle.command_rows.specs.World.{Attachment, IsAttached, Reach}
+use Rattle.command_rows.specs.Rows.{Attachment, Decides, IsAttached, IsFile, LoadsFile, Reach, StoresBytes, Then}
+use Rattle.command_rows.specs.Vocabulary.{CabinetState, Command, Counted, DiskState, Files, Logs, Refusal, Span, Sweep, bytes_at, file_answer, has_tags, le64, media, stored}
 use Rattle.command_rows.specs.verbs.Verify.{FindsPlace, FitsVerify, LoadsPlace, NeedsPlace, NeedsTags, PartAnswer, RefusesLong, RefusesPlace, SaysPlace, SaysTooFar, StoresPlace, Sweeps, SweepsFrom, SweptPart, VerifyRow, if_inside, if_tagged, place_in, place_size, unless_absent, verified_or}
-use Rattle.command_rows.proofs.Becoming.{Stays, same_reach, stays_so, stays_then}
-use Rattle.command_rows.proofs.Causing.{Step, Why, then_since, then_why}
-use Rattle.command_rows.proofs.Counting.{Counts, CountsResult, UncountedAnswer, by_plain, file_counts, uncounted_step}
-use Rattle.command_rows.proofs.Events.{Quiet, quiet_did, quiet_failure, quiet_then, same_disk}
-use Rattle.command_rows.proofs.Fitting.{apart_out, false_is_true, never_both, not_both}
-use Rattle.command_rows.proofs.Gate.{attached, with_attached}
-use Rattle.command_rows.proofs.Grounding.{decides_why, loading_bytes, storing_why}
-use Rattle.command_rows.proofs.Lawful.{IsLawful, LineDid, nothing_changed, reply_line, row_refused}
 use Rattle.command_rows.proofs.PlaceCauses.{wrong_file}
-use Rattle.command_rows.proofs.PlaceEvents.{quiet_storing}
-use Rattle.command_rows.proofs.Plain.{PlainAnswer}
-use Rattle.command_rows.proofs.Replies.{verified_replying}
-use Rattle.command_rows.proofs.Sound.{Sound, SoundReply, done_sound, sound_decision, sound_reply, sound_step, sound_then, storing_sound}
-use Rattle.command_rows.proofs.Storing.{Stored, Unstored, bytes_stored, decision_unstored, done_unstored, next_unstored, none_then, same_files, stored_then, unstored_then}
 use Rattle.command_rows.proofs.SweepPlaces.{OfFile, eight_loaded, eight_says, found_place, from_stays, is_inside, place_stays, was_loaded}
-use Rattle.command_rows.proofs.Keeping.{attached_keeps}
+use Rattle.command_rows.proofs.VerbLaws.{Becomes, Counts, CountsResult, IsLawful, LineDid, LineHasCause, PlainAnswer, Quiet, Sound, SoundReply, Stays, Step, Stored, StoresAt, StoresNone, StoresOne, UncountedAnswer, Unstored, Why, apart_out, attached, attached_keeps, by_plain, bytes_stored, decides_why, decision_unstored, done_sound, done_unstored, false_is_true, file_counts, loading_bytes, may_lack_memory, needs, needs_tags, never_both, next_unstored, none_then, not_both, nothing_changed, quiet_did, quiet_failure, quiet_storing, quiet_then, reply_line, row_refused, same_disk, same_files, same_reach, sound_decision, sound_reply, sound_step, sound_then, stays_so, stays_then, stored_then, storing_sound, storing_why, then_since, then_why, uncounted_step, unstored_then, verified_replying, with_attached}
 
 tagged_uncounted : (tagged : Bool) → UncountedAnswer (if_tagged tagged)
 tagged_uncounted true = tt

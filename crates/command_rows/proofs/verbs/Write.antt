@@ -1,32 +1,11 @@
 -- That `write` is lawful.
 use Rattle.std.proofs.Common.{Bool, Err, List, None, Ok, Result, ap, cond, false, length, refl, subst, sym, true, ℕ, ◌/◌, ◌∙◌, ◌≡◌}
-use Rattle.command_words.specs.Places.{bytes_at}
-use Rattle.command_words.specs.declared.commands.Command.{Command}
 use Rattle.command_words.specs.declared.commands.Command.TheVariants as commands
-use Rattle.command_words.specs.declared.spans.Span.{Span}
-use Rattle.eli_base.specs.declared.refusals.Refusal.{Refusal}
 use Rattle.eli_base.specs.declared.refusals.Refusal.TheVariants as refusals
-use Rattle.provider.specs.Attached.{media}
-use Rattle.provider.specs.Writing.{data_writes}
-use Rattle.command_rows.specs.Becoming.{Becomes}
-use Rattle.command_rows.specs.Causes.{LineHasCause}
-use Rattle.command_rows.specs.Digits.{bytes_spelled}
-use Rattle.command_rows.specs.Gate.{needs, refused_by}
-use Rattle.command_rows.specs.Replies.{done_or}
-use Rattle.command_rows.specs.Steps.{NeedsSectors, NeedsWhole, NeedsWritable, Then, WritesSectors, whole_sectors}
-use Rattle.command_rows.specs.Storing.{StoresNone}
-use Rattle.command_rows.specs.World.{AttachedWith, Attachment, Holding, IsAttached, Reach}
+use Rattle.command_rows.specs.Rows.{AttachedWith, Attachment, Holding, IsAttached, NeedsSectors, NeedsWhole, NeedsWritable, Reach, Then, WritesSectors, bytes_spelled, done_or, whole_sectors}
+use Rattle.command_rows.specs.Vocabulary.{Command, Refusal, Span, bytes_at, data_writes, media}
 use Rattle.command_rows.specs.verbs.Write.{FitsWrite, WriteRow, WritesData}
-use Rattle.command_rows.proofs.Becoming.{Stays, same_reach, stays_so, stays_then}
-use Rattle.command_rows.proofs.Causing.{Why, then_why, whole_why, writable_write_why}
-use Rattle.command_rows.proofs.Events.{Did, did_then, same_disk, writable_did}
-use Rattle.command_rows.proofs.Fitting.{RulesOut, false_is_true, never_both, never_holds, not_both, passes}
-use Rattle.command_rows.proofs.Gate.{with_attached}
-use Rattle.command_rows.proofs.Lawful.{IsLawful, LineDid, nothing_changed, reply_line, row_refused}
-use Rattle.command_rows.proofs.Replies.{done_replying}
-use Rattle.command_rows.proofs.Sound.{Sound, SoundReply, doing_sound, range_sound, sound_reply, sound_then, whole_sound, writable_sound}
-use Rattle.command_rows.proofs.Storing.{Unstored, doing_unstored, range_unstored, unstored_reply, unstored_then, whole_unstored, writable_unstored}
-use Rattle.command_rows.proofs.Keeping.{attached_keeps}
+use Rattle.command_rows.proofs.VerbLaws.{Becomes, Did, IsLawful, LineDid, LineHasCause, RulesOut, Sound, SoundReply, Stays, StoresNone, Unstored, Why, attached_keeps, did_then, doing_sound, doing_unstored, done_replying, false_is_true, needs, never_both, never_holds, not_both, nothing_changed, passes, range_sound, range_unstored, refused_by, reply_line, row_refused, same_disk, same_reach, sound_reply, sound_then, stays_so, stays_then, then_why, unstored_reply, unstored_then, whole_sound, whole_unstored, whole_why, with_attached, writable_did, writable_sound, writable_unstored, writable_write_why}
 
 write_why : (line : List ℕ) (prov : Span) (sector : ℕ) (hex : Span) (a : Attachment) (old : Reach) (answer : Result (Unit {0}) Refusal) (new : Reach) → old.holding ≡ IsAttached a
     → WriteRow sector (bytes_spelled (bytes_at line hex)) a old answer new

@@ -1,18 +1,7 @@
 -- `attach`: a key is tried, and the provider is attached (geli(8)).
 use Rattle.std.specs.Prelude.{Bool, Err, List, None, Ok, Option, Result, false, true, ℕ, ◌≡◌, ◌⊎◌}
-use Rattle.command_words.specs.declared.spans.KeyWords.{KeyWords}
-use Rattle.command_words.specs.declared.spans.Span.{Span}
-use Rattle.eli_base.specs.declared.refusals.Refusal.{Refusal}
-use Rattle.eli_metadata.specs.Checks.{Settings}
-use Rattle.eli_metadata.specs.declared.metadata.Metadata.{Metadata}
-use Rattle.user_key.specs.Derivation.{user_key}
-use Rattle.user_key.specs.declared.components.Components.{Components}
-use Rattle.command_rows.specs.Findings.{AreComponents, HasMetadata, LacksMetadata, NamesParts, RefusesFiles, ShowsMetadata}
-use Rattle.command_rows.specs.Replies.{Replies, done_or}
-use Rattle.command_rows.specs.Steps.{Attaches, Decides, Then, admitted, tried}
-use Rattle.command_rows.specs.Trying.{TryRow}
-use Rattle.command_rows.specs.Verb.{NoChanges, NoEvents, OfOther, Verb, asks_nothing, places_nothing}
-use Rattle.command_rows.specs.World.{Attachment, Reach}
+use Rattle.command_rows.specs.Rows.{AreComponents, Attaches, Attachment, Decides, HasMetadata, LacksMetadata, NamesParts, NoChanges, NoEvents, OfOther, Reach, RefusesFiles, Replies, ShowsMetadata, Then, TryRow, Verb, admitted, asks_nothing, done_or, places_nothing, tried}
+use Rattle.command_rows.specs.Vocabulary.{Components, KeyWords, Metadata, Refusal, Settings, Span, user_key}
 
 -- what follows the trial of a key: nothing with `-C`, else the provider is attached
 abbrev pub AttachesUnless : Bool → Attachment → Reach → Result (Unit {0}) Refusal → Reach → Type 0

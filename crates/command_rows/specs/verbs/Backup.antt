@@ -1,15 +1,7 @@
 -- `backup`: the metadata are stored in a file (geli(8)).
 use Rattle.std.specs.Prelude.{List, Result, Some, ℕ, ◌≡◌}
-use Rattle.backup_restore.specs.Saving.{Saves}
-use Rattle.block_traits.specs.Disk.{DiskState}
-use Rattle.command_words.specs.declared.spans.Span.{Span}
-use Rattle.eli_base.specs.declared.refusals.Refusal.{Refusal}
-use Rattle.command_rows.specs.Findings.{FindsMetadata, LacksMetadata}
-use Rattle.command_rows.specs.Replies.{Replies, done_or}
-use Rattle.command_rows.specs.Requests.{handed_out}
-use Rattle.command_rows.specs.Steps.{KeepsOutside, StoresBytes, Then}
-use Rattle.command_rows.specs.Verb.{NoBadFile, NoChanges, NoEvents, OfOther, Verb, asks_nothing, places_nothing}
-use Rattle.command_rows.specs.World.{Reach}
+use Rattle.command_rows.specs.Rows.{FindsMetadata, KeepsOutside, LacksMetadata, NoBadFile, NoChanges, NoEvents, OfOther, Reach, Replies, StoresBytes, Then, Verb, asks_nothing, done_or, handed_out, places_nothing}
+use Rattle.command_rows.specs.Vocabulary.{DiskState, Refusal, Saves, Span}
 
 -- the last sector was read, into a place that had other bytes before; it is answered where it has metadata
 pub record ReadsForBackup (old : DiskState) (answer : Result (List ℕ) Refusal) (new : DiskState) : Type 0 where

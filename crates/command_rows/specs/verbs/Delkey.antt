@@ -1,23 +1,11 @@
 -- `delkey`: keys are taken out of their slots (geli(8)).
 use Rattle.std.specs.Option.{option_map, option_or}
 use Rattle.std.specs.Prelude.{Bool, Err, IsTrue, List, None, Ok, Option, Result, Some, false, length, true, ℕ, ◌≡◌, ◌⊎◌}
-use Rattle.block_traits.specs.Disk.{DiskState, last_sector}
-use Rattle.block_traits.specs.Moments.{AtEachMoment, HoldsOnceFlushed, KeepsAlone, KeepsOldOr}
-use Rattle.block_traits.specs.declared.disk.Event.{Event}
-use Rattle.command_words.specs.declared.spans.Span.{Span}
-use Rattle.eli_base.specs.declared.refusals.Refusal.{Refusal}
 use Rattle.eli_base.specs.declared.refusals.Refusal.TheVariants as refusals
-use Rattle.eli_metadata.specs.Format.{encoded}
-use Rattle.eli_metadata.specs.declared.metadata.Metadata.{Metadata}
-use Rattle.key_commands.specs.DeleteKeys.{DeletesKeys, Deletion, HasOtherKeys, IsWithout}
-use Rattle.key_commands.specs.Overwriting.{HasNoKey, deletion_refusal, filler_size, pass_events}
 use Rattle.key_commands.specs.declared.overwriting.Which.{Which}
 use Rattle.key_commands.specs.declared.overwriting.Which.TheVariants as slots
-use Rattle.command_rows.specs.Findings.{HasMetadata, LacksMetadata, ShowsMetadata}
-use Rattle.command_rows.specs.Replies.{Replies, done_or}
-use Rattle.command_rows.specs.Steps.{Decides, ReadsLastSector, Then, without_value}
-use Rattle.command_rows.specs.Verb.{NoBadFile, OfOther, Verb, asks_nothing, places_nothing}
-use Rattle.command_rows.specs.World.{Holding, Reach, attachment_in}
+use Rattle.command_rows.specs.Rows.{Decides, HasMetadata, Holding, LacksMetadata, NoBadFile, OfOther, Reach, ReadsLastSector, Replies, ShowsMetadata, Then, Verb, asks_nothing, attachment_in, done_or, places_nothing, without_value}
+use Rattle.command_rows.specs.Vocabulary.{AtEachMoment, DeletesKeys, Deletion, DiskState, Event, HasNoKey, HasOtherKeys, HoldsOnceFlushed, IsWithout, KeepsAlone, KeepsOldOr, Metadata, Refusal, Span, deletion_refusal, encoded, filler_size, last_sector, pass_events}
 
 -- the slots that are named: both, or one
 abbrev pub named_slots : Bool → Option ℕ → Result Which Refusal

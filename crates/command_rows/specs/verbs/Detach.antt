@@ -1,11 +1,7 @@
 -- `detach`: the drawer becomes idle, also where it was suspended (geli(8)).
 use Rattle.std.specs.Prelude.{None, Result}
-use Rattle.command_words.specs.declared.spans.Span.{Span}
-use Rattle.eli_base.specs.declared.refusals.Refusal.{Refusal}
-use Rattle.command_rows.specs.Replies.{Replies, done_or}
-use Rattle.command_rows.specs.Steps.{Detaches}
-use Rattle.command_rows.specs.Verb.{NoBadFile, NoChanges, NoGround, OfOther, OneFlush, Verb, asks_nothing, places_nothing}
-use Rattle.command_rows.specs.World.{Reach}
+use Rattle.command_rows.specs.Rows.{Detaches, NoBadFile, NoChanges, NoGround, OfOther, OneFlush, Reach, Replies, Verb, asks_nothing, done_or, places_nothing}
+use Rattle.command_rows.specs.Vocabulary.{Refusal, Span}
 
 -- `detach`, of an attached drawer
 abbrev pub DetachRow : Reach → Result (Unit {0}) Refusal → Reach → Type 0

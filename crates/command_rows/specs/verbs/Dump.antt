@@ -1,13 +1,7 @@
 -- `dump`: the metadata are read (geli(8)).
 use Rattle.std.specs.Prelude.{None, Result}
-use Rattle.command_words.specs.declared.spans.Span.{Span}
-use Rattle.eli_base.specs.declared.refusals.Refusal.{Refusal}
-use Rattle.eli_metadata.specs.declared.metadata.Metadata.{Metadata}
-use Rattle.command_rows.specs.Findings.{FindsMetadata, LacksMetadata}
-use Rattle.command_rows.specs.Replies.{Replies, dump_or}
-use Rattle.command_rows.specs.Steps.{ReadsLastSector}
-use Rattle.command_rows.specs.Verb.{NoBadFile, NoChanges, NoEvents, OfOther, Verb, asks_nothing, places_nothing}
-use Rattle.command_rows.specs.World.{Reach}
+use Rattle.command_rows.specs.Rows.{FindsMetadata, LacksMetadata, NoBadFile, NoChanges, NoEvents, OfOther, Reach, ReadsLastSector, Replies, Verb, asks_nothing, dump_or, places_nothing}
+use Rattle.command_rows.specs.Vocabulary.{Metadata, Refusal, Span}
 
 -- `dump`: the metadata are read
 abbrev pub DumpRow : Reach → Result Metadata Refusal → Reach → Type 0

@@ -1,12 +1,8 @@
 -- `flush`: what was written is made to last.
 use Rattle.std.specs.Prelude.{None, Result, [], ◌∷◌}
 use Rattle.block_traits.specs.declared.disk.Event.TheVariants.{Flush}
-use Rattle.command_words.specs.declared.spans.Span.{Span}
-use Rattle.eli_base.specs.declared.refusals.Refusal.{Refusal}
-use Rattle.command_rows.specs.Replies.{Replies, done_or}
-use Rattle.command_rows.specs.Steps.{Does}
-use Rattle.command_rows.specs.Verb.{NoBadFile, NoChanges, NoGround, OfOther, OneFlush, Verb, asks_nothing, places_nothing}
-use Rattle.command_rows.specs.World.{Reach}
+use Rattle.command_rows.specs.Rows.{Does, NoBadFile, NoChanges, NoGround, OfOther, OneFlush, Reach, Replies, Verb, asks_nothing, done_or, places_nothing}
+use Rattle.command_rows.specs.Vocabulary.{Refusal, Span}
 
 -- `flush`, of an attached drawer
 abbrev pub FlushRow : Reach → Result (Unit {0}) Refusal → Reach → Type 0

@@ -1,26 +1,8 @@
 -- `init`: a provider is made, and its metadata are backed up (geli(8)).
 use Rattle.std.specs.Prelude.{Bool, IsTrue, List, None, Option, Result, Some, if◌then◌else◌, negsuc, pos, unwrap_or, ℕ, ℤ, ◌≡◌}
-use Rattle.block_traits.specs.Cabinet.{Files}
-use Rattle.block_traits.specs.Disk.{DiskState, last_sector}
-use Rattle.block_traits.specs.Moments.{KeepsAlone, KeepsOldOr}
-use Rattle.command_words.specs.declared.spans.KeyWords.{KeyWords}
-use Rattle.command_words.specs.declared.spans.Span.{Span}
-use Rattle.eli_base.specs.declared.algorithms.Auth.{Auth}
 use Rattle.eli_base.specs.declared.algorithms.Cipher.{Cipher}
-use Rattle.eli_base.specs.declared.refusals.Refusal.{Refusal}
-use Rattle.eli_metadata.specs.Format.{encoded}
-use Rattle.eli_metadata.specs.Place.{IsSectorOf}
-use Rattle.eli_metadata.specs.declared.metadata.Metadata.{Metadata}
-use Rattle.key_commands.specs.Options.{early_refusal}
-use Rattle.key_commands.specs.Usable.{IsUsable}
-use Rattle.key_commands.specs.declared.options.InitOptions.{InitOptions}
-use Rattle.user_key.specs.declared.components.Components.{Components}
-use Rattle.user_key.specs.declared.components.UserKey.{UserKey}
-use Rattle.command_rows.specs.Findings.{AreComponents, NamesParts, RefusesFiles, WritesMetadata}
-use Rattle.command_rows.specs.Replies.{Replies, done_or}
-use Rattle.command_rows.specs.Steps.{BacksUp, LoadsComponents, MakesProvider, Then}
-use Rattle.command_rows.specs.Verb.{OfOther, Verb, asks_nothing, places_nothing}
-use Rattle.command_rows.specs.World.{Reach}
+use Rattle.command_rows.specs.Rows.{AreComponents, BacksUp, LoadsComponents, MakesProvider, NamesParts, OfOther, Reach, RefusesFiles, Replies, Then, Verb, WritesMetadata, asks_nothing, done_or, places_nothing}
+use Rattle.command_rows.specs.Vocabulary.{Auth, Components, DiskState, Files, InitOptions, IsSectorOf, IsUsable, KeepsAlone, KeepsOldOr, KeyWords, Metadata, Refusal, Span, UserKey, early_refusal, encoded, last_sector}
 
 -- the iterations of a new key: none without a passphrase, else those that are given, or 100,000
 abbrev pub iterations_of : KeyWords → Option ℤ → ℤ

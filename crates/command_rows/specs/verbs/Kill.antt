@@ -1,17 +1,7 @@
 -- `kill`: the metadata are destroyed (geli(8)).
 use Rattle.std.specs.Prelude.{Bool, List, None, Ok, Result, length, ℕ, ◌≡◌, ◌≤◌}
-use Rattle.block_traits.specs.Disk.{DiskState, last_sector}
-use Rattle.block_traits.specs.Moments.{AtEachMoment}
-use Rattle.block_traits.specs.declared.disk.Event.{Event}
-use Rattle.command_words.specs.declared.spans.Span.{Span}
-use Rattle.eli_base.specs.declared.refusals.Refusal.{Refusal}
-use Rattle.resize_kill.specs.Killing.{HoldsNoMetadata, Kills, kill_events}
-use Rattle.resize_kill.specs.Trash.{trash_size}
-use Rattle.command_rows.specs.Findings.{LacksRoom}
-use Rattle.command_rows.specs.Replies.{Replies, done_or}
-use Rattle.command_rows.specs.Steps.{Then}
-use Rattle.command_rows.specs.Verb.{NoBadFile, OfOther, Verb, asks_nothing, places_nothing}
-use Rattle.command_rows.specs.World.{Idle, Reach}
+use Rattle.command_rows.specs.Rows.{Idle, LacksRoom, NoBadFile, OfOther, Reach, Replies, Then, Verb, asks_nothing, done_or, places_nothing}
+use Rattle.command_rows.specs.Vocabulary.{AtEachMoment, DiskState, Event, HoldsNoMetadata, Kills, Refusal, Span, kill_events, last_sector, trash_size}
 
 -- the drawer is idle from now on, also where it was attached, and its disk tells what it told
 abbrev pub Withdraws : Reach → Result (Unit {0}) Refusal → Reach → Type 0

@@ -1,15 +1,7 @@
 -- `read`: logical sectors are answered.
 use Rattle.std.specs.Prelude.{Err, List, None, Ok, Result, ℕ, ◌*◌, ◌+◌, ◌≡◌, ◌≤◌}
-use Rattle.block_traits.specs.Disk.{DiskState}
-use Rattle.command_words.specs.declared.spans.Span.{Span}
-use Rattle.eli_base.specs.declared.refusals.Refusal.{Refusal}
-use Rattle.provider.specs.Attached.{media}
-use Rattle.provider.specs.Reading.{ReadsAs}
-use Rattle.command_rows.specs.Asks.{AsksToRead, Counted}
-use Rattle.command_rows.specs.Replies.{Replies, payload_or}
-use Rattle.command_rows.specs.Steps.{NeedsSectors, NeedsWhole, ReadsSectors, Then, whole_sectors}
-use Rattle.command_rows.specs.Verb.{NoBadFile, NoChanges, NoEvents, NoGround, OfRead, Verb, places_nothing}
-use Rattle.command_rows.specs.World.{AttachedWith, Attachment, Reach}
+use Rattle.command_rows.specs.Rows.{AsksToRead, AttachedWith, Attachment, Counted, NeedsSectors, NeedsWhole, NoBadFile, NoChanges, NoEvents, NoGround, OfRead, Reach, ReadsSectors, Replies, Then, Verb, payload_or, places_nothing, whole_sectors}
+use Rattle.command_rows.specs.Vocabulary.{DiskState, ReadsAs, Refusal, Span, media}
 
 -- `read` of so many sectors, of an attached drawer
 abbrev pub ReadRow : ℕ → ℕ → Attachment → Reach → Result (List ℕ) Refusal → Reach → Type 0

@@ -1,23 +1,10 @@
 -- `reap`: a request whose units are all done is taken out.
 use Rattle.std.specs.Prelude.{Err, List, None, Ok, Option, Result, Some, take, ℕ, ◌≡◌}
-use Rattle.bio_queue.specs.Answers.{HasBadUnit, ReapAnswers}
-use Rattle.bio_queue.specs.Owners.{IsOf}
-use Rattle.bio_queue.specs.Requests.{Request, left_of, request_with}
-use Rattle.bio_queue.specs.declared.faults.ReapFault.{ReapFault}
 use Rattle.bio_queue.specs.declared.faults.ReapFault.TheVariants as reap
-use Rattle.bio_queue.specs.declared.job.Reaped.{Reaped}
 use Rattle.bio_queue.specs.declared.job.Reaped.TheVariants as reaped
-use Rattle.block_traits.specs.Disk.{DiskState}
-use Rattle.command_words.specs.declared.spans.Span.{Span}
-use Rattle.eli_base.specs.declared.refusals.Refusal.{Refusal}
 use Rattle.eli_base.specs.declared.refusals.Refusal.TheVariants as refusals
-use Rattle.provider.specs.Attached.{media}
-use Rattle.command_rows.specs.Asks.{AsksToReap}
-use Rattle.command_rows.specs.Replies.{Replies, reaped_or}
-use Rattle.command_rows.specs.Queueing.{NeedsRequest, with_queue}
-use Rattle.command_rows.specs.Steps.{Then}
-use Rattle.command_rows.specs.Verb.{NoBadFile, NoChanges, NoEvents, NoGround, OfReap, PlacesNoMore, Verb}
-use Rattle.command_rows.specs.World.{AttachedWith, Attachment, IsAttached, Reach}
+use Rattle.command_rows.specs.Rows.{AsksToReap, AttachedWith, Attachment, IsAttached, NeedsRequest, NoBadFile, NoChanges, NoEvents, NoGround, OfReap, PlacesNoMore, Reach, Replies, Then, Verb, reaped_or, with_queue}
+use Rattle.command_rows.specs.Vocabulary.{DiskState, HasBadUnit, IsOf, ReapAnswers, ReapFault, Reaped, Refusal, Request, Span, left_of, media, request_with}
 
 abbrev pub reap_refusal : ℕ → ReapFault → Refusal
 reap_refusal tag reap.NoRequest = refusals.NoRequest tag

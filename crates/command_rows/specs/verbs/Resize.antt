@@ -1,19 +1,7 @@
 -- `resize`: the metadata move with an image that grew (geli(8)).
 use Rattle.std.specs.Prelude.{Bool, IsTrue, List, None, Ok, Result, Some, length, ℕ, ◌≡◌, ◌⊎◌}
-use Rattle.block_traits.specs.Disk.{DiskState, last_sector}
-use Rattle.block_traits.specs.Moments.{KeepsAlone}
-use Rattle.block_traits.specs.declared.disk.Event.{Event}
-use Rattle.command_words.specs.declared.spans.Span.{Span}
-use Rattle.eli_base.specs.declared.refusals.Refusal.{Refusal}
-use Rattle.eli_metadata.specs.Format.{encoded}
-use Rattle.eli_metadata.specs.declared.metadata.MetaFault.{MetaFault}
-use Rattle.eli_metadata.specs.declared.metadata.Metadata.{Metadata}
-use Rattle.resize_kill.specs.Resizing.{KeepsOneOf, Resizes, grown, move_events, old_place, old_refusal, size_refusal}
-use Rattle.resize_kill.specs.Trash.{trash_size}
-use Rattle.command_rows.specs.Findings.{IsReadAs, ShowsMetadataAt}
-use Rattle.command_rows.specs.Replies.{Replies, done_or}
-use Rattle.command_rows.specs.Verb.{NoBadFile, OfOther, Verb, asks_nothing, places_nothing}
-use Rattle.command_rows.specs.World.{Reach}
+use Rattle.command_rows.specs.Rows.{IsReadAs, NoBadFile, OfOther, Reach, Replies, ShowsMetadataAt, Verb, asks_nothing, done_or, places_nothing}
+use Rattle.command_rows.specs.Vocabulary.{DiskState, Event, KeepsAlone, KeepsOneOf, MetaFault, Metadata, Refusal, Resizes, Span, encoded, grown, last_sector, move_events, old_place, old_refusal, size_refusal, trash_size}
 
 -- the metadata move to the end of the image, which had so many bytes before, and all else stays
 pub record MovesMetadata (oldsize : ℕ) (old : Reach) (answer : Result (Unit {0}) Refusal) (new : Reach) : Type 0 where

@@ -1,20 +1,7 @@
 -- `restore`: the metadata are written back from a file (geli(8)).
 use Rattle.std.specs.Prelude.{Bool, Err, IsTrue, List, None, Ok, Option, Result, ℕ, ◌≡◌}
-use Rattle.backup_restore.specs.Restoring.{GivesMetadata, IsBackedUp, Restores, restored}
-use Rattle.block_traits.specs.Cabinet.{Files}
-use Rattle.block_traits.specs.Disk.{DiskState, last_sector}
-use Rattle.block_traits.specs.Moments.{KeepsAlone, KeepsOldOr}
-use Rattle.command_words.specs.declared.spans.Span.{Span}
-use Rattle.eli_base.specs.declared.refusals.Refusal.{Refusal}
-use Rattle.eli_metadata.specs.Format.{encoded}
-use Rattle.eli_metadata.specs.Place.{IsSectorOf}
-use Rattle.eli_metadata.specs.declared.metadata.Metadata.{Metadata}
-use Rattle.key_components.specs.Files.{file_limit}
-use Rattle.command_rows.specs.Findings.{IsFile, NamesFile, RefusesFile, WritesMetadata}
-use Rattle.command_rows.specs.Replies.{Replies, done_or}
-use Rattle.command_rows.specs.Steps.{Decides, KeepsOutside, LoadsFile, Then}
-use Rattle.command_rows.specs.Verb.{OfOther, Verb, asks_nothing, places_nothing}
-use Rattle.command_rows.specs.World.{Reach}
+use Rattle.command_rows.specs.Rows.{Decides, IsFile, KeepsOutside, LoadsFile, NamesFile, OfOther, Reach, RefusesFile, Replies, Then, Verb, WritesMetadata, asks_nothing, done_or, places_nothing}
+use Rattle.command_rows.specs.Vocabulary.{DiskState, Files, GivesMetadata, IsBackedUp, IsSectorOf, KeepsAlone, KeepsOldOr, Metadata, Refusal, Restores, Span, encoded, file_limit, last_sector, restored}
 
 -- metadata are put into the last sector from a backup, and all else stays
 pub record RestoresBackup (bytes : List ℕ) (force : Bool) (old : Reach) (answer : Result Metadata Refusal) (new : Reach) : Type 0 where

@@ -1,17 +1,9 @@
 -- `resume`: only a key that opens the master key that it had attaches a suspended provider again (geli(8)).
 use Rattle.std.specs.Prelude.{Err, List, None, Ok, Result, if◌then◌else◌, ℕ, ◌≡◌, ◌⊎◌}
 use Rattle.std.specs.Str.{bytes_eq}
-use Rattle.command_words.specs.declared.spans.KeyWords.{KeyWords}
-use Rattle.command_words.specs.declared.spans.Span.{Span}
-use Rattle.eli_base.specs.declared.refusals.Refusal.{Refusal}
 use Rattle.eli_base.specs.declared.refusals.Refusal.TheVariants as refusals
-use Rattle.sha2.specs.Sha256.{sha256}
-use Rattle.command_rows.specs.Findings.{LacksMetadata, RefusesFiles}
-use Rattle.command_rows.specs.Replies.{Replies, done_or}
-use Rattle.command_rows.specs.Steps.{Attaches, Decides, Then}
-use Rattle.command_rows.specs.Trying.{TryRow}
-use Rattle.command_rows.specs.Verb.{NoChanges, NoEvents, OfResume, Verb, asks_nothing, places_nothing}
-use Rattle.command_rows.specs.World.{Attachment, Kept, Reach, SuspendedWith}
+use Rattle.command_rows.specs.Rows.{Attaches, Attachment, Decides, Kept, LacksMetadata, NoChanges, NoEvents, OfResume, Reach, RefusesFiles, Replies, SuspendedWith, Then, TryRow, Verb, asks_nothing, done_or, places_nothing}
+use Rattle.command_rows.specs.Vocabulary.{KeyWords, Refusal, Span, sha256}
 use Rattle.command_rows.specs.verbs.Attach.{FindsKey, OpensWith, RefusesAttach}
 
 -- the master key that opened has the digest that was kept

@@ -1,32 +1,8 @@
 -- `setkey`, of an idle drawer and of an attached one: a key is put into a slot (geli(8)).
 use Rattle.std.specs.Prelude.{Bool, Err, IsTrue, List, MatchOption, None, Ok, Option, Result, Some, if◌then◌else◌, nat_le, unwrap_or, ℕ, ℤ, ◌≡◌, ◌⊎◌}
-use Rattle.block_traits.specs.Cabinet.{CabinetState, Files}
-use Rattle.block_traits.specs.Disk.{DiskState, last_sector, store_events}
-use Rattle.block_traits.specs.Moments.{KeepsAlone, KeepsOldOr}
-use Rattle.block_traits.specs.declared.disk.Event.{Event}
-use Rattle.command_words.specs.declared.spans.KeyWords.{KeyWords}
-use Rattle.command_words.specs.declared.spans.Span.{Span}
-use Rattle.eli_base.specs.declared.parameters.MasterKey.{MasterKey}
-use Rattle.eli_base.specs.declared.refusals.Refusal.{Refusal}
 use Rattle.eli_base.specs.declared.refusals.Refusal.TheVariants as refusals
-use Rattle.eli_metadata.specs.Checks.{Settings}
-use Rattle.eli_metadata.specs.Format.{encoded}
-use Rattle.eli_metadata.specs.Place.{IsSectorOf}
-use Rattle.eli_metadata.specs.Refusals.{refusal_of}
-use Rattle.eli_metadata.specs.declared.metadata.Metadata.{Metadata}
-use Rattle.key_commands.specs.NewKey.{HasNewKey, KeyChange, MakesKey, change_refusal}
-use Rattle.key_commands.specs.SetKey.{SetsKey}
-use Rattle.provider.specs.Attached.{opened}
-use Rattle.user_key.specs.Derivation.{user_key}
-use Rattle.user_key.specs.Refusals.{key_refusal_of}
-use Rattle.user_key.specs.declared.components.Components.{Components}
-use Rattle.user_key.specs.declared.components.KeyFault.{KeyFault}
-use Rattle.user_key.specs.declared.components.UserKey.{UserKey}
-use Rattle.command_rows.specs.Findings.{AreComponents, HasMetadata, LacksMetadata, NamesParts, RefusesFiles, ShowsMetadata}
-use Rattle.command_rows.specs.Replies.{Replies, done_or}
-use Rattle.command_rows.specs.Steps.{Admits, Decides, LoadsComponents, ReadsLastSector, Then, admitted, or_refusal, settings_for_size, without_value}
-use Rattle.command_rows.specs.Verb.{OfOther, Verb, asks_nothing, places_nothing}
-use Rattle.command_rows.specs.World.{Holding, Reach, attachment_in}
+use Rattle.command_rows.specs.Rows.{Admits, AreComponents, Decides, HasMetadata, Holding, LacksMetadata, LoadsComponents, NamesParts, OfOther, Reach, ReadsLastSector, RefusesFiles, Replies, ShowsMetadata, Then, Verb, admitted, asks_nothing, attachment_in, done_or, or_refusal, places_nothing, settings_for_size, without_value}
+use Rattle.command_rows.specs.Vocabulary.{CabinetState, Components, DiskState, Event, Files, HasNewKey, IsSectorOf, KeepsAlone, KeepsOldOr, KeyChange, KeyFault, KeyWords, MakesKey, MasterKey, Metadata, Refusal, SetsKey, Settings, Span, UserKey, change_refusal, encoded, key_refusal_of, last_sector, opened, refusal_of, store_events, user_key}
 
 -- a provider with these metadata can be used, in an image of this size, whether or not a slot holds a key
 abbrev pub usable : Metadata → ℕ → Result Settings Refusal

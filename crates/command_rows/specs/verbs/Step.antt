@@ -1,23 +1,10 @@
 -- `step`: the next unit of an open request is done.
 use Rattle.std.specs.Option.{option_map}
 use Rattle.std.specs.Prelude.{List, None, Result, Some, [], unwrap_or, ℕ, ◌≡◌, ◌≤◌}
-use Rattle.bio_queue.specs.Answers.{StepAnswers}
-use Rattle.bio_queue.specs.Owners.{IsOf}
-use Rattle.bio_queue.specs.Requests.{Request, left_of, request_with, step_events}
-use Rattle.bio_queue.specs.declared.faults.StepFault.{StepFault}
 use Rattle.bio_queue.specs.declared.faults.StepFault.TheVariants as step
-use Rattle.block_traits.specs.Disk.{DiskState}
-use Rattle.block_traits.specs.declared.disk.Event.{Event}
-use Rattle.command_words.specs.declared.spans.Span.{Span}
-use Rattle.eli_base.specs.declared.refusals.Refusal.{Refusal}
 use Rattle.eli_base.specs.declared.refusals.Refusal.TheVariants as refusals
-use Rattle.provider.specs.Attached.{media}
-use Rattle.command_rows.specs.Asks.{AsksToStep}
-use Rattle.command_rows.specs.Replies.{Replies, left_or}
-use Rattle.command_rows.specs.Queueing.{NeedsRequest, with_queue}
-use Rattle.command_rows.specs.Steps.{KeepsOutside, Then, or_refusal}
-use Rattle.command_rows.specs.Verb.{NoBadFile, NoChanges, NoGround, OfOther, PlacesUnit, Verb}
-use Rattle.command_rows.specs.World.{AttachedWith, Attachment, Holding, IsAttached, Reach}
+use Rattle.command_rows.specs.Rows.{AsksToStep, AttachedWith, Attachment, Holding, IsAttached, KeepsOutside, NeedsRequest, NoBadFile, NoChanges, NoGround, OfOther, PlacesUnit, Reach, Replies, Then, Verb, left_or, or_refusal, with_queue}
+use Rattle.command_rows.specs.Vocabulary.{DiskState, Event, IsOf, Refusal, Request, Span, StepAnswers, StepFault, left_of, media, request_with, step_events}
 
 abbrev pub step_refusal : ℕ → StepFault → Refusal
 step_refusal tag step.NoRequest = refusals.NoRequest tag

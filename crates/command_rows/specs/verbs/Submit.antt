@@ -1,26 +1,11 @@
 -- `submit`: a request is opened on an attached provider.
 use Rattle.std.specs.Prelude.{List, None, Ok, Option, Result, Some, [], false, length, ℕ, ◌*◌, ◌+◌, ◌<◌, ◌≡◌, ◌≤◌}
-use Rattle.bio_queue.specs.Answers.{SubmitAnswers}
-use Rattle.bio_queue.specs.Requests.{Request}
-use Rattle.bio_queue.specs.declared.faults.SubmitFault.{SubmitFault}
 use Rattle.bio_queue.specs.declared.faults.SubmitFault.TheVariants as submit
-use Rattle.bio_queue.specs.declared.job.Job.{Job}
 use Rattle.bio_queue.specs.declared.job.Job.TheVariants as jobs
-use Rattle.block_traits.specs.Disk.{DiskState}
-use Rattle.command_words.specs.Places.{bytes_at}
-use Rattle.command_words.specs.declared.commands.JobWords.{JobWords}
 use Rattle.command_words.specs.declared.commands.JobWords.TheVariants as words
-use Rattle.command_words.specs.declared.spans.Span.{Span}
-use Rattle.eli_base.specs.declared.refusals.Refusal.{Refusal}
 use Rattle.eli_base.specs.declared.refusals.Refusal.TheVariants as refusals
-use Rattle.provider.specs.Attached.{media}
-use Rattle.command_rows.specs.Asks.{AsksToOpen, Counted, Sectors, Spelled}
-use Rattle.command_rows.specs.Digits.{bytes_spelled}
-use Rattle.command_rows.specs.Replies.{Replies, tag_or}
-use Rattle.command_rows.specs.Queueing.{with_queue}
-use Rattle.command_rows.specs.Steps.{NeedsWhole, Then, or_refusal, whole_sectors}
-use Rattle.command_rows.specs.Verb.{NoBadFile, NoChanges, NoEvents, NoGround, OfOther, PlacesRequest, Verb}
-use Rattle.command_rows.specs.World.{AttachedWith, Attachment, IsAttached, Reach}
+use Rattle.command_rows.specs.Rows.{AsksToOpen, AttachedWith, Attachment, Counted, IsAttached, NeedsWhole, NoBadFile, NoChanges, NoEvents, NoGround, OfOther, PlacesRequest, Reach, Replies, Sectors, Spelled, Then, Verb, bytes_spelled, or_refusal, tag_or, whole_sectors, with_queue}
+use Rattle.command_rows.specs.Vocabulary.{DiskState, Job, JobWords, Refusal, Request, Span, SubmitAnswers, SubmitFault, bytes_at, media}
 
 abbrev pub submit_refusal : SubmitFault → Refusal
 submit_refusal submit.ReadOnly = refusals.ReadOnly

@@ -1,17 +1,7 @@
 -- `sum`: the digest of logical sectors is answered.
 use Rattle.std.specs.Prelude.{Err, List, None, Ok, Result, ℕ, ◌+◌, ◌≡◌, ◌≤◌}
-use Rattle.block_traits.specs.Disk.{DiskState}
-use Rattle.command_words.specs.declared.spans.Span.{Span}
-use Rattle.eli_base.specs.Keying.{Keying}
-use Rattle.eli_base.specs.declared.refusals.Refusal.{Refusal}
-use Rattle.provider.specs.Attached.{media}
-use Rattle.provider.specs.Reading.{ReadsAs}
-use Rattle.sha2.specs.Sha256.{sha256}
-use Rattle.command_rows.specs.Asks.{AsksToRead, Ranged}
-use Rattle.command_rows.specs.Replies.{Replies, digest_or}
-use Rattle.command_rows.specs.Steps.{Decides, NeedsSectors, ReadsSectors, SectorsAnswer, Then}
-use Rattle.command_rows.specs.Verb.{NoBadFile, NoChanges, NoEvents, NoGround, OfSum, Verb, places_nothing}
-use Rattle.command_rows.specs.World.{AttachedWith, Attachment, Reach}
+use Rattle.command_rows.specs.Rows.{AsksToRead, AttachedWith, Attachment, Decides, NeedsSectors, NoBadFile, NoChanges, NoEvents, NoGround, OfSum, Ranged, Reach, ReadsSectors, Replies, SectorsAnswer, Then, Verb, digest_or, places_nothing}
+use Rattle.command_rows.specs.Vocabulary.{DiskState, Keying, ReadsAs, Refusal, Span, media, sha256}
 
 -- `sum`, of an attached drawer: the sectors are read, and the SHA-256 of their bytes is answered
 abbrev pub SumRow : ℕ → ℕ → Attachment → Reach → Result (List ℕ) Refusal → Reach → Type 0

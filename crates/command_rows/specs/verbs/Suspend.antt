@@ -1,18 +1,9 @@
 -- `suspend`: of a suspended provider no request is served and no key is left (geli(8)).
 use Rattle.std.specs.Prelude.{Err, List, None, Ok, Result, [], length, ◌∷◌, ◌≡◌}
-use Rattle.bio_queue.specs.Requests.{Request}
-use Rattle.block_traits.specs.Disk.{DiskState}
 use Rattle.block_traits.specs.declared.disk.Event.TheVariants.{Flush}
-use Rattle.command_words.specs.declared.spans.Span.{Span}
-use Rattle.eli_base.specs.declared.refusals.Refusal.{Refusal}
 use Rattle.eli_base.specs.declared.refusals.Refusal.TheVariants as refusals
-use Rattle.provider.specs.Attached.{media}
-use Rattle.sha2.specs.Sha256.{sha256}
-use Rattle.command_rows.specs.Asks.{AsksForNone}
-use Rattle.command_rows.specs.Replies.{Replies, done_or}
-use Rattle.command_rows.specs.Steps.{Decides, DoesEvents, KeepsOutside, Then}
-use Rattle.command_rows.specs.Verb.{NoBadFile, NoChanges, NoGround, OfOther, OneFlush, Verb, places_nothing}
-use Rattle.command_rows.specs.World.{AttachedWith, Attachment, IsSuspended, Kept, Reach}
+use Rattle.command_rows.specs.Rows.{AsksForNone, AttachedWith, Attachment, Decides, DoesEvents, IsSuspended, KeepsOutside, Kept, NoBadFile, NoChanges, NoGround, OfOther, OneFlush, Reach, Replies, Then, Verb, done_or, places_nothing}
+use Rattle.command_rows.specs.Vocabulary.{DiskState, Refusal, Request, Span, media, sha256}
 
 -- no request is open; or it is refused with their number
 abbrev pub if_none_open : List Request → Result (Unit {0}) Refusal

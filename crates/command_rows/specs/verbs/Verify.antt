@@ -3,29 +3,11 @@
 use Rattle.std.specs.Int.{from_le_bytes, w64}
 use Rattle.std.specs.List.Sorted.{IsStrictlyIncreasing}
 use Rattle.std.specs.Prelude.{All, Bool, Contains, Err, List, None, Ok, Option, Result, Some, [], false, if◌then◌else◌, length, nat_le, nat_lt, true, ℕ, ◌*◌, ◌+◌, ◌↔◌, ◌≡◌, ◌≤◌, ◌⊎◌}
-use Rattle.block_traits.specs.Cabinet.{CabinetState, Files}
-use Rattle.block_traits.specs.Causes.{Counted}
-use Rattle.block_traits.specs.Content.{IsSector}
-use Rattle.block_traits.specs.Disk.{DiskState, Logs}
-use Rattle.command_words.specs.Places.{bytes_at}
-use Rattle.command_words.specs.declared.spans.Span.{Span}
-use Rattle.eli_base.specs.Keying.{Keying}
-use Rattle.eli_base.specs.declared.refusals.Refusal.{Refusal}
 use Rattle.eli_base.specs.declared.refusals.Refusal.TheVariants as refusals
-use Rattle.provider.specs.Attached.{has_tags, media}
-use Rattle.provider.specs.Reading.{StandFrom}
 use Rattle.provider.specs.Reads.{FailsAmong}
-use Rattle.range_keys.specs.Keys.{le64}
-use Rattle.sealing.specs.Sectors.{units}
-use Rattle.verify_sweep.specs.Parts.{sweep_at}
-use Rattle.verify_sweep.specs.Sweeping.{Fails, Sweep, failing_units, sectors_swept}
-use Rattle.command_rows.specs.Answer.{Answer}
 use Rattle.command_rows.specs.Answer as answers
-use Rattle.command_rows.specs.Findings.{IsFile, RefusesFile}
-use Rattle.command_rows.specs.Replies.{Replies}
-use Rattle.command_rows.specs.Steps.{Decides, KeepsOutside, LoadsFile, StoresBytes, Then}
-use Rattle.command_rows.specs.Verb.{NoChanges, NoEvents, OfSweep, Verb, asks_nothing, places_nothing}
-use Rattle.command_rows.specs.World.{AttachedWith, Attachment, Reach}
+use Rattle.command_rows.specs.Rows.{Answer, AttachedWith, Attachment, Decides, IsFile, KeepsOutside, LoadsFile, NoChanges, NoEvents, OfSweep, Reach, RefusesFile, Replies, StoresBytes, Then, Verb, asks_nothing, places_nothing}
+use Rattle.command_rows.specs.Vocabulary.{CabinetState, Counted, DiskState, Fails, Files, IsSector, Keying, Logs, Refusal, Span, StandFrom, Sweep, bytes_at, failing_units, has_tags, le64, media, sectors_swept, sweep_at, units}
 
 -- what a sweep comes to: the byte offsets of the units that fail, and the logical sector where the next one begins
 pub record SweptPart : Type 0 where

@@ -1,18 +1,7 @@
 -- `write`: logical sectors are written.
 use Rattle.std.specs.Prelude.{List, None, Ok, Result, false, length, ℕ, ◌+◌, ◌/◌, ◌≡◌, ◌≤◌}
-use Rattle.block_traits.specs.Disk.{DiskState}
-use Rattle.block_traits.specs.declared.disk.Event.{Event}
-use Rattle.command_words.specs.Places.{bytes_at}
-use Rattle.command_words.specs.declared.spans.Span.{Span}
-use Rattle.eli_base.specs.declared.refusals.Refusal.{Refusal}
-use Rattle.provider.specs.Attached.{media}
-use Rattle.provider.specs.Writing.{data_writes}
-use Rattle.command_rows.specs.Asks.{AsksToWrite, Spelled}
-use Rattle.command_rows.specs.Digits.{bytes_spelled}
-use Rattle.command_rows.specs.Replies.{Replies, done_or}
-use Rattle.command_rows.specs.Steps.{NeedsSectors, NeedsWhole, NeedsWritable, Then, WritesSectors, whole_sectors}
-use Rattle.command_rows.specs.Verb.{NoBadFile, NoChanges, NoGround, OfOther, PlacesBytes, Verb}
-use Rattle.command_rows.specs.World.{AttachedWith, Attachment, Holding, Reach}
+use Rattle.command_rows.specs.Rows.{AsksToWrite, AttachedWith, Attachment, Holding, NeedsSectors, NeedsWhole, NeedsWritable, NoBadFile, NoChanges, NoGround, OfOther, PlacesBytes, Reach, Replies, Spelled, Then, Verb, WritesSectors, bytes_spelled, done_or, whole_sectors}
+use Rattle.command_rows.specs.Vocabulary.{DiskState, Event, Refusal, Span, bytes_at, data_writes, media}
 
 -- `write` of these bytes, of an attached drawer
 abbrev pub WriteRow : ℕ → List ℕ → Attachment → Reach → Result (Unit {0}) Refusal → Reach → Type 0

@@ -1,8 +1,7 @@
-use Rattle.std.proofs.Common.{ℕ, List, sym, subst}
-use Rattle.std.specs.Prelude.{◌↔◌, Contains}
+use Rattle.std.proofs.Common.{ℕ, List, sym, subst, ◌↔◌, Contains}
 use Rattle.std.specs.List.Sorted.{IsStrictlyIncreasing}
-use Rattle.verify_sweep.specs.Sweeping.{Fails}
 use Rattle.verify_sweep.proofs.Failing.{failing_units-increase, listed-exactly}
+use Rattle.command_rows.specs.Vocabulary.{Fails}
 use Rattle.command_rows.proofs.laws.a_sweep_lists_each_failing_unit_once.Goals as goal
 
 pub returns : goal.returns

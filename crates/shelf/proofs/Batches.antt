@@ -2,26 +2,17 @@
 use Rattle.std.proofs.Common.{◌≡◌, ℕ, ◌+◌, ◌-◌, ◌*◌, ◌/◌, ◌%◌, ◌≤◌, List, [], ◌++◌, length, min, take, Ok, Err, refl, sym, ap, subst, ◌∙◌, arith, length-append}
 use Rattle.std.proofs.Math.Nat.{div-mul-le_self, mul-div_cancel, mul-le-mul_right, mul-mod_left}
 use Rattle.std.proofs.lemmas.List.{length-take-le}
-use Rattle.block_traits.specs.Causes.{Counted}
-use Rattle.block_traits.specs.Disk.{DiskState, Logs}
-use Rattle.block_traits.specs.declared.disk.Event.{Event}
 use Rattle.block_traits.proofs.Causes.{Counted-then}
 use Rattle.block_traits.proofs.Logs.{Logs-then, content-Logs}
-use Rattle.eli_base.specs.Keying.{Keying}
-use Rattle.eli_base.specs.Units.{media_sectors}
-use Rattle.eli_base.specs.declared.refusals.Refusal.{Refusal}
+use Rattle.command_rows.specs.Rows.{SectorsAnswer}
+use Rattle.command_rows.specs.Vocabulary.{Attached, Counted, DiskState, Event, IsKept, Keying, Logs, ReadsAs, Refusal, data_writes, media, media_sectors, units}
 use Rattle.eli_base.specs.declared.refusals.Refusal.TheVariants as refusals
-use Rattle.provider.specs.Attached.{Attached, IsKept, media}
-use Rattle.provider.specs.Reading.{ReadsAs}
-use Rattle.provider.specs.Writing.{data_writes}
 use Rattle.provider.proofs.Adjoining.{ReadsFrom-both, RunFails-behind, RunFault-behind, data_writes-more}
 use Rattle.rand_core.specs.Steps.{fill_via_u64}
 use Rattle.rand_pcg.specs.Lcg.{Lcg}
 use Rattle.rand_pcg.specs.Pcg.{pcg64}
-use Rattle.sealing.specs.Sectors.{units}
 use Rattle.sha_stream.specs.Hasher.{Holds256}
 use Rattle.sha_stream.specs.declared.hasher.Sha256.{Sha256}
-use Rattle.command_rows.specs.Steps.{SectorsAnswer}
 use Rattle.command_rows.specs.verbs.Fill.{generated, words_of_sectors}
 use Rattle.command_rows.proofs.Generated.{fill-whole, generated-more}
 

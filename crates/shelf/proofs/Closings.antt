@@ -1,12 +1,11 @@
 -- One more drawer is closed.
-use Rattle.std.proofs.Common.{◌≡◌, ◌∙◌, ℕ, ◌+◌, ◌≤◌, ◌<◌, List, [], ◌∷◌, ◌++◌, length, take, drop, get_or, refl, ap, sym, subst, arith, Bool, true, false}
+use Rattle.std.proofs.Common.{◌≡◌, ◌∙◌, ℕ, ◌+◌, ◌≤◌, ◌<◌, List, [], ◌∷◌, ◌++◌, length, take, drop, get_or, refl, ap, sym, subst, arith, Bool, true, false, get_or-set_same}
 use Rattle.std.proofs.Math.ListN.{length-set, set}
 use Rattle.std.proofs.lemmas.List.{drop-drop, drop-set-lt, get_or-drop, map-append, take-set, take_more}
-use Rattle.std.proofs.Common.{get_or-set_same}
-use Rattle.block_traits.specs.Disk.{DiskState}
+use Rattle.command_rows.specs.Rows.{DrawerState}
+use Rattle.command_rows.specs.Vocabulary.{DiskState}
 use Rattle.shelf.specs.declared.drawer.Drawer.{Drawer}
 use Rattle.shelf.specs.Closing.{Closes, Closing, failures}
-use Rattle.command_rows.specs.World.{DrawerState}
 use Rattle.shelf.specs.Shelved.{drawer_of, drawers_of}
 
 Closing-more : (old : List DrawerState) (count : ℕ) (new : List DrawerState) (drawer : DrawerState) (failed : Bool) (closed : DrawerState)

@@ -1,13 +1,8 @@
 -- The rows of `setkey` and `delkey`, by what the drawer does with its disk.
-use Rattle.std.proofs.Common.{◌≡◌, ℕ, List, sym, subst, Bool, Option, Some, Result}
-use Rattle.std.specs.Prelude.{ℤ, unwrap_or}
+use Rattle.std.proofs.Common.{◌≡◌, ℕ, List, sym, subst, Bool, Option, Some, Result, ℤ, unwrap_or}
 use Rattle.std.specs.Option.{option_or}
-use Rattle.block_traits.specs.Cabinet.{CabinetState}
-use Rattle.block_traits.specs.Disk.{DiskState}
-use Rattle.block_traits.specs.Streams.{EntropyState}
-use Rattle.command_words.specs.declared.spans.KeyWords.{KeyWords}
-use Rattle.eli_base.specs.declared.refusals.Refusal.{Refusal}
-use Rattle.command_rows.specs.World.{Attachment, Holding, IsAttached, reach_of}
+use Rattle.command_rows.specs.Rows.{Attachment, Holding, IsAttached, reach_of}
+use Rattle.command_rows.specs.Vocabulary.{CabinetState, DiskState, EntropyState, KeyWords, Refusal}
 use Rattle.command_rows.specs.verbs.Delkey.{DeletesRow, DelkeyRow}
 use Rattle.command_rows.specs.verbs.Setkey.{SetkeyAttachedRow}
 

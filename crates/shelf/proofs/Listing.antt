@@ -1,11 +1,10 @@
 -- The drawers one after the other: the first one with a name, their entries, and one more behind the others.
-use Rattle.std.proofs.Common.{◌≡◌, ◌∙◌, ◌++◌, ◌+◌, ◌<◌, ℕ, List, [], ◌∷◌, length, get_or, take, drop, map, suc, add-one, ap, sym, subst, arith, refl, Bool, false, cond, Option, None, Some, option_map, bytes_eq}
-use Rattle.std.specs.Prelude.{IsNone, is_some}
+use Rattle.std.proofs.Common.{◌≡◌, ◌∙◌, ◌++◌, ◌+◌, ◌<◌, ℕ, List, [], ◌∷◌, length, get_or, take, drop, map, suc, add-one, ap, sym, subst, arith, refl, Bool, false, cond, Option, None, Some, option_map, bytes_eq, IsNone, is_some}
 use Rattle.std.proofs.Math.Seq.{drop-cons}
 use Rattle.std.proofs.lemmas.List.{length-map, map-append, take_more}
-use Rattle.block_traits.specs.Disk.{DiskState}
+use Rattle.command_rows.specs.Rows.{place_of}
 use Rattle.command_rows.specs.Turn.{entry_of}
-use Rattle.command_rows.specs.World.{place_of}
+use Rattle.command_rows.specs.Vocabulary.{DiskState}
 use Rattle.reply_text.specs.declared.rows.Row.{Row}
 use Rattle.shelf.specs.Adding.{Adds}
 use Rattle.shelf.specs.Shelved.{drawer_of, drawers_of}

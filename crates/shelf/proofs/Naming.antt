@@ -4,8 +4,8 @@ use Rattle.std.specs.List.{remove}
 use Rattle.std.specs.Str.{bytes_eq}
 use Rattle.std.proofs.Math.ListN.{set}
 use Rattle.std.proofs.lemmas.List.{map-append, map-set}
-use Rattle.block_traits.specs.Disk.{DiskState}
-use Rattle.command_rows.specs.World.{DrawerState, NamesDiffer, is_idle, place_of}
+use Rattle.command_rows.specs.Rows.{DrawerState, NamesDiffer, is_idle, place_of}
+use Rattle.command_rows.specs.Vocabulary.{DiskState}
 use Rattle.command_rows.proofs.Naming.{differ-added, differ-removed, differ-set, place_by}
 use Rattle.shelf.specs.declared.drawer.Drawer.{Drawer}
 use Rattle.shelf.specs.Closing.{ClosesAs, Closing}

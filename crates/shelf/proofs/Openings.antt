@@ -1,30 +1,16 @@
 -- A provider that is attached, or refused, as the row of `attach`.
-use Rattle.std.proofs.Common.{◌≡◌, ◌∙◌, ℕ, ◌≤◌, [], ap, refl, sym, subst, Bool, true, Result, Ok, Err, Option, Some, None}
-use Rattle.std.specs.Prelude.{◌||◌, ◌==◌, IsSome, if◌then◌else◌}
-use Rattle.block_traits.specs.Disk.{DiskState}
-use Rattle.eli_base.specs.Keying.{Keying, keying_of}
-use Rattle.eli_base.specs.declared.parameters.MasterKey.{MasterKey}
+use Rattle.std.proofs.Common.{◌≡◌, ◌∙◌, ℕ, ◌≤◌, [], ap, refl, sym, subst, Bool, true, Result, Ok, Err, Option, Some, None, ◌||◌, ◌==◌, IsSome, if◌then◌else◌}
+use Rattle.command_rows.specs.Rows.{Attaches, Attachment, GoesOn, Idle, IsAttached, Reach, attachment_by, or_refusal, or_wrong_key, reach_of, tried, without_value}
+use Rattle.command_rows.specs.Vocabulary.{Attached, CabinetState, DiskState, EntropyState, KeyFault, Keying, MasterKey, Metadata, Refusal, Settings, UserKey, key_refusal_of, keying_of, media_sectors, opened, settings_of}
 use Rattle.provider.specs.Answers as answers
 use Rattle.provider.specs.Answers.{Means, Target, target_media}
-use Rattle.provider.specs.Attached.{Attached, opened}
 use Rattle.provider.specs.declared.faults.AttachFault.{AttachFault}
 use Rattle.provider.specs.declared.faults.AttachFault.TheVariants as attach
 use Rattle.provider.proofs.Checked.{checked}
-use Rattle.block_traits.specs.Cabinet.{CabinetState}
-use Rattle.block_traits.specs.Streams.{EntropyState}
-use Rattle.eli_base.specs.Units.{media_sectors}
-use Rattle.eli_base.specs.declared.refusals.Refusal.{Refusal}
 use Rattle.eli_base.specs.declared.refusals.Refusal.TheVariants as refusals
-use Rattle.eli_metadata.specs.Checks.{Settings, settings_of}
-use Rattle.eli_metadata.specs.declared.metadata.Metadata.{Metadata}
-use Rattle.user_key.specs.Refusals.{key_refusal_of}
-use Rattle.user_key.specs.declared.components.KeyFault.{KeyFault}
-use Rattle.user_key.specs.declared.components.UserKey.{UserKey}
-use Rattle.command_rows.specs.Steps.{Attaches, GoesOn, attachment_by, or_refusal, or_wrong_key, tried, without_value}
 use Rattle.command_rows.proofs.Opening.{has_room}
 use Rattle.shelf.specs.Trying.{IsTrial, attach_refusal, tried_in}
 use Rattle.command_rows.specs.Turn.{AttachesUnless}
-use Rattle.command_rows.specs.World.{Attachment, Idle, IsAttached, Reach, reach_of}
 use Rattle.shelf.specs.Shelved.{attachment_of}
 use Rattle.shelf.specs.declared.trying.Trial.{Trial}
 

@@ -1,13 +1,8 @@
 -- The rows of `backup` and `kill` on a drawer that isn't idle.
 use Rattle.std.proofs.Common.{◌≡◌, List, ℕ, sym, subst, Result}
-use Rattle.block_traits.specs.Cabinet.{CabinetState}
-use Rattle.block_traits.specs.Disk.{DiskState}
-use Rattle.block_traits.specs.Streams.{EntropyState}
-use Rattle.command_words.specs.declared.spans.Span.{Span}
-use Rattle.eli_base.specs.declared.refusals.Refusal.{Refusal}
-use Rattle.command_rows.specs.Answer.{Answer}
+use Rattle.command_rows.specs.Rows.{Answer, Holding, Reach, reach_of}
 use Rattle.command_rows.specs.Turn.{Replies, done_or}
-use Rattle.command_rows.specs.World.{Holding, Reach, reach_of}
+use Rattle.command_rows.specs.Vocabulary.{CabinetState, DiskState, EntropyState, Refusal, Span}
 use Rattle.command_rows.specs.verbs.Backup.{BackupRow}
 use Rattle.command_rows.specs.verbs.Kill.{KillRow}
 

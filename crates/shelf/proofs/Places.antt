@@ -4,12 +4,10 @@ use Rattle.std.proofs.Common.{◌∙◌, ◌++◌, drop, subst, take, map, Bool,
 use Rattle.std.specs.List.{insert, remove}
 use Rattle.std.proofs.Math.ListN.{set}
 use Rattle.std.proofs.lemmas.List.{map-set}
-use Rattle.block_traits.specs.Disk.{DiskState}
+use Rattle.command_rows.specs.Rows.{Answer, DrawerState, Reach, World}
+use Rattle.command_rows.specs.Vocabulary.{Command, DiskState}
 use Rattle.shelf.specs.declared.drawer.Drawer.{Drawer}
-use Rattle.command_words.specs.declared.commands.Command.{Command}
-use Rattle.command_rows.specs.Answer.{Answer}
 use Rattle.command_rows.specs.Answer as answers
-use Rattle.command_rows.specs.World.{DrawerState, Reach, World}
 use Rattle.shelf.specs.Shelved.{drawer_of, drawers_of}
 use Rattle.command_rows.specs.Turn.{ChangesAt, Serves, ServesAt, reach, takes_out}
 

@@ -1,28 +1,11 @@
 -- The rows of `submit`, `step` and `reap`.
 use Rattle.std.proofs.Common.{◌≡◌, ◌∙◌, ℕ, ◌*◌, ◌/◌, ◌%◌, ◌<◌, ◌≤◌, List, [], length, refl, ap, sym, subst, Option, Result, Ok, Err}
-use Rattle.bio_queue.specs.Answers.{ReapAnswers, StepAnswers, SubmitAnswers}
-use Rattle.bio_queue.specs.Requests.{Request}
-use Rattle.bio_queue.specs.declared.faults.ReapFault.{ReapFault}
-use Rattle.bio_queue.specs.declared.faults.StepFault.{StepFault}
-use Rattle.bio_queue.specs.declared.faults.SubmitFault.{SubmitFault}
-use Rattle.bio_queue.specs.declared.job.Job.{Job}
 use Rattle.bio_queue.specs.declared.job.Job.TheVariants as jobs
-use Rattle.bio_queue.specs.declared.job.Reaped.{Reaped}
 use Rattle.bio_queue.specs.declared.job.Reaped.TheVariants as reaped
-use Rattle.block_traits.specs.Cabinet.{CabinetState}
-use Rattle.block_traits.specs.Disk.{DiskState}
-use Rattle.block_traits.specs.Streams.{EntropyState}
-use Rattle.command_words.specs.Places.{bytes_at}
+use Rattle.command_rows.specs.Rows.{HasRequest, IsAttached, NeedsRequest, NeedsWhole, bytes_given, bytes_spelled, or_refusal, whole_sectors}
+use Rattle.command_rows.specs.Vocabulary.{Attached, CabinetState, DiskState, EntropyState, IsKept, Job, ReapAnswers, ReapFault, Reaped, Refusal, Request, Span, StepAnswers, StepFault, SubmitAnswers, SubmitFault, bytes_at}
 use Rattle.command_words.specs.declared.commands.JobWords.TheVariants as words
-use Rattle.command_words.specs.declared.spans.Span.{Span}
-use Rattle.eli_base.specs.declared.refusals.Refusal.{Refusal}
 use Rattle.eli_base.specs.declared.refusals.Refusal.TheVariants as refusals
-use Rattle.provider.specs.Attached.{Attached, IsKept}
-use Rattle.command_rows.specs.Digits.{bytes_spelled}
-use Rattle.command_rows.specs.Queueing.{HasRequest, NeedsRequest}
-use Rattle.command_rows.specs.Requests.{bytes_given}
-use Rattle.command_rows.specs.Steps.{NeedsWhole, or_refusal, whole_sectors}
-use Rattle.command_rows.specs.World.{IsAttached}
 use Rattle.command_rows.specs.verbs.Reap.{ReapRow, reap_answer}
 use Rattle.command_rows.specs.verbs.Step.{StepRow, step_refusal}
 use Rattle.command_rows.specs.verbs.Submit.{SubmitRow, Submits, submit_refusal}

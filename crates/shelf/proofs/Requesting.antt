@@ -1,15 +1,12 @@
 -- A request for sectors needs an attached drawer, and takes none out.
-use Rattle.std.proofs.Common.{◌≡◌, List, ℕ, refl, subst, sym, false, true, None, Option}
-use Rattle.std.specs.Prelude.{MatchOption}
-use Rattle.command_words.specs.declared.commands.Command.{Command}
+use Rattle.std.proofs.Common.{◌≡◌, List, ℕ, refl, subst, sym, false, true, None, Option, MatchOption}
+use Rattle.command_rows.specs.Rows.{Answer, Attachment, IsAttached, Reach}
+use Rattle.command_rows.specs.Vocabulary.{Command, Refusal}
 use Rattle.command_words.specs.declared.commands.Command.TheVariants as commands
-use Rattle.eli_base.specs.declared.refusals.Refusal.{Refusal}
-use Rattle.command_rows.specs.Answer.{Answer}
 use Rattle.command_words.specs.Traits.{needs, traits_of}
 use Rattle.command_words.specs.declared.verbs.Needs.TheVariants.{AnAttached}
 use Rattle.command_rows.specs.Gate.{refused_by}
 use Rattle.command_rows.specs.Turn.{GoesThrough, IsRefused, Serves, takes_out}
-use Rattle.command_rows.specs.World.{Attachment, IsAttached, Reach}
 
 request_needs : (command : Command) → (traits_of command).is_request ≡ true → needs command ≡ AnAttached
 request_needs (commands.Read prov sector count) request = refl

@@ -1,20 +1,12 @@
 -- A suspended provider that is attached again, or refused, as the row of `resume`.
 use Rattle.std.proofs.Common.{◌≡◌, ◌∙◌, ℕ, List, [], ap, refl, sym, subst, None, Some, Result, Ok, Err}
-use Rattle.block_traits.specs.Cabinet.{CabinetState}
-use Rattle.block_traits.specs.Disk.{DiskState}
-use Rattle.block_traits.specs.Streams.{EntropyState}
-use Rattle.command_words.specs.declared.spans.KeyWords.{KeyWords}
-use Rattle.eli_base.specs.declared.refusals.Refusal.{Refusal}
+use Rattle.command_rows.specs.Rows.{Attaches, Attachment, GoesOn, IsAttached, IsSuspended, Kept, Reach, TryRow, attachment_by, reach_of}
+use Rattle.command_rows.specs.Vocabulary.{Attached, CabinetState, DiskState, EntropyState, KeyWords, Refusal, settings_of}
 use Rattle.eli_base.specs.declared.refusals.Refusal.TheVariants as refusals
-use Rattle.eli_metadata.specs.Checks.{settings_of}
-use Rattle.provider.specs.Attached.{Attached}
 use Rattle.suspend.specs.Resuming.{IsResumed, OpensTo, ResumeAnswers, ResumeFails}
 use Rattle.suspend.specs.Suspension.{Suspension}
 use Rattle.suspend.specs.declared.faults.ResumeFault.{ResumeFault}
 use Rattle.suspend.specs.declared.faults.ResumeFault.TheVariants as resume
-use Rattle.command_rows.specs.Steps.{Attaches, GoesOn, attachment_by}
-use Rattle.command_rows.specs.Trying.{TryRow}
-use Rattle.command_rows.specs.World.{Attachment, IsAttached, IsSuspended, Kept, Reach, reach_of}
 use Rattle.command_rows.specs.verbs.Resume.{AttachesAgain, ResumeRow, same_key}
 use Rattle.command_rows.proofs.SameKey.{other_is_refused, same_is_key}
 use Rattle.shelf.specs.Resuming.{resume_refusal}

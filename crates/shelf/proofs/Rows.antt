@@ -1,16 +1,7 @@
 -- How rows are gone through.
-use Rattle.std.proofs.Common.{◌≡◌, ℕ, ◌+◌, ◌≤◌, List, ◌++◌, length, IfOk, IfSome, Result, Ok, Err, refl}
-use Rattle.std.specs.Prelude.{IfErr}
-use Rattle.block_traits.specs.Cabinet.{CabinetState}
-use Rattle.block_traits.specs.Disk.{DiskState}
-use Rattle.block_traits.specs.Streams.{EntropyState}
-use Rattle.command_words.specs.declared.spans.KeyWords.{KeyWords}
-use Rattle.eli_base.specs.declared.refusals.Refusal.{Refusal}
-use Rattle.key_components.specs.Answers.{IsAnswer, KeepsFiles, LoadsEach, StopsAtFile}
-use Rattle.key_components.specs.Key.{FitsWords, components_of}
-use Rattle.user_key.specs.declared.components.Components.{Components}
-use Rattle.command_rows.specs.Steps.{LoadsComponents, Then}
-use Rattle.command_rows.specs.World.{Holding, Reach}
+use Rattle.std.proofs.Common.{◌≡◌, ℕ, ◌+◌, ◌≤◌, List, ◌++◌, length, IfOk, IfSome, Result, Ok, Err, refl, IfErr}
+use Rattle.command_rows.specs.Rows.{Holding, LoadsComponents, Reach, Then}
+use Rattle.command_rows.specs.Vocabulary.{CabinetState, Components, DiskState, EntropyState, FitsWords, IsAnswer, KeepsFiles, KeyWords, LoadsEach, Refusal, StopsAtFile, components_of}
 
 -- the first step refused
 pub Then-refused : {A B : Type 0} (First : Reach → Result A Refusal → Reach → Type 0) (Next : A → Reach → Result B Refusal → Reach → Type 0)

@@ -1,29 +1,19 @@
 -- Requests to an attached provider, as rows.
-use Rattle.std.proofs.Common.{◌≡◌, ◌∙◌, ℕ, ◌+◌, ◌*◌, ◌/◌, ◌%◌, ◌<◌, ◌≤◌, List, [], ◌∷◌, length, refl, ap, sym, arith, subst, Result, Ok, Err}
-use Rattle.std.specs.Prelude.{◌++◌, OnOk, OnErr}
-use Rattle.bio_queue.specs.Requests.{Request}
-use Rattle.block_traits.specs.Disk.{FailsIn, Logs}
+use Rattle.std.proofs.Common.{◌≡◌, ◌∙◌, ℕ, ◌+◌, ◌*◌, ◌/◌, ◌%◌, ◌<◌, ◌≤◌, List, [], ◌∷◌, length, refl, ap, sym, arith, subst, Result, Ok, Err, take, ◌++◌, OnOk, OnErr}
 use Rattle.block_traits.specs.declared.disk.DiskFailed.{DiskFailed}
 use Rattle.block_traits.specs.declared.disk.Event.TheVariants.{Flush}
 use Rattle.std.proofs.Math.Nat.{mul-div_cancel, mul-mod_left}
 use Rattle.std.proofs.Math.Seq.{take-append_seam}
-use Rattle.std.proofs.Common.{take}
 use Rattle.std.proofs.lemmas.Bool.Decides.{nat_tests}
-use Rattle.block_traits.specs.Cabinet.{CabinetState}
-use Rattle.block_traits.specs.Disk.{DiskState}
-use Rattle.block_traits.specs.Streams.{EntropyState}
-use Rattle.eli_base.specs.declared.refusals.Refusal.{Refusal}
+use Rattle.command_rows.specs.Rows.{DoesEvents, IsAttached, NeedsSectors, NeedsWhole, NeedsWritable, Reach, ReadsSectors, Then, WritesSectors, bytes_read, if_writable, in_range, or_refusal, read_answer, read_refusal, whole_sectors, write_refusal}
+use Rattle.command_rows.specs.Vocabulary.{Attached, CabinetState, DiskState, EntropyState, FailsIn, IsKept, Logs, Refusal, Request, media}
 use Rattle.eli_base.specs.declared.refusals.Refusal.TheVariants as refusals
 use Rattle.provider.specs.Answers.{ReadAnswers, WriteAnswers, request}
-use Rattle.provider.specs.Attached.{Attached, IsKept, media}
 use Rattle.provider.specs.declared.faults.ReadFault.{ReadFault}
 use Rattle.provider.specs.declared.faults.ReadFault.TheVariants as read
 use Rattle.provider.specs.declared.faults.WriteFault.{WriteFault}
 use Rattle.provider.specs.declared.faults.WriteFault.TheVariants as write
-use Rattle.command_rows.specs.Requests.{bytes_read, read_answer, read_refusal, write_refusal}
-use Rattle.command_rows.specs.Steps.{DoesEvents, NeedsSectors, NeedsWhole, NeedsWritable, ReadsSectors, Then, WritesSectors, if_writable, in_range, or_refusal, whole_sectors}
 use Rattle.command_rows.specs.Turn.{ReadRow, WriteRow}
-use Rattle.command_rows.specs.World.{IsAttached, Reach}
 use Rattle.shelf.specs.Shelved.{attachment_of}
 use Rattle.shelf.proofs.Rows.{Then-goes_on, Then-refused}
 

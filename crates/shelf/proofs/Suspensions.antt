@@ -1,12 +1,9 @@
 -- What is kept of a suspended provider: that of the provider, and it stays.
 use Rattle.std.proofs.Common.{◌≡◌, ◌<◌, ◌≤◌, List, [], ◌∷◌, length, ap, arith, refl, sym, Result, Ok, Err}
-use Rattle.bio_queue.specs.Requests.{Request}
-use Rattle.block_traits.specs.Disk.{DiskState}
-use Rattle.eli_base.specs.declared.refusals.Refusal.{Refusal}
+use Rattle.command_rows.specs.Rows.{Attachment, IsSuspended, Reach}
+use Rattle.command_rows.specs.Vocabulary.{Attached, DiskState, Refusal, Request}
 use Rattle.eli_base.specs.declared.refusals.Refusal.TheVariants as refusals
-use Rattle.command_rows.specs.World.{Attachment, IsSuspended, Reach}
 use Rattle.command_rows.specs.verbs.Suspend.{SuspendRow, Suspends, if_none_open, kept_by}
-use Rattle.provider.specs.Attached.{Attached}
 use Rattle.shelf.specs.Shelved.{attachment_of, kept_of}
 use Rattle.suspend.specs.Suspension.{KeepsOfProvider, Suspension}
 

@@ -1,31 +1,14 @@
 -- The row of `verify`.
-use Rattle.std.proofs.Common.{◌≡◌, ◌∙◌, ℕ, suc, ◌+◌, ◌-◌, ◌*◌, ◌/◌, ◌^◌, ◌<◌, ◌≤◌, Bool, true, false, cond, List, [], ◌∷◌, ◌++◌, length, drop, Some, None, IfOk, IfSome, Result, Ok, Err, refl, ap, sym, subst, arith, append_assoc}
-use Rattle.std.specs.Prelude.{IfErr}
+use Rattle.std.proofs.Common.{◌≡◌, ◌∙◌, ℕ, suc, ◌+◌, ◌-◌, ◌*◌, ◌/◌, ◌^◌, ◌<◌, ◌≤◌, Bool, true, false, cond, List, [], ◌∷◌, ◌++◌, length, drop, Some, None, IfOk, IfSome, Result, Ok, Err, refl, ap, sym, subst, arith, append_assoc, IfErr}
 use Rattle.std.proofs.Math.Nat.{div-mul-le_self, mul-le-mul_right}
 use Rattle.std.proofs.lemmas.Bool.Decides.{nat_tests}
-use Rattle.bio_queue.specs.Requests.{Request}
-use Rattle.block_traits.specs.Cabinet.{CabinetState}
-use Rattle.block_traits.specs.Causes.{Counted}
-use Rattle.block_traits.specs.Disk.{DiskState}
-use Rattle.block_traits.specs.Streams.{EntropyState}
-use Rattle.command_words.specs.Places.{bytes_at}
-use Rattle.command_words.specs.declared.spans.Span.{Span}
-use Rattle.eli_base.specs.Keying.{Keying}
-use Rattle.eli_base.specs.Units.{media_sectors}
-use Rattle.eli_base.specs.declared.refusals.Refusal.{Refusal}
+use Rattle.command_rows.specs.Rows.{Holding, Reach, StoresBytes, Then, reach_of}
+use Rattle.command_rows.specs.Vocabulary.{Attached, CabinetState, Counted, DiskState, EntropyState, IsAnswer, IsKept, KeepsFiles, Keying, ListsFailing, MayRefuse, Refusal, Request, Span, bytes_at, failing_units, faults_in, file_answer, has_tags, le64, le64s, media, media_sectors, refused_word, sectors_swept, sweep_at, unit_readings_at, units}
 use Rattle.eli_base.specs.declared.refusals.Refusal.TheVariants as refusals
-use Rattle.key_components.specs.Answers.{IsAnswer, KeepsFiles, MayRefuse, file_answer, refused_word}
-use Rattle.provider.specs.Attached.{Attached, IsKept, has_tags, media}
 use Rattle.provider.specs.Reads.{FailsAmong}
-use Rattle.range_keys.specs.Keys.{le64}
 use Rattle.reply_text.specs.Text.{numbers_in}
 use Rattle.reply_text.proofs.Offsets.{numbers_in-next}
-use Rattle.sealing.specs.Sectors.{units}
-use Rattle.verify_sweep.specs.Parts.{sweep_at}
-use Rattle.verify_sweep.specs.Sweeping.{ListsFailing, failing_units, faults_in, le64s, unit_readings_at, sectors_swept}
 use Rattle.verify_sweep.specs.declared.sweeping.Swept.{Swept}
-use Rattle.command_rows.specs.Steps.{StoresBytes, Then}
-use Rattle.command_rows.specs.World.{Holding, Reach, reach_of}
 use Rattle.command_rows.specs.verbs.Verify.{FindsPlace, ListsUnits, LoadsPlace, NeedsPlace, NeedsTags, StoresPlace, SweepsFrom, SweptPart, VerifyRow, if_inside, if_tagged, place_in, place_size, unless_absent}
 use Rattle.command_rows.proofs.SweepPlaces.{is_inside}
 use Rattle.shelf.specs.Shelved.{attachment_of}

@@ -1,17 +1,10 @@
 -- The rows of `fill` and `sum`.
 use Rattle.std.proofs.Common.{◌≡◌, ℕ, List, OnOk, OnErr, refl, ap, sym, subst, false, true, Result, Ok, Err}
-use Rattle.bio_queue.specs.Requests.{Request}
-use Rattle.block_traits.specs.Cabinet.{CabinetState}
-use Rattle.block_traits.specs.Disk.{DiskState, FailsIn, Logs}
-use Rattle.block_traits.specs.Streams.{EntropyState}
 use Rattle.block_traits.specs.declared.disk.DiskFailed.{DiskFailed}
-use Rattle.block_traits.specs.declared.disk.Event.{Event}
-use Rattle.eli_base.specs.declared.refusals.Refusal.{Refusal}
+use Rattle.command_rows.specs.Rows.{DoesEvents, NeedsSectors, NeedsWritable, ReadsSectors, if_writable, in_range, or_refusal}
+use Rattle.command_rows.specs.Vocabulary.{Attached, CabinetState, DiskState, EntropyState, Event, FailsIn, IsKept, Logs, Refusal, Request, data_writes, media}
 use Rattle.eli_base.specs.declared.refusals.Refusal.TheVariants as refusals
-use Rattle.provider.specs.Attached.{Attached, IsKept, media}
-use Rattle.provider.specs.Writing.{data_writes}
 use Rattle.rand_pcg.specs.Lcg.{Lcg}
-use Rattle.command_rows.specs.Steps.{DoesEvents, NeedsSectors, NeedsWritable, ReadsSectors, if_writable, in_range, or_refusal}
 use Rattle.command_rows.specs.verbs.Fill.{FillRow, generated, generator, words_of_sectors, workload}
 use Rattle.command_rows.specs.verbs.Sum.{SumAnswer, SumRow}
 use Rattle.shelf.specs.Shelved.{attachment_of}

@@ -1,9 +1,9 @@
 -- When a disk is added, and when it is refused.
 use Rattle.std.specs.Prelude.{◌≡◌, ℕ, ◌<◌, ◌≤◌, List, [], ◌∷◌, ◌++◌, length, IsSome, IsNone}
-use Rattle.block_traits.specs.Disk.{DiskState}
+use Rattle.command_rows.specs.Rows.{DrawerState, Idle, place_of}
+use Rattle.command_rows.specs.Vocabulary.{DiskState}
 use Rattle.shelf.specs.declared.drawers.AddFault.{AddFault}
 use Rattle.shelf.specs.declared.drawers.AddFault.TheVariants.{Full, Taken, NoMemory}
-use Rattle.command_rows.specs.World.{DrawerState, Idle, place_of}
 
 -- how many drawers a shelf may have
 abbrev pub most_drawers : ℕ

@@ -1,8 +1,8 @@
 -- The end of a run: each drawer that isn't idle is flushed, in order, and is idle then.
 use Rattle.std.specs.Prelude.{◌≡◌, ℕ, ◌+◌, List, [], ◌∷◌, Bool, true, false}
 use Rattle.block_traits.specs.declared.disk.Event.TheVariants.{Flush}
-use Rattle.block_traits.specs.Disk.{DiskState, FailsIn, Logs}
-use Rattle.command_rows.specs.World.{DrawerState, Idle, World, is_idle}
+use Rattle.command_rows.specs.Rows.{DrawerState, Idle, World, is_idle}
+use Rattle.command_rows.specs.Vocabulary.{DiskState, FailsIn, Logs}
 
 -- a disk is flushed, or fails in that
 abbrev pub Flushes : Bool → DiskState → DiskState → Type 0

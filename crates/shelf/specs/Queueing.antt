@@ -1,9 +1,7 @@
 -- How many bytes stand at the front of the buffer of what was reaped.
 use Rattle.std.specs.Prelude.{ℕ, Option, Some, None, Result, Ok, Err}
-use Rattle.bio_queue.specs.declared.faults.ReapFault.{ReapFault}
-use Rattle.bio_queue.specs.declared.job.Reaped.{Reaped}
 use Rattle.bio_queue.specs.declared.job.Reaped.TheVariants.{Bytes, Written, Flushed}
-use Rattle.eli_base.specs.declared.refusals.Refusal.{Refusal}
+use Rattle.command_rows.specs.Vocabulary.{ReapFault, Reaped, Refusal}
 use Rattle.command_rows.specs.verbs.Reap.{reap_refusal}
 
 -- those of a read; other requests have none

@@ -1,5 +1,5 @@
 -- The refusal of a fault of resuming.
-use Rattle.eli_base.specs.declared.refusals.Refusal.{Refusal}
+use Rattle.command_rows.specs.Vocabulary.{Refusal}
 use Rattle.eli_base.specs.declared.refusals.Refusal.TheVariants as refusals
 use Rattle.suspend.specs.declared.faults.ResumeFault.{ResumeFault}
 use Rattle.suspend.specs.declared.faults.ResumeFault.TheVariants as resume

@@ -1,11 +1,7 @@
 -- A shelf: its drawers, and the buffer of requests; and the drawers of the code as plain data.
 use Rattle.std.specs.Prelude.{ℕ, Bool, true, false, List, map}
-use Rattle.bio_queue.specs.Requests.{Request}
-use Rattle.block_traits.specs.Cabinet.{CabinetState}
-use Rattle.block_traits.specs.Disk.{DiskState}
-use Rattle.block_traits.specs.Streams.{EntropyState}
-use Rattle.command_rows.specs.World.{Attachment, DrawerState, Holding, Idle, IsAttached, IsSuspended, Kept, NamesDiffer, Reach, World, reach_of}
-use Rattle.provider.specs.Attached.{Attached}
+use Rattle.command_rows.specs.Rows.{Attachment, DrawerState, Holding, Idle, IsAttached, IsSuspended, Kept, NamesDiffer, Reach, World, reach_of}
+use Rattle.command_rows.specs.Vocabulary.{Attached, CabinetState, DiskState, EntropyState, Request}
 use Rattle.shelf.specs.declared.drawer.Drawer.{Drawer}
 use Rattle.shelf.specs.declared.drawer.Held.{Held}
 use Rattle.shelf.specs.declared.drawer.Held.TheVariants as held

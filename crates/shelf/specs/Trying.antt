@@ -1,13 +1,11 @@
 -- A key that is tried on a provider.
 use Rattle.std.specs.Prelude.{◌≡◌, ℕ, Bool, Option, Result, Ok, Err}
-use Rattle.eli_base.specs.declared.refusals.Refusal.{Refusal}
+use Rattle.command_rows.specs.Rows.{Attachment, tried}
+use Rattle.command_rows.specs.Vocabulary.{Refusal, settings_of, size_matches, slot_matches, supported}
 use Rattle.eli_base.specs.declared.refusals.Refusal.TheVariants as refusals
-use Rattle.eli_metadata.specs.Checks.{settings_of, size_matches, slot_matches, supported}
 use Rattle.provider.specs.declared.faults.AttachFault.{AttachFault}
 use Rattle.provider.specs.declared.faults.AttachFault.TheVariants as attach
 use Rattle.shelf.specs.declared.trying.Trial.{Trial}
-use Rattle.command_rows.specs.Steps.{tried}
-use Rattle.command_rows.specs.World.{Attachment}
 
 -- with what the provider would be attached, or why it isn't
 abbrev pub tried_in : Option ℕ → Bool → Trial → Result Attachment Refusal

@@ -1,5 +1,5 @@
 -- Commands of one verb, whose fields the code of that verb reads.
-use Rattle.command_words.specs.declared.commands.Command.{Command}
+use Rattle.command_rows.specs.Vocabulary.{Command}
 use Rattle.command_words.specs.declared.commands.Command.TheVariants as commands
 
 abbrev pub IsInit : Command → Type 0

@@ -1,6 +1,6 @@
 -- What a sweep listed at the front of the buffer of requests, and where one begins without a file.
 use Rattle.std.specs.Prelude.{List, ℕ, Result, Ok, Err}
-use Rattle.eli_base.specs.declared.refusals.Refusal.{Refusal}
+use Rattle.command_rows.specs.Vocabulary.{Refusal}
 use Rattle.eli_base.specs.declared.refusals.Refusal.TheVariants as refusals
 use Rattle.reply_text.specs.Text.{numbers_in}
 use Rattle.verify_sweep.specs.declared.sweeping.Swept.{Swept}

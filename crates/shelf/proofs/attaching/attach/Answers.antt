@@ -1,5 +1,5 @@
+use Rattle.command_rows.specs.Rows.{Idle}
 use Rattle.shelf.specs.Trying.{tried_in}
-use Rattle.command_rows.specs.World.{Idle}
 use Rattle.shelf.proofs.Openings.{only_tried}
 use Rattle.shelf.proofs.Rows.{Then-refused}
 use Rattle.shelf.proofs.attaching.attach.Goals as goal

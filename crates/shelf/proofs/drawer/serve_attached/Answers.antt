@@ -1,5 +1,5 @@
 use Rattle.std.proofs.Common.{refl}
-use Rattle.command_rows.specs.World.{IsAttached}
+use Rattle.command_rows.specs.Rows.{IsAttached}
 use Rattle.shelf.specs.Shelved.{attachment_of}
 use Rattle.shelf.proofs.PlaceRows.{backup_held_row, kill_held}
 use Rattle.shelf.proofs.Sectors.{flushed, kept_holding}

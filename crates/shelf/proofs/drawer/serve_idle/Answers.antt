@@ -1,4 +1,4 @@
-use Rattle.command_rows.specs.World.{Idle}
+use Rattle.command_rows.specs.Rows.{Idle}
 use Rattle.shelf.proofs.drawer.serve_idle.Goals as goal
 
 pub returns-in-Init-clause-serves : goal.returns-in-Init-clause-serves

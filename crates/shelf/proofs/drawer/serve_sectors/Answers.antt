@@ -1,6 +1,5 @@
 use Rattle.std.proofs.Common.{refl, List, ℕ, subst}
-use Rattle.command_rows.specs.Digits.{bytes_spelled}
-use Rattle.command_rows.specs.Requests.{bytes_given, bytes_read}
+use Rattle.command_rows.specs.Rows.{bytes_given, bytes_read, bytes_spelled}
 use Rattle.command_rows.specs.Turn.{WriteRow}
 use Rattle.shelf.specs.Shelved.{attachment_of}
 use Rattle.shelf.proofs.Sectors.{at, flushed, kept_holding}

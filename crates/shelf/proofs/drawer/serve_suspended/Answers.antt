@@ -1,5 +1,5 @@
 use Rattle.std.proofs.Common.{refl}
-use Rattle.command_rows.specs.World.{IsSuspended}
+use Rattle.command_rows.specs.Rows.{IsSuspended}
 use Rattle.shelf.specs.Shelved.{kept_of}
 use Rattle.shelf.proofs.PlaceRows.{backup_held_row, kill_held}
 use Rattle.shelf.proofs.Sectors.{flushed}

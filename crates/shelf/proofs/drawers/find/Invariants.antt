@@ -1,6 +1,6 @@
 use Rattle.std.proofs.Common.{◌≡◌, ◌+◌, drop}
 use Rattle.std.specs.Option.{option_map}
-use Rattle.command_rows.specs.World.{place_of}
+use Rattle.command_rows.specs.Rows.{place_of}
 use Rattle.shelf.specs.Shelved.{drawers_of}
 use Rattle.shelf.proofs.drawers.find.Given as goal
 

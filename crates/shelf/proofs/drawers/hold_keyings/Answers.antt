@@ -2,9 +2,9 @@ use Rattle.std.proofs.Common.{◌<◌, ◌≤◌, List, length, All, arith, subs
 use Rattle.std.proofs.lemmas.List.{take_all}
 use Rattle.std.proofs.lemmas.List.Elements.{All-get_or, All-map, All-more}
 use Rattle.std.proofs.lemmas.Option.{get_or_from_slice_get, slice_get_within}
-use Rattle.block_traits.specs.Disk.{DiskState}
+use Rattle.command_rows.specs.Rows.{DrawerState, HoldKeyings, HoldsKeying}
+use Rattle.command_rows.specs.Vocabulary.{DiskState}
 use Rattle.shelf.specs.declared.drawer.Drawer.{Drawer}
-use Rattle.command_rows.specs.World.{DrawerState, HoldKeyings, HoldsKeying}
 use Rattle.shelf.specs.Shelved.{drawer_of, drawers_of, holding_of}
 use Rattle.shelf.proofs.drawers.hold_keyings.Goals as goal
 

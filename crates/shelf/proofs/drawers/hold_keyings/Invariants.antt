@@ -1,5 +1,5 @@
 use Rattle.std.proofs.Common.{All, take}
-use Rattle.command_rows.specs.World.{HoldsKeying}
+use Rattle.command_rows.specs.Rows.{HoldsKeying}
 use Rattle.shelf.specs.Shelved.{holding_of}
 use Rattle.shelf.proofs.drawers.hold_keyings.Given as goal
 

@@ -1,9 +1,8 @@
-use Rattle.std.proofs.Common.{◌≡◌, ◌∙◌, subst, rules, to_z, of_z}
+use Rattle.std.proofs.Common.{◌≡◌, ◌∙◌, subst, rules, to_z, of_z, FitsSigned, ℤ}
 use Rattle.std.proofs.lemmas.Int.{to_z-of_z}
 use Rattle.std.specs.Int.{w32}
-use Rattle.std.specs.Prelude.{FitsSigned, ℤ}
-use Rattle.key_commands.specs.declared.options.InitOptions.{InitOptions}
-use Rattle.command_rows.specs.World.{Idle, reach_of}
+use Rattle.command_rows.specs.Rows.{Idle, reach_of}
+use Rattle.command_rows.specs.Vocabulary.{InitOptions}
 use Rattle.command_rows.specs.verbs.Init.{InitRow}
 use Rattle.shelf.proofs.new_provider.serve_init.Goals as goal
 

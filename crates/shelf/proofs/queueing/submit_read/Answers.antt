@@ -1,6 +1,6 @@
 use Rattle.std.proofs.Common.{◌≡◌, ◌∙◌, ℕ, ◌*◌, ◌<◌, ◌≤◌, ap, arith, sym, subst, Err}
+use Rattle.command_rows.specs.Rows.{whole_sectors}
 use Rattle.eli_base.specs.declared.refusals.Refusal.TheVariants as refusals
-use Rattle.command_rows.specs.Steps.{whole_sectors}
 use Rattle.shelf.proofs.QueueingRows.{read_refused, read_submitted}
 use Rattle.shelf.proofs.Sectors.{whole_sectors-many, whole_sectors-none}
 use Rattle.shelf.proofs.queueing.submit_read.Goals as goal

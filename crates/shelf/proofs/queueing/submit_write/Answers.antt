@@ -1,10 +1,8 @@
 use Rattle.std.proofs.Common.{◌≡◌, ◌∙◌, ◌≢◌, ℕ, List, ◌%◌, ◌/◌, ap, arith, length, sym, subst, Err, take, length-take}
-use Rattle.bio_queue.specs.Answers.{SubmitAnswers}
 use Rattle.bio_queue.specs.declared.job.Job.TheVariants.{Write}
-use Rattle.command_words.specs.Places.{bytes_at}
+use Rattle.command_rows.specs.Rows.{bytes_spelled, whole_sectors}
+use Rattle.command_rows.specs.Vocabulary.{SubmitAnswers, bytes_at}
 use Rattle.eli_base.specs.declared.refusals.Refusal.TheVariants as refusals
-use Rattle.command_rows.specs.Digits.{bytes_spelled}
-use Rattle.command_rows.specs.Steps.{whole_sectors}
 use Rattle.shelf.proofs.QueueingRows.{write_refused, write_submitted}
 use Rattle.shelf.proofs.Sectors.{whole_sectors-none, whole_sectors-odd}
 use Rattle.shelf.proofs.queueing.submit_write.Goals as goal

@@ -1,6 +1,6 @@
 use Rattle.std.proofs.Common.{◌≡◌, ◌∙◌, ℕ, ◌*◌, ◌<◌, ap, arith, length, sym, subst, Err, take, drop, length-take}
+use Rattle.command_rows.specs.Rows.{whole_sectors}
 use Rattle.eli_base.specs.declared.refusals.Refusal.TheVariants as refusals
-use Rattle.command_rows.specs.Steps.{whole_sectors}
 use Rattle.shelf.proofs.Sectors.{read_answered, read_bad_length, read_bytes, whole_sectors-many, whole_sectors-none}
 use Rattle.shelf.proofs.requests.read.Goals as goal
 use Rattle.shelf.proofs.requests.read.Goals.{then-given-eq0-via-then-given-eq0, then-given-eq0-via-else-given-eq0+then-given-gt-REQUEST_LIMIT}

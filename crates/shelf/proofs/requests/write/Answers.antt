@@ -1,7 +1,6 @@
 use Rattle.std.proofs.Common.{◌≡◌, ◌∙◌, ◌≢◌, ℕ, List, ◌%◌, ap, arith, length, sym, subst, Err, take, length-take}
+use Rattle.command_rows.specs.Rows.{or_refusal, whole_sectors, write_refusal}
 use Rattle.eli_base.specs.declared.refusals.Refusal.TheVariants as refusals
-use Rattle.command_rows.specs.Requests.{write_refusal}
-use Rattle.command_rows.specs.Steps.{or_refusal, whole_sectors}
 use Rattle.command_rows.specs.Turn.{WriteRow}
 use Rattle.shelf.specs.Shelved.{attachment_of}
 use Rattle.shelf.proofs.Sectors.{at, whole_sectors-none, whole_sectors-odd, write_answered, write_bad_length}

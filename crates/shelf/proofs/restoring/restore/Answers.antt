@@ -1,6 +1,6 @@
 use Rattle.std.proofs.Common.{ℕ, List, Err, refl, subst}
-use Rattle.backup_restore.specs.Restoring.{Restores}
 use Rattle.std.proofs.lemmas.Result.{err_from_is_err_and}
+use Rattle.command_rows.specs.Vocabulary.{Restores}
 use Rattle.shelf.proofs.Rows.{Then-goes_on, Then-refused}
 use Rattle.shelf.proofs.restoring.restore.Goals as goal
 

@@ -1,4 +1,4 @@
-use Rattle.command_rows.specs.World.{IsSuspended}
+use Rattle.command_rows.specs.Rows.{IsSuspended}
 use Rattle.shelf.specs.Shelved.{kept_of}
 use Rattle.shelf.proofs.ResumingLemmas.{trial_refused, trial_went_on}
 use Rattle.shelf.proofs.Rows.{Then-refused}

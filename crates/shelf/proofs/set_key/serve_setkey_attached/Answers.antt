@@ -1,5 +1,4 @@
-use Rattle.std.proofs.Common.{◌∙◌, ap, ℕ}
-use Rattle.std.specs.Prelude.{unwrap_or}
+use Rattle.std.proofs.Common.{◌∙◌, ap, ℕ, unwrap_or}
 use Rattle.shelf.proofs.KeyRows.{setkey_attached_row}
 use Rattle.shelf.proofs.Sectors.{kept_holding}
 use Rattle.shelf.proofs.set_key.serve_setkey_attached.Goals as goal

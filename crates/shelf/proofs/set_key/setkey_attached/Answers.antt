@@ -1,6 +1,6 @@
 use Rattle.std.proofs.Common.{◌≡◌, ℕ, Err, Ok, refl, subst, sym}
 use Rattle.std.proofs.lemmas.Result.{err_from_is_err_and}
-use Rattle.eli_metadata.specs.Checks.{settings_of}
+use Rattle.command_rows.specs.Vocabulary.{settings_of}
 use Rattle.shelf.proofs.Rows.{Then-goes_on, Then-refused, loaded}
 use Rattle.shelf.proofs.set_key.setkey_attached.Goals as goal
 use Rattle.command_rows.specs.verbs.Setkey.{usable}

@@ -1,5 +1,5 @@
 use Rattle.std.proofs.Common.{subst, sym}
-use Rattle.eli_metadata.specs.Checks.{settings_of}
+use Rattle.command_rows.specs.Vocabulary.{settings_of}
 use Rattle.key_slots.specs.Slots.{IsKeyBits}
 use Rattle.provider.proofs.Checked.{bits_allowed, said}
 use Rattle.shelf.proofs.trying.try_key.Goals as goal

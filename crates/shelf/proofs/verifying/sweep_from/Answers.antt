@@ -1,5 +1,5 @@
 use Rattle.std.proofs.Common.{◌≤◌, arith}
-use Rattle.provider.specs.Attached.{media}
+use Rattle.command_rows.specs.Vocabulary.{media}
 use Rattle.shelf.proofs.VerifyRows.{few_offsets, place_is_far, sweep_done, sweep_failed}
 use Rattle.shelf.proofs.verifying.sweep_from.Goals as goal
 

@@ -1,6 +1,6 @@
 use Rattle.std.proofs.Common.{◌∙◌, sym}
 use Rattle.std.proofs.lemmas.Result.{err_from_is_err_and}
-use Rattle.command_rows.specs.World.{IsAttached}
+use Rattle.command_rows.specs.Rows.{IsAttached}
 use Rattle.reply_text.specs.Text.{numbers_in}
 use Rattle.shelf.specs.Shelved.{attachment_of}
 use Rattle.shelf.proofs.VerifyRows.{verify_stored, verify_unplaced, verify_unstored, verify_unswept, verify_untagged}

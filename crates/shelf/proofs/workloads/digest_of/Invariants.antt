@@ -1,5 +1,5 @@
 use Rattle.std.proofs.Common.{◌-◌, ◌≤◌}
-use Rattle.provider.specs.Attached.{IsKept}
+use Rattle.command_rows.specs.Vocabulary.{IsKept}
 use Rattle.shelf.proofs.Batches.{HasRead}
 use Rattle.shelf.proofs.workloads.digest_of.Given as goal
 

@@ -1,8 +1,6 @@
 use Rattle.std.proofs.Common.{rules, ◌≡◌, ◌∙◌, ℕ, ◌+◌, ◌-◌, ◌*◌, ◌/◌, ◌%◌, ◌≤◌, List, length, take, arith, refl, sym, subst}
-use Rattle.block_traits.specs.declared.disk.Event.{Event}
-use Rattle.block_traits.specs.Disk.{Continues}
 use Rattle.block_traits.proofs.Logs.{Continues-end, Continues-then, FailsIn-part}
-use Rattle.provider.specs.Writing.{data_writes}
+use Rattle.command_rows.specs.Vocabulary.{Continues, Event, data_writes}
 use Rattle.shelf.proofs.Batches.{count_batch, kept_then, left_none, left_writes, batch_long, batch_writes, same_media, whole_batch}
 use Rattle.shelf.proofs.workloads.write_words.Goals as goal
 

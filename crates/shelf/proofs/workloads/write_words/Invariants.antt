@@ -1,6 +1,5 @@
 use Rattle.std.proofs.Common.{◌≡◌, ◌-◌, ◌≤◌}
-use Rattle.block_traits.specs.Disk.{Continues}
-use Rattle.provider.specs.Attached.{IsKept}
+use Rattle.command_rows.specs.Vocabulary.{Continues, IsKept}
 use Rattle.shelf.proofs.Batches.{left_writes}
 use Rattle.shelf.proofs.workloads.write_words.Given as goal
 

@@ -1,5 +1,5 @@
 use Rattle.std.proofs.Common.{◌≡◌, ◌∙◌, ◌<◌, None, length, rules, sym}
-use Rattle.command_rows.specs.World.{place_of}
+use Rattle.command_rows.specs.Rows.{place_of}
 use Rattle.shelf.specs.Shelved.{drawers_of}
 use Rattle.shelf.proofs.Listing.{added, none_found}
 use Rattle.shelf.proofs.Naming.{added_differ}

@@ -1,16 +1,17 @@
 -- What steps and rows leave of what a drawer does with its disk.
 use Rattle.eli_base.specs.declared.refusals.Refusal.TheVariants as refusals
 use Rattle.command_rows.specs.Gate.{ASuspended, AnAttached, AnIdle, AnyOne, Needs, NoIdle, NoSuspended, needs, refused_by}
-use Rattle.command_rows.specs.Rows.{Admits, Answer, Attaches, Attachment, GoesOn, Holding, Idle, IsAttached, IsSuspended, Kept, LoadsComponents, Reach, ReadsLastSector, Then, TryRow}
+use Rattle.command_rows.specs.Rows.{Answer, AttachedWith, Attaches, Attachment, GoesOn, Holding, Idle, IsAttached, IsSuspended, Kept, Reach, Replies, Then, TryRow}
 use Rattle.command_rows.specs.Vocabulary.{Command, KeyWords, Logs, Refusal, sha256}
 use Rattle.command_rows.proofs.Causing.{Step}
 use Rattle.command_rows.proofs.SameKey.{key_is_same}
 use Rattle.command_rows.proofs.SuspendCauses.{trial_opens, went_on}
-use Rattle.std.proofs.Common.{Bool, Err, List, None, Ok, Option, Result, Some, [], ap, false, inl, refl, subst, sym, true, ℕ, ◌∙◌, ◌≡◌}
+use Rattle.std.proofs.Common.{Bool, Err, List, None, Ok, Result, Some, [], ap, false, inl, refl, subst, sym, true, ℕ, ◌∙◌, ◌≡◌}
 use Rattle.command_rows.specs.Becoming.{Becomes, BecomesBy, changes_requests}
 use Rattle.command_rows.specs.verbs.Attach.{OpensWith}
 use Rattle.command_rows.specs.verbs.Resume.{AttachesAgain, ResumeRow}
 use Rattle.command_rows.proofs.QueueingSound.{HoldsSame}
+use Rattle.command_rows.proofs.Gate.{with_attached}
 
 -- ---- steps and rows that leave what the drawer does as it is
 
@@ -26,13 +27,6 @@ stays_then First Next first next old answer new h = stays_next Next h.given h.mi
 
 pub same_reach : (old new : Reach) → new ≡ old → new.holding ≡ old.holding
 same_reach old new is = ap (λ (r : Reach). r.holding) is
-
-pub try_stays : (line : List ℕ) (slot : Option ℕ) (readonly : Bool) (words : KeyWords) → Stays (TryRow line slot readonly words)
-try_stays line slot readonly words =
-    stays_then ReadsLastSector _ (λ old answer new h. h.holding)
-    (λ m. stays_then (Admits m slot) _ (λ old answer new h. same_reach old new h.1)
-    (λ settings. stays_then (LoadsComponents line words) _ (λ old answer new h. h.holding)
-    (λ parts old answer new h. same_reach old new h.1)))
 
 -- ---- what a drawer stays
 
@@ -76,6 +70,12 @@ pub stays_so : (line : List ℕ) (command : Command) (old : Reach) (said : Answe
 stays_so line command old said new gate shut same =
     becomes_as line command old said new old.holding same
     (stays_as line command old said new old.holding refl (λ kept is. absurd (unsuspended (needs command) kept shut (subst (λ (x : Holding). refused_by (needs command) x ≡ None) is gate))))
+
+-- the same of one that is served an attached drawer
+pub attached_becomes : {A : Type 0} (line : List ℕ) (command : Command) (answer_to : Result A Refusal → Answer) (Row : Attachment → Step A) (old : Reach) (said : Answer) (new : Reach) → refused_by (needs command) old.holding ≡ None → passes (needs command) ≡ false
+    → ((a : Attachment) → Stays (Row a)) → AttachedWith old.holding (λ a. Replies answer_to (Row a) old said new) → Becomes line command old said new
+attached_becomes line command answer_to Row old said new gate shut stays h =
+    with_attached old.holding _ (Becomes line command old said new) (λ a is row. stays_so line command old said new gate shut (stays a old row.answer new row.row)) h
 
 -- ---- it becomes attached again
 

@@ -6,7 +6,7 @@ use Rattle.command_rows.specs.Gate.{needs, refused_by}
 use Rattle.command_rows.specs.Rows.{Attachment, DoesEvents, GoesOn, IsAttached, NeedsSectors, NeedsWhole, NeedsWritable, Reach, Then, WritesSectors, if_writable, whole_sectors}
 use Rattle.command_rows.specs.Vocabulary.{Command, Event, Refusal, media}
 use Rattle.command_rows.proofs.Gate.{by_gate_refusal}
-use Rattle.std.proofs.Common.{Bool, Err, List, Ok, Result, Some, ap, arith, cond, false, refl, subst, sym, true, ℕ, ◌+◌, ◌/◌, ◌∙◌, ◌≡◌, nat_le}
+use Rattle.std.proofs.Common.{Bool, Err, List, Ok, Result, Some, arith, cond, false, refl, subst, sym, true, ℕ, ◌+◌, ◌/◌, ◌≡◌, nat_le}
 
 abbrev pub Step : Type 0 → Type 1
 Step A = Reach → Result A Refusal → Reach → Type 0
@@ -22,16 +22,25 @@ next_why line command start Next (Ok a) middle answer new why next h = next a re
 next_why line command start Next (Err refusal) middle answer new why next h = rw h.0 (subst (λ (r : Reach). LineHasCause line command start refusal r) (sym h.1) why)
 
 -- two steps of a line that found `start`
-pub then_since : {A B : Type 0} (line : List ℕ) (command : Command) (start : Reach) (First : Step A) (Next : A → Step B) (old : Reach) (answer : Result B Refusal) (new : Reach)
+pub then_since : {A B : Type 0} {First : Step A} {Next : A → Step B} (line : List ℕ) (command : Command) (start old : Reach) (answer : Result B Refusal) (new : Reach) → Then First Next old answer new
     → ((given : Result A Refusal) (middle : Reach) → First old given middle → Why line command start given middle)
-    → ((a : A) (middle : Reach) → First old (Ok a) middle → Next a middle answer new → Why line command start answer new) → Then First Next old answer new → Why line command start answer new
-then_since {A} line command start First Next old answer new why next h =
+    → ((a : A) (middle : Reach) → First old (Ok a) middle → Next a middle answer new → Why line command start answer new) → Why line command start answer new
+then_since {A} {B} {First} {Next} line command start old answer new h why next =
     next_why line command start Next h.given h.middle answer new (why h.given h.middle h.first) (λ a is. next a h.middle (subst (λ (r : Result A Refusal). First old r h.middle) is h.first)) h.next
 
 -- the same from its first step on
-pub then_why : {A B : Type 0} (line : List ℕ) (command : Command) (First : Step A) (Next : A → Step B) (old : Reach) (answer : Result B Refusal) (new : Reach) → ((given : Result A Refusal) (middle : Reach) → First old given middle → Why line command old given middle)
-    → ((a : A) (middle : Reach) → First old (Ok a) middle → Next a middle answer new → Why line command old answer new) → Then First Next old answer new → Why line command old answer new
-then_why line command First Next old answer new why next h = then_since line command old First Next old answer new why next h
+pub then_why : {A B : Type 0} {First : Step A} {Next : A → Step B} (line : List ℕ) (command : Command) (old : Reach) (answer : Result B Refusal) (new : Reach) → Then First Next old answer new
+    → ((given : Result A Refusal) (middle : Reach) → First old given middle → Why line command old given middle)
+    → ((a : A) (middle : Reach) → First old (Ok a) middle → Next a middle answer new → Why line command old answer new) → Why line command old answer new
+then_why line command old answer new h why next = then_since line command old old answer new h why next
+
+-- the same where the first step changes nothing
+pub same_then_why : {A B : Type 0} {First : Step A} {Next : A → Step B} (line : List ℕ) (command : Command) (old : Reach) (answer : Result B Refusal) (new : Reach) → Then First Next old answer new
+    → ((a : A) (middle : Reach) → First old (Ok a) middle → middle ≡ old) → ((given : Result A Refusal) (middle : Reach) → First old given middle → Why line command old given middle)
+    → ((a : A) → First old (Ok a) old → Next a old answer new → Why line command old answer new) → Why line command old answer new
+same_then_why {A} {B} {First} {Next} line command old answer new h same why next =
+    then_why line command old answer new h why
+    (λ a middle first follows. next a (subst (λ (r : Reach). First old (Ok a) r) (same a middle first) first) (subst (λ (r : Reach). Next a r answer new) (same a middle first) follows))
 
 -- ---- the gate
 
@@ -78,12 +87,11 @@ writable_why line command a old given middle is writes h = writable_by line comm
 range_write_why : (line : List ℕ) (command : Command) (sector count : ℕ) (bytes : List ℕ) (a : Attachment) (old : Reach) (answer : Result (Unit {0}) Refusal) (new : Reach) → old.holding ≡ IsAttached a → AsksSectors line command sector count a
     → Then (NeedsSectors a sector count) (λ _. WritesSectors a sector count bytes) old answer new → Why line command old answer new
 range_write_why line command sector count bytes a old answer new is asked h =
-    then_why line command (NeedsSectors a sector count) (λ _. WritesSectors a sector count bytes) old answer new (λ given middle. range_why line command a sector count old given middle is asked)
-    (λ done middle first next. subst (λ (r : Reach). Why line command r answer new) first.1 (events_why line command _ middle answer new next.does)) h
+    same_then_why line command old answer new h (λ done middle first. first.1) (λ given middle. range_why line command a sector count old given middle is asked)
+    (λ done first next. events_why line command _ old answer new next.does)
 
 pub writable_write_why : (line : List ℕ) (command : Command) (sector count : ℕ) (bytes : List ℕ) (a : Attachment) (old : Reach) (answer : Result (Unit {0}) Refusal) (new : Reach) → old.holding ≡ IsAttached a → writes_data command ≡ true
     → AsksSectors line command sector count a → Then (NeedsWritable a) (λ _. Then (NeedsSectors a sector count) (λ _. WritesSectors a sector count bytes)) old answer new → Why line command old answer new
 writable_write_why line command sector count bytes a old answer new is writes asked h =
-    then_why line command (NeedsWritable a) (λ _. Then (NeedsSectors a sector count) (λ _. WritesSectors a sector count bytes)) old answer new (λ given middle. writable_why line command a old given middle is writes)
-    (λ done middle first next. subst (λ (r : Reach). Why line command r answer new) first.1
-    (range_write_why line command sector count bytes a middle answer new (ap (λ (r : Reach). r.holding) first.1 ∙ is) asked next)) h
+    same_then_why line command old answer new h (λ done middle first. first.1) (λ given middle. writable_why line command a old given middle is writes)
+    (λ done first next. range_write_why line command sector count bytes a old answer new is asked next)

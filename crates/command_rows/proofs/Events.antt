@@ -6,11 +6,9 @@ use Rattle.command_rows.specs.Histories.{BreaksOff}
 use Rattle.std.proofs.Common.{Bool, Err, List, Ok, Option, Result, [], ap, arith, false, inl, inr, refl, subst, sym, take, true, ℕ, ◌≡◌}
 use Rattle.command_rows.specs.Rows.{Admits, Attaches, Attachment, DoesEvents, GoesOn, LoadsComponents, NeedsSectors, NeedsWritable, Reach, ReadsLastSector, ReadsSectors, Then, TryRow, WritesSectors}
 use Rattle.command_rows.specs.Vocabulary.{DiskState, Event, FailsIn, KeyWords, Logs, Metadata, ReadMetaFault, ReadsMetadata, Refusal, data_writes}
+pub use Rattle.command_rows.proofs.Causing.{Step}
 
 -- ---- steps without events
-
-abbrev pub Step : Type 0 → Type 1
-Step A = Reach → Result A Refusal → Reach → Type 0
 
 abbrev pub Quiet : {A : Type 0} → Step A → Type 0
 Quiet {A} R = (old : Reach) (answer : Result A Refusal) (new : Reach) → R old answer new → Logs [] old.disk new.disk

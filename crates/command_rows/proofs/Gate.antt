@@ -1,7 +1,6 @@
 -- What the gate before a row, and what is attached, come to.
 use Rattle.std.proofs.Common.{◌≡◌, ◌⊎◌, inl, inr, ℕ, List, refl, sym, subst, Option, None, Some, MatchOption}
 use Rattle.eli_base.specs.declared.refusals.Refusal.TheVariants as refusals
-use Rattle.command_rows.specs.Answer as answers
 use Rattle.command_rows.specs.Gate.{ASuspended, AnAttached, AnIdle, AnyOne, Needs, NoIdle, NoSuspended, needs, refused_by}
 use Rattle.command_rows.specs.Rows.{Answer, AttachedWith, Attachment, Holding, Idle, IsAttached, IsSuspended, Kept, Reach, SuspendedWith, attachment_in}
 use Rattle.command_rows.specs.Turn.{GoesThrough, IsRefused, Serves}

@@ -1,23 +1,24 @@
 -- What is proved of each verb, as one value, and how a row says so by its answer.
-use Rattle.std.proofs.Common.{Bool, Err, List, None, Ok, Option, Result, false, inr, subst, ℕ, ◌≡◌}
+use Rattle.std.proofs.Common.{Bool, Err, List, None, Ok, Option, Result, [], false, inr, subst, sym, ℕ, ◌≡◌}
 use Rattle.command_rows.specs.Answer as answers
 use Rattle.command_rows.specs.Becoming.{Becomes, changes_requests}
 use Rattle.command_rows.specs.Causes.{LineHasCause}
 use Rattle.command_rows.specs.Fits.{FitsRow}
 use Rattle.command_rows.specs.Gate.{needs, refused_by}
 use Rattle.command_rows.specs.Histories.{AreRowEvents, EventsBy, stores_last}
-use Rattle.command_rows.specs.Rows.{Answer, Holding, NoChanges, Reach, done_or}
+use Rattle.command_rows.specs.Rows.{Answer, AttachedWith, Attachment, Holding, IsAttached, NoChanges, Reach, Replies, done_or}
 use Rattle.command_rows.specs.Stops.{ChangesMetadata, ChangesOrStays}
 use Rattle.command_rows.specs.Storing.{StoresAt, stored_file}
 use Rattle.command_rows.specs.Turn.{GoesThrough}
 use Rattle.command_rows.specs.Vocabulary.{Command, DiskState, Event, Files, Logs, Refusal}
-use Rattle.command_rows.proofs.Causing.{Why}
-use Rattle.command_rows.proofs.Events.{Did, ResultEvents}
+use Rattle.command_rows.proofs.Causing.{Step, Why}
+use Rattle.command_rows.proofs.Events.{Did, Quiet, ResultEvents, quiet_did}
 use Rattle.command_rows.proofs.Fitting.{RulesOut, RulesOutTags}
 use Rattle.command_rows.proofs.Keeping.{KeepsRequests}
 use Rattle.command_rows.proofs.Replies.{IsServed, Replying, of_reply, refused_by_row}
 use Rattle.command_rows.proofs.Sound.{SoundReply}
 use Rattle.command_rows.proofs.Stopping.{Left}
+use Rattle.command_rows.proofs.Gate.{with_attached}
 
 pub row_refused : {A : Type 0} (line : List ℕ) (command : Command) (answer_to : Result A Refusal → Answer) (old : Reach) (answer : Result A Refusal) (new : Reach) (refusal : Refusal) → Replying answer_to → answers.Refused refusal ≡ answer_to answer
     → Why line command old answer new → LineHasCause line command old refusal new
@@ -47,6 +48,31 @@ pub done_left : (Changes : DiskState → Bool → DiskState → Type 0) (start :
     → ChangesOrStays Changes said start new
 done_left Changes start (Ok done) said new is h = rw is h
 done_left Changes start (Err refusal) said new is h = rw is h
+
+-- ---- a row of an attached drawer
+
+pub attached_why : {A : Type 0} (line : List ℕ) (command : Command) (answer_to : Result A Refusal → Answer) (Row : Attachment → Step A) (old : Reach) (refusal : Refusal) (new : Reach) → Replying answer_to
+    → ((a : Attachment) (answer : Result A Refusal) → old.holding ≡ IsAttached a → Row a old answer new → Why line command old answer new)
+    → AttachedWith old.holding (λ a. Replies answer_to (Row a) old (answers.Refused refusal) new) → LineHasCause line command old refusal new
+attached_why line command answer_to Row old refusal new replying why h =
+    with_attached old.holding _ (LineHasCause line command old refusal new)
+    (λ a is row. row_refused line command answer_to old row.answer new refusal replying row.replied (why a row.answer is row.row)) h
+
+pub attached_did : {A : Type 0} (answer_to : Result A Refusal → Answer) (Row : Attachment → Step A) (Events : Holding → List Event → Type 0) (old : Reach) (said : Answer) (new : Reach) → Replying answer_to
+    → ((a : Attachment) (answer : Result A Refusal) → Row a old answer new → Did (Events (IsAttached a)) false old.disk answer new.disk)
+    → AttachedWith old.holding (λ a. Replies answer_to (Row a) old said new) → LineDid (Events old.holding) false said old.disk new.disk
+attached_did answer_to Row Events old said new replying did h =
+    with_attached old.holding _ (LineDid (Events old.holding) false said old.disk new.disk)
+    (λ a is row. subst (λ (x : Holding). LineDid (Events x) false said old.disk new.disk) (sym is)
+    (reply_line answer_to (Events (IsAttached a)) false row.answer said old.disk new.disk replying row.replied (did a row.answer row.row))) h
+
+-- one that does nothing
+pub attached_quiet : {A : Type 0} (answer_to : Result A Refusal → Answer) (Row : Attachment → Step A) (old : Reach) (said : Answer) (new : Reach) → Replying answer_to → ((a : Attachment) → Quiet (Row a))
+    → AttachedWith old.holding (λ a. Replies answer_to (Row a) old said new) → LineDid (λ events. events ≡ []) false said old.disk new.disk
+attached_quiet answer_to Row old said new replying quiet h =
+    attached_did answer_to Row (λ holding events. events ≡ []) old said new replying (λ a answer row. quiet_did false old.disk answer new.disk (quiet a old answer new row)) h
+
+-- ---- a verb
 
 -- a line that changes no metadata
 pub nothing_changed : (line : List ℕ) (told : Option Files) (holding : Holding) (said : Answer) (old new : DiskState) → ChangesOrStays (NoChanges line told holding) said old new

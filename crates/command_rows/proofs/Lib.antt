@@ -29,6 +29,7 @@ pub mod QueueingSound
 pub mod Replies
 pub mod SameKey
 pub mod Sound
+pub mod Still
 pub mod Stopped
 pub mod Stopping
 pub mod Storing

@@ -2,14 +2,13 @@
 -- they rose, and what is attached keeps a keying that a provider may have.
 use Rattle.eli_base.specs.declared.refusals.Refusal.TheVariants as refusals
 use Rattle.command_rows.specs.Answer as answers
-use Rattle.command_rows.specs.Rows.{Admits, Answer, Attachment, Decides, Does, GoesOn, Holding, HoldsKeying, Idle, IsAttached, LoadsComponents, NeedsSectors, NeedsWhole, NeedsWritable, Reach, ReadsLastSector, ReadsSectors, Replies, StoresBytes, Then, TriesKey, TryRow, admitted, if_writable, in_range, tried, whole_sectors}
-use Rattle.command_rows.specs.Vocabulary.{CabinetState, Components, EntropyState, Event, IsKeying, KeyWords, Metadata, Refusal, Settings, Span, media, user_key}
+use Rattle.command_rows.specs.Rows.{Answer, Attachment, GoesOn, Holding, HoldsKeying, Idle, IsAttached, Reach, Replies, Then}
+use Rattle.command_rows.specs.Vocabulary.{CabinetState, EntropyState, IsKeying, Refusal}
 use Rattle.command_rows.proofs.Causing.{Step}
-use Rattle.std.proofs.Common.{Bool, Err, List, Ok, Option, Result, ap, false, refl, subst, sym, true, ℕ, ◌≡◌}
+use Rattle.std.proofs.Common.{Bool, Err, Ok, Result, ap, false, refl, subst, sym, true, ◌≡◌}
 use Rattle.command_rows.specs.Counts.{CountsAnswer}
 use Rattle.command_rows.specs.verbs.Attach.{AttachesUnless}
-use Rattle.command_rows.proofs.Counting.{Counts, CountsResult, Later, UncountedAnswer, by_plain, components_counts, decision_counts, does_counts, range_uncounted, reading_counts, sectors_counts, storing_counts, then_counts, whole_uncounted, writable_uncounted}
-use Rattle.command_rows.proofs.Plain.{or_plain, tried_plain}
+use Rattle.command_rows.proofs.Counting.{Counts, CountsResult, Later, then_counts}
 use Rattle.command_rows.proofs.QueueingSound.{HoldsSame, same_keyed}
 use Rattle.command_rows.proofs.Replies.{IsServed, Replying, of_reply}
 
@@ -49,54 +48,7 @@ sound_then First Next first next = record { counts = then_counts First Next firs
 pub sound_step : {A : Type 0} (R : Step A) → Counts R → ((old : Reach) (answer : Result A Refusal) (new : Reach) → R old answer new → new.holding ≡ old.holding) → Sound R
 sound_step R counts same = record { counts = counts; keeps = λ old answer new h had. stays old.holding new.holding (same old answer new h) had }
 
--- one that changes nothing
-pub sound_decision : {A : Type 0} (decided : Reach → Result A Refusal) → ((r : Reach) → UncountedAnswer (decided r)) → Sound (λ old answer new. Decides (decided old) old answer new)
-sound_decision decided uncounted =
-    sound_step (λ old answer new. Decides (decided old) old answer new) (λ old answer new h. decision_counts (decided old) old answer new (uncounted old) h) (λ old answer new h. ap (λ (r : Reach). r.holding) h.1)
-
-pub done_sound : {A : Type 0} (value : A) → Sound (Decides (Ok value))
-done_sound value = sound_decision (λ r. Ok value) (λ r. tt)
-
--- ---- the steps
-
-pub reading_sound : Sound ReadsLastSector
-reading_sound = sound_step ReadsLastSector reading_counts (λ old answer new h. h.holding)
-
-pub admitting_sound : (m : Metadata) (slot : Option ℕ) → Sound (Admits m slot)
-admitting_sound m slot = sound_decision (λ r. admitted m r.disk.size slot) (λ r. by_plain _ (or_plain _))
-
-pub components_sound : (line : List ℕ) (words : KeyWords) → Sound (LoadsComponents line words)
-components_sound line words = sound_step (LoadsComponents line words) (components_counts line words) (λ old answer new h. h.holding)
-
-pub storing_sound : (line : List ℕ) (file : Span) (bytes : List ℕ) → Sound (StoresBytes line file bytes)
-storing_sound line file bytes = sound_step (StoresBytes line file bytes) (storing_counts line file bytes) (λ old answer new h. h.holding)
-
-trying_sound : (m : Metadata) (s : Settings) (slot : Option ℕ) (readonly : Bool) (parts : Components) → Sound (TriesKey m s slot readonly parts)
-trying_sound m s slot readonly parts = sound_decision (λ r. tried m s slot readonly (user_key parts m.salt m.iterations)) (λ r. by_plain _ (tried_plain m s slot readonly (user_key parts m.salt m.iterations)))
-
-pub doing_sound : (events : List Event) → Sound (Does events)
-doing_sound events = sound_step (Does events) (does_counts events) (λ old answer new h. h.holding)
-
-pub sectors_sound : (a : Attachment) (sector count : ℕ) → Sound (ReadsSectors a sector count)
-sectors_sound a sector count = sound_step (ReadsSectors a sector count) (sectors_counts a sector count) (λ old answer new h. h.holding)
-
-pub whole_sound : (a : Attachment) (bytes : ℕ) → Sound (NeedsWhole a bytes)
-whole_sound a bytes = sound_decision (λ r. whole_sectors a.keying.sectorsize bytes) (λ r. whole_uncounted a.keying.sectorsize bytes _)
-
-pub writable_sound : (a : Attachment) → Sound (NeedsWritable a)
-writable_sound a = sound_decision (λ r. if_writable a.readonly) (λ r. writable_uncounted a.readonly)
-
-pub range_sound : (a : Attachment) (sector count : ℕ) → Sound (NeedsSectors a sector count)
-range_sound a sector count = sound_decision (λ r. in_range sector count (media a.keying r.disk)) (λ r. range_uncounted sector count _ _)
-
 -- ---- the rows
-
-pub try_sound : (line : List ℕ) (slot : Option ℕ) (readonly : Bool) (words : KeyWords) → Sound (TryRow line slot readonly words)
-try_sound line slot readonly words =
-    sound_then ReadsLastSector _ reading_sound
-    (λ m. sound_then (Admits m slot) _ (admitting_sound m slot)
-    (λ settings. sound_then (LoadsComponents line words) _ (components_sound line words)
-    (λ parts. trying_sound m settings slot readonly parts)))
 
 -- what is attached is what was tried
 pub attaches_keep : (only_check : Bool) (a : Attachment) (old : Reach) (answer : Result (Unit {0}) Refusal) (new : Reach) → IsKeying a.keying → AttachesUnless only_check a old answer new → HoldsKeying old.holding → HoldsKeying new.holding

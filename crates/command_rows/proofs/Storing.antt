@@ -1,9 +1,9 @@
 -- Steps that store nothing.
 use Rattle.eli_base.specs.declared.refusals.Refusal.TheVariants as refusals
-use Rattle.command_rows.specs.Rows.{Admits, Answer, Attaches, Attachment, Decides, Does, GoesOn, LoadsComponents, NeedsRequest, NeedsSectors, NeedsWhole, NeedsWritable, Reach, ReadsLastSector, ReadsSectors, Replies, StoreAnswers, StoresBytes, Then, TriesKey, TryRow, admitted, if_writable, in_range, tried, whole_sectors}
-use Rattle.command_rows.specs.Vocabulary.{CabinetState, Components, Counted, Event, Files, KeyWords, Metadata, Refusal, Settings, Span, bytes_at, media, stored, user_key}
+use Rattle.command_rows.specs.Rows.{Answer, Attaches, Attachment, Decides, GoesOn, NeedsRequest, Reach, Replies, StoreAnswers, StoresBytes, Then}
+use Rattle.command_rows.specs.Vocabulary.{CabinetState, Counted, Files, Refusal, Span, bytes_at, stored}
 use Rattle.command_rows.proofs.Causing.{Step}
-use Rattle.std.proofs.Common.{Bool, Err, List, None, Ok, Option, Result, Some, ap, inl, inr, subst, ℕ, ◌∙◌, ◌≡◌, ◌⊎◌}
+use Rattle.std.proofs.Common.{Err, List, None, Ok, Option, Result, Some, ap, inl, inr, subst, ℕ, ◌∙◌, ◌≡◌, ◌⊎◌}
 use Rattle.command_rows.specs.Storing.{StoresAt, StoresNone, StoresOne}
 
 -- ---- nothing is stored
@@ -63,36 +63,6 @@ stored_then line file First Next first next old answer new h =
 pub decision_unstored : {A : Type 0} (decided : Reach → Result A Refusal) → Unstored (λ old answer new. Decides (decided old) old answer new)
 decision_unstored decided old answer new h = same_files old.cabinet new.cabinet (ap (λ (r : Reach). r.cabinet) h.1)
 
-pub done_unstored : {A : Type 0} (value : A) → Unstored (Decides (Ok value))
-done_unstored value = decision_unstored (λ r. Ok value)
-
-pub reading_unstored : Unstored ReadsLastSector
-reading_unstored old answer new h = same_files old.cabinet new.cabinet h.cabinet
-
-pub admitting_unstored : (m : Metadata) (slot : Option ℕ) → Unstored (Admits m slot)
-admitting_unstored m slot = decision_unstored (λ r. admitted m r.disk.size slot)
-
-pub components_unstored : (line : List ℕ) (names : KeyWords) → Unstored (LoadsComponents line names)
-components_unstored line names old answer new h = record { files = h.keeps.files; stores = h.unstored }
-
-trying_unstored : (m : Metadata) (s : Settings) (slot : Option ℕ) (readonly : Bool) (parts : Components) → Unstored (TriesKey m s slot readonly parts)
-trying_unstored m s slot readonly parts = decision_unstored (λ r. tried m s slot readonly (user_key parts m.salt m.iterations))
-
-pub doing_unstored : (events : List Event) → Unstored (Does events)
-doing_unstored events old answer new h = same_files old.cabinet new.cabinet h.outside.cabinet
-
-pub sectors_unstored : (a : Attachment) (sector count : ℕ) → Unstored (ReadsSectors a sector count)
-sectors_unstored a sector count old answer new h = same_files old.cabinet new.cabinet h.outside.cabinet
-
-pub whole_unstored : (a : Attachment) (bytes : ℕ) → Unstored (NeedsWhole a bytes)
-whole_unstored a bytes = decision_unstored (λ r. whole_sectors a.keying.sectorsize bytes)
-
-pub writable_unstored : (a : Attachment) → Unstored (NeedsWritable a)
-writable_unstored a = decision_unstored (λ r. if_writable a.readonly)
-
-pub range_unstored : (a : Attachment) (sector count : ℕ) → Unstored (NeedsSectors a sector count)
-range_unstored a sector count = decision_unstored (λ r. in_range sector count (media a.keying r.disk))
-
 pub attaching_unstored : (a : Attachment) → Unstored (Attaches a)
 attaching_unstored a old (Ok done) new h = same_files old.cabinet new.cabinet (ap (λ (r : Reach). r.cabinet) h)
 attaching_unstored a old (Err refusals.NoMemory) new h = same_files old.cabinet new.cabinet (ap (λ (r : Reach). r.cabinet) h)
@@ -114,15 +84,6 @@ store_files line span bytes old (Err refusal) new h = absurd h
 
 pub bytes_stored : (line : List ℕ) (span : Span) (bytes : List ℕ) → Stored line (Some span) (StoresBytes line span bytes)
 bytes_stored line span bytes old answer new h = inr (record { files = store_files line span bytes old.cabinet answer new.cabinet h.stores; stores = h.stored })
-
--- ---- the rows
-
-pub try_row : (line : List ℕ) (slot : Option ℕ) (readonly : Bool) (names : KeyWords) → Unstored (TryRow line slot readonly names)
-try_row line slot readonly names =
-    unstored_then ReadsLastSector _ reading_unstored
-    (λ m. unstored_then (Admits m slot) _ (admitting_unstored m slot)
-    (λ settings. unstored_then (LoadsComponents line names) _ (components_unstored line names)
-    (λ parts. trying_unstored m settings slot readonly parts)))
 
 -- ---- a line
 

@@ -1,38 +1,20 @@
 -- A request alone does what a line does in its place.
 use Rattle.std.proofs.Common.{◌≡◌, ◌∙◌, inl, inr, ℕ, zero, suc, List, [], ◌∷◌, length, take, drop, ap, refl, sym, subst, Option, Result, Ok, Err}
 use Rattle.std.proofs.Math.Seq.{take-append_seam}
-use Rattle.bio_queue.specs.Answers.{StepAnswers, StepsOn, SubmitAnswers, units_of}
-use Rattle.bio_queue.specs.declared.faults.ReapFault.{ReapFault}
 use Rattle.bio_queue.specs.declared.faults.ReapFault.TheVariants as reap
-use Rattle.bio_queue.specs.declared.faults.StepFault.{StepFault}
-use Rattle.bio_queue.specs.declared.faults.SubmitFault.{SubmitFault}
-use Rattle.bio_queue.specs.declared.job.Job.{Job}
 use Rattle.bio_queue.specs.declared.job.Job.TheVariants as jobs
-use Rattle.bio_queue.specs.declared.job.Reaped.{Reaped}
 use Rattle.bio_queue.specs.declared.job.Reaped.TheVariants as given
-use Rattle.block_traits.specs.Disk.{DiskState, Logs}
 use Rattle.block_traits.specs.declared.disk.Event.TheVariants as event
-use Rattle.provider.specs.Answers.{IsWritten}
-use Rattle.provider.specs.Reading.{ReadsAs}
-use Rattle.command_words.specs.Places.{bytes_at}
-use Rattle.command_words.specs.declared.commands.JobWords.{JobWords}
+use Rattle.command_rows.specs.Rows.{Attachment, IsAttached, Reach, bytes_spelled, or_refusal, with_queue}
+use Rattle.command_rows.specs.Vocabulary.{DiskState, IsKeying, Job, JobWords, Logs, ReadsAs, ReapFault, Reaped, Refusal, StepAnswers, StepFault, StepsOn, SubmitAnswers, SubmitFault, bytes_at, units_of}
 use Rattle.command_words.specs.declared.commands.JobWords.TheVariants as words
-use Rattle.eli_base.specs.declared.refusals.Refusal.{Refusal}
 use Rattle.queue_readings.specs.Alone as queue
 use Rattle.queue_readings.specs.Alone.{DoesAsProvider, StepsThrough, request_for}
 use Rattle.queue_readings.specs.Moves.{InFlight}
-use Rattle.queue_readings.specs.Tasks.{job_of, work_of}
 use Rattle.queue_readings.proofs.Alone.{does_alone}
-use Rattle.range_keys.specs.Ring.{IsKeying}
-use Rattle.command_rows.specs.Digits.{bytes_spelled}
-use Rattle.command_rows.specs.Queueing.{with_queue}
-use Rattle.command_rows.specs.Steps.{or_refusal}
-use Rattle.command_rows.specs.World.{Attachment, IsAttached, Reach}
-use Rattle.command_rows.specs.verbs.Reap.{ReapRow, ReapsRequest, reap_answer}
-use Rattle.command_rows.specs.verbs.Step.{StepRow, step_refusal}
-use Rattle.command_rows.specs.verbs.Submit.{submit_refusal}
 use Rattle.geli_core.specs.Placing.{work_in}
 use Rattle.geli_core.specs.Requests.{DoesAsLine, IsRequestDoneAlone, StepsDone}
+use Rattle.geli_core.specs.Vocabulary.{IsWritten, ReapRow, ReapsRequest, StepRow, job_of, reap_answer, step_refusal, submit_refusal, work_of}
 use Rattle.geli_core.proofs.Owning.{at_attached}
 use Rattle.geli_core.proofs.Requested.{Asks, reap_asks, step_asks, submit_asks}
 

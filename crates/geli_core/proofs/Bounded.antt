@@ -1,18 +1,14 @@
 -- What a run answers of failures is counted by what failed, the closing of the drawers with it.
-use Rattle.std.proofs.Common.{◌≡◌, ◌∙◌, ◌⊎◌, inl, inr, ℕ, ◌+◌, ◌-◌, ◌≤◌, zero, suc, List, [], ◌∷◌, refl, ap, sym, subst, arith, Bool, true, false, cond, Option, None, Some, slice_get}
-use Rattle.std.specs.Prelude.{◌<◌, ◌^◌}
+use Rattle.std.proofs.Common.{◌≡◌, ◌∙◌, ◌⊎◌, inl, inr, ℕ, ◌+◌, ◌-◌, ◌≤◌, zero, suc, List, [], ◌∷◌, refl, ap, sym, subst, arith, Bool, true, false, cond, Option, None, Some, slice_get, ◌<◌, ◌^◌}
 use Rattle.std.specs.Option.{option_map}
 use Rattle.std.specs.Str.{bytes_eq}
-use Rattle.block_traits.specs.Cabinet.{CabinetState}
-use Rattle.block_traits.specs.Causes.{Rose}
-use Rattle.block_traits.specs.Disk.{DiskState}
-use Rattle.block_traits.specs.Streams.{EntropyState}
-use Rattle.command_rows.specs.Answer.{Answer}
-use Rattle.shelf.specs.Closing.{Closes, ClosesAs, ClosesWorld, Closing, Flushes, failures}
-use Rattle.command_rows.specs.World.{DrawerState, NamesDiffer, World, is_idle, place_of}
+use Rattle.command_rows.specs.Rows.{Answer, DrawerState, NamesDiffer, World, is_idle, place_of}
+use Rattle.command_rows.specs.Vocabulary.{CabinetState, DiskState, EntropyState, Rose}
+use Rattle.shelf.specs.Closing.{Flushes}
 use Rattle.geli_core.specs.Bounded.{CountsAll, RisesToExit}
 use Rattle.geli_core.specs.Trace.{ClosesBy, IsTrace, Trace, answers_of, world_behind}
 use Rattle.geli_core.specs.Bounds.{CountsOutside, RisesNamed, RisesUntilOut, RoseBy, device_faults, how_many, is_cabinet_fault, is_entropy_fault, is_miss}
+use Rattle.geli_core.specs.Vocabulary.{Closes, ClosesAs, ClosesWorld, Closing, failures}
 use Rattle.geli_core.proofs.Bounding.{closes_with_failures}
 use Rattle.geli_core.proofs.Counting.{run_rises_or}
 use Rattle.geli_core.proofs.Drawn.{same_some}

@@ -1,10 +1,9 @@
 -- Each flush that failed at the end of a run is that of a drawer.
-use Rattle.std.proofs.Common.{◌≡◌, ℕ, ◌+◌, List, [], ◌∷◌, refl, subst, arith, inl, inr, Bool, true, false, Option, None, Some}
-use Rattle.std.specs.Prelude.{IfSome}
-use Rattle.shelf.specs.Closing.{Closes, ClosesAs, Closing, failures}
-use Rattle.command_rows.specs.World.{DrawerState, World, is_idle}
+use Rattle.std.proofs.Common.{◌≡◌, ℕ, ◌+◌, List, [], ◌∷◌, refl, subst, arith, inl, inr, Bool, true, false, Option, None, Some, IfSome}
+use Rattle.command_rows.specs.Rows.{DrawerState, World, is_idle}
 use Rattle.geli_core.specs.Bounds.{ClosesWithFailures, FailedHeld, ManyFailed}
 use Rattle.geli_core.specs.Trace.{ClosesBy, IsTrace, Trace, world_behind}
+use Rattle.geli_core.specs.Vocabulary.{Closes, ClosesAs, Closing, failures}
 
 failed_held : (idle : Bool) (old new : DrawerState) → is_idle old.holding ≡ idle → ClosesAs idle old true new → FailedHeld old new
 failed_held true old new is h = absurd (let no : ⊥ = cc h.0 in no)

@@ -2,17 +2,14 @@
 use Rattle.std.specs.Io.KnownBytes.{prepend_known}
 use Rattle.std.proofs.lemmas.List.{append-nil}
 use Rattle.std.proofs.Common.{◌∙◌, ◌++◌, inl, inr, ℕ, List, [], ◌∷◌, Option, None, Some, ap, refl}
-use Rattle.block_traits.specs.Causes.{Rose}
 use Rattle.block_traits.proofs.Causes.{Rose-earlier}
-use Rattle.block_traits.specs.Streams.{SinkState}
-use Rattle.command_words.specs.Reading.{command_in}
-use Rattle.command_words.specs.Images.{line_of, script_images}
-use Rattle.command_words.specs.declared.commands.Command.{Command}
+use Rattle.command_rows.specs.Rows.{Answer}
+use Rattle.command_rows.specs.Vocabulary.{Command, Rose, SinkState}
 use Rattle.geli_core.specs.Script.{Ends, EndsBy, EndsCommand, StatusHasCause, PrintsAnswers, PrintsUsage, Runs, RunsAs, RunsCommand, RunsLine, RunsScript, Whole}
 use Rattle.geli_core.specs.Trace.{Trace, answers_of}
+use Rattle.geli_core.specs.Vocabulary.{command_in, line_of, script_images}
 use Rattle.geli_core.specs.declared.status.Status.{Status}
 use Rattle.geli_core.specs.declared.status.Status.TheVariants.{Done, SomeRefused, BadWords, ReadFault, WriteFault, NoMemory, LineTooLong, ScriptTooLong}
-use Rattle.command_rows.specs.Answer.{Answer}
 
 pub rose_prints : (answers : List (Option Answer)) (failed : ℕ) (old new : SinkState) → PrintsAnswers answers failed old WriteFault new → Rose old.faults new.faults
 rose_prints answers failed old new (inl part) = Rose-earlier old.faults part.middle.faults new.faults part.before.later part.part.rose

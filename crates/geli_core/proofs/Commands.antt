@@ -1,21 +1,15 @@
 -- One command, as a script of one line.
-use Rattle.std.proofs.Common.{[], ◌∷◌, ◌≡◌, ◌∙◌, inl, inr, ℕ, List, length, refl, ap, sym, subst, Option, None, Some, Bool, true, false, cond, Result, Ok, Err}
-use Rattle.std.specs.Prelude.{◌||◌, nat_le}
+use Rattle.std.proofs.Common.{[], ◌∷◌, ◌≡◌, ◌∙◌, inl, inr, ℕ, List, length, refl, ap, sym, subst, Option, None, Some, Bool, true, false, cond, Result, Ok, Err, ◌||◌, nat_le}
 use Rattle.std.proofs.lemmas.List.{append-nil}
-use Rattle.block_traits.specs.Streams.{SinkState, TookAll, TookPart, SourceState}
-use Rattle.command_words.specs.Images.{line_of, script_images}
-use Rattle.command_words.specs.Reading.{command_in, line_limit, line_reading, said}
-use Rattle.command_words.specs.declared.commands.Command.{Command}
-use Rattle.command_words.specs.declared.commands.Usage.{Usage}
+use Rattle.command_rows.specs.Rows.{Answer}
+use Rattle.command_rows.specs.Vocabulary.{Command, SinkState, SourceState, TookAll, TookPart}
 use Rattle.command_words.specs.declared.spans.Sep.TheVariants.{Blanks, Zeros}
-use Rattle.command_rows.specs.Answer.{Answer}
-use Rattle.reply_text.specs.declared.print.WriteEnd.{WriteEnd}
 use Rattle.reply_text.proofs.Printing.{TookAll-nothing, TookAll-then}
-use Rattle.shelf.specs.Closing.{ClosesWorld}
 use Rattle.geli_core.specs.Run.{PrintsAnswer, ServesAndPrints, ServesLine, ServesReading, answers_text, any_refused, closing_answers, end_of, is_refusal, refuses, text_of}
 use Rattle.geli_core.specs.Script.{EndsCommand, PrintsAnswers, PrintsUsage, Runs, RunsAs, RunsCommand, RunsLine, Whole}
 use Rattle.geli_core.specs.Served.{ClosesAndPrints, RunsUnless, SiteState, Traced, status_by, whole_of}
 use Rattle.geli_core.specs.Trace.{Trace}
+use Rattle.geli_core.specs.Vocabulary.{ClosesWorld, Usage, WriteEnd, command_in, line_limit, line_of, line_reading, said, script_images}
 use Rattle.geli_core.specs.declared.serving.LineEnd.{LineEnd}
 use Rattle.geli_core.specs.declared.status.Status.{Status}
 use Rattle.geli_core.specs.declared.status.Status.TheVariants.{Done, SomeRefused, BadWords, ReadFault, WriteFault, NoMemory, LineTooLong, ScriptTooLong}

@@ -2,19 +2,16 @@
 use Rattle.std.specs.Io.KnownBytes.{prepend_known}
 use Rattle.std.proofs.lemmas.List.{append-nil}
 use Rattle.std.proofs.Common.{◌∙◌, ◌++◌, ◌≡◌, ◌+◌, ◌<◌, ◌≤◌, ℕ, List, [], ◌∷◌, length, Bool, Option, None, Some, ap, refl, sym, subst, true, false, arith}
-use Rattle.block_traits.specs.Causes.{Rose}
-use Rattle.block_traits.specs.Streams.{TookAll, SourceState}
-use Rattle.command_words.specs.Images.{line_of, script_images}
-use Rattle.command_words.specs.Reading.{command_in, line_limit}
-use Rattle.command_words.specs.declared.commands.Command.{Command}
+use Rattle.command_rows.specs.Rows.{Answer}
+use Rattle.command_rows.specs.Vocabulary.{Command, Rose, SourceState, TookAll}
 use Rattle.command_words.specs.declared.spans.Sep.TheVariants.{Blanks}
-use Rattle.command_rows.specs.Answer.{Answer}
 use Rattle.geli_core.specs.Complete.{CommandToEnd, Completes, CompletesBy, GaveWithinLimits, ScriptToEnd}
 use Rattle.geli_core.specs.Lines.{CutsInto, ended}
 use Rattle.geli_core.specs.Run.{answers_text, any_refused, closing_answers}
 use Rattle.geli_core.specs.Script.{IsReadToEnd, Runs, RunsAs, RunsCommand, RunsLine, RunsScript, Taken, Whole, script_limit}
 use Rattle.geli_core.specs.Served.{ByTrace, RunsUnless, status_by}
 use Rattle.geli_core.specs.Trace.{Trace, answers_of, lines_of}
+use Rattle.geli_core.specs.Vocabulary.{command_in, line_limit, line_of, script_images}
 use Rattle.geli_core.specs.declared.status.Status.{Status}
 use Rattle.geli_core.specs.declared.status.Status.TheVariants.{Done, SomeRefused, BadWords, ReadFault, WriteFault, NoMemory, LineTooLong, ScriptTooLong}
 use Rattle.geli_core.proofs.Causes.{rose_prints}

@@ -1,25 +1,14 @@
 -- The lines that are answered that a disk failed are counted by its faults.
-use Rattle.std.proofs.Common.{◌≡◌, ◌∙◌, ◌⊎◌, inl, inr, ℕ, ◌+◌, ◌-◌, ◌≤◌, zero, suc, List, [], ◌∷◌, refl, ap, sym, subst, arith, Bool, true, false, cond, Option, None, Some, Result, Ok, Err, slice_get}
-use Rattle.std.specs.Prelude.{◌<◌, ◌^◌, ◌&&◌, MatchOption, option_and_then}
+use Rattle.std.proofs.Common.{◌≡◌, ◌∙◌, ◌⊎◌, inl, inr, ℕ, ◌+◌, ◌-◌, ◌≤◌, zero, suc, List, [], ◌∷◌, refl, ap, sym, subst, arith, Bool, true, false, cond, Option, None, Some, Result, Ok, Err, slice_get, ◌<◌, ◌^◌, ◌&&◌, MatchOption, option_and_then}
 use Rattle.std.specs.List.{AllByRecursion, remove}
 use Rattle.std.specs.Option.{option_map}
 use Rattle.std.specs.Str.{bytes_eq}
 use Rattle.std.proofs.Math.ListN.{set}
 use Rattle.std.proofs.lemmas.Slice.Eq.{bytes_eq-Decides}
-use Rattle.block_traits.specs.Causes.{Rose}
-use Rattle.command_words.specs.Places.{bytes_at, provider_of}
-use Rattle.command_words.specs.Reading.{line_reading}
-use Rattle.command_words.specs.declared.commands.Command.{Command}
-use Rattle.command_words.specs.declared.commands.Usage.{Usage}
-use Rattle.command_words.specs.declared.spans.Sep.{Sep}
-use Rattle.command_words.specs.declared.spans.Span.{Span}
+use Rattle.command_rows.specs.Rows.{Answer, DrawerState, NamesDiffer, World, place_of}
+use Rattle.command_rows.specs.Vocabulary.{Command, Rose, Span, bytes_at, provider_of}
 use Rattle.eli_base.specs.declared.refusals.Refusal.TheVariants as refusals
-use Rattle.command_rows.specs.Answer.{Answer}
 use Rattle.command_rows.specs.Answer as answers
-use Rattle.command_rows.specs.Causes.{CausedAt, CausedBy}
-use Rattle.command_rows.specs.Histories.{ChangesBy, OnlyAt, place_named}
-use Rattle.command_rows.specs.Turn.{IsUnknown, ListsDrawers, ServesAt, Turn, TurnOf, takes_out}
-use Rattle.command_rows.specs.World.{DrawerState, NamesDiffer, World, place_of}
 use Rattle.command_rows.proofs.LineCauses.{refusal_caused}
 use Rattle.command_rows.proofs.Naming.{differ-removed, differ-set, place-set}
 use Rattle.command_rows.proofs.Untouched.{get-set, get-set_other, turn_only_steps}
@@ -27,7 +16,9 @@ use Rattle.geli_core.specs.Bounds.{KeepsAll, RisesBy, RisesNamed, RisesUntilOut,
 use Rattle.geli_core.specs.Histories.{ejects, is_done, names, names_by, says_eject, says_name}
 use Rattle.geli_core.specs.Run.{ServesReading}
 use Rattle.geli_core.specs.Trace.{EachServed, Run, ServedLine, world_behind}
+use Rattle.geli_core.specs.Vocabulary.{CausedAt, CausedBy, ChangesBy, IsUnknown, ListsDrawers, OnlyAt, Sep, ServesAt, Turn, TurnOf, Usage, line_reading, place_named, takes_out}
 use Rattle.geli_core.proofs.Drawn.{here_or, same_some}
+use Rattle.geli_core.proofs.OutsideCounts.{false_is}
 
 -- ---- places
 
@@ -43,9 +34,6 @@ record Counts (named : Bool) (name : List ℕ) (answer : Option Answer) (place :
   stands : place_of name new.drawers ≡ Some place
   later : before.disk.faults ≤ after.disk.faults
   rose : named ≡ true → answer ≡ Some (answers.Refused refusals.DeviceFault) → Rose before.disk.faults after.disk.faults
-
-not_named : {P : Type 0} → false ≡ true → P
-not_named h = absurd (let none : ⊥ = cc h in none)
 
 caused_place : (line : List ℕ) (command : Command) (old new : World) (n : ℕ) (place : Option ℕ) → place ≡ Some n
     → MatchOption place (refusals.DeviceFault ≡ refusals.UnknownProvider) (CausedAt line command refusals.DeviceFault old new) → CausedAt line command refusals.DeviceFault old new n
@@ -116,7 +104,7 @@ counts_same name answer old new n before is stands found =
       there = ap (λ (w : World). slice_get w.drawers n) is ∙ found;
       stands = ap (λ (w : World). place_of name w.drawers) is ∙ stands;
       later = omega arith;
-      rose = λ named answered. not_named named;
+      rose = λ named answered. false_is named;
     }
 
 counts_read : (read : Result (Option Command) Usage) (line name : List ℕ) (answer : Option Answer) (old new : World) (n : ℕ) (before : DrawerState) → KeepsAll read → place_of name old.drawers ≡ Some n
@@ -131,7 +119,7 @@ counts_read (Ok (Some command)) line name (Some said) old new n before keeps sta
 
 fault_is : (answer : Option Answer) → is_device_fault answer ≡ true → answer ≡ Some (answers.Refused refusals.DeviceFault)
 fault_is (Some (answers.Refused refusals.DeviceFault)) h = refl
-fault_is answer h = not_named h
+fault_is answer h = false_is h
 
 -- one line, and so many behind it
 one_more : (named fault : Bool) (b m a rest : ℕ) → b ≤ m → (named ≡ true → fault ≡ true → Rose b m) → m ≤ a → (a < 2 ^ 64 - 1 → m + rest ≤ a) → a < 2 ^ 64 - 1 → b + (cond (named && fault) 1 0 + rest) ≤ a
@@ -170,7 +158,7 @@ none_still false (Some k) s h = absurd (let none : ⊥ = cc h in none)
 
 first_still : (same : Bool) (place : Option ℕ) → same ≡ true → cond same (Some 0) (option_map (λ n. n + 1) place) ≡ Some 0
 first_still true place s = refl
-first_still false place s = not_named s
+first_still false place s = false_is s
 
 further_still : (same : Bool) (place : Option ℕ) (k : ℕ) → same ≡ false → place ≡ Some k → cond same (Some 0) (option_map (λ n. n + 1) place) ≡ Some (suc k)
 further_still true place k s h = absurd (let none : ⊥ = cc s in none)
@@ -213,7 +201,7 @@ removed_more : (name other : List ℕ) (d : DrawerState) (ds : List DrawerState)
     → ((bytes_eq d.name name ≡ true) × (p ≡ 0)) ⊎ ((k : ℕ) × (bytes_eq d.name name ≡ false) × (place_of name ds ≡ Some k) × (p ≡ suc k)) → slice_get (d ∷ ds) p ≡ Some b → Stands name (remove (d ∷ ds) q) b
 removed_more name other d ds q p b differ behind (inl o) (inl n) found =
     let both : bytes_eq name other ≡ true = subst (λ (x : List ℕ). bytes_eq x other ≡ true) ((bytes_eq-Decides d.name name).0 n.0) o.0 in
-    not_named (sym differ ∙ both)
+    false_is (sym differ ∙ both)
 removed_more name other d ds q p b differ behind (inl o) (inr n) found =
     subst (λ (m : ℕ). Stands name (remove (d ∷ ds) m) b) (sym o.1) (record { place = n.0; named = n.2; found = subst (λ (m : ℕ). slice_get (d ∷ ds) m ≡ Some b) n.3 found })
 removed_more name other d ds q p b differ behind (inr o) (inl n) found =
@@ -250,7 +238,7 @@ record Left (read : Result (Option Command) Usage) (line name : List ℕ) (answe
 
 both_are : (a b : Bool) → a ≡ true → b ≡ true → (a && b) ≡ true
 both_are true b p q = q
-both_are false b p q = not_named p
+both_are false b p q = false_is p
 
 out_by : (line name : List ℕ) (command : Command) (said : Answer) (old new : World) (n : ℕ) (before : DrawerState) (place : ℕ) (named : Bool) → names_by (provider_of command) line name ≡ named → takes_out command ≡ true → NamesDiffer old.drawers
     → place_of name old.drawers ≡ Some n → slice_get old.drawers n ≡ Some before → place_named line command old.drawers ≡ Some place → ChangesBy true line command said old.drawers new.drawers place
@@ -272,7 +260,7 @@ out_by line name command said old new n before place false is out differ stands 
         there = ap (λ (l : List DrawerState). slice_get l s.place) h.others ∙ s.found;
         stands = ap (place_of name) h.others ∙ s.named;
         later = omega arith;
-        rose = λ named answered. not_named (sym is ∙ named);
+        rose = λ named answered. false_is (sym is ∙ named);
       };
       differ = subst (λ (l : List DrawerState). NamesDiffer l) (sym h.others) (differ-removed old.drawers place h.before h.found differ);
     })

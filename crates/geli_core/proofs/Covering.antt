@@ -1,40 +1,23 @@
 -- The steps of a play only grow, and a flush covers those before it.
-use Rattle.std.proofs.Common.{◌≡◌, ◌∙◌, inl, inr, ℕ, List, [], ◌∷◌, ◌++◌, Contains, Option, None, Some, Result, Ok, slice_get, ap, subst, sym, append_assoc, append-nil, refl}
-use Rattle.std.specs.Prelude.{IfSome, MatchOption, option_and_then}
+use Rattle.std.proofs.Common.{◌≡◌, ◌∙◌, inl, inr, ℕ, List, [], ◌∷◌, ◌++◌, Contains, Option, None, Some, Result, Ok, slice_get, ap, subst, sym, append_assoc, append-nil, refl, IfSome, MatchOption, option_and_then}
 use Rattle.std.proofs.lemmas.List.Elements.{All-weaker}
-use Rattle.command_words.specs.Places.{bytes_at}
-use Rattle.command_words.specs.Reading.{line_reading}
-use Rattle.command_words.specs.declared.commands.Usage.{Usage}
-use Rattle.command_words.specs.declared.spans.Span.{Span}
-use Rattle.queue_readings.specs.Tasks.{Flushes, Reads, Task, Work, Writes, task_with}
-use Rattle.readings.specs.Writes.{data_steps}
+use Rattle.command_rows.specs.Rows.{Answer, AttachedWith, Attachment, DrawerState, HoldKeyings, IsAmong, Places, PlacesBytes, PlacesGenerated, PlacesNoMore, PlacesNothing, PlacesRequest, PlacesUnit, World, attachment_in, place_of}
+use Rattle.command_rows.specs.Vocabulary.{Command, Content, Event, Keying, Span, bytes_at}
 use Rattle.command_rows.specs.Answer as answers
-use Rattle.command_rows.specs.Turn.{Replies, reach, reaped_or}
 use Rattle.command_rows.proofs.Gate.{attached}
-use Rattle.command_rows.specs.Verb.{Places, PlacesBytes, PlacesGenerated, PlacesNoMore, PlacesNothing, PlacesRequest, PlacesUnit}
-use Rattle.command_rows.specs.verbs.{verb_of}
 use Rattle.geli_core.specs.ReadsBack.{IsAmongSteps, IsDoneAsAsked}
 use Rattle.geli_core.specs.Requests.{CoversReaped, CoversWork}
 use Rattle.geli_core.specs.Run.{ServesReading}
 use Rattle.geli_core.specs.Trace.{Run, ServedLine}
 use Rattle.geli_core.specs.Survivors.{HasNoRequests}
+use Rattle.geli_core.specs.Vocabulary.{Flush, Flushes, IsCovered, Play, Reads, ReapRow, Replies, Sep, Step, Task, Usage, Work, Writes, data_steps, line_reading, reach, reaped_or, task_with, verb_of}
 use Rattle.geli_core.proofs.Drawn.{same_some}
 use Rattle.geli_core.proofs.Placing.{came, goes, run_keeps, survived, survives_so, told_holds}
 use Rattle.geli_core.proofs.Playing.{Follows}
 use Rattle.geli_core.proofs.ReadsBack.{from_row, turned}
 use Rattle.geli_core.proofs.Reaping.{reaped_done}
-use Rattle.block_traits.specs.Content.{Content}
-use Rattle.block_traits.specs.declared.disk.Event.{Event}
-use Rattle.command_words.specs.declared.commands.Command.{Command}
 use Rattle.command_words.specs.declared.commands.Command.TheVariants as commands
-use Rattle.command_words.specs.declared.spans.Sep.{Sep}
-use Rattle.eli_base.specs.Keying.{Keying}
-use Rattle.queue_readings.specs.Play.{IsCovered, Play}
 use Rattle.queue_readings.proofs.Calls.{covered}
-use Rattle.readings.specs.Steps.{Flush, Step}
-use Rattle.command_rows.specs.Answer.{Answer}
-use Rattle.command_rows.specs.World.{AttachedWith, Attachment, DrawerState, HoldKeyings, IsAmong, World, attachment_in, place_of}
-use Rattle.command_rows.specs.verbs.Reap.{ReapRow}
 use Rattle.geli_core.specs.Placing.{DrawerPlaces, LinePlays, place_played, played_by}
 
 -- steps that were done stay the first

@@ -1,30 +1,20 @@
 -- What a run does to each drawer.
-use Rattle.std.proofs.Common.{◌≡◌, ◌∙◌, ◌⊎◌, inl, inr, ℕ, ◌+◌, zero, suc, List, [], ◌∷◌, ◌++◌, take, refl, ap, sym, subst, arith, Bool, true, false, cond, Option, None, Some, Result, Ok, Err, slice_get}
-use Rattle.std.specs.Prelude.{◌&&◌, ◌||◌, option_and_then}
+use Rattle.std.proofs.Common.{◌≡◌, ◌∙◌, ◌⊎◌, inl, inr, ℕ, ◌+◌, zero, suc, List, [], ◌∷◌, ◌++◌, take, refl, ap, sym, subst, arith, Bool, true, false, cond, Option, None, Some, Result, Ok, Err, slice_get, ◌&&◌, ◌||◌, option_and_then}
 use Rattle.std.specs.List.{AllByRecursion, list_any, remove}
 use Rattle.std.proofs.Math.ListN.{set}
 use Rattle.std.specs.Option.{option_map}
 use Rattle.std.specs.Str.{bytes_eq}
-use Rattle.block_traits.specs.Disk.{DiskState, Logs}
-use Rattle.block_traits.specs.declared.disk.Event.{Event}
 use Rattle.block_traits.specs.declared.disk.Event.TheVariants.{Flush}
 use Rattle.block_traits.proofs.Logs.{Logs-nothing, Logs-then}
-use Rattle.command_words.specs.Reading.{line_reading}
-use Rattle.command_words.specs.Places.{bytes_at, provider_of}
-use Rattle.command_words.specs.declared.commands.Command.{Command}
-use Rattle.command_words.specs.declared.commands.Usage.{Usage}
-use Rattle.command_words.specs.declared.spans.Sep.{Sep}
-use Rattle.command_words.specs.declared.spans.Span.{Span}
-use Rattle.command_rows.specs.Answer.{Answer}
+use Rattle.command_rows.specs.Rows.{Answer, DrawerState, World, is_idle, place_of}
+use Rattle.command_rows.specs.Vocabulary.{Command, DiskState, Event, Logs, Span, bytes_at, provider_of}
 use Rattle.command_rows.specs.Answer as answers
-use Rattle.shelf.specs.Closing.{ClosesAs, Closing, Flushes}
-use Rattle.command_rows.specs.Histories.{ChangesBy, OnlyAt, StepsAt, place_named}
-use Rattle.command_rows.specs.Turn.{takes_out}
-use Rattle.command_rows.specs.World.{DrawerState, World, is_idle, place_of}
+use Rattle.shelf.specs.Closing.{Flushes}
 use Rattle.command_rows.proofs.Untouched.{get-set, get-set_other, turn_only_steps}
 use Rattle.geli_core.specs.Histories.{DrawerSteps, EachGrew, Grew, KeepsDrawers, RunsAt, TakesDrawer, ejected, ejects, is_done, names, names_by, says_eject, says_name}
 use Rattle.geli_core.specs.Run.{ServesLine, ServesReading}
 use Rattle.geli_core.specs.Trace.{ClosesBy, IsTrace, Run, ServedLine, Trace, world_behind}
+use Rattle.geli_core.specs.Vocabulary.{ChangesBy, ClosesAs, Closing, OnlyAt, Sep, StepsAt, Usage, line_reading, place_named, takes_out}
 
 -- ---- the drawer at a place
 
@@ -42,25 +32,22 @@ here_or (suc a) zero = inr (λ h. (let none : ⊥ = omega (arith, h) in none))
 here_or (suc a) (suc b) = suc_or a b (here_or a b)
 
 -- the drawer at the place of a name has that name
-pub named_more : (same : Bool) (place : Option ℕ) (n : ℕ) → cond same (Some 0) (option_map (λ k. k + 1) place) ≡ Some n → ((same ≡ true) × (n ≡ 0)) ⊎ ((k : ℕ) × (place ≡ Some k) × (n ≡ suc k))
+named_more : (same : Bool) (place : Option ℕ) (n : ℕ) → cond same (Some 0) (option_map (λ k. k + 1) place) ≡ Some n → ((same ≡ true) × (n ≡ 0)) ⊎ ((k : ℕ) × (place ≡ Some k) × (n ≡ suc k))
 named_more true place n h = inl (refl, sym (same_some 0 n h))
 named_more false None n h = absurd (let none : ⊥ = cc h in none)
 named_more false (Some k) n h = inr (k, refl, (let p : k + 1 ≡ n = same_some (k + 1) n h in omega (arith, p)))
 
-has_name_by : (name : List ℕ) (drawer : DrawerState) (drawers : List DrawerState) (n : ℕ) (d : DrawerState) → ((k : ℕ) → place_of name drawers ≡ Some k → slice_get drawers k ≡ Some d → bytes_eq d.name name ≡ true)
-    → ((bytes_eq drawer.name name ≡ true) × (n ≡ 0)) ⊎ ((k : ℕ) × (place_of name drawers ≡ Some k) × (n ≡ suc k)) → slice_get (drawer ∷ drawers) n ≡ Some d → bytes_eq d.name name ≡ true
-has_name_by name drawer drawers n d behind (inl here) there =
-    let first : Some drawer ≡ Some d = subst (λ (m : ℕ). slice_get (drawer ∷ drawers) m ≡ Some d) here.1 there in
-    subst (λ (x : DrawerState). bytes_eq x.name name ≡ true) (same_some drawer d first) here.0
-has_name_by name drawer drawers n d behind (inr found) there =
-    behind found.0 found.1 (subst (λ (m : ℕ). slice_get (drawer ∷ drawers) m ≡ Some d) found.2 there)
-
 has_name : (name : List ℕ) (drawers : List DrawerState) (n : ℕ) (d : DrawerState) → place_of name drawers ≡ Some n → slice_get drawers n ≡ Some d → bytes_eq d.name name ≡ true
 has_name name [] n d h there = absurd (let none : ⊥ = cc h in none)
 has_name name (drawer ∷ drawers) n d h there =
-    has_name_by name drawer drawers n d (λ k. has_name name drawers k d) (named_more (bytes_eq drawer.name name) (place_of name drawers) n h) there
+    elim (named_more (bytes_eq drawer.name name) (place_of name drawers) n h) [
+      | inl here ↦
+          let first : Some drawer ≡ Some d = subst (λ (m : ℕ). slice_get (drawer ∷ drawers) m ≡ Some d) here.1 there in
+          subst (λ (x : DrawerState). bytes_eq x.name name ≡ true) (same_some drawer d first) here.0
+      | inr more ↦ has_name name drawers more.0 d more.1 (subst (λ (m : ℕ). slice_get (drawer ∷ drawers) m ≡ Some d) more.2 there)
+    ]
 
-named_at : (line : List ℕ) (drawers : List DrawerState) (prov : Option Span) (n : ℕ) (d : DrawerState) → option_and_then (λ p. place_of (bytes_at line p) drawers) prov ≡ Some n → slice_get drawers n ≡ Some d
+pub named_at : (line : List ℕ) (drawers : List DrawerState) (prov : Option Span) (n : ℕ) (d : DrawerState) → option_and_then (λ p. place_of (bytes_at line p) drawers) prov ≡ Some n → slice_get drawers n ≡ Some d
     → names_by prov line d.name ≡ true
 named_at line drawers None n d h there = absurd (let none : ⊥ = cc h in none)
 named_at line drawers (Some prov) n d h there = has_name (bytes_at line prov) drawers n d h there
@@ -321,7 +308,7 @@ run_grew sep old (l ∷ lines) new run =
     (each_weaker (AnyOut sep lines) (AnyOut sep (l ∷ lines)) l.next.drawers new.drawers (λ name h. any_behind (ejected sep l name) (list_any (λ (x : ServedLine). ejected sep x name) lines) h)
     (run_grew sep l.next lines new (run.0.1, run.1)))
 
-flushed_logs : (failed : Bool) (old new : DiskState) → Flushes failed old new → (events : List Event) × Logs events old new
+pub flushed_logs : (failed : Bool) (old new : DiskState) → Flushes failed old new → (events : List Event) × Logs events old new
 flushed_logs false old new h = (Flush ∷ [], h)
 flushed_logs true old new h = (take h.count (Flush ∷ []), h.logs)
 

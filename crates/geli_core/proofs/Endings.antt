@@ -1,31 +1,24 @@
 -- How a script ends.
-use Rattle.std.proofs.Common.{◌≡◌, ◌∙◌, inl, inr, ℕ, ◌+◌, ◌-◌, ◌≤◌, ◌<◌, List, [], ◌∷◌, ◌++◌, length, refl, ap, sym, subst, arith, Option, Some, Bool, true, false, Ok, Err}
-use Rattle.std.specs.Prelude.{◌||◌, nat_lt}
-use Rattle.std.proofs.Common.{zero, suc}
+use Rattle.std.proofs.Common.{◌≡◌, ◌∙◌, inl, inr, ℕ, ◌+◌, ◌-◌, ◌≤◌, ◌<◌, List, [], ◌∷◌, ◌++◌, length, refl, ap, sym, subst, arith, Option, Some, Bool, true, false, Ok, Err, zero, suc, ◌||◌, nat_lt}
 use Rattle.std.proofs.lemmas.Bool.Decides.{nat_tests}
 use Rattle.std.proofs.lemmas.List.{replicate-append-replicate}
+use Rattle.command_rows.specs.Rows.{Answer, World, answer_text}
+use Rattle.command_rows.specs.Vocabulary.{Rose, SinkState, SourceState, TookAll, TookPart}
 use Rattle.eli_base.specs.declared.refusals.Refusal.TheVariants as refusals
 use Rattle.command_rows.specs.Answer as answers
-use Rattle.command_rows.specs.Answer.{answer_text}
 use Rattle.std.proofs.lemmas.List.{append-nil}
 use Rattle.std.proofs.lemmas.Grind.{flat_map-append}
 use Rattle.std.proofs.lemmas.List.Folds.{list_any-append}
 use Rattle.std.specs.Io.KnownBytes.{IsAtEnd, prepend_known}
-use Rattle.block_traits.specs.Causes.{Rose}
-use Rattle.block_traits.specs.Streams.{SinkState, TookAll, TookPart, SourceState}
-use Rattle.command_words.specs.Reading.{line_limit}
 use Rattle.command_words.specs.declared.spans.Sep.TheVariants.{Blanks}
-use Rattle.command_rows.specs.Answer.{Answer}
-use Rattle.reply_text.specs.declared.print.WriteEnd.{WriteEnd}
 use Rattle.reply_text.proofs.Printing.{TookAll-then}
-use Rattle.shelf.specs.Closing.{ClosesWorld}
 use Rattle.geli_core.specs.Lines.{CutsInto, last_line}
 use Rattle.geli_core.specs.Run.{FailsInLast, ServesAndPrints, ServesLine, answers_text, any_refused, closing_answers, is_refusal, refuses, text_of}
 use Rattle.geli_core.specs.Script.{MetEnd, MetNothing, MetRefusal, RunsScript, script_limit}
-use Rattle.command_rows.specs.World.{World}
 use Rattle.geli_core.specs.Served.{ClosesAndPrints, IsAllServed, IsAllUnprinted, IsServed, IsTaken, PrintsClosing, ServesAll, ServesLines, SiteState, StopsWithin, Traced, status_by, whole_of}
 use Rattle.geli_core.specs.Trace.{Run, ServedLine, Trace, answers_of, lines_of}
 use Rattle.std.specs.List.{AllByRecursion}
+use Rattle.geli_core.specs.Vocabulary.{ClosesWorld, WriteEnd, line_limit}
 use Rattle.geli_core.specs.declared.feeding.Stop.TheVariants.{TooLong, Unprinted}
 use Rattle.geli_core.specs.declared.serving.LineEnd.{LineEnd}
 use Rattle.geli_core.specs.declared.status.Status.{Status}

@@ -4,31 +4,16 @@ use Rattle.std.specs.Option.{option_map}
 use Rattle.std.proofs.lemmas.List.{length-map, map-append}
 use Rattle.std.proofs.lemmas.List.Elements.{All-nil, All-weaker}
 use Rattle.std.proofs.lemmas.Bool.{eqb-true}
-use Rattle.aes_core.specs.Schedule.{AreBytes}
-use Rattle.block_traits.specs.Content.{Content, IsContentOf, IsEventOf, logged}
-use Rattle.block_traits.specs.Disk.{DiskState, FitsSize, Logs}
-use Rattle.block_traits.specs.declared.disk.Event.{Event}
 use Rattle.block_traits.proofs.Logs.{Logs-nothing}
-use Rattle.eli_base.specs.Keying.{Keying}
-use Rattle.provider.specs.Writing.{data_writes}
-use Rattle.sealing.specs.Sectors.{units}
-use Rattle.readings.specs.Writings.{Writing}
-use Rattle.readings.specs.Steps.{Step, after, cell, event_of, events_of}
-use Rattle.readings.specs.Survivors.{content_media, placed}
-use Rattle.readings.specs.Writes.{AreStepsBelow, data_steps, raw_steps}
-use Rattle.bio_queue.specs.Answers.{FailsStep, Gave, HasBadUnit, IsAsked, JobIsInRange, IsSubmitted, StepsOn, TakesOut, asked}
-use Rattle.bio_queue.specs.Requests.{Request, exchanged, put_in, request_with, step_events, without}
+use Rattle.command_rows.specs.Vocabulary.{Content, DiskState, Event, FailsStep, FitsSize, Gave, HasBadUnit, IsAsked, IsContentOf, IsEventOf, IsSubmitted, Job, JobIsInRange, Keying, Logs, Reaped, Request, StepsOn, TakesOut, asked, data_writes, exchanged, logged, put_in, request_with, step_events, units, without}
 use Rattle.bio_queue.specs.Requests as requests
-use Rattle.bio_queue.specs.declared.job.Job.{Job}
 use Rattle.bio_queue.specs.declared.job.Job.TheVariants as job
-use Rattle.bio_queue.specs.declared.job.Reaped.{Reaped}
-use Rattle.queue_readings.specs.Tasks.{Task, Work, Reads, Writes, Flushes, exchange_task, put_task, request_of, steps_of, task_after, task_with, unit_steps, without_task, work_of}
-use Rattle.queue_readings.specs.Play.{IsFaulty, IsOpenTask, IsPlay, Play, Shows, StoodThere, Yields, broken, pending, reaped, task_stepped, submitted}
 use Rattle.queue_readings.proofs.Among.{PlacesAmong, among_behind, among_front, among_then, fits_other, fits_write, pending-each}
 use Rattle.queue_readings.proofs.Calls.{breaks_off, events_between, higher_number, reaps, reaps_fault, same_media, steps_on, written_between}
 use Rattle.queue_readings.proofs.Lists.{all_put, put_shown}
 use Rattle.queue_readings.proofs.Puts.{sealed-shown}
 use Rattle.geli_core.specs.Placing.{goes_on}
+use Rattle.geli_core.specs.Vocabulary.{AreBytes, AreStepsBelow, Flushes, IsFaulty, IsOpenTask, IsPlay, Play, Reads, Shows, Step, StoodThere, Task, Work, Writes, Writing, Yields, after, broken, cell, content_media, data_steps, event_of, events_of, exchange_task, pending, placed, put_task, raw_steps, reaped, request_of, steps_of, submitted, task_after, task_stepped, task_with, unit_steps, without_task, work_of}
 use Rattle.geli_core.proofs.Drawn.{same_some}
 use Rattle.geli_core.proofs.Queues.{AreApart, IsWithin, apart_exchanged, apart_put_in, apart_without, found_within, free_within, request_with-map, tag_of_request, within_exchanged, within_exchanged_other, within_put_in, within_without, within_without_other}
 

@@ -1,27 +1,16 @@
 -- What is read from an image that a crash left, once it is attached again.
-use Rattle.std.proofs.Common.{◌≡◌, ap, arith, subst, sym, ℕ, zero, suc, ◌+◌, ◌*◌, ◌<◌, ◌≤◌, List, length, Option, None, Some, Result, Ok, Err}
-use Rattle.std.specs.Prelude.{IfSome}
-use Rattle.block_traits.specs.Content.{Content, IsContentOf}
+use Rattle.std.proofs.Common.{◌≡◌, ap, arith, subst, sym, ℕ, zero, suc, ◌+◌, ◌*◌, ◌<◌, ◌≤◌, List, length, Option, None, Some, Result, Ok, Err, IfSome}
 use Rattle.block_traits.specs.Crash.{IsUnsettled}
-use Rattle.block_traits.specs.Disk.{DiskState, FitsSize}
-use Rattle.eli_base.specs.Keying.{Keying, keying_of}
-use Rattle.eli_base.specs.Units.{media_sectors}
+use Rattle.command_rows.specs.Vocabulary.{Attached, Content, DiskState, FitsSize, IsContentOf, IsKeying, Keying, joined, keying_of, media_sectors}
 use Rattle.eli_base.specs.declared.parameters.Params.{Params}
-use Rattle.provider.specs.Answers.{ReadAnswers, request}
-use Rattle.provider.specs.Attached.{Attached}
 use Rattle.provider.specs.declared.faults.AttachFault.{AttachFault}
 use Rattle.provider.specs.declared.faults.ReadFault.{ReadFault}
 use Rattle.provider.specs.declared.faults.ReadFault.TheVariants as read
 use Rattle.provider_readings.proofs.Attaching.{attaches, reads}
 use Rattle.provider_readings.specs.Attaching.{AttachesOrLacksMemory, HasImage, ReadsImage, image_sectors}
-use Rattle.provider_readings.specs.Data.{survivor}
-use Rattle.range_keys.specs.Ring.{IsKeying}
-use Rattle.readings.specs.Crashes.{image_units}
-use Rattle.readings.specs.Steps.{Step}
-use Rattle.readings.specs.Survivors.{moment}
-use Rattle.sealing.specs.Sectors.{joined}
 use Rattle.geli_core.specs.Headline.{AnswersBy, AttachesAndReads, EachReads, OpensAndReads, ReadsAfterCrashes, ReadsAsChosen, ReadsAsStands, ReadsBy}
 use Rattle.geli_core.specs.Survivors.{EnduresCrashes}
+use Rattle.geli_core.specs.Vocabulary.{ReadAnswers, Step, image_units, moment, request, survivor}
 
 -- the keying of parameters is one that a provider may have
 keyed : (params : Params) (master : List ℕ) → IsKeying (keying_of params (record { bytes = master }))

@@ -1,19 +1,14 @@
 -- The names of the images of words: at most sixteen, and they differ, so a shelf has room for each.
-use Rattle.std.proofs.Common.{◌≡◌, ◌∙◌, ap, arith, cond, false, true, Bool, length, refl, subst, sym, ℕ, ◌+◌, ◌≤◌, List, [], ◌∷◌, None, Some, Option}
+use Rattle.std.proofs.Common.{◌≡◌, ◌∙◌, ap, arith, cond, false, true, Bool, length, refl, subst, sym, ℕ, ◌+◌, ◌≤◌, List, [], ◌∷◌, None, Some, Option, ◌&&◌, codes, nat_le, not, option_and_then}
 use Rattle.std.specs.List.{list_any}
-use Rattle.std.specs.Prelude.{◌&&◌, codes, nat_le, not, option_and_then}
 use Rattle.std.specs.Option.{option_map}
 use Rattle.std.specs.Str.{bytes_eq}
 use Rattle.std.proofs.lemmas.Bool.{and_parts, leb-true, or_parts}
-use Rattle.block_traits.specs.Disk.{DiskState}
-use Rattle.command_words.specs.Images.{all_differ, are_images, image_names, line_of, name_at, names_or, script_images}
-use Rattle.command_words.specs.Places.{provider_of}
-use Rattle.command_words.specs.Reading.{command_in}
-use Rattle.command_words.specs.declared.spans.Span.{Span}
-use Rattle.command_rows.specs.World.{NamesDiffer, place_of}
+use Rattle.command_rows.specs.Rows.{NamesDiffer, place_of}
+use Rattle.command_rows.specs.Vocabulary.{DiskState, Span, provider_of}
 use Rattle.geli_core.specs.Images.{IsNotShelved, idle_drawers}
+use Rattle.geli_core.specs.Vocabulary.{AddFault, all_differ, are_images, command_in, image_names, line_of, name_at, names_or, script_images}
 use Rattle.geli_core.proofs.Shelving.{other_name}
-use Rattle.shelf.specs.declared.drawers.AddFault.{AddFault}
 use Rattle.shelf.specs.declared.drawers.AddFault.TheVariants.{Full, Taken, NoMemory}
 
 none_named : (name : List ℕ) (names : List (List ℕ)) (disks : List DiskState) → list_any (bytes_eq name) names ≡ false → place_of name (idle_drawers names disks) ≡ None

@@ -2,17 +2,13 @@
 use Rattle.std.proofs.Common.{◌≡◌, ◌∙◌, ◌⊎◌, inl, inr, ℕ, zero, suc, List, [], ◌∷◌, ap, sym, subst, Option, None, Some, Result, Ok, Err, slice_get}
 use Rattle.std.specs.List.{remove}
 use Rattle.std.proofs.Math.ListN.{set}
-use Rattle.command_words.specs.declared.commands.Command.{Command}
-use Rattle.command_words.specs.declared.commands.Usage.{Usage}
-use Rattle.command_words.specs.declared.spans.Sep.{Sep}
-use Rattle.command_rows.specs.Answer.{Answer}
-use Rattle.command_rows.specs.Turn.{ChangesAt, Serves, TakesOutDrawer, Turn, reach}
-use Rattle.command_rows.specs.World.{DrawerState, HoldKeyings, HoldsKeying, IsAmong, World}
+use Rattle.command_rows.specs.Rows.{Answer, DrawerState, HoldKeyings, HoldsKeying, IsAmong, World}
+use Rattle.command_rows.specs.Vocabulary.{Command}
 use Rattle.command_rows.proofs.Turns.{by_each_turn}
 use Rattle.command_rows.proofs.Untouched.{get-set, get-set_other}
 use Rattle.command_rows.proofs.LineCounts.{serves_sound}
-use Rattle.command_words.specs.Reading.{line_reading}
 use Rattle.geli_core.specs.Run.{ServesLine, ServesReading}
+use Rattle.geli_core.specs.Vocabulary.{ChangesAt, Sep, Serves, TakesOutDrawer, Turn, Usage, line_reading, reach}
 use Rattle.geli_core.proofs.Drawn.{here_or, same_some}
 
 -- what is there when another was taken out was there before

@@ -1,8 +1,6 @@
 -- All that is said of a run follows from its trace, and from what is attached at entry.
 use Rattle.std.proofs.Common.{List, [], ◌∷◌, ◌++◌, refl, ℕ}
-use Rattle.command_words.specs.Reading.{line_reading}
-use Rattle.command_words.specs.declared.spans.Sep.{Sep}
-use Rattle.command_rows.specs.World.{HoldKeyings, NamesDiffer, World}
+use Rattle.command_rows.specs.Rows.{HoldKeyings, NamesDiffer, World}
 use Rattle.geli_core.specs.Complete.{Completes}
 use Rattle.geli_core.specs.Histories.{KeepsDrawers}
 use Rattle.geli_core.specs.Lawful.{LineHolds, RunsLawfully}
@@ -10,6 +8,7 @@ use Rattle.geli_core.specs.Script.{Ends, StatusHasCause, Runs, Whole}
 use Rattle.geli_core.specs.Served.{Traced}
 use Rattle.geli_core.specs.Suspensions.{AreSuspended}
 use Rattle.geli_core.specs.Trace.{EachLine, EachServed, Run, ServedLine}
+use Rattle.geli_core.specs.Vocabulary.{Sep, line_reading}
 use Rattle.geli_core.specs.declared.status.Status.{Status}
 use Rattle.geli_core.proofs.Bounded.{counts_all}
 use Rattle.geli_core.proofs.Causes.{runs_caused, runs_end}

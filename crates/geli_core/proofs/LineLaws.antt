@@ -1,21 +1,11 @@
 -- The laws of lines that are served.
-use Rattle.std.proofs.Common.{◌≡◌, ℕ, List, Option, None, Some, Result, Ok, Err, refl, subst}
-use Rattle.std.specs.Prelude.{IsTrue, MatchOption}
-use Rattle.command_words.specs.Reading.{line_reading}
-use Rattle.command_words.specs.Places.{bytes_at, provider_of}
-use Rattle.command_words.specs.declared.commands.Command.{Command}
+use Rattle.std.proofs.Common.{◌≡◌, ℕ, List, Option, None, Some, Result, Ok, Err, refl, subst, IsTrue, MatchOption}
+use Rattle.command_rows.specs.Rows.{Answer, World, place_of}
+use Rattle.command_rows.specs.Vocabulary.{Command, Refusal, SinkState, Span, bytes_at, provider_of}
 use Rattle.command_words.specs.declared.commands.Command.TheVariants as commands
-use Rattle.command_words.specs.declared.commands.Usage.{Usage}
-use Rattle.command_words.specs.declared.spans.Sep.{Sep}
-use Rattle.command_words.specs.declared.spans.Span.{Span}
-use Rattle.eli_base.specs.declared.refusals.Refusal.{Refusal}
 use Rattle.eli_base.specs.declared.refusals.Refusal.TheVariants as refusals
-use Rattle.command_rows.specs.Answer.{Answer}
 use Rattle.command_rows.specs.Answer as answers
-use Rattle.command_rows.specs.Causes.{Caused, CausedAt, CausedBy, may_lack_memory}
 use Rattle.command_rows.specs.Fits.{FindsAt, Fits}
-use Rattle.command_rows.specs.Turn.{Turn}
-use Rattle.command_rows.specs.World.{World, place_of}
 use Rattle.command_rows.proofs.LineCauses.{refusal_caused}
 use Rattle.command_rows.proofs.Stopped.{turn_leaves}
 use Rattle.command_rows.proofs.Untouched.{turn_only_steps}
@@ -23,10 +13,9 @@ use Rattle.command_rows.proofs.LineBecomes.{turn_becomes}
 use Rattle.command_rows.proofs.LineCounts.{turn_counts}
 use Rattle.command_rows.proofs.LineFits.{fits_refused}
 use Rattle.command_rows.proofs.LineStores.{turn_stores}
-use Rattle.block_traits.specs.Streams.{SinkState}
-use Rattle.reply_text.specs.declared.print.WriteEnd.{WriteEnd}
 use Rattle.geli_core.specs.Laws.{IfRefused, KeepsLaws, LineKeepsLaws, ServesLawfully}
 use Rattle.geli_core.specs.Run.{ServesAndPrints, ServesLine, ServesReading}
+use Rattle.geli_core.specs.Vocabulary.{Caused, CausedAt, CausedBy, Sep, Turn, Usage, WriteEnd, line_reading, may_lack_memory}
 use Rattle.geli_core.specs.declared.serving.LineEnd.{LineEnd}
 
 -- ---- want of memory

@@ -1,25 +1,17 @@
 -- The lines that are answered that the cabinet or the entropy failed are counted by them.
-use Rattle.std.proofs.Common.{◌≡◌, inl, inr, ℕ, ◌+◌, ◌≤◌, ◌==◌, List, [], ◌∷◌, refl, ap, sym, subst, arith, Bool, true, false, cond, Option, None, Some, Result, Ok, Err}
-use Rattle.std.specs.Prelude.{not}
-use Rattle.block_traits.specs.Cabinet.{CabinetState}
-use Rattle.block_traits.specs.Causes.{Rose}
-use Rattle.block_traits.specs.Streams.{EntropyState}
-use Rattle.command_words.specs.Reading.{line_reading}
-use Rattle.command_words.specs.declared.commands.Command.{Command}
-use Rattle.command_words.specs.declared.commands.Usage.{Usage}
-use Rattle.command_words.specs.declared.spans.Sep.{Sep}
+use Rattle.std.proofs.Common.{◌≡◌, inl, inr, ℕ, ◌+◌, ◌≤◌, ◌==◌, List, [], ◌∷◌, refl, ap, sym, subst, arith, Bool, true, false, cond, Option, None, Some, Result, Ok, Err, not}
+use Rattle.command_rows.specs.Rows.{Answer, World}
+use Rattle.command_rows.specs.Vocabulary.{CabinetState, Command, EntropyState, Rose, passphrase_limit}
 use Rattle.eli_base.specs.declared.refusals.Refusal.TheVariants as refusals
-use Rattle.key_components.specs.Files.{passphrase_limit}
-use Rattle.command_rows.specs.Answer.{Answer}
 use Rattle.command_rows.specs.Answer as answers
 use Rattle.command_rows.specs.Counts.{CountsAnswer, CountsFailures}
-use Rattle.command_rows.specs.World.{World}
 use Rattle.geli_core.specs.Bounds.{CountsOutside, RoseBy, how_many, is_cabinet_fault, is_entropy_fault, is_miss}
 use Rattle.geli_core.specs.Run.{ServesReading}
 use Rattle.geli_core.specs.Trace.{Run, ServedLine, answers_of}
 use Rattle.command_rows.proofs.LineCounts.{turn_counts}
+use Rattle.geli_core.specs.Vocabulary.{Sep, Usage, line_reading}
 
-false_is : {P : Type 0} → false ≡ true → P
+pub false_is : {P : Type 0} → false ≡ true → P
 false_is h = absurd (let none : ⊥ = cc h in none)
 
 -- ---- what an answer says of the counts

@@ -1,38 +1,13 @@
 -- The requests that are open on a drawer are of its provider, whatever lines are served.
-use Rattle.std.proofs.Common.{◌≡◌, ◌∙◌, inl, inr, ℕ, ◌*◌, List, [], ◌∷◌, ap, refl, sym, subst, Option, None, Some, Result, Ok, Err, slice_get}
-use Rattle.std.specs.Prelude.{◌↔◌, IfSome, IsSomeAnd}
-use Rattle.bio_queue.specs.Answers.{ReapAnswers, StepAnswers}
-use Rattle.bio_queue.specs.Owners.{AreAllOf, IsOf}
-use Rattle.bio_queue.specs.Requests.{Request, request_with}
-use Rattle.bio_queue.specs.declared.faults.ReapFault.{ReapFault}
+use Rattle.std.proofs.Common.{◌≡◌, ◌∙◌, inl, inr, ℕ, ◌*◌, List, [], ◌∷◌, ap, refl, sym, subst, Option, None, Some, Result, Ok, Err, slice_get, ◌↔◌, IfSome, IsSomeAnd}
 use Rattle.bio_queue.specs.declared.faults.ReapFault.TheVariants as reap
-use Rattle.bio_queue.specs.declared.faults.StepFault.{StepFault}
 use Rattle.bio_queue.specs.declared.faults.StepFault.TheVariants as step
-use Rattle.bio_queue.specs.declared.job.Reaped.{Reaped}
 use Rattle.bio_queue.proofs.Owned.{reap_keeps, served, step_keeps, submit_keeps}
-use Rattle.block_traits.specs.Disk.{DiskState}
-use Rattle.command_words.specs.declared.commands.Command.{Command}
+use Rattle.command_rows.specs.Rows.{Answer, AttachedWith, Attachment, DrawerState, GoesOn, HasRequest, HoldKeyings, Holding, HoldsKeying, IsAttached, NeedsRequest, Reach, World, attachment_in, or_refusal, with_queue}
+use Rattle.command_rows.specs.Vocabulary.{AreAllOf, Command, DiskState, IsKeying, IsOf, JobWords, ReapAnswers, ReapFault, Reaped, Refusal, Request, Span, StepAnswers, StepFault, media, media_sectors, request_with}
 use Rattle.command_words.specs.declared.commands.Command.TheVariants as commands
-use Rattle.command_words.specs.declared.commands.Usage.{Usage}
-use Rattle.command_words.specs.declared.commands.JobWords.{JobWords}
-use Rattle.command_words.specs.declared.spans.Sep.{Sep}
-use Rattle.command_words.specs.declared.spans.Span.{Span}
-use Rattle.command_words.specs.Reading.{line_reading}
-use Rattle.eli_base.specs.Units.{media_sectors}
-use Rattle.eli_base.specs.declared.refusals.Refusal.{Refusal}
 use Rattle.eli_base.specs.declared.refusals.Refusal.TheVariants as refusals
-use Rattle.provider.specs.Attached.{media}
-use Rattle.range_keys.specs.Ring.{IsKeying}
-use Rattle.command_rows.specs.Answer.{Answer}
 use Rattle.command_rows.specs.Answer as answers
-use Rattle.command_rows.specs.Gate.{needs, refused_by}
-use Rattle.command_rows.specs.Queueing.{HasRequest, NeedsRequest, with_queue}
-use Rattle.command_rows.specs.Steps.{GoesOn, or_refusal}
-use Rattle.command_rows.specs.Turn.{ChangesAt, GoesThrough, Replies, Serves, TakesOutDrawer, Turn, left_or, reach, reaped_or}
-use Rattle.command_rows.specs.World.{AttachedWith, Attachment, DrawerState, HoldKeyings, Holding, HoldsKeying, IsAttached, Reach, World, attachment_in}
-use Rattle.command_rows.specs.verbs.Reap.{ReapRow, ReapsRequest, reap_answer}
-use Rattle.command_rows.specs.verbs.Step.{StepRow, StepsRequest, step_refusal}
-use Rattle.command_rows.specs.verbs.Submit.{SubmitRow}
 use Rattle.command_rows.proofs.Gate.{by_gate, with_attached}
 use Rattle.command_rows.proofs.Lines.{line_did}
 use Rattle.command_rows.proofs.Turns.{by_each_turn}
@@ -40,6 +15,7 @@ use Rattle.geli_core.specs.Requests.{HaveNoRequests, HoldOwn, HoldsOwn, LacksTag
 use Rattle.geli_core.specs.Run.{ServesReading}
 use Rattle.geli_core.specs.Trace.{Run, ServedLine}
 use Rattle.geli_core.specs.Survivors.{HasNoRequests}
+use Rattle.geli_core.specs.Vocabulary.{ChangesAt, GoesThrough, ReapRow, ReapsRequest, Replies, Sep, Serves, StepRow, StepsRequest, SubmitRow, TakesOutDrawer, Turn, Usage, left_or, line_reading, needs, reach, reap_answer, reaped_or, refused_by, step_refusal}
 use Rattle.geli_core.proofs.Drawn.{here_or}
 use Rattle.command_rows.proofs.Keeping.{KeepsRequests}
 use Rattle.geli_core.proofs.Holdings.{serves_keeps}

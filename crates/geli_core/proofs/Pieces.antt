@@ -1,13 +1,11 @@
 -- The pieces of an input, one after another.
-use Rattle.std.proofs.Common.{◌≡◌, ◌∙◌, ℕ, ◌+◌, ◌≤◌, ◌<◌, List, [], ◌∷◌, ◌++◌, length, take, drop, get_or, refl, ap, sym, subst, arith, length-drop, append_assoc, Option, None, Some}
+use Rattle.std.proofs.Common.{◌≡◌, ◌∙◌, ℕ, ◌+◌, ◌≤◌, ◌<◌, List, [], ◌∷◌, ◌++◌, length, take, drop, get_or, refl, ap, sym, subst, arith, length-drop, append_assoc, Option, None, Some, Bool}
 use Rattle.std.proofs.lemmas.List.{take-append-drop, take_more}
 use Rattle.std.specs.Io.KnownBytes.{prepend_known}
+use Rattle.command_rows.specs.Vocabulary.{Counted, SourceState}
 use Rattle.geli_core.specs.Served.{IsServed, IsTaken, SiteState, StopsBy, StopsWithin}
-use Rattle.command_words.specs.Reading.{line_limit}
 use Rattle.geli_core.specs.Script.{MetEnd, MetNothing, MetRefusal, most_taken}
-use Rattle.block_traits.specs.Causes.{Counted}
-use Rattle.block_traits.specs.Streams.{SourceState}
-use Rattle.std.proofs.Common.{Bool}
+use Rattle.geli_core.specs.Vocabulary.{line_limit}
 use Rattle.geli_core.specs.declared.feeding.Stop.{Stop}
 
 -- bytes that were given after others

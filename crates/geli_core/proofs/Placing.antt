@@ -1,64 +1,27 @@
 -- What a run places on each drawer's disk.
-use Rattle.std.proofs.Common.{◌≡◌, ◌∙◌, ◌⊎◌, inl, inr, ℕ, zero, suc, List, [], ◌∷◌, length, append-nil, take, refl, sym, ap, subst, Bool, true, false, Option, None, Some, Result, Ok, Err, slice_get}
-use Rattle.std.specs.Prelude.{IfSome, MatchOption, map, option_and_then}
-use Rattle.std.specs.Str.{bytes_eq}
+use Rattle.std.proofs.Common.{◌≡◌, ◌∙◌, ◌⊎◌, inl, inr, ℕ, zero, suc, List, [], ◌∷◌, length, append-nil, refl, sym, ap, subst, Bool, true, false, Option, None, Some, Result, Ok, Err, slice_get, IfSome, MatchOption, map, option_and_then}
 use Rattle.std.specs.Option.{option_map}
-use Rattle.block_traits.specs.Content.{Content, IsContentOf, logged}
-use Rattle.block_traits.specs.Disk.{DiskState, FitsSize, Logs}
-use Rattle.block_traits.specs.declared.disk.Event.{Event}
-use Rattle.block_traits.specs.declared.disk.Event.TheVariants.{Flush}
 use Rattle.block_traits.proofs.Logs.{Logs-nothing}
-use Rattle.command_words.specs.Places.{bytes_at, provider_of}
-use Rattle.command_words.specs.declared.commands.Command.{Command}
-use Rattle.command_words.specs.declared.commands.Usage.{Usage}
-use Rattle.command_words.specs.declared.spans.Sep.{Sep}
-use Rattle.command_words.specs.declared.spans.Span.{Span}
-use Rattle.queue_readings.specs.Play.{Play, pending}
-use Rattle.queue_readings.specs.Tasks.{Task, request_of}
+use Rattle.command_rows.specs.Rows.{Answer, Attachment, DrawerState, HoldKeyings, Holding, HoldsKeying, Idle, IsAmong, IsAttached, IsSuspended, World, attachment_in, is_idle, place_of}
+use Rattle.command_rows.specs.Vocabulary.{Command, Content, DiskState, Event, FitsSize, IsContentOf, IsKeying, Logs, Span, bytes_at, logged, provider_of}
 use Rattle.queue_readings.proofs.Among.{fit_front}
 use Rattle.queue_readings.proofs.Calls.{nothing_yet}
-use Rattle.range_keys.specs.Ring.{IsKeying}
-use Rattle.readings.specs.Steps.{after}
-use Rattle.readings.specs.Survivors.{AreSteps}
-use Rattle.readings.specs.Writes.{raw_steps}
 use Rattle.readings.proofs.Crashes.{endures}
 use Rattle.readings.proofs.Writes.{AreStepsBelow-none}
-use Rattle.command_rows.specs.Answer.{Answer}
-use Rattle.shelf.specs.Closing.{Closes, ClosesAs, ClosesWorld, Closing, Flushes}
-use Rattle.command_rows.specs.Histories.{place_named}
-use Rattle.command_rows.specs.Turn.{ChangesAt, Serves, TakesOutDrawer, Turn, reach}
-use Rattle.command_rows.specs.World.{Attachment, DrawerState, HoldKeyings, Holding, HoldsKeying, Idle, IsAmong, IsAttached, IsSuspended, World, attachment_in, is_idle, place_of}
 use Rattle.command_rows.proofs.Lines.{line_did}
 use Rattle.command_rows.proofs.Turns.{by_turn}
 use Rattle.command_rows.proofs.Untouched.{get-set, get-set_other}
-use Rattle.command_words.specs.Reading.{line_reading}
-use Rattle.geli_core.specs.Histories.{ServesDrawer, names_by, says_name}
+use Rattle.geli_core.specs.Histories.{ServesDrawer, says_name}
 use Rattle.geli_core.specs.Placing.{ClosesWith, DrawerPlaces, DrawerPlays, DrawerPlaysAndCloses, LinePlays, PlaysToExit, goes_on, no_play, played_by}
 use Rattle.geli_core.specs.Run.{ServesLine, ServesReading}
 use Rattle.geli_core.specs.Survivors.{EachSurvives, EachSurvivesRun, EnduresCrashes, HasNoRequests, HasTasks, SurvivesBy}
 use Rattle.geli_core.specs.Trace.{ClosesBy, EachServed, IsTrace, Run, ServedLine, Trace, world_behind}
-use Rattle.geli_core.proofs.Drawn.{here_or, named_more, same_some}
+use Rattle.geli_core.specs.Vocabulary.{AreSteps, ChangesAt, Closes, ClosesAs, ClosesWorld, Closing, Play, Sep, Serves, TakesOutDrawer, Task, Turn, Usage, after, line_reading, pending, place_named, raw_steps, reach, request_of}
+use Rattle.geli_core.proofs.Drawn.{flushed_logs, here_or, named_at, same_some}
 use Rattle.geli_core.proofs.Following.{tracks_raw}
 use Rattle.geli_core.proofs.Keyings.{among_removed, line_keeps}
 use Rattle.geli_core.proofs.Playing.{Follows, FollowsBy, Rests, line_follows, raw_gone, rests_raw}
 use Rattle.geli_core.proofs.Queues.{within_none}
-
--- ---- the drawer before a line
-
-has_name : (name : List ℕ) (drawers : List DrawerState) (n : ℕ) (d : DrawerState) → place_of name drawers ≡ Some n → slice_get drawers n ≡ Some d → bytes_eq d.name name ≡ true
-has_name name [] n d h there = absurd (let none : ⊥ = cc h in none)
-has_name name (drawer ∷ drawers) n d h there =
-    elim (named_more (bytes_eq drawer.name name) (place_of name drawers) n h) [
-      | inl here ↦
-          let first : Some drawer ≡ Some d = subst (λ (m : ℕ). slice_get (drawer ∷ drawers) m ≡ Some d) here.1 there in
-          subst (λ (x : DrawerState). bytes_eq x.name name ≡ true) (same_some drawer d first) here.0
-      | inr more ↦ has_name name drawers more.0 d more.1 (subst (λ (m : ℕ). slice_get (drawer ∷ drawers) m ≡ Some d) more.2 there)
-    ]
-
-named_at : (line : List ℕ) (drawers : List DrawerState) (prov : Option Span) (n : ℕ) (d : DrawerState) → option_and_then (λ p. place_of (bytes_at line p) drawers) prov ≡ Some n → slice_get drawers n ≡ Some d
-    → names_by prov line d.name ≡ true
-named_at line drawers None n d h there = absurd (let none : ⊥ = cc h in none)
-named_at line drawers (Some prov) n d h there = has_name (bytes_at line prov) drawers n d h there
 
 -- ---- a drawer and one line
 
@@ -268,17 +231,17 @@ follows_tasks : (Fresh : Type 0) (c : Content) (m : Play) (found : Option Attach
 follows_tasks Fresh c m None d r fresh = r.none
 follows_tasks Fresh c m (Some a) d t fresh = t.whole fresh
 
-tells_content : (Fresh : Type 0) (told : Option Content) (m : Play) (drawer : DrawerState) → Tells Fresh told m drawer → drawer.disk.content ≡ option_map (after m.steps) told
+pub tells_content : (Fresh : Type 0) (told : Option Content) (m : Play) (drawer : DrawerState) → Tells Fresh told m drawer → drawer.disk.content ≡ option_map (after m.steps) told
 unfolding Tells
 tells_content Fresh None m drawer t = t
 tells_content Fresh (Some c) m drawer t = follows_told Fresh c m (attachment_in drawer.holding) drawer.disk t
 
-tells_endures : (Fresh : Type 0) (told : Option Content) (m : Play) (drawer : DrawerState) → Tells Fresh told m drawer → IfSome told (EnduresCrashes m.steps)
+pub tells_endures : (Fresh : Type 0) (told : Option Content) (m : Play) (drawer : DrawerState) → Tells Fresh told m drawer → IfSome told (EnduresCrashes m.steps)
 unfolding Tells
 tells_endures Fresh None m drawer t = tt
 tells_endures Fresh (Some c) m drawer t = follows_endures Fresh c m (attachment_in drawer.holding) drawer.disk t
 
-tells_tasks : (Fresh : Type 0) (told : Option Content) (m : Play) (drawer : DrawerState) → Tells Fresh told m drawer → Fresh → IfSome told (λ c. HasTasks drawer.holding m.tasks)
+pub tells_tasks : (Fresh : Type 0) (told : Option Content) (m : Play) (drawer : DrawerState) → Tells Fresh told m drawer → Fresh → IfSome told (λ c. HasTasks drawer.holding m.tasks)
 unfolding Tells
 tells_tasks Fresh None m drawer t fresh = tt
 tells_tasks Fresh (Some c) m drawer t fresh = follows_tasks Fresh c m (attachment_in drawer.holding) drawer.disk t fresh
@@ -329,10 +292,6 @@ run_keeps sep [] old new run all = subst (λ (w : World). HoldKeyings w.drawers)
 run_keeps sep (l ∷ lines) old new run all = run_keeps sep lines l.next new (run.0.1, run.1) (line_keeps sep l.line old l.answer l.next run.0.0 all)
 
 -- ---- the closing
-
-flushed_logs : (failed : Bool) (old new : DiskState) → Flushes failed old new → (events : List Event) × Logs events old new
-flushed_logs false old new h = (Flush ∷ [], h)
-flushed_logs true old new h = (take h.count (Flush ∷ []), h.logs)
 
 -- a drawer before it was closed
 record CameThroughClosing (olds : List DrawerState) (new : DrawerState) : Type 0 where

@@ -1,49 +1,19 @@
 -- How the play of a drawer goes on as a line is served that names it.
-use Rattle.std.proofs.Common.{◌≡◌, ◌∙◌, false, inl, inr, ℕ, zero, suc, ◌+◌, ◌*◌, ◌/◌, List, [], ◌++◌, length, take, Option, None, Some, refl, sym, ap, subst, arith, append-nil}
-use Rattle.std.specs.Prelude.{MatchOption}
+use Rattle.std.proofs.Common.{◌≡◌, ◌∙◌, false, inl, inr, ℕ, zero, suc, ◌+◌, ◌*◌, ◌/◌, List, [], ◌++◌, length, take, Option, None, Some, refl, sym, ap, subst, arith, append-nil, MatchOption}
 use Rattle.std.proofs.Math.Nat.{div-mul-le_self}
 use Rattle.std.proofs.lemmas.List.Elements.{All-nil, All-weaker}
-use Rattle.block_traits.specs.Content.{Content, IsContentOf}
-use Rattle.block_traits.specs.Disk.{DiskState, Logs}
-use Rattle.block_traits.specs.declared.disk.Event.{Event}
-use Rattle.command_words.specs.Places.{bytes_at}
-use Rattle.command_words.specs.declared.commands.Command.{Command}
+use Rattle.command_rows.specs.Rows.{Answer, Attachment, Holding, HoldsKeying, Idle, IsAttached, IsSuspended, Places, PlacesNothing, Reach, attachment_in, bytes_spelled, or_refusal, with_queue}
+use Rattle.command_rows.specs.Vocabulary.{Command, Content, DiskState, Event, IsContentOf, IsKeying, JobWords, Keying, Logs, Refusal, Request, Span, bytes_at, data_writes}
 use Rattle.command_words.specs.declared.commands.Command.TheVariants as commands
-use Rattle.command_words.specs.declared.commands.JobWords.{JobWords}
-use Rattle.command_words.specs.declared.spans.Span.{Span}
-use Rattle.eli_base.specs.Keying.{Keying}
-use Rattle.eli_base.specs.declared.refusals.Refusal.{Refusal}
 use Rattle.eli_base.specs.declared.refusals.Refusal.TheVariants as refusals
-use Rattle.range_keys.specs.Ring.{IsKeying}
-use Rattle.bio_queue.specs.Requests.{Request}
-use Rattle.provider.specs.Writing.{data_writes}
-use Rattle.queue_readings.specs.Play.{IsOpenTask, Play, pending}
-use Rattle.queue_readings.specs.Tasks.{Task, task_with}
 use Rattle.queue_readings.proofs.Among.{fits_among, front_among}
-use Rattle.readings.specs.Steps.{Step, after}
-use Rattle.readings.specs.Survivors.{placed}
-use Rattle.readings.specs.Writings.{Put, Raw, Writing}
-use Rattle.readings.specs.Writes.{AreStepsBelow, IsNumberedBelow, raw_steps}
 use Rattle.readings.proofs.Writes.{AreStepsBelow-raw, events_of-raw}
-use Rattle.command_rows.specs.Answer.{Answer}
 use Rattle.command_rows.specs.Answer as answers
-use Rattle.command_rows.specs.Digits.{bytes_spelled}
-use Rattle.command_rows.specs.Gate.{AnAttached, refused_by}
-use Rattle.command_rows.specs.Histories.{AreRowEvents, EventsBy, stores_last}
-use Rattle.command_rows.specs.Queueing.{with_queue}
-use Rattle.command_rows.specs.Steps.{or_refusal}
-use Rattle.command_rows.specs.Turn.{Replies, Serves, left_or, reaped_or, tag_or}
-use Rattle.command_rows.specs.World.{Attachment, Holding, HoldsKeying, Idle, IsAttached, IsSuspended, Reach, attachment_in}
 use Rattle.command_rows.proofs.Gate.{by_gate, with_attached}
 use Rattle.command_rows.proofs.Generated.{length-generated}
-use Rattle.command_rows.specs.Verb.{Places, PlacesNothing}
-use Rattle.command_rows.specs.verbs.{verb_of}
-use Rattle.command_rows.specs.verbs.Fill.{generator, words_of_sectors, workload}
-use Rattle.command_rows.specs.verbs.Reap.{ReapRow, reap_answer}
-use Rattle.command_rows.specs.verbs.Step.{StepRow, next_events, step_refusal}
-use Rattle.command_rows.specs.verbs.Submit.{SubmitRow, submit_refusal}
 use Rattle.command_rows.proofs.Keeping.{KeepsRequests}
 use Rattle.geli_core.specs.Placing.{command_played, goes_on, place_played, played_by}
+use Rattle.geli_core.specs.Vocabulary.{AnAttached, AreRowEvents, AreStepsBelow, EventsBy, IsNumberedBelow, IsOpenTask, Play, Put, Raw, ReapRow, Replies, Serves, Step, StepRow, SubmitRow, Task, Writing, after, generator, left_or, next_events, pending, placed, raw_steps, reap_answer, reaped_or, refused_by, step_refusal, stores_last, submit_refusal, tag_or, task_with, verb_of, words_of_sectors, workload}
 use Rattle.geli_core.proofs.Following.{Tracks, logged_fit, told_on, tracks_raw, tracks_write}
 use Rattle.geli_core.proofs.Holdings.{fill_keeps, serves_keeps, write_keeps}
 use Rattle.geli_core.proofs.Queues.{within_none}

@@ -2,9 +2,8 @@
 use Rattle.std.proofs.Common.{◌≡◌, ◌∙◌, ℕ, ◌==◌, nat_lt, Bool, true, false, cond, List, [], ◌∷◌, map, Option, Some, None, refl, sym, ap, subst}
 use Rattle.std.specs.Option.{option_map}
 use Rattle.std.proofs.lemmas.Bool.{eqb-false, eqb-true, ne_eqb}
-use Rattle.eli_base.specs.Keying.{Keying}
-use Rattle.bio_queue.specs.Requests.{Request, exchanged, put_in, request_with, without}
-use Rattle.queue_readings.specs.Tasks.{Task, request_of, task_with}
+use Rattle.command_rows.specs.Vocabulary.{Keying, Request, exchanged, put_in, request_with, without}
+use Rattle.geli_core.specs.Vocabulary.{Task, request_of, task_with}
 
 -- ---- tags
 

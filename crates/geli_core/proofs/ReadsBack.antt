@@ -1,44 +1,23 @@
 -- What you write is what you read.
-use Rattle.std.proofs.Common.{◌≡◌, ◌∙◌, ap, arith, cond, false, refl, subst, sym, true, Bool, ℕ, ◌+◌, ◌*◌, ◌/◌, ◌<◌, ◌≤◌, List, length, Option, None, Some, Result, Ok, Err}
-use Rattle.std.specs.Prelude.{IfSome, MatchOption, nat_le, slice_get}
+use Rattle.std.proofs.Common.{◌≡◌, ◌∙◌, ap, arith, cond, false, refl, subst, sym, true, Bool, ℕ, ◌+◌, ◌*◌, ◌/◌, ◌<◌, ◌≤◌, List, length, Option, None, Some, Result, Ok, Err, IfSome, MatchOption, nat_le, slice_get}
 use Rattle.std.specs.Option.{option_map}
 use Rattle.std.proofs.lemmas.Bool.Decides.{nat_tests}
 use Rattle.std.proofs.Math.Nat.{mul-div_cancel}
-use Rattle.block_traits.specs.Content.{Content, IsContentOf}
-use Rattle.block_traits.specs.Disk.{DiskState, FitsSize}
-use Rattle.command_words.specs.Places.{bytes_at}
-use Rattle.command_words.specs.declared.commands.Command.{Command}
+use Rattle.command_rows.specs.Rows.{Answer, AttachedWith, Attachment, Decides, DrawerState, GoesOn, HoldKeyings, Holding, HoldsKeying, IsAttached, Reach, SectorsAnswer, World, in_range, place_of, whole_sectors}
+use Rattle.command_rows.specs.Vocabulary.{Command, Content, DiskState, FitsSize, IsContentOf, IsKeying, Keying, ReadsAs, ReadsFrom, Refusal, Span, bytes_at, media, media_sectors, sha256}
 use Rattle.command_words.specs.declared.commands.Command.TheVariants as commands
-use Rattle.command_words.specs.declared.commands.Usage.{Usage}
-use Rattle.command_words.specs.declared.spans.Sep.{Sep}
-use Rattle.command_words.specs.declared.spans.Span.{Span}
-use Rattle.eli_base.specs.Keying.{Keying}
-use Rattle.eli_base.specs.Units.{media_sectors}
-use Rattle.eli_base.specs.declared.refusals.Refusal.{Refusal}
 use Rattle.eli_base.specs.declared.refusals.Refusal.TheVariants as refusals
-use Rattle.provider.specs.Attached.{media}
-use Rattle.provider.specs.Reading.{ReadsAs, ReadsFrom}
 use Rattle.provider_readings.proofs.Data.{data-read}
-use Rattle.provider_readings.specs.Data.{data_read}
-use Rattle.range_keys.specs.Ring.{IsKeying}
-use Rattle.readings.specs.Steps.{Step, after, cell}
 use Rattle.readings.specs.Survivors as survivors
-use Rattle.sha2.specs.Sha256.{sha256}
 use Rattle.command_rows.proofs.Gate.{by_gate, by_gate_refusal, with_attached}
-use Rattle.command_rows.specs.Answer.{Answer}
 use Rattle.command_rows.specs.Answer as answers
-use Rattle.command_rows.specs.Steps.{Decides, GoesOn, SectorsAnswer, in_range, whole_sectors}
-use Rattle.command_rows.specs.Gate.{Needs, needs, refused_by}
-use Rattle.command_rows.specs.Turn.{ChangesAt, GoesThrough, IsUnknown, ReadRow, Replies, Serves, digest_or, payload_or, reach, reaped_or}
-use Rattle.command_rows.specs.World.{AttachedWith, Attachment, DrawerState, HoldKeyings, Holding, HoldsKeying, IsAttached, Reach, World, place_of}
-use Rattle.command_rows.specs.verbs.Reap.{ReapRow}
 use Rattle.command_rows.specs.verbs.Sum.{SumRow}
 use Rattle.geli_core.specs.ReadsBack.{IsDigestOf, IsDoneAsAsked, LineReads, ReadsAsAsked, StandsSo}
-use Rattle.queue_readings.specs.Play.{Play}
 use Rattle.geli_core.specs.Run.{ServesReading}
 use Rattle.geli_core.specs.Kinds.{kind_read}
 use Rattle.geli_core.specs.Trace.{Run, ServedLine}
 use Rattle.geli_core.specs.Survivors.{EnduresCrashes, HasNoRequests}
+use Rattle.geli_core.specs.Vocabulary.{ChangesAt, GoesThrough, IsUnknown, Needs, Play, ReadRow, ReapRow, Replies, Sep, Serves, Step, Usage, after, cell, data_read, digest_or, needs, payload_or, reach, reaped_or, refused_by}
 use Rattle.geli_core.proofs.Placing.{Survived, survived, survives_so, told_holds}
 use Rattle.geli_core.proofs.Playing.{keyed_by}
 use Rattle.geli_core.proofs.Requested.{passed}
@@ -96,9 +75,6 @@ read_found sector count a old answer new is had told h =
 
 -- ---- what the writings say
 
-abbrev media_of : Keying → ℕ → ℕ
-media_of k size = media_sectors k.auth k.sectorsize (512 * size)
-
 by_writings : (k : Keying) (sector count : ℕ) (before disk : DiskState) (told : Option Content) (steps : List Step) (answer : Result (List ℕ) ℕ) → before.content ≡ told → disk.content ≡ option_map (after steps) told → IfSome told (EnduresCrashes steps)
     → IsKeying k → sector + count ≤ media k disk → ReadsAs disk k sector count answer → IfSome told (λ c. data_read k sector count (cell c steps) ≡ answer)
 by_writings k sector count before disk None steps answer was is e keyed fits reads = tt
@@ -107,7 +83,7 @@ by_writings k sector count before disk (Some c) steps answer was is e keyed fits
     let first : IsContentOf before.size c = subst (FitsSize before.size) was before.well_formed.fits in
     let content : IsContentOf (length c.base) c = subst (λ (n : ℕ). IsContentOf n c) (sym first.sectors) first in
     let size : disk.size ≡ length c.base = sym later.sectors in
-    let there : sector + count ≤ survivors.content_media k c = subst (λ (n : ℕ). sector + count ≤ media_of k n) size fits in
+    let there : sector + count ≤ survivors.content_media k c = subst (λ (n : ℕ). sector + count ≤ media_sectors k.auth k.sectorsize (512 * n)) size fits in
     sym (data-read c steps k sector count content e.fit keyed there) ∙ subst (λ (o : Option Content). ReadsFrom o k sector count answer) is reads
 
 -- of the drawer that a line names, by what its play says

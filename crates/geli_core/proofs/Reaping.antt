@@ -1,26 +1,14 @@
 -- What a `reap` of a read answers, by the writings of its task.
-use Rattle.std.proofs.Common.{◌≡◌, ◌∙◌, inl, inr, ap, refl, subst, sym, ℕ, List, length, take, drop, Option, None, Some, Result, Ok, Err}
-use Rattle.std.specs.Prelude.{IfSome}
+use Rattle.std.proofs.Common.{◌≡◌, ◌∙◌, inl, inr, ap, refl, subst, sym, ℕ, List, length, take, drop, Option, None, Some, Result, Ok, Err, IfSome}
 use Rattle.std.proofs.Math.Seq.{take-append_seam}
-use Rattle.bio_queue.specs.Answers.{ReapAnswers}
-use Rattle.bio_queue.specs.Requests.{Request}
-use Rattle.bio_queue.specs.declared.faults.ReapFault.{ReapFault}
 use Rattle.bio_queue.specs.declared.faults.ReapFault.TheVariants as reap
-use Rattle.bio_queue.specs.declared.job.Reaped.{Reaped}
 use Rattle.bio_queue.specs.declared.job.Reaped.TheVariants as given
-use Rattle.block_traits.specs.Content.{Content}
-use Rattle.block_traits.specs.Disk.{DiskState}
-use Rattle.eli_base.specs.Keying.{Keying}
-use Rattle.eli_base.specs.declared.refusals.Refusal.{Refusal}
+use Rattle.command_rows.specs.Rows.{Attachment, IsAttached, Reach}
+use Rattle.command_rows.specs.Vocabulary.{Content, DiskState, Keying, ReapAnswers, ReapFault, Reaped, Refusal, Request}
 use Rattle.eli_base.specs.declared.refusals.Refusal.TheVariants as refusals
-use Rattle.queue_readings.specs.Play.{IsFaulty, Play, Yields}
-use Rattle.queue_readings.specs.Tasks.{Flushes, Reads, Task, Work, Writes, task_with}
-use Rattle.readings.specs.Steps.{Step}
 use Rattle.command_rows.specs.Answer as answers
-use Rattle.command_rows.specs.Turn.{reaped_or}
-use Rattle.command_rows.specs.World.{Attachment, IsAttached, Reach}
-use Rattle.command_rows.specs.verbs.Reap.{ReapRow, reap_answer}
 use Rattle.geli_core.specs.ReadsBack.{IsAmongSteps, IsDoneAsAsked, ReadsAsAsked, ReadsAsTask}
+use Rattle.geli_core.specs.Vocabulary.{Flushes, IsFaulty, Play, Reads, ReapRow, Step, Task, Work, Writes, Yields, reap_answer, reaped_or, task_with}
 use Rattle.geli_core.proofs.Following.{Tracks, tracks_reaped, tracks_reaped_fault}
 use Rattle.geli_core.proofs.Playing.{Follows, tracked}
 use Rattle.geli_core.proofs.Requested.{reap_asks}

@@ -1,50 +1,22 @@
 -- What `submit`, `step` and `reap` make of the play of an attached drawer.
-use Rattle.std.proofs.Common.{◌≡◌, ◌∙◌, ◌⊎◌, inl, inr, ℕ, zero, suc, ◌*◌, ◌/◌, ◌%◌, ◌<◌, ◌≤◌, ◌==◌, Bool, true, false, cond, List, [], ◌∷◌, length, take, Option, None, Some, Result, Ok, Err, refl, sym, ap, subst, arith}
-use Rattle.std.specs.Prelude.{◌&&◌, nat_le, unwrap_or}
+use Rattle.std.proofs.Common.{◌≡◌, ◌∙◌, ◌⊎◌, inl, inr, ℕ, zero, suc, ◌*◌, ◌/◌, ◌%◌, ◌<◌, ◌≤◌, ◌==◌, Bool, true, false, cond, List, [], ◌∷◌, length, take, Option, None, Some, Result, Ok, Err, refl, sym, ap, subst, arith, ◌&&◌, nat_le, unwrap_or}
 use Rattle.std.specs.Option.{option_map}
 use Rattle.std.proofs.lemmas.Bool.Decides.{nat_tests}
 use Rattle.std.proofs.Math.Nat.{div-add-mod, mul-div_cancel}
 use Rattle.std.proofs.Math.Seq.{take-length}
-use Rattle.aes_core.specs.Schedule.{AreBytes}
-use Rattle.block_traits.specs.Content.{Content}
-use Rattle.block_traits.specs.Disk.{DiskState, Logs}
-use Rattle.block_traits.specs.declared.disk.Event.{Event}
 use Rattle.block_traits.proofs.Logs.{Logs-nothing}
-use Rattle.command_words.specs.Places.{bytes_at}
-use Rattle.command_words.specs.declared.commands.JobWords.{JobWords}
+use Rattle.command_rows.specs.Rows.{Answer, Attachment, GoesOn, NeedsRequest, Reach, bytes_spelled, or_refusal, whole_sectors}
+use Rattle.command_rows.specs.Vocabulary.{Content, DiskState, Event, IsAsked, IsKeying, Job, JobWords, Keying, Logs, ReapAnswers, ReapFault, Reaped, Refusal, Request, StepAnswers, StepFault, StepsOn, SubmitAnswers, SubmitFault, bytes_at, request_with, step_events}
 use Rattle.command_words.specs.declared.commands.JobWords.TheVariants as words
-use Rattle.eli_base.specs.Keying.{Keying}
-use Rattle.eli_base.specs.declared.refusals.Refusal.{Refusal}
 use Rattle.eli_base.specs.declared.refusals.Refusal.TheVariants as refusals
-use Rattle.range_keys.specs.Ring.{IsKeying}
-use Rattle.bio_queue.specs.Answers.{IsAsked, ReapAnswers, StepAnswers, StepsOn, SubmitAnswers}
 use Rattle.eli_base.specs.Requests.{request_limit}
-use Rattle.bio_queue.specs.Requests.{Request, request_with, step_events}
-use Rattle.bio_queue.specs.declared.faults.ReapFault.{ReapFault}
 use Rattle.bio_queue.specs.declared.faults.ReapFault.TheVariants as reap
-use Rattle.bio_queue.specs.declared.faults.StepFault.{StepFault}
 use Rattle.bio_queue.specs.declared.faults.StepFault.TheVariants as step
-use Rattle.bio_queue.specs.declared.faults.SubmitFault.{SubmitFault}
-use Rattle.bio_queue.specs.declared.job.Job.{Job}
 use Rattle.bio_queue.specs.declared.job.Job.TheVariants as jobs
-use Rattle.bio_queue.specs.declared.job.Reaped.{Reaped}
 use Rattle.bio_queue.specs.declared.job.Reaped.TheVariants as given
-use Rattle.queue_readings.specs.Play.{Play}
-use Rattle.queue_readings.specs.Tasks.{Task, Work, exchange_task, put_task, request_of, task_after, task_with, unit_steps, without_task, work_of}
-use Rattle.readings.specs.Steps.{Step, cell}
-use Rattle.readings.specs.Writes.{raw_steps}
-use Rattle.command_rows.specs.Answer.{Answer}
 use Rattle.command_rows.specs.Answer as answers
-use Rattle.command_rows.specs.Digits.{bytes_spelled}
-use Rattle.command_rows.specs.Histories.{EventsBy}
-use Rattle.command_rows.specs.Queueing.{NeedsRequest}
-use Rattle.command_rows.specs.Steps.{GoesOn, or_refusal, whole_sectors}
-use Rattle.command_rows.specs.Turn.{left_or, reaped_or, tag_or}
-use Rattle.command_rows.specs.World.{Attachment, Reach}
-use Rattle.command_rows.specs.verbs.Reap.{ReapRow, ReapsRequest, reap_answer}
-use Rattle.command_rows.specs.verbs.Step.{StepRow, StepsRequest, next_events, step_refusal}
-use Rattle.command_rows.specs.verbs.Submit.{SubmitRow, Submits, submit_refusal}
 use Rattle.geli_core.specs.Placing.{cells_after, goes_on, request_steps, tasks_reaped, tasks_stepped, tasks_submitted, work_in}
+use Rattle.geli_core.specs.Vocabulary.{AreBytes, EventsBy, Play, ReapRow, ReapsRequest, Step, StepRow, StepsRequest, SubmitRow, Submits, Task, Work, cell, exchange_task, left_or, next_events, put_task, raw_steps, reap_answer, reaped_or, request_of, step_refusal, submit_refusal, tag_or, task_after, task_with, unit_steps, without_task, work_of}
 use Rattle.geli_core.proofs.Following.{Tracks, the_same, tracks_broken, tracks_raw, tracks_reaped, tracks_reaped_fault, tracks_stepped, tracks_stepped_other, tracks_submitted, unit_events}
 use Rattle.geli_core.proofs.Written.{bytes_spelled-bytes, row_events}
 

@@ -1,26 +1,19 @@
 -- One more line is served, and one more byte is looked at.
-use Rattle.std.proofs.Common.{◌≡◌, ◌≢◌, ◌∙◌, ℕ, ◌≤◌, List, [], ◌∷◌, ◌++◌, length, refl, ap, sym, subst, arith, append_assoc, length-append, Option, None, Some, Bool, true, false, Result, Ok, Err}
-use Rattle.std.specs.Prelude.{◌||◌}
+use Rattle.std.proofs.Common.{◌≡◌, ◌≢◌, ◌∙◌, ℕ, ◌≤◌, List, [], ◌∷◌, ◌++◌, length, refl, ap, sym, subst, arith, append_assoc, length-append, Option, None, Some, Bool, true, false, Result, Ok, Err, ◌||◌}
 use Rattle.std.proofs.lemmas.List.{append-nil, map-append}
 use Rattle.std.proofs.lemmas.Grind.{flat_map-append}
 use Rattle.std.proofs.lemmas.List.Folds.{list_any-append}
 use Rattle.std.specs.List.{AllByRecursion, flat_map, list_any}
-use Rattle.block_traits.specs.Streams.{SinkState, TookAll}
-use Rattle.command_words.specs.Reading.{line_limit, line_reading}
-use Rattle.command_words.specs.declared.commands.Command.{Command}
-use Rattle.command_words.specs.declared.commands.Usage.{Usage}
+use Rattle.command_rows.specs.Rows.{Answer, World}
+use Rattle.command_rows.specs.Vocabulary.{Command, SinkState, TookAll}
 use Rattle.eli_base.specs.declared.refusals.Refusal.TheVariants as refusals
-use Rattle.command_rows.specs.Turn.{Turn}
-use Rattle.command_words.specs.declared.spans.Sep.{Sep}
 use Rattle.command_words.specs.declared.spans.Sep.TheVariants.{Blanks}
-use Rattle.command_rows.specs.Answer.{Answer}
 use Rattle.command_rows.specs.Answer as answers
-use Rattle.reply_text.specs.declared.print.WriteEnd.{WriteEnd}
 use Rattle.reply_text.proofs.Printing.{TookAll-nothing, TookAll-then}
-use Rattle.command_rows.specs.World.{World}
 use Rattle.geli_core.specs.Lines.{CutsInto, ended, newline}
 use Rattle.geli_core.specs.Trace.{Run, ServedLine, answers_of, lines_of}
 use Rattle.geli_core.specs.Run.{FailsInLast, PrintsAnswer, ServesAndPrints, ServesLine, ServesReading, answers_text, any_refused, end_of, is_refusal, refuses, text_of}
+use Rattle.geli_core.specs.Vocabulary.{Sep, Turn, Usage, WriteEnd, line_limit, line_reading}
 use Rattle.geli_core.specs.declared.serving.LineEnd.{LineEnd}
 use Rattle.geli_core.specs.declared.serving.LineEnd.TheVariants.{Silent}
 use Rattle.geli_core.specs.Served.{IsServed, IsTooLong, IsUnprinted, ServesLines, SiteState}

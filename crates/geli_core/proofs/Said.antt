@@ -1,10 +1,7 @@
 -- What words say names the images that they name.
-use Rattle.std.proofs.Common.{◌≡◌, ◌∙◌, ap, sym, List, ℕ, Option, None, Some, map, string_bytes}
-use Rattle.std.specs.Prelude.{option_and_then}
-use Rattle.command_words.specs.Images.{image_names, line_of, name_at, names_or, script_images}
-use Rattle.command_words.specs.Places.{provider_of}
-use Rattle.command_words.specs.Reading.{command_in}
-use Rattle.command_words.specs.declared.commands.Command.{Command}
+use Rattle.std.proofs.Common.{◌≡◌, ◌∙◌, ap, sym, List, ℕ, Option, None, Some, map, string_bytes, option_and_then}
+use Rattle.command_rows.specs.Vocabulary.{Command, provider_of}
+use Rattle.geli_core.specs.Vocabulary.{command_in, image_names, line_of, name_at, names_or, script_images}
 use Rattle.geli_core.specs.Words.{Says, image_names_of}
 use Rattle.geli_core.specs.declared.words.Words.{Words}
 use Rattle.geli_core.specs.declared.words.Words.TheVariants.{Script, One, Usage}

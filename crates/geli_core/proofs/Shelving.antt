@@ -1,18 +1,17 @@
 -- Disks under their names on a shelf: all of them, one after another, or why not.
-use Rattle.std.proofs.Common.{◌≡◌, ◌∙◌, ap, arith, cond, drop, false, true, Bool, get_or, length, map, refl, sym, subst, append_assoc, ℕ, ◌+◌, ◌<◌, List, [], ◌∷◌, ◌++◌, None, Some, Option, slice_index_or}
+use Rattle.std.proofs.Common.{◌≡◌, ◌∙◌, ap, arith, cond, drop, false, true, Bool, get_or, length, map, refl, sym, subst, append_assoc, ℕ, ◌+◌, ◌<◌, List, [], ◌∷◌, ◌++◌, None, Some, Option, slice_index_or, IsNone, IsSome}
 use Rattle.std.proofs.lemmas.List.{drop_more, length-append, map-append}
 use Rattle.std.specs.List.{remove}
-use Rattle.std.specs.Prelude.{IsNone, IsSome}
 use Rattle.std.specs.Option.{option_map}
 use Rattle.std.specs.Str.{bytes_eq}
 use Rattle.std.proofs.lemmas.Slice.Eq.{bytes_eq-Decides}
-use Rattle.block_traits.specs.Disk.{DiskState}
-use Rattle.command_rows.specs.World.{DrawerState, Idle, NamesDiffer, place_of}
+use Rattle.command_rows.specs.Rows.{DrawerState, Idle, NamesDiffer, place_of}
+use Rattle.command_rows.specs.Vocabulary.{DiskState}
 use Rattle.geli_core.specs.Images.{IsNotShelved, OutsideState, RunsOver, disks_of, idle_drawers, whole_with}
 use Rattle.geli_core.specs.Lawful.{RunsLawfully}
+use Rattle.geli_core.specs.Vocabulary.{AddFault}
 use Rattle.geli_core.specs.declared.status.Status.{Status}
 use Rattle.shelf.specs.Adding.{RefusesToAdd}
-use Rattle.shelf.specs.declared.drawers.AddFault.{AddFault}
 use Rattle.shelf.specs.declared.drawers.AddFault.TheVariants.{Full, Taken, NoMemory}
 
 first_disk : {D : Type 0} (state : D → DiskState) (items rest : List D) (disk : D) → 0 < length items → disk ≡ slice_index_or items 0 disk → rest ≡ remove items 0

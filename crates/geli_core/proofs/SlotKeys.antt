@@ -3,18 +3,10 @@ use Rattle.std.proofs.Common.{◌≡◌, ◌∙◌, ℕ, ◌==◌, List, ◌++�
 use Rattle.std.specs.Option.{option_or}
 use Rattle.std.proofs.lemmas.List.{take-append-drop}
 use Rattle.std.proofs.lemmas.Slice.Eq.{bytes_eq-Decides}
-use Rattle.eli_base.specs.Units.{media_sectors}
-use Rattle.eli_base.specs.declared.parameters.MasterKey.{MasterKey}
-use Rattle.eli_base.specs.declared.refusals.Refusal.{Refusal}
+use Rattle.command_rows.specs.Rows.{Attachment, attachment_by, or_wrong_key, tried}
+use Rattle.command_rows.specs.Vocabulary.{KeyFault, MasterKey, Metadata, Refusal, Settings, UserKey, is_set, media_sectors, opened}
 use Rattle.eli_base.specs.declared.refusals.Refusal.TheVariants as refusals
-use Rattle.eli_metadata.specs.Checks.{Settings, is_set}
-use Rattle.eli_metadata.specs.declared.metadata.Metadata.{Metadata}
 use Rattle.key_slots.specs.Slots.{Opens, check_code, deciphered_slot, has_code, master_in, numbered, slot_bytes, slot_text, unwrapped}
-use Rattle.provider.specs.Attached.{opened}
-use Rattle.user_key.specs.declared.components.KeyFault.{KeyFault}
-use Rattle.user_key.specs.declared.components.UserKey.{UserKey}
-use Rattle.command_rows.specs.Steps.{attachment_by, or_wrong_key, tried}
-use Rattle.command_rows.specs.World.{Attachment}
 
 -- ---- a slot
 

@@ -1,24 +1,12 @@
 -- What the lines of a run do with suspended drawers.
 use Rattle.std.proofs.Common.{◌≡◌, ◌∙◌, ◌⊎◌, inl, inr, ℕ, List, [], ◌∷◌, ◌++◌, refl, ap, sym, subst, append_assoc, Option, None, Some, Result, Ok, Err, slice_get}
-use Rattle.block_traits.specs.Disk.{Logs}
 use Rattle.block_traits.proofs.Logs.{Logs-nothing}
-use Rattle.command_words.specs.Places.{bytes_at}
-use Rattle.command_words.specs.Reading.{line_reading}
-use Rattle.command_words.specs.declared.commands.Command.{Command}
+use Rattle.command_rows.specs.Rows.{Answer, Attachment, DrawerState, Holding, IsAmong, IsSuspended, Kept, Reach, World, place_of}
+use Rattle.command_rows.specs.Vocabulary.{Command, KeyWords, Logs, Refusal, Span, bytes_at, sha256}
 use Rattle.command_words.specs.declared.commands.Command.TheVariants as commands
-use Rattle.command_words.specs.declared.commands.Usage.{Usage}
-use Rattle.command_words.specs.declared.spans.KeyWords.{KeyWords}
-use Rattle.command_words.specs.declared.spans.Sep.{Sep}
-use Rattle.command_words.specs.declared.spans.Span.{Span}
-use Rattle.eli_base.specs.declared.refusals.Refusal.{Refusal}
-use Rattle.sha2.specs.Sha256.{sha256}
 use Rattle.suspend.proofs.Resumed.{same_or_collision}
-use Rattle.command_rows.specs.Answer.{Answer}
 use Rattle.command_rows.specs.Answer as answers
 use Rattle.command_rows.specs.Becoming as becoming
-use Rattle.command_rows.specs.Becoming.{Becomes, BecomesBy}
-use Rattle.command_rows.specs.Turn.{ChangesAt, Replies, Serves, TakesOutDrawer, Turn, done_or, reach}
-use Rattle.command_rows.specs.World.{Attachment, DrawerState, Holding, IsAmong, IsSuspended, Kept, Reach, World, place_of}
 use Rattle.command_rows.specs.verbs.Attach.{OpensWith}
 use Rattle.command_rows.specs.verbs.Resume.{ResumeRow}
 use Rattle.command_rows.proofs.Becoming.{Resumes, resume_done}
@@ -30,6 +18,7 @@ use Rattle.geli_core.specs.Run.{ServesLine, ServesReading}
 use Rattle.geli_core.specs.Suspensions.{AreSuspended, HadMaster, LineResumes, OpensSameMaster, StaysSuspendedThrough, SuspendedBefore, SuspendedSince}
 use Rattle.geli_core.specs.Kinds.{kind_read}
 use Rattle.geli_core.specs.Trace.{ServedLine, world_behind}
+use Rattle.geli_core.specs.Vocabulary.{Becomes, BecomesBy, ChangesAt, Replies, Sep, Serves, TakesOutDrawer, Turn, Usage, done_or, line_reading, reach}
 use Rattle.geli_core.proofs.Drawn.{here_or, same_some}
 use Rattle.geli_core.proofs.Keyings.{among_removed}
 use Rattle.geli_core.proofs.ReadsBack.{turned}

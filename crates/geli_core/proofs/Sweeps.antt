@@ -1,33 +1,15 @@
 -- The lines of a course of sweeps.
-use Rattle.std.proofs.Common.{◌≡◌, ◌∙◌, ℕ, ◌+◌, ◌-◌, ◌*◌, ◌^◌, ◌<◌, ◌≤◌, Bool, true, false, cond, List, [], ◌∷◌, ◌++◌, Option, Some, None, IsSome, Result, Ok, Err, refl, ap, sym, subst, arith}
-use Rattle.std.specs.Prelude.{◌&&◌, MatchOption, slice_get}
+use Rattle.std.proofs.Common.{◌≡◌, ◌∙◌, ℕ, ◌+◌, ◌-◌, ◌*◌, ◌^◌, ◌<◌, ◌≤◌, Bool, true, false, cond, List, [], ◌∷◌, ◌++◌, Option, Some, None, IsSome, Result, Ok, Err, refl, ap, sym, subst, arith, ◌&&◌, MatchOption, slice_get}
 use Rattle.std.specs.List.{range_with_len}
 use Rattle.std.specs.Option.{option_map}
 use Rattle.std.specs.Str.{bytes_eq}
 use Rattle.std.proofs.Math.Nat.{div-le_self}
 use Rattle.std.proofs.lemmas.Slice.Eq.{bytes_eq-Decides}
-use Rattle.block_traits.specs.Cabinet.{Files, stored}
-use Rattle.block_traits.specs.Disk.{DiskState}
-use Rattle.command_words.specs.Places.{bytes_at}
-use Rattle.command_words.specs.Reading.{line_reading}
-use Rattle.command_words.specs.declared.commands.Command.{Command}
+use Rattle.command_rows.specs.Rows.{Answer, AttachedWith, Attachment, DrawerState, Holding, IsAttached, Reach, World, place_of}
+use Rattle.command_rows.specs.Vocabulary.{Command, DiskState, Files, Keying, Refusal, Span, bytes_at, le64, media, place_after, sectors_swept, stored, sweep_at, units}
 use Rattle.command_words.specs.declared.commands.Command.TheVariants as commands
-use Rattle.command_words.specs.declared.commands.Usage.{Usage}
-use Rattle.command_words.specs.declared.spans.Sep.{Sep}
-use Rattle.command_words.specs.declared.spans.Span.{Span}
-use Rattle.eli_base.specs.Keying.{Keying}
-use Rattle.eli_base.specs.declared.refusals.Refusal.{Refusal}
-use Rattle.provider.specs.Attached.{media}
-use Rattle.range_keys.specs.Keys.{le64}
-use Rattle.sealing.specs.Sectors.{units}
-use Rattle.verify_sweep.specs.Parts.{place_after, sweep_at}
-use Rattle.verify_sweep.specs.Sweeping.{sectors_swept}
 use Rattle.verify_sweep.proofs.Places.{all_sectors, reaches, stays_within}
-use Rattle.command_rows.specs.Answer.{Answer}
 use Rattle.command_rows.specs.Answer as answers
-use Rattle.command_rows.specs.Gate.{AnAttached, refused_by}
-use Rattle.command_rows.specs.Turn.{ChangesAt, IsRefused, IsUnknown, Replies, Serves, Turn, reach, verified_or}
-use Rattle.command_rows.specs.World.{AttachedWith, Attachment, DrawerState, Holding, IsAttached, Reach, World, place_of}
 use Rattle.command_rows.specs.verbs.Verify.{FindsPlace, ListsUnits, SweptPart, VerifyRow}
 use Rattle.command_rows.proofs.SweepPlaces.{starts_anew}
 use Rattle.command_rows.proofs.SweepRows.{HoldsPlace, SweptFrom, refused_leaves, swept, told_place}
@@ -36,6 +18,7 @@ use Rattle.geli_core.specs.Run.{ServesReading}
 use Rattle.geli_core.specs.Kinds.{kind_read}
 use Rattle.geli_core.specs.Trace.{EachServed, ServedLine}
 use Rattle.geli_core.specs.Sweeps.{AskedSweep, BeginsCourse, Course, EachBegins, EachGoesOn, HasDrawer, IsNextPart, KeepsCourse, SweepsPart, asked_by, counts_with, place_file}
+use Rattle.geli_core.specs.Vocabulary.{AnAttached, ChangesAt, IsRefused, IsUnknown, Replies, Sep, Serves, Turn, Usage, line_reading, reach, refused_by, verified_or}
 
 -- where the parts with these counts end
 abbrev end_of : Course → List ℕ → ℕ

@@ -2,10 +2,9 @@
 use Rattle.std.proofs.Common.{◌≡◌, ◌∙◌, inl, inr, ℕ, zero, suc, ◌*◌, ◌/◌, ◌%◌, ◌<◌, List, [], ◌∷◌, length, take, refl, sym, ap, arith, false, Result, Ok, Err}
 use Rattle.std.proofs.Math.Seq.{take-length}
 use Rattle.std.specs.Int.{byte_at, bytes_low_first, to_le_bytes, w64}
-use Rattle.aes_core.specs.Schedule.{AreBytes}
 use Rattle.aes_core.proofs.KeyBytes.{AreBytes-append, AreBytes-cons, byte_at-lt}
-use Rattle.block_traits.specs.declared.disk.Event.{Event}
-use Rattle.eli_base.specs.declared.refusals.Refusal.{Refusal}
+use Rattle.command_rows.specs.Rows.{Answer, bytes_spelled, decoded}
+use Rattle.command_rows.specs.Vocabulary.{Event, Refusal}
 use Rattle.eli_base.specs.declared.refusals.Refusal.TheVariants as refusals
 use Rattle.hex.specs.Hex.{decode_of}
 use Rattle.hex.specs.declared.error.FromHexError.{FromHexError}
@@ -13,11 +12,8 @@ use Rattle.hex.proofs.HexLemmas.{decode_of-ok}
 use Rattle.rand_core.specs.Steps.{word_bytes}
 use Rattle.rand_pcg.specs.Lcg.{Lcg}
 use Rattle.rand_pcg.specs.Pcg.{pcg64}
-use Rattle.command_rows.specs.Answer.{Answer}
 use Rattle.command_rows.specs.Answer as answers
-use Rattle.command_rows.specs.Digits.{bytes_spelled, decoded}
-use Rattle.command_rows.specs.Histories.{AreFirst, BreaksOff, EventsBy}
-use Rattle.command_rows.specs.verbs.Fill.{generated, words_of_sectors}
+use Rattle.geli_core.specs.Vocabulary.{AreBytes, AreFirst, BreaksOff, EventsBy, generated, words_of_sectors}
 
 -- ---- the events
 

@@ -1,9 +1,9 @@
 -- What a run answers of failures, by the counts of what failed.
 use Rattle.std.specs.Prelude.{◌≡◌, ◌⊎◌, ℕ, ◌+◌, Bool, false, List, Option, None, Some, slice_get}
-use Rattle.shelf.specs.Closing.{Closes, failures}
-use Rattle.command_rows.specs.World.{DrawerState, World, place_of}
+use Rattle.command_rows.specs.Rows.{DrawerState, World, place_of}
 use Rattle.geli_core.specs.Bounds.{ClosesWithFailures, CountsOutside, RisesBy, RisesUntilOut, device_faults}
 use Rattle.geli_core.specs.Trace.{Trace, answers_of, world_behind}
+use Rattle.geli_core.specs.Vocabulary.{Closes, failures}
 
 -- a drawer at exit: it was closed, or failed in that; or nothing was done
 abbrev pub ClosesDrawer : Option ℕ → DrawerState → Bool → DrawerState → Type 0

@@ -1,17 +1,12 @@
 -- How many refusals for a failure a run may print: at most as many as the count of such failures rose by.
 use Rattle.std.specs.Prelude.{◌≡◌, ◌⊎◌, ℕ, ◌+◌, ◌-◌, ◌^◌, ◌<◌, ◌≤◌, ◌==◌, ◌&&◌, not, if◌then◌else◌, Bool, true, false, List, [], ◌∷◌, ◌++◌, Option, Some, IfSome, Result, Ok, slice_get}
-use Rattle.block_traits.specs.Causes.{Rose}
-use Rattle.command_words.specs.declared.commands.Command.{Command}
-use Rattle.command_words.specs.declared.commands.Usage.{Usage}
-use Rattle.command_words.specs.declared.spans.Sep.{Sep}
+use Rattle.command_rows.specs.Rows.{Answer, DrawerState, World, is_idle, place_of}
+use Rattle.command_rows.specs.Vocabulary.{Command, Rose, passphrase_limit}
 use Rattle.eli_base.specs.declared.refusals.Refusal.TheVariants as refusals
-use Rattle.key_components.specs.Files.{passphrase_limit}
-use Rattle.command_rows.specs.Answer.{Answer}
 use Rattle.command_rows.specs.Answer as answers
-use Rattle.command_rows.specs.Turn.{takes_out}
-use Rattle.command_rows.specs.World.{DrawerState, World, is_idle, place_of}
 use Rattle.geli_core.specs.Histories.{ejected, names}
 use Rattle.geli_core.specs.Trace.{ServedLine, Trace, world_behind}
+use Rattle.geli_core.specs.Vocabulary.{Sep, Usage, takes_out}
 
 -- the drawer was attached or suspended, and its disk's count of faults rose, or stands at its last value
 pub record FailedHeld (old new : DrawerState) : Type 0 where

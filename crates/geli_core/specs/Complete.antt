@@ -1,18 +1,14 @@
 -- Which runs go to their end: where nothing failed and the input is within its limits, all is served and printed.
 use Rattle.std.specs.Prelude.{◌≡◌, ℕ, ◌<◌, ◌≤◌, List, [], ◌∷◌, ◌++◌, length, Option, Some, None}
 use Rattle.std.specs.Io.KnownBytes.{IsAtEnd, prepend_known}
-use Rattle.block_traits.specs.Causes.{Rose}
-use Rattle.block_traits.specs.Streams.{TookAll, SourceState}
-use Rattle.command_words.specs.Images.{line_of, script_images}
-use Rattle.command_words.specs.Reading.{command_in, line_limit}
-use Rattle.command_words.specs.declared.commands.Command.{Command}
-use Rattle.command_words.specs.declared.spans.Sep.{Sep}
+use Rattle.command_rows.specs.Vocabulary.{Command, Rose, SourceState, TookAll}
 use Rattle.command_words.specs.declared.spans.Sep.TheVariants.{Blanks, Zeros}
 use Rattle.geli_core.specs.Lines.{CutsInto, IsOneLine, last_line}
 use Rattle.geli_core.specs.Run.{answers_text, any_refused, closing_answers}
 use Rattle.geli_core.specs.Script.{Whole, script_limit}
 use Rattle.geli_core.specs.Served.{ByTrace, RunsUnless, status_by}
 use Rattle.geli_core.specs.Trace.{Trace, answers_of, lines_of}
+use Rattle.geli_core.specs.Vocabulary.{Sep, command_in, line_limit, line_of, script_images}
 use Rattle.geli_core.specs.declared.status.Status.{Status}
 
 -- the bytes are fewer than are too many for a script, and wherever no newline stands among them, they are at most those

@@ -1,26 +1,16 @@
 -- What is read from an image that a crash left, once it is attached again.
 use Rattle.std.specs.Prelude.{◌≡◌, ℕ, zero, suc, ◌+◌, ◌<◌, Bool, List, [], ◌∷◌, take, None, Result, Ok, Err}
-use Rattle.block_traits.specs.Causes.{Rose}
-use Rattle.block_traits.specs.Content.{Content}
 use Rattle.block_traits.specs.Crash.{IsAltered, IsImage, IsTorn, IsUnsettled}
-use Rattle.block_traits.specs.Disk.{DiskState}
-use Rattle.eli_base.specs.Keying.{Keying}
+use Rattle.command_rows.specs.Vocabulary.{Attached, Content, DiskState, IsKeying, Keying, Metadata, Rose, joined}
 use Rattle.eli_base.specs.declared.parameters.Params.{Params}
-use Rattle.eli_metadata.specs.declared.metadata.Metadata.{Metadata}
-use Rattle.provider.specs.Answers.{AttachAnswers, ReadAnswers, SectorRequest, request}
-use Rattle.provider.specs.Attached.{Attached}
 use Rattle.provider.specs.declared.faults.AttachFault.{AttachFault}
 use Rattle.provider.specs.declared.faults.AttachFault.TheVariants as attach
 use Rattle.provider.specs.declared.faults.ReadFault.{ReadFault}
 use Rattle.provider.specs.declared.faults.ReadFault.TheVariants as read
 use Rattle.provider_readings.specs.Attaching.{HasImage, IsAttachedOn, IsOpenedBy}
-use Rattle.range_keys.specs.Ring.{IsKeying}
-use Rattle.readings.specs.Crashes.{ReadsWithCauses}
 use Rattle.readings.specs.Ever.{ever}
 use Rattle.readings.specs.Read.{read_sector}
-use Rattle.readings.specs.Steps.{Step, cell}
-use Rattle.readings.specs.Survivors.{chosen, moment}
-use Rattle.sealing.specs.Sectors.{joined}
+use Rattle.geli_core.specs.Vocabulary.{AttachAnswers, ReadAnswers, ReadsWithCauses, SectorRequest, Step, cell, chosen, moment, request}
 
 -- ---- what a read answers
 

@@ -2,20 +2,11 @@
 use Rattle.std.specs.Prelude.{◌≡◌, ◌⊎◌, ◌&&◌, ℕ, List, [], ◌∷◌, ◌++◌, Bool, true, false, Option, Some, None, Result, Ok, Err, slice_get}
 use Rattle.std.specs.List.{AllByRecursion, list_any}
 use Rattle.std.specs.Str.{bytes_eq}
-use Rattle.block_traits.specs.Disk.{Logs}
-use Rattle.block_traits.specs.declared.disk.Event.{Event}
-use Rattle.command_words.specs.Reading.{line_reading}
-use Rattle.command_words.specs.Places.{bytes_at, provider_of}
-use Rattle.command_words.specs.declared.commands.Command.{Command}
-use Rattle.command_words.specs.declared.commands.Usage.{Usage}
-use Rattle.command_words.specs.declared.spans.Sep.{Sep}
-use Rattle.command_words.specs.declared.spans.Span.{Span}
-use Rattle.command_rows.specs.Answer.{Answer}
+use Rattle.command_rows.specs.Rows.{Answer, DrawerState, World}
+use Rattle.command_rows.specs.Vocabulary.{Command, Event, Logs, Span, bytes_at, provider_of}
 use Rattle.command_rows.specs.Answer as answers
-use Rattle.command_rows.specs.Histories.{AreRowEvents, EventsBy, stores_last}
-use Rattle.command_rows.specs.Turn.{takes_out}
-use Rattle.command_rows.specs.World.{DrawerState, World}
 use Rattle.geli_core.specs.Trace.{ServedLine, Trace}
+use Rattle.geli_core.specs.Vocabulary.{AreRowEvents, EventsBy, Sep, Usage, line_reading, stores_last, takes_out}
 
 -- whether a command names a drawer
 abbrev pub names_by : Option Span → List ℕ → List ℕ → Bool

@@ -1,16 +1,13 @@
 -- A run over disks, each under its name.
 use Rattle.std.specs.Prelude.{ℕ, ◌<◌, List, [], ◌∷◌, ◌++◌, length, map, Option, None, Some}
-use Rattle.block_traits.specs.Cabinet.{CabinetState}
-use Rattle.block_traits.specs.Disk.{DiskState}
-use Rattle.block_traits.specs.Streams.{EntropyState, SinkState, SourceState}
-use Rattle.command_rows.specs.World.{DrawerState, Idle, NamesDiffer}
+use Rattle.command_rows.specs.Rows.{DrawerState, Idle, NamesDiffer}
+use Rattle.command_rows.specs.Vocabulary.{CabinetState, DiskState, EntropyState, SinkState, SourceState}
 use Rattle.geli_core.specs.Lawful.{RunsLawfully}
 use Rattle.geli_core.specs.Script.{Whole}
+use Rattle.geli_core.specs.Vocabulary.{AddFault, Shelved, drawers_of}
 use Rattle.geli_core.specs.declared.images.NotShelved.{NotShelved}
 use Rattle.geli_core.specs.declared.status.Status.{Status}
 use Rattle.shelf.specs.Adding.{most_drawers}
-use Rattle.shelf.specs.Shelved.{Shelved, drawers_of}
-use Rattle.shelf.specs.declared.drawers.AddFault.{AddFault}
 use Rattle.shelf.specs.declared.drawers.AddFault.TheVariants.{Full, Taken, NoMemory}
 
 -- disks under names, each idle

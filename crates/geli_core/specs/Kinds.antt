@@ -1,9 +1,8 @@
 -- What a line asks for, of which more is said over a run than of its command alone.
 use Rattle.std.specs.Prelude.{Option, Some, None, Result, Ok, Err}
-use Rattle.command_words.specs.declared.commands.Command.{Command}
-use Rattle.command_words.specs.declared.commands.Usage.{Usage}
-use Rattle.command_rows.specs.Verb.{RunKind, OfOther}
-use Rattle.command_rows.specs.verbs.{verb_of}
+use Rattle.command_rows.specs.Rows.{OfOther, RunKind}
+use Rattle.command_rows.specs.Vocabulary.{Command}
+use Rattle.geli_core.specs.Vocabulary.{Usage, verb_of}
 
 -- by the verb of the command
 abbrev pub line_kind : Command → RunKind

@@ -1,8 +1,6 @@
 -- All that is said of a run of the words of the command line.
 use Rattle.std.specs.Prelude.{ℕ, List, [], ◌∷◌, ◌++◌}
-use Rattle.command_words.specs.Reading.{line_reading}
-use Rattle.command_words.specs.declared.spans.Sep.{Sep}
-use Rattle.command_rows.specs.World.{World}
+use Rattle.command_rows.specs.Rows.{World}
 use Rattle.geli_core.specs.Bounded.{CountsAll}
 use Rattle.geli_core.specs.Kinds.{kind_read}
 use Rattle.geli_core.specs.Laws.{LineKeepsLaws}
@@ -12,6 +10,7 @@ use Rattle.geli_core.specs.Survivors.{EachSurvives, EachSurvivesRun}
 use Rattle.geli_core.specs.Suspensions.{AreSuspended, LineResumes}
 use Rattle.geli_core.specs.Sweeps.{Course, EachBegins}
 use Rattle.geli_core.specs.Trace.{EachLine, IsTrace, ServedLine, Trace}
+use Rattle.geli_core.specs.Vocabulary.{Sep, line_reading}
 use Rattle.geli_core.specs.declared.status.Status.{Status}
 
 -- Of each drawer that is there behind these lines. `survivors`: it was there at entry and did steps line by line; and

@@ -1,26 +1,15 @@
 -- What holds of each line, whatever the row of its command.
 use Rattle.std.specs.Prelude.{◌≡◌, ℕ, IsTrue, List, Option, Some, Result, Ok}
-use Rattle.command_words.specs.Places.{bytes_at, provider_of}
-use Rattle.command_words.specs.Reading.{line_reading}
-use Rattle.command_words.specs.declared.commands.Command.{Command}
-use Rattle.command_words.specs.declared.commands.Usage.{Usage}
-use Rattle.command_words.specs.declared.spans.Span.{Span}
-use Rattle.eli_base.specs.declared.refusals.Refusal.{Refusal}
+use Rattle.command_rows.specs.Rows.{Answer, World}
+use Rattle.command_rows.specs.Vocabulary.{Command, Refusal, SinkState, Span, bytes_at, provider_of}
 use Rattle.eli_base.specs.declared.refusals.Refusal.TheVariants as refusals
-use Rattle.command_rows.specs.Answer.{Answer}
 use Rattle.command_rows.specs.Answer as answers
-use Rattle.command_rows.specs.Becoming.{BecomesSo}
-use Rattle.command_rows.specs.Causes.{Caused, may_lack_memory}
 use Rattle.command_rows.specs.Counts.{CountsFailures}
 use Rattle.command_rows.specs.Fits.{FindsAt, Fits}
-use Rattle.command_rows.specs.Histories.{OnlySteps}
 use Rattle.command_rows.specs.Stops.{LeavesOldOrNew}
 use Rattle.command_rows.specs.Storing.{StoresItsFile}
-use Rattle.command_rows.specs.World.{World}
-use Rattle.block_traits.specs.Streams.{SinkState}
-use Rattle.command_words.specs.declared.spans.Sep.{Sep}
-use Rattle.reply_text.specs.declared.print.WriteEnd.{WriteEnd}
 use Rattle.geli_core.specs.Run.{PrintsAnswer, ServesLine}
+use Rattle.geli_core.specs.Vocabulary.{BecomesSo, Caused, OnlySteps, Sep, Usage, WriteEnd, line_reading, may_lack_memory}
 use Rattle.geli_core.specs.declared.serving.LineEnd.{LineEnd}
 
 -- this holds of what was refused, if anything was

@@ -20,4 +20,5 @@ pub mod Suspensions
 pub mod Survivors
 pub mod Sweeps
 pub mod Trace
+pub mod Vocabulary
 pub mod Words

@@ -1,31 +1,14 @@
 -- What lines do to a drawer, as steps on its disk: a write or a fill places the units of its logical sectors, a step of
 -- a request that was submitted does its next unit, and whatever else a line logs is bytes that came in some other way.
 use Rattle.std.specs.Prelude.{◌≡◌, ◌⊎◌, ℕ, ◌+◌, ◌/◌, List, [], ◌∷◌, ◌++◌, length, take, Bool, Option, Some, None}
-use Rattle.block_traits.specs.Content.{Content}
-use Rattle.block_traits.specs.Disk.{Logs}
-use Rattle.block_traits.specs.declared.disk.Event.{Event}
-use Rattle.command_words.specs.Places.{bytes_at}
-use Rattle.command_words.specs.declared.commands.Command.{Command}
-use Rattle.command_words.specs.declared.commands.JobWords.{JobWords}
+use Rattle.command_rows.specs.Rows.{Answer, Attachment, DrawerState, IsAmong, Places, PlacesBytes, PlacesGenerated, PlacesNoMore, PlacesNothing, PlacesRequest, PlacesUnit, World, attachment_in, bytes_spelled}
+use Rattle.command_rows.specs.Vocabulary.{Command, Content, Event, JobWords, Keying, Logs, bytes_at}
 use Rattle.command_words.specs.declared.commands.JobWords.TheVariants as words
-use Rattle.command_words.specs.declared.spans.Sep.{Sep}
-use Rattle.eli_base.specs.Keying.{Keying}
 use Rattle.eli_base.specs.declared.refusals.Refusal.TheVariants as refusals
-use Rattle.queue_readings.specs.Play.{Play}
-use Rattle.queue_readings.specs.Tasks.{Flushes, Reads, Task, Work, Writes, exchange_task, put_task, task_after, task_with, unit_steps, without_task}
-use Rattle.readings.specs.Steps.{Step, cell}
-use Rattle.readings.specs.Writes.{data_steps, raw_steps}
-use Rattle.readings.specs.Writings.{Writing}
-use Rattle.command_rows.specs.Verb.{Places, PlacesBytes, PlacesGenerated, PlacesNoMore, PlacesNothing, PlacesRequest, PlacesUnit}
-use Rattle.command_rows.specs.verbs.{verb_of}
-use Rattle.command_rows.specs.Answer.{Answer}
 use Rattle.command_rows.specs.Answer as answers
-use Rattle.shelf.specs.Closing.{Closes}
-use Rattle.command_rows.specs.Digits.{bytes_spelled}
-use Rattle.command_rows.specs.World.{Attachment, DrawerState, IsAmong, World, attachment_in}
-use Rattle.command_rows.specs.verbs.Fill.{words_of_sectors, workload}
 use Rattle.geli_core.specs.Histories.{ServesDrawer}
 use Rattle.geli_core.specs.Trace.{ServedLine, world_behind}
+use Rattle.geli_core.specs.Vocabulary.{Closes, Flushes, Play, Reads, Sep, Step, Task, Work, Writes, Writing, cell, data_steps, exchange_task, put_task, raw_steps, task_after, task_with, unit_steps, verb_of, without_task, words_of_sectors, workload}
 
 -- ---- the play of a drawer: the steps done on its disk so far, its open requests, and the next line's number
 

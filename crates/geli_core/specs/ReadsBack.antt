@@ -1,26 +1,15 @@
 -- What you write is what you read: what the lines of a run that read logical sectors answer, from what its lines wrote
 -- before.
 use Rattle.std.specs.Prelude.{◌≡◌, ℕ, List, Option, Some, IfSome, Result, Ok, Err, All, Contains, slice_get}
-use Rattle.block_traits.specs.Content.{Content}
-use Rattle.command_words.specs.Places.{bytes_at}
-use Rattle.command_words.specs.declared.spans.Sep.{Sep}
-use Rattle.command_words.specs.declared.spans.Span.{Span}
-use Rattle.eli_base.specs.Keying.{Keying}
+use Rattle.command_rows.specs.Rows.{Answer, Attachment, DrawerState, IsAttached, RunKind, World, place_of}
+use Rattle.command_rows.specs.Vocabulary.{Content, Keying, Span, bytes_at, sha256}
 use Rattle.eli_base.specs.declared.refusals.Refusal.TheVariants as refusals
-use Rattle.sha2.specs.Sha256.{sha256}
-use Rattle.provider_readings.specs.Data.{data_read}
-use Rattle.queue_readings.specs.Play.{Play}
-use Rattle.queue_readings.specs.Tasks.{Flushes, Reads, Work, Writes, data_from, task_with}
-use Rattle.readings.specs.Steps.{Step, cell}
-use Rattle.readings.specs.Writes.{data_steps}
-use Rattle.command_rows.specs.Answer.{Answer}
 use Rattle.command_rows.specs.Answer as answers
-use Rattle.command_rows.specs.World.{Attachment, DrawerState, IsAttached, World, place_of}
-use Rattle.command_rows.specs.Verb.{RunKind}
 use Rattle.command_rows.specs.Verb as kinds
 use Rattle.geli_core.specs.Placing.{DrawerPlays}
 use Rattle.geli_core.specs.Survivors.{SurvivesBy}
 use Rattle.geli_core.specs.Trace.{ServedLine}
+use Rattle.geli_core.specs.Vocabulary.{Flushes, Play, Reads, Sep, Step, Work, Writes, cell, data_from, data_read, data_steps, task_with}
 
 -- When a line comes that names this provider, behind these lines, its drawer is attached. It was there at entry, and
 -- did the steps of a play since, line by line. Where its disk told its content at entry, this holds of the keying that

@@ -1,33 +1,14 @@
 -- What holds of requests in flight, whatever lines are served.
 use Rattle.std.specs.Prelude.{◌≡◌, ◌≢◌, ℕ, zero, suc, ◌+◌, ◌/◌, ◌≤◌, false, List, [], ◌∷◌, ◌++◌, length, All, IfSome, Option, Some, None, option_and_then, Result, Ok, Err, slice_get}
-use Rattle.block_traits.specs.Disk.{DiskState, Logs}
 use Rattle.block_traits.specs.declared.disk.Event.TheVariants as event
-use Rattle.command_words.specs.Places.{bytes_at}
-use Rattle.command_words.specs.declared.commands.JobWords.{JobWords}
+use Rattle.command_rows.specs.Rows.{AttachedWith, Attachment, DrawerState, Holding, IsAmong, Reach, World, attachment_in, bytes_spelled, place_of}
+use Rattle.command_rows.specs.Vocabulary.{AreAllOf, DiskState, JobWords, Keying, Logs, ReadsAs, Refusal, Span, bytes_at, data_writes, media, request_with, units_of}
 use Rattle.command_words.specs.declared.commands.JobWords.TheVariants as words
-use Rattle.command_words.specs.declared.spans.Sep.{Sep}
-use Rattle.command_words.specs.declared.spans.Span.{Span}
-use Rattle.eli_base.specs.Keying.{Keying}
-use Rattle.eli_base.specs.declared.refusals.Refusal.{Refusal}
 use Rattle.eli_base.specs.declared.refusals.Refusal.TheVariants as refusals
-use Rattle.bio_queue.specs.Answers.{units_of}
-use Rattle.bio_queue.specs.Owners.{AreAllOf}
-use Rattle.bio_queue.specs.Requests.{request_with}
-use Rattle.provider.specs.Attached.{media}
-use Rattle.provider.specs.Reading.{ReadsAs}
-use Rattle.provider.specs.Writing.{data_writes}
-use Rattle.queue_readings.specs.Play.{IsCovered, Play}
-use Rattle.queue_readings.specs.Tasks.{Flushes, Reads, Work, Writes, job_of, task_with}
-use Rattle.readings.specs.Steps.{Flush, Step}
-use Rattle.readings.specs.Writes.{data_steps}
-use Rattle.command_rows.specs.Digits.{bytes_spelled}
-use Rattle.command_rows.specs.World.{AttachedWith, Attachment, DrawerState, Holding, IsAmong, Reach, World, attachment_in, place_of}
-use Rattle.command_rows.specs.verbs.Reap.{ReapRow}
-use Rattle.command_rows.specs.verbs.Step.{StepRow}
-use Rattle.command_rows.specs.verbs.Submit.{SubmitRow}
 use Rattle.geli_core.specs.Placing.{DrawerPlaces, DrawerPlays, work_in}
 use Rattle.geli_core.specs.Survivors.{HasNoRequests, SurvivesBy}
 use Rattle.geli_core.specs.Trace.{ServedLine}
+use Rattle.geli_core.specs.Vocabulary.{Flush, Flushes, IsCovered, Play, Reads, ReapRow, Sep, Step, StepRow, SubmitRow, Work, Writes, data_steps, job_of, task_with}
 
 -- ---- whose they are
 

@@ -1,18 +1,11 @@
 -- What lines do and answer, one after another, and what is printed.
 use Rattle.std.specs.Prelude.{◌++◌, ◌≡◌, ◌≤◌, ℕ, List, [], ◌∷◌, replicate, Option, Some, None, Bool, true, false, Result, Ok, Err}
 use Rattle.std.specs.List.{flat_map, list_any}
-use Rattle.block_traits.specs.Streams.{SinkState, TookAll, TookPart}
-use Rattle.command_words.specs.Reading.{line_reading}
-use Rattle.command_words.specs.declared.commands.Command.{Command}
-use Rattle.command_words.specs.declared.commands.Usage.{Usage}
-use Rattle.command_words.specs.declared.spans.Sep.{Sep}
+use Rattle.command_rows.specs.Rows.{Answer, World, answer_text}
+use Rattle.command_rows.specs.Vocabulary.{Command, SinkState, TookAll, TookPart}
 use Rattle.eli_base.specs.declared.refusals.Refusal.TheVariants as refusals
-use Rattle.command_rows.specs.Answer.{Answer}
 use Rattle.command_rows.specs.Answer as answers
-use Rattle.command_rows.specs.Answer.{answer_text}
-use Rattle.reply_text.specs.declared.print.WriteEnd.{WriteEnd}
-use Rattle.command_rows.specs.Turn.{Turn}
-use Rattle.command_rows.specs.World.{World}
+use Rattle.geli_core.specs.Vocabulary.{Sep, Turn, Usage, WriteEnd, line_reading}
 use Rattle.geli_core.specs.declared.serving.LineEnd.{LineEnd}
 use Rattle.geli_core.specs.declared.serving.LineEnd.TheVariants.{Silent, Accepted, Refused}
 

@@ -2,17 +2,13 @@
 use Rattle.std.specs.Prelude.{◌≡◌, ◌≢◌, ◌⊎◌, ℕ, ◌+◌, ◌^◌, ◌<◌, ◌≤◌, List, [], ◌∷◌, ◌++◌, length, true, false, Option, Some, None, codes}
 use Rattle.std.specs.List.{AllByRecursion}
 use Rattle.std.specs.Io.KnownBytes.{IsAtEnd, prepend_known}
-use Rattle.block_traits.specs.Causes.{Counted, Rose}
-use Rattle.block_traits.specs.Streams.{SinkState, TookAll, TookPart, SourceState}
-use Rattle.command_words.specs.Images.{line_of, script_images}
-use Rattle.command_words.specs.Reading.{command_in, line_limit}
-use Rattle.command_words.specs.declared.commands.Command.{Command}
+use Rattle.command_rows.specs.Rows.{Answer, World}
+use Rattle.command_rows.specs.Vocabulary.{Command, Counted, Rose, SinkState, SourceState, TookAll, TookPart}
 use Rattle.command_words.specs.declared.spans.Sep.TheVariants.{Blanks, Zeros}
-use Rattle.command_rows.specs.Answer.{Answer}
-use Rattle.command_rows.specs.World.{World}
 use Rattle.geli_core.specs.Lines.{CutsInto, last_line}
 use Rattle.geli_core.specs.Run.{FailsInClosing, FailsInLast, answers_text, any_refused, closing_answers}
 use Rattle.geli_core.specs.Trace.{IsNothing, Trace, answers_of, lines_of}
+use Rattle.geli_core.specs.Vocabulary.{command_in, line_limit, line_of, script_images}
 use Rattle.geli_core.specs.declared.status.Status.{Status}
 use Rattle.geli_core.specs.declared.status.Status.TheVariants.{Done, SomeRefused, BadWords, ReadFault, WriteFault, NoMemory, LineTooLong, ScriptTooLong}
 

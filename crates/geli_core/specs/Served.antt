@@ -1,16 +1,13 @@
 -- A script while it is served: what the loops over its bytes keep. What a run comes to stands in `Script`.
 use Rattle.std.specs.Prelude.{◌≡◌, ℕ, ◌+◌, ◌<◌, ◌≤◌, List, [], ◌++◌, length, Bool, true, false, ◌||◌, Result, Ok, Err}
 use Rattle.std.specs.List.{AllByRecursion}
-use Rattle.block_traits.specs.Streams.{SinkState, TookAll, TookPart, SourceState}
-use Rattle.command_words.specs.Reading.{line_limit}
+use Rattle.command_rows.specs.Rows.{World}
+use Rattle.command_rows.specs.Vocabulary.{Rose, SinkState, SourceState, TookAll, TookPart}
 use Rattle.command_words.specs.declared.spans.Sep.TheVariants.{Blanks}
-use Rattle.shelf.specs.Closing.{ClosesWorld}
-use Rattle.command_rows.specs.World.{World}
-use Rattle.reply_text.specs.declared.print.WriteEnd.{WriteEnd}
+use Rattle.geli_core.specs.Vocabulary.{ClosesWorld, WriteEnd, line_limit}
 use Rattle.geli_core.specs.declared.status.Status.{Status}
 use Rattle.geli_core.specs.declared.status.Status.TheVariants.{Done, SomeRefused, WriteFault, NoMemory}
 use Rattle.std.specs.Io.KnownBytes.{IsAtEnd, prepend_known}
-use Rattle.block_traits.specs.Causes.{Rose}
 use Rattle.geli_core.specs.Lines.{CutsInto, last_line}
 use Rattle.geli_core.specs.Script.{MetEnd, MetNothing, MetRefusal, Whole, most_taken, script_limit}
 use Rattle.geli_core.specs.declared.feeding.Ending.{Ending}

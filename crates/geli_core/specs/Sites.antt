@@ -1,13 +1,11 @@
 -- What a run works on and what it reaches, as it stands and as it is borrowed.
 use Rattle.std.specs.Prelude.{◌≡◌}
-use Rattle.block_traits.specs.Cabinet.{CabinetState}
-use Rattle.block_traits.specs.Disk.{DiskState}
-use Rattle.block_traits.specs.Streams.{EntropyState, SinkState, SourceState}
+use Rattle.command_rows.specs.Vocabulary.{CabinetState, DiskState, EntropyState, SinkState, SourceState}
 use Rattle.geli_core.specs.Images.{OutsideState, outside_of}
 use Rattle.geli_core.specs.Served.{SiteState, site_of}
+use Rattle.geli_core.specs.Vocabulary.{world_of}
 use Rattle.geli_core.specs.declared.outside.Outside.{Outside}
 use Rattle.geli_core.specs.declared.site.Site.{Site}
-use Rattle.shelf.specs.Shelved.{world_of}
 
 -- what it has now, by what sinks, cabinets, entropies and disks have
 abbrev pub site_now : {K C E D : Type 0} → (K → SinkState) → (C → CabinetState) → (E → EntropyState) → (D → DiskState)

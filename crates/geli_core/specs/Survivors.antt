@@ -1,18 +1,11 @@
 -- What the lines of a run leave of each drawer's disk if power fails at any moment of them.
 use Rattle.std.specs.Prelude.{◌≡◌, ℕ, ◌<◌, List, [], map, IfSome, MatchOption}
 use Rattle.std.specs.Option.{option_map}
-use Rattle.block_traits.specs.Content.{Content}
-use Rattle.command_words.specs.declared.spans.Sep.{Sep}
-use Rattle.eli_base.specs.Keying.{Keying}
-use Rattle.range_keys.specs.Ring.{IsKeying}
-use Rattle.queue_readings.specs.Play.{Play}
-use Rattle.queue_readings.specs.Tasks.{Task, request_of}
-use Rattle.readings.specs.Crashes.{Endures}
-use Rattle.readings.specs.Steps.{Step, after}
-use Rattle.readings.specs.Survivors.{AreSteps, content_media}
-use Rattle.command_rows.specs.World.{DrawerState, Holding, IsAmong, World, attachment_in}
+use Rattle.command_rows.specs.Rows.{DrawerState, Holding, IsAmong, World, attachment_in}
+use Rattle.command_rows.specs.Vocabulary.{Content, IsKeying, Keying}
 use Rattle.geli_core.specs.Placing.{DrawerPlays, PlaysToExit}
 use Rattle.geli_core.specs.Trace.{ServedLine, Trace}
+use Rattle.geli_core.specs.Vocabulary.{AreSteps, Endures, Play, Sep, Step, Task, after, content_media, request_of}
 
 -- what is promised of steps that were done on a disk that had this content before: each of their writes has a number of
 -- its own, and at each moment of them each logical sector endures a crash, under each keying

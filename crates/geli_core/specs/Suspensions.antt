@@ -1,27 +1,17 @@
 -- What the lines of a run do with suspended drawers: while a drawer is suspended its disk logs nothing, and it is
 -- attached again with the master key that it had.
 use Rattle.std.specs.Prelude.{◌≡◌, ◌⊎◌, ℕ, List, [], ◌∷◌, ◌++◌, Option, None, Some, Ok, slice_get}
-use Rattle.block_traits.specs.Disk.{FailsIn, Logs}
 use Rattle.block_traits.specs.declared.disk.Event.TheVariants.{Flush}
-use Rattle.command_words.specs.Places.{bytes_at}
-use Rattle.command_words.specs.Reading.{line_reading}
+use Rattle.command_rows.specs.Rows.{Answer, Attachment, DrawerState, IsAmong, IsAttached, IsSuspended, Kept, OfResume, Reach, RunKind, World, place_of}
+use Rattle.command_rows.specs.Vocabulary.{FailsIn, KeyWords, Logs, Span, UserKey, bytes_at, sha256, user_key}
 use Rattle.command_words.specs.declared.commands.Command.TheVariants as commands
-use Rattle.command_words.specs.declared.spans.KeyWords.{KeyWords}
-use Rattle.command_words.specs.declared.spans.Sep.{Sep}
-use Rattle.command_words.specs.declared.spans.Span.{Span}
 use Rattle.key_slots.specs.Slots.{Opens}
-use Rattle.sha2.specs.Sha256.{sha256}
 use Rattle.suspend.specs.Resuming.{AreCollision}
-use Rattle.user_key.specs.Derivation.{user_key}
-use Rattle.user_key.specs.declared.components.UserKey.{UserKey}
-use Rattle.command_rows.specs.Answer.{Answer}
 use Rattle.command_rows.specs.Answer as answers
-use Rattle.command_rows.specs.Turn.{reach}
-use Rattle.command_rows.specs.World.{Attachment, DrawerState, IsAmong, IsAttached, IsSuspended, Kept, Reach, World, place_of}
 use Rattle.command_rows.specs.verbs.Attach.{OpensWith}
-use Rattle.command_rows.specs.Verb.{RunKind, OfResume}
 use Rattle.command_rows.specs.verbs.Suspend.{kept_by}
 use Rattle.geli_core.specs.Trace.{ServedLine, world_behind}
+use Rattle.geli_core.specs.Vocabulary.{Sep, line_reading, reach}
 
 -- ---- while a drawer is suspended
 

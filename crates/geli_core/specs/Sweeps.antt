@@ -3,20 +3,13 @@ use Rattle.std.specs.Prelude.{◌≡◌, ℕ, ◌-◌, ◌*◌, ◌≤◌, Bool,
 use Rattle.std.specs.List.{range_with_len}
 use Rattle.std.specs.Option.{option_map}
 use Rattle.std.specs.Str.{bytes_eq}
-use Rattle.command_words.specs.Places.{bytes_at}
-use Rattle.command_words.specs.Reading.{line_reading}
-use Rattle.command_words.specs.declared.spans.Sep.{Sep}
-use Rattle.eli_base.specs.Keying.{Keying}
-use Rattle.provider.specs.Attached.{media}
-use Rattle.sealing.specs.Sectors.{units}
-use Rattle.verify_sweep.specs.Parts.{cut_count, place_after, sectors_after}
-use Rattle.command_rows.specs.Answer.{Answer}
+use Rattle.command_rows.specs.Rows.{Answer, Attachment, DrawerState, IsAttached, OfSweep, RunKind, World, place_of}
+use Rattle.command_rows.specs.Vocabulary.{Keying, bytes_at, cut_count, media, place_after, sectors_after, units}
 use Rattle.command_rows.specs.Answer as answers
-use Rattle.command_rows.specs.World.{Attachment, DrawerState, IsAttached, World, place_of}
-use Rattle.command_rows.specs.Verb.{RunKind, OfSweep}
 use Rattle.command_rows.specs.verbs.Verify.{ListsUnits}
 use Rattle.geli_core.specs.Kinds.{kind_read}
 use Rattle.geli_core.specs.Trace.{ServedLine}
+use Rattle.geli_core.specs.Vocabulary.{Sep, line_reading}
 
 -- ---- a course of sweeps
 

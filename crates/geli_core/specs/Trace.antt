@@ -1,10 +1,8 @@
 -- A run as a value: the lines that were served, the answers to them, and the worlds between them.
 use Rattle.std.specs.Prelude.{◌≡◌, ℕ, List, [], ◌∷◌, ◌++◌, map, Option, Some, None}
-use Rattle.command_words.specs.declared.spans.Sep.{Sep}
-use Rattle.command_rows.specs.Answer.{Answer}
-use Rattle.command_rows.specs.World.{World}
-use Rattle.shelf.specs.Closing.{ClosesWorld}
+use Rattle.command_rows.specs.Rows.{Answer, World}
 use Rattle.geli_core.specs.Run.{ServesLine}
+use Rattle.geli_core.specs.Vocabulary.{ClosesWorld, Sep}
 
 -- a line that was served, what was answered to it, and the world behind it
 pub record ServedLine : Type 0 where

@@ -8,7 +8,7 @@ use Rattle.command_rows.specs.verbs.Attach.{AttachRow, AttachesUnless, OpensWith
 use Rattle.command_rows.proofs.Keyed.{GivesAttachment, attachment_keyed, try_gives}
 use Rattle.command_rows.proofs.ProviderCauses.{attaching_why, trial_why}
 use Rattle.command_rows.proofs.SuspendCauses.{trial_opens}
-use Rattle.command_rows.proofs.VerbLaws.{AnIdle, Becomes, Counts, IsLawful, IsNew, Keeps, KeepsRequests, NoneOpen, Quiet, Sound, Unstored, Why, apart_out, attach_fits, attached_new, attaches_keep, attaching_counts, attaching_unstored, becomes_as, decision_counts, done_replying, done_unstored, false_is_true, keeps_next, may_lack_memory, no_bad_file, none_try, nothing_changed, quiet_attaching, quiet_did, quiet_then, quiet_trial, refused_by, reply_line, row_refused, same_disk, same_reach, some_is_none, sound_reply, then_counts, then_why, try_row, try_sound, try_stays, unstored_reply, unstored_then}
+use Rattle.command_rows.proofs.VerbLaws.{AnIdle, Becomes, Counts, IsLawful, IsNew, Keeps, KeepsRequests, NoneOpen, Quiet, Sound, Unstored, Why, apart_out, attach_fits, attached_new, attaches_keep, attaching_counts, attaching_unstored, becomes_as, decision_counts, done_replying, done_still, false_is_true, keeps_next, may_lack_memory, no_bad_file, none_try, nothing_changed, quiet_attaching, quiet_did, quiet_then, quiet_trial, refused_by, reply_line, row_refused, same_disk, same_reach, some_is_none, sound_reply, still_sound, then_counts, then_why, try_still, unstored_reply, unstored_then}
 
 quiet_unless : (only_check : Bool) (a : Attachment) → Quiet (AttachesUnless only_check a)
 quiet_unless true a old answer new h = same_disk old.disk new.disk (ap (λ (r : Reach). r.disk) h.1)
@@ -27,12 +27,12 @@ keeps_attach_row : (line : List ℕ) (only_check readonly : Bool) (slot : Option
 keeps_attach_row line only_check readonly slot words old answer new h had =
     keeps_next (λ a. AttachesUnless only_check a) h.given h.middle answer new
     (λ a is next middle. attaches_keep only_check a h.middle answer new (attachment_keyed a (subst GivesAttachment is (try_gives line slot readonly words old h.given h.middle h.first))) next middle)
-    h.next ((try_sound line slot readonly words).keeps old h.given h.middle h.first had)
+    h.next ((still_sound (try_still line slot readonly words)).keeps old h.given h.middle h.first had)
 
 attach_sound : (line : List ℕ) (only_check readonly : Bool) (slot : Option ℕ) (words : KeyWords) → Sound (AttachRow line only_check readonly slot words)
 attach_sound line only_check readonly slot words = record {
   counts =
-      then_counts (TryRow line slot readonly words) _ (try_sound line slot readonly words).counts
+      then_counts (TryRow line slot readonly words) _ (try_still line slot readonly words).counts
       (λ a. unless_counts only_check a);
   keeps = keeps_attach_row line only_check readonly slot words;
 }
@@ -46,9 +46,9 @@ attach_why : (line : List ℕ) (prov : Span) (only_check readonly : Bool) (slot 
     → AttachRow line only_check readonly slot words old answer new → Why line (commands.Attach prov only_check readonly slot words) old answer new
 attach_why line prov only_check readonly slot words old answer new h =
     let command : Command = commands.Attach prov only_check readonly slot words in
-    then_why line command (TryRow line slot readonly words) (λ a. AttachesUnless only_check a) old answer new
+    then_why line command old answer new h
     (λ given middle first. trial_why line command slot readonly words old given middle refl (λ refusal cabinet bad. bad) (λ refusal ground. ground) first)
-    (λ a middle first next. unless_why line command old only_check a middle answer new refl next) h
+    (λ a middle first next. unless_why line command old only_check a middle answer new refl next)
 
 is_idle : (holding : Holding) → refused_by AnIdle holding ≡ None → holding ≡ Idle
 is_idle Idle gate = refl
@@ -69,16 +69,16 @@ opened_by line prov false readonly slot words a old middle (Err refusal) said ne
 attached_by : (line : List ℕ) (prov : Span) (only_check readonly : Bool) (slot : Option ℕ) (words : KeyWords) (given : Result Attachment Refusal) (old middle : Reach) (answer : Result (Unit {0}) Refusal) (said : Answer) (new : Reach) → old.holding ≡ Idle
     → TryRow line slot readonly words old given middle → said ≡ done_or answer → GoesOn (λ a. AttachesUnless only_check a) given middle answer new → Becomes line (commands.Attach prov only_check readonly slot words) old said new
 attached_by line prov only_check readonly slot words (Ok a) old middle answer said new was trial is h =
-    opened_by line prov only_check readonly slot words a old middle answer said new was (try_stays line slot readonly words old (Ok a) middle trial) (trial_opens line slot readonly words old a middle trial) is h
+    opened_by line prov only_check readonly slot words a old middle answer said new was ((try_still line slot readonly words).stays old (Ok a) middle trial) (trial_opens line slot readonly words old a middle trial) is h
 attached_by line prov only_check readonly slot words (Err refusal) old middle answer said new was trial is h =
-    stays_idle line _ old said new was (same_reach middle new h.1 ∙ try_stays line slot readonly words old (Err refusal) middle trial)
+    stays_idle line _ old said new was (same_reach middle new h.1 ∙ (try_still line slot readonly words).stays old (Err refusal) middle trial)
 
 unless_unstored : (only_check : Bool) (a : Attachment) → Unstored (AttachesUnless only_check a)
-unless_unstored true a = done_unstored tt
+unless_unstored true a = (done_still tt).unstored
 unless_unstored false a = attaching_unstored a
 
 attach_row : (line : List ℕ) (only_check readonly : Bool) (slot : Option ℕ) (names : KeyWords) → Unstored (AttachRow line only_check readonly slot names)
-attach_row line only_check readonly slot names = unstored_then (TryRow line slot readonly names) _ (try_row line slot readonly names) (λ a. unless_unstored only_check a)
+attach_row line only_check readonly slot names = unstored_then (TryRow line slot readonly names) _ (try_still line slot readonly names).unstored (λ a. unless_unstored only_check a)
 
 attach_next : (only_check : Bool) (given : Result Attachment Refusal) (middle : Reach) (answer : Result (Unit {0}) Refusal) (new : Reach) → NoneOpen given → GoesOn (λ a. AttachesUnless only_check a) given middle answer new
     → (new.holding ≡ middle.holding) ⊎ IsNew new.holding
@@ -88,7 +88,7 @@ attach_next only_check (Err refusal) middle answer new none h = inl (ap (λ (r :
 -- `attach`, where nothing was
 attach_keeps : (line : List ℕ) (only_check readonly : Bool) (slot : Option ℕ) (words : KeyWords) (old : Reach) (answer : Result (Unit {0}) Refusal) (new : Reach) → attachment_in old.holding ≡ None → AttachRow line only_check readonly slot words old answer new → KeepsRequests old.holding new.holding
 attach_keeps line only_check readonly slot words old answer new none h =
-    let same : h.middle.holding ≡ old.holding = try_stays line slot readonly words old h.given h.middle h.first in
+    let same : h.middle.holding ≡ old.holding = (try_still line slot readonly words).stays old h.given h.middle h.first in
     elim (attach_next only_check h.given h.middle answer new (none_try line slot readonly words old h.given h.middle h.first) h.next) [
       | inl is ↦ inl (is ∙ same)
       | inr anew ↦ inr (inr (none, anew))

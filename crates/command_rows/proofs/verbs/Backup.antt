@@ -2,10 +2,10 @@
 use Rattle.std.proofs.Common.{Err, List, Ok, Result, Some, [], ap, arith, false, inl, inr, refl, subst, sym, ℕ}
 use Rattle.command_words.specs.declared.commands.Command.TheVariants as commands
 use Rattle.eli_base.specs.declared.refusals.Refusal.TheVariants as refusals
-use Rattle.command_rows.specs.Rows.{HoldsNone, LacksMetadata, Reach, StoresBytes, done_or, handed_out}
+use Rattle.command_rows.specs.Rows.{HoldsNone, LacksMetadata, Reach, done_or, handed_out}
 use Rattle.command_rows.specs.Vocabulary.{Command, DiskState, Logs, Refusal, Saves, Span, refusal_of}
 use Rattle.command_rows.specs.verbs.Backup.{BackupRow, FindsLastSector}
-use Rattle.command_rows.proofs.VerbLaws.{Counts, Grounds, IsGround, IsLawful, Quiet, Sound, Stays, Stored, Uncounted, UncountedAnswer, Unstored, Why, apart_out, bytes_stored, done_replying, false_is_true, has_metadata, meta_plain, nothing_changed, plain_cause, plain_uncounted, quiet_did, quiet_failure, quiet_storing, quiet_then, reply_line, row_keeps, row_refused, same_disk, same_files, sound_reply, sound_step, sound_then, stays_quiet, stays_then, stored_then, storing_sound, storing_why, then_why, uncounted_step}
+use Rattle.command_rows.proofs.VerbLaws.{Counts, Grounds, IsGround, IsLawful, Quiet, Still, StillBut, Uncounted, UncountedAnswer, Why, apart_out, done_replying, false_is_true, has_metadata, meta_plain, nothing_changed, plain_cause, plain_uncounted, quiet_did, quiet_failure, quiet_storing, quiet_then, reply_line, row_keeps, row_refused, same_disk, same_files, sound_reply, stays_quiet, still_but_sound, still_but_then, storing_still, storing_why, then_why, uncounted_step}
 
 quiet_saves : (old : DiskState) (before : List ℕ) (read : Result (Unit {0}) Refusal) (bytes : List ℕ) (new : DiskState) → Saves old before read bytes new → Logs [] old new
 quiet_saves old before (Ok done) bytes new h = h.reads.logs
@@ -45,23 +45,15 @@ finding_why line command old answer new lacks h =
 backup_why : (line : List ℕ) (prov file : Span) (old : Reach) (answer : Result (Unit {0}) Refusal) (new : Reach) → BackupRow line file old answer new → Why line (commands.Backup prov file) old answer new
 backup_why line prov file old answer new h =
     let command : Command = commands.Backup prov file in
-    then_why line command FindsLastSector (λ bytes. StoresBytes line file bytes) old answer new (λ given middle first. finding_why line command old given middle (λ refusal lacks. lacks) first)
-    (λ bytes middle first next. storing_why line command file bytes old middle answer new refl (rw first.outside.cabinet (omega arith)) next.stores) h
+    then_why line command old answer new h
+    (λ given middle first. finding_why line command old given middle (λ refusal lacks. lacks) first)
+    (λ bytes middle first next. storing_why line command file bytes old middle answer new refl (rw first.outside.cabinet (omega arith)) next.stores)
 
-finding_sound : Sound FindsLastSector
-finding_sound = sound_step FindsLastSector finding_counts (λ old answer new h. h.holding)
+finding_still : Still FindsLastSector
+finding_still = record { counts = finding_counts; stays = λ old answer new h. h.holding; unstored = λ old answer new h. same_files old.cabinet new.cabinet h.outside.cabinet }
 
-backup_sound : (line : List ℕ) (file : Span) → Sound (BackupRow line file)
-backup_sound line file = sound_then FindsLastSector _ finding_sound (λ bytes. storing_sound line file bytes)
-
-backup_stays : (line : List ℕ) (file : Span) → Stays (BackupRow line file)
-backup_stays line file = stays_then FindsLastSector _ (λ old answer new h. h.holding) (λ bytes old answer new h. h.holding)
-
-finding_unstored : Unstored FindsLastSector
-finding_unstored old answer new h = same_files old.cabinet new.cabinet h.outside.cabinet
-
-backup_row : (line : List ℕ) (file : Span) → Stored line (Some file) (BackupRow line file)
-backup_row line file = stored_then line (Some file) FindsLastSector _ finding_unstored (λ bytes. bytes_stored line file bytes)
+backup_still : (line : List ℕ) (file : Span) → StillBut line (Some file) (BackupRow line file)
+backup_still line file = still_but_then finding_still (λ bytes. storing_still line file bytes)
 
 pub backup_lawful : (prov : Span) (file : Span) → IsLawful (commands.Backup prov file)
 backup_lawful prov file = record {
@@ -69,13 +61,13 @@ backup_lawful prov file = record {
       let command : Command = commands.Backup prov file in
       row_refused line command done_or old h.answer new refusal done_replying h.replied (backup_why line prov file old h.answer new h.row);
   did = λ line old said new h. reply_line done_or _ false h.answer said old.disk new.disk done_replying h.replied (quiet_did false old.disk h.answer new.disk (quiet_backup_row line file old h.answer new h.row));
-  sound = λ line old reply new h. sound_reply done_or _ old reply new done_replying (backup_sound line file) h;
+  sound = λ line old reply new h. sound_reply done_or _ old reply new done_replying (still_but_sound (backup_still line file)) h;
   out = λ line old gate f.
       apart_out line (commands.Backup prov file) old refl refl gate (λ refusal cabinet x. x)
       (λ refusal x. has_metadata old.disk f.m refusal f.shows x);
   tags = λ line old f needs h. false_is_true needs;
-  becomes = λ line old said new gate h. stays_quiet line (commands.Backup prov file) old said new (backup_stays line file old h.answer new h.row) (quiet_backup_row line file old h.answer new h.row);
-  keeps = λ line old reply new gate other h. row_keeps done_or _ old reply new (backup_stays line file) h;
+  becomes = λ line old said new gate h. stays_quiet line (commands.Backup prov file) old said new ((backup_still line file).stays old h.answer new h.row) (quiet_backup_row line file old h.answer new h.row);
+  keeps = λ line old reply new gate other h. row_keeps done_or _ old reply new (backup_still line file).stays h;
   left = λ line old said new h. nothing_changed line old.cabinet.files old.holding said old.disk new.disk;
-  stores = λ line old reply new h. backup_row line file old h.answer new h.row;
+  stores = λ line old reply new h. (backup_still line file).stored old h.answer new h.row;
 }

@@ -10,7 +10,7 @@ use Rattle.key_commands.specs.declared.overwriting.Which.TheVariants as slots
 use Rattle.command_rows.specs.Rows.{HasMetadata, Holding, LacksMetadata, Reach, ReadsLastSector, Then, done_or, without_value}
 use Rattle.command_rows.specs.Vocabulary.{Command, DeletesKeys, Deletion, DiskState, EntropyState, HasNoKey, HoldsOldOr, HoldsOnceFlushed, Metadata, Overwrites, Refusal, Span, deletion_refusal, encoded, overwrite_events, pass_events, pass_sectors}
 use Rattle.command_rows.specs.verbs.Delkey.{ClearsKeys, DeletesRow, DelkeyRow, FindsSlots, NamesSlots, OverwritesKeys, RefusesDelkey, RefusesSlots, TakesKeysOut, named_slots, slot_of}
-use Rattle.command_rows.proofs.VerbLaws.{Change, ChangesMetadata, Counts, CountsResult, Did, DoesFrom, Grounds, IsLawful, Later, Left, PlainAnswer, PlainOption, Same, Since, Sound, Stays, Unstored, Why, after_quiet, alone_from, apart_out, before_all, beside, by_plain, decides_why, decision_unstored, done_left, done_replying, early_decision, early_reading, false_is_true, has_metadata, has_same, left_then, moments_from, not_both, not_done, not_some, nothing_done, plain_cause, plain_some, quiet_reading, quiet_same, reading_has, reading_since, reading_sound, reading_unstored, reading_why, reply_line, row_refused, same_disk, same_files, same_reach, since_same, some_uncounted, sound_decision, sound_reply, sound_step, sound_then, stays_so, stays_then, then_since, then_why, uncounted_step, unstored_reply, unstored_then}
+use Rattle.command_rows.proofs.VerbLaws.{Change, ChangesMetadata, Counts, CountsResult, Did, DoesFrom, Grounds, IsLawful, Later, Left, PlainAnswer, PlainOption, Same, Since, Still, Why, after_quiet, alone_from, apart_out, before_all, beside, by_plain, decides_why, done_left, done_replying, early_decision, early_reading, false_is_true, has_metadata, has_same, left_then, moments_from, not_both, not_done, not_some, nothing_done, plain_cause, plain_some, quiet_reading, quiet_same, reading_has, reading_since, reading_still, reading_why, reply_line, row_keeps, row_refused, same_disk, same_files, since_same, some_uncounted, sound_reply, stays_so, still_decision, still_sound, still_then, then_since, then_why, uncounted_step, unstored_reply}
 
 same_passes : (disk start : DiskState) (asked : Deletion) (random : List ℕ) → disk.size ≡ start.size → pass_events disk asked.meta asked.which random ≡ pass_events start asked.meta asked.which random
 same_passes disk start asked random size = ap (λ (n : ℕ). overwrite_events (n - 1) (pass_sectors asked.meta asked.which random)) size
@@ -76,29 +76,23 @@ deleting_counts : (asked : Deletion) → Counts (TakesKeysOut asked)
 deleting_counts asked old answer new h =
     subst (λ (r : Result (Unit {0}) Refusal). CountsResult old r new × Later old new) (sym h.answered) (delete_counts asked old new h.made h.deletes h.cabinet)
 
-naming_sound : (all : Bool) (slot : Option ℕ) → Sound (NamesSlots all slot)
-naming_sound all slot = sound_decision (λ r. named_slots all slot) (λ r. by_plain (named_slots all slot) (named_plain all slot))
+naming_still : (all : Bool) (slot : Option ℕ) → Still (NamesSlots all slot)
+naming_still all slot = still_decision (λ r. named_slots all slot) (λ r. by_plain (named_slots all slot) (named_plain all slot))
 
-deleting_sound : (asked : Deletion) → Sound (TakesKeysOut asked)
-deleting_sound asked = sound_step (TakesKeysOut asked) (deleting_counts asked) (λ old answer new h. h.holding)
+deleting_still : (asked : Deletion) → Still (TakesKeysOut asked)
+deleting_still asked = record { counts = deleting_counts asked; stays = λ old answer new h. h.holding; unstored = λ old answer new h. same_files old.cabinet new.cabinet h.cabinet }
 
-deletes_sound : (all force : Bool) (slot : Option ℕ) → Sound (DeletesRow all force slot)
-deletes_sound all force slot =
-    sound_then ReadsLastSector _ reading_sound
-    (λ m. sound_then (NamesSlots all slot) _ (naming_sound all slot)
-    (λ which. deleting_sound (record { meta = m; which = which; force = force })))
+deletes_still : (all force : Bool) (slot : Option ℕ) → Still (DeletesRow all force slot)
+deletes_still all force slot =
+    still_then reading_still (λ m. still_then (naming_still all slot)
+    (λ which. deleting_still (record { meta = m; which = which; force = force })))
 
-delkey_sound : (all force : Bool) (slot : Option ℕ) → Sound (DelkeyRow all force slot)
-delkey_sound all force slot = record {
-  counts = λ old answer new h. (deletes_sound all force (option_or slot (slot_of old.holding))).counts old answer new h;
-  keeps = λ old answer new h. (deletes_sound all force (option_or slot (slot_of old.holding))).keeps old answer new h;
+delkey_still : (all force : Bool) (slot : Option ℕ) → Still (DelkeyRow all force slot)
+delkey_still all force slot = record {
+  counts = λ old answer new h. (deletes_still all force (option_or slot (slot_of old.holding))).counts old answer new h;
+  stays = λ old answer new h. (deletes_still all force (option_or slot (slot_of old.holding))).stays old answer new h;
+  unstored = λ old answer new h. (deletes_still all force (option_or slot (slot_of old.holding))).unstored old answer new h;
 }
-
-deletes_stays : (all force : Bool) (slot : Option ℕ) → Stays (DeletesRow all force slot)
-deletes_stays all force slot =
-    stays_then ReadsLastSector _ (λ old answer new h. h.holding)
-    (λ m. stays_then (NamesSlots all slot) _ (λ old answer new h. same_reach old new h.1)
-    (λ which old answer new h. h.holding))
 
 deletes_why : (line : List ℕ) (command : Command) (asked : Deletion) (start old : Reach) (made : Result Metadata Refusal) (new : Reach) → Grounds line command start (λ refusal. deletion_refusal asked.meta asked.which asked.force ≡ Some refusal) → Since start old
     → DeletesKeys asked old.disk old.entropy made new.disk new.entropy → Why line command start (without_value made) new
@@ -117,17 +111,17 @@ names_why : (line : List ℕ) (command : Command) (all force : Bool) (slot : Opt
     → Grounds line command start (λ refusal. (named_slots all slot ≡ Err refusal) ⊎ RefusesSlots all force slot m refusal) → Since start old
     → Then (NamesSlots all slot) (λ which. TakesKeysOut (record { meta = m; which = which; force = force })) old answer new → Why line command start answer new
 names_why line command all force slot m start old answer new ground since h =
-    then_since line command start (NamesSlots all slot) (λ which. TakesKeysOut (record { meta = m; which = which; force = force })) old answer new
+    then_since line command start old answer new h
     (λ given middle first. decides_why line command start (named_slots all slot) old given middle (named_plain all slot) (λ refusal is. ground refusal (inl is)) first)
-    (λ which middle first next. takes_why line command _ start middle answer new (λ refusal is. ground refusal (inr (record { which = which; names = sym first.0; refused = is }))) (since_same start old middle since first.1) next) h
+    (λ which middle first next. takes_why line command _ start middle answer new (λ refusal is. ground refusal (inr (record { which = which; names = sym first.0; refused = is }))) (since_same start old middle since first.1) next)
 
 delkey_why : (line : List ℕ) (prov : Span) (all force : Bool) (slot : Option ℕ) (old : Reach) (answer : Result (Unit {0}) Refusal) (new : Reach) → DelkeyRow all force slot old answer new → Why line (commands.Delkey prov all force slot) old answer new
 delkey_why line prov all force slot old answer new h =
     let command : Command = commands.Delkey prov all force slot in
     let named : Option ℕ = option_or slot (slot_of old.holding) in
-    then_why line command ReadsLastSector (λ m. Then (NamesSlots all named) (λ which. TakesKeysOut (record { meta = m; which = which; force = force }))) old answer new
+    then_why line command old answer new h
     (λ given middle first. reading_why line command old given middle (λ refusal lacks. inl lacks) first)
-    (λ m middle first next. names_why line command all force named m old middle answer new (λ refusal refused. inr (record { m = m; found = reading_has old m middle first; refused = refused })) (reading_since old m middle first) next) h
+    (λ m middle first next. names_why line command all force named m old middle answer new (λ refusal refused. inr (record { m = m; found = reading_has old m middle first; refused = refused })) (reading_since old m middle first) next)
 
 slots_by : (all force : Bool) (slot : Option ℕ) (old : Reach) (f : FindsSlots all force slot old) (refusal : Refusal) → (named_slots all slot ≡ Err refusal) ⊎ RefusesSlots all force slot f.m refusal → ⊥
 slots_by all force slot old f refusal (inl h) = not_both _ f.which refusal f.names h
@@ -197,34 +191,19 @@ delkey_by_left holding all force slot old answer new h =
 delkey_left : (all force : Bool) (slot : Option ℕ) (old : Reach) (answer : Result (Unit {0}) Refusal) (new : Reach) → DelkeyRow all force slot old answer new → Left (ClearsKeys old.holding all force slot) old.disk answer new.disk
 delkey_left all force slot old answer new h = delkey_by_left old.holding all force slot old answer new h
 
-naming_unstored : (all : Bool) (slot : Option ℕ) → Unstored (NamesSlots all slot)
-naming_unstored all slot = decision_unstored (λ r. named_slots all slot)
-
-deleting_unstored : (asked : Deletion) → Unstored (TakesKeysOut asked)
-deleting_unstored asked old answer new h = same_files old.cabinet new.cabinet h.cabinet
-
-deletes_row : (all force : Bool) (slot : Option ℕ) → Unstored (DeletesRow all force slot)
-deletes_row all force slot =
-    unstored_then ReadsLastSector _ reading_unstored
-    (λ m. unstored_then (NamesSlots all slot) _ (naming_unstored all slot)
-    (λ which. deleting_unstored (record { meta = m; which = which; force = force })))
-
-delkey_row : (all force : Bool) (slot : Option ℕ) → Unstored (DelkeyRow all force slot)
-delkey_row all force slot old answer new h = deletes_row all force (option_or slot (slot_of old.holding)) old answer new h
-
 pub delkey_lawful : (prov : Span) (all : Bool) (force : Bool) (slot : Option ℕ) → IsLawful (commands.Delkey prov all force slot)
 delkey_lawful prov all force slot = record {
   why = λ line old refusal new h.
       let command : Command = commands.Delkey prov all force slot in
       row_refused line command done_or old h.answer new refusal done_replying h.replied (delkey_why line prov all force slot old h.answer new h.row);
   did = λ line old said new h. reply_line done_or _ false h.answer said old.disk new.disk done_replying h.replied (delkey_did all force slot old h.answer new h.row);
-  sound = λ line old reply new h. sound_reply done_or _ old reply new done_replying (delkey_sound all force slot) h;
+  sound = λ line old reply new h. sound_reply done_or _ old reply new done_replying (still_sound (delkey_still all force slot)) h;
   out = λ line old gate f.
       apart_out line (commands.Delkey prov all force slot) old refl refl gate (λ refusal cabinet x. x)
       (λ refusal x. delkey_fits all force slot old f refusal x);
   tags = λ line old f needs h. false_is_true needs;
-  becomes = λ line old said new gate h. stays_so line (commands.Delkey prov all force slot) old said new gate refl (deletes_stays all force (option_or slot (slot_of old.holding)) old h.answer new h.row);
-  keeps = λ line old reply new gate other h. inl (deletes_stays all force (option_or slot (slot_of old.holding)) old h.answer new h.row);
+  becomes = λ line old said new gate h. stays_so line (commands.Delkey prov all force slot) old said new gate refl ((delkey_still all force slot).stays old h.answer new h.row);
+  keeps = λ line old reply new gate other h. row_keeps done_or _ old reply new (delkey_still all force slot).stays h;
   left = λ line old said new h. done_left (ChangesMetadata line (commands.Delkey prov all force slot) old.cabinet.files old.holding) old.disk h.answer said new.disk h.replied (delkey_left all force slot old h.answer new h.row);
-  stores = λ line old reply new h. unstored_reply _ _ old reply new (delkey_row all force slot) h;
+  stores = λ line old reply new h. unstored_reply _ _ old reply new (delkey_still all force slot).unstored h;
 }

@@ -1,26 +1,17 @@
 -- That `fill` is lawful.
-use Rattle.std.proofs.Common.{List, None, Result, false, refl, subst, sym, ℕ, ◌∙◌, ◌≡◌}
+use Rattle.std.proofs.Common.{List, None, Result, false, refl, sym, ℕ, ◌∙◌, ◌≡◌}
 use Rattle.command_words.specs.declared.commands.Command.TheVariants as commands
-use Rattle.command_rows.specs.Rows.{AttachedWith, Attachment, Holding, IsAttached, NeedsSectors, NeedsWritable, Reach, done_or}
+use Rattle.command_rows.specs.Rows.{AttachedWith, Attachment, IsAttached, Reach, done_or}
 use Rattle.command_rows.specs.Vocabulary.{Refusal, Span, media}
 use Rattle.command_rows.specs.verbs.Fill.{FillRow, FitsFill, WritesWorkload, words_of_sectors, workload}
-use Rattle.command_rows.proofs.VerbLaws.{Becomes, Did, IsLawful, LineDid, LineHasCause, RulesOut, Sound, SoundReply, Stays, StoresNone, Unstored, Why, attached_keeps, doing_sound, doing_unstored, done_replying, false_is_true, needs, never_both, never_holds, nothing_changed, passes, range_sound, range_unstored, refused_by, reply_line, row_refused, same_reach, sound_reply, sound_then, stays_so, stays_then, unstored_reply, unstored_then, with_attached, writable_did, writable_sound, writable_unstored, writable_write_why}
+use Rattle.command_rows.proofs.VerbLaws.{Did, IsLawful, RulesOut, SoundReply, Still, StoresNone, Why, attached_becomes, attached_did, attached_keeps, attached_why, doing_still, done_replying, false_is_true, needs, never_both, never_holds, nothing_changed, passes, range_still, refused_by, sound_reply, still_sound, still_then, unstored_reply, with_attached, writable_did, writable_still, writable_write_why}
 
-fill_sound : (seed start count : ℕ) (a : Attachment) → Sound (FillRow seed start count a)
-fill_sound seed start count a =
-    sound_then (NeedsWritable a) _ (writable_sound a)
-    (λ done. sound_then (NeedsSectors a start count) _ (range_sound a start count)
-    (λ there. doing_sound _))
+pub fill_still : (seed start count : ℕ) (a : Attachment) → Still (FillRow seed start count a)
+fill_still seed start count a = still_then (writable_still a) (λ done. still_then (range_still a start count) (λ there. doing_still _))
 
 fill_did : (seed start count : ℕ) (a : Attachment) (old : Reach) (answer : Result (Unit {0}) Refusal) (new : Reach) → FillRow seed start count a old answer new
     → Did (WritesWorkload (IsAttached a) seed start count) false old.disk answer new.disk
 fill_did seed start count a old answer new h = writable_did a start count (workload seed (words_of_sectors a.keying.sectorsize count)) old answer new h
-
-pub fill_stays : (seed start count : ℕ) (a : Attachment) → Stays (FillRow seed start count a)
-fill_stays seed start count a =
-    stays_then (NeedsWritable a) _ (λ old answer new h. same_reach old new h.1)
-    (λ done. stays_then (NeedsSectors a start count) _ (λ old answer new h. same_reach old new h.1)
-    (λ there old answer new h. h.holding))
 
 fill_why : (line : List ℕ) (prov : Span) (seed start count : ℕ) (a : Attachment) (old : Reach) (answer : Result (Unit {0}) Refusal) (new : Reach) → old.holding ≡ IsAttached a → FillRow seed start count a old answer new
     → Why line (commands.Fill prov seed start count) old answer new
@@ -39,28 +30,15 @@ fill_out line prov seed start count old gate f = record {
   ground = λ refusal h. h;
 }
 
-fill_row : (seed start count : ℕ) (a : Attachment) → Unstored (FillRow seed start count a)
-fill_row seed start count a =
-    unstored_then (NeedsWritable a) _ (writable_unstored a)
-    (λ done. unstored_then (NeedsSectors a start count) _ (range_unstored a start count)
-    (λ there. doing_unstored _))
-
 pub fill_lawful : (prov : Span) (seed : ℕ) (start : ℕ) (count : ℕ) → IsLawful (commands.Fill prov seed start count)
 fill_lawful prov seed start count = record {
-  why = λ line old refusal new h.
-      with_attached old.holding _ (LineHasCause line (commands.Fill prov seed start count) old refusal new)
-      (λ a is row. row_refused line (commands.Fill prov seed start count) done_or old row.answer new refusal done_replying row.replied (fill_why line prov seed start count a old row.answer new is row.row)) h;
-  did = λ line old said new h.
-      with_attached old.holding _ (LineDid (WritesWorkload old.holding seed start count) false said old.disk new.disk)
-      (λ a is row. subst (λ (x : Holding). LineDid (WritesWorkload x seed start count) false said old.disk new.disk) (sym is)
-      (reply_line done_or (WritesWorkload (IsAttached a) seed start count) false row.answer said old.disk new.disk done_replying row.replied (fill_did seed start count a old row.answer new row.row))) h;
-  sound = λ line old reply new h. with_attached old.holding _ (SoundReply old reply new) (λ a is row. sound_reply done_or _ old reply new done_replying (fill_sound seed start count a) row) h;
+  why = λ line old refusal new h. attached_why line (commands.Fill prov seed start count) done_or (FillRow seed start count) old refusal new done_replying (λ a answer is row. fill_why line prov seed start count a old answer new is row) h;
+  did = λ line old said new h. attached_did done_or (FillRow seed start count) (λ x. WritesWorkload x seed start count) old said new done_replying (λ a answer row. fill_did seed start count a old answer new row) h;
+  sound = λ line old reply new h. with_attached old.holding _ (SoundReply old reply new) (λ a is row. sound_reply done_or _ old reply new done_replying (still_sound (fill_still seed start count a)) row) h;
   out = λ line old gate f. fill_out line prov seed start count old gate f;
   tags = λ line old f needs h. false_is_true needs;
-  becomes = λ line old said new gate h.
-      with_attached old.holding _ (Becomes line (commands.Fill prov seed start count) old said new)
-      (λ a is row. stays_so line (commands.Fill prov seed start count) old said new gate refl (fill_stays seed start count a old row.answer new row.row)) h;
-  keeps = λ line old reply new gate other h. attached_keeps done_or (FillRow seed start count) old reply new (fill_stays seed start count) h;
+  becomes = λ line old said new gate h. attached_becomes line (commands.Fill prov seed start count) done_or (FillRow seed start count) old said new gate refl (λ a. (fill_still seed start count a).stays) h;
+  keeps = λ line old reply new gate other h. attached_keeps done_or (FillRow seed start count) old reply new (λ a. (fill_still seed start count a).stays) h;
   left = λ line old said new h. nothing_changed line old.cabinet.files old.holding said old.disk new.disk;
-  stores = λ line old reply new h. with_attached old.holding _ (StoresNone old.cabinet new.cabinet) (λ a is row. unstored_reply _ _ old reply new (fill_row seed start count a) row) h;
+  stores = λ line old reply new h. with_attached old.holding _ (StoresNone old.cabinet new.cabinet) (λ a is row. unstored_reply _ _ old reply new (fill_still seed start count a).unstored row) h;
 }

@@ -9,7 +9,7 @@ use Rattle.key_commands.proofs.Making.{IsUsable-makes, KeepsAlone-replace}
 use Rattle.command_rows.specs.Rows.{AreComponents, BacksUp, GoesOn, LoadsComponents, MakesProvider, Reach, RefusesFiles, Then, WritesMetadata, done_or}
 use Rattle.command_rows.specs.Vocabulary.{Auth, CabinetState, Command, Components, DiskState, Files, HoldsOldOr, InitOptions, Inits, IsSectorOf, IsUsable, KeyFault, KeyWords, Logs, Metadata, Refusal, Span, UserKey, early_refusal, encoded, key_refusal, master_key_in, replace_events, user_key}
 use Rattle.command_rows.specs.verbs.Init.{FindsNew, InitRow, PutsNew, RefusesNew}
-use Rattle.command_rows.proofs.VerbLaws.{BadFiles, Change, ChangesMetadata, Counts, CountsResult, Did, Grounds, IsLawful, Later, Left, PlainOption, Same, Since, Sound, Stays, Stored, Unstored, Why, alone_from, apart_out, before_all, beside, bytes_stored, components_sound, components_unstored, decision_counts, did_then, done_left, done_replying, early_loading, false_is_true, key_option, left_then, loading_parts, loading_since, loading_why, may_lack_memory, moments_from, no_bad_file, not_done, not_some, nothing_done, parts_same, plain_cause, plain_some, quiet_loading, reply_line, row_keeps, row_refused, same_disk, same_files, some_uncounted, sound_reply, sound_step, sound_then, stays_so, stays_then, stored_then, storing_counts, storing_why, then_since, then_why, uncounted_step}
+use Rattle.command_rows.proofs.VerbLaws.{BadFiles, Change, ChangesMetadata, Counts, CountsResult, Did, Grounds, IsLawful, Later, Left, PlainOption, Same, Since, Still, StillBut, Stored, Why, alone_from, apart_out, before_all, beside, bytes_stored, components_still, decision_counts, did_then, done_left, done_replying, early_loading, false_is_true, key_option, left_then, loading_parts, loading_since, loading_why, may_lack_memory, moments_from, no_bad_file, not_done, not_some, nothing_done, parts_same, plain_cause, plain_some, quiet_loading, reply_line, row_keeps, row_refused, same_disk, same_files, some_uncounted, sound_reply, stays_so, still_but_sound, still_but_then, storing_counts, storing_why, then_since, then_why, uncounted_step}
 
 -- the metadata were written, and then the backup was stored or refused
 stored_did : (line : List ℕ) (backup : Option Span) (m : Metadata) (start : DiskState) (old : Reach) (answer : Result (Unit {0}) Refusal) (new : Reach) → Logs (replace_events start m) start old.disk → BacksUp line backup m old answer new
@@ -79,17 +79,22 @@ backing_stays : (line : List ℕ) (backup : Option Span) (m : Metadata) (old : R
 backing_stays line None m old answer new h = ap (λ (r : Reach). r.holding) h.1
 backing_stays line (Some span) m old answer new h = h.holding
 
-backing_sound : (line : List ℕ) (backup : Option Span) (m : Metadata) → Sound (BacksUp line backup m)
-backing_sound line backup m = sound_step (BacksUp line backup m) (backing_counts line backup m) (backing_stays line backup m)
+backup_stored : (line : List ℕ) (backup : Option Span) (m : Metadata) → Stored line backup (BacksUp line backup m)
+backup_stored line None m old answer new h = same_files old.cabinet new.cabinet (ap (λ (r : Reach). r.cabinet) h.1)
+backup_stored line (Some span) m old answer new h = bytes_stored line span _ old answer new h
 
-making_sound : (options : InitOptions) (parts : Components) → Sound (MakesProvider options parts)
-making_sound options parts = sound_step (MakesProvider options parts) (making_counts options parts) (λ old answer new h. h.holding)
+backing_still : (line : List ℕ) (backup : Option Span) (m : Metadata) → StillBut line backup (BacksUp line backup m)
+backing_still line backup m = record { counts = backing_counts line backup m; stays = backing_stays line backup m; stored = backup_stored line backup m }
 
-init_sound : (line : List ℕ) (options : InitOptions) (fresh : KeyWords) (backup : Option Span) → Sound (InitRow line options fresh backup)
-init_sound line options fresh backup =
-    sound_then (LoadsComponents line fresh) _ (components_sound line fresh)
-    (λ parts. sound_then (MakesProvider options parts) _ (making_sound options parts)
-    (λ m. backing_sound line backup m))
+making_still : (options : InitOptions) (parts : Components) → Still (MakesProvider options parts)
+making_still options parts = record {
+  counts = making_counts options parts;
+  stays = λ old answer new h. h.holding;
+  unstored = λ old answer new h. same_files old.cabinet new.cabinet h.cabinet;
+}
+
+init_still : (line : List ℕ) (options : InitOptions) (fresh : KeyWords) (backup : Option Span) → StillBut line backup (InitRow line options fresh backup)
+init_still line options fresh backup = still_but_then (components_still line fresh) (λ parts. still_but_then (making_still options parts) (λ m. backing_still line backup m))
 
 makes_why : (line : List ℕ) (command : Command) (options : InitOptions) (fresh : KeyWords) (parts : Components) (start old : Reach) (made : Result Metadata Refusal) (new : Reach) → Grounds line command start (RefusesNew line options fresh start)
     → AreComponents start.cabinet.files line fresh parts → Since start old → Inits options parts old.disk old.entropy made new.disk new.entropy → Why line command start made new
@@ -108,24 +113,19 @@ backing_why line command (Some file) m start old answer new memory later h = sto
 making_why : (line : List ℕ) (command : Command) (options : InitOptions) (fresh : KeyWords) (backup : Option Span) (parts : Components) (start old : Reach) (answer : Result (Unit {0}) Refusal) (new : Reach) → may_lack_memory command ≡ true
     → Grounds line command start (RefusesNew line options fresh start) → AreComponents start.cabinet.files line fresh parts → Since start old → Then (MakesProvider options parts) (λ m. BacksUp line backup m) old answer new → Why line command start answer new
 making_why line command options fresh backup parts start old answer new memory ground named since h =
-    then_since line command start (MakesProvider options parts) (λ m. BacksUp line backup m) old answer new (λ made middle first. makes_why line command options fresh parts start old made middle ground named since first.inits)
+    then_since line command start old answer new h
+    (λ made middle first. makes_why line command options fresh parts start old made middle ground named since first.inits)
     (λ m middle first next. backing_why line command backup m start middle answer new memory
-    (subst (λ (c : CabinetState). start.cabinet.faults ≤ c.faults) (sym first.cabinet) since.cabinet) next) h
+    (subst (λ (c : CabinetState). start.cabinet.faults ≤ c.faults) (sym first.cabinet) since.cabinet) next)
 
 init_why : (line : List ℕ) (command : Command) (options : InitOptions) (fresh : KeyWords) (backup : Option Span) (old : Reach) (answer : Result (Unit {0}) Refusal) (new : Reach) → may_lack_memory command ≡ true
     → BadFiles line command old (RefusesFiles line fresh old.cabinet) → Grounds line command old (RefusesNew line options fresh old) → InitRow line options fresh backup old answer new
     → Why line command old answer new
 init_why line command options fresh backup old answer new memory bad ground h =
-    then_why line command (LoadsComponents line fresh) (λ parts. Then (MakesProvider options parts) (λ m. BacksUp line backup m)) old answer new
+    then_why line command old answer new h
     (λ given middle first. loading_why line command fresh old old given middle memory bad (since_here old) first)
     (λ parts middle first next. making_why line command options fresh backup parts old middle answer new memory ground (loading_parts line fresh old old parts middle refl first)
-    (loading_since line fresh old old (Ok parts) middle (since_here old) first) next) h
-
-init_stays : (line : List ℕ) (options : InitOptions) (fresh : KeyWords) (backup : Option Span) → Stays (InitRow line options fresh backup)
-init_stays line options fresh backup =
-    stays_then (LoadsComponents line fresh) _ (λ old answer new h. h.holding)
-    (λ parts. stays_then (MakesProvider options parts) _ (λ old answer new h. h.holding)
-    (λ m. backing_stays line backup m))
+    (loading_since line fresh old old (Ok parts) middle (since_here old) first) next)
 
 init_fits : (line : List ℕ) (options : InitOptions) (fresh : KeyWords) (old : Reach) (f : FindsNew line options fresh old) (refusal : Refusal) → RefusesNew line options fresh old refusal → ⊥
 init_fits line options fresh old f refusal h =
@@ -182,34 +182,21 @@ init_left line options fresh backup old answer new h =
     left_then Changes old (LoadsComponents line fresh) _ old answer new (before_all old) (early_loading line fresh)
     (λ parts r1 b1 f1 n1. made_left old.cabinet.files line options fresh parts backup old.disk r1 n1.given n1.middle answer new b1.same (loading_parts line fresh old old parts r1 refl f1) n1.first.inits n1.next) h
 
-making_unstored : (options : InitOptions) (parts : Components) → Unstored (MakesProvider options parts)
-making_unstored options parts old answer new h = same_files old.cabinet new.cabinet h.cabinet
-
-backup_stored : (line : List ℕ) (backup : Option Span) (m : Metadata) → Stored line backup (BacksUp line backup m)
-backup_stored line None m old answer new h = same_files old.cabinet new.cabinet (ap (λ (r : Reach). r.cabinet) h.1)
-backup_stored line (Some span) m old answer new h = bytes_stored line span _ old answer new h
-
-init_row : (line : List ℕ) (options : InitOptions) (fresh : KeyWords) (backup : Option Span) → Stored line backup (InitRow line options fresh backup)
-init_row line options fresh backup =
-    stored_then line backup (LoadsComponents line fresh) _ (components_unstored line fresh)
-    (λ parts. stored_then line backup (MakesProvider options parts) _ (making_unstored options parts)
-    (λ m. backup_stored line backup m))
-
 pub init_lawful : (prov : Span) (cipher : Cipher) (auth : Auth) (keylen : ℕ) (sectorsize : ℕ) (iterations : Option ℤ) (autoresize : Bool) (fresh : KeyWords) (backup : Option Span) → IsLawful (commands.Init prov cipher auth keylen sectorsize iterations autoresize fresh backup)
 init_lawful prov cipher auth keylen sectorsize iterations autoresize fresh backup = record {
   why = λ line old refusal new h.
       let command : Command = commands.Init prov cipher auth keylen sectorsize iterations autoresize fresh backup in
       row_refused line command done_or old h.answer new refusal done_replying h.replied (init_why line command _ fresh backup old h.answer new refl (λ found cabinet bad. bad) (λ found ground. ground) h.row);
   did = λ line old said new h. reply_line done_or _ (is_some backup) h.answer said old.disk new.disk done_replying h.replied (init_did line _ fresh backup old h.answer new h.row);
-  sound = λ line old reply new h. sound_reply done_or _ old reply new done_replying (init_sound line _ fresh backup) h;
+  sound = λ line old reply new h. sound_reply done_or _ old reply new done_replying (still_but_sound (init_still line _ fresh backup)) h;
   out = λ line old gate f.
       apart_out line (commands.Init prov cipher auth keylen sectorsize iterations autoresize fresh backup) old refl refl gate
       (λ refusal cabinet x. no_bad_file line fresh f.parts old.cabinet refusal cabinet f.names x) (λ refusal x. init_fits line _ fresh old f refusal x);
   tags = λ line old f needs h. false_is_true needs;
-  becomes = λ line old said new gate h. stays_so line (commands.Init prov cipher auth keylen sectorsize iterations autoresize fresh backup) old said new gate refl (init_stays line _ fresh backup old h.answer new h.row);
-  keeps = λ line old reply new gate other h. row_keeps done_or _ old reply new (init_stays line _ fresh backup) h;
+  becomes = λ line old said new gate h. stays_so line (commands.Init prov cipher auth keylen sectorsize iterations autoresize fresh backup) old said new gate refl ((init_still line _ fresh backup).stays old h.answer new h.row);
+  keeps = λ line old reply new gate other h. row_keeps done_or _ old reply new (init_still line _ fresh backup).stays h;
   left = λ line old said new h.
       done_left (ChangesMetadata line (commands.Init prov cipher auth keylen sectorsize iterations autoresize fresh backup) old.cabinet.files old.holding) old.disk h.answer said new.disk h.replied
       (init_left line _ fresh backup old h.answer new h.row);
-  stores = λ line old reply new h. init_row line _ fresh backup old h.answer new h.row;
+  stores = λ line old reply new h. (init_still line _ fresh backup).stored old h.answer new h.row;
 }

@@ -6,7 +6,7 @@ use Rattle.resize_kill.proofs.Destroyed.{gone-FailsIn, gone-Logs}
 use Rattle.command_rows.specs.Rows.{Idle, Reach, attachment_in, done_or}
 use Rattle.command_rows.specs.Vocabulary.{DiskState, EntropyState, HoldsNoMetadata, Kills, Refusal, Span, kill_events, overwrite_events, trash_sectors}
 use Rattle.command_rows.specs.verbs.Kill.{LeavesNoMetadata, DestroysMetadata, KillRow, OverwritesLast, Withdraws}
-use Rattle.command_rows.proofs.VerbLaws.{ChangesMetadata, Counts, CountsResult, Did, DoesFrom, Early, IsLawful, Later, Left, Quiet, Same, Sound, UncountedAnswer, Unstored, Why, after_quiet, apart_out, becomes_as, before_all, beside, done_left, done_replying, false_is_true, idles, left_then, moments_from, nothing_done, reply_line, row_refused, same_disk, same_files, same_reach, sound_reply, sound_step, sound_then, stays_next, then_why, uncounted_step, unstored_reply, unstored_then}
+use Rattle.command_rows.proofs.VerbLaws.{ChangesMetadata, Counts, CountsResult, Did, DoesFrom, Early, IsLawful, Later, Left, Quiet, Same, Sound, Still, UncountedAnswer, Unstored, Why, after_quiet, apart_out, becomes_as, before_all, beside, done_left, done_replying, false_is_true, idles, left_then, moments_from, nothing_done, reply_line, row_refused, same_disk, same_files, same_reach, sound_reply, sound_then, stays_next, still_sound, then_why, uncounted_step, unstored_reply, unstored_then}
 
 same_killing : (disk start : DiskState) (random : List ℕ) → disk.size ≡ start.size → kill_events disk random ≡ kill_events start random
 same_killing disk start random size = ap (λ (n : ℕ). overwrite_events (n - 1) (trash_sectors random)) size
@@ -63,17 +63,18 @@ kills_why line prov old (Err refusal) new h = absurd h
 -- detaching first leaves the disk and the entropy as they are
 kill_why : (line : List ℕ) (prov : Span) (old : Reach) (answer : Result (Unit {0}) Refusal) (new : Reach) → KillRow old answer new → Why line (commands.Kill prov) old answer new
 kill_why line prov old answer new h =
-    then_why line (commands.Kill prov) Withdraws (λ _. DestroysMetadata) old answer new (λ given middle first. rw first.0 tt)
-    (λ done middle first next. kills_why line prov old answer new (subst (λ (r : Reach). Kills r.disk r.entropy answer new.disk new.entropy) first.1 next.kills)) h
+    then_why line (commands.Kill prov) old answer new h
+    (λ given middle first. rw first.0 tt)
+    (λ done middle first next. kills_why line prov old answer new (subst (λ (r : Reach). Kills r.disk r.entropy answer new.disk new.entropy) first.1 next.kills))
 
-killing_sound : Sound DestroysMetadata
-killing_sound = sound_step DestroysMetadata killing_counts (λ old answer new h. h.holding)
+killing_still : Still DestroysMetadata
+killing_still = record { counts = killing_counts; stays = λ old answer new h. h.holding; unstored = λ old answer new h. same_files old.cabinet new.cabinet h.cabinet }
 
 withdrawing_sound : Sound Withdraws
 withdrawing_sound = record { counts = withdrawing_counts; keeps = λ old answer new h had. idles new.holding (ap (λ (r : Reach). r.holding) h.1) }
 
 kill_sound : Sound KillRow
-kill_sound = sound_then Withdraws _ withdrawing_sound (λ done. killing_sound)
+kill_sound = sound_then Withdraws _ withdrawing_sound (λ done. still_sound killing_still)
 
 kill_idles : (old : Reach) (answer : Result (Unit {0}) Refusal) (new : Reach) → KillRow old answer new → new.holding ≡ Idle
 kill_idles old answer new h = stays_next (λ _. DestroysMetadata) h.given h.middle answer new (λ done old answer new d. d.holding) h.next ∙ same_reach _ h.middle h.first.1
@@ -93,14 +94,11 @@ kill_left old answer new h =
     left_then LeavesNoMetadata old Withdraws _ old answer new (before_all old) early_withdrawal
     (λ done r1 b1 f1 n1. killed_left old.disk r1.disk r1.entropy answer new.disk new.entropy b1.same n1.kills) h
 
-killing_unstored : Unstored DestroysMetadata
-killing_unstored old answer new h = same_files old.cabinet new.cabinet h.cabinet
-
 withdrawing_unstored : Unstored Withdraws
 withdrawing_unstored old answer new h = same_files old.cabinet new.cabinet (ap (λ (r : Reach). r.cabinet) h.1)
 
 kill_row : Unstored KillRow
-kill_row = unstored_then Withdraws _ withdrawing_unstored (λ done. killing_unstored)
+kill_row = unstored_then Withdraws _ withdrawing_unstored (λ done. killing_still.unstored)
 
 pub kill_lawful : (prov : Span) → IsLawful (commands.Kill prov)
 kill_lawful prov = record {

@@ -1,5 +1,5 @@
 -- That `reap` is lawful.
-use Rattle.std.proofs.Common.{Err, List, None, Ok, Option, Result, Some, [], ap, arith, false, refl, subst, sym, ℕ, ◌∙◌, ◌≡◌, ◌≤◌}
+use Rattle.std.proofs.Common.{Err, List, None, Ok, Option, Result, Some, ap, arith, refl, subst, sym, ℕ, ◌∙◌, ◌≡◌, ◌≤◌}
 use Rattle.bio_queue.specs.declared.faults.ReapFault.TheVariants as reap
 use Rattle.command_words.specs.declared.commands.Command.TheVariants as commands
 use Rattle.eli_base.specs.declared.refusals.Refusal.TheVariants as refusals
@@ -9,7 +9,7 @@ use Rattle.command_rows.specs.verbs.Reap.{FitsReap, ReapRow, ReapsRequest, reap_
 use Rattle.command_rows.proofs.QueueingCauses.{has_none, needs_why}
 use Rattle.command_rows.proofs.QueueingEvents.{quiet_needs}
 use Rattle.command_rows.proofs.QueueingFits.{is_served, one_request}
-use Rattle.command_rows.proofs.VerbLaws.{Becomes, Counts, HoldsSame, IsLawful, LineDid, LineHasCause, Quiet, RulesOut, SoundReply, StoresNone, UncountedAnswer, Unstored, Why, attached_reply, false_is_true, holds_next, holds_same, needs, needs_counts, needs_same, never_both, never_holds, nothing_changed, queue_holds, quiet_did, quiet_then, reaped_replying, refused_by, reply_line, request_unstored, row_refused, same_disk, same_files, then_counts, then_why, uncounted_step, unstored_reply, unstored_then, with_attached}
+use Rattle.command_rows.proofs.VerbLaws.{Becomes, Counts, HoldsSame, IsLawful, Quiet, RulesOut, SoundReply, StoresNone, UncountedAnswer, Unstored, Why, attached_quiet, attached_reply, attached_why, false_is_true, holds_next, holds_same, needs, needs_counts, needs_same, never_both, never_holds, nothing_changed, queue_holds, quiet_then, reaped_replying, refused_by, request_unstored, same_disk, same_files, then_counts, uncounted_step, unstored_reply, unstored_then, with_attached, same_then_why}
 
 reap_uncounted : (tag : ℕ) (after : List ℕ) (given : Result Reaped ReapFault) → UncountedAnswer (reap_answer tag after given)
 reap_uncounted tag after (Ok given) = tt
@@ -50,9 +50,8 @@ reap_why : (line : List ℕ) (prov : Span) (tag : ℕ) (a : Attachment) (old : R
     → Why line (commands.Reap prov tag) old answer new
 reap_why line prov tag a old answer new is h =
     let command : Command = commands.Reap prov tag in
-    then_why line command (NeedsRequest a tag) (λ _. ReapsRequest a tag) old answer new (λ given middle. needs_why line command a tag old given middle is (λ none. (refl, none)))
-    (λ done middle first next. subst (λ (r : Reach). Why line command r answer new) first.1
-    (reaps_why line prov tag a middle answer new (ap (λ (r : Reach). r.holding) first.1 ∙ is) next)) h
+    same_then_why line command old answer new h (λ done middle first. first.1) (λ given middle. needs_why line command a tag old given middle is (λ none. (refl, none)))
+    (λ done first next. reaps_why line prov tag a old answer new is next)
 
 some_left : (a : Attachment) (tag named left : ℕ) (r : Request) → tag ≡ named → request_with named a.queue ≡ Some r → left_of r ≡ 0 → IsNotDone tag left a.queue → ⊥
 some_left a tag named left r same found none h =
@@ -92,12 +91,8 @@ reap_row tag a = unstored_then (NeedsRequest a tag) _ (request_unstored a tag) (
 
 pub reap_lawful : (prov : Span) (tag : ℕ) → IsLawful (commands.Reap prov tag)
 reap_lawful prov tag = record {
-  why = λ line old refusal new h.
-      with_attached old.holding _ (LineHasCause line (commands.Reap prov tag) old refusal new)
-      (λ a is row. row_refused line (commands.Reap prov tag) reaped_or old row.answer new refusal reaped_replying row.replied (reap_why line prov tag a old row.answer new is row.row)) h;
-  did = λ line old said new h.
-      with_attached old.holding _ (LineDid (λ events. events ≡ []) false said old.disk new.disk)
-      (λ a is row. reply_line reaped_or _ false row.answer said old.disk new.disk reaped_replying row.replied (quiet_did false old.disk row.answer new.disk (quiet_reap_row tag a old row.answer new row.row))) h;
+  why = λ line old refusal new h. attached_why line (commands.Reap prov tag) reaped_or (ReapRow tag) old refusal new reaped_replying (λ a answer is row. reap_why line prov tag a old answer new is row) h;
+  did = λ line old said new h. attached_quiet reaped_or (ReapRow tag) old said new reaped_replying (quiet_reap_row tag) h;
   sound = λ line old reply new h. with_attached old.holding _ (SoundReply old reply new) (λ a is row. attached_reply reaped_or _ a old reply new reaped_replying (reap_counts tag a) is row (reap_holds tag a old row.answer new is row.row)) h;
   out = λ line old gate f. reap_out line prov tag old gate f;
   tags = λ line old f needs h. false_is_true needs;

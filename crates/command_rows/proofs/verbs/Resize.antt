@@ -6,7 +6,7 @@ use Rattle.resize_kill.proofs.Moved.{KeepsAlone-Moves, KeepsOneOf-Moves, KeepsOn
 use Rattle.command_rows.specs.Rows.{Reach, done_or}
 use Rattle.command_rows.specs.Vocabulary.{Command, Content, DiskState, EntropyState, Event, GivesFrom, HoldsOldOr, HoldsOneOf, IsSectorOf, KeepsAlone, KeepsOneOf, Logs, MetaFault, Metadata, Refusal, RefusesOld, RefusesSizes, Resizes, Span, WaitsForFlush, encoded, grown, move_events, old_place, old_refusal, overwrite_events, size_refusal, trash_sectors}
 use Rattle.command_rows.specs.verbs.Resize.{FindsOldPlace, MovesLast, MovesMetadata, MovesToEnd, RefusesOldPlace, ResizeRow}
-use Rattle.command_rows.proofs.VerbLaws.{ChangesMetadata, Counts, CountsResult, Did, DoesFrom, IsLawful, Later, Left, LineHasCause, PlainOption, Same, Sound, Unstored, Why, apart_out, before_all, beside, done_left, done_replying, false_is_true, meta_plain, moments_from, not_done, not_some, nothing_done, plain_cause, plain_some, quiet_failure, reads_same, reply_line, row_keeps, row_refused, same_content, same_disk, same_files, same_replacing, some_uncounted, sound_reply, sound_step, stays_so, uncounted_step, unstored_reply}
+use Rattle.command_rows.proofs.VerbLaws.{ChangesMetadata, Counts, CountsResult, Did, DoesFrom, IsLawful, Later, Left, LineHasCause, PlainOption, Same, Still, Why, apart_out, before_all, beside, done_left, done_replying, false_is_true, meta_plain, moments_from, not_done, not_some, nothing_done, plain_cause, plain_some, quiet_failure, reads_same, reply_line, row_keeps, row_refused, same_content, same_disk, same_files, same_replacing, some_uncounted, sound_reply, stays_so, still_sound, uncounted_step, unstored_reply}
 
 same_moving : (oldsize : ℕ) (disk start : DiskState) (m : Metadata) (random : List ℕ) → disk.size ≡ start.size → move_events disk (old_place oldsize) m random ≡ move_events start (old_place oldsize) m random
 same_moving oldsize disk start m random size = ap (λ (events : List Event). events ++ overwrite_events (old_place oldsize) (trash_sectors random)) (same_replacing disk start m size)
@@ -103,11 +103,8 @@ moves_why line prov oldsize old (Err refusal) new h = unmoved_why line prov olds
 resize_why : (line : List ℕ) (prov : Span) (oldsize : ℕ) (old : Reach) (answer : Result (Unit {0}) Refusal) (new : Reach) → ResizeRow oldsize old answer new → Why line (commands.Resize prov oldsize) old answer new
 resize_why line prov oldsize old answer new h = moves_why line prov oldsize old answer new h.resizes
 
-moving_sound : (oldsize : ℕ) → Sound (MovesMetadata oldsize)
-moving_sound oldsize = sound_step (MovesMetadata oldsize) (moving_counts oldsize) (λ old answer new h. h.holding)
-
-resize_sound : (oldsize : ℕ) → Sound (ResizeRow oldsize)
-resize_sound oldsize = moving_sound oldsize
+resize_still : (oldsize : ℕ) → Still (ResizeRow oldsize)
+resize_still oldsize = record { counts = moving_counts oldsize; stays = λ old answer new h. h.holding; unstored = λ old answer new h. same_files old.cabinet new.cabinet h.cabinet }
 
 resize_fits : (oldsize : ℕ) (old : Reach) (f : FindsOldPlace oldsize old) (refusal : Refusal) → (size_refusal old.disk.size oldsize ≡ Some refusal) ⊎ RefusesOldPlace oldsize old refusal → ⊥
 resize_fits oldsize old f refusal (inl h) = not_some _ refusal f.sizes h
@@ -158,22 +155,19 @@ moved_left oldsize start disk entropy (Err refusal) disk' entropy' same h = inl 
 resize_left : (oldsize : ℕ) (old : Reach) (answer : Result (Unit {0}) Refusal) (new : Reach) → ResizeRow oldsize old answer new → Left (MovesToEnd oldsize) old.disk answer new.disk
 resize_left oldsize old answer new h = moved_left oldsize old.disk old.disk old.entropy answer new.disk new.entropy (before_all old).same h.resizes
 
-moving_unstored : (oldsize : ℕ) → Unstored (MovesMetadata oldsize)
-moving_unstored oldsize old answer new h = same_files old.cabinet new.cabinet h.cabinet
-
 pub resize_lawful : (prov : Span) (oldsize : ℕ) → IsLawful (commands.Resize prov oldsize)
 resize_lawful prov oldsize = record {
   why = λ line old refusal new h.
       let command : Command = commands.Resize prov oldsize in
       row_refused line command done_or old h.answer new refusal done_replying h.replied (resize_why line prov oldsize old h.answer new h.row);
   did = λ line old said new h. reply_line done_or _ false h.answer said old.disk new.disk done_replying h.replied (resize_did oldsize old h.answer new h.row);
-  sound = λ line old reply new h. sound_reply done_or _ old reply new done_replying (resize_sound oldsize) h;
+  sound = λ line old reply new h. sound_reply done_or _ old reply new done_replying (still_sound (resize_still oldsize)) h;
   out = λ line old gate f.
       apart_out line (commands.Resize prov oldsize) old refl refl gate (λ refusal cabinet x. x)
       (λ refusal x. resize_fits oldsize old f refusal x);
   tags = λ line old f needs h. false_is_true needs;
-  becomes = λ line old said new gate h. stays_so line (commands.Resize prov oldsize) old said new gate refl h.row.holding;
-  keeps = λ line old reply new gate other h. row_keeps done_or _ old reply new (λ old answer new h. h.holding) h;
+  becomes = λ line old said new gate h. stays_so line (commands.Resize prov oldsize) old said new gate refl ((resize_still oldsize).stays old h.answer new h.row);
+  keeps = λ line old reply new gate other h. row_keeps done_or _ old reply new (resize_still oldsize).stays h;
   left = λ line old said new h. done_left (ChangesMetadata line (commands.Resize prov oldsize) old.cabinet.files old.holding) old.disk h.answer said new.disk h.replied (resize_left oldsize old h.answer new h.row);
-  stores = λ line old reply new h. unstored_reply _ _ old reply new (moving_unstored oldsize) h;
+  stores = λ line old reply new h. unstored_reply _ _ old reply new (resize_still oldsize).unstored h;
 }

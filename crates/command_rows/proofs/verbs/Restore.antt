@@ -10,7 +10,7 @@ use Rattle.command_rows.specs.Rows.{Decides, GoesOn, IsFile, LoadsFile, NamesFil
 use Rattle.command_rows.specs.Vocabulary.{CabinetState, Command, DiskState, Files, GivesMetadata, HoldsOldOr, IsSectorOf, MetaFault, Metadata, Refusal, Restores, Span, bytes_at, encoded, file_answer, file_limit, fitted, replace_events, restored, unless_fault}
 use Rattle.command_rows.specs.verbs.Restore.{FindsBackup, PutsBack, RefusesRestore, RestoreRow, RestoresBackup}
 use Rattle.command_rows.proofs.PlaceCauses.{wrong_file}
-use Rattle.command_rows.proofs.VerbLaws.{Change, ChangesMetadata, Counts, Did, DoesFrom, Early, Grounds, IsGround, IsLawful, Left, PlainAnswer, Quiet, Same, Since, Sound, Stays, UncountedAnswer, Unstored, Why, after_quiet, alone_from, apart_out, before_all, done_left, done_replying, done_sound, done_unstored, false_is_true, file_counts, left_then, loading_bytes, meta_plain, moments_from, not_both, not_done, nothing_done, plain_cause, plain_uncounted, reply_line, row_keeps, row_refused, same_disk, same_files, same_reach, same_replacing, since_cabinet, sound_reply, sound_step, sound_then, stays_so, stays_then, then_since, then_why, uncounted_step, unstored_reply, unstored_then}
+use Rattle.command_rows.proofs.VerbLaws.{Change, ChangesMetadata, Counts, Did, DoesFrom, Early, Grounds, IsGround, IsLawful, Left, PlainAnswer, Quiet, Same, Since, Still, UncountedAnswer, Why, after_quiet, alone_from, apart_out, before_all, done_left, done_replying, done_still, false_is_true, file_counts, left_then, loading_bytes, meta_plain, moments_from, not_both, not_done, nothing_done, plain_cause, plain_uncounted, reply_line, row_keeps, row_refused, same_disk, same_files, same_replacing, since_cabinet, sound_reply, stays_so, still_sound, still_then, then_since, then_why, uncounted_step, unstored_reply}
 
 quiet_file : (limit : ℕ) (line : List ℕ) (file : Span) → Quiet (LoadsFile limit line file)
 quiet_file limit line file old answer new h = same_disk old.disk new.disk h.disk
@@ -82,35 +82,36 @@ restores_why line command bytes force start old (Err refusal) new ground since h
 writes_why : (line : List ℕ) (command : Command) (bytes : List ℕ) (force : Bool) (start old : Reach) (answer : Result (Unit {0}) Refusal) (new : Reach) → Grounds line command start (λ refusal. restored bytes force start.disk.size ≡ Err refusal) → Since start old
     → Then (RestoresBackup bytes force) (λ m. Decides {A = Unit {0}} (Ok tt)) old answer new → Why line command start answer new
 writes_why line command bytes force start old answer new ground since h =
-    then_since line command start (RestoresBackup bytes force) (λ m. Decides {A = Unit {0}} (Ok tt)) old answer new (λ made middle first. restores_why line command bytes force start old made middle ground since first.restores)
-    (λ m middle first next. rw next.0 tt) h
+    then_since line command start old answer new h
+    (λ made middle first. restores_why line command bytes force start old made middle ground since first.restores)
+    (λ m middle first next. rw next.0 tt)
 
 restore_why : (line : List ℕ) (file prov : Span) (force : Bool) (old : Reach) (answer : Result (Unit {0}) Refusal) (new : Reach)
     → RestoreRow line file force old answer new → Why line (commands.Restore file prov force) old answer new
 restore_why line file prov force old answer new h =
     let command : Command = commands.Restore file prov force in
-    then_why line command (LoadsFile file_limit line file) (λ bytes. Then (RestoresBackup bytes force) (λ m. Decides {A = Unit {0}} (Ok tt))) old answer new (λ given middle first. file_why line file prov force old given middle first)
+    then_why line command old answer new h
+    (λ given middle first. file_why line file prov force old given middle first)
     (λ bytes middle first next. writes_why line command bytes force old middle answer new
     (λ refusal is. record { bytes = bytes; named = loading_bytes file_limit line file old old bytes middle refl first; refused = is })
-    (since_cabinet old middle first.disk first.entropy first.keeps.files first.keeps.faults first.keeps.misses) next) h
+    (since_cabinet old middle first.disk first.entropy first.keeps.files first.keeps.faults first.keeps.misses) next)
 
-file_sound : (limit : ℕ) (line : List ℕ) (file : Span) → Sound (LoadsFile limit line file)
-file_sound limit line file = sound_step (LoadsFile limit line file) (file_counts limit line file) (λ old answer new h. h.holding)
+file_still : (limit : ℕ) (line : List ℕ) (file : Span) → Still (LoadsFile limit line file)
+file_still limit line file = record {
+  counts = file_counts limit line file;
+  stays = λ old answer new h. h.holding;
+  unstored = λ old answer new h. record { files = h.keeps.files; stores = h.unstored };
+}
 
-writing_sound : (bytes : List ℕ) (force : Bool) → Sound (RestoresBackup bytes force)
-writing_sound bytes force = sound_step (RestoresBackup bytes force) (writing_counts bytes force) (λ old answer new h. h.holding)
+writing_still : (bytes : List ℕ) (force : Bool) → Still (RestoresBackup bytes force)
+writing_still bytes force = record {
+  counts = writing_counts bytes force;
+  stays = λ old answer new h. h.holding;
+  unstored = λ old answer new h. same_files old.cabinet new.cabinet h.outside.cabinet;
+}
 
-restore_sound : (line : List ℕ) (file : Span) (force : Bool) → Sound (RestoreRow line file force)
-restore_sound line file force =
-    sound_then (LoadsFile file_limit line file) _ (file_sound file_limit line file)
-    (λ bytes. sound_then (RestoresBackup bytes force) _ (writing_sound bytes force)
-    (λ m. done_sound tt))
-
-restore_stays : (line : List ℕ) (file : Span) (force : Bool) → Stays (RestoreRow line file force)
-restore_stays line file force =
-    stays_then (LoadsFile file_limit line file) _ (λ old answer new h. h.holding)
-    (λ bytes. stays_then (RestoresBackup bytes force) _ (λ old answer new h. h.holding)
-    (λ m old answer new h. same_reach old new h.1))
+restore_still : (line : List ℕ) (file : Span) (force : Bool) → Still (RestoreRow line file force)
+restore_still line file force = still_then (file_still file_limit line file) (λ bytes. still_then (writing_still bytes force) (λ m. done_still tt))
 
 -- the same of one file
 bytes_same : (limit : ℕ) (line : List ℕ) (file : Span) (cabinet : CabinetState) (bytes named : List ℕ) → NamesFile limit line file cabinet bytes → IsFile limit cabinet.files line file named → named ≡ bytes
@@ -165,31 +166,19 @@ restore_left line file force old answer new h =
     left_then Changes old (LoadsFile file_limit line file) _ old answer new (before_all old) (early_file file_limit line file)
     (λ bytes r1 b1 f1 n1. written_left old.cabinet.files line file bytes force old.disk r1 n1.given n1.middle answer new b1.same (loading_bytes file_limit line file old old bytes r1 refl f1) n1.first.restores n1.next) h
 
-file_unstored : (limit : ℕ) (line : List ℕ) (file : Span) → Unstored (LoadsFile limit line file)
-file_unstored limit line file old answer new h = record { files = h.keeps.files; stores = h.unstored }
-
-writing_unstored : (bytes : List ℕ) (force : Bool) → Unstored (RestoresBackup bytes force)
-writing_unstored bytes force old answer new h = same_files old.cabinet new.cabinet h.outside.cabinet
-
-restore_row : (line : List ℕ) (file : Span) (force : Bool) → Unstored (RestoreRow line file force)
-restore_row line file force =
-    unstored_then (LoadsFile file_limit line file) _ (file_unstored file_limit line file)
-    (λ bytes. unstored_then (RestoresBackup bytes force) _ (writing_unstored bytes force)
-    (λ m. done_unstored tt))
-
 pub restore_lawful : (file : Span) (prov : Span) (force : Bool) → IsLawful (commands.Restore file prov force)
 restore_lawful file prov force = record {
   why = λ line old refusal new h.
       let command : Command = commands.Restore file prov force in
       row_refused line command done_or old h.answer new refusal done_replying h.replied (restore_why line file prov force old h.answer new h.row);
   did = λ line old said new h. reply_line done_or _ false h.answer said old.disk new.disk done_replying h.replied (restore_did line file force old h.answer new h.row);
-  sound = λ line old reply new h. sound_reply done_or _ old reply new done_replying (restore_sound line file force) h;
+  sound = λ line old reply new h. sound_reply done_or _ old reply new done_replying (still_sound (restore_still line file force)) h;
   out = λ line old gate f.
       apart_out line (commands.Restore file prov force) old refl refl gate (λ refusal cabinet x. no_file_refused file_limit line file f.bytes old.cabinet refusal cabinet f.names x)
       (λ refusal x. restore_fits line file force old f refusal x);
   tags = λ line old f needs h. false_is_true needs;
-  becomes = λ line old said new gate h. stays_so line (commands.Restore file prov force) old said new gate refl (restore_stays line file force old h.answer new h.row);
-  keeps = λ line old reply new gate other h. row_keeps done_or _ old reply new (restore_stays line file force) h;
+  becomes = λ line old said new gate h. stays_so line (commands.Restore file prov force) old said new gate refl ((restore_still line file force).stays old h.answer new h.row);
+  keeps = λ line old reply new gate other h. row_keeps done_or _ old reply new (restore_still line file force).stays h;
   left = λ line old said new h. done_left (ChangesMetadata line (commands.Restore file prov force) old.cabinet.files old.holding) old.disk h.answer said new.disk h.replied (restore_left line file force old h.answer new h.row);
-  stores = λ line old reply new h. unstored_reply _ _ old reply new (restore_row line file force) h;
+  stores = λ line old reply new h. unstored_reply _ _ old reply new (restore_still line file force).unstored h;
 }

@@ -11,7 +11,7 @@ use Rattle.command_rows.proofs.Keyed.{GivesAttachment, attachment_keyed, try_giv
 use Rattle.command_rows.proofs.ProviderCauses.{attaching_why, trial_why}
 use Rattle.command_rows.proofs.SameKey.{key_is_same}
 use Rattle.command_rows.proofs.SuspendCauses.{trial_opens}
-use Rattle.command_rows.proofs.VerbLaws.{Becomes, Counts, HasGround, IsLawful, IsNew, Keeps, KeepsRequests, LineDid, LineHasCause, NoneOpen, PlainAnswer, Quiet, Sound, SoundReply, StoresNone, Unstored, Why, apart_out, attach_fits, attached_new, attaches_keep, attaching_counts, attaching_unstored, becomes_as, by_plain, decides_why, decision_unstored, done_replying, false_is_true, has_metadata, has_same, keeps_next, no_bad_file, none_try, not_both, nothing_changed, parts_same, quiet_attaching, quiet_did, quiet_then, quiet_trial, reply_line, row_refused, same_disk, same_reach, sound_decision, sound_reply, stays_quiet, suspended, then_counts, then_since, then_why, try_row, try_sound, try_stays, unstored_reply, unstored_then, with_suspended}
+use Rattle.command_rows.proofs.VerbLaws.{Becomes, Counts, HasGround, IsLawful, IsNew, Keeps, KeepsRequests, LineDid, LineHasCause, NoneOpen, PlainAnswer, Quiet, Sound, SoundReply, Still, StoresNone, Unstored, Why, apart_out, attach_fits, attached_new, attaches_keep, attaching_counts, attaching_unstored, becomes_as, by_plain, decides_why, done_replying, false_is_true, has_metadata, has_same, keeps_next, no_bad_file, none_try, not_both, nothing_changed, parts_same, quiet_attaching, quiet_did, quiet_then, quiet_trial, reply_line, row_refused, same_disk, same_reach, sound_reply, stays_quiet, still_decision, still_sound, suspended, then_counts, then_since, then_why, try_still, unstored_reply, unstored_then, with_suspended}
 
 same_by : (same : Bool) → PlainAnswer {A = Unit {0}} (cond same (Ok tt) (Err refusals.DifferentKey))
 same_by true = tt
@@ -20,27 +20,27 @@ same_by false = tt
 same_plain : (kept : Kept) (a : Attachment) → PlainAnswer (same_key kept a)
 same_plain kept a = same_by (bytes_eq (sha256 a.keying.master) kept.mark)
 
-same_sound : (kept : Kept) (a : Attachment) → Sound (NeedsSameKey kept a)
-same_sound kept a = sound_decision (λ r. same_key kept a) (λ r. by_plain _ (same_plain kept a))
+same_still : (kept : Kept) (a : Attachment) → Still (NeedsSameKey kept a)
+same_still kept a = still_decision (λ r. same_key kept a) (λ r. by_plain _ (same_plain kept a))
 
 again_counts : (kept : Kept) (a : Attachment) → Counts (AttachesAgain kept a)
-again_counts kept a = then_counts (NeedsSameKey kept a) _ (same_sound kept a).counts (λ done. attaching_counts a)
+again_counts kept a = then_counts (NeedsSameKey kept a) _ (same_still kept a).counts (λ done. attaching_counts a)
 
 again_keeps : (kept : Kept) (a : Attachment) (old : Reach) (answer : Result (Unit {0}) Refusal) (new : Reach) → IsKeying a.keying → AttachesAgain kept a old answer new → HoldsKeying old.holding → HoldsKeying new.holding
 again_keeps kept a old answer new is h had =
     keeps_next (λ done. Attaches a) h.given h.middle answer new (λ done same next middle. attaches_keep false a h.middle answer new is next middle)
-    h.next ((same_sound kept a).keeps old h.given h.middle h.first had)
+    h.next ((still_sound (same_still kept a)).keeps old h.given h.middle h.first had)
 
 keeps_resume_row : (line : List ℕ) (words : KeyWords) (kept : Kept) → Keeps (ResumeRow line words kept)
 keeps_resume_row line words kept old answer new h had =
     keeps_next (λ a. AttachesAgain kept a) h.given h.middle answer new
     (λ a is next middle. again_keeps kept a h.middle answer new (attachment_keyed a (subst GivesAttachment is (try_gives line None kept.readonly words old h.given h.middle h.first))) next middle)
-    h.next ((try_sound line None kept.readonly words).keeps old h.given h.middle h.first had)
+    h.next ((still_sound (try_still line None kept.readonly words)).keeps old h.given h.middle h.first had)
 
 resume_sound : (line : List ℕ) (words : KeyWords) (kept : Kept) → Sound (ResumeRow line words kept)
 resume_sound line words kept = record {
   counts =
-      then_counts (TryRow line None kept.readonly words) _ (try_sound line None kept.readonly words).counts
+      then_counts (TryRow line None kept.readonly words) _ (try_still line None kept.readonly words).counts
       (λ a. again_counts kept a);
   keeps = keeps_resume_row line words kept;
 }
@@ -55,18 +55,18 @@ again_why : (line : List ℕ) (prov : Span) (words : KeyWords) (kept : Kept) (a 
     → AttachesAgain kept a old answer new → Why line (commands.Resume prov words) start answer new
 again_why line prov words kept a start old answer new is opens h =
     let command : Command = commands.Resume prov words in
-    then_since line command start (NeedsSameKey kept a) (λ _. Attaches a) old answer new
+    then_since line command start old answer new h
     (λ given middle first. decides_why line command start (same_key kept a) old given middle (same_plain kept a)
     (λ refusal other. inr (suspended start.holding (λ k. RefusesResume line words k start refusal) kept is (inr (record { a = a; opens = opens; refused = other })))) first)
-    (λ done middle first next. attaching_why line command start a middle answer new refl next) h
+    (λ done middle first next. attaching_why line command start a middle answer new refl next)
 
 resume_why : (line : List ℕ) (prov : Span) (words : KeyWords) (kept : Kept) (old : Reach) (answer : Result (Unit {0}) Refusal) (new : Reach) → old.holding ≡ IsSuspended kept → ResumeRow line words kept old answer new
     → Why line (commands.Resume prov words) old answer new
 resume_why line prov words kept old answer new is h =
     let command : Command = commands.Resume prov words in
-    then_why line command (TryRow line None kept.readonly words) (λ a. AttachesAgain kept a) old answer new
+    then_why line command old answer new h
     (λ given middle first. trial_why line command None kept.readonly words old given middle refl (λ refusal cabinet bad. bad) (λ refusal ground. resume_ground line words kept prov old refusal is ground) first)
-    (λ a middle first next. again_why line prov words kept a old middle answer new is (trial_opens line None kept.readonly words old a middle first) next) h
+    (λ a middle first next. again_why line prov words kept a old middle answer new is (trial_opens line None kept.readonly words old a middle first) next)
 
 quiet_resume_row : (line : List ℕ) (words : KeyWords) (kept : Kept) → Quiet (ResumeRow line words kept)
 quiet_resume_row line words kept =
@@ -91,10 +91,10 @@ again_by line prov words kept a (Err refusal) old middle answer said new was log
 resumed_by : (line : List ℕ) (prov : Span) (words : KeyWords) (kept : Kept) (given : Result Attachment Refusal) (old middle : Reach) (answer : Result (Unit {0}) Refusal) (said : Answer) (new : Reach) → old.holding ≡ IsSuspended kept
     → Logs [] old.disk new.disk → TryRow line None kept.readonly words old given middle → said ≡ done_or answer → GoesOn (λ a. AttachesAgain kept a) given middle answer new → Becomes line (commands.Resume prov words) old said new
 resumed_by line prov words kept (Ok a) old middle answer said new was logs trial is h =
-    again_by line prov words kept a h.given old h.middle answer said new was logs (same_reach middle h.middle h.first.1 ∙ try_stays line None kept.readonly words old (Ok a) middle trial)
+    again_by line prov words kept a h.given old h.middle answer said new was logs (same_reach middle h.middle h.first.1 ∙ (try_still line None kept.readonly words).stays old (Ok a) middle trial)
     (trial_opens line None kept.readonly words old a middle trial) h.first.0 is h.next
 resumed_by line prov words kept (Err refusal) old middle answer said new was logs trial is h =
-    stays_quiet line _ old said new (same_reach middle new h.1 ∙ try_stays line None kept.readonly words old (Err refusal) middle trial) logs
+    stays_quiet line _ old said new (same_reach middle new h.1 ∙ (try_still line None kept.readonly words).stays old (Err refusal) middle trial) logs
 
 -- both of what is suspended
 kept_fits : (Fit Holds : Kept → Type 0) (holding : Holding) → SuspendedWith holding Fit → ((kept : Kept) → Fit kept → Holds kept → ⊥) → SuspendedWith holding Holds → ⊥
@@ -121,13 +121,10 @@ resume_fits : (line : List ℕ) (words : KeyWords) (old : Reach) → SuspendedWi
 resume_fits line words old f refusal (inl h) = with_suspended old.holding _ ⊥ (λ kept is finds. has_metadata old.disk finds.key.m refusal finds.key.shows h) f
 resume_fits line words old f refusal (inr h) = kept_fits _ _ old.holding f (λ kept finds refused. resume_by line words old refusal kept finds refused) h
 
-same_key_unstored : (kept : Kept) (a : Attachment) → Unstored (NeedsSameKey kept a)
-same_key_unstored kept a = decision_unstored (λ r. same_key kept a)
-
 resume_row : (line : List ℕ) (names : KeyWords) (kept : Kept) → Unstored (ResumeRow line names kept)
 resume_row line names kept =
-    unstored_then (TryRow line None kept.readonly names) _ (try_row line None kept.readonly names)
-    (λ a. unstored_then (NeedsSameKey kept a) _ (same_key_unstored kept a) (λ done. attaching_unstored a))
+    unstored_then (TryRow line None kept.readonly names) _ (try_still line None kept.readonly names).unstored
+    (λ a. unstored_then (NeedsSameKey kept a) _ (same_still kept a).unstored (λ done. attaching_unstored a))
 
 -- `resume`, where nothing was attached
 again_new : (a : Attachment) (given : Result (Unit {0}) Refusal) (old middle : Reach) (answer : Result (Unit {0}) Refusal) (new : Reach) → a.queue ≡ [] → middle ≡ old → GoesOn (λ _. Attaches a) given middle answer new → (new.holding ≡ old.holding) ⊎ IsNew new.holding
@@ -145,7 +142,7 @@ resume_next kept (Err refusal) middle answer new none h = inl (same_reach middle
 
 resume_keeps : (line : List ℕ) (words : KeyWords) (kept : Kept) (old : Reach) (answer : Result (Unit {0}) Refusal) (new : Reach) → old.holding ≡ IsSuspended kept → ResumeRow line words kept old answer new → KeepsRequests old.holding new.holding
 resume_keeps line words kept old answer new was h =
-    let same : h.middle.holding ≡ old.holding = try_stays line None kept.readonly words old h.given h.middle h.first in
+    let same : h.middle.holding ≡ old.holding = (try_still line None kept.readonly words).stays old h.given h.middle h.first in
     elim (resume_next kept h.given h.middle answer new (none_try line None kept.readonly words old h.given h.middle h.first) h.next) [
       | inl is ↦ inl (is ∙ same)
       | inr anew ↦ inr (inr (ap attachment_in was, anew))

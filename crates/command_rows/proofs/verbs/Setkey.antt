@@ -6,10 +6,10 @@ use Rattle.command_words.specs.declared.commands.Command.TheVariants as commands
 use Rattle.eli_base.specs.declared.refusals.Refusal.TheVariants as refusals
 use Rattle.eli_metadata.proofs.Replaced.{KeepsAlone-store, KeepsOldOr-store, KeepsOldOr-store_part}
 use Rattle.key_commands.proofs.Changing.{HasNewKey-makes}
-use Rattle.command_rows.specs.Rows.{Admits, AreComponents, Attachment, HasMetadata, Holding, HoldsKeying, IsAttached, LacksMetadata, LoadsComponents, Reach, ReadsLastSector, RefusesFiles, Then, admitted, attachment_in, done_or, without_value}
+use Rattle.command_rows.specs.Rows.{Admits, AreComponents, Attachment, HasMetadata, Holding, IsAttached, LacksMetadata, LoadsComponents, Reach, ReadsLastSector, RefusesFiles, Then, admitted, attachment_in, done_or, without_value}
 use Rattle.command_rows.specs.Vocabulary.{CabinetState, Command, Components, DiskState, Files, HoldsOldOr, IsSectorOf, KeyChange, KeyFault, KeyWords, MasterKey, Metadata, Refusal, SetsKey, Span, UserKey, change_refusal, encoded, key_refusal, store_events, user_key}
 use Rattle.command_rows.specs.verbs.Setkey.{FindsAttached, FindsNewKey, FindsOldKey, FindsSetkey, IsUsed, NeedsSlot, OpensSlot, PutsKey, RefusesChange, RefusesNewKey, RefusesNext, RefusesOldKey, RefusesSetkey, SetkeyAttachedRow, SetkeyIdleRow, SetkeyRow, SetsOpened, StoresKey, StoresMetadata, WrapsKey, WrapsOpened, if_there, slot_opened_by, or_wrong, usable}
-use Rattle.command_rows.proofs.VerbLaws.{BadFiles, Change, ChangesMetadata, Counts, CountsResult, Did, DoesFrom, Grounds, IsLawful, Later, Left, PlainAnswer, PlainOption, Same, Since, Sound, Stays, StoresNone, UncountedAnswer, Unstored, Why, admitting_sound, admitting_unstored, after_quiet, alone_from, apart_out, attached, before_all, by_attachment, by_plain, components_sound, components_unstored, decides_why, decision_unstored, done_left, done_replying, early_decision, early_loading, early_reading, false_is_true, has_metadata, has_same, key_option, key_plain, left_then, loading_parts, loading_since, loading_why, may_lack_memory, moments_from, no_bad_file, not_both, not_done, not_some, nothing_done, or_plain, parts_same, plain_cause, plain_some, quiet_loading, quiet_reading, quiet_same, reading_has, reading_since, reading_sound, reading_unstored, reading_why, reply_line, row_keeps, row_refused, same_disk, same_files, same_reach, since_same, some_uncounted, sound_decision, sound_reply, sound_step, sound_then, stays_so, stays_then, then_since, then_why, unattached, uncounted_step, unstored_reply, unstored_then}
+use Rattle.command_rows.proofs.VerbLaws.{BadFiles, Change, ChangesMetadata, Counts, CountsResult, Did, DoesFrom, Grounds, IsLawful, Later, Left, PlainAnswer, PlainOption, Same, Since, Still, StoresNone, UncountedAnswer, Why, admitting_still, after_quiet, alone_from, apart_out, attached, before_all, by_attachment, by_plain, components_still, decides_why, done_left, done_replying, early_decision, early_loading, early_reading, false_is_true, has_metadata, has_same, key_option, key_plain, left_then, loading_parts, loading_since, loading_why, may_lack_memory, moments_from, no_bad_file, not_both, not_done, not_some, nothing_done, or_plain, parts_same, plain_cause, plain_some, quiet_loading, quiet_reading, quiet_same, reading_has, reading_since, reading_still, reading_why, reply_line, row_keeps, row_refused, same_disk, same_files, since_same, some_uncounted, sound_reply, stays_so, still_decision, still_sound, still_then, then_since, then_why, unattached, uncounted_step, unstored_reply}
 
 same_store : (disk start : DiskState) (bytes : List ℕ) → disk.size ≡ start.size → store_events disk bytes ≡ store_events start bytes
 same_store disk start bytes size = ap (λ (n : ℕ). Write (n - 1) bytes ∷ Flush ∷ []) size
@@ -85,66 +85,40 @@ setting_counts : (asked : KeyChange) → Counts (StoresKey asked)
 setting_counts asked old answer new h =
     uncounted_step old answer new (subst (λ (r : Result (Unit {0}) Refusal). UncountedAnswer r) (sym h.answered) (set_uncounted asked old.disk h.made new.disk h.sets)) h.cabinet h.entropy
 
-using_sound : (m : Metadata) → Sound (IsUsed m)
-using_sound m = sound_decision (λ r. usable m r.disk.size) (λ r. by_plain _ (or_plain _))
+using_still : (m : Metadata) → Still (IsUsed m)
+using_still m = still_decision (λ r. usable m r.disk.size) (λ r. by_plain _ (or_plain _))
 
-slot_sound : (slot : Option ℕ) → Sound (NeedsSlot slot)
-slot_sound slot = sound_decision (λ r. if_there slot) (λ r. by_plain (if_there slot) (there_plain slot))
+slot_still : (slot : Option ℕ) → Still (NeedsSlot slot)
+slot_still slot = still_decision (λ r. if_there slot) (λ r. by_plain (if_there slot) (there_plain slot))
 
-opening_sound : (m : Metadata) (parts : Components) → Sound (OpensSlot m parts)
-opening_sound m parts = sound_decision (λ r. slot_opened_by m (user_key parts m.salt m.iterations)) (λ r. by_plain _ (opened_plain m (user_key parts m.salt m.iterations)))
+opening_still : (m : Metadata) (parts : Components) → Still (OpensSlot m parts)
+opening_still m parts = still_decision (λ r. slot_opened_by m (user_key parts m.salt m.iterations)) (λ r. by_plain _ (opened_plain m (user_key parts m.salt m.iterations)))
 
-setting_sound : (asked : KeyChange) → Sound (StoresKey asked)
-setting_sound asked = sound_step (StoresKey asked) (setting_counts asked) (λ old answer new h. h.holding)
+setting_still : (asked : KeyChange) → Still (StoresKey asked)
+setting_still asked = record { counts = setting_counts asked; stays = λ old answer new h. h.holding; unstored = λ old answer new h. same_files old.cabinet new.cabinet h.cabinet }
 
-setkey_idle_sound : (line : List ℕ) (iterations : Option ℤ) (slot : Option ℕ) (words fresh : KeyWords) → Sound (SetkeyIdleRow line iterations slot words fresh)
-setkey_idle_sound line iterations slot words fresh =
-    sound_then ReadsLastSector _ reading_sound
-    (λ m. sound_then (Admits m None) _ (admitting_sound m None)
-    (λ settings. sound_then (NeedsSlot slot) _ (slot_sound slot)
-    (λ done. sound_then (LoadsComponents line words) _ (components_sound line words)
-    (λ parts. sound_then (LoadsComponents line fresh) _ (components_sound line fresh)
-    (λ next. sound_then (OpensSlot m parts) _ (opening_sound m parts)
-    (λ found. setting_sound (record { meta = m; master = found.0.bytes; slot = unwrap_or slot found.1; iterations = iterations; parts = next })))))))
+setkey_idle_still : (line : List ℕ) (iterations : Option ℤ) (slot : Option ℕ) (words fresh : KeyWords) → Still (SetkeyIdleRow line iterations slot words fresh)
+setkey_idle_still line iterations slot words fresh =
+    still_then reading_still (λ m. still_then (admitting_still m None)
+    (λ settings. still_then (slot_still slot) (λ done. still_then (components_still line words)
+    (λ parts. still_then (components_still line fresh) (λ next. still_then (opening_still m parts)
+    (λ found. setting_still (record { meta = m; master = found.0.bytes; slot = unwrap_or slot found.1; iterations = iterations; parts = next })))))))
 
-setkey_attached_sound : (line : List ℕ) (iterations : Option ℤ) (slot : ℕ) (master : List ℕ) (fresh : KeyWords) → Sound (SetkeyAttachedRow line iterations slot master fresh)
-setkey_attached_sound line iterations slot master fresh =
-    sound_then ReadsLastSector _ reading_sound
-    (λ m. sound_then (IsUsed m) _ (using_sound m)
-    (λ settings. sound_then (NeedsSlot (Some slot)) _ (slot_sound (Some slot))
-    (λ done. sound_then (LoadsComponents line fresh) _ (components_sound line fresh)
-    (λ parts. setting_sound (record { meta = m; master = master; slot = slot; iterations = iterations; parts = parts })))))
+setkey_attached_still : (line : List ℕ) (iterations : Option ℤ) (slot : ℕ) (master : List ℕ) (fresh : KeyWords) → Still (SetkeyAttachedRow line iterations slot master fresh)
+setkey_attached_still line iterations slot master fresh =
+    still_then reading_still (λ m. still_then (using_still m)
+    (λ settings. still_then (slot_still (Some slot)) (λ done. still_then (components_still line fresh)
+    (λ parts. setting_still (record { meta = m; master = master; slot = slot; iterations = iterations; parts = parts })))))
 
-setkey_sound : (line : List ℕ) (iterations : Option ℤ) (slot : Option ℕ) (words fresh : KeyWords) → Sound (SetkeyRow line iterations slot words fresh)
-setkey_sound line iterations slot words fresh = record {
-  counts = λ old answer new h. by_attachment old.holding _ _ (CountsResult old answer new × Later old new) (λ is row. (setkey_idle_sound line iterations slot words fresh).counts old answer new row)
-      (λ a is row. (setkey_attached_sound line iterations (unwrap_or slot a.slot) a.keying.master fresh).counts old answer new row) h;
-  keeps = λ old answer new h. by_attachment old.holding _ _ (HoldsKeying old.holding → HoldsKeying new.holding) (λ is row. (setkey_idle_sound line iterations slot words fresh).keeps old answer new row)
-      (λ a is row. (setkey_attached_sound line iterations (unwrap_or slot a.slot) a.keying.master fresh).keeps old answer new row) h;
+setkey_still : (line : List ℕ) (iterations : Option ℤ) (slot : Option ℕ) (words fresh : KeyWords) → Still (SetkeyRow line iterations slot words fresh)
+setkey_still line iterations slot words fresh = record {
+  counts = λ old answer new h. by_attachment old.holding _ _ (CountsResult old answer new × Later old new) (λ is row. (setkey_idle_still line iterations slot words fresh).counts old answer new row)
+      (λ a is row. (setkey_attached_still line iterations (unwrap_or slot a.slot) a.keying.master fresh).counts old answer new row) h;
+  stays = λ old answer new h. by_attachment old.holding _ _ (new.holding ≡ old.holding) (λ is row. (setkey_idle_still line iterations slot words fresh).stays old answer new row)
+      (λ a is row. (setkey_attached_still line iterations (unwrap_or slot a.slot) a.keying.master fresh).stays old answer new row) h;
+  unstored = λ old answer new h. by_attachment old.holding _ _ (StoresNone old.cabinet new.cabinet) (λ is row. (setkey_idle_still line iterations slot words fresh).unstored old answer new row)
+      (λ a is row. (setkey_attached_still line iterations (unwrap_or slot a.slot) a.keying.master fresh).unstored old answer new row) h;
 }
-
-setkey_idle_stays : (line : List ℕ) (iterations : Option ℤ) (slot : Option ℕ) (words fresh : KeyWords) → Stays (SetkeyIdleRow line iterations slot words fresh)
-setkey_idle_stays line iterations slot words fresh =
-    stays_then ReadsLastSector _ (λ old answer new h. h.holding)
-    (λ m. stays_then (Admits m None) _ (λ old answer new h. same_reach old new h.1)
-    (λ settings. stays_then (NeedsSlot slot) _ (λ old answer new h. same_reach old new h.1)
-    (λ done. stays_then (LoadsComponents line words) _ (λ old answer new h. h.holding)
-    (λ parts. stays_then (LoadsComponents line fresh) _ (λ old answer new h. h.holding)
-    (λ next. stays_then (OpensSlot m parts) _ (λ old answer new h. same_reach old new h.1)
-    (λ found old answer new h. h.holding))))))
-
-setkey_attached_stays : (line : List ℕ) (iterations : Option ℤ) (slot : ℕ) (master : List ℕ) (fresh : KeyWords) → Stays (SetkeyAttachedRow line iterations slot master fresh)
-setkey_attached_stays line iterations slot master fresh =
-    stays_then ReadsLastSector _ (λ old answer new h. h.holding)
-    (λ m. stays_then (IsUsed m) _ (λ old answer new h. same_reach old new h.1)
-    (λ settings. stays_then (NeedsSlot (Some slot)) _ (λ old answer new h. same_reach old new h.1)
-    (λ done. stays_then (LoadsComponents line fresh) _ (λ old answer new h. h.holding)
-    (λ parts old answer new h. h.holding))))
-
-setkey_stays : (line : List ℕ) (iterations : Option ℤ) (slot : Option ℕ) (words fresh : KeyWords) → Stays (SetkeyRow line iterations slot words fresh)
-setkey_stays line iterations slot words fresh old answer new h =
-    by_attachment old.holding _ _ (new.holding ≡ old.holding) (λ is row. setkey_idle_stays line iterations slot words fresh old answer new row)
-    (λ a is row. setkey_attached_stays line iterations (unwrap_or slot a.slot) a.keying.master fresh old answer new row) h
 
 sets_why : (line : List ℕ) (command : Command) (asked : KeyChange) (start old : Reach) (made : Result Metadata Refusal) (new : Reach) → Grounds line command start (λ refusal. change_refusal asked ≡ Some refusal) → Since start old
     → SetsKey asked old.disk made new.disk → Why line command start (without_value made) new
@@ -171,7 +145,7 @@ opens_why : (line : List ℕ) (command : Command) (iterations : Option ℤ) (slo
     → Grounds line command start (ChangesIdle line iterations slot words fresh m start) → AreComponents start.cabinet.files line words parts → AreComponents start.cabinet.files line fresh next_parts → Since start old
     → Then (OpensSlot m parts) (λ found. SetsOpened line iterations slot m next_parts found) old answer new → Why line command start answer new
 opens_why line command iterations slot words fresh m parts next_parts start old answer new ground named next_named since h =
-    then_since line command start (OpensSlot m parts) (λ found. SetsOpened line iterations slot m next_parts found) old answer new
+    then_since line command start old answer new h
     (λ given middle first. decides_why line command start (slot_opened_by m (user_key parts m.salt m.iterations)) old given middle (opened_plain m _)
     (λ refusal is. ground refusal (inr (inr (inl (record { parts = parts; named = named; refused = is }))))) first)
     (λ found middle first next. stores_why line command _ start middle answer new
@@ -181,94 +155,49 @@ opens_why line command iterations slot words fresh m parts next_parts start old 
       found = found;
       opens = sym first.0;
       refuses = record { parts = next_parts; named = next_named; refused = is };
-    }))))) (since_same start old middle since first.1) next) h
-
-fresh_why : (line : List ℕ) (command : Command) (iterations : Option ℤ) (slot : Option ℕ) (words fresh : KeyWords) (m : Metadata) (parts : Components) (start old : Reach) (answer : Result (Unit {0}) Refusal) (new : Reach) → may_lack_memory command ≡ true
-    → BadFiles line command start (EitherFiles line words fresh start.cabinet) → Grounds line command start (ChangesIdle line iterations slot words fresh m start) → AreComponents start.cabinet.files line words parts → Since start old
-    → Then (LoadsComponents line fresh) (λ next. Then (OpensSlot m parts) (λ found. SetsOpened line iterations slot m next found)) old answer new → Why line command start answer new
-fresh_why line command iterations slot words fresh m parts start old answer new memory bad ground named since h =
-    then_since line command start (LoadsComponents line fresh) (λ next. Then (OpensSlot m parts) (λ found. SetsOpened line iterations slot m next found)) old answer new
-    (λ given middle first. loading_why line command fresh start old given middle memory (λ refusal cabinet refuses. bad refusal cabinet (inr refuses)) since first)
-    (λ next_parts middle first next. opens_why line command iterations slot words fresh m parts next_parts start middle answer new ground named (loading_parts line fresh start old next_parts middle since.files first)
-    (loading_since line fresh start old (Ok next_parts) middle since first) next) h
-
-both_why : (line : List ℕ) (command : Command) (iterations : Option ℤ) (slot : Option ℕ) (words fresh : KeyWords) (m : Metadata) (start old : Reach) (answer : Result (Unit {0}) Refusal) (new : Reach) → may_lack_memory command ≡ true
-    → BadFiles line command start (EitherFiles line words fresh start.cabinet) → Grounds line command start (ChangesIdle line iterations slot words fresh m start) → Since start old
-    → Then (LoadsComponents line words) (λ parts. Then (LoadsComponents line fresh) (λ next. Then (OpensSlot m parts) (λ found. SetsOpened line iterations slot m next found))) old answer new → Why line command start answer new
-both_why line command iterations slot words fresh m start old answer new memory bad ground since h =
-    then_since line command start (LoadsComponents line words) (λ parts. Then (LoadsComponents line fresh) (λ next. Then (OpensSlot m parts) (λ found. SetsOpened line iterations slot m next found))) old answer new
-    (λ given middle first. loading_why line command words start old given middle memory (λ refusal cabinet refuses. bad refusal cabinet (inl refuses)) since first)
-    (λ parts middle first next. fresh_why line command iterations slot words fresh m parts start middle answer new memory bad ground (loading_parts line words start old parts middle since.files first)
-    (loading_since line words start old (Ok parts) middle since first) next) h
-
-slot_why : (line : List ℕ) (command : Command) (iterations : Option ℤ) (slot : Option ℕ) (words fresh : KeyWords) (m : Metadata) (start old : Reach) (answer : Result (Unit {0}) Refusal) (new : Reach) → may_lack_memory command ≡ true
-    → BadFiles line command start (EitherFiles line words fresh start.cabinet) → Grounds line command start (ChangesIdle line iterations slot words fresh m start) → Since start old
-    → Then (NeedsSlot slot) (λ _. Then (LoadsComponents line words) (λ parts. Then (LoadsComponents line fresh) (λ next. Then (OpensSlot m parts) (λ found. SetsOpened line iterations slot m next found)))) old answer new
-    → Why line command start answer new
-slot_why line command iterations slot words fresh m start old answer new memory bad ground since h =
-    then_since line command start (NeedsSlot slot) (λ _. Then (LoadsComponents line words) (λ parts. Then (LoadsComponents line fresh) (λ next. Then (OpensSlot m parts) (λ found. SetsOpened line iterations slot m next found)))) old answer new
-    (λ given middle first. decides_why line command start (if_there slot) old given middle (there_plain slot) (λ refusal is. ground refusal (inr (inl is))) first)
-    (λ done middle first next. both_why line command iterations slot words fresh m start middle answer new memory bad ground (since_same start old middle since first.1) next) h
-
-admits_why : (line : List ℕ) (command : Command) (iterations : Option ℤ) (slot : Option ℕ) (words fresh : KeyWords) (m : Metadata) (start old : Reach) (answer : Result (Unit {0}) Refusal) (new : Reach) → may_lack_memory command ≡ true
-    → BadFiles line command start (EitherFiles line words fresh start.cabinet) → Grounds line command start (ChangesIdle line iterations slot words fresh m start) → Since start old
-    → Then (Admits m None) (λ _. Then (NeedsSlot slot) (λ _. Then (LoadsComponents line words) (λ parts. Then (LoadsComponents line fresh) (λ next. Then (OpensSlot m parts) (λ found. SetsOpened line iterations slot m next found))))) old answer new
-    → Why line command start answer new
-admits_why line command iterations slot words fresh m start old answer new memory bad ground since h =
-    then_since line command start (Admits m None)
-    (λ _. Then (NeedsSlot slot) (λ _. Then (LoadsComponents line words) (λ parts. Then (LoadsComponents line fresh) (λ next. Then (OpensSlot m parts) (λ found. SetsOpened line iterations slot m next found))))) old answer new
-    (λ given middle first. decides_why line command start (admitted m old.disk.size None) old given middle (or_plain _)
-    (λ refusal is. ground refusal (inl (subst (λ (n : ℕ). admitted m n None ≡ Err refusal) since.size is))) first)
-    (λ settings middle first next. slot_why line command iterations slot words fresh m start middle answer new memory bad ground (since_same start old middle since first.1) next) h
+    }))))) (since_same start old middle since first.1) next)
 
 setkey_idle_why : (line : List ℕ) (command : Command) (iterations : Option ℤ) (slot : Option ℕ) (words fresh : KeyWords) (old : Reach) (answer : Result (Unit {0}) Refusal) (new : Reach) → may_lack_memory command ≡ true
     → BadFiles line command old (EitherFiles line words fresh old.cabinet) → Grounds line command old (LacksMetadata old.disk) → ((m : Metadata) → HasMetadata old.disk m → Grounds line command old (ChangesIdle line iterations slot words fresh m old))
     → SetkeyIdleRow line iterations slot words fresh old answer new → Why line command old answer new
-setkey_idle_why line command iterations slot words fresh old answer new memory bad lacks ground h =
-    then_why line command ReadsLastSector
-    (λ m. Then (Admits m None) (λ _. Then (NeedsSlot slot) (λ _. Then (LoadsComponents line words) (λ parts. Then (LoadsComponents line fresh) (λ next. Then (OpensSlot m parts) (λ found. SetsOpened line iterations slot m next found)))))) old answer new
-    (λ given middle first. reading_why line command old given middle lacks first)
-    (λ m middle first next. admits_why line command iterations slot words fresh m old middle answer new memory bad (ground m (reading_has old m middle first)) (reading_since old m middle first) next) h
-
--- the metadata can be used, and there is a slot of that number
-puts_why : (line : List ℕ) (command : Command) (iterations : Option ℤ) (slot : ℕ) (master : List ℕ) (fresh : KeyWords) (m : Metadata) (start old : Reach) (answer : Result (Unit {0}) Refusal) (new : Reach) → may_lack_memory command ≡ true
-    → BadFiles line command start (RefusesFiles line fresh start.cabinet) → Grounds line command start (RefusesNewKey line iterations slot master fresh m start) → Since start old
-    → Then (LoadsComponents line fresh) (λ parts. StoresKey (record { meta = m; master = master; slot = slot; iterations = iterations; parts = parts })) old answer new → Why line command start answer new
-puts_why line command iterations slot master fresh m start old answer new memory bad ground since h =
-    then_since line command start (LoadsComponents line fresh) (λ parts. StoresKey (record { meta = m; master = master; slot = slot; iterations = iterations; parts = parts })) old answer new
-    (λ given middle first. loading_why line command fresh start old given middle memory bad since first)
-    (λ parts middle first next. stores_why line command _ start middle answer new
-    (λ refusal is. ground refusal (record { parts = parts; named = loading_parts line fresh start old parts middle since.files first; refused = is })) (loading_since line fresh start old (Ok parts) middle since first) next) h
+setkey_idle_why line command iterations slot words fresh old answer new memory bad lacks grounds h =
+    then_why line command old answer new h (λ given middle. reading_why line command old given middle lacks)
+    (λ m r1 f1 n1. let s1 : Since old r1 = reading_since old m r1 f1 in
+    let ground : Grounds line command old (ChangesIdle line iterations slot words fresh m old) = grounds m (reading_has old m r1 f1) in
+    then_since line command old r1 answer new n1
+    (λ given middle. decides_why line command old (admitted m r1.disk.size None) r1 given middle (or_plain _) (λ refusal is. ground refusal (inl (subst (λ (n : ℕ). admitted m n None ≡ Err refusal) s1.size is))))
+    (λ settings r2 f2 n2. let s2 : Since old r2 = since_same old r1 r2 s1 f2.1 in
+    then_since line command old r2 answer new n2
+    (λ given middle. decides_why line command old (if_there slot) r2 given middle (there_plain slot) (λ refusal is. ground refusal (inr (inl is))))
+    (λ done r3 f3 n3. let s3 : Since old r3 = since_same old r2 r3 s2 f3.1 in
+    then_since line command old r3 answer new n3
+    (λ given middle. loading_why line command words old r3 given middle memory (λ refusal cabinet refuses. bad refusal cabinet (inl refuses)) s3)
+    (λ parts r4 f4 n4. let s4 : Since old r4 = loading_since line words old r3 (Ok parts) r4 s3 f4 in
+    then_since line command old r4 answer new n4
+    (λ given middle. loading_why line command fresh old r4 given middle memory (λ refusal cabinet refuses. bad refusal cabinet (inr refuses)) s4)
+    (λ next r5 f5 n5. opens_why line command iterations slot words fresh m parts next old r5 answer new ground
+    (loading_parts line words old r3 parts r4 s3.files f4) (loading_parts line fresh old r4 next r5 s4.files f5) (loading_since line fresh old r4 (Ok next) r5 s4 f5) n5)))))
 
 -- what is refused of an attached drawer, for this slot and master key
 abbrev ChangesAttached : List ℕ → Option ℤ → ℕ → List ℕ → KeyWords → Metadata → Reach → Refusal → Type 0
 ChangesAttached line iterations slot master fresh m old refusal = (usable m old.disk.size ≡ Err refusal) ⊎ (if_there (Some slot) ≡ Err refusal) ⊎ RefusesNewKey line iterations slot master fresh m old refusal
 
-place_why : (line : List ℕ) (command : Command) (iterations : Option ℤ) (slot : ℕ) (master : List ℕ) (fresh : KeyWords) (m : Metadata) (start old : Reach) (answer : Result (Unit {0}) Refusal) (new : Reach) → may_lack_memory command ≡ true
-    → BadFiles line command start (RefusesFiles line fresh start.cabinet) → Grounds line command start (ChangesAttached line iterations slot master fresh m start) → Since start old
-    → Then (NeedsSlot (Some slot)) (λ _. Then (LoadsComponents line fresh) (λ parts. StoresKey (record { meta = m; master = master; slot = slot; iterations = iterations; parts = parts }))) old answer new → Why line command start answer new
-place_why line command iterations slot master fresh m start old answer new memory bad ground since h =
-    then_since line command start (NeedsSlot (Some slot)) (λ _. Then (LoadsComponents line fresh) (λ parts. StoresKey (record { meta = m; master = master; slot = slot; iterations = iterations; parts = parts }))) old answer new
-    (λ given middle first. decides_why line command start (if_there (Some slot)) old given middle (there_plain (Some slot)) (λ refusal is. ground refusal (inr (inl is))) first)
-    (λ done middle first next. puts_why line command iterations slot master fresh m start middle answer new memory bad (λ refusal refuses. ground refusal (inr (inr refuses))) (since_same start old middle since first.1) next) h
-
-uses_why : (line : List ℕ) (command : Command) (iterations : Option ℤ) (slot : ℕ) (master : List ℕ) (fresh : KeyWords) (m : Metadata) (start old : Reach) (answer : Result (Unit {0}) Refusal) (new : Reach) → may_lack_memory command ≡ true
-    → BadFiles line command start (RefusesFiles line fresh start.cabinet) → Grounds line command start (ChangesAttached line iterations slot master fresh m start) → Since start old
-    → Then (IsUsed m) (λ _. Then (NeedsSlot (Some slot)) (λ _. Then (LoadsComponents line fresh) (λ parts. StoresKey (record { meta = m; master = master; slot = slot; iterations = iterations; parts = parts })))) old answer new
-    → Why line command start answer new
-uses_why line command iterations slot master fresh m start old answer new memory bad ground since h =
-    then_since line command start (IsUsed m) (λ _. Then (NeedsSlot (Some slot)) (λ _. Then (LoadsComponents line fresh) (λ parts. StoresKey (record { meta = m; master = master; slot = slot; iterations = iterations; parts = parts })))) old answer new
-    (λ given middle first. decides_why line command start (usable m old.disk.size) old given middle (or_plain _) (λ refusal is. ground refusal (inl (subst (λ (n : ℕ). usable m n ≡ Err refusal) since.size is))) first)
-    (λ settings middle first next. place_why line command iterations slot master fresh m start middle answer new memory bad ground (since_same start old middle since first.1) next) h
-
 setkey_attached_why : (line : List ℕ) (command : Command) (iterations : Option ℤ) (slot : ℕ) (master : List ℕ) (fresh : KeyWords) (old : Reach) (answer : Result (Unit {0}) Refusal) (new : Reach) → may_lack_memory command ≡ true
     → BadFiles line command old (RefusesFiles line fresh old.cabinet) → Grounds line command old (LacksMetadata old.disk) → ((m : Metadata) → HasMetadata old.disk m → Grounds line command old (ChangesAttached line iterations slot master fresh m old))
     → SetkeyAttachedRow line iterations slot master fresh old answer new → Why line command old answer new
-setkey_attached_why line command iterations slot master fresh old answer new memory bad lacks ground h =
-    then_why line command ReadsLastSector
-    (λ m. Then (IsUsed m) (λ _. Then (NeedsSlot (Some slot)) (λ _. Then (LoadsComponents line fresh) (λ parts. StoresKey (record { meta = m; master = master; slot = slot; iterations = iterations; parts = parts }))))) old answer new
-    (λ given middle first. reading_why line command old given middle lacks first)
-    (λ m middle first next. uses_why line command iterations slot master fresh m old middle answer new memory bad (ground m (reading_has old m middle first)) (reading_since old m middle first) next) h
+setkey_attached_why line command iterations slot master fresh old answer new memory bad lacks grounds h =
+    then_why line command old answer new h (λ given middle. reading_why line command old given middle lacks)
+    (λ m r1 f1 n1. let s1 : Since old r1 = reading_since old m r1 f1 in
+    let ground : Grounds line command old (ChangesAttached line iterations slot master fresh m old) = grounds m (reading_has old m r1 f1) in
+    then_since line command old r1 answer new n1
+    (λ given middle. decides_why line command old (usable m r1.disk.size) r1 given middle (or_plain _) (λ refusal is. ground refusal (inl (subst (λ (n : ℕ). usable m n ≡ Err refusal) s1.size is))))
+    (λ settings r2 f2 n2. let s2 : Since old r2 = since_same old r1 r2 s1 f2.1 in
+    then_since line command old r2 answer new n2
+    (λ given middle. decides_why line command old (if_there (Some slot)) r2 given middle (there_plain (Some slot)) (λ refusal is. ground refusal (inr (inl is))))
+    (λ done r3 f3 n3. let s3 : Since old r3 = since_same old r2 r3 s2 f3.1 in
+    then_since line command old r3 answer new n3 (λ given middle. loading_why line command fresh old r3 given middle memory bad s3)
+    (λ parts r4 f4 n4. stores_why line command _ old r4 answer new
+    (λ refusal is. ground refusal (inr (inr (record { parts = parts; named = loading_parts line fresh old r3 parts r4 s3.files f4; refused = is })))) (loading_since line fresh old r3 (Ok parts) r4 s3 f4) n4))))
 
 setkey_why : (line : List ℕ) (prov : Span) (iterations : Option ℤ) (slot : Option ℕ) (words fresh : KeyWords) (old : Reach) (answer : Result (Unit {0}) Refusal) (new : Reach) → SetkeyRow line iterations slot words fresh old answer new
     → Why line (commands.Setkey prov iterations slot words fresh) old answer new
@@ -425,54 +354,19 @@ setkey_left line iterations slot words fresh old answer new h =
     (λ is row. setkey_idle_left line iterations slot old.holding words fresh old answer new is row)
     (λ a is row. setkey_attached_left line iterations slot old.holding (unwrap_or slot a.slot) a.keying.master words fresh old answer new (λ asked master target. attached old.holding _ _ a is (master, target)) row) h
 
-using_unstored : (m : Metadata) → Unstored (IsUsed m)
-using_unstored m = decision_unstored (λ r. usable m r.disk.size)
-
-slot_unstored : (slot : Option ℕ) → Unstored (NeedsSlot slot)
-slot_unstored slot = decision_unstored (λ r. if_there slot)
-
-opening_unstored : (m : Metadata) (parts : Components) → Unstored (OpensSlot m parts)
-opening_unstored m parts = decision_unstored (λ r. slot_opened_by m (user_key parts m.salt m.iterations))
-
-setting_unstored : (asked : KeyChange) → Unstored (StoresKey asked)
-setting_unstored asked old answer new h = same_files old.cabinet new.cabinet h.cabinet
-
-setkey_idle_row : (line : List ℕ) (iterations : Option ℤ) (slot : Option ℕ) (names fresh : KeyWords) → Unstored (SetkeyIdleRow line iterations slot names fresh)
-setkey_idle_row line iterations slot names fresh =
-    unstored_then ReadsLastSector _ reading_unstored
-    (λ m. unstored_then (Admits m None) _ (admitting_unstored m None)
-    (λ settings. unstored_then (NeedsSlot slot) _ (slot_unstored slot)
-    (λ done. unstored_then (LoadsComponents line names) _ (components_unstored line names)
-    (λ parts. unstored_then (LoadsComponents line fresh) _ (components_unstored line fresh)
-    (λ next. unstored_then (OpensSlot m parts) _ (opening_unstored m parts)
-    (λ found. setting_unstored (record { meta = m; master = found.0.bytes; slot = unwrap_or slot found.1; iterations = iterations; parts = next })))))))
-
-setkey_attached_row : (line : List ℕ) (iterations : Option ℤ) (slot : ℕ) (master : List ℕ) (fresh : KeyWords) → Unstored (SetkeyAttachedRow line iterations slot master fresh)
-setkey_attached_row line iterations slot master fresh =
-    unstored_then ReadsLastSector _ reading_unstored
-    (λ m. unstored_then (IsUsed m) _ (using_unstored m)
-    (λ settings. unstored_then (NeedsSlot (Some slot)) _ (slot_unstored (Some slot))
-    (λ done. unstored_then (LoadsComponents line fresh) _ (components_unstored line fresh)
-    (λ parts. setting_unstored (record { meta = m; master = master; slot = slot; iterations = iterations; parts = parts })))))
-
-setkey_row : (line : List ℕ) (iterations : Option ℤ) (slot : Option ℕ) (names fresh : KeyWords) → Unstored (SetkeyRow line iterations slot names fresh)
-setkey_row line iterations slot names fresh old answer new h =
-    by_attachment old.holding _ _ (StoresNone old.cabinet new.cabinet) (λ is row. setkey_idle_row line iterations slot names fresh old answer new row)
-    (λ a is row. setkey_attached_row line iterations (unwrap_or slot a.slot) a.keying.master fresh old answer new row) h
-
 pub setkey_lawful : (prov : Span) (iterations : Option ℤ) (slot : Option ℕ) (words : KeyWords) (fresh : KeyWords) → IsLawful (commands.Setkey prov iterations slot words fresh)
 setkey_lawful prov iterations slot words fresh = record {
   why = λ line old refusal new h.
       let command : Command = commands.Setkey prov iterations slot words fresh in
       row_refused line command done_or old h.answer new refusal done_replying h.replied (setkey_why line prov iterations slot words fresh old h.answer new h.row);
   did = λ line old said new h. reply_line done_or _ false h.answer said old.disk new.disk done_replying h.replied (setkey_did line iterations slot words fresh old h.answer new h.row);
-  sound = λ line old reply new h. sound_reply done_or _ old reply new done_replying (setkey_sound line iterations slot words fresh) h;
+  sound = λ line old reply new h. sound_reply done_or _ old reply new done_replying (still_sound (setkey_still line iterations slot words fresh)) h;
   out = λ line old gate f.
       apart_out line (commands.Setkey prov iterations slot words fresh) old refl refl gate
       (λ refusal cabinet x. both_load (attachment_in old.holding) line iterations slot words fresh f.m old f.change refusal cabinet x) (λ refusal x. setkey_fits line iterations slot words fresh old f refusal x);
   tags = λ line old f needs h. false_is_true needs;
-  becomes = λ line old said new gate h. stays_so line (commands.Setkey prov iterations slot words fresh) old said new gate refl (setkey_stays line iterations slot words fresh old h.answer new h.row);
-  keeps = λ line old reply new gate other h. row_keeps done_or _ old reply new (setkey_stays line iterations slot words fresh) h;
+  becomes = λ line old said new gate h. stays_so line (commands.Setkey prov iterations slot words fresh) old said new gate refl ((setkey_still line iterations slot words fresh).stays old h.answer new h.row);
+  keeps = λ line old reply new gate other h. row_keeps done_or _ old reply new (setkey_still line iterations slot words fresh).stays h;
   left = λ line old said new h. done_left (ChangesMetadata line (commands.Setkey prov iterations slot words fresh) old.cabinet.files old.holding) old.disk h.answer said new.disk h.replied (setkey_left line iterations slot words fresh old h.answer new h.row);
-  stores = λ line old reply new h. unstored_reply _ _ old reply new (setkey_row line iterations slot words fresh) h;
+  stores = λ line old reply new h. unstored_reply _ _ old reply new (setkey_still line iterations slot words fresh).unstored h;
 }

@@ -3,13 +3,13 @@ use Rattle.std.proofs.Common.{Err, List, None, Ok, Result, Some, ap, arith, fals
 use Rattle.bio_queue.specs.declared.faults.StepFault.TheVariants as step
 use Rattle.command_words.specs.declared.commands.Command.TheVariants as commands
 use Rattle.eli_base.specs.declared.refusals.Refusal.TheVariants as refusals
-use Rattle.command_rows.specs.Rows.{AsksToStep, AttachedWith, Attachment, Holding, IsAttached, NeedsRequest, QueueRefuses, Reach, left_or, or_refusal}
+use Rattle.command_rows.specs.Rows.{AsksToStep, AttachedWith, Attachment, IsAttached, NeedsRequest, QueueRefuses, Reach, left_or, or_refusal}
 use Rattle.command_rows.specs.Vocabulary.{Command, DiskState, IsAllDone, Refusal, Request, Span, StepAnswers, StepFault, left_of, request_with, step_events}
 use Rattle.command_rows.specs.verbs.Step.{DoesNext, FitsStep, StepRow, StepsRequest, next_events, step_refusal}
 use Rattle.command_rows.proofs.QueueingCauses.{has_none, needs_why}
 use Rattle.command_rows.proofs.QueueingEvents.{quiet_needs}
 use Rattle.command_rows.proofs.QueueingFits.{is_served, one_request}
-use Rattle.command_rows.proofs.VerbLaws.{Becomes, Counts, Did, HoldsSame, IsLawful, LineDid, LineHasCause, RulesOut, SoundReply, StoresNone, UncountedAnswer, Unstored, Why, attached_reply, did_then, false_is_true, holds_next, holds_same, left_replying, needs, needs_counts, needs_same, never_both, never_holds, nothing_changed, nothing_done, queue_holds, refused_by, reply_line, request_unstored, row_refused, same_disk, same_files, then_counts, then_why, uncounted_step, unstored_reply, unstored_then, with_attached}
+use Rattle.command_rows.proofs.VerbLaws.{Becomes, Counts, Did, HoldsSame, IsLawful, RulesOut, SoundReply, StoresNone, UncountedAnswer, Unstored, Why, attached_did, attached_reply, attached_why, did_then, false_is_true, holds_next, holds_same, left_replying, needs, needs_counts, needs_same, never_both, never_holds, nothing_changed, nothing_done, queue_holds, refused_by, request_unstored, same_disk, same_files, then_counts, uncounted_step, unstored_reply, unstored_then, with_attached, same_then_why}
 
 step_uncounted : (tag : ℕ) (left : Result ℕ StepFault) → UncountedAnswer (or_refusal (step_refusal tag) left)
 step_uncounted tag (Ok left) = tt
@@ -64,9 +64,8 @@ step_why : (line : List ℕ) (prov : Span) (tag : ℕ) (a : Attachment) (old : R
     → Why line (commands.Step prov tag) old answer new
 step_why line prov tag a old answer new is h =
     let command : Command = commands.Step prov tag in
-    then_why line command (NeedsRequest a tag) (λ _. StepsRequest a tag) old answer new (λ given middle. needs_why line command a tag old given middle is (λ none. (refl, none)))
-    (λ done middle first next. subst (λ (r : Reach). Why line command r answer new) first.1
-    (steps_why line prov tag a middle answer new (ap (λ (r : Reach). r.holding) first.1 ∙ is) next)) h
+    same_then_why line command old answer new h (λ done middle first. first.1) (λ given middle. needs_why line command a tag old given middle is (λ none. (refl, none)))
+    (λ done first next. steps_why line prov tag a old answer new is next)
 
 none_left : (a : Attachment) (tag named : ℕ) (r : Request) → tag ≡ named → request_with named a.queue ≡ Some r → 1 ≤ left_of r → IsAllDone tag a.queue → ⊥
 none_left a tag named r same found more h =
@@ -100,13 +99,8 @@ step_row tag a = unstored_then (NeedsRequest a tag) _ (request_unstored a tag) (
 
 pub step_lawful : (prov : Span) (tag : ℕ) → IsLawful (commands.Step prov tag)
 step_lawful prov tag = record {
-  why = λ line old refusal new h.
-      with_attached old.holding _ (LineHasCause line (commands.Step prov tag) old refusal new)
-      (λ a is row. row_refused line (commands.Step prov tag) left_or old row.answer new refusal left_replying row.replied (step_why line prov tag a old row.answer new is row.row)) h;
-  did = λ line old said new h.
-      with_attached old.holding _ (LineDid (DoesNext old.holding tag) false said old.disk new.disk)
-      (λ a is row. subst (λ (x : Holding). LineDid (DoesNext x tag) false said old.disk new.disk) (sym is)
-      (reply_line left_or (DoesNext (IsAttached a) tag) false row.answer said old.disk new.disk left_replying row.replied (step_did tag a old row.answer new row.row))) h;
+  why = λ line old refusal new h. attached_why line (commands.Step prov tag) left_or (StepRow tag) old refusal new left_replying (λ a answer is row. step_why line prov tag a old answer new is row) h;
+  did = λ line old said new h. attached_did left_or (StepRow tag) (λ x. DoesNext x tag) old said new left_replying (λ a answer row. step_did tag a old answer new row) h;
   sound = λ line old reply new h. with_attached old.holding _ (SoundReply old reply new) (λ a is row. attached_reply left_or _ a old reply new left_replying (step_counts tag a) is row (step_holds tag a old row.answer new is row.row)) h;
   out = λ line old gate f. step_out line prov tag old gate f;
   tags = λ line old f needs h. false_is_true needs;

@@ -1,5 +1,5 @@
 -- That `submit` is lawful.
-use Rattle.std.proofs.Common.{Err, List, None, Ok, Result, [], ap, arith, false, length, refl, subst, sym, true, ℕ, ◌*◌, ◌+◌, ◌<◌, ◌∙◌, ◌≡◌, ◌≤◌, IsTrue}
+use Rattle.std.proofs.Common.{Err, List, None, Ok, Result, [], ap, arith, length, refl, subst, sym, true, ℕ, ◌*◌, ◌+◌, ◌<◌, ◌∙◌, ◌≡◌, ◌≤◌, IsTrue}
 use Rattle.bio_queue.specs.declared.faults.SubmitFault.TheVariants as submit
 use Rattle.bio_queue.specs.declared.job.Job.TheVariants as jobs
 use Rattle.command_words.specs.declared.commands.Command.TheVariants as commands
@@ -8,7 +8,7 @@ use Rattle.eli_base.specs.declared.refusals.Refusal.TheVariants as refusals
 use Rattle.command_rows.specs.Rows.{AsksBytesAtOnce, AsksSectorsFrom, AsksToOpen, AttachedWith, Attachment, IsAttached, NeedsWhole, QueueRefuses, Reach, bytes_spelled, or_refusal, tag_or, whole_sectors}
 use Rattle.command_rows.specs.Vocabulary.{Command, DiskState, IsWrite, Job, JobPassesEnd, JobWords, Refusal, Request, Span, SubmitAnswers, SubmitFault, bytes_at, media}
 use Rattle.command_rows.specs.verbs.Submit.{FitsBytes, FitsJob, FitsSubmit, SubmitRow, Submits, job_sectors, submit_refusal}
-use Rattle.command_rows.proofs.VerbLaws.{Becomes, Counts, HoldsSame, IsLawful, LineDid, LineHasCause, Quiet, RulesOut, SoundReply, StoresNone, UncountedAnswer, Unstored, Why, attached_reply, decision_counts, false_is_true, holds_next, holds_same, job_writes, needs, never_both, never_holds, nothing_changed, queue_holds, quiet_did, quiet_then, refused_by, reply_line, row_refused, same_disk, same_files, tag_replying, then_counts, then_why, uncounted_step, unstored_reply, unstored_then, whole_uncounted, whole_unstored, whole_why, with_attached}
+use Rattle.command_rows.proofs.VerbLaws.{Becomes, Counts, HoldsSame, IsLawful, Quiet, RulesOut, SoundReply, StoresNone, UncountedAnswer, Unstored, Why, attached_quiet, attached_reply, attached_why, false_is_true, holds_next, holds_same, job_writes, needs, never_both, never_holds, nothing_changed, queue_holds, quiet_then, refused_by, same_disk, same_files, tag_replying, then_counts, uncounted_step, unstored_reply, unstored_then, whole_still, whole_why, with_attached, same_then_why}
 
 submit_uncounted : (tag : Result ℕ SubmitFault) → UncountedAnswer (or_refusal submit_refusal tag)
 submit_uncounted (Ok tag) = tt
@@ -21,14 +21,11 @@ submits_count : (a : Attachment) (job : Job) (from : List ℕ) → Counts (Submi
 submits_count a job from old answer new h =
     uncounted_step old answer new (subst (λ (r : Result ℕ Refusal). UncountedAnswer r) (sym h.answered) (submit_uncounted h.tag)) (ap (λ (r : Reach). r.cabinet) h.left) (ap (λ (r : Reach). r.entropy) h.left)
 
-whole_counts : (a : Attachment) (bytes : ℕ) → Counts (NeedsWhole a bytes)
-whole_counts a bytes old answer new h = decision_counts _ old answer new (whole_uncounted a.keying.sectorsize bytes _) h
-
 submit_counts : (line : List ℕ) (asked : JobWords) (a : Attachment) → Counts (SubmitRow line asked a)
-submit_counts line (words.Read sector count) a = then_counts (NeedsWhole a (count * a.keying.sectorsize)) _ (whole_counts a (count * a.keying.sectorsize)) (λ whole. submits_count a (jobs.Read sector whole) [])
+submit_counts line (words.Read sector count) a = then_counts (NeedsWhole a (count * a.keying.sectorsize)) _ (whole_still a (count * a.keying.sectorsize)).counts (λ whole. submits_count a (jobs.Read sector whole) [])
 submit_counts line (words.Write sector hex) a =
     let bytes : List ℕ = bytes_spelled (bytes_at line hex) in
-    then_counts (NeedsWhole a (length bytes)) _ (whole_counts a (length bytes)) (λ whole. submits_count a (jobs.Write sector whole) bytes)
+    then_counts (NeedsWhole a (length bytes)) _ (whole_still a (length bytes)).counts (λ whole. submits_count a (jobs.Write sector whole) bytes)
 submit_counts line words.Flush a = submits_count a jobs.Flush []
 
 submits_hold : (a : Attachment) (job : Job) (from : List ℕ) (old : Reach) (answer : Result ℕ Refusal) (new : Reach) → Submits a job from old answer new → HoldsSame a new.holding
@@ -90,17 +87,13 @@ submit_why : (line : List ℕ) (prov : Span) (asked : JobWords) (a : Attachment)
     → Why line (commands.Submit prov asked) old answer new
 submit_why line prov (words.Read sector count) a old answer new is h =
     let command : Command = commands.Submit prov (words.Read sector count) in
-    then_why line command (NeedsWhole a (count * a.keying.sectorsize)) (λ whole. Submits a (jobs.Read sector whole) []) old answer new
-    (λ given middle. whole_why line command a (count * a.keying.sectorsize) old given middle is refl)
-    (λ whole middle first next. subst (λ (r : Reach). Why line command r answer new) first.1
-    (submits_why line prov (words.Read sector count) a (jobs.Read sector whole) [] middle answer new (ap (λ (r : Reach). r.holding) first.1 ∙ is) (read_worded line sector count whole a (sym first.0)) next)) h
+    same_then_why line command old answer new h (λ whole middle first. first.1) (λ given middle. whole_why line command a (count * a.keying.sectorsize) old given middle is refl)
+    (λ whole first next. submits_why line prov (words.Read sector count) a (jobs.Read sector whole) [] old answer new is (read_worded line sector count whole a (sym first.0)) next)
 submit_why line prov (words.Write sector hex) a old answer new is h =
     let command : Command = commands.Submit prov (words.Write sector hex) in
     let bytes : List ℕ = bytes_spelled (bytes_at line hex) in
-    then_why line command (NeedsWhole a (length bytes)) (λ whole. Submits a (jobs.Write sector whole) bytes) old answer new
-    (λ given middle. whole_why line command a (length bytes) old given middle is refl)
-    (λ whole middle first next. subst (λ (r : Reach). Why line command r answer new) first.1
-    (submits_why line prov (words.Write sector hex) a (jobs.Write sector whole) bytes middle answer new (ap (λ (r : Reach). r.holding) first.1 ∙ is) (write_worded line sector hex whole a (sym first.0)) next)) h
+    same_then_why line command old answer new h (λ whole middle first. first.1) (λ given middle. whole_why line command a (length bytes) old given middle is refl)
+    (λ whole first next. submits_why line prov (words.Write sector hex) a (jobs.Write sector whole) bytes old answer new is (write_worded line sector hex whole a (sym first.0)) next)
 submit_why line prov words.Flush a old answer new is h =
     submits_why line prov words.Flush a jobs.Flush [] old answer new is (record { writes = λ none. absurd none; sectors = λ end first many there none. none }) h
 
@@ -153,20 +146,16 @@ submitting_unstored : (a : Attachment) (job : Job) (from : List ℕ) → Unstore
 submitting_unstored a job from old answer new h = same_files old.cabinet new.cabinet (ap (λ (r : Reach). r.cabinet) h.left)
 
 submit_row : (line : List ℕ) (asked : JobWords) (a : Attachment) → Unstored (SubmitRow line asked a)
-submit_row line (words.Read sector count) a = unstored_then (NeedsWhole a (count * a.keying.sectorsize)) _ (whole_unstored a (count * a.keying.sectorsize)) (λ whole. submitting_unstored a (jobs.Read sector whole) [])
+submit_row line (words.Read sector count) a = unstored_then (NeedsWhole a (count * a.keying.sectorsize)) _ (whole_still a (count * a.keying.sectorsize)).unstored (λ whole. submitting_unstored a (jobs.Read sector whole) [])
 submit_row line (words.Write sector hex) a =
     let bytes : List ℕ = bytes_spelled (bytes_at line hex) in
-    unstored_then (NeedsWhole a (length bytes)) _ (whole_unstored a (length bytes)) (λ whole. submitting_unstored a (jobs.Write sector whole) bytes)
+    unstored_then (NeedsWhole a (length bytes)) _ (whole_still a (length bytes)).unstored (λ whole. submitting_unstored a (jobs.Write sector whole) bytes)
 submit_row line words.Flush a = submitting_unstored a jobs.Flush []
 
 pub submit_lawful : (prov : Span) (job : JobWords) → IsLawful (commands.Submit prov job)
 submit_lawful prov job = record {
-  why = λ line old refusal new h.
-      with_attached old.holding _ (LineHasCause line (commands.Submit prov job) old refusal new)
-      (λ a is row. row_refused line (commands.Submit prov job) tag_or old row.answer new refusal tag_replying row.replied (submit_why line prov job a old row.answer new is row.row)) h;
-  did = λ line old said new h.
-      with_attached old.holding _ (LineDid (λ events. events ≡ []) false said old.disk new.disk)
-      (λ a is row. reply_line tag_or _ false row.answer said old.disk new.disk tag_replying row.replied (quiet_did false old.disk row.answer new.disk (quiet_submit_row line job a old row.answer new row.row))) h;
+  why = λ line old refusal new h. attached_why line (commands.Submit prov job) tag_or (SubmitRow line job) old refusal new tag_replying (λ a answer is row. submit_why line prov job a old answer new is row) h;
+  did = λ line old said new h. attached_quiet tag_or (SubmitRow line job) old said new tag_replying (quiet_submit_row line job) h;
   sound = λ line old reply new h.
       with_attached old.holding _ (SoundReply old reply new)
       (λ a is row. attached_reply tag_or _ a old reply new tag_replying (submit_counts line job a) is row (submit_holds line job a old row.answer new is row.row)) h;

@@ -6,7 +6,7 @@ use Rattle.eli_base.specs.declared.refusals.Refusal.TheVariants as refusals
 use Rattle.command_rows.specs.Rows.{Answer, AsksForNone, AttachedWith, Attachment, DoesEvents, GoesOn, HoldsKeying, IsAttached, IsSuspended, QueueRefuses, Reach, attachment_in, done_or}
 use Rattle.command_rows.specs.Vocabulary.{Command, DiskState, FailsIn, Logs, Refusal, Request, Span}
 use Rattle.command_rows.specs.verbs.Suspend.{NeedsNoRequests, SuspendRow, Suspends, if_none_open, kept_by}
-use Rattle.command_rows.proofs.VerbLaws.{Becomes, Counts, Did, IsLawful, KeepsRequests, LineDid, LineHasCause, RulesOut, Sound, SoundReply, StoresNone, UncountedAnswer, Unstored, Why, becomes_as, decision_unstored, did_then, does_did, does_uncounted, done_replying, events_why, false_is_true, needs, never_both, never_holds, nothing_changed, refused_by, reply_line, row_refused, same_disk, same_files, same_reach, sound_decision, sound_reply, sound_then, then_why, uncounted_step, unstored_reply, unstored_then, with_attached}
+use Rattle.command_rows.proofs.VerbLaws.{Becomes, Counts, Did, IsLawful, KeepsRequests, RulesOut, Sound, SoundReply, Still, StoresNone, UncountedAnswer, Unstored, Why, attached_did, attached_why, becomes_as, did_then, does_did, does_uncounted, done_replying, events_why, false_is_true, needs, never_both, never_holds, nothing_changed, refused_by, same_disk, same_files, same_reach, sound_reply, sound_then, still_decision, still_sound, uncounted_step, unstored_reply, unstored_then, with_attached, same_then_why}
 
 suspending_counts : (a : Attachment) → Counts (Suspends a)
 suspending_counts a old answer new h = uncounted_step old answer new (does_uncounted (Flush ∷ []) old.disk answer new.disk h.flushes) h.outside.cabinet h.outside.entropy
@@ -15,14 +15,14 @@ open_uncounted : (queue : List Request) → UncountedAnswer (if_none_open queue)
 open_uncounted [] = tt
 open_uncounted (r ∷ queue) = tt
 
-none_open_sound : (a : Attachment) → Sound (NeedsNoRequests a)
-none_open_sound a = sound_decision (λ r. if_none_open a.queue) (λ r. open_uncounted a.queue)
+none_open_still : (a : Attachment) → Still (NeedsNoRequests a)
+none_open_still a = still_decision (λ r. if_none_open a.queue) (λ r. open_uncounted a.queue)
 
 suspends_sound : (a : Attachment) → Sound (Suspends a)
 suspends_sound a = record { counts = suspending_counts a; keeps = λ old answer new h had. subst HoldsKeying (sym h.holding) tt }
 
 suspend_sound : (a : Attachment) → Sound (SuspendRow a)
-suspend_sound a = sound_then (NeedsNoRequests a) _ (none_open_sound a) (λ done. suspends_sound a)
+suspend_sound a = sound_then (NeedsNoRequests a) _ (still_sound (none_open_still a)) (λ done. suspends_sound a)
 
 open_why : (line : List ℕ) (prov : Span) (a : Attachment) (queue : List Request) (old middle : Reach) → old.holding ≡ IsAttached a → a.queue ≡ queue → Why line (commands.Suspend prov) old (if_none_open queue) middle
 open_why line prov a [] old middle is are = tt
@@ -31,9 +31,9 @@ open_why line prov a (r ∷ queue) old middle is are = let some : 1 ≤ length (
 suspend_why : (line : List ℕ) (prov : Span) (a : Attachment) (old : Reach) (answer : Result (Unit {0}) Refusal) (new : Reach) → old.holding ≡ IsAttached a → SuspendRow a old answer new → Why line (commands.Suspend prov) old answer new
 suspend_why line prov a old answer new is h =
     let command : Command = commands.Suspend prov in
-    then_why line command (NeedsNoRequests a) (λ _. Suspends a) old answer new
+    same_then_why line command old answer new h (λ done middle first. first.1)
     (λ given middle first. subst (λ (r : Result (Unit {0}) Refusal). Why line command old r middle) (sym first.0) (open_why line prov a a.queue old middle is refl))
-    (λ done middle first next. subst (λ (r : Reach). Why line command r answer new) first.1 (events_why line command (Flush ∷ []) middle answer new next.flushes)) h
+    (λ done first next. events_why line command (Flush ∷ []) old answer new next.flushes)
 
 suspends_did : (a : Attachment) (old : Reach) (answer : Result (Unit {0}) Refusal) (new : Reach) → SuspendRow a old answer new → Did (λ events. events ≡ Flush ∷ []) false old.disk answer new.disk
 suspends_did a old answer new h =
@@ -80,11 +80,8 @@ suspend_out line prov old gate f = record {
 suspending_unstored : (a : Attachment) → Unstored (Suspends a)
 suspending_unstored a old answer new h = same_files old.cabinet new.cabinet h.outside.cabinet
 
-none_open_unstored : (a : Attachment) → Unstored (NeedsNoRequests a)
-none_open_unstored a = decision_unstored (λ r. if_none_open a.queue)
-
 suspend_row : (a : Attachment) → Unstored (SuspendRow a)
-suspend_row a = unstored_then (NeedsNoRequests a) _ (none_open_unstored a) (λ done. suspending_unstored a)
+suspend_row a = unstored_then (NeedsNoRequests a) _ (none_open_still a).unstored (λ done. suspending_unstored a)
 
 -- `suspend`, where none is open
 suspend_keeps : (a : Attachment) (old : Reach) (given : Result (Unit {0}) Refusal) (middle : Reach) (answer : Result (Unit {0}) Refusal) (new : Reach) → NeedsNoRequests a old given middle → GoesOn (λ _. Suspends a) given middle answer new
@@ -94,12 +91,8 @@ suspend_keeps a old (Err refusal) middle answer new first h = inl (same_reach mi
 
 pub suspend_lawful : (prov : Span) → IsLawful (commands.Suspend prov)
 suspend_lawful prov = record {
-  why = λ line old refusal new h.
-      with_attached old.holding _ (LineHasCause line (commands.Suspend prov) old refusal new)
-      (λ a is row. row_refused line (commands.Suspend prov) done_or old row.answer new refusal done_replying row.replied (suspend_why line prov a old row.answer new is row.row)) h;
-  did = λ line old said new h.
-      with_attached old.holding _ (LineDid (λ events. events ≡ Flush ∷ []) false said old.disk new.disk)
-      (λ a is row. reply_line done_or _ false row.answer said old.disk new.disk done_replying row.replied (suspends_did a old row.answer new row.row)) h;
+  why = λ line old refusal new h. attached_why line (commands.Suspend prov) done_or (SuspendRow) old refusal new done_replying (λ a answer is row. suspend_why line prov a old answer new is row) h;
+  did = λ line old said new h. attached_did done_or (SuspendRow) (λ x events. events ≡ Flush ∷ []) old said new done_replying (λ a answer row. suspends_did a old answer new row) h;
   sound = λ line old reply new h. with_attached old.holding _ (SoundReply old reply new) (λ a is row. sound_reply done_or _ old reply new done_replying (suspend_sound a) row) h;
   out = λ line old gate f. suspend_out line prov old gate f;
   tags = λ line old f needs h. false_is_true needs;

@@ -3,12 +3,12 @@ use Rattle.std.proofs.Common.{Bool, Err, List, None, Ok, Option, Result, Some, [
 use Rattle.std.specs.Int.{from_le_bytes, w64}
 use Rattle.command_words.specs.declared.commands.Command.TheVariants as commands
 use Rattle.eli_base.specs.declared.refusals.Refusal.TheVariants as refusals
-use Rattle.command_rows.specs.Rows.{Attachment, Decides, IsAttached, IsFile, LoadsFile, Reach, StoresBytes, Then}
+use Rattle.command_rows.specs.Rows.{Attachment, IsAttached, IsFile, LoadsFile, Reach, StoresBytes, Then}
 use Rattle.command_rows.specs.Vocabulary.{CabinetState, Command, Counted, DiskState, Files, Logs, Refusal, Span, Sweep, bytes_at, file_answer, has_tags, le64, media, stored}
 use Rattle.command_rows.specs.verbs.Verify.{FindsPlace, FitsVerify, LoadsPlace, NeedsPlace, NeedsTags, PartAnswer, RefusesLong, RefusesPlace, SaysPlace, SaysTooFar, StoresPlace, Sweeps, SweepsFrom, SweptPart, VerifyRow, if_inside, if_tagged, place_in, place_size, unless_absent, verified_or}
 use Rattle.command_rows.proofs.PlaceCauses.{wrong_file}
 use Rattle.command_rows.proofs.SweepPlaces.{OfFile, eight_loaded, eight_says, found_place, from_stays, is_inside, place_stays, was_loaded}
-use Rattle.command_rows.proofs.VerbLaws.{Becomes, Counts, CountsResult, IsLawful, LineDid, LineHasCause, PlainAnswer, Quiet, Sound, SoundReply, Stays, Step, Stored, StoresAt, StoresNone, StoresOne, UncountedAnswer, Unstored, Why, apart_out, attached, attached_keeps, by_plain, bytes_stored, decides_why, decision_unstored, done_sound, done_unstored, false_is_true, file_counts, loading_bytes, may_lack_memory, needs, needs_tags, never_both, next_unstored, none_then, not_both, nothing_changed, quiet_did, quiet_failure, quiet_storing, quiet_then, reply_line, row_refused, same_disk, same_files, same_reach, sound_decision, sound_reply, sound_step, sound_then, stays_so, stays_then, stored_then, storing_sound, storing_why, then_since, then_why, uncounted_step, unstored_then, verified_replying, with_attached}
+use Rattle.command_rows.proofs.VerbLaws.{Counts, CountsResult, IsLawful, LineHasCause, PlainAnswer, Quiet, SoundReply, Step, Still, StillBut, Stored, StoresAt, StoresNone, StoresOne, UncountedAnswer, Unstored, Why, apart_out, attached, attached_becomes, attached_keeps, attached_quiet, attached_why, by_plain, decides_why, done_still, false_is_true, file_counts, loading_bytes, may_lack_memory, needs, needs_tags, never_both, next_unstored, none_then, not_both, nothing_changed, quiet_failure, quiet_storing, quiet_then, same_disk, same_files, sound_reply, stays_then, still_but_sound, still_but_then, still_decision, still_then, storing_still, storing_why, then_counts, then_since, then_why, uncounted_step, verified_replying, with_attached, same_then_why}
 
 tagged_uncounted : (tagged : Bool) → UncountedAnswer (if_tagged tagged)
 tagged_uncounted true = tt
@@ -75,10 +75,10 @@ place_why : (line : List ℕ) (prov file : Span) (count : ℕ) (restart : Bool) 
 place_why line prov file count true a old answer new is h = rw h.0 tt
 place_why line prov file count false a old answer new is h =
     let command : Command = commands.Verify prov file count false in
-    then_why line command (LoadsPlace line file) (λ found. Decides (place_in file.word found)) old answer new
+    then_why line command old answer new h
     (λ given middle first. subst (λ (r : Result (Option (List ℕ)) Refusal). Why line command old r middle) (sym first.answered) (loaded_why line prov file count old first.loaded middle first.loads))
     (λ found middle first next. decides_why line command old (place_in file.word found) middle answer new (place_plain file.word found)
-    (λ refusal bad. attached old.holding ⊥ (RefusesPlace line file false old.disk old.cabinet.files refusal) a is (short_file line file a old found middle refusal first bad)) next) h
+    (λ refusal bad. attached old.holding ⊥ (RefusesPlace line file false old.disk old.cabinet.files refusal) a is (short_file line file a old found middle refusal first bad)) next)
 
 inside_found : (place there : ℕ) (inside : Bool) → PlainAnswer {A = Unit {0}} (cond inside (Ok tt) (Err (refusals.BadPlace place there)))
 inside_found place there true = tt
@@ -108,18 +108,18 @@ swept_why line command s start old (Err refusal) new same h = absurd h
 stored_why : (line : List ℕ) (command : Command) (file : Span) (part : SweptPart) (start old : Reach) (answer : Result SweptPart Refusal) (new : Reach) → may_lack_memory command ≡ true → start.cabinet.faults ≤ old.cabinet.faults
     → StoresPlace line file part old answer new → Why line command start answer new
 stored_why line command file part start old answer new memory later h =
-    then_since line command start (StoresBytes line file (le64 part.next)) (λ _. Decides (Ok part)) old answer new
+    then_since line command start old answer new h
     (λ given middle first. storing_why line command file (le64 part.next) start old given middle memory later first.stores)
-    (λ done middle first next. rw next.0 tt) h
+    (λ done middle first next. rw next.0 tt)
 
 from_why : (line : List ℕ) (prov file : Span) (count : ℕ) (restart : Bool) (a : Attachment) (place : ℕ) (start old : Reach) (answer : Result SweptPart Refusal) (new : Reach) → start.holding ≡ IsAttached a → old.disk ≡ start.disk
     → (place ≡ 0) ⊎ OfFile restart line file start.cabinet.files place → SweepsFrom a place count old answer new → Why line (commands.Verify prov file count restart) start answer new
 from_why line prov file count restart a place start old answer new is same found h =
     let command : Command = commands.Verify prov file count restart in
-    then_since line command start (NeedsPlace a place) (λ _. Sweeps a place count) old answer new
+    then_since line command start old answer new h
     (λ given middle first. decides_why line command start (if_inside place (media a.keying old.disk)) old given middle (inside_plain place (media a.keying old.disk))
     (λ refusal bad. attached start.holding ⊥ (RefusesPlace line file restart start.disk start.cabinet.files refusal) a is (far_place line file restart a start old.disk place refusal same found bad)) first)
-    (λ done middle first next. swept_why line command _ start middle answer new (ap (λ (r : Reach). r.disk) first.1 ∙ same) next.sweeps) h
+    (λ done middle first next. swept_why line command _ start middle answer new (ap (λ (r : Reach). r.disk) first.1 ∙ same) next.sweeps)
 
 later_faults : (first middle last : ℕ) (before after : CabinetState) → first ≤ middle → middle ≡ before.faults → after ≡ before → last ≡ after.faults → first ≤ last
 later_faults first middle last before after le is same at =
@@ -129,44 +129,47 @@ placed_why : (line : List ℕ) (prov file : Span) (count : ℕ) (restart : Bool)
     → Then (FindsPlace restart line file) (λ place. Then (SweepsFrom a place count) (λ part. StoresPlace line file part)) old answer new → Why line (commands.Verify prov file count restart) old answer new
 placed_why line prov file count restart a old answer new is h =
     let command : Command = commands.Verify prov file count restart in
-    then_why line command (FindsPlace restart line file) (λ place. Then (SweepsFrom a place count) (λ part. StoresPlace line file part)) old answer new
+    then_why line command old answer new h
     (λ given middle first. place_why line prov file count restart a old given middle is first)
     (λ place middle first next. let stays = place_stays restart line file old (Ok place) middle first in
-    then_since line command old (SweepsFrom a place count) (λ part. StoresPlace line file part) middle answer new
+    then_since line command old middle answer new next
     (λ given swept sweeps. from_why line prov file count restart a place old middle given swept is stays.disk (found_place restart line file old place middle first) sweeps)
     (λ part swept sweeps stores. stored_why line command file part old swept answer new refl
-    (later_faults old.cabinet.faults middle.cabinet.faults swept.cabinet.faults middle.cabinet swept.cabinet stays.files.faults refl (from_stays a place count middle (Ok part) swept sweeps).outside.cabinet refl) stores) next) h
+    (later_faults old.cabinet.faults middle.cabinet.faults swept.cabinet.faults middle.cabinet swept.cabinet stays.files.faults refl (from_stays a place count middle (Ok part) swept sweeps).outside.cabinet refl) stores))
 
 verify_why : (line : List ℕ) (prov file : Span) (count : ℕ) (restart : Bool) (a : Attachment) (old : Reach) (answer : Result SweptPart Refusal) (new : Reach) → old.holding ≡ IsAttached a → VerifyRow line file count restart a old answer new
     → Why line (commands.Verify prov file count restart) old answer new
 verify_why line prov file count restart a old answer new is h =
     let command : Command = commands.Verify prov file count restart in
-    then_why line command (NeedsTags a) (λ _. Then (FindsPlace restart line file) (λ place. Then (SweepsFrom a place count) (λ part. StoresPlace line file part))) old answer new
-    (λ given middle first. tags_by line command a (has_tags a.keying.auth) old given middle is refl refl first.0)
-    (λ done middle first next. subst (λ (r : Reach). Why line command r answer new) first.1
-    (placed_why line prov file count restart a middle answer new (ap (λ (r : Reach). r.holding) first.1 ∙ is) next)) h
+    same_then_why line command old answer new h (λ done middle first. first.1) (λ given middle first. tags_by line command a (has_tags a.keying.auth) old given middle is refl refl first.0)
+    (λ done first next. placed_why line prov file count restart a old answer new is next)
 
-tags_sound : (a : Attachment) → Sound (NeedsTags a)
-tags_sound a = sound_decision (λ r. if_tagged (has_tags a.keying.auth)) (λ r. tagged_uncounted (has_tags a.keying.auth))
+tags_still : (a : Attachment) → Still (NeedsTags a)
+tags_still a = still_decision (λ r. if_tagged (has_tags a.keying.auth)) (λ r. tagged_uncounted (has_tags a.keying.auth))
 
-place_sound : (restart : Bool) (line : List ℕ) (file : Span) → Sound (FindsPlace restart line file)
-place_sound true line file = done_sound 0
-place_sound false line file =
-    sound_then (LoadsPlace line file) _ (sound_step (LoadsPlace line file) (loading_place_counts line file) (λ old answer new h. h.loads.holding))
-    (λ found. sound_decision (λ r. place_in file.word found) (λ r. by_plain (place_in file.word found) (place_plain file.word found)))
+loading_place_still : (line : List ℕ) (file : Span) → Still (LoadsPlace line file)
+loading_place_still line file = record {
+  counts = loading_place_counts line file;
+  stays = λ old answer new h. h.loads.holding;
+  unstored = λ old answer new h. record { files = h.loads.keeps.files; stores = h.loads.unstored };
+}
 
-sweep_sound : (a : Attachment) (place count : ℕ) → Sound (SweepsFrom a place count)
-sweep_sound a place count =
-    sound_then (NeedsPlace a place) _ (sound_decision (λ r. if_inside place (media a.keying r.disk)) (λ r. by_plain (if_inside place (media a.keying r.disk)) (inside_plain place (media a.keying r.disk))))
-    (λ done. sound_step (Sweeps a place count) (sweeping_counts a place count) (λ old answer new h. h.holding))
+place_still : (restart : Bool) (line : List ℕ) (file : Span) → Still (FindsPlace restart line file)
+place_still true line file = done_still 0
+place_still false line file =
+    still_then (loading_place_still line file) (λ found. still_decision (λ r. place_in file.word found) (λ r. by_plain (place_in file.word found) (place_plain file.word found)))
 
-verify_sound : (line : List ℕ) (file : Span) (count : ℕ) (restart : Bool) (a : Attachment) → Sound (VerifyRow line file count restart a)
-verify_sound line file count restart a =
-    sound_then (NeedsTags a) _ (tags_sound a)
-    (λ done. sound_then (FindsPlace restart line file) _ (place_sound restart line file)
-    (λ place. sound_then (SweepsFrom a place count) _ (sweep_sound a place count)
-    (λ part. sound_then (StoresBytes line file (le64 part.next)) _ (storing_sound line file (le64 part.next))
-    (λ stored. done_sound part))))
+sweeping_still : (a : Attachment) (place count : ℕ) → Still (Sweeps a place count)
+sweeping_still a place count = record {
+  counts = sweeping_counts a place count;
+  stays = λ old answer new h. h.holding;
+  unstored = λ old answer new h. same_files old.cabinet new.cabinet h.outside.cabinet;
+}
+
+sweep_still : (a : Attachment) (place count : ℕ) → Still (SweepsFrom a place count)
+sweep_still a place count =
+    still_then (still_decision (λ r. if_inside place (media a.keying r.disk)) (λ r. by_plain (if_inside place (media a.keying r.disk)) (inside_plain place (media a.keying r.disk))))
+    (λ done. sweeping_still a place count)
 
 quiet_part : (s : Sweep) (old : DiskState) (answer : Result SweptPart Refusal) (new : DiskState) → PartAnswer s old answer new → Logs [] old new
 quiet_part s old (Ok part) new h = h.1.logs
@@ -189,18 +192,6 @@ quiet_verify_row line file count restart a =
     (λ done. quiet_then (FindsPlace restart line file) _ (λ old answer new h. same_disk old.disk new.disk (place_stays restart line file old answer new h).disk)
     (λ place. quiet_then (SweepsFrom a place count) _ (quiet_from a place count)
     (λ part. quiet_place line file part)))
-
-found_stays : (restart : Bool) (line : List ℕ) (file : Span) → Stays (FindsPlace restart line file)
-found_stays true line file = λ old answer new h. same_reach old new h.1
-found_stays false line file = stays_then (LoadsPlace line file) _ (λ old answer new h. h.loads.holding) (λ found old answer new h. same_reach old new h.1)
-
-verify_stays : (line : List ℕ) (file : Span) (count : ℕ) (restart : Bool) (a : Attachment) → Stays (VerifyRow line file count restart a)
-verify_stays line file count restart a =
-    stays_then (NeedsTags a) _ (λ old answer new h. same_reach old new h.1)
-    (λ done. stays_then (FindsPlace restart line file) _ (found_stays restart line file)
-    (λ place. stays_then (SweepsFrom a place count) _ (stays_then (NeedsPlace a place) _ (λ old answer new h. same_reach old new h.1) (λ inside old answer new h. h.holding))
-    (λ part. stays_then (StoresBytes line file (le64 part.next)) _ (λ old answer new h. h.holding)
-    (λ stored old answer new h. same_reach old new h.1))))
 
 -- a file of eight bytes, or none, isn't too long
 long_out : (word limit there : ℕ) (file : Option (List ℕ)) → SaysPlace there file → file_answer word place_size file ≡ Err (refusals.FileTooLong word limit) → ⊥
@@ -249,49 +240,33 @@ then_unstored : {A B : Type 0} (line : List ℕ) (file : Option Span) (First : S
 then_unstored line file First Next first next old answer new h =
     before line file old.cabinet h.middle.cabinet new.cabinet (first old h.given h.middle h.first) (next_unstored Next h.given h.middle answer new next h.next)
 
-tags_unstored : (a : Attachment) → Unstored (NeedsTags a)
-tags_unstored a = decision_unstored (λ r. if_tagged (has_tags a.keying.auth))
+-- the place is stored last
+stores_still : (line : List ℕ) (file : Span) (part : SweptPart) → StillBut line (Some file) (StoresPlace line file part)
+stores_still line file part =
+    let stores : StillBut line (Some file) (StoresBytes line file (le64 part.next)) = storing_still line file (le64 part.next) in
+    record {
+      counts = then_counts (StoresBytes line file (le64 part.next)) _ stores.counts (λ stored. (done_still part).counts);
+      stays = stays_then (StoresBytes line file (le64 part.next)) _ stores.stays (λ stored. (done_still part).stays);
+      stored = then_unstored line (Some file) (StoresBytes line file (le64 part.next)) _ stores.stored (λ stored. (done_still part).unstored);
+    }
 
-loading_place_unstored : (line : List ℕ) (file : Span) → Unstored (LoadsPlace line file)
-loading_place_unstored line file old answer new h = record { files = h.loads.keeps.files; stores = h.loads.unstored }
-
-sweeping_unstored : (a : Attachment) (place count : ℕ) → Unstored (Sweeps a place count)
-sweeping_unstored a place count old answer new h = same_files old.cabinet new.cabinet h.outside.cabinet
-
-place_row : (restart : Bool) (line : List ℕ) (file : Span) → Unstored (FindsPlace restart line file)
-place_row true line file = done_unstored 0
-place_row false line file = unstored_then (LoadsPlace line file) _ (loading_place_unstored line file) (λ found. decision_unstored (λ r. place_in file.word found))
-
-sweep_row : (a : Attachment) (place count : ℕ) → Unstored (SweepsFrom a place count)
-sweep_row a place count = unstored_then (NeedsPlace a place) _ (decision_unstored (λ r. if_inside place (media a.keying r.disk))) (λ done. sweeping_unstored a place count)
-
-verify_row : (line : List ℕ) (file : Span) (count : ℕ) (restart : Bool) (a : Attachment) → Stored line (Some file) (VerifyRow line file count restart a)
-verify_row line file count restart a =
-    stored_then line (Some file) (NeedsTags a) _ (tags_unstored a)
-    (λ done. stored_then line (Some file) (FindsPlace restart line file) _ (place_row restart line file)
-    (λ place. stored_then line (Some file) (SweepsFrom a place count) _ (sweep_row a place count)
-    (λ part. then_unstored line (Some file) (StoresBytes line file (le64 part.next)) _ (bytes_stored line file (le64 part.next))
-    (λ stored. done_unstored part))))
+verify_still : (line : List ℕ) (file : Span) (count : ℕ) (restart : Bool) (a : Attachment) → StillBut line (Some file) (VerifyRow line file count restart a)
+verify_still line file count restart a =
+    still_but_then (tags_still a) (λ done. still_but_then (place_still restart line file)
+    (λ place. still_but_then (sweep_still a place count) (λ part. stores_still line file part)))
 
 pub verify_lawful : (prov : Span) (file : Span) (count : ℕ) (restart : Bool) → IsLawful (commands.Verify prov file count restart)
 verify_lawful prov file count restart = record {
-  why = λ line old refusal new h.
-      let command : Command = commands.Verify prov file count restart in
-      with_attached old.holding _ (LineHasCause line command old refusal new)
-      (λ a is row. row_refused line command verified_or old row.answer new refusal verified_replying row.replied (verify_why line prov file count restart a old row.answer new is row.row)) h;
-  did = λ line old said new h.
-      with_attached old.holding _ (LineDid (λ events. events ≡ []) false said old.disk new.disk)
-      (λ a is row. reply_line verified_or _ false row.answer said old.disk new.disk verified_replying row.replied (quiet_did false old.disk row.answer new.disk (quiet_verify_row line file count restart a old row.answer new row.row))) h;
-  sound = λ line old reply new h. with_attached old.holding _ (SoundReply old reply new) (λ a is row. sound_reply verified_or _ old reply new verified_replying (verify_sound line file count restart a) row) h;
+  why = λ line old refusal new h. attached_why line (commands.Verify prov file count restart) verified_or (VerifyRow line file count restart) old refusal new verified_replying (λ a answer is row. verify_why line prov file count restart a old answer new is row) h;
+  did = λ line old said new h. attached_quiet verified_or (VerifyRow line file count restart) old said new verified_replying (quiet_verify_row line file count restart) h;
+  sound = λ line old reply new h. with_attached old.holding _ (SoundReply old reply new) (λ a is row. sound_reply verified_or _ old reply new verified_replying (still_but_sound (verify_still line file count restart a)) row) h;
   out = λ line old gate f.
       apart_out line (commands.Verify prov file count restart) old refl refl gate
       (λ refusal cabinet x. with_attached old.holding _ ⊥ (λ a is fits. verify_file_out line file restart old refusal cabinet a fits x) f)
       (λ refusal x. never_both _ _ old.holding f (λ a fits bad. verify_place_out line file restart old refusal a fits bad) x);
   tags = λ line old f needs h. never_both _ _ old.holding f (λ a fits untagged. false_is_true (sym untagged ∙ fits.tagged)) h;
-  becomes = λ line old said new gate h.
-      with_attached old.holding _ (Becomes line (commands.Verify prov file count restart) old said new)
-      (λ a is row. stays_so line (commands.Verify prov file count restart) old said new gate refl (verify_stays line file count restart a old row.answer new row.row)) h;
-  keeps = λ line old reply new gate other h. attached_keeps verified_or (VerifyRow line file count restart) old reply new (verify_stays line file count restart) h;
+  becomes = λ line old said new gate h. attached_becomes line (commands.Verify prov file count restart) verified_or (VerifyRow line file count restart) old said new gate refl (λ a. (verify_still line file count restart a).stays) h;
+  keeps = λ line old reply new gate other h. attached_keeps verified_or (VerifyRow line file count restart) old reply new (λ a. (verify_still line file count restart a).stays) h;
   left = λ line old said new h. nothing_changed line old.cabinet.files old.holding said old.disk new.disk;
-  stores = λ line old reply new h. with_attached old.holding _ (StoresAt line (Some file) old.cabinet new.cabinet) (λ a is row. verify_row line file count restart a old row.answer new row.row) h;
+  stores = λ line old reply new h. with_attached old.holding _ (StoresAt line (Some file) old.cabinet new.cabinet) (λ a is row. (verify_still line file count restart a).stored old row.answer new row.row) h;
 }

@@ -2,10 +2,10 @@
 use Rattle.std.proofs.Common.{Bool, Err, List, None, Ok, Result, ap, cond, false, length, refl, subst, sym, true, ℕ, ◌/◌, ◌∙◌, ◌≡◌}
 use Rattle.command_words.specs.declared.commands.Command.TheVariants as commands
 use Rattle.eli_base.specs.declared.refusals.Refusal.TheVariants as refusals
-use Rattle.command_rows.specs.Rows.{AttachedWith, Attachment, Holding, IsAttached, NeedsSectors, NeedsWhole, NeedsWritable, Reach, Then, WritesSectors, bytes_spelled, done_or, whole_sectors}
+use Rattle.command_rows.specs.Rows.{AttachedWith, Attachment, IsAttached, NeedsSectors, NeedsWhole, NeedsWritable, Reach, Then, WritesSectors, bytes_spelled, done_or, whole_sectors}
 use Rattle.command_rows.specs.Vocabulary.{Command, Refusal, Span, bytes_at, data_writes, media}
 use Rattle.command_rows.specs.verbs.Write.{FitsWrite, WriteRow, WritesData}
-use Rattle.command_rows.proofs.VerbLaws.{Becomes, Did, IsLawful, LineDid, LineHasCause, RulesOut, Sound, SoundReply, Stays, StoresNone, Unstored, Why, attached_keeps, did_then, doing_sound, doing_unstored, done_replying, false_is_true, needs, never_both, never_holds, not_both, nothing_changed, passes, range_sound, range_unstored, refused_by, reply_line, row_refused, same_disk, same_reach, sound_reply, sound_then, stays_so, stays_then, then_why, unstored_reply, unstored_then, whole_sound, whole_unstored, whole_why, with_attached, writable_did, writable_sound, writable_unstored, writable_write_why}
+use Rattle.command_rows.proofs.VerbLaws.{Did, IsLawful, RulesOut, SoundReply, Still, StoresNone, Why, attached_becomes, attached_did, attached_keeps, attached_why, did_then, doing_still, done_replying, false_is_true, needs, never_both, never_holds, not_both, nothing_changed, passes, range_still, refused_by, same_disk, sound_reply, still_sound, still_then, unstored_reply, whole_still, whole_why, with_attached, writable_did, writable_still, writable_write_why, same_then_why}
 
 write_why : (line : List ℕ) (prov : Span) (sector : ℕ) (hex : Span) (a : Attachment) (old : Reach) (answer : Result (Unit {0}) Refusal) (new : Reach) → old.holding ≡ IsAttached a
     → WriteRow sector (bytes_spelled (bytes_at line hex)) a old answer new
@@ -13,10 +13,8 @@ write_why : (line : List ℕ) (prov : Span) (sector : ℕ) (hex : Span) (a : Att
 write_why line prov sector hex a old answer new is h =
     let command : Command = commands.Write prov sector hex in
     let bytes : List ℕ = bytes_spelled (bytes_at line hex) in
-    then_why line command (NeedsWhole a (length bytes)) (λ count. Then (NeedsWritable a) (λ _. Then (NeedsSectors a sector count) (λ _. WritesSectors a sector count bytes))) old answer new
-    (λ given middle. whole_why line command a (length bytes) old given middle is refl)
-    (λ count middle first next. subst (λ (r : Reach). Why line command r answer new) first.1
-    (writable_write_why line command sector count bytes a middle answer new (ap (λ (r : Reach). r.holding) first.1 ∙ is) refl (refl, sym first.0) next)) h
+    same_then_why line command old answer new h (λ count middle first. first.1) (λ given middle. whole_why line command a (length bytes) old given middle is refl)
+    (λ count first next. writable_write_why line command sector count bytes a old answer new is refl (refl, sym first.0) next)
 
 counted : (size bytes count : ℕ) (whole : Bool) (refusal : Refusal) → Ok count ≡ cond whole (Ok (bytes / size)) (Err refusal) → count ≡ bytes / size
 counted size bytes count true refusal h = cc h
@@ -33,19 +31,10 @@ writes_did a sector bytes old answer new h =
     (writable_did a sector count bytes middle answer new next))
     h
 
-write_sound : (sector : ℕ) (bytes : List ℕ) (a : Attachment) → Sound (WriteRow sector bytes a)
-write_sound sector bytes a =
-    sound_then (NeedsWhole a (length bytes)) _ (whole_sound a (length bytes))
-    (λ count. sound_then (NeedsWritable a) _ (writable_sound a)
-    (λ done. sound_then (NeedsSectors a sector count) _ (range_sound a sector count)
-    (λ there. doing_sound _)))
-
-pub write_stays : (sector : ℕ) (bytes : List ℕ) (a : Attachment) → Stays (WriteRow sector bytes a)
-write_stays sector bytes a =
-    stays_then (NeedsWhole a (length bytes)) _ (λ old answer new h. same_reach old new h.1)
-    (λ count. stays_then (NeedsWritable a) _ (λ old answer new h. same_reach old new h.1)
-    (λ done. stays_then (NeedsSectors a sector count) _ (λ old answer new h. same_reach old new h.1)
-    (λ there old answer new h. h.holding)))
+pub write_still : (sector : ℕ) (bytes : List ℕ) (a : Attachment) → Still (WriteRow sector bytes a)
+write_still sector bytes a =
+    still_then (whole_still a (length bytes)) (λ count. still_then (writable_still a)
+    (λ done. still_then (range_still a sector count) (λ there. doing_still _)))
 
 write_out : (line : List ℕ) (prov : Span) (sector : ℕ) (hex : Span) (old : Reach) → refused_by (needs (commands.Write prov sector hex)) old.holding ≡ None → AttachedWith old.holding (FitsWrite sector (bytes_spelled (bytes_at line hex)) old.disk) → RulesOut line (commands.Write prov sector hex) old
 write_out line prov sector hex old gate f = record {
@@ -62,30 +51,15 @@ write_out line prov sector hex old gate f = record {
   ground = λ refusal h. h;
 }
 
-write_row : (sector : ℕ) (bytes : List ℕ) (a : Attachment) → Unstored (WriteRow sector bytes a)
-write_row sector bytes a =
-    unstored_then (NeedsWhole a (length bytes)) _ (whole_unstored a (length bytes))
-    (λ count. unstored_then (NeedsWritable a) _ (writable_unstored a)
-    (λ done. unstored_then (NeedsSectors a sector count) _ (range_unstored a sector count)
-    (λ there. doing_unstored _)))
-
 pub write_lawful : (prov : Span) (sector : ℕ) (hex : Span) → IsLawful (commands.Write prov sector hex)
 write_lawful prov sector hex = record {
-  why = λ line old refusal new h.
-      with_attached old.holding _ (LineHasCause line (commands.Write prov sector hex) old refusal new)
-      (λ a is row. row_refused line (commands.Write prov sector hex) done_or old row.answer new refusal done_replying row.replied (write_why line prov sector hex a old row.answer new is row.row)) h;
-  did = λ line old said new h.
-      let bytes : List ℕ = bytes_spelled (bytes_at line hex) in
-      with_attached old.holding _ (LineDid (WritesData old.holding sector bytes) false said old.disk new.disk)
-      (λ a is row. subst (λ (x : Holding). LineDid (WritesData x sector bytes) false said old.disk new.disk) (sym is)
-      (reply_line done_or (WritesData (IsAttached a) sector bytes) false row.answer said old.disk new.disk done_replying row.replied (writes_did a sector bytes old row.answer new row.row))) h;
-  sound = λ line old reply new h. with_attached old.holding _ (SoundReply old reply new) (λ a is row. sound_reply done_or _ old reply new done_replying (write_sound sector (bytes_spelled (bytes_at line hex)) a) row) h;
+  why = λ line old refusal new h. attached_why line (commands.Write prov sector hex) done_or (WriteRow sector (bytes_spelled (bytes_at line hex))) old refusal new done_replying (λ a answer is row. write_why line prov sector hex a old answer new is row) h;
+  did = λ line old said new h. attached_did done_or (WriteRow sector (bytes_spelled (bytes_at line hex))) (λ x. WritesData x sector (bytes_spelled (bytes_at line hex))) old said new done_replying (λ a answer row. writes_did a sector _ old answer new row) h;
+  sound = λ line old reply new h. with_attached old.holding _ (SoundReply old reply new) (λ a is row. sound_reply done_or _ old reply new done_replying (still_sound (write_still sector (bytes_spelled (bytes_at line hex)) a)) row) h;
   out = λ line old gate f. write_out line prov sector hex old gate f;
   tags = λ line old f needs h. false_is_true needs;
-  becomes = λ line old said new gate h.
-      with_attached old.holding _ (Becomes line (commands.Write prov sector hex) old said new)
-      (λ a is row. stays_so line (commands.Write prov sector hex) old said new gate refl (write_stays sector (bytes_spelled (bytes_at line hex)) a old row.answer new row.row)) h;
-  keeps = λ line old reply new gate other h. attached_keeps done_or (WriteRow sector (bytes_spelled (bytes_at line hex))) old reply new (write_stays sector (bytes_spelled (bytes_at line hex))) h;
+  becomes = λ line old said new gate h. attached_becomes line (commands.Write prov sector hex) done_or (WriteRow sector (bytes_spelled (bytes_at line hex))) old said new gate refl (λ a. (write_still sector (bytes_spelled (bytes_at line hex)) a).stays) h;
+  keeps = λ line old reply new gate other h. attached_keeps done_or (WriteRow sector (bytes_spelled (bytes_at line hex))) old reply new (λ a. (write_still sector (bytes_spelled (bytes_at line hex)) a).stays) h;
   left = λ line old said new h. nothing_changed line old.cabinet.files old.holding said old.disk new.disk;
-  stores = λ line old reply new h. with_attached old.holding _ (StoresNone old.cabinet new.cabinet) (λ a is row. unstored_reply _ _ old reply new (write_row sector (bytes_spelled (bytes_at line hex)) a) row) h;
+  stores = λ line old reply new h. with_attached old.holding _ (StoresNone old.cabinet new.cabinet) (λ a is row. unstored_reply _ _ old reply new (write_still sector (bytes_spelled (bytes_at line hex)) a).unstored row) h;
 }

@@ -1,4 +1,4 @@
-use Rattle.block_traits.specs.Streams.{TookAll}
+use Rattle.command_rows.specs.Vocabulary.{TookAll}
 use Rattle.geli_core.specs.Run.{answers_text, closing_answers}
 use Rattle.geli_core.proofs.ending.print_failures.Given as goal
 

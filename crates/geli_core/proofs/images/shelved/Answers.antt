@@ -1,8 +1,8 @@
 use Rattle.std.proofs.Common.{rules, ◌≡◌, ◌∙◌, ◌+◌, arith, drop, get_or, map, refl, string_bytes}
+use Rattle.command_rows.specs.Rows.{DrawerState, Idle}
 use Rattle.geli_core.specs.Images.{idle_drawers}
+use Rattle.geli_core.specs.Vocabulary.{drawers_of}
 use Rattle.geli_core.proofs.Shelving.{differ_more, idle_next, not_shelved, refused_next, taken_next}
-use Rattle.command_rows.specs.World.{DrawerState, Idle}
-use Rattle.shelf.specs.Shelved.{drawers_of}
 use Rattle.geli_core.proofs.images.shelved.Goals as goal
 
 pub loop-name-init : goal.loop-name-init

@@ -1,7 +1,7 @@
 use Rattle.std.proofs.Common.{◌≡◌, ◌+◌, ◌++◌, drop, length, map, string_bytes}
-use Rattle.command_rows.specs.World.{NamesDiffer}
+use Rattle.command_rows.specs.Rows.{NamesDiffer}
 use Rattle.geli_core.specs.Images.{disks_of, idle_drawers}
-use Rattle.shelf.specs.Shelved.{drawers_of}
+use Rattle.geli_core.specs.Vocabulary.{drawers_of}
 use Rattle.geli_core.proofs.images.shelved.Given as goal
 
 -- with the disks that are left under the names that are left it would have them all, and there are as many of these as

@@ -1,12 +1,10 @@
 use Rattle.std.proofs.Common.{◌∙◌, None, ap, refl, rules}
-use Rattle.block_traits.specs.Streams.{SinkState}
-use Rattle.command_words.specs.Images.{line_of}
-use Rattle.command_words.specs.Reading.{command_in}
+use Rattle.command_rows.specs.Vocabulary.{SinkState}
+use Rattle.geli_core.specs.Vocabulary.{command_in, drawers_of, line_of}
 use Rattle.geli_core.proofs.Commands.{declined, run_as_said, runs_as}
 use Rattle.geli_core.proofs.Lawful.{runs_lawfully}
 use Rattle.geli_core.specs.Images.{outside_of, whole_with}
 use Rattle.geli_core.specs.Script.{Whole}
-use Rattle.shelf.specs.Shelved.{drawers_of}
 use Rattle.geli_core.proofs.top_call.run.Goals as goal
 
 pub returns-in-Script-clause-runs : goal.returns-in-Script-clause-runs

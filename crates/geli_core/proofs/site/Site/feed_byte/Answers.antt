@@ -1,5 +1,5 @@
 use Rattle.std.proofs.Common.{arith, length, ◌≡◌, ◌≤◌}
-use Rattle.command_words.specs.Reading.{line_limit}
+use Rattle.geli_core.specs.Vocabulary.{line_limit}
 use Rattle.geli_core.proofs.Running.{IsServed-byte, IsServed-line, IsTooLong-byte, IsUnprinted-line}
 use Rattle.geli_core.proofs.site.Site.feed_byte.Goals as goal
 

@@ -1,7 +1,7 @@
 use Rattle.std.proofs.Common.{ℕ, ◌≤◌, ◌-◌, List, ◌++◌, length, take, vec_capacity, vec_len}
-use Rattle.command_words.specs.Reading.{line_limit}
 use Rattle.geli_core.specs.Served.{IsServed, SiteState}
 use Rattle.geli_core.specs.Sites.{BorrowsAsBefore, site_now}
+use Rattle.geli_core.specs.Vocabulary.{line_limit}
 use Rattle.geli_core.proofs.site.Site.feed_piece.Given as goal
 
 -- the bytes up to this place were looked at

@@ -1,8 +1,8 @@
 use Rattle.std.proofs.Common.{◌≡◌, ℕ, ◌+◌, ◌≤◌, List, length, vec_capacity, vec_len}
-use Rattle.command_words.specs.Reading.{line_limit}
 use Rattle.geli_core.specs.Script.{MetNothing, script_limit}
 use Rattle.geli_core.specs.Served.{IsTaken}
 use Rattle.geli_core.specs.Sites.{BorrowsAsBefore, site_now}
+use Rattle.geli_core.specs.Vocabulary.{line_limit}
 use Rattle.geli_core.proofs.site.Site.feed_source.Given as goal
 
 -- the bytes so far were looked at

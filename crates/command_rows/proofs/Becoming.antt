@@ -22,8 +22,8 @@ pub stays_next : {A B : Type 0} (Next : A → Step B) (given : Result A Refusal)
 stays_next Next (Ok a) middle answer new stays h = stays a middle answer new h
 stays_next Next (Err refusal) middle answer new stays h = ap (λ (r : Reach). r.holding) h.1
 
-pub stays_then : {A B : Type 0} (First : Step A) (Next : A → Step B) → Stays First → ((a : A) → Stays (Next a)) → Stays (Then First Next)
-stays_then First Next first next old answer new h = stays_next Next h.given h.middle answer new next h.next ∙ first old h.given h.middle h.first
+pub stays_then : {A B : Type 0} {First : Step A} {Next : A → Step B} → Stays First → ((a : A) → Stays (Next a)) → Stays (Then First Next)
+stays_then {A} {B} {First} {Next} first next old answer new h = stays_next Next h.given h.middle answer new next h.next ∙ first old h.given h.middle h.first
 
 pub same_reach : (old new : Reach) → new ≡ old → new.holding ≡ old.holding
 same_reach old new is = ap (λ (r : Reach). r.holding) is

@@ -113,8 +113,8 @@ counts_next Next old (Ok a) middle answer new first next h =
     (counts_since old middle answer new first.1 n.0, later_then old middle new first.1 n.1)
 counts_next Next old (Err refusal) middle answer new first next h = rw (h.0, h.1) first
 
-pub then_counts : {A B : Type 0} (First : Step A) (Next : A → Step B) → Counts First → ((a : A) → Counts (Next a)) → Counts (Then First Next)
-then_counts First Next first next old answer new h = counts_next Next old h.given h.middle answer new (first old h.given h.middle h.first) next h.next
+pub then_counts : {A B : Type 0} {First : Step A} {Next : A → Step B} → Counts First → ((a : A) → Counts (Next a)) → Counts (Then First Next)
+then_counts {A} {B} {First} {Next} first next old answer new h = counts_next Next old h.given h.middle answer new (first old h.given h.middle h.first) next h.next
 
 -- ---- what the drawer does with its disk
 

@@ -4,7 +4,7 @@ use Rattle.eli_base.specs.declared.refusals.Refusal.TheVariants as refusals
 use Rattle.eli_metadata.specs.declared.place.ReadMetaFault.TheVariants.{TooSmall, DeviceFault, Meta}
 use Rattle.command_rows.specs.Histories.{BreaksOff}
 use Rattle.std.proofs.Common.{Bool, Err, List, Ok, Option, Result, [], ap, arith, false, inl, inr, refl, subst, sym, take, true, ℕ, ◌≡◌}
-use Rattle.command_rows.specs.Rows.{Admits, Attaches, Attachment, DoesEvents, GoesOn, LoadsComponents, NeedsSectors, NeedsWritable, Reach, ReadsLastSector, ReadsSectors, Then, TryRow, WritesSectors}
+use Rattle.command_rows.specs.Rows.{Attaches, Attachment, DoesEvents, GoesOn, LoadsComponents, NeedsSectors, NeedsWritable, Reach, ReadsLastSector, ReadsSectors, Then, TryRow, WritesSectors}
 use Rattle.command_rows.specs.Vocabulary.{DiskState, Event, FailsIn, KeyWords, Logs, Metadata, ReadMetaFault, ReadsMetadata, Refusal, data_writes}
 pub use Rattle.command_rows.proofs.Causing.{Step}
 
@@ -15,6 +15,9 @@ Quiet {A} R = (old : Reach) (answer : Result A Refusal) (new : Reach) → R old 
 
 pub same_disk : (old new : DiskState) → new ≡ old → Logs [] old new
 same_disk old new is = rw is (Logs-nothing old)
+
+pub same_quiet : (old new : Reach) → new ≡ old → Logs [] old.disk new.disk
+same_quiet old new is = same_disk old.disk new.disk (ap (λ (r : Reach). r.disk) is)
 
 pub quiet_failure : (old new : DiskState) → FailsIn [] old new → Logs [] old new
 quiet_failure old new f = let none : f.count ≡ 0 = omega (arith, f.within) in subst (λ (n : ℕ). Logs (take n []) old new) none f.logs
@@ -36,8 +39,8 @@ quiet_next : {A B : Type 0} (Next : A → Step B) (given : Result A Refusal) (mi
 quiet_next Next (Ok a) middle answer new quiet h = quiet a middle answer new h
 quiet_next Next (Err refusal) middle answer new quiet h = same_disk middle.disk new.disk (ap (λ (r : Reach). r.disk) h.1)
 
-pub quiet_then : {A B : Type 0} (First : Step A) (Next : A → Step B) → Quiet First → ((a : A) → Quiet (Next a)) → Quiet (Then First Next)
-quiet_then First Next first next old answer new h = Logs-then [] [] (first old h.given h.middle h.first) (quiet_next Next h.given h.middle answer new next h.next)
+pub quiet_then : {A B : Type 0} {First : Step A} {Next : A → Step B} → Quiet First → ((a : A) → Quiet (Next a)) → Quiet (Then First Next)
+quiet_then {A} {B} {First} {Next} first next old answer new h = Logs-then [] [] (first old h.given h.middle h.first) (quiet_next Next h.given h.middle answer new next h.next)
 
 -- ---- what a row did
 
@@ -76,9 +79,9 @@ did_next Row stores First Next old (Ok a) middle answer new quiet first next h =
 did_next Row stores First Next old (Err refusal) middle answer new quiet first next h =
     rw h.0 (nothing_done Row stores refusal old.disk new.disk (subst (λ (r : Reach). Logs [] old.disk r.disk) (sym h.1) quiet))
 
-pub did_then : {A B : Type 0} (Row : List Event → Type 0) (stores : Bool) (First : Step A) (Next : A → Step B) (old : Reach) (answer : Result B Refusal) (new : Reach) → Quiet First
-    → ((a : A) (middle : Reach) → First old (Ok a) middle → Next a middle answer new → Did Row stores middle.disk answer new.disk) → Then First Next old answer new → Did Row stores old.disk answer new.disk
-did_then Row stores First Next old answer new quiet next h =
+pub did_then : {A B : Type 0} {First : Step A} {Next : A → Step B} (Row : List Event → Type 0) (stores : Bool) (old : Reach) (answer : Result B Refusal) (new : Reach) → Then First Next old answer new → Quiet First
+    → ((a : A) (middle : Reach) → First old (Ok a) middle → Next a middle answer new → Did Row stores middle.disk answer new.disk) → Did Row stores old.disk answer new.disk
+did_then {A} {B} {First} {Next} Row stores old answer new h quiet next =
     did_next Row stores First Next old h.given h.middle answer new (quiet old h.given h.middle h.first) h.first (λ a. next a h.middle) h.next
 
 -- ---- the rows
@@ -105,24 +108,24 @@ last_did a sector count bytes old answer new h = does_did (data_writes a.keying 
 inside_did : (a : Attachment) (sector count : ℕ) (bytes : List ℕ) (old : Reach) (answer : Result (Unit {0}) Refusal) (new : Reach) → Then (NeedsSectors a sector count) (λ _. WritesSectors a sector count bytes) old answer new
     → Did (λ found. found ≡ data_writes a.keying sector count bytes) false old.disk answer new.disk
 inside_did a sector count bytes old answer new h =
-    did_then (λ found. found ≡ data_writes a.keying sector count bytes) false (NeedsSectors a sector count) (λ _. WritesSectors a sector count bytes) old answer new
-    (λ old answer new h. same_disk old.disk new.disk (ap (λ (r : Reach). r.disk) h.1)) (λ done middle first next. last_did a sector count bytes middle answer new next) h
+    did_then (λ found. found ≡ data_writes a.keying sector count bytes) false old answer new h (λ old answer new h. same_quiet old new h.1)
+    (λ done middle first next. last_did a sector count bytes middle answer new next)
 
 pub writable_did : (a : Attachment) (sector count : ℕ) (bytes : List ℕ) (old : Reach) (answer : Result (Unit {0}) Refusal) (new : Reach)
     → Then (NeedsWritable a) (λ _. Then (NeedsSectors a sector count) (λ _. WritesSectors a sector count bytes)) old answer new
     → Did (λ found. found ≡ data_writes a.keying sector count bytes) false old.disk answer new.disk
 writable_did a sector count bytes old answer new h =
-    did_then (λ found. found ≡ data_writes a.keying sector count bytes) false (NeedsWritable a) (λ _. Then (NeedsSectors a sector count) (λ _. WritesSectors a sector count bytes)) old answer new
-    (λ old answer new h. same_disk old.disk new.disk (ap (λ (r : Reach). r.disk) h.1)) (λ done middle first next. inside_did a sector count bytes middle answer new next) h
+    did_then (λ found. found ≡ data_writes a.keying sector count bytes) false old answer new h (λ old answer new h. same_quiet old new h.1)
+    (λ done middle first next. inside_did a sector count bytes middle answer new next)
 
 pub quiet_attaching : (a : Attachment) → Quiet (Attaches a)
-quiet_attaching a old (Ok done) new h = same_disk old.disk new.disk (ap (λ (r : Reach). r.disk) h)
-quiet_attaching a old (Err refusals.NoMemory) new h = same_disk old.disk new.disk (ap (λ (r : Reach). r.disk) h)
+quiet_attaching a old (Ok done) new h = same_quiet _ new h
+quiet_attaching a old (Err refusals.NoMemory) new h = same_quiet _ new h
 quiet_attaching a old (Err refusal) new h = absurd h
 
 pub quiet_trial : (line : List ℕ) (slot : Option ℕ) (readonly : Bool) (words : KeyWords) → Quiet (TryRow line slot readonly words)
 quiet_trial line slot readonly words =
-    quiet_then ReadsLastSector _ quiet_reading
-    (λ m. quiet_then (Admits m slot) _ (λ old answer new h. same_disk old.disk new.disk (ap (λ (r : Reach). r.disk) h.1))
-    (λ settings. quiet_then (LoadsComponents line words) _ (quiet_loading line words)
-    (λ parts old answer new h. same_disk old.disk new.disk (ap (λ (r : Reach). r.disk) h.1))))
+    quiet_then quiet_reading
+    (λ m. quiet_then (λ old answer new h. same_quiet old new h.1)
+    (λ settings. quiet_then (quiet_loading line words)
+    (λ parts old answer new h. same_quiet old new h.1)))

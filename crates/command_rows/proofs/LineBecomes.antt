@@ -1,18 +1,18 @@
 -- What each line makes of what its drawer does with its disk.
-use Rattle.std.proofs.Common.{Bool, List, ap, subst, sym, ℕ, MatchOption}
+use Rattle.std.proofs.Common.{Bool, List, subst, sym, ℕ, MatchOption}
 use Rattle.command_rows.specs.Becoming.{Becomes, BecomesAt, BecomesSo, BecomesUnless}
 use Rattle.command_rows.specs.Rows.{Answer, Reach, World}
 use Rattle.command_rows.specs.Turn.{ChangesAt, IsRefused, Serves, Turn, reach, takes_out}
 use Rattle.command_rows.specs.Vocabulary.{Command, Refusal}
 use Rattle.command_rows.proofs.Becoming.{same_reach, stays_quiet}
-use Rattle.command_rows.proofs.Events.{same_disk}
+use Rattle.command_rows.proofs.Events.{same_quiet}
 use Rattle.command_rows.proofs.Gate.{by_passed_gate}
 use Rattle.command_rows.proofs.Turns.{by_turn}
 use Rattle.command_rows.proofs.Untouched.{get-set}
 use Rattle.command_rows.proofs.verbs.{lawful}
 
 refused_stays : (line : List ℕ) (command : Command) (old : Reach) (said : Answer) (new : Reach) (refusal : Refusal) → IsRefused old said new refusal → Becomes line command old said new
-refused_stays line command old said new refusal h = stays_quiet line command old said new (same_reach old new h.unchanged) (same_disk old.disk new.disk (ap (λ (r : Reach). r.disk) h.unchanged))
+refused_stays line command old said new refusal h = stays_quiet line command old said new (same_reach old new h.unchanged) (same_quiet old new h.unchanged)
 
 pub serves_becomes : (line : List ℕ) (command : Command) (old : Reach) (said : Answer) (new : Reach) → Serves line command old said new → Becomes line command old said new
 serves_becomes line command old said new h =

@@ -41,8 +41,8 @@ pub record Sound {A : Type 0} (R : Step A) : Type 0 where
   pub counts : Counts R
   pub keeps : Keeps R
 
-pub sound_then : {A B : Type 0} (First : Step A) (Next : A → Step B) → Sound First → ((a : A) → Sound (Next a)) → Sound (Then First Next)
-sound_then First Next first next = record { counts = then_counts First Next first.counts (λ a. (next a).counts); keeps = keeps_then First Next first.keeps (λ a. (next a).keeps) }
+pub sound_then : {A B : Type 0} {First : Step A} {Next : A → Step B} → Sound First → ((a : A) → Sound (Next a)) → Sound (Then First Next)
+sound_then {A} {B} {First} {Next} first next = record { counts = then_counts first.counts (λ a. (next a).counts); keeps = keeps_then First Next first.keeps (λ a. (next a).keeps) }
 
 -- a step that leaves the drawer as it is
 pub sound_step : {A : Type 0} (R : Step A) → Counts R → ((old : Reach) (answer : Result A Refusal) (new : Reach) → R old answer new → new.holding ≡ old.holding) → Sound R

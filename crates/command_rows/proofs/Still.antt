@@ -19,9 +19,9 @@ still_sound {A} {R} s = sound_step R s.counts s.stays
 
 pub still_then : {A B : Type 0} {First : Step A} {Next : A → Step B} → Still First → ((a : A) → Still (Next a)) → Still (Then First Next)
 still_then {A} {B} {First} {Next} first next = record {
-  counts = then_counts First Next first.counts (λ a. (next a).counts);
-  stays = stays_then First Next first.stays (λ a. (next a).stays);
-  unstored = unstored_then First Next first.unstored (λ a. (next a).unstored);
+  counts = then_counts first.counts (λ a. (next a).counts);
+  stays = stays_then first.stays (λ a. (next a).stays);
+  unstored = unstored_then first.unstored (λ a. (next a).unstored);
 }
 
 -- ---- the steps
@@ -93,9 +93,9 @@ still_but_sound {A} {line} {file} {R} s = sound_step R s.counts s.stays
 -- the first step stores nothing
 pub still_but_then : {A B : Type 0} {line : List ℕ} {file : Option Span} {First : Step A} {Next : A → Step B} → Still First → ((a : A) → StillBut line file (Next a)) → StillBut line file (Then First Next)
 still_but_then {A} {B} {line} {file} {First} {Next} first next = record {
-  counts = then_counts First Next first.counts (λ a. (next a).counts);
-  stays = stays_then First Next first.stays (λ a. (next a).stays);
-  stored = stored_then line file First Next first.unstored (λ a. (next a).stored);
+  counts = then_counts first.counts (λ a. (next a).counts);
+  stays = stays_then first.stays (λ a. (next a).stays);
+  stored = stored_then line file first.unstored (λ a. (next a).stored);
 }
 
 pub storing_still : (line : List ℕ) (file : Span) (bytes : List ℕ) → StillBut line (Some file) (StoresBytes line file bytes)

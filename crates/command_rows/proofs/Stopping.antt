@@ -3,7 +3,7 @@ use Rattle.block_traits.proofs.Logs.{logged-none}
 use Rattle.std.proofs.Common.{Bool, Err, List, Ok, Option, Result, [], ap, false, inl, refl, subst, true, ℕ, ◌-◌, ◌∙◌, ◌≡◌, ◌⊎◌}
 use Rattle.command_rows.specs.Rows.{Decides, GoesOn, LoadsComponents, Reach, ReadsLastSector, Then}
 use Rattle.command_rows.specs.Vocabulary.{AtEachMoment, CabinetState, Content, DiskState, KeepsAlone, KeyWords, Logs, Refusal, last_sector}
-use Rattle.command_rows.proofs.Events.{Step, quiet_loading, quiet_reading, same_disk}
+use Rattle.command_rows.proofs.Events.{Step, quiet_loading, quiet_reading, same_quiet}
 
 -- ---- steps before which the disk holds what it held
 
@@ -40,7 +40,7 @@ before_then : (start old new : Reach) → Before start old → Leads old new →
 before_then start old new before h = record { same = same_then start.disk old.disk new.disk before.same h.quiet; files = h.files ∙ before.files }
 
 pub early_decision : {A : Type 0} (old : Reach) (decided answer : Result A Refusal) (new : Reach) → Decides decided old answer new → Leads old new
-early_decision old decided answer new h = record { quiet = same_disk old.disk new.disk (ap (λ (r : Reach). r.disk) h.1); files = ap (λ (r : Reach). r.cabinet.files) h.1 }
+early_decision old decided answer new h = record { quiet = same_quiet old new h.1; files = ap (λ (r : Reach). r.cabinet.files) h.1 }
 
 pub early_reading : Early ReadsLastSector
 early_reading old answer new h = record { quiet = quiet_reading old answer new h; files = ap (λ (c : CabinetState). c.files) h.cabinet }
@@ -60,9 +60,9 @@ left_next : {A B : Type 0} (Changes : Change) (start : DiskState) (First : Step 
 left_next Changes start First Next old (Ok a) middle answer new same first next h = next a first h
 left_next Changes start First Next old (Err refusal) middle answer new same first next h = rw h.0 (inl (ap (λ (r : Reach). r.disk.content) h.1 ∙ same.content))
 
-pub left_then : {A B : Type 0} (Changes : Change) (start : Reach) (First : Step A) (Next : A → Step B) (old : Reach) (answer : Result B Refusal) (new : Reach) → Before start old → Early First
-    → ((a : A) (middle : Reach) → Before start middle → First old (Ok a) middle → Next a middle answer new → Left Changes start.disk answer new.disk) → Then First Next old answer new → Left Changes start.disk answer new.disk
-left_then Changes start First Next old answer new before early next h =
+pub left_then : {A B : Type 0} {First : Step A} {Next : A → Step B} (Changes : Change) (start old : Reach) (answer : Result B Refusal) (new : Reach) → Then First Next old answer new → Before start old → Early First
+    → ((a : A) (middle : Reach) → Before start middle → First old (Ok a) middle → Next a middle answer new → Left Changes start.disk answer new.disk) → Left Changes start.disk answer new.disk
+left_then {A} {B} {First} {Next} Changes start old answer new h before early next =
     let there = before_then start old h.middle before (early old h.given h.middle h.first) in
     left_next Changes start.disk First Next old h.given h.middle answer new there.same h.first (λ a. next a h.middle there) h.next
 

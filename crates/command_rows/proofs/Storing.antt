@@ -33,8 +33,8 @@ pub next_unstored : {A B : Type 0} (Next : A → Step B) (given : Result A Refus
 next_unstored Next (Ok a) middle answer new next h = next a middle answer new h
 next_unstored Next (Err refusal) middle answer new next h = same_files middle.cabinet new.cabinet (ap (λ (r : Reach). r.cabinet) h.1)
 
-pub unstored_then : {A B : Type 0} (First : Step A) (Next : A → Step B) → Unstored First → ((a : A) → Unstored (Next a)) → Unstored (Then First Next)
-unstored_then First Next first next old answer new h =
+pub unstored_then : {A B : Type 0} {First : Step A} {Next : A → Step B} → Unstored First → ((a : A) → Unstored (Next a)) → Unstored (Then First Next)
+unstored_then {A} {B} {First} {Next} first next old answer new h =
     none_then old.cabinet h.middle.cabinet new.cabinet (first old h.given h.middle h.first) (next_unstored Next h.given h.middle answer new next h.next)
 
 one_behind : (name : List ℕ) (old middle new : CabinetState) → StoresNone old middle → StoresOne name middle new → StoresOne name old new
@@ -54,8 +54,8 @@ next_stored line file Next (Ok a) middle answer new next h = next a middle answe
 next_stored line file Next (Err refusal) middle answer new next h = none_at line file middle.cabinet new.cabinet (same_files middle.cabinet new.cabinet (ap (λ (r : Reach). r.cabinet) h.1))
 
 -- the first step stores nothing
-pub stored_then : {A B : Type 0} (line : List ℕ) (file : Option Span) (First : Step A) (Next : A → Step B) → Unstored First → ((a : A) → Stored line file (Next a)) → Stored line file (Then First Next)
-stored_then line file First Next first next old answer new h =
+pub stored_then : {A B : Type 0} {First : Step A} {Next : A → Step B} (line : List ℕ) (file : Option Span) → Unstored First → ((a : A) → Stored line file (Next a)) → Stored line file (Then First Next)
+stored_then {A} {B} {First} {Next} line file first next old answer new h =
     behind line file old.cabinet h.middle.cabinet new.cabinet (first old h.given h.middle h.first) (next_stored line file Next h.given h.middle answer new next h.next)
 
 -- ---- the steps

@@ -1,8 +1,8 @@
 -- The drawers, and what else a command reaches, as plain data.
-use Rattle.std.specs.Prelude.{◌≡◌, ℕ, ◌+◌, Bool, true, false, List, [], ◌∷◌, Option, Some, None, map, if◌then◌else◌, slice_get, IfSome, MatchOption}
+use Rattle.std.specs.Prelude.{◌≡◌, ℕ, ◌+◌, Bool, true, false, List, [], ◌∷◌, Option, Some, None, if◌then◌else◌, slice_get, IfSome, MatchOption}
 use Rattle.std.specs.Option.{option_map}
 use Rattle.std.specs.Str.{bytes_eq}
-use Rattle.command_rows.specs.Vocabulary.{CabinetState, Content, DiskState, EntropyState, IsKeying, Keying, Request}
+use Rattle.command_rows.specs.Vocabulary.{CabinetState, DiskState, EntropyState, IsKeying, Keying, Request}
 
 -- with what a provider is attached: the slot that gave the master key, the keying, whether it is read-only, and the
 -- requests that are open on it, in order of their tags
@@ -80,10 +80,6 @@ HoldsKeying holding = IfSome (attachment_in holding) (λ a. IsKeying a.keying)
 -- the same of each of the drawers
 abbrev pub HoldKeyings : List DrawerState → Type 0
 HoldKeyings drawers = (drawer : DrawerState) → IsAmong drawers drawer → HoldsKeying drawer.holding
-
--- what each disk tells of its content, its history among it
-abbrev pub told_contents : List DrawerState → List (Option Content)
-told_contents drawers = map (λ drawer. drawer.disk.content) drawers
 
 -- all that a command may change
 pub record World : Type 0 where

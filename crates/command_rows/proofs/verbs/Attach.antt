@@ -8,15 +8,15 @@ use Rattle.command_rows.specs.verbs.Attach.{AttachRow, AttachesUnless, OpensWith
 use Rattle.command_rows.proofs.Keyed.{GivesAttachment, attachment_keyed, try_gives}
 use Rattle.command_rows.proofs.ProviderCauses.{attaching_why, trial_why}
 use Rattle.command_rows.proofs.SuspendCauses.{trial_opens}
-use Rattle.command_rows.proofs.VerbLaws.{AnIdle, Becomes, Counts, IsLawful, IsNew, Keeps, KeepsRequests, NoneOpen, Quiet, Sound, Unstored, Why, apart_out, attach_fits, attached_new, attaches_keep, attaching_counts, attaching_unstored, becomes_as, decision_counts, done_replying, done_still, false_is_true, keeps_next, may_lack_memory, no_bad_file, none_try, nothing_changed, quiet_attaching, quiet_did, quiet_then, quiet_trial, refused_by, reply_line, row_refused, same_disk, same_reach, some_is_none, sound_reply, still_sound, then_counts, then_why, try_still, unstored_reply, unstored_then}
+use Rattle.command_rows.proofs.VerbLaws.{AnIdle, Becomes, Counts, IsLawful, IsNew, Keeps, KeepsRequests, NoneOpen, Quiet, Sound, Unstored, Why, apart_out, attach_fits, attached_new, attaches_keep, attaching_counts, attaching_unstored, becomes_as, decision_counts, done_replying, done_still, false_is_true, keeps_next, may_lack_memory, no_bad_file, none_try, nothing_changed, quiet_attaching, quiet_did, quiet_then, quiet_trial, refused_by, reply_line, row_refused, same_quiet, same_reach, some_is_none, sound_reply, still_sound, then_counts, then_why, try_still, unstored_reply, unstored_then}
 
 quiet_unless : (only_check : Bool) (a : Attachment) → Quiet (AttachesUnless only_check a)
-quiet_unless true a old answer new h = same_disk old.disk new.disk (ap (λ (r : Reach). r.disk) h.1)
+quiet_unless true a old answer new h = same_quiet old new h.1
 quiet_unless false a old answer new h = quiet_attaching a old answer new h
 
 quiet_attach_row : (line : List ℕ) (only_check readonly : Bool) (slot : Option ℕ) (words : KeyWords) → Quiet (AttachRow line only_check readonly slot words)
 quiet_attach_row line only_check readonly slot words =
-    quiet_then (TryRow line slot readonly words) _ (quiet_trial line slot readonly words)
+    quiet_then (quiet_trial line slot readonly words)
     (λ a. quiet_unless only_check a)
 
 unless_counts : (only_check : Bool) (a : Attachment) → Counts (AttachesUnless only_check a)
@@ -32,7 +32,7 @@ keeps_attach_row line only_check readonly slot words old answer new h had =
 attach_sound : (line : List ℕ) (only_check readonly : Bool) (slot : Option ℕ) (words : KeyWords) → Sound (AttachRow line only_check readonly slot words)
 attach_sound line only_check readonly slot words = record {
   counts =
-      then_counts (TryRow line slot readonly words) _ (try_still line slot readonly words).counts
+      then_counts (try_still line slot readonly words).counts
       (λ a. unless_counts only_check a);
   keeps = keeps_attach_row line only_check readonly slot words;
 }
@@ -78,7 +78,7 @@ unless_unstored true a = (done_still tt).unstored
 unless_unstored false a = attaching_unstored a
 
 attach_row : (line : List ℕ) (only_check readonly : Bool) (slot : Option ℕ) (names : KeyWords) → Unstored (AttachRow line only_check readonly slot names)
-attach_row line only_check readonly slot names = unstored_then (TryRow line slot readonly names) _ (try_still line slot readonly names).unstored (λ a. unless_unstored only_check a)
+attach_row line only_check readonly slot names = unstored_then (try_still line slot readonly names).unstored (λ a. unless_unstored only_check a)
 
 attach_next : (only_check : Bool) (given : Result Attachment Refusal) (middle : Reach) (answer : Result (Unit {0}) Refusal) (new : Reach) → NoneOpen given → GoesOn (λ a. AttachesUnless only_check a) given middle answer new
     → (new.holding ≡ middle.holding) ⊎ IsNew new.holding

@@ -17,7 +17,7 @@ quiet_finding : Quiet FindsLastSector
 quiet_finding old answer new h = quiet_saves old.disk h.finds.before h.finds.read h.finds.bytes new.disk h.finds.saves
 
 quiet_backup_row : (line : List ℕ) (file : Span) → Quiet (BackupRow line file)
-quiet_backup_row line file = quiet_then FindsLastSector _ quiet_finding (λ bytes. quiet_storing line file bytes)
+quiet_backup_row line file = quiet_then quiet_finding (λ bytes. quiet_storing line file bytes)
 
 saved_uncounted : (old : DiskState) (before : List ℕ) (read : Result (Unit {0}) Refusal) (bytes : List ℕ) (new : DiskState) → Saves old before read bytes new → UncountedAnswer (handed_out bytes read)
 saved_uncounted old before (Ok done) bytes new h = tt

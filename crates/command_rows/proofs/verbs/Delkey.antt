@@ -7,10 +7,10 @@ use Rattle.eli_base.specs.declared.refusals.Refusal.TheVariants as refusals
 use Rattle.key_commands.proofs.Passes.{HasOtherKeys-Deletes, KeepsAlone-Deletes, Overwrites-Deletes, Overwrites-DeletesPart}
 use Rattle.key_commands.specs.declared.overwriting.Which.{Which}
 use Rattle.key_commands.specs.declared.overwriting.Which.TheVariants as slots
-use Rattle.command_rows.specs.Rows.{HasMetadata, Holding, LacksMetadata, Reach, ReadsLastSector, Then, done_or, without_value}
+use Rattle.command_rows.specs.Rows.{HasMetadata, Holding, LacksMetadata, Reach, done_or, without_value}
 use Rattle.command_rows.specs.Vocabulary.{Command, DeletesKeys, Deletion, DiskState, EntropyState, HasNoKey, HoldsOldOr, HoldsOnceFlushed, Metadata, Overwrites, Refusal, Span, deletion_refusal, encoded, overwrite_events, pass_events, pass_sectors}
 use Rattle.command_rows.specs.verbs.Delkey.{ClearsKeys, DeletesRow, DelkeyRow, FindsSlots, NamesSlots, OverwritesKeys, RefusesDelkey, RefusesSlots, TakesKeysOut, named_slots, slot_of}
-use Rattle.command_rows.proofs.VerbLaws.{Change, ChangesMetadata, Counts, CountsResult, Did, DoesFrom, Grounds, IsLawful, Later, Left, PlainAnswer, PlainOption, Same, Since, Still, Why, after_quiet, alone_from, apart_out, before_all, beside, by_plain, decides_why, done_left, done_replying, early_decision, early_reading, false_is_true, has_metadata, has_same, left_then, moments_from, not_both, not_done, not_some, nothing_done, plain_cause, plain_some, quiet_reading, quiet_same, reading_has, reading_since, reading_still, reading_why, reply_line, row_keeps, row_refused, same_disk, same_files, since_same, some_uncounted, sound_reply, stays_so, still_decision, still_sound, still_then, then_since, then_why, uncounted_step, unstored_reply}
+use Rattle.command_rows.proofs.VerbLaws.{Change, ChangesMetadata, Counts, CountsResult, Did, DoesFrom, Grounds, IsLawful, Later, Left, PlainAnswer, PlainOption, Same, Since, Still, Why, after_quiet, alone_from, apart_out, before_all, beside, by_plain, decides_why, done_left, done_replying, early_decision, early_reading, false_is_true, has_metadata, has_same, left_then, moments_from, not_both, not_done, not_some, nothing_done, plain_cause, plain_some, quiet_reading, reading_has, reading_since, reading_still, reading_why, reply_line, row_keeps, row_refused, same_disk, same_files, same_quiet, since_same, some_uncounted, sound_reply, stays_so, still_decision, still_sound, still_then, then_since, then_why, uncounted_step, unstored_reply}
 
 same_passes : (disk start : DiskState) (asked : Deletion) (random : List ℕ) → disk.size ≡ start.size → pass_events disk asked.meta asked.which random ≡ pass_events start asked.meta asked.which random
 same_passes disk start asked random size = ap (λ (n : ℕ). overwrite_events (n - 1) (pass_sectors asked.meta asked.which random)) size
@@ -43,8 +43,8 @@ deletes_did start asked old answer new size h = deleted_did asked start old.disk
 
 deletes_row_did : (start : DiskState) (all force : Bool) (slot : Option ℕ) → DoesFrom (OverwritesKeys start) start (DeletesRow all force slot)
 deletes_row_did start all force slot =
-    after_quiet (OverwritesKeys start) start ReadsLastSector _ quiet_reading
-    (λ m. after_quiet (OverwritesKeys start) start (NamesSlots all slot) _ (λ old answer new h. quiet_same old _ answer new h)
+    after_quiet (OverwritesKeys start) start quiet_reading
+    (λ m. after_quiet (OverwritesKeys start) start (λ old answer new h. same_quiet old new h.1)
     (λ which. deletes_did start (record { meta = m; which = which; force = force })))
 
 delkey_did : (all force : Bool) (slot : Option ℕ) (old : Reach) (answer : Result (Unit {0}) Refusal) (new : Reach) → DelkeyRow all force slot old answer new → Did (OverwritesKeys old.disk) false old.disk answer new.disk
@@ -107,21 +107,17 @@ takes_why : (line : List ℕ) (command : Command) (asked : Deletion) (start old 
 takes_why line command asked start old answer new ground since h =
     subst (λ (r : Result (Unit {0}) Refusal). Why line command start r new) (sym h.answered) (deletes_why line command asked start old h.made new ground since h.deletes)
 
-names_why : (line : List ℕ) (command : Command) (all force : Bool) (slot : Option ℕ) (m : Metadata) (start old : Reach) (answer : Result (Unit {0}) Refusal) (new : Reach)
-    → Grounds line command start (λ refusal. (named_slots all slot ≡ Err refusal) ⊎ RefusesSlots all force slot m refusal) → Since start old
-    → Then (NamesSlots all slot) (λ which. TakesKeysOut (record { meta = m; which = which; force = force })) old answer new → Why line command start answer new
-names_why line command all force slot m start old answer new ground since h =
-    then_since line command start old answer new h
-    (λ given middle first. decides_why line command start (named_slots all slot) old given middle (named_plain all slot) (λ refusal is. ground refusal (inl is)) first)
-    (λ which middle first next. takes_why line command _ start middle answer new (λ refusal is. ground refusal (inr (record { which = which; names = sym first.0; refused = is }))) (since_same start old middle since first.1) next)
-
 delkey_why : (line : List ℕ) (prov : Span) (all force : Bool) (slot : Option ℕ) (old : Reach) (answer : Result (Unit {0}) Refusal) (new : Reach) → DelkeyRow all force slot old answer new → Why line (commands.Delkey prov all force slot) old answer new
 delkey_why line prov all force slot old answer new h =
     let command : Command = commands.Delkey prov all force slot in
     let named : Option ℕ = option_or slot (slot_of old.holding) in
-    then_why line command old answer new h
-    (λ given middle first. reading_why line command old given middle (λ refusal lacks. inl lacks) first)
-    (λ m middle first next. names_why line command all force named m old middle answer new (λ refusal refused. inr (record { m = m; found = reading_has old m middle first; refused = refused })) (reading_since old m middle first) next)
+    then_why line command old answer new h (λ given middle. reading_why line command old given middle (λ refusal lacks. inl lacks))
+    (λ m r1 f1 n1. let s1 : Since old r1 = reading_since old m r1 f1 in
+    let ground : Grounds line command old (λ refusal. (named_slots all named ≡ Err refusal) ⊎ RefusesSlots all force named m refusal) =
+    λ refusal refused. inr (record { m = m; found = reading_has old m r1 f1; refused = refused }) in
+    then_since line command old r1 answer new n1
+    (λ given middle. decides_why line command old (named_slots all named) r1 given middle (named_plain all named) (λ refusal is. ground refusal (inl is)))
+    (λ which r2 f2 n2. takes_why line command _ old r2 answer new (λ refusal is. ground refusal (inr (record { which = which; names = sym f2.0; refused = is }))) (since_same old r1 r2 s1 f2.1) n2))
 
 slots_by : (all force : Bool) (slot : Option ℕ) (old : Reach) (f : FindsSlots all force slot old) (refusal : Refusal) → (named_slots all slot ≡ Err refusal) ⊎ RefusesSlots all force slot f.m refusal → ⊥
 slots_by all force slot old f refusal (inl h) = not_both _ f.which refusal f.names h
@@ -181,12 +177,11 @@ delkey_by_left : (holding : Holding) (all force : Bool) (slot : Option ℕ) (old
     → Left (ClearsKeys holding all force slot) old.disk answer new.disk
 delkey_by_left holding all force slot old answer new h =
     let Changes : Change = ClearsKeys holding all force slot in
-    left_then Changes old ReadsLastSector _ old answer new (before_all old) early_reading
-    (λ m r1 b1 f1 n1. left_then Changes old (NamesSlots all (option_or slot (slot_of holding))) _ r1 answer new b1 (λ o a n q. early_decision o _ a n q)
+    left_then Changes old old answer new h (before_all old) early_reading
+    (λ m r1 b1 f1 n1. left_then Changes old r1 answer new n1 b1 (λ o a n q. early_decision o _ a n q)
     (λ which r2 b2 f2 n2.
     let asked : Deletion = record { meta = m; which = which; force = force } in
-    deletes_left holding all force slot asked old.disk r2 answer new b2.same (reading_has old m r1 f1) (sym f2.0) refl n2)
-    n1) h
+    deletes_left holding all force slot asked old.disk r2 answer new b2.same (reading_has old m r1 f1) (sym f2.0) refl n2))
 
 delkey_left : (all force : Bool) (slot : Option ℕ) (old : Reach) (answer : Result (Unit {0}) Refusal) (new : Reach) → DelkeyRow all force slot old answer new → Left (ClearsKeys old.holding all force slot) old.disk answer new.disk
 delkey_left all force slot old answer new h = delkey_by_left old.holding all force slot old answer new h

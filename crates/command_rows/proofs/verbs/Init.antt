@@ -6,7 +6,7 @@ use Rattle.eli_base.specs.declared.algorithms.Cipher.{Cipher}
 use Rattle.eli_base.specs.declared.refusals.Refusal.TheVariants as refusals
 use Rattle.eli_metadata.proofs.Replaced.{KeepsOldOr-replace, KeepsOldOr-replace_part}
 use Rattle.key_commands.proofs.Making.{IsUsable-makes, KeepsAlone-replace}
-use Rattle.command_rows.specs.Rows.{AreComponents, BacksUp, GoesOn, LoadsComponents, MakesProvider, Reach, RefusesFiles, Then, WritesMetadata, done_or}
+use Rattle.command_rows.specs.Rows.{AreComponents, BacksUp, GoesOn, MakesProvider, Reach, RefusesFiles, WritesMetadata, done_or}
 use Rattle.command_rows.specs.Vocabulary.{Auth, CabinetState, Command, Components, DiskState, Files, HoldsOldOr, InitOptions, Inits, IsSectorOf, IsUsable, KeyFault, KeyWords, Logs, Metadata, Refusal, Span, UserKey, early_refusal, encoded, key_refusal, master_key_in, replace_events, user_key}
 use Rattle.command_rows.specs.verbs.Init.{FindsNew, InitRow, PutsNew, RefusesNew}
 use Rattle.command_rows.proofs.VerbLaws.{BadFiles, Change, ChangesMetadata, Counts, CountsResult, Did, Grounds, IsLawful, Later, Left, PlainOption, Same, Since, Still, StillBut, Stored, Why, alone_from, apart_out, before_all, beside, bytes_stored, components_still, decision_counts, did_then, done_left, done_replying, early_loading, false_is_true, key_option, left_then, loading_parts, loading_since, loading_why, may_lack_memory, moments_from, no_bad_file, not_done, not_some, nothing_done, parts_same, plain_cause, plain_some, quiet_loading, reply_line, row_keeps, row_refused, same_disk, same_files, some_uncounted, sound_reply, stays_so, still_but_sound, still_but_then, storing_counts, storing_why, then_since, then_why, uncounted_step}
@@ -42,10 +42,9 @@ made_did line options parts backup old (Err refusal) middle answer new inits nex
 init_did : (line : List ℕ) (options : InitOptions) (fresh : KeyWords) (backup : Option Span) (old : Reach) (answer : Result (Unit {0}) Refusal) (new : Reach) → InitRow line options fresh backup old answer new
     → Did (WritesMetadata old.disk) (is_some backup) old.disk answer new.disk
 init_did line options fresh backup old answer new h =
-    did_then (WritesMetadata old.disk) (is_some backup) (LoadsComponents line fresh) _ old answer new (quiet_loading line fresh)
+    did_then (WritesMetadata old.disk) (is_some backup) old answer new h (quiet_loading line fresh)
     (λ parts middle loads then.
     subst (λ (d : DiskState). Did (WritesMetadata d) (is_some backup) middle.disk answer new.disk) loads.disk (made_did line options parts backup middle then.given then.middle answer new then.first.inits then.next))
-    h
 
 early_by : (one two three : Bool) (keylen sectorsize size : ℕ) (key : Result UserKey KeyFault)
     → PlainOption (cond one (Some (refusals.BadKeyLength keylen)) (cond two (Some (refusals.BadSectorSize sectorsize)) (cond three (Some (refusals.TooSmall size)) (key_refusal key))))
@@ -110,22 +109,15 @@ backing_why : (line : List ℕ) (command : Command) (backup : Option Span) (m : 
 backing_why line command None m start old answer new memory later h = rw h.0 tt
 backing_why line command (Some file) m start old answer new memory later h = storing_why line command file (encoded m) start old answer new memory later h.stores
 
-making_why : (line : List ℕ) (command : Command) (options : InitOptions) (fresh : KeyWords) (backup : Option Span) (parts : Components) (start old : Reach) (answer : Result (Unit {0}) Refusal) (new : Reach) → may_lack_memory command ≡ true
-    → Grounds line command start (RefusesNew line options fresh start) → AreComponents start.cabinet.files line fresh parts → Since start old → Then (MakesProvider options parts) (λ m. BacksUp line backup m) old answer new → Why line command start answer new
-making_why line command options fresh backup parts start old answer new memory ground named since h =
-    then_since line command start old answer new h
-    (λ made middle first. makes_why line command options fresh parts start old made middle ground named since first.inits)
-    (λ m middle first next. backing_why line command backup m start middle answer new memory
-    (subst (λ (c : CabinetState). start.cabinet.faults ≤ c.faults) (sym first.cabinet) since.cabinet) next)
-
 init_why : (line : List ℕ) (command : Command) (options : InitOptions) (fresh : KeyWords) (backup : Option Span) (old : Reach) (answer : Result (Unit {0}) Refusal) (new : Reach) → may_lack_memory command ≡ true
     → BadFiles line command old (RefusesFiles line fresh old.cabinet) → Grounds line command old (RefusesNew line options fresh old) → InitRow line options fresh backup old answer new
     → Why line command old answer new
 init_why line command options fresh backup old answer new memory bad ground h =
-    then_why line command old answer new h
-    (λ given middle first. loading_why line command fresh old old given middle memory bad (since_here old) first)
-    (λ parts middle first next. making_why line command options fresh backup parts old middle answer new memory ground (loading_parts line fresh old old parts middle refl first)
-    (loading_since line fresh old old (Ok parts) middle (since_here old) first) next)
+    then_why line command old answer new h (λ given middle. loading_why line command fresh old old given middle memory bad (since_here old))
+    (λ parts r1 f1 n1. let s1 : Since old r1 = loading_since line fresh old old (Ok parts) r1 (since_here old) f1 in
+    then_since line command old r1 answer new n1
+    (λ made middle first. makes_why line command options fresh parts old r1 made middle ground (loading_parts line fresh old old parts r1 refl f1) s1 first.inits)
+    (λ m r2 f2 n2. backing_why line command backup m old r2 answer new memory (subst (λ (c : CabinetState). old.cabinet.faults ≤ c.faults) (sym f2.cabinet) s1.cabinet) n2))
 
 init_fits : (line : List ℕ) (options : InitOptions) (fresh : KeyWords) (old : Reach) (f : FindsNew line options fresh old) (refusal : Refusal) → RefusesNew line options fresh old refusal → ⊥
 init_fits line options fresh old f refusal h =
@@ -179,8 +171,8 @@ init_left : (line : List ℕ) (options : InitOptions) (fresh : KeyWords) (backup
     → Left (PutsNew old.cabinet.files line options fresh) old.disk answer new.disk
 init_left line options fresh backup old answer new h =
     let Changes : Change = PutsNew old.cabinet.files line options fresh in
-    left_then Changes old (LoadsComponents line fresh) _ old answer new (before_all old) (early_loading line fresh)
-    (λ parts r1 b1 f1 n1. made_left old.cabinet.files line options fresh parts backup old.disk r1 n1.given n1.middle answer new b1.same (loading_parts line fresh old old parts r1 refl f1) n1.first.inits n1.next) h
+    left_then Changes old old answer new h (before_all old) (early_loading line fresh)
+    (λ parts r1 b1 f1 n1. made_left old.cabinet.files line options fresh parts backup old.disk r1 n1.given n1.middle answer new b1.same (loading_parts line fresh old old parts r1 refl f1) n1.first.inits n1.next)
 
 pub init_lawful : (prov : Span) (cipher : Cipher) (auth : Auth) (keylen : ℕ) (sectorsize : ℕ) (iterations : Option ℤ) (autoresize : Bool) (fresh : KeyWords) (backup : Option Span) → IsLawful (commands.Init prov cipher auth keylen sectorsize iterations autoresize fresh backup)
 init_lawful prov cipher auth keylen sectorsize iterations autoresize fresh backup = record {

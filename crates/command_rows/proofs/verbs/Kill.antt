@@ -6,7 +6,7 @@ use Rattle.resize_kill.proofs.Destroyed.{gone-FailsIn, gone-Logs}
 use Rattle.command_rows.specs.Rows.{Idle, Reach, attachment_in, done_or}
 use Rattle.command_rows.specs.Vocabulary.{DiskState, EntropyState, HoldsNoMetadata, Kills, Refusal, Span, kill_events, overwrite_events, trash_sectors}
 use Rattle.command_rows.specs.verbs.Kill.{LeavesNoMetadata, DestroysMetadata, KillRow, OverwritesLast, Withdraws}
-use Rattle.command_rows.proofs.VerbLaws.{ChangesMetadata, Counts, CountsResult, Did, DoesFrom, Early, IsLawful, Later, Left, Quiet, Same, Sound, Still, UncountedAnswer, Unstored, Why, after_quiet, apart_out, becomes_as, before_all, beside, done_left, done_replying, false_is_true, idles, left_then, moments_from, nothing_done, reply_line, row_refused, same_disk, same_files, same_reach, sound_reply, sound_then, stays_next, still_sound, then_why, uncounted_step, unstored_reply, unstored_then}
+use Rattle.command_rows.proofs.VerbLaws.{ChangesMetadata, Counts, CountsResult, Did, DoesFrom, Early, IsLawful, Later, Left, Quiet, Same, Sound, Still, UncountedAnswer, Unstored, Why, after_quiet, apart_out, becomes_as, before_all, beside, done_left, done_replying, false_is_true, idles, left_then, moments_from, nothing_done, reply_line, row_refused, same_disk, same_files, same_quiet, same_reach, sound_reply, sound_then, stays_next, still_sound, then_why, uncounted_step, unstored_reply, unstored_then}
 
 same_killing : (disk start : DiskState) (random : List ℕ) → disk.size ≡ start.size → kill_events disk random ≡ kill_events start random
 same_killing disk start random size = ap (λ (n : ℕ). overwrite_events (n - 1) (trash_sectors random)) size
@@ -34,10 +34,10 @@ kills_did : (start : DiskState) → DoesFrom (OverwritesLast start) start Destro
 kills_did start old answer new size h = killed_did start old.disk old.entropy answer new.disk new.entropy size h.kills
 
 quiet_withdrawal : Quiet Withdraws
-quiet_withdrawal old answer new h = same_disk old.disk new.disk (ap (λ (r : Reach). r.disk) h.1)
+quiet_withdrawal old answer new h = same_quiet _ new h.1
 
 kill_did : (old : Reach) (answer : Result (Unit {0}) Refusal) (new : Reach) → KillRow old answer new → Did (OverwritesLast old.disk) false old.disk answer new.disk
-kill_did old answer new h = after_quiet (OverwritesLast old.disk) old.disk Withdraws _ quiet_withdrawal (λ done. kills_did old.disk) old answer new refl h
+kill_did old answer new h = after_quiet (OverwritesLast old.disk) old.disk quiet_withdrawal (λ done. kills_did old.disk) old answer new refl h
 
 withdrawing_counts : Counts Withdraws
 withdrawing_counts old answer new h =
@@ -74,7 +74,7 @@ withdrawing_sound : Sound Withdraws
 withdrawing_sound = record { counts = withdrawing_counts; keeps = λ old answer new h had. idles new.holding (ap (λ (r : Reach). r.holding) h.1) }
 
 kill_sound : Sound KillRow
-kill_sound = sound_then Withdraws _ withdrawing_sound (λ done. still_sound killing_still)
+kill_sound = sound_then withdrawing_sound (λ done. still_sound killing_still)
 
 kill_idles : (old : Reach) (answer : Result (Unit {0}) Refusal) (new : Reach) → KillRow old answer new → new.holding ≡ Idle
 kill_idles old answer new h = stays_next (λ _. DestroysMetadata) h.given h.middle answer new (λ done old answer new d. d.holding) h.next ∙ same_reach _ h.middle h.first.1
@@ -87,18 +87,18 @@ killed_left start disk entropy (Err (refusals.TooSmall bytes)) disk' entropy' sa
 killed_left start disk entropy (Err refusal) disk' entropy' same h = absurd h
 
 early_withdrawal : Early Withdraws
-early_withdrawal old answer new h = record { quiet = same_disk old.disk new.disk (ap (λ (r : Reach). r.disk) h.1); files = ap (λ (r : Reach). r.cabinet.files) h.1 }
+early_withdrawal old answer new h = record { quiet = same_quiet _ new h.1; files = ap (λ (r : Reach). r.cabinet.files) h.1 }
 
 kill_left : (old : Reach) (answer : Result (Unit {0}) Refusal) (new : Reach) → KillRow old answer new → Left LeavesNoMetadata old.disk answer new.disk
 kill_left old answer new h =
-    left_then LeavesNoMetadata old Withdraws _ old answer new (before_all old) early_withdrawal
-    (λ done r1 b1 f1 n1. killed_left old.disk r1.disk r1.entropy answer new.disk new.entropy b1.same n1.kills) h
+    left_then LeavesNoMetadata old old answer new h (before_all old) early_withdrawal
+    (λ done r1 b1 f1 n1. killed_left old.disk r1.disk r1.entropy answer new.disk new.entropy b1.same n1.kills)
 
 withdrawing_unstored : Unstored Withdraws
 withdrawing_unstored old answer new h = same_files old.cabinet new.cabinet (ap (λ (r : Reach). r.cabinet) h.1)
 
 kill_row : Unstored KillRow
-kill_row = unstored_then Withdraws _ withdrawing_unstored (λ done. killing_still.unstored)
+kill_row = unstored_then withdrawing_unstored (λ done. killing_still.unstored)
 
 pub kill_lawful : (prov : Span) → IsLawful (commands.Kill prov)
 kill_lawful prov = record {

@@ -1,11 +1,11 @@
 -- That `read` is lawful.
-use Rattle.std.proofs.Common.{Err, List, None, Ok, Result, ap, refl, subst, sym, ℕ, ◌*◌, ◌≡◌}
+use Rattle.std.proofs.Common.{Err, List, None, Ok, Result, refl, subst, sym, ℕ, ◌*◌, ◌≡◌}
 use Rattle.command_words.specs.declared.commands.Command.TheVariants as commands
 use Rattle.eli_base.specs.declared.refusals.Refusal.TheVariants as refusals
-use Rattle.command_rows.specs.Rows.{AttachedWith, Attachment, IsAttached, NeedsSectors, NeedsWhole, Reach, ReadsSectors, payload_or, whole_sectors}
+use Rattle.command_rows.specs.Rows.{AttachedWith, Attachment, IsAttached, Reach, ReadsSectors, payload_or, whole_sectors}
 use Rattle.command_rows.specs.Vocabulary.{Command, Refusal, Span, media}
 use Rattle.command_rows.specs.verbs.Read.{FitsRead, ReadRow}
-use Rattle.command_rows.proofs.VerbLaws.{IsLawful, Quiet, RulesOut, SoundReply, Still, StoresNone, Why, attached_becomes, attached_keeps, attached_quiet, attached_why, false_is_true, needs, never_both, never_holds, not_both, nothing_changed, passes, payload_replying, quiet_sectors, quiet_then, range_still, range_why, read_at, refused_by, same_disk, sectors_still, sound_reply, still_sound, still_then, unstored_reply, whole_still, whole_why, with_attached, same_then_why}
+use Rattle.command_rows.proofs.VerbLaws.{IsLawful, Quiet, RulesOut, SoundReply, Still, StoresNone, Why, attached_becomes, attached_keeps, attached_quiet, attached_why, false_is_true, needs, never_both, never_holds, not_both, nothing_changed, passes, payload_replying, quiet_sectors, quiet_then, range_still, range_why, read_at, refused_by, same_quiet, same_then_why, sectors_still, sound_reply, still_sound, still_then, unstored_reply, whole_still, whole_why, with_attached}
 
 sectors_why : (line : List ℕ) (prov : Span) (sector count : ℕ) (a : Attachment) (whole : ℕ) (old : Reach) (answer : Result (List ℕ) Refusal) (new : Reach) → old.holding ≡ IsAttached a
     → whole_sectors a.keying.sectorsize (count * a.keying.sectorsize) ≡ Ok whole → ReadsSectors a sector whole old answer new → Why line (commands.Read prov sector count) old answer new
@@ -24,8 +24,8 @@ read_why line prov sector count a old answer new is h =
 
 quiet_read_row : (sector count : ℕ) (a : Attachment) → Quiet (ReadRow sector count a)
 quiet_read_row sector count a =
-    quiet_then (NeedsWhole a (count * a.keying.sectorsize)) _ (λ old answer new h. same_disk old.disk new.disk (ap (λ (r : Reach). r.disk) h.1))
-    (λ whole. quiet_then (NeedsSectors a sector whole) _ (λ old answer new h. same_disk old.disk new.disk (ap (λ (r : Reach). r.disk) h.1))
+    quiet_then (λ old answer new h. same_quiet old new h.1)
+    (λ whole. quiet_then (λ old answer new h. same_quiet old new h.1)
     (λ _. quiet_sectors a sector whole))
 
 read_still : (sector count : ℕ) (a : Attachment) → Still (ReadRow sector count a)

@@ -3,13 +3,13 @@ use Rattle.std.proofs.Common.{Err, List, None, Ok, Option, Result, Some, ap, ari
 use Rattle.bio_queue.specs.declared.faults.ReapFault.TheVariants as reap
 use Rattle.command_words.specs.declared.commands.Command.TheVariants as commands
 use Rattle.eli_base.specs.declared.refusals.Refusal.TheVariants as refusals
-use Rattle.command_rows.specs.Rows.{AsksToReap, AttachedWith, Attachment, HasReadFault, IsAttached, NeedsRequest, QueueRefuses, Reach, reaped_or}
+use Rattle.command_rows.specs.Rows.{AsksToReap, AttachedWith, Attachment, HasReadFault, IsAttached, QueueRefuses, Reach, reaped_or}
 use Rattle.command_rows.specs.Vocabulary.{Command, DiskState, HasBadUnit, IsNotDone, ReapAnswers, ReapFault, Reaped, Refusal, Request, Span, left_of, request_with}
 use Rattle.command_rows.specs.verbs.Reap.{FitsReap, ReapRow, ReapsRequest, reap_answer}
 use Rattle.command_rows.proofs.QueueingCauses.{has_none, needs_why}
 use Rattle.command_rows.proofs.QueueingEvents.{quiet_needs}
 use Rattle.command_rows.proofs.QueueingFits.{is_served, one_request}
-use Rattle.command_rows.proofs.VerbLaws.{Becomes, Counts, HoldsSame, IsLawful, Quiet, RulesOut, SoundReply, StoresNone, UncountedAnswer, Unstored, Why, attached_quiet, attached_reply, attached_why, false_is_true, holds_next, holds_same, needs, needs_counts, needs_same, never_both, never_holds, nothing_changed, queue_holds, quiet_then, reaped_replying, refused_by, request_unstored, same_disk, same_files, then_counts, uncounted_step, unstored_reply, unstored_then, with_attached, same_then_why}
+use Rattle.command_rows.proofs.VerbLaws.{Becomes, Counts, HoldsSame, IsLawful, Quiet, RulesOut, SoundReply, StoresNone, UncountedAnswer, Unstored, Why, attached_quiet, attached_reply, attached_why, false_is_true, holds_next, holds_same, needs, needs_counts, needs_same, never_both, never_holds, nothing_changed, queue_holds, quiet_then, reaped_replying, refused_by, request_unstored, same_files, same_quiet, same_then_why, then_counts, uncounted_step, unstored_reply, unstored_then, with_attached}
 
 reap_uncounted : (tag : ℕ) (after : List ℕ) (given : Result Reaped ReapFault) → UncountedAnswer (reap_answer tag after given)
 reap_uncounted tag after (Ok given) = tt
@@ -22,7 +22,7 @@ reaps_count a tag old answer new h =
     uncounted_step old answer new (subst (λ (r : Result (Option (List ℕ)) Refusal). UncountedAnswer r) (sym h.answered) (reap_uncounted tag h.after h.given)) (ap (λ (r : Reach). r.cabinet) h.left) (ap (λ (r : Reach). r.entropy) h.left)
 
 reap_counts : (tag : ℕ) (a : Attachment) → Counts (ReapRow tag a)
-reap_counts tag a = then_counts (NeedsRequest a tag) _ (needs_counts a tag) (λ done. reaps_count a tag)
+reap_counts tag a = then_counts (needs_counts a tag) (λ done. reaps_count a tag)
 
 reap_holds : (tag : ℕ) (a : Attachment) (old : Reach) (answer : Result (Option (List ℕ)) Refusal) (new : Reach) → old.holding ≡ IsAttached a → ReapRow tag a old answer new → HoldsSame a new.holding
 reap_holds tag a old answer new is h =
@@ -31,7 +31,7 @@ reap_holds tag a old answer new is h =
 
 quiet_reap_row : (tag : ℕ) (a : Attachment) → Quiet (ReapRow tag a)
 quiet_reap_row tag a =
-    quiet_then (NeedsRequest a tag) _ (quiet_needs a tag) (λ done old answer new h. same_disk old.disk new.disk (ap (λ (r : Reach). r.disk) h.left))
+    quiet_then (quiet_needs a tag) (λ done old answer new h. same_quiet _ new h.left)
 
 given_why : (line : List ℕ) (prov : Span) (tag : ℕ) (a : Attachment) (queue : List Request) (before after : List ℕ) (old : Reach) (given : Result Reaped ReapFault) (new : Reach) → old.holding ≡ IsAttached a
     → ReapAnswers a.keying tag a.queue queue before after given → Why line (commands.Reap prov tag) old (reap_answer tag after given) new
@@ -87,7 +87,7 @@ reaping_unstored : (a : Attachment) (tag : ℕ) → Unstored (ReapsRequest a tag
 reaping_unstored a tag old answer new h = same_files old.cabinet new.cabinet (ap (λ (r : Reach). r.cabinet) h.left)
 
 reap_row : (tag : ℕ) (a : Attachment) → Unstored (ReapRow tag a)
-reap_row tag a = unstored_then (NeedsRequest a tag) _ (request_unstored a tag) (λ done. reaping_unstored a tag)
+reap_row tag a = unstored_then (request_unstored a tag) (λ done. reaping_unstored a tag)
 
 pub reap_lawful : (prov : Span) (tag : ℕ) → IsLawful (commands.Reap prov tag)
 reap_lawful prov tag = record {

@@ -33,7 +33,7 @@ restores_did start bytes force old answer new size h = written_did bytes force s
 
 restore_did : (line : List ℕ) (file : Span) (force : Bool) (old : Reach) (answer : Result (Unit {0}) Refusal) (new : Reach) → RestoreRow line file force old answer new → Did (WritesMetadata old.disk) false old.disk answer new.disk
 restore_did line file force old answer new h =
-    after_quiet (WritesMetadata old.disk) old.disk (LoadsFile file_limit line file) _ (quiet_file file_limit line file) (λ bytes. restores_did old.disk bytes force) old answer new refl h
+    after_quiet (WritesMetadata old.disk) old.disk (quiet_file file_limit line file) (λ bytes. restores_did old.disk bytes force) old answer new refl h
 
 plain_err : {A : Type 0} (answer : Result A Refusal) (refusal : Refusal) → PlainAnswer answer → answer ≡ Err refusal → IsGround refusal
 plain_err {A} answer refusal plain is = subst (λ (r : Result A Refusal). PlainAnswer r) is plain
@@ -79,22 +79,16 @@ restores_why line command bytes force start old (Err refusal) new ground since h
     plain_cause line command start refusal new (plain_err (restored bytes force old.disk.size) refusal (restored_plain bytes force old.disk.size) h.cause)
     (ground refusal (subst (λ (n : ℕ). restored bytes force n ≡ Err refusal) since.size h.cause))
 
-writes_why : (line : List ℕ) (command : Command) (bytes : List ℕ) (force : Bool) (start old : Reach) (answer : Result (Unit {0}) Refusal) (new : Reach) → Grounds line command start (λ refusal. restored bytes force start.disk.size ≡ Err refusal) → Since start old
-    → Then (RestoresBackup bytes force) (λ m. Decides {A = Unit {0}} (Ok tt)) old answer new → Why line command start answer new
-writes_why line command bytes force start old answer new ground since h =
-    then_since line command start old answer new h
-    (λ made middle first. restores_why line command bytes force start old made middle ground since first.restores)
-    (λ m middle first next. rw next.0 tt)
-
 restore_why : (line : List ℕ) (file prov : Span) (force : Bool) (old : Reach) (answer : Result (Unit {0}) Refusal) (new : Reach)
     → RestoreRow line file force old answer new → Why line (commands.Restore file prov force) old answer new
 restore_why line file prov force old answer new h =
     let command : Command = commands.Restore file prov force in
-    then_why line command old answer new h
-    (λ given middle first. file_why line file prov force old given middle first)
-    (λ bytes middle first next. writes_why line command bytes force old middle answer new
-    (λ refusal is. record { bytes = bytes; named = loading_bytes file_limit line file old old bytes middle refl first; refused = is })
-    (since_cabinet old middle first.disk first.entropy first.keeps.files first.keeps.faults first.keeps.misses) next)
+    then_why line command old answer new h (λ given middle. file_why line file prov force old given middle)
+    (λ bytes r1 f1 n1. then_since line command old r1 answer new n1
+    (λ made middle first. restores_why line command bytes force old r1 made middle
+    (λ refusal is. record { bytes = bytes; named = loading_bytes file_limit line file old old bytes r1 refl f1; refused = is })
+    (since_cabinet old r1 f1.disk f1.entropy f1.keeps.files f1.keeps.faults f1.keeps.misses) first.restores)
+    (λ m r2 f2 n2. rw n2.0 tt))
 
 file_still : (limit : ℕ) (line : List ℕ) (file : Span) → Still (LoadsFile limit line file)
 file_still limit line file = record {
@@ -163,8 +157,8 @@ restore_left : (line : List ℕ) (file : Span) (force : Bool) (old : Reach) (ans
     → Left (PutsBack old.cabinet.files line file force) old.disk answer new.disk
 restore_left line file force old answer new h =
     let Changes : Change = PutsBack old.cabinet.files line file force in
-    left_then Changes old (LoadsFile file_limit line file) _ old answer new (before_all old) (early_file file_limit line file)
-    (λ bytes r1 b1 f1 n1. written_left old.cabinet.files line file bytes force old.disk r1 n1.given n1.middle answer new b1.same (loading_bytes file_limit line file old old bytes r1 refl f1) n1.first.restores n1.next) h
+    left_then Changes old old answer new h (before_all old) (early_file file_limit line file)
+    (λ bytes r1 b1 f1 n1. written_left old.cabinet.files line file bytes force old.disk r1 n1.given n1.middle answer new b1.same (loading_bytes file_limit line file old old bytes r1 refl f1) n1.first.restores n1.next)
 
 pub restore_lawful : (file : Span) (prov : Span) (force : Bool) → IsLawful (commands.Restore file prov force)
 restore_lawful file prov force = record {

@@ -11,7 +11,7 @@ use Rattle.command_rows.proofs.Keyed.{GivesAttachment, attachment_keyed, try_giv
 use Rattle.command_rows.proofs.ProviderCauses.{attaching_why, trial_why}
 use Rattle.command_rows.proofs.SameKey.{key_is_same}
 use Rattle.command_rows.proofs.SuspendCauses.{trial_opens}
-use Rattle.command_rows.proofs.VerbLaws.{Becomes, Counts, HasGround, IsLawful, IsNew, Keeps, KeepsRequests, LineDid, LineHasCause, NoneOpen, PlainAnswer, Quiet, Sound, SoundReply, Still, StoresNone, Unstored, Why, apart_out, attach_fits, attached_new, attaches_keep, attaching_counts, attaching_unstored, becomes_as, by_plain, decides_why, done_replying, false_is_true, has_metadata, has_same, keeps_next, no_bad_file, none_try, not_both, nothing_changed, parts_same, quiet_attaching, quiet_did, quiet_then, quiet_trial, reply_line, row_refused, same_disk, same_reach, sound_reply, stays_quiet, still_decision, still_sound, suspended, then_counts, then_since, then_why, try_still, unstored_reply, unstored_then, with_suspended}
+use Rattle.command_rows.proofs.VerbLaws.{Becomes, Counts, HasGround, IsLawful, IsNew, Keeps, KeepsRequests, LineDid, LineHasCause, NoneOpen, PlainAnswer, Quiet, Sound, SoundReply, Still, StoresNone, Unstored, Why, apart_out, attach_fits, attached_new, attaches_keep, attaching_counts, attaching_unstored, becomes_as, by_plain, decides_why, done_replying, false_is_true, has_metadata, has_same, keeps_next, no_bad_file, none_try, not_both, nothing_changed, parts_same, quiet_attaching, quiet_did, quiet_then, quiet_trial, reply_line, row_refused, same_quiet, same_reach, sound_reply, stays_quiet, still_decision, still_sound, suspended, then_counts, then_since, then_why, try_still, unstored_reply, unstored_then, with_suspended}
 
 same_by : (same : Bool) → PlainAnswer {A = Unit {0}} (cond same (Ok tt) (Err refusals.DifferentKey))
 same_by true = tt
@@ -24,7 +24,7 @@ same_still : (kept : Kept) (a : Attachment) → Still (NeedsSameKey kept a)
 same_still kept a = still_decision (λ r. same_key kept a) (λ r. by_plain _ (same_plain kept a))
 
 again_counts : (kept : Kept) (a : Attachment) → Counts (AttachesAgain kept a)
-again_counts kept a = then_counts (NeedsSameKey kept a) _ (same_still kept a).counts (λ done. attaching_counts a)
+again_counts kept a = then_counts (same_still kept a).counts (λ done. attaching_counts a)
 
 again_keeps : (kept : Kept) (a : Attachment) (old : Reach) (answer : Result (Unit {0}) Refusal) (new : Reach) → IsKeying a.keying → AttachesAgain kept a old answer new → HoldsKeying old.holding → HoldsKeying new.holding
 again_keeps kept a old answer new is h had =
@@ -40,7 +40,7 @@ keeps_resume_row line words kept old answer new h had =
 resume_sound : (line : List ℕ) (words : KeyWords) (kept : Kept) → Sound (ResumeRow line words kept)
 resume_sound line words kept = record {
   counts =
-      then_counts (TryRow line None kept.readonly words) _ (try_still line None kept.readonly words).counts
+      then_counts (try_still line None kept.readonly words).counts
       (λ a. again_counts kept a);
   keeps = keeps_resume_row line words kept;
 }
@@ -70,8 +70,8 @@ resume_why line prov words kept old answer new is h =
 
 quiet_resume_row : (line : List ℕ) (words : KeyWords) (kept : Kept) → Quiet (ResumeRow line words kept)
 quiet_resume_row line words kept =
-    quiet_then (TryRow line None kept.readonly words) _ (quiet_trial line None kept.readonly words)
-    (λ a. quiet_then (NeedsSameKey kept a) _ (λ old answer new h. same_disk old.disk new.disk (ap (λ (r : Reach). r.disk) h.1))
+    quiet_then (quiet_trial line None kept.readonly words)
+    (λ a. quiet_then (λ old answer new h. same_quiet old new h.1)
     (λ _. quiet_attaching a))
 
 taken_up_by : (line : List ℕ) (prov : Span) (words : KeyWords) (kept : Kept) (a : Attachment) (old middle : Reach) (answer : Result (Unit {0}) Refusal) (said : Answer) (new : Reach) → old.holding ≡ IsSuspended kept → Logs [] old.disk new.disk
@@ -123,8 +123,8 @@ resume_fits line words old f refusal (inr h) = kept_fits _ _ old.holding f (λ k
 
 resume_row : (line : List ℕ) (names : KeyWords) (kept : Kept) → Unstored (ResumeRow line names kept)
 resume_row line names kept =
-    unstored_then (TryRow line None kept.readonly names) _ (try_still line None kept.readonly names).unstored
-    (λ a. unstored_then (NeedsSameKey kept a) _ (same_still kept a).unstored (λ done. attaching_unstored a))
+    unstored_then (try_still line None kept.readonly names).unstored
+    (λ a. unstored_then (same_still kept a).unstored (λ done. attaching_unstored a))
 
 -- `resume`, where nothing was attached
 again_new : (a : Attachment) (given : Result (Unit {0}) Refusal) (old middle : Reach) (answer : Result (Unit {0}) Refusal) (new : Reach) → a.queue ≡ [] → middle ≡ old → GoesOn (λ _. Attaches a) given middle answer new → (new.holding ≡ old.holding) ⊎ IsNew new.holding

@@ -6,10 +6,10 @@ use Rattle.command_words.specs.declared.commands.Command.TheVariants as commands
 use Rattle.eli_base.specs.declared.refusals.Refusal.TheVariants as refusals
 use Rattle.eli_metadata.proofs.Replaced.{KeepsAlone-store, KeepsOldOr-store, KeepsOldOr-store_part}
 use Rattle.key_commands.proofs.Changing.{HasNewKey-makes}
-use Rattle.command_rows.specs.Rows.{Admits, AreComponents, Attachment, HasMetadata, Holding, IsAttached, LacksMetadata, LoadsComponents, Reach, ReadsLastSector, RefusesFiles, Then, admitted, attachment_in, done_or, without_value}
+use Rattle.command_rows.specs.Rows.{AreComponents, Attachment, HasMetadata, Holding, IsAttached, LacksMetadata, Reach, RefusesFiles, Then, admitted, attachment_in, done_or, without_value}
 use Rattle.command_rows.specs.Vocabulary.{CabinetState, Command, Components, DiskState, Files, HoldsOldOr, IsSectorOf, KeyChange, KeyFault, KeyWords, MasterKey, Metadata, Refusal, SetsKey, Span, UserKey, change_refusal, encoded, key_refusal, store_events, user_key}
 use Rattle.command_rows.specs.verbs.Setkey.{FindsAttached, FindsNewKey, FindsOldKey, FindsSetkey, IsUsed, NeedsSlot, OpensSlot, PutsKey, RefusesChange, RefusesNewKey, RefusesNext, RefusesOldKey, RefusesSetkey, SetkeyAttachedRow, SetkeyIdleRow, SetkeyRow, SetsOpened, StoresKey, StoresMetadata, WrapsKey, WrapsOpened, if_there, slot_opened_by, or_wrong, usable}
-use Rattle.command_rows.proofs.VerbLaws.{BadFiles, Change, ChangesMetadata, Counts, CountsResult, Did, DoesFrom, Grounds, IsLawful, Later, Left, PlainAnswer, PlainOption, Same, Since, Still, StoresNone, UncountedAnswer, Why, admitting_still, after_quiet, alone_from, apart_out, attached, before_all, by_attachment, by_plain, components_still, decides_why, done_left, done_replying, early_decision, early_loading, early_reading, false_is_true, has_metadata, has_same, key_option, key_plain, left_then, loading_parts, loading_since, loading_why, may_lack_memory, moments_from, no_bad_file, not_both, not_done, not_some, nothing_done, or_plain, parts_same, plain_cause, plain_some, quiet_loading, quiet_reading, quiet_same, reading_has, reading_since, reading_still, reading_why, reply_line, row_keeps, row_refused, same_disk, same_files, since_same, some_uncounted, sound_reply, stays_so, still_decision, still_sound, still_then, then_since, then_why, unattached, uncounted_step, unstored_reply}
+use Rattle.command_rows.proofs.VerbLaws.{BadFiles, Change, ChangesMetadata, Counts, CountsResult, Did, DoesFrom, Grounds, IsLawful, Later, Left, PlainAnswer, PlainOption, Same, Since, Still, StoresNone, UncountedAnswer, Why, admitting_still, after_quiet, alone_from, apart_out, attached, before_all, by_attachment, by_plain, components_still, decides_why, done_left, done_replying, early_decision, early_loading, early_reading, false_is_true, has_metadata, has_same, key_option, key_plain, left_then, loading_parts, loading_since, loading_why, may_lack_memory, moments_from, no_bad_file, not_both, not_done, not_some, nothing_done, or_plain, parts_same, plain_cause, plain_some, quiet_loading, quiet_reading, reading_has, reading_since, reading_still, reading_why, reply_line, row_keeps, row_refused, same_disk, same_files, same_quiet, since_same, some_uncounted, sound_reply, stays_so, still_decision, still_sound, still_then, then_since, then_why, unattached, uncounted_step, unstored_reply}
 
 same_store : (disk start : DiskState) (bytes : List ℕ) → disk.size ≡ start.size → store_events disk bytes ≡ store_events start bytes
 same_store disk start bytes size = ap (λ (n : ℕ). Write (n - 1) bytes ∷ Flush ∷ []) size
@@ -31,20 +31,20 @@ stores_did start asked old answer new size h = stored_did asked start old.disk h
 
 setkey_idle_did : (start : DiskState) (line : List ℕ) (iterations : Option ℤ) (slot : Option ℕ) (words fresh : KeyWords) → DoesFrom (StoresMetadata start) start (SetkeyIdleRow line iterations slot words fresh)
 setkey_idle_did start line iterations slot words fresh =
-    after_quiet (StoresMetadata start) start ReadsLastSector _ quiet_reading
-    (λ m. after_quiet (StoresMetadata start) start (Admits m None) _ (λ old answer new h. quiet_same old _ answer new h)
-    (λ settings. after_quiet (StoresMetadata start) start (NeedsSlot slot) _ (λ old answer new h. quiet_same old _ answer new h)
-    (λ done. after_quiet (StoresMetadata start) start (LoadsComponents line words) _ (quiet_loading line words)
-    (λ parts. after_quiet (StoresMetadata start) start (LoadsComponents line fresh) _ (quiet_loading line fresh)
-    (λ next. after_quiet (StoresMetadata start) start (OpensSlot m parts) _ (λ old answer new h. quiet_same old _ answer new h)
+    after_quiet (StoresMetadata start) start quiet_reading
+    (λ m. after_quiet (StoresMetadata start) start (λ old answer new h. same_quiet old new h.1)
+    (λ settings. after_quiet (StoresMetadata start) start (λ old answer new h. same_quiet old new h.1)
+    (λ done. after_quiet (StoresMetadata start) start (quiet_loading line words)
+    (λ parts. after_quiet (StoresMetadata start) start (quiet_loading line fresh)
+    (λ next. after_quiet (StoresMetadata start) start (λ old answer new h. same_quiet old new h.1)
     (λ found. stores_did start (record { meta = m; master = found.0.bytes; slot = unwrap_or slot found.1; iterations = iterations; parts = next })))))))
 
 setkey_attached_did : (start : DiskState) (line : List ℕ) (iterations : Option ℤ) (slot : ℕ) (master : List ℕ) (fresh : KeyWords) → DoesFrom (StoresMetadata start) start (SetkeyAttachedRow line iterations slot master fresh)
 setkey_attached_did start line iterations slot master fresh =
-    after_quiet (StoresMetadata start) start ReadsLastSector _ quiet_reading
-    (λ m. after_quiet (StoresMetadata start) start (IsUsed m) _ (λ old answer new h. quiet_same old _ answer new h)
-    (λ settings. after_quiet (StoresMetadata start) start (NeedsSlot (Some slot)) _ (λ old answer new h. quiet_same old _ answer new h)
-    (λ done. after_quiet (StoresMetadata start) start (LoadsComponents line fresh) _ (quiet_loading line fresh)
+    after_quiet (StoresMetadata start) start quiet_reading
+    (λ m. after_quiet (StoresMetadata start) start (λ old answer new h. same_quiet old new h.1)
+    (λ settings. after_quiet (StoresMetadata start) start (λ old answer new h. same_quiet old new h.1)
+    (λ done. after_quiet (StoresMetadata start) start (quiet_loading line fresh)
     (λ parts. stores_did start (record { meta = m; master = master; slot = slot; iterations = iterations; parts = parts })))))
 
 setkey_did : (line : List ℕ) (iterations : Option ℤ) (slot : Option ℕ) (words fresh : KeyWords) (old : Reach) (answer : Result (Unit {0}) Refusal) (new : Reach)
@@ -314,12 +314,12 @@ setkey_idle_left : (line : List ℕ) (iterations : Option ℤ) (slot : Option �
     → SetkeyIdleRow line iterations slot words fresh old answer new → Left (PutsKey holding old.cabinet.files line iterations slot words fresh) old.disk answer new.disk
 setkey_idle_left line iterations slot holding words fresh old answer new is h =
     let Changes : Change = PutsKey holding old.cabinet.files line iterations slot words fresh in
-    left_then Changes old ReadsLastSector _ old answer new (before_all old) early_reading
-    (λ m r1 b1 f1 n1. left_then Changes old (Admits m None) _ r1 answer new b1 (λ o a n q. early_decision o _ a n q)
-    (λ settings r2 b2 f2 n2. left_then Changes old (NeedsSlot slot) _ r2 answer new b2 (λ o a n q. early_decision o _ a n q)
-    (λ done r3 b3 f3 n3. left_then Changes old (LoadsComponents line words) _ r3 answer new b3 (early_loading line words)
-    (λ parts r4 b4 f4 n4. left_then Changes old (LoadsComponents line fresh) _ r4 answer new b4 (early_loading line fresh)
-    (λ next r5 b5 f5 n5. left_then Changes old (OpensSlot m parts) _ r5 answer new b5 (λ o a n q. early_decision o _ a n q)
+    left_then Changes old old answer new h (before_all old) early_reading
+    (λ m r1 b1 f1 n1. left_then Changes old r1 answer new n1 b1 (λ o a n q. early_decision o _ a n q)
+    (λ settings r2 b2 f2 n2. left_then Changes old r2 answer new n2 b2 (λ o a n q. early_decision o _ a n q)
+    (λ done r3 b3 f3 n3. left_then Changes old r3 answer new n3 b3 (early_loading line words)
+    (λ parts r4 b4 f4 n4. left_then Changes old r4 answer new n4 b4 (early_loading line fresh)
+    (λ next r5 b5 f5 n5. left_then Changes old r5 answer new n5 b5 (λ o a n q. early_decision o _ a n q)
     (λ found r6 b6 f6 n6.
     let asked : KeyChange = record { meta = m; master = found.0.bytes; slot = unwrap_or slot found.1; iterations = iterations; parts = next } in
     let begins : Begins holding old.cabinet.files line iterations slot words fresh old.disk asked = record {
@@ -328,24 +328,22 @@ setkey_idle_left line iterations slot holding words fresh old answer new is h =
       named = loading_parts line fresh old r4 next r5 b4.files f5;
       given = refl;
     } in
-    stored_left holding old.cabinet.files line iterations slot words fresh asked old.disk r6.disk n6.made new.disk answer b6.same begins n6.sets n6.answered)
-    n5) n4) n3) n2) n1) h
+    stored_left holding old.cabinet.files line iterations slot words fresh asked old.disk r6.disk n6.made new.disk answer b6.same begins n6.sets n6.answered))))))
 
 setkey_attached_left : (line : List ℕ) (iterations : Option ℤ) (slot : Option ℕ) (holding : Holding) (target : ℕ) (master : List ℕ) (words fresh : KeyWords) (old : Reach) (answer : Result (Unit {0}) Refusal) (new : Reach)
     → ((asked : KeyChange) → asked.master ≡ master → asked.slot ≡ target → WrapsKey holding old.cabinet.files line words slot asked)
     → SetkeyAttachedRow line iterations target master fresh old answer new → Left (PutsKey holding old.cabinet.files line iterations slot words fresh) old.disk answer new.disk
 setkey_attached_left line iterations slot holding target master words fresh old answer new wraps h =
     let Changes : Change = PutsKey holding old.cabinet.files line iterations slot words fresh in
-    left_then Changes old ReadsLastSector _ old answer new (before_all old) early_reading
-    (λ m r1 b1 f1 n1. left_then Changes old (IsUsed m) _ r1 answer new b1 (λ o a n q. early_decision o _ a n q)
-    (λ settings r2 b2 f2 n2. left_then Changes old (NeedsSlot (Some target)) _ r2 answer new b2 (λ o a n q. early_decision o _ a n q)
-    (λ done r3 b3 f3 n3. left_then Changes old (LoadsComponents line fresh) _ r3 answer new b3 (early_loading line fresh)
+    left_then Changes old old answer new h (before_all old) early_reading
+    (λ m r1 b1 f1 n1. left_then Changes old r1 answer new n1 b1 (λ o a n q. early_decision o _ a n q)
+    (λ settings r2 b2 f2 n2. left_then Changes old r2 answer new n2 b2 (λ o a n q. early_decision o _ a n q)
+    (λ done r3 b3 f3 n3. left_then Changes old r3 answer new n3 b3 (early_loading line fresh)
     (λ parts r4 b4 f4 n4.
     let asked : KeyChange = record { meta = m; master = master; slot = target; iterations = iterations; parts = parts } in
     let begins : Begins holding old.cabinet.files line iterations slot words fresh old.disk asked =
     record { found = reading_has old m r1 f1; wraps = wraps asked refl refl; named = loading_parts line fresh old r3 parts r4 b3.files f4; given = refl } in
-    stored_left holding old.cabinet.files line iterations slot words fresh asked old.disk r4.disk n4.made new.disk answer b4.same begins n4.sets n4.answered)
-    n3) n2) n1) h
+    stored_left holding old.cabinet.files line iterations slot words fresh asked old.disk r4.disk n4.made new.disk answer b4.same begins n4.sets n4.answered))))
 
 setkey_left : (line : List ℕ) (iterations : Option ℤ) (slot : Option ℕ) (words fresh : KeyWords) (old : Reach) (answer : Result (Unit {0}) Refusal) (new : Reach)
     → SetkeyRow line iterations slot words fresh old answer new → Left (PutsKey old.holding old.cabinet.files line iterations slot words fresh) old.disk answer new.disk

@@ -3,7 +3,7 @@ use Rattle.std.proofs.Common.{Err, List, None, Ok, Result, Some, ap, arith, fals
 use Rattle.bio_queue.specs.declared.faults.StepFault.TheVariants as step
 use Rattle.command_words.specs.declared.commands.Command.TheVariants as commands
 use Rattle.eli_base.specs.declared.refusals.Refusal.TheVariants as refusals
-use Rattle.command_rows.specs.Rows.{AsksToStep, AttachedWith, Attachment, IsAttached, NeedsRequest, QueueRefuses, Reach, left_or, or_refusal}
+use Rattle.command_rows.specs.Rows.{AsksToStep, AttachedWith, Attachment, IsAttached, QueueRefuses, Reach, left_or, or_refusal}
 use Rattle.command_rows.specs.Vocabulary.{Command, DiskState, IsAllDone, Refusal, Request, Span, StepAnswers, StepFault, left_of, request_with, step_events}
 use Rattle.command_rows.specs.verbs.Step.{DoesNext, FitsStep, StepRow, StepsRequest, next_events, step_refusal}
 use Rattle.command_rows.proofs.QueueingCauses.{has_none, needs_why}
@@ -21,7 +21,7 @@ steps_count : (a : Attachment) (tag : ℕ) → Counts (StepsRequest a tag)
 steps_count a tag old answer new h = uncounted_step old answer new (subst (λ (r : Result ℕ Refusal). UncountedAnswer r) (sym h.answered) (step_uncounted tag h.left)) h.outside.cabinet h.outside.entropy
 
 step_counts : (tag : ℕ) (a : Attachment) → Counts (StepRow tag a)
-step_counts tag a = then_counts (NeedsRequest a tag) _ (needs_counts a tag) (λ done. steps_count a tag)
+step_counts tag a = then_counts (needs_counts a tag) (λ done. steps_count a tag)
 
 step_holds : (tag : ℕ) (a : Attachment) (old : Reach) (answer : Result ℕ Refusal) (new : Reach) → old.holding ≡ IsAttached a → StepRow tag a old answer new → HoldsSame a new.holding
 step_holds tag a old answer new is h =
@@ -46,7 +46,8 @@ steps_did a tag old answer new h =
 
 step_did : (tag : ℕ) (a : Attachment) (old : Reach) (answer : Result ℕ Refusal) (new : Reach) → StepRow tag a old answer new → Did (DoesNext (IsAttached a) tag) false old.disk answer new.disk
 step_did tag a old answer new h =
-    did_then (DoesNext (IsAttached a) tag) false (NeedsRequest a tag) (λ _. StepsRequest a tag) old answer new (quiet_needs a tag) (λ done middle first next. steps_did a tag middle answer new next) h
+    did_then (DoesNext (IsAttached a) tag) false old answer new h (quiet_needs a tag)
+    (λ done middle first next. steps_did a tag middle answer new next)
 
 left_why : (line : List ℕ) (prov : Span) (tag : ℕ) (a : Attachment) (queue : List Request) (old : Reach) (left : Result ℕ StepFault) (new : Reach) → old.holding ≡ IsAttached a
     → StepAnswers tag a.queue queue old.disk new.disk left → Why line (commands.Step prov tag) old (or_refusal (step_refusal tag) left) new
@@ -95,7 +96,7 @@ stepping_unstored : (a : Attachment) (tag : ℕ) → Unstored (StepsRequest a ta
 stepping_unstored a tag old answer new h = same_files old.cabinet new.cabinet h.outside.cabinet
 
 step_row : (tag : ℕ) (a : Attachment) → Unstored (StepRow tag a)
-step_row tag a = unstored_then (NeedsRequest a tag) _ (request_unstored a tag) (λ done. stepping_unstored a tag)
+step_row tag a = unstored_then (request_unstored a tag) (λ done. stepping_unstored a tag)
 
 pub step_lawful : (prov : Span) (tag : ℕ) → IsLawful (commands.Step prov tag)
 step_lawful prov tag = record {

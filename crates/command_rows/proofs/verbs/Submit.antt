@@ -5,10 +5,10 @@ use Rattle.bio_queue.specs.declared.job.Job.TheVariants as jobs
 use Rattle.command_words.specs.declared.commands.Command.TheVariants as commands
 use Rattle.command_words.specs.declared.commands.JobWords.TheVariants as words
 use Rattle.eli_base.specs.declared.refusals.Refusal.TheVariants as refusals
-use Rattle.command_rows.specs.Rows.{AsksBytesAtOnce, AsksSectorsFrom, AsksToOpen, AttachedWith, Attachment, IsAttached, NeedsWhole, QueueRefuses, Reach, bytes_spelled, or_refusal, tag_or, whole_sectors}
+use Rattle.command_rows.specs.Rows.{AsksBytesAtOnce, AsksSectorsFrom, AsksToOpen, AttachedWith, Attachment, IsAttached, QueueRefuses, Reach, bytes_spelled, or_refusal, tag_or, whole_sectors}
 use Rattle.command_rows.specs.Vocabulary.{Command, DiskState, IsWrite, Job, JobPassesEnd, JobWords, Refusal, Request, Span, SubmitAnswers, SubmitFault, bytes_at, media}
 use Rattle.command_rows.specs.verbs.Submit.{FitsBytes, FitsJob, FitsSubmit, SubmitRow, Submits, job_sectors, submit_refusal}
-use Rattle.command_rows.proofs.VerbLaws.{Becomes, Counts, HoldsSame, IsLawful, Quiet, RulesOut, SoundReply, StoresNone, UncountedAnswer, Unstored, Why, attached_quiet, attached_reply, attached_why, false_is_true, holds_next, holds_same, job_writes, needs, never_both, never_holds, nothing_changed, queue_holds, quiet_then, refused_by, same_disk, same_files, tag_replying, then_counts, uncounted_step, unstored_reply, unstored_then, whole_still, whole_why, with_attached, same_then_why}
+use Rattle.command_rows.proofs.VerbLaws.{Becomes, Counts, HoldsSame, IsLawful, Quiet, RulesOut, SoundReply, StoresNone, UncountedAnswer, Unstored, Why, attached_quiet, attached_reply, attached_why, false_is_true, holds_next, holds_same, job_writes, needs, never_both, never_holds, nothing_changed, queue_holds, quiet_then, refused_by, same_files, same_quiet, same_then_why, tag_replying, then_counts, uncounted_step, unstored_reply, unstored_then, whole_still, whole_why, with_attached}
 
 submit_uncounted : (tag : Result ℕ SubmitFault) → UncountedAnswer (or_refusal submit_refusal tag)
 submit_uncounted (Ok tag) = tt
@@ -22,10 +22,10 @@ submits_count a job from old answer new h =
     uncounted_step old answer new (subst (λ (r : Result ℕ Refusal). UncountedAnswer r) (sym h.answered) (submit_uncounted h.tag)) (ap (λ (r : Reach). r.cabinet) h.left) (ap (λ (r : Reach). r.entropy) h.left)
 
 submit_counts : (line : List ℕ) (asked : JobWords) (a : Attachment) → Counts (SubmitRow line asked a)
-submit_counts line (words.Read sector count) a = then_counts (NeedsWhole a (count * a.keying.sectorsize)) _ (whole_still a (count * a.keying.sectorsize)).counts (λ whole. submits_count a (jobs.Read sector whole) [])
+submit_counts line (words.Read sector count) a = then_counts (whole_still a (count * a.keying.sectorsize)).counts (λ whole. submits_count a (jobs.Read sector whole) [])
 submit_counts line (words.Write sector hex) a =
     let bytes : List ℕ = bytes_spelled (bytes_at line hex) in
-    then_counts (NeedsWhole a (length bytes)) _ (whole_still a (length bytes)).counts (λ whole. submits_count a (jobs.Write sector whole) bytes)
+    then_counts (whole_still a (length bytes)).counts (λ whole. submits_count a (jobs.Write sector whole) bytes)
 submit_counts line words.Flush a = submits_count a jobs.Flush []
 
 submits_hold : (a : Attachment) (job : Job) (from : List ℕ) (old : Reach) (answer : Result ℕ Refusal) (new : Reach) → Submits a job from old answer new → HoldsSame a new.holding
@@ -40,14 +40,14 @@ submit_holds line (words.Write sector hex) a old answer new is h =
 submit_holds line words.Flush a old answer new is h = submits_hold a jobs.Flush [] old answer new h
 
 quiet_submit : (a : Attachment) (job : Job) (from : List ℕ) → Quiet (Submits a job from)
-quiet_submit a job from old answer new h = same_disk old.disk new.disk (ap (λ (r : Reach). r.disk) h.left)
+quiet_submit a job from old answer new h = same_quiet _ new h.left
 
 quiet_submit_row : (line : List ℕ) (asked : JobWords) (a : Attachment) → Quiet (SubmitRow line asked a)
 quiet_submit_row line (words.Read sector count) a =
-    quiet_then (NeedsWhole a (count * a.keying.sectorsize)) _ (λ old answer new h. same_disk old.disk new.disk (ap (λ (r : Reach). r.disk) h.1))
+    quiet_then (λ old answer new h. same_quiet old new h.1)
     (λ whole. quiet_submit a (jobs.Read sector whole) [])
 quiet_submit_row line (words.Write sector hex) a =
-    quiet_then (NeedsWhole a (length (bytes_spelled (bytes_at line hex)))) _ (λ old answer new h. same_disk old.disk new.disk (ap (λ (r : Reach). r.disk) h.1))
+    quiet_then (λ old answer new h. same_quiet old new h.1)
     (λ whole. quiet_submit a (jobs.Write sector whole) (bytes_spelled (bytes_at line hex)))
 quiet_submit_row line words.Flush a = quiet_submit a jobs.Flush []
 
@@ -146,10 +146,10 @@ submitting_unstored : (a : Attachment) (job : Job) (from : List ℕ) → Unstore
 submitting_unstored a job from old answer new h = same_files old.cabinet new.cabinet (ap (λ (r : Reach). r.cabinet) h.left)
 
 submit_row : (line : List ℕ) (asked : JobWords) (a : Attachment) → Unstored (SubmitRow line asked a)
-submit_row line (words.Read sector count) a = unstored_then (NeedsWhole a (count * a.keying.sectorsize)) _ (whole_still a (count * a.keying.sectorsize)).unstored (λ whole. submitting_unstored a (jobs.Read sector whole) [])
+submit_row line (words.Read sector count) a = unstored_then (whole_still a (count * a.keying.sectorsize)).unstored (λ whole. submitting_unstored a (jobs.Read sector whole) [])
 submit_row line (words.Write sector hex) a =
     let bytes : List ℕ = bytes_spelled (bytes_at line hex) in
-    unstored_then (NeedsWhole a (length bytes)) _ (whole_still a (length bytes)).unstored (λ whole. submitting_unstored a (jobs.Write sector whole) bytes)
+    unstored_then (whole_still a (length bytes)).unstored (λ whole. submitting_unstored a (jobs.Write sector whole) bytes)
 submit_row line words.Flush a = submitting_unstored a jobs.Flush []
 
 pub submit_lawful : (prov : Span) (job : JobWords) → IsLawful (commands.Submit prov job)

@@ -1,20 +1,20 @@
 -- That `sum` is lawful.
-use Rattle.std.proofs.Common.{Err, List, None, Ok, Result, ap, refl, ℕ, ◌≡◌}
+use Rattle.std.proofs.Common.{Err, List, None, Ok, Result, refl, ℕ, ◌≡◌}
 use Rattle.command_words.specs.declared.commands.Command.TheVariants as commands
 use Rattle.eli_base.specs.declared.refusals.Refusal.TheVariants as refusals
-use Rattle.command_rows.specs.Rows.{AttachedWith, Attachment, IsAttached, NeedsSectors, Reach, ReadsSectors, digest_or}
+use Rattle.command_rows.specs.Rows.{AttachedWith, Attachment, IsAttached, Reach, ReadsSectors, digest_or}
 use Rattle.command_rows.specs.Vocabulary.{Command, Refusal, Span, media, sha256}
 use Rattle.command_rows.specs.verbs.Sum.{FitsSum, SumRow}
-use Rattle.command_rows.proofs.VerbLaws.{IsLawful, Quiet, RulesOut, SoundReply, Still, StoresNone, Why, attached_becomes, attached_keeps, attached_quiet, attached_why, digest_replying, done_still, false_is_true, needs, never_both, never_holds, nothing_changed, passes, quiet_sectors, quiet_then, range_still, range_why, read_at, refused_by, same_disk, sectors_still, sound_reply, still_sound, still_then, then_why, unstored_reply, with_attached, same_then_why}
+use Rattle.command_rows.proofs.VerbLaws.{IsLawful, Quiet, RulesOut, SoundReply, Still, StoresNone, Why, attached_becomes, attached_keeps, attached_quiet, attached_why, digest_replying, done_still, false_is_true, needs, never_both, never_holds, nothing_changed, passes, quiet_sectors, quiet_then, range_still, range_why, read_at, refused_by, same_quiet, same_then_why, sectors_still, sound_reply, still_sound, still_then, then_why, unstored_reply, with_attached}
 
 sum_still : (start count : ℕ) (a : Attachment) → Still (SumRow start count a)
 sum_still start count a = still_then (range_still a start count) (λ there. still_then (sectors_still a start count) (λ bytes. done_still (sha256 bytes)))
 
 quiet_sum_row : (start count : ℕ) (a : Attachment) → Quiet (SumRow start count a)
 quiet_sum_row start count a =
-    quiet_then (NeedsSectors a start count) _ (λ old answer new h. same_disk old.disk new.disk (ap (λ (r : Reach). r.disk) h.1))
-    (λ done. quiet_then (ReadsSectors a start count) _ (quiet_sectors a start count)
-    (λ bytes old answer new h. same_disk old.disk new.disk (ap (λ (r : Reach). r.disk) h.1)))
+    quiet_then (λ old answer new h. same_quiet old new h.1)
+    (λ done. quiet_then (quiet_sectors a start count)
+    (λ bytes old answer new h. same_quiet old new h.1))
 
 reads_why : (line : List ℕ) (prov : Span) (start count : ℕ) (a : Attachment) (old : Reach) (answer : Result (List ℕ) Refusal) (new : Reach) → old.holding ≡ IsAttached a → ReadsSectors a start count old answer new → Why line (commands.Sum prov start count) old answer new
 reads_why line prov start count a old (Ok bytes) new is h = tt

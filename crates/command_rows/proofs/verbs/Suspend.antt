@@ -6,7 +6,7 @@ use Rattle.eli_base.specs.declared.refusals.Refusal.TheVariants as refusals
 use Rattle.command_rows.specs.Rows.{Answer, AsksForNone, AttachedWith, Attachment, DoesEvents, GoesOn, HoldsKeying, IsAttached, IsSuspended, QueueRefuses, Reach, attachment_in, done_or}
 use Rattle.command_rows.specs.Vocabulary.{Command, DiskState, FailsIn, Logs, Refusal, Request, Span}
 use Rattle.command_rows.specs.verbs.Suspend.{NeedsNoRequests, SuspendRow, Suspends, if_none_open, kept_by}
-use Rattle.command_rows.proofs.VerbLaws.{Becomes, Counts, Did, IsLawful, KeepsRequests, RulesOut, Sound, SoundReply, Still, StoresNone, UncountedAnswer, Unstored, Why, attached_did, attached_why, becomes_as, did_then, does_did, does_uncounted, done_replying, events_why, false_is_true, needs, never_both, never_holds, nothing_changed, refused_by, same_disk, same_files, same_reach, sound_reply, sound_then, still_decision, still_sound, uncounted_step, unstored_reply, unstored_then, with_attached, same_then_why}
+use Rattle.command_rows.proofs.VerbLaws.{Becomes, Counts, Did, IsLawful, KeepsRequests, RulesOut, Sound, SoundReply, Still, StoresNone, UncountedAnswer, Unstored, Why, attached_did, attached_why, becomes_as, did_then, does_did, does_uncounted, done_replying, events_why, false_is_true, needs, never_both, never_holds, nothing_changed, refused_by, same_files, same_quiet, same_reach, same_then_why, sound_reply, sound_then, still_decision, still_sound, uncounted_step, unstored_reply, unstored_then, with_attached}
 
 suspending_counts : (a : Attachment) → Counts (Suspends a)
 suspending_counts a old answer new h = uncounted_step old answer new (does_uncounted (Flush ∷ []) old.disk answer new.disk h.flushes) h.outside.cabinet h.outside.entropy
@@ -22,7 +22,7 @@ suspends_sound : (a : Attachment) → Sound (Suspends a)
 suspends_sound a = record { counts = suspending_counts a; keeps = λ old answer new h had. subst HoldsKeying (sym h.holding) tt }
 
 suspend_sound : (a : Attachment) → Sound (SuspendRow a)
-suspend_sound a = sound_then (NeedsNoRequests a) _ (still_sound (none_open_still a)) (λ done. suspends_sound a)
+suspend_sound a = sound_then (still_sound (none_open_still a)) (λ done. suspends_sound a)
 
 open_why : (line : List ℕ) (prov : Span) (a : Attachment) (queue : List Request) (old middle : Reach) → old.holding ≡ IsAttached a → a.queue ≡ queue → Why line (commands.Suspend prov) old (if_none_open queue) middle
 open_why line prov a [] old middle is are = tt
@@ -37,9 +37,8 @@ suspend_why line prov a old answer new is h =
 
 suspends_did : (a : Attachment) (old : Reach) (answer : Result (Unit {0}) Refusal) (new : Reach) → SuspendRow a old answer new → Did (λ events. events ≡ Flush ∷ []) false old.disk answer new.disk
 suspends_did a old answer new h =
-    did_then (λ events. events ≡ Flush ∷ []) false (NeedsNoRequests a) (λ _. Suspends a) old answer new
-    (λ old given new h. same_disk old.disk new.disk (ap (λ (r : Reach). r.disk) h.1))
-    (λ done middle first next. does_did (Flush ∷ []) false middle.disk answer new.disk next.flushes) h
+    did_then (λ events. events ≡ Flush ∷ []) false old answer new h (λ old given new h. same_quiet old new h.1)
+    (λ done middle first next. does_did (Flush ∷ []) false middle.disk answer new.disk next.flushes)
 
 flushed_or_failed : (old : DiskState) (answer : Result (Unit {0}) Refusal) (new : DiskState) → DoesEvents (Flush ∷ []) old answer new → Logs (Flush ∷ []) old new ⊎ FailsIn (Flush ∷ []) old new
 flushed_or_failed old (Ok done) new h = inl h
@@ -81,7 +80,7 @@ suspending_unstored : (a : Attachment) → Unstored (Suspends a)
 suspending_unstored a old answer new h = same_files old.cabinet new.cabinet h.outside.cabinet
 
 suspend_row : (a : Attachment) → Unstored (SuspendRow a)
-suspend_row a = unstored_then (NeedsNoRequests a) _ (none_open_still a).unstored (λ done. suspending_unstored a)
+suspend_row a = unstored_then (none_open_still a).unstored (λ done. suspending_unstored a)
 
 -- `suspend`, where none is open
 suspend_keeps : (a : Attachment) (old : Reach) (given : Result (Unit {0}) Refusal) (middle : Reach) (answer : Result (Unit {0}) Refusal) (new : Reach) → NeedsNoRequests a old given middle → GoesOn (λ _. Suspends a) given middle answer new

@@ -5,10 +5,10 @@ use Rattle.command_words.specs.declared.commands.Command.TheVariants as commands
 use Rattle.eli_base.specs.declared.refusals.Refusal.TheVariants as refusals
 use Rattle.command_rows.specs.Rows.{Attachment, IsAttached, IsFile, LoadsFile, Reach, StoresBytes, Then}
 use Rattle.command_rows.specs.Vocabulary.{CabinetState, Command, Counted, DiskState, Files, Logs, Refusal, Span, Sweep, bytes_at, file_answer, has_tags, le64, media, stored}
-use Rattle.command_rows.specs.verbs.Verify.{FindsPlace, FitsVerify, LoadsPlace, NeedsPlace, NeedsTags, PartAnswer, RefusesLong, RefusesPlace, SaysPlace, SaysTooFar, StoresPlace, Sweeps, SweepsFrom, SweptPart, VerifyRow, if_inside, if_tagged, place_in, place_size, unless_absent, verified_or}
+use Rattle.command_rows.specs.verbs.Verify.{FindsPlace, FitsVerify, LoadsPlace, NeedsTags, PartAnswer, RefusesLong, RefusesPlace, SaysPlace, SaysTooFar, StoresPlace, Sweeps, SweepsFrom, SweptPart, VerifyRow, if_inside, if_tagged, place_in, place_size, unless_absent, verified_or}
 use Rattle.command_rows.proofs.PlaceCauses.{wrong_file}
 use Rattle.command_rows.proofs.SweepPlaces.{OfFile, eight_loaded, eight_says, found_place, from_stays, is_inside, place_stays, was_loaded}
-use Rattle.command_rows.proofs.VerbLaws.{Counts, CountsResult, IsLawful, LineHasCause, PlainAnswer, Quiet, SoundReply, Step, Still, StillBut, Stored, StoresAt, StoresNone, StoresOne, UncountedAnswer, Unstored, Why, apart_out, attached, attached_becomes, attached_keeps, attached_quiet, attached_why, by_plain, decides_why, done_still, false_is_true, file_counts, loading_bytes, may_lack_memory, needs, needs_tags, never_both, next_unstored, none_then, not_both, nothing_changed, quiet_failure, quiet_storing, quiet_then, same_disk, same_files, sound_reply, stays_then, still_but_sound, still_but_then, still_decision, still_then, storing_still, storing_why, then_counts, then_since, then_why, uncounted_step, verified_replying, with_attached, same_then_why}
+use Rattle.command_rows.proofs.VerbLaws.{Counts, CountsResult, IsLawful, LineHasCause, PlainAnswer, Quiet, SoundReply, Step, Still, StillBut, Stored, StoresAt, StoresNone, StoresOne, UncountedAnswer, Unstored, Why, apart_out, attached, attached_becomes, attached_keeps, attached_quiet, attached_why, by_plain, decides_why, done_still, false_is_true, file_counts, loading_bytes, may_lack_memory, needs, needs_tags, never_both, next_unstored, none_then, not_both, nothing_changed, quiet_failure, quiet_storing, quiet_then, same_disk, same_files, same_quiet, same_then_why, sound_reply, stays_then, still_but_sound, still_but_then, still_decision, still_then, storing_still, storing_why, then_counts, then_since, then_why, uncounted_step, verified_replying, with_attached}
 
 tagged_uncounted : (tagged : Bool) → UncountedAnswer (if_tagged tagged)
 tagged_uncounted true = tt
@@ -178,19 +178,19 @@ quiet_part s old (Err refusal) new h = absurd h
 
 quiet_from : (a : Attachment) (place count : ℕ) → Quiet (SweepsFrom a place count)
 quiet_from a place count =
-    quiet_then (NeedsPlace a place) _ (λ old answer new h. same_disk old.disk new.disk (ap (λ (r : Reach). r.disk) h.1))
+    quiet_then (λ old answer new h. same_quiet old new h.1)
     (λ done old answer new h. quiet_part _ old.disk answer new.disk h.sweeps)
 
 quiet_place : (line : List ℕ) (file : Span) (part : SweptPart) → Quiet (StoresPlace line file part)
 quiet_place line file part =
-    quiet_then (StoresBytes line file (le64 part.next)) _ (quiet_storing line file (le64 part.next))
-    (λ done old answer new h. same_disk old.disk new.disk (ap (λ (r : Reach). r.disk) h.1))
+    quiet_then (quiet_storing line file (le64 part.next))
+    (λ done old answer new h. same_quiet old new h.1)
 
 quiet_verify_row : (line : List ℕ) (file : Span) (count : ℕ) (restart : Bool) (a : Attachment) → Quiet (VerifyRow line file count restart a)
 quiet_verify_row line file count restart a =
-    quiet_then (NeedsTags a) _ (λ old answer new h. same_disk old.disk new.disk (ap (λ (r : Reach). r.disk) h.1))
-    (λ done. quiet_then (FindsPlace restart line file) _ (λ old answer new h. same_disk old.disk new.disk (place_stays restart line file old answer new h).disk)
-    (λ place. quiet_then (SweepsFrom a place count) _ (quiet_from a place count)
+    quiet_then (λ old answer new h. same_quiet old new h.1)
+    (λ done. quiet_then (λ old answer new h. same_disk old.disk new.disk (place_stays restart line file old answer new h).disk)
+    (λ place. quiet_then (quiet_from a place count)
     (λ part. quiet_place line file part)))
 
 -- a file of eight bytes, or none, isn't too long
@@ -236,8 +236,8 @@ before line (Some span) old middle new (inl a) b = inl (none_then old middle new
 before line (Some span) old middle new (inr a) b = inr (one_before (bytes_at line span) old middle new a b)
 
 -- what follows the first step stores nothing
-then_unstored : {A B : Type 0} (line : List ℕ) (file : Option Span) (First : Step A) (Next : A → Step B) → Stored line file First → ((a : A) → Unstored (Next a)) → Stored line file (Then First Next)
-then_unstored line file First Next first next old answer new h =
+then_unstored : {A B : Type 0} {First : Step A} {Next : A → Step B} (line : List ℕ) (file : Option Span) → Stored line file First → ((a : A) → Unstored (Next a)) → Stored line file (Then First Next)
+then_unstored {A} {B} {First} {Next} line file first next old answer new h =
     before line file old.cabinet h.middle.cabinet new.cabinet (first old h.given h.middle h.first) (next_unstored Next h.given h.middle answer new next h.next)
 
 -- the place is stored last
@@ -245,9 +245,9 @@ stores_still : (line : List ℕ) (file : Span) (part : SweptPart) → StillBut l
 stores_still line file part =
     let stores : StillBut line (Some file) (StoresBytes line file (le64 part.next)) = storing_still line file (le64 part.next) in
     record {
-      counts = then_counts (StoresBytes line file (le64 part.next)) _ stores.counts (λ stored. (done_still part).counts);
-      stays = stays_then (StoresBytes line file (le64 part.next)) _ stores.stays (λ stored. (done_still part).stays);
-      stored = then_unstored line (Some file) (StoresBytes line file (le64 part.next)) _ stores.stored (λ stored. (done_still part).unstored);
+      counts = then_counts stores.counts (λ stored. (done_still part).counts);
+      stays = stays_then stores.stays (λ stored. (done_still part).stays);
+      stored = then_unstored line (Some file) stores.stored (λ stored. (done_still part).unstored);
     }
 
 verify_still : (line : List ℕ) (file : Span) (count : ℕ) (restart : Bool) (a : Attachment) → StillBut line (Some file) (VerifyRow line file count restart a)

@@ -1,11 +1,11 @@
 -- That `write` is lawful.
-use Rattle.std.proofs.Common.{Bool, Err, List, None, Ok, Result, ap, cond, false, length, refl, subst, sym, true, ℕ, ◌/◌, ◌∙◌, ◌≡◌}
+use Rattle.std.proofs.Common.{Bool, Err, List, None, Ok, Result, cond, false, length, refl, subst, sym, true, ℕ, ◌/◌, ◌∙◌, ◌≡◌}
 use Rattle.command_words.specs.declared.commands.Command.TheVariants as commands
 use Rattle.eli_base.specs.declared.refusals.Refusal.TheVariants as refusals
-use Rattle.command_rows.specs.Rows.{AttachedWith, Attachment, IsAttached, NeedsSectors, NeedsWhole, NeedsWritable, Reach, Then, WritesSectors, bytes_spelled, done_or, whole_sectors}
+use Rattle.command_rows.specs.Rows.{AttachedWith, Attachment, IsAttached, Reach, bytes_spelled, done_or, whole_sectors}
 use Rattle.command_rows.specs.Vocabulary.{Command, Refusal, Span, bytes_at, data_writes, media}
 use Rattle.command_rows.specs.verbs.Write.{FitsWrite, WriteRow, WritesData}
-use Rattle.command_rows.proofs.VerbLaws.{Did, IsLawful, RulesOut, SoundReply, Still, StoresNone, Why, attached_becomes, attached_did, attached_keeps, attached_why, did_then, doing_still, done_replying, false_is_true, needs, never_both, never_holds, not_both, nothing_changed, passes, range_still, refused_by, same_disk, sound_reply, still_sound, still_then, unstored_reply, whole_still, whole_why, with_attached, writable_did, writable_still, writable_write_why, same_then_why}
+use Rattle.command_rows.proofs.VerbLaws.{Did, IsLawful, RulesOut, SoundReply, Still, StoresNone, Why, attached_becomes, attached_did, attached_keeps, attached_why, did_then, doing_still, done_replying, false_is_true, needs, never_both, never_holds, not_both, nothing_changed, passes, range_still, refused_by, same_quiet, same_then_why, sound_reply, still_sound, still_then, unstored_reply, whole_still, whole_why, with_attached, writable_did, writable_still, writable_write_why}
 
 write_why : (line : List ℕ) (prov : Span) (sector : ℕ) (hex : Span) (a : Attachment) (old : Reach) (answer : Result (Unit {0}) Refusal) (new : Reach) → old.holding ≡ IsAttached a
     → WriteRow sector (bytes_spelled (bytes_at line hex)) a old answer new
@@ -24,12 +24,10 @@ writes_did : (a : Attachment) (sector : ℕ) (bytes : List ℕ) (old : Reach) (a
     → WriteRow sector bytes a old answer new
     → Did (WritesData (IsAttached a) sector bytes) false old.disk answer new.disk
 writes_did a sector bytes old answer new h =
-    did_then (WritesData (IsAttached a) sector bytes) false (NeedsWhole a (length bytes)) (λ count. Then (NeedsWritable a) (λ _. Then (NeedsSectors a sector count) (λ _. WritesSectors a sector count bytes))) old answer new
-    (λ old answer new h. same_disk old.disk new.disk (ap (λ (r : Reach). r.disk) h.1))
+    did_then (WritesData (IsAttached a) sector bytes) false old answer new h (λ old answer new h. same_quiet old new h.1)
     (λ count middle first next.
     subst (λ (n : ℕ). Did (λ found. found ≡ data_writes a.keying sector n bytes) false middle.disk answer new.disk) (counted a.keying.sectorsize (length bytes) count _ _ first.0)
     (writable_did a sector count bytes middle answer new next))
-    h
 
 pub write_still : (sector : ℕ) (bytes : List ℕ) (a : Attachment) → Still (WriteRow sector bytes a)
 write_still sector bytes a =

@@ -62,6 +62,10 @@ none_breaks Row stores refusal = refl
 pub nothing_done : {A : Type 0} (Row : List Event → Type 0) (stores : Bool) (refusal : Refusal) (old new : DiskState) → Logs [] old new → Did {A = A} Row stores old (Err refusal) new
 nothing_done Row stores refusal old new logs = record { events = []; logs = logs; are = none_breaks Row stores refusal }
 
+-- the disk failed, and logged the first events of a row
+pub part_did : {A : Type 0} (Row : List Event → Type 0) (stores : Bool) (events : List Event) (old new : DiskState) → FailsIn events old new → Row events → Did {A = A} Row stores old (Err refusals.DeviceFault) new
+part_did Row stores events old new fails is_row = record { events = take fails.count events; logs = fails.logs; are = inr (record { row = events; is_row = is_row; count = fails.count; part = refl }) }
+
 -- a row that does nothing
 quiet_are : {A : Type 0} (stores : Bool) (answer : Result A Refusal) → ResultEvents (λ events. events ≡ []) stores answer []
 quiet_are stores (Ok value) = refl
@@ -88,11 +92,7 @@ did_then {A} {B} {First} {Next} Row stores old answer new h quiet next =
 
 pub does_did : (events : List Event) (stores : Bool) (old : DiskState) (answer : Result (Unit {0}) Refusal) (new : DiskState) → DoesEvents events old answer new → Did (λ found. found ≡ events) stores old answer new
 does_did events stores old (Ok done) new h = record { events = events; logs = h; are = refl }
-does_did events stores old (Err refusals.DeviceFault) new h = record {
-  events = take h.count events;
-  logs = h.logs;
-  are = inr (record { row = events; is_row = refl; count = h.count; part = refl });
-}
+does_did events stores old (Err refusals.DeviceFault) new h = part_did (λ found. found ≡ events) stores events old new h refl
 does_did events stores old (Err refusal) new h = absurd h
 
 pub quiet_sectors : (a : Attachment) (sector count : ℕ) → Quiet (ReadsSectors a sector count)

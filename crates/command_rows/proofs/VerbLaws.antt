@@ -8,7 +8,7 @@ pub use Rattle.command_rows.specs.Storing.{StoresAt, StoresNone, StoresOne}
 pub use Rattle.command_rows.proofs.Becoming.{attached_becomes, becomes_as, holds_same, same_reach, some_is_none, stays_next, stays_quiet, stays_so, stays_then}
 pub use Rattle.command_rows.proofs.Causing.{Step, Why, events_why, range_why, same_then_why, then_since, then_why, whole_why, writable_write_why}
 pub use Rattle.command_rows.proofs.Counting.{Counts, CountsResult, Later, Uncounted, UncountedAnswer, attaching_counts, beside, by_plain, decision_counts, does_uncounted, file_counts, plain_uncounted, some_uncounted, storing_counts, then_counts, uncounted_step}
-pub use Rattle.command_rows.proofs.Events.{Did, Quiet, did_then, does_did, nothing_done, quiet_attaching, quiet_did, quiet_failure, quiet_loading, quiet_reading, quiet_sectors, quiet_then, quiet_trial, same_disk, same_quiet, writable_did}
+pub use Rattle.command_rows.proofs.Events.{Did, Quiet, did_then, does_did, nothing_done, part_did, quiet_attaching, quiet_did, quiet_failure, quiet_loading, quiet_reading, quiet_sectors, quiet_then, quiet_trial, same_disk, same_quiet, writable_did}
 pub use Rattle.command_rows.proofs.Fitting.{RulesOut, apart_out, attach_fits, false_is_true, has_metadata, has_same, never_both, never_holds, no_bad_file, not_both, not_some, parts_same, passes, read_at, reads_same}
 pub use Rattle.command_rows.proofs.Gate.{attached, by_attachment, suspended, unattached, with_attached, with_suspended}
 pub use Rattle.command_rows.proofs.Grounding.{BadFiles, Grounds, Since, decides_why, loading_bytes, loading_parts, loading_since, loading_why, plain_cause, reading_has, reading_since, reading_why, since_cabinet, since_same, storing_why}

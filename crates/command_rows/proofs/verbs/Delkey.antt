@@ -1,5 +1,5 @@
 -- That `delkey` is lawful.
-use Rattle.std.proofs.Common.{Bool, Err, List, None, Ok, Option, Result, Some, ap, cond, false, inl, inr, refl, subst, sym, take, true, ℕ, ◌-◌, ◌∙◌, ◌≡◌, ◌⊎◌}
+use Rattle.std.proofs.Common.{Bool, Err, List, None, Ok, Option, Result, Some, ap, cond, false, inl, inr, refl, subst, sym, true, ℕ, ◌-◌, ◌∙◌, ◌≡◌, ◌⊎◌}
 use Rattle.std.specs.Option.{option_or}
 use Rattle.block_traits.proofs.Causes.{Rose-earlier}
 use Rattle.command_words.specs.declared.commands.Command.TheVariants as commands
@@ -10,7 +10,7 @@ use Rattle.key_commands.specs.declared.overwriting.Which.TheVariants as slots
 use Rattle.command_rows.specs.Rows.{HasMetadata, Holding, LacksMetadata, Reach, done_or, without_value}
 use Rattle.command_rows.specs.Vocabulary.{Command, DeletesKeys, Deletion, DiskState, EntropyState, HasNoKey, HoldsOldOr, HoldsOnceFlushed, Metadata, Overwrites, Refusal, Span, deletion_refusal, encoded, overwrite_events, pass_events, pass_sectors}
 use Rattle.command_rows.specs.verbs.Delkey.{ClearsKeys, DeletesRow, DelkeyRow, FindsSlots, NamesSlots, OverwritesKeys, RefusesDelkey, RefusesSlots, TakesKeysOut, named_slots, slot_of}
-use Rattle.command_rows.proofs.VerbLaws.{Change, ChangesMetadata, Counts, CountsResult, Did, DoesFrom, Grounds, IsLawful, Later, Left, PlainAnswer, PlainOption, Same, Since, Still, Why, after_quiet, alone_from, apart_out, before_all, beside, by_plain, decides_why, done_left, done_replying, early_decision, early_reading, false_is_true, has_metadata, has_same, left_then, moments_from, not_both, not_done, not_some, nothing_done, plain_cause, plain_some, quiet_reading, reading_has, reading_since, reading_still, reading_why, reply_line, row_keeps, row_refused, same_disk, same_files, same_quiet, since_same, some_uncounted, sound_reply, stays_so, still_decision, still_sound, still_then, then_since, then_why, uncounted_step, unstored_reply}
+use Rattle.command_rows.proofs.VerbLaws.{Change, ChangesMetadata, Counts, CountsResult, Did, DoesFrom, Grounds, IsLawful, Later, Left, PlainAnswer, PlainOption, Same, Since, Still, Why, after_quiet, alone_from, apart_out, before_all, beside, by_plain, decides_why, done_left, done_replying, early_decision, early_reading, false_is_true, has_metadata, has_same, left_then, moments_from, not_both, not_done, not_some, nothing_done, part_did, plain_cause, plain_some, quiet_reading, reading_has, reading_since, reading_still, reading_why, reply_line, row_keeps, row_refused, same_disk, same_files, same_quiet, since_same, some_uncounted, sound_reply, stays_so, still_decision, still_sound, still_then, then_since, then_why, uncounted_step, unstored_reply}
 
 same_passes : (disk start : DiskState) (asked : Deletion) (random : List ℕ) → disk.size ≡ start.size → pass_events disk asked.meta asked.which random ≡ pass_events start asked.meta asked.which random
 same_passes disk start asked random size = ap (λ (n : ℕ). overwrite_events (n - 1) (pass_sectors asked.meta asked.which random)) size
@@ -24,16 +24,8 @@ deleted_did asked start disk entropy (Ok m) disk' entropy' answer size h is =
       are = record { m = asked.meta; which = asked.which; random = h.random; size = h.draws.size; are = same_passes disk start asked h.random size };
     })
 deleted_did asked start disk entropy (Err refusals.DeviceFault) disk' entropy' answer size h is =
-    rw is (record {
-      events = take h.fails.count (pass_events disk asked.meta asked.which h.random);
-      logs = h.fails.logs;
-      are = inr (record {
-        row = pass_events disk asked.meta asked.which h.random;
-        is_row = record { m = asked.meta; which = asked.which; random = h.random; size = h.draws.size; are = same_passes disk start asked h.random size };
-        count = h.fails.count;
-        part = refl;
-      });
-    })
+    rw is (part_did (OverwritesKeys start) false (pass_events disk asked.meta asked.which h.random) disk disk' h.fails
+    (record { m = asked.meta; which = asked.which; random = h.random; size = h.draws.size; are = same_passes disk start asked h.random size }))
 deleted_did asked start disk entropy (Err refusals.EntropyFault) disk' entropy' answer size h is =
     rw is (nothing_done (OverwritesKeys start) false refusals.EntropyFault disk disk' (same_disk disk disk' h.unchanged))
 deleted_did asked start disk entropy (Err refusal) disk' entropy' answer size h is = rw is (nothing_done (OverwritesKeys start) false refusal disk disk' (same_disk disk disk' h.disk_unchanged))

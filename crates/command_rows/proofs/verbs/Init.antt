@@ -1,5 +1,5 @@
 -- That `init` is lawful.
-use Rattle.std.proofs.Common.{Bool, Err, List, None, Ok, Option, Result, Some, [], ap, arith, cond, false, inl, inr, refl, subst, sym, take, true, ℕ, ◌*◌, ◌∙◌, ◌≡◌, ◌≤◌, is_some, ℤ}
+use Rattle.std.proofs.Common.{Bool, Err, List, None, Ok, Option, Result, Some, [], ap, arith, cond, false, inl, inr, refl, subst, sym, true, ℕ, ◌*◌, ◌∙◌, ◌≡◌, ◌≤◌, is_some, ℤ}
 use Rattle.block_traits.proofs.Causes.{Rose-earlier}
 use Rattle.command_words.specs.declared.commands.Command.TheVariants as commands
 use Rattle.eli_base.specs.declared.algorithms.Cipher.{Cipher}
@@ -9,7 +9,7 @@ use Rattle.key_commands.proofs.Making.{IsUsable-makes, KeepsAlone-replace}
 use Rattle.command_rows.specs.Rows.{AreComponents, BacksUp, GoesOn, MakesProvider, Reach, RefusesFiles, WritesMetadata, done_or}
 use Rattle.command_rows.specs.Vocabulary.{Auth, CabinetState, Command, Components, DiskState, Files, HoldsOldOr, InitOptions, Inits, IsSectorOf, IsUsable, KeyFault, KeyWords, Logs, Metadata, Refusal, Span, UserKey, early_refusal, encoded, key_refusal, master_key_in, replace_events, user_key}
 use Rattle.command_rows.specs.verbs.Init.{FindsNew, InitRow, PutsNew, RefusesNew}
-use Rattle.command_rows.proofs.VerbLaws.{BadFiles, Change, ChangesMetadata, Counts, CountsResult, Did, Grounds, IsLawful, Later, Left, PlainOption, Same, Since, Still, StillBut, Stored, Why, alone_from, apart_out, before_all, beside, bytes_stored, components_still, decision_counts, did_then, done_left, done_replying, early_loading, false_is_true, key_option, left_then, loading_parts, loading_since, loading_why, may_lack_memory, moments_from, no_bad_file, not_done, not_some, nothing_done, parts_same, plain_cause, plain_some, quiet_loading, reply_line, row_keeps, row_refused, same_disk, same_files, some_uncounted, sound_reply, stays_so, still_but_sound, still_but_then, storing_counts, storing_why, then_since, then_why, uncounted_step}
+use Rattle.command_rows.proofs.VerbLaws.{BadFiles, Change, ChangesMetadata, Counts, CountsResult, Did, Grounds, IsLawful, Later, Left, PlainOption, Same, Since, Still, StillBut, Stored, Why, alone_from, apart_out, before_all, beside, bytes_stored, components_still, decision_counts, did_then, done_left, done_replying, early_loading, false_is_true, key_option, left_then, loading_parts, loading_since, loading_why, may_lack_memory, moments_from, no_bad_file, not_done, not_some, nothing_done, part_did, parts_same, plain_cause, plain_some, quiet_loading, reply_line, row_keeps, row_refused, same_disk, same_files, some_uncounted, sound_reply, stays_so, still_but_sound, still_but_then, storing_counts, storing_why, then_since, then_why, uncounted_step}
 
 -- the metadata were written, and then the backup was stored or refused
 stored_did : (line : List ℕ) (backup : Option Span) (m : Metadata) (start : DiskState) (old : Reach) (answer : Result (Unit {0}) Refusal) (new : Reach) → Logs (replace_events start m) start old.disk → BacksUp line backup m old answer new
@@ -29,11 +29,7 @@ made_did : (line : List ℕ) (options : InitOptions) (parts : Components) (backu
     → Inits options parts old.disk old.entropy made middle.disk middle.entropy → GoesOn (λ m. BacksUp line backup m) made middle answer new → Did (WritesMetadata old.disk) (is_some backup) old.disk answer new.disk
 made_did line options parts backup old (Ok m) middle answer new inits next = stored_did line backup m old.disk middle answer new inits.logs next
 made_did line options parts backup old (Err refusals.DeviceFault) middle answer new inits next =
-    rw (next.0, ap (λ (r : Reach). r.disk) next.1) (record {
-      events = take inits.fails.count (replace_events old.disk inits.m);
-      logs = inits.fails.logs;
-      are = inr (record { row = replace_events old.disk inits.m; is_row = record { m = inits.m; are = refl }; count = inits.fails.count; part = refl });
-    })
+    rw (next.0, ap (λ (r : Reach). r.disk) next.1) (part_did _ (is_some backup) (replace_events old.disk inits.m) old.disk middle.disk inits.fails (record { m = inits.m; are = refl }))
 made_did line options parts backup old (Err refusals.EntropyFault) middle answer new inits next =
     rw (next.0, ap (λ (r : Reach). r.disk) next.1) (nothing_done _ (is_some backup) refusals.EntropyFault old.disk middle.disk (same_disk old.disk middle.disk inits.unchanged))
 made_did line options parts backup old (Err refusal) middle answer new inits next =

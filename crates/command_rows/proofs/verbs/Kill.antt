@@ -1,12 +1,12 @@
 -- That `kill` is lawful.
-use Rattle.std.proofs.Common.{Err, List, Ok, Result, ap, arith, false, inl, inr, refl, subst, sym, take, ℕ, ◌-◌, ◌∙◌, ◌≡◌}
+use Rattle.std.proofs.Common.{Err, List, Ok, Result, ap, arith, false, inl, inr, refl, subst, sym, ℕ, ◌-◌, ◌∙◌, ◌≡◌}
 use Rattle.command_words.specs.declared.commands.Command.TheVariants as commands
 use Rattle.eli_base.specs.declared.refusals.Refusal.TheVariants as refusals
 use Rattle.resize_kill.proofs.Destroyed.{gone-FailsIn, gone-Logs}
 use Rattle.command_rows.specs.Rows.{Idle, Reach, attachment_in, done_or}
 use Rattle.command_rows.specs.Vocabulary.{DiskState, EntropyState, HoldsNoMetadata, Kills, Refusal, Span, kill_events, overwrite_events, trash_sectors}
 use Rattle.command_rows.specs.verbs.Kill.{LeavesNoMetadata, DestroysMetadata, KillRow, OverwritesLast, Withdraws}
-use Rattle.command_rows.proofs.VerbLaws.{ChangesMetadata, Counts, CountsResult, Did, DoesFrom, Early, IsLawful, Later, Left, Quiet, Same, Sound, Still, UncountedAnswer, Unstored, Why, after_quiet, apart_out, becomes_as, before_all, beside, done_left, done_replying, false_is_true, idles, left_then, moments_from, nothing_done, reply_line, row_refused, same_disk, same_files, same_quiet, same_reach, sound_reply, sound_then, stays_next, still_sound, then_why, uncounted_step, unstored_reply, unstored_then}
+use Rattle.command_rows.proofs.VerbLaws.{ChangesMetadata, Counts, CountsResult, Did, DoesFrom, Early, IsLawful, Later, Left, Quiet, Same, Sound, Still, UncountedAnswer, Unstored, Why, after_quiet, apart_out, becomes_as, before_all, beside, done_left, done_replying, false_is_true, idles, left_then, moments_from, nothing_done, part_did, reply_line, row_refused, same_disk, same_files, same_quiet, same_reach, sound_reply, sound_then, stays_next, still_sound, then_why, uncounted_step, unstored_reply, unstored_then}
 
 same_killing : (disk start : DiskState) (random : List ℕ) → disk.size ≡ start.size → kill_events disk random ≡ kill_events start random
 same_killing disk start random size = ap (λ (n : ℕ). overwrite_events (n - 1) (trash_sectors random)) size
@@ -16,16 +16,7 @@ killed_did : (start disk : DiskState) (entropy : EntropyState) (answer : Result 
 killed_did start disk entropy (Ok done) disk' entropy' size h =
     record { events = kill_events disk h.random; logs = h.logs; are = record { random = h.random; size = h.takes.size; are = same_killing disk start h.random size } }
 killed_did start disk entropy (Err refusals.DeviceFault) disk' entropy' size h =
-    record {
-      events = take h.fails.count (kill_events disk h.random);
-      logs = h.fails.logs;
-      are = inr (record {
-        row = kill_events disk h.random;
-        is_row = record { random = h.random; size = h.takes.size; are = same_killing disk start h.random size };
-        count = h.fails.count;
-        part = refl;
-      });
-    }
+    part_did (OverwritesLast start) false (kill_events disk h.random) disk disk' h.fails (record { random = h.random; size = h.takes.size; are = same_killing disk start h.random size })
 killed_did start disk entropy (Err refusals.EntropyFault) disk' entropy' size h = nothing_done (OverwritesLast start) false refusals.EntropyFault disk disk' (same_disk disk disk' h.unchanged)
 killed_did start disk entropy (Err (refusals.TooSmall bytes)) disk' entropy' size h = nothing_done (OverwritesLast start) false (refusals.TooSmall bytes) disk disk' (same_disk disk disk' h.disk_unchanged)
 killed_did start disk entropy (Err refusal) disk' entropy' size h = absurd h

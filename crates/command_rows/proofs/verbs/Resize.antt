@@ -1,12 +1,12 @@
 -- That `resize` is lawful.
-use Rattle.std.proofs.Common.{◌==◌, Bool, Err, List, None, Ok, Option, Result, Some, [], ap, cond, false, inl, inr, nat_le, nat_lt, refl, subst, sym, take, true, ℕ, ◌*◌, ◌++◌, ◌-◌, ◌∙◌, ◌≡◌, ◌⊎◌}
+use Rattle.std.proofs.Common.{◌==◌, Bool, Err, List, None, Ok, Option, Result, Some, [], ap, cond, false, inl, inr, nat_le, nat_lt, refl, subst, sym, true, ℕ, ◌*◌, ◌++◌, ◌-◌, ◌∙◌, ◌≡◌, ◌⊎◌}
 use Rattle.command_words.specs.declared.commands.Command.TheVariants as commands
 use Rattle.eli_base.specs.declared.refusals.Refusal.TheVariants as refusals
 use Rattle.resize_kill.proofs.Moved.{KeepsAlone-Moves, KeepsOneOf-Moves, KeepsOneOf-MovesPart}
 use Rattle.command_rows.specs.Rows.{Reach, done_or}
 use Rattle.command_rows.specs.Vocabulary.{Command, Content, DiskState, EntropyState, Event, GivesFrom, HoldsOldOr, HoldsOneOf, IsSectorOf, KeepsAlone, KeepsOneOf, Logs, MetaFault, Metadata, Refusal, RefusesOld, RefusesSizes, Resizes, Span, WaitsForFlush, encoded, grown, move_events, old_place, old_refusal, overwrite_events, size_refusal, trash_sectors}
 use Rattle.command_rows.specs.verbs.Resize.{FindsOldPlace, MovesLast, MovesMetadata, MovesToEnd, RefusesOldPlace, ResizeRow}
-use Rattle.command_rows.proofs.VerbLaws.{ChangesMetadata, Counts, CountsResult, Did, DoesFrom, IsLawful, Later, Left, LineHasCause, PlainOption, Same, Still, Why, apart_out, before_all, beside, done_left, done_replying, false_is_true, meta_plain, moments_from, not_done, not_some, nothing_done, plain_cause, plain_some, quiet_failure, reads_same, reply_line, row_keeps, row_refused, same_content, same_disk, same_files, same_replacing, some_uncounted, sound_reply, stays_so, still_sound, uncounted_step, unstored_reply}
+use Rattle.command_rows.proofs.VerbLaws.{ChangesMetadata, Counts, CountsResult, Did, DoesFrom, IsLawful, Later, Left, LineHasCause, PlainOption, Same, Still, Why, apart_out, before_all, beside, done_left, done_replying, false_is_true, meta_plain, moments_from, not_done, not_some, nothing_done, part_did, plain_cause, plain_some, quiet_failure, reads_same, reply_line, row_keeps, row_refused, same_content, same_disk, same_files, same_replacing, some_uncounted, sound_reply, stays_so, still_sound, uncounted_step, unstored_reply}
 
 same_moving : (oldsize : ℕ) (disk start : DiskState) (m : Metadata) (random : List ℕ) → disk.size ≡ start.size → move_events disk (old_place oldsize) m random ≡ move_events start (old_place oldsize) m random
 same_moving oldsize disk start m random size = ap (λ (events : List Event). events ++ overwrite_events (old_place oldsize) (trash_sectors random)) (same_replacing disk start m size)
@@ -26,16 +26,8 @@ moved_did oldsize start disk entropy (Ok done) disk' entropy' size h =
     }
 moved_did oldsize start disk entropy (Err refusals.DeviceFault) disk' entropy' size (inl h) = nothing_done (MovesLast oldsize start) false refusals.DeviceFault disk disk' (quiet_failure disk disk' h.fails)
 moved_did oldsize start disk entropy (Err refusals.DeviceFault) disk' entropy' size (inr h) =
-    record {
-      events = take h.fails.count (move_events disk (old_place oldsize) (grown h.old disk.size) h.random);
-      logs = h.fails.logs;
-      are = inr (record {
-        row = move_events disk (old_place oldsize) (grown h.old disk.size) h.random;
-        is_row = record { m = grown h.old disk.size; random = h.random; size = h.prepares.takes.size; are = same_moving oldsize disk start (grown h.old disk.size) h.random size };
-        count = h.fails.count;
-        part = refl;
-      });
-    }
+    part_did (MovesLast oldsize start) false (move_events disk (old_place oldsize) (grown h.old disk.size) h.random) disk disk' h.fails
+    (record { m = grown h.old disk.size; random = h.random; size = h.prepares.takes.size; are = same_moving oldsize disk start (grown h.old disk.size) h.random size })
 moved_did oldsize start disk entropy (Err refusals.EntropyFault) disk' entropy' size h = nothing_done (MovesLast oldsize start) false refusals.EntropyFault disk disk' h.finds.finds.logs
 moved_did oldsize start disk entropy (Err refusal) disk' entropy' size h = nothing_done (MovesLast oldsize start) false refusal disk disk' (refused_logs oldsize disk entropy refusal disk' entropy' h)
 

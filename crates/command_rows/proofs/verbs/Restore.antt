@@ -1,5 +1,5 @@
 -- That `restore` is lawful.
-use Rattle.std.proofs.Common.{Bool, Err, List, Ok, Option, Result, ap, cond, false, inl, inr, length, nat_lt, refl, subst, take, true, ℕ, ◌*◌, ◌∙◌, ◌≡◌, IfSome}
+use Rattle.std.proofs.Common.{Bool, Err, List, Ok, Option, Result, ap, cond, false, inl, inr, length, nat_lt, refl, subst, true, ℕ, ◌*◌, ◌∙◌, ◌≡◌, IfSome}
 use Rattle.backup_restore.proofs.Restored.{IsBackedUp-gives}
 use Rattle.block_traits.proofs.Causes.{Rose-earlier}
 use Rattle.command_words.specs.declared.commands.Command.TheVariants as commands
@@ -10,7 +10,7 @@ use Rattle.command_rows.specs.Rows.{Decides, GoesOn, IsFile, LoadsFile, NamesFil
 use Rattle.command_rows.specs.Vocabulary.{CabinetState, Command, DiskState, Files, GivesMetadata, HoldsOldOr, IsSectorOf, MetaFault, Metadata, Refusal, Restores, Span, bytes_at, encoded, file_answer, file_limit, fitted, replace_events, restored, unless_fault}
 use Rattle.command_rows.specs.verbs.Restore.{FindsBackup, PutsBack, RefusesRestore, RestoreRow, RestoresBackup}
 use Rattle.command_rows.proofs.PlaceCauses.{wrong_file}
-use Rattle.command_rows.proofs.VerbLaws.{Change, ChangesMetadata, Counts, Did, DoesFrom, Early, Grounds, IsGround, IsLawful, Left, PlainAnswer, Quiet, Same, Since, Still, UncountedAnswer, Why, after_quiet, alone_from, apart_out, before_all, done_left, done_replying, done_still, false_is_true, file_counts, left_then, loading_bytes, meta_plain, moments_from, not_both, not_done, nothing_done, plain_cause, plain_uncounted, reply_line, row_keeps, row_refused, same_disk, same_files, same_replacing, since_cabinet, sound_reply, stays_so, still_sound, still_then, then_since, then_why, uncounted_step, unstored_reply}
+use Rattle.command_rows.proofs.VerbLaws.{Change, ChangesMetadata, Counts, Did, DoesFrom, Early, Grounds, IsGround, IsLawful, Left, PlainAnswer, Quiet, Same, Since, Still, UncountedAnswer, Why, after_quiet, alone_from, apart_out, before_all, done_left, done_replying, done_still, false_is_true, file_counts, left_then, loading_bytes, meta_plain, moments_from, not_both, not_done, nothing_done, part_did, plain_cause, plain_uncounted, reply_line, row_keeps, row_refused, same_disk, same_files, same_replacing, since_cabinet, sound_reply, stays_so, still_sound, still_then, then_since, then_why, uncounted_step, unstored_reply}
 
 quiet_file : (limit : ℕ) (line : List ℕ) (file : Span) → Quiet (LoadsFile limit line file)
 quiet_file limit line file old answer new h = same_disk old.disk new.disk h.disk
@@ -20,11 +20,7 @@ written_did : (bytes : List ℕ) (force : Bool) (start : DiskState) (old : Reach
 written_did bytes force start old (Ok m) middle answer new size h next =
     rw (next.0, ap (λ (r : Reach). r.disk) next.1) (record { events = replace_events old.disk m; logs = h.logs; are = record { m = m; are = same_replacing old.disk start m size } })
 written_did bytes force start old (Err refusals.DeviceFault) middle answer new size h next =
-    rw (next.0, ap (λ (r : Reach). r.disk) next.1) (record {
-      events = take h.fails.count (replace_events old.disk h.m);
-      logs = h.fails.logs;
-      are = inr (record { row = replace_events old.disk h.m; is_row = record { m = h.m; are = same_replacing old.disk start h.m size }; count = h.fails.count; part = refl });
-    })
+    rw (next.0, ap (λ (r : Reach). r.disk) next.1) (part_did (WritesMetadata start) false (replace_events old.disk h.m) old.disk middle.disk h.fails (record { m = h.m; are = same_replacing old.disk start h.m size }))
 written_did bytes force start old (Err refusal) middle answer new size h next =
     rw (next.0, ap (λ (r : Reach). r.disk) next.1) (nothing_done (WritesMetadata start) false refusal old.disk middle.disk (same_disk old.disk middle.disk h.unchanged))
 

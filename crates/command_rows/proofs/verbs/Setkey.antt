@@ -1,5 +1,5 @@
 -- That `setkey` is lawful.
-use Rattle.std.proofs.Common.{Bool, Err, List, None, Ok, Option, Result, Some, [], ap, cond, false, inl, inr, nat_le, refl, subst, sym, take, true, ℕ, ◌-◌, ◌∙◌, ◌∷◌, ◌≡◌, ◌⊎◌, MatchOption, unwrap_or, ℤ}
+use Rattle.std.proofs.Common.{Bool, Err, List, None, Ok, Option, Result, Some, [], ap, cond, false, inl, inr, nat_le, refl, subst, sym, true, ℕ, ◌-◌, ◌∙◌, ◌∷◌, ◌≡◌, ◌⊎◌, MatchOption, unwrap_or, ℤ}
 use Rattle.block_traits.proofs.Causes.{Rose-earlier}
 use Rattle.block_traits.specs.declared.disk.Event.TheVariants.{Flush, Write}
 use Rattle.command_words.specs.declared.commands.Command.TheVariants as commands
@@ -9,7 +9,7 @@ use Rattle.key_commands.proofs.Changing.{HasNewKey-makes}
 use Rattle.command_rows.specs.Rows.{AreComponents, Attachment, HasMetadata, Holding, IsAttached, LacksMetadata, Reach, RefusesFiles, Then, admitted, attachment_in, done_or, without_value}
 use Rattle.command_rows.specs.Vocabulary.{CabinetState, Command, Components, DiskState, Files, HoldsOldOr, IsSectorOf, KeyChange, KeyFault, KeyWords, MasterKey, Metadata, Refusal, SetsKey, Span, UserKey, change_refusal, encoded, key_refusal, store_events, user_key}
 use Rattle.command_rows.specs.verbs.Setkey.{FindsAttached, FindsNewKey, FindsOldKey, FindsSetkey, IsUsed, NeedsSlot, OpensSlot, PutsKey, RefusesChange, RefusesNewKey, RefusesNext, RefusesOldKey, RefusesSetkey, SetkeyAttachedRow, SetkeyIdleRow, SetkeyRow, SetsOpened, StoresKey, StoresMetadata, WrapsKey, WrapsOpened, if_there, slot_opened_by, or_wrong, usable}
-use Rattle.command_rows.proofs.VerbLaws.{BadFiles, Change, ChangesMetadata, Counts, CountsResult, Did, DoesFrom, Grounds, IsLawful, Later, Left, PlainAnswer, PlainOption, Same, Since, Still, StoresNone, UncountedAnswer, Why, admitting_still, after_quiet, alone_from, apart_out, attached, before_all, by_attachment, by_plain, components_still, decides_why, done_left, done_replying, early_decision, early_loading, early_reading, false_is_true, has_metadata, has_same, key_option, key_plain, left_then, loading_parts, loading_since, loading_why, may_lack_memory, moments_from, no_bad_file, not_both, not_done, not_some, nothing_done, or_plain, parts_same, plain_cause, plain_some, quiet_loading, quiet_reading, reading_has, reading_since, reading_still, reading_why, reply_line, row_keeps, row_refused, same_disk, same_files, same_quiet, since_same, some_uncounted, sound_reply, stays_so, still_decision, still_sound, still_then, then_since, then_why, unattached, uncounted_step, unstored_reply}
+use Rattle.command_rows.proofs.VerbLaws.{BadFiles, Change, ChangesMetadata, Counts, CountsResult, Did, DoesFrom, Grounds, IsLawful, Later, Left, PlainAnswer, PlainOption, Same, Since, Still, StoresNone, UncountedAnswer, Why, admitting_still, after_quiet, alone_from, apart_out, attached, before_all, by_attachment, by_plain, components_still, decides_why, done_left, done_replying, early_decision, early_loading, early_reading, false_is_true, has_metadata, has_same, key_option, key_plain, left_then, loading_parts, loading_since, loading_why, may_lack_memory, moments_from, no_bad_file, not_both, not_done, not_some, nothing_done, or_plain, part_did, parts_same, plain_cause, plain_some, quiet_loading, quiet_reading, reading_has, reading_since, reading_still, reading_why, reply_line, row_keeps, row_refused, same_disk, same_files, same_quiet, since_same, some_uncounted, sound_reply, stays_so, still_decision, still_sound, still_then, then_since, then_why, unattached, uncounted_step, unstored_reply}
 
 same_store : (disk start : DiskState) (bytes : List ℕ) → disk.size ≡ start.size → store_events disk bytes ≡ store_events start bytes
 same_store disk start bytes size = ap (λ (n : ℕ). Write (n - 1) bytes ∷ Flush ∷ []) size
@@ -19,11 +19,7 @@ stored_did : (asked : KeyChange) (start disk : DiskState) (made : Result Metadat
 stored_did asked start disk (Ok m) disk' answer size h is =
     rw is (record { events = store_events disk (encoded m); logs = h.logs; are = record { m = m; are = same_store disk start (encoded m) size } })
 stored_did asked start disk (Err refusals.DeviceFault) disk' answer size h is =
-    rw is (record {
-      events = take h.fails.count (store_events disk (encoded h.m));
-      logs = h.fails.logs;
-      are = inr (record { row = store_events disk (encoded h.m); is_row = record { m = h.m; are = same_store disk start (encoded h.m) size }; count = h.fails.count; part = refl });
-    })
+    rw is (part_did (StoresMetadata start) false (store_events disk (encoded h.m)) disk disk' h.fails (record { m = h.m; are = same_store disk start (encoded h.m) size }))
 stored_did asked start disk (Err refusal) disk' answer size h is = rw is (nothing_done (StoresMetadata start) false refusal disk disk' (same_disk disk disk' h.unchanged))
 
 stores_did : (start : DiskState) (asked : KeyChange) → DoesFrom (StoresMetadata start) start (StoresKey asked)

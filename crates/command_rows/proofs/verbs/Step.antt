@@ -1,5 +1,5 @@
 -- That `step` is lawful.
-use Rattle.std.proofs.Common.{Err, List, None, Ok, Result, Some, ap, arith, false, inr, refl, subst, sym, take, ℕ, ◌∙◌, ◌≡◌, ◌≤◌}
+use Rattle.std.proofs.Common.{Err, List, None, Ok, Result, Some, ap, arith, false, refl, subst, sym, ℕ, ◌∙◌, ◌≡◌, ◌≤◌}
 use Rattle.bio_queue.specs.declared.faults.StepFault.TheVariants as step
 use Rattle.command_words.specs.declared.commands.Command.TheVariants as commands
 use Rattle.eli_base.specs.declared.refusals.Refusal.TheVariants as refusals
@@ -9,7 +9,7 @@ use Rattle.command_rows.specs.verbs.Step.{DoesNext, FitsStep, StepRow, StepsRequ
 use Rattle.command_rows.proofs.QueueingCauses.{has_none, needs_why}
 use Rattle.command_rows.proofs.QueueingEvents.{quiet_needs}
 use Rattle.command_rows.proofs.QueueingFits.{is_served, one_request}
-use Rattle.command_rows.proofs.VerbLaws.{Becomes, Counts, Did, HoldsSame, IsLawful, RulesOut, SoundReply, StoresNone, UncountedAnswer, Unstored, Why, attached_did, attached_reply, attached_why, did_then, false_is_true, holds_next, holds_same, left_replying, needs, needs_counts, needs_same, never_both, never_holds, nothing_changed, nothing_done, queue_holds, refused_by, request_unstored, same_disk, same_files, then_counts, uncounted_step, unstored_reply, unstored_then, with_attached, same_then_why}
+use Rattle.command_rows.proofs.VerbLaws.{Becomes, Counts, Did, HoldsSame, IsLawful, RulesOut, SoundReply, StoresNone, UncountedAnswer, Unstored, Why, attached_did, attached_reply, attached_why, did_then, false_is_true, holds_next, holds_same, left_replying, needs, needs_counts, needs_same, never_both, never_holds, nothing_changed, nothing_done, part_did, queue_holds, refused_by, request_unstored, same_disk, same_files, same_then_why, then_counts, uncounted_step, unstored_reply, unstored_then, with_attached}
 
 step_uncounted : (tag : ℕ) (left : Result ℕ StepFault) → UncountedAnswer (or_refusal (step_refusal tag) left)
 step_uncounted tag (Ok left) = tt
@@ -34,11 +34,7 @@ left_did : (a : Attachment) (tag : ℕ) (queue : List Request) (old : DiskState)
 left_did a tag queue old (Ok left) new h = record { events = step_events h.request; logs = h.logs; are = are_next tag a.queue h.request h.found }
 left_did a tag queue old (Err step.NoRequest) new h = nothing_done (DoesNext (IsAttached a) tag) false (refusals.NoRequest tag) old new (same_disk old new h.2)
 left_did a tag queue old (Err step.AllDone) new h = nothing_done (DoesNext (IsAttached a) tag) false (refusals.RequestDone tag) old new (same_disk old new h.2)
-left_did a tag queue old (Err step.DeviceFault) new h = record {
-  events = take h.fails.count (step_events h.request);
-  logs = h.fails.logs;
-  are = inr (record { row = step_events h.request; is_row = are_next tag a.queue h.request h.found; count = h.fails.count; part = refl });
-}
+left_did a tag queue old (Err step.DeviceFault) new h = part_did (DoesNext (IsAttached a) tag) false (step_events h.request) old new h.fails (are_next tag a.queue h.request h.found)
 
 steps_did : (a : Attachment) (tag : ℕ) (old : Reach) (answer : Result ℕ Refusal) (new : Reach) → StepsRequest a tag old answer new → Did (DoesNext (IsAttached a) tag) false old.disk answer new.disk
 steps_did a tag old answer new h =

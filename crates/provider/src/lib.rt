@@ -13,7 +13,7 @@ mod sectors;
 mod tagged_units;
 mod units;
 
-pub use attaching::opened;
+pub use attaching::{OpenedSlot, open_slot, opened};
 pub use faults::{AttachFault, BadUnit, OutOfRange, ReadFault, WriteFault};
 pub use laws::rest_tells_all;
 pub use provider::Provider;

@@ -12,3 +12,4 @@ pub mod Told
 pub mod Adjoining
 pub mod InMemory
 pub mod Looks
+pub mod FourSectors

@@ -114,25 +114,6 @@ pub fn seal_sector(ring: &mut KeyRing, sector: u64, plain: &[u8], out: &mut [u8]
     seal_whole(ring, sector, plain, out)
 }
 
-/// Seals logical sectors of `size` bytes one after the other, the first of number `sector`, each into as many device
-/// sectors as it takes.
-pub fn seal_sectors(ring: &mut KeyRing, sector: u64, size: usize, plain: &[u8], out: &mut [u8])
-    requires size { size ≡ ring.old.keying.sectorsize }
-    requires whole { length plain.now % size ≡ 0 }
-    requires out { length out.old ≡ length plain.now / size * (512 * units ring.old.keying) }
-    requires place { (sector + length plain.now / size) * units ring.old.keying < 2 ^ 44 }
-    ensures sealed { write_events (sector * units ring.old.keying) out.new ≡ data_writes ring.old.keying sector (length plain.now / size) plain.now }
-    ensures keying { ring.new.keying ≡ ring.old.keying }
-{
-    ring.is_of_a_keying();
-    let width = 512 * unit_count(ring.auth(), size);
-    for i in 0..plain.len() / size {
-        let block = &plain[i * size..i * size + size];
-        let sealed = &mut out[i * width..i * width + width];
-        seal_sector(ring, sector + i as u64, block, sealed);
-    }
-}
-
 // Opens the first units of one logical sector, so many times four, which are whole.
 fn open_fours(
     ring: &mut KeyRing,
@@ -264,36 +245,5 @@ pub fn open_sector(
         return open_tagged_units(ring, sector, device, out);
     }
     open_whole(ring, sector, device, out);
-    Ok(())
-}
-
-/// Opens logical sectors of `size` bytes from their device sectors, which stand one after the other, the first sector
-/// of number `sector`. After a refusal `out` may hold any bytes.
-pub fn open_sectors(
-    ring: &mut KeyRing,
-    sector: u64,
-    size: usize,
-    device: &[u8],
-    out: &mut [u8],
-) -> Result<(), BadUnit>
-    requires size { size ≡ ring.old.keying.sectorsize }
-    requires whole { length out.old % size ≡ 0 }
-    requires device { length device.now ≡ length out.old / size * (512 * units ring.old.keying) }
-    requires place { (sector + length out.old / size) * units ring.old.keying < 2 ^ 44 }
-    ensures opened { MatchResult result
-        (λ _. (told : Option Content) → GivesEachFrom told (sector * units ring.old.keying) device.now → ReadsFrom told ring.old.keying sector (length out.old / size) (Ok out.new))
-        (λ bad. (told : Option Content) → GivesEachFrom told (sector * units ring.old.keying) device.now → ReadsFrom told ring.old.keying sector (length out.old / size) (Err bad.offset)) }
-    ensures keying { ring.new.keying ≡ ring.old.keying }
-{
-    ring.is_of_a_keying();
-    let width = 512 * unit_count(ring.auth(), size);
-    for i in 0..out.len() / size {
-        let sealed = &device[i * width..i * width + width];
-        let block = &mut out[i * size..i * size + size];
-        match open_sector(ring, sector + i as u64, sealed, block) {
-            Ok(()) => {}
-            Err(bad) => return Err(bad),
-        }
-    }
     Ok(())
 }

@@ -96,7 +96,7 @@ pub fn seal_four_sectors(ring: &mut KeyRing, sector: u64, size: usize, plain: &[
 }
 
 // Whether each of four is true.
-fn are_all(four: [bool; 4]) -> bool
+fn all_true(four: [bool; 4]) -> bool
     ensures { result ≡ true → four ≡ true ∷ true ∷ true ∷ true ∷ [] }
 {
     let [a, b, c, d] = four;
@@ -144,7 +144,7 @@ fn accepted_side_by_side(
             &c[512 * j..512 * j + 512],
             &d[512 * j..512 * j + 512],
         );
-        if !are_all(accepted) {
+        if !all_true(accepted) {
             return false;
         }
     }

@@ -1,17 +1,12 @@
 //! Logical sectors that are sealed and opened in memory, with authentication and without.
-ghost use Rattle.std.specs.Prelude.{◌≡◌, ◌≢◌, ℕ, ◌+◌, ◌*◌, ◌/◌, ◌%◌, ◌^◌, ◌<◌, ◌≤◌, Ok, Err, MatchResult, Option, length, take};
-ghost use Rattle.block_traits.specs.Content.{Content};
-ghost use Rattle.block_traits.specs.Disk.{GivesEachFrom, write_events};
+ghost use Rattle.std.specs.Prelude.{◌≡◌, ◌≢◌, ◌+◌, ◌*◌, ◌^◌, ◌<◌, ◌≤◌, Ok, Err, MatchResult, length, take};
 ghost use Rattle.block_traits.specs.Parts.{parts};
 ghost use Rattle.eli_base.specs.declared.algorithms.Auth.TheVariants.{Off};
 ghost use Rattle.eli_base.specs.Units.{unit_bytes_of};
 ghost use Rattle.sealing.specs.Sectors.{device_sectors, joined, reading, seal, unit_readings, units};
-ghost use Rattle.provider.specs.Reading.{ReadsFrom};
-ghost use Rattle.provider.specs.Writing.{data_writes};
 
 use crate::BadUnit;
 use crate::tagged_units::unit_end;
-use crate::units::unit_count;
 use auth_sectors::{open_four, open_piece, seal_four, seal_piece};
 use block_traits::{Sector, sector_of};
 use eli_base::Auth;

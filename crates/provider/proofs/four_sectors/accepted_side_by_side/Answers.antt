@@ -18,7 +18,7 @@ loop-j-preserved c =
     c.auth.ensures c.data_bytes-width.ensures c.requires.size c.loop-j-test.true c.unit_end-end.ensures in
     let apart = are_apart k sector j ((size - 1) / width + 1) here.count in
     let wide : 512 * j + 512 - 512 * j ≡ 512 = omega arith in
-    let all = sym c.apart_accepted-accepted.ensures ∙ c.are_all.ensures c.if-not-are_all.false in
+    let all = sym c.apart_accepted-accepted.ensures ∙ c.all_true.ensures c.if-not-all_true.false in
     record {
       first = accepted_apart k sector j _ start end _ c.args.a.now _ c.requires.on here.below apart.first here.unit refl (ap (λ (w : ℕ). take w (drop (512 * j) c.args.a.now)) wide)
           (ap (λ (l : List Bool). get_or l 0 false) all) before.first;

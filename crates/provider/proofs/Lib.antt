@@ -13,3 +13,4 @@ pub mod Adjoining
 pub mod InMemory
 pub mod Looks
 pub mod OpenedSlots
+pub mod FourSectors

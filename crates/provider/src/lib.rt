@@ -6,9 +6,11 @@
 
 mod attaching;
 mod faults;
+mod four_sectors;
 mod laws;
 mod provider;
 mod runs;
+mod sector_groups;
 mod sectors;
 mod tagged_units;
 mod units;

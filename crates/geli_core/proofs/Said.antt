@@ -1,7 +1,7 @@
 -- What words say names the images that they name.
-use Rattle.std.proofs.Common.{◌≡◌, ◌∙◌, ap, sym, List, ℕ, Option, None, Some, map, string_bytes, option_and_then}
+use Rattle.std.proofs.Common.{◌≡◌, ◌∙◌, ap, sym, List, ℕ, Option, option_and_then}
 use Rattle.command_rows.specs.Vocabulary.{Command, provider_of}
-use Rattle.geli_core.specs.Vocabulary.{command_in, image_names, line_of, name_at, names_or, script_images}
+use Rattle.geli_core.specs.Vocabulary.{command_in, image_names, line_of, name_at, names_or}
 use Rattle.geli_core.specs.Words.{Says, image_names_of}
 use Rattle.geli_core.specs.declared.words.Words.{Words}
 use Rattle.geli_core.specs.declared.words.Words.TheVariants.{Script, One, Usage}

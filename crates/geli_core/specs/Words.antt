@@ -1,6 +1,6 @@
 -- What words say, once they are read.
 use Rattle.std.specs.Prelude.{◌≡◌, ℕ, List, [], length, map, string_bytes, None, Some}
-use Rattle.command_rows.specs.Vocabulary.{Command, CommandIsWithin, ProviderIsText, provider_of}
+use Rattle.command_rows.specs.Vocabulary.{CommandIsWithin, ProviderIsText, provider_of}
 use Rattle.command_words.specs.Bounds.{IsBounded}
 use Rattle.geli_core.specs.Vocabulary.{command_in, line_of, name_at, script_images}
 use Rattle.geli_core.specs.declared.words.Words.{Words}

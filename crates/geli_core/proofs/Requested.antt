@@ -5,7 +5,7 @@ use Rattle.std.proofs.lemmas.Bool.Decides.{nat_tests}
 use Rattle.std.proofs.Math.Nat.{div-add-mod, mul-div_cancel}
 use Rattle.std.proofs.Math.Seq.{take-length}
 use Rattle.block_traits.proofs.Logs.{Logs-nothing}
-use Rattle.command_rows.specs.Rows.{Answer, Attachment, GoesOn, NeedsRequest, Reach, bytes_spelled, or_refusal, whole_sectors}
+use Rattle.command_rows.specs.Rows.{Attachment, GoesOn, NeedsRequest, Reach, bytes_spelled, or_refusal, whole_sectors}
 use Rattle.command_rows.specs.Vocabulary.{Content, DiskState, Event, IsAsked, IsKeying, Job, JobWords, Keying, Logs, ReapAnswers, ReapFault, Reaped, Refusal, Request, StepAnswers, StepFault, StepsOn, SubmitAnswers, SubmitFault, bytes_at, request_with, step_events}
 use Rattle.command_words.specs.declared.commands.JobWords.TheVariants as words
 use Rattle.eli_base.specs.declared.refusals.Refusal.TheVariants as refusals

@@ -78,37 +78,37 @@ abbrev pub NoBounds : List ℕ → Type 0
 NoBounds line = Unit {0}
 
 -- a command that names a provider
-abbrev pub names : Span → Traits → (ℕ → Type 0) → (List ℕ → Type 0) → Profile
-names prov traits places bounds = record { prov = Some prov; traits = traits; places = places; bounds = bounds }
+abbrev pub naming : Span → Traits → (ℕ → Type 0) → (List ℕ → Type 0) → Profile
+naming prov traits places bounds = record { prov = Some prov; traits = traits; places = places; bounds = bounds }
 
 -- each command by its verb
 abbrev pub profile_of : Command → Profile
 profile_of commands.List = record { prov = None; traits = allocating AnyOne; places = NoPlaces; bounds = NoBounds }
-profile_of (commands.Dump prov) = names prov (only_reading AnyOne) NoPlaces NoBounds
+profile_of (commands.Dump prov) = naming prov (only_reading AnyOne) NoPlaces NoBounds
 profile_of (commands.Init prov cipher auth keylen sectorsize iterations autoresize fresh backup) =
-    names prov (record (allocating AnIdle) { stores_last = is_some backup }) (λ len. KeyIsWithin len fresh × IfSome backup (IsWithin len)) NoBounds
-profile_of (commands.Attach prov only_check readonly slot old) = names prov (record (allocating AnIdle) { only_reads = only_check }) (λ len. KeyIsWithin len old) NoBounds
-profile_of (commands.Detach prov) = names prov (letting_go NoIdle) NoPlaces NoBounds
-profile_of (commands.Read prov sector count) = names prov requesting NoPlaces (λ line. AreSectors 256 sector count)
+    naming prov (record (allocating AnIdle) { stores_last = is_some backup }) (λ len. KeyIsWithin len fresh × IfSome backup (IsWithin len)) NoBounds
+profile_of (commands.Attach prov only_check readonly slot old) = naming prov (record (allocating AnIdle) { only_reads = only_check }) (λ len. KeyIsWithin len old) NoBounds
+profile_of (commands.Detach prov) = naming prov (letting_go NoIdle) NoPlaces NoBounds
+profile_of (commands.Read prov sector count) = naming prov requesting NoPlaces (λ line. AreSectors 256 sector count)
 profile_of (commands.Write prov sector hex) =
-    names prov writing (λ len. IsWithin len hex) (λ line. (sector ≤ 9223372036854775807) × IsTrue (is_hexadecimal (bytes_at line hex)))
-profile_of (commands.Flush prov) = names prov requesting NoPlaces NoBounds
-profile_of (commands.Setkey prov iterations slot old fresh) = names prov (allocating NoSuspended) (λ len. KeyIsWithin len old × KeyIsWithin len fresh) NoBounds
-profile_of (commands.Delkey prov all force slot) = names prov (plain NoSuspended) NoPlaces NoBounds
-profile_of (commands.Kill prov) = names prov (letting_go AnyOne) NoPlaces NoBounds
-profile_of (commands.Backup prov file) = names prov (record (only_reading AnyOne) { lacks_memory = true }) (λ len. IsWithin len file) NoBounds
-profile_of (commands.Restore file prov force) = names prov (allocating AnIdle) (λ len. IsWithin len file) NoBounds
-profile_of (commands.Resize prov oldsize) = names prov (plain AnIdle) NoPlaces (λ line. IsOldSize oldsize)
-profile_of (commands.Fill prov seed start count) = names prov writing NoPlaces (λ line. AreSectors 9223372036854775807 start count)
-profile_of (commands.Sum prov start count) = names prov requesting NoPlaces (λ line. AreSectors 9223372036854775807 start count)
-profile_of (commands.Eject prov) = names prov (record (plain AnyOne) { takes_out = true }) NoPlaces NoBounds
-profile_of (commands.Submit prov job) = names prov (submitting job) (λ len. JobIsWithin len job) (λ line. IsBoundedJob line job)
-profile_of (commands.Step prov tag) = names prov queueing NoPlaces (λ line. tag ≤ 31)
-profile_of (commands.Reap prov tag) = names prov queueing NoPlaces (λ line. tag ≤ 31)
-profile_of (commands.Suspend prov) = names prov (plain AnAttached) NoPlaces NoBounds
-profile_of (commands.Resume prov old) = names prov (allocating ASuspended) (λ len. KeyIsWithin len old) NoBounds
+    naming prov writing (λ len. IsWithin len hex) (λ line. (sector ≤ 9223372036854775807) × IsTrue (is_hexadecimal (bytes_at line hex)))
+profile_of (commands.Flush prov) = naming prov requesting NoPlaces NoBounds
+profile_of (commands.Setkey prov iterations slot old fresh) = naming prov (allocating NoSuspended) (λ len. KeyIsWithin len old × KeyIsWithin len fresh) NoBounds
+profile_of (commands.Delkey prov all force slot) = naming prov (plain NoSuspended) NoPlaces NoBounds
+profile_of (commands.Kill prov) = naming prov (letting_go AnyOne) NoPlaces NoBounds
+profile_of (commands.Backup prov file) = naming prov (record (only_reading AnyOne) { lacks_memory = true }) (λ len. IsWithin len file) NoBounds
+profile_of (commands.Restore file prov force) = naming prov (allocating AnIdle) (λ len. IsWithin len file) NoBounds
+profile_of (commands.Resize prov oldsize) = naming prov (plain AnIdle) NoPlaces (λ line. IsOldSize oldsize)
+profile_of (commands.Fill prov seed start count) = naming prov writing NoPlaces (λ line. AreSectors 9223372036854775807 start count)
+profile_of (commands.Sum prov start count) = naming prov requesting NoPlaces (λ line. AreSectors 9223372036854775807 start count)
+profile_of (commands.Eject prov) = naming prov (record (plain AnyOne) { takes_out = true }) NoPlaces NoBounds
+profile_of (commands.Submit prov job) = naming prov (submitting job) (λ len. JobIsWithin len job) (λ line. IsBoundedJob line job)
+profile_of (commands.Step prov tag) = naming prov queueing NoPlaces (λ line. tag ≤ 31)
+profile_of (commands.Reap prov tag) = naming prov queueing NoPlaces (λ line. tag ≤ 31)
+profile_of (commands.Suspend prov) = naming prov (plain AnAttached) NoPlaces NoBounds
+profile_of (commands.Resume prov old) = naming prov (allocating ASuspended) (λ len. KeyIsWithin len old) NoBounds
 profile_of (commands.Verify prov file count restart) =
-    names prov (record (allocating AnAttached) { needs_tags = true }) (λ len. IsWithin len file) (λ line. (1 ≤ count) × (count ≤ 9223372036854775807))
+    naming prov (record (allocating AnAttached) { needs_tags = true }) (λ len. IsWithin len file) (λ line. (1 ≤ count) × (count ≤ 9223372036854775807))
 
 -- what the verb of a command is
 abbrev pub traits_of : Command → Traits

@@ -5,7 +5,6 @@ use Rattle.command_words.specs.declared.commands.Command.{Command}
 use Rattle.eli_base.specs.declared.refusals.Refusal.{Refusal}
 use Rattle.eli_base.specs.declared.refusals.Refusal.TheVariants as refusals
 use Rattle.command_rows.specs.Answer.{Answer}
-use Rattle.command_rows.specs.Answer as answers
 use Rattle.command_rows.specs.Gate.{ASuspended, AnAttached, AnIdle, AnyOne, Needs, NoIdle, NoSuspended, needs, refused_by}
 use Rattle.command_rows.specs.Turn.{GoesThrough, IsRefused, Serves}
 use Rattle.command_rows.specs.World.{AttachedWith, Attachment, Holding, Idle, IsAttached, IsSuspended, Kept, Reach, SuspendedWith, attachment_in}

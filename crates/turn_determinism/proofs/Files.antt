@@ -14,7 +14,7 @@ use Rattle.key_components.specs.Answers.{IsAnswer, LoadsEach, MayRefuse, MayRefu
 use Rattle.key_components.specs.Files.{file_limit}
 use Rattle.key_components.specs.Key.{components_of}
 use Rattle.user_key.specs.declared.components.Components.{Components}
-use Rattle.command_rows.specs.Steps.{BacksUp, Decides, LoadsComponents, LoadsFile, StoreAnswers, StoresBytes, StoresFile}
+use Rattle.command_rows.specs.Steps.{BacksUp, LoadsComponents, LoadsFile, StoreAnswers, StoresBytes, StoresFile}
 use Rattle.command_rows.specs.World.{Reach}
 use Rattle.command_rows.specs.verbs.Verify.{FindsPlace, LoadsPlace, place_in, place_size, unless_absent}
 use Rattle.turn_determinism.specs.Same.{IsSameCount, LoadsUnlessMissed}
@@ -144,7 +144,7 @@ place_file_sure line file = record { goes = λ old answer new h. cabinet_later o
 
 pub finds_place_sure : (restart : Bool) (line : List ℕ) (file : Span) → Sure (FindsPlace restart line file)
 finds_place_sure true line file = decides_sure (Ok 0)
-finds_place_sure false line file = then_sure (LoadsPlace line file) (λ found. Decides (place_in file.word found)) (place_file_sure line file) (λ found. decides_sure (place_in file.word found))
+finds_place_sure false line file = then_sure (place_file_sure line file) (λ found. decides_sure (place_in file.word found))
 
 -- ---- what is stored
 

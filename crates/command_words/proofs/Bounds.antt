@@ -20,12 +20,12 @@ use Rattle.command_words.specs.declared.table.JobName.TheVariants as jobs
 use Rattle.command_words.specs.declared.table.Operand.{Operand}
 use Rattle.command_words.specs.declared.table.Operand.TheVariants.{Provider, File, Sector, FewSectors, ManySectors, Seed, Digits, Job, Tag}
 use Rattle.command_words.specs.Words.{Word, words}
-use Rattle.command_words.specs.Table.{verb_named, form_of, row_of}
+use Rattle.command_words.specs.Table.{verb_named, form_of, row_of, job_at}
 use Rattle.command_words.specs.Values.{decimal, is_numeral, number_within, is_hexadecimal, value_fault, operand_fault}
 use Rattle.command_words.specs.Options.{Item, Set, Given, Unknown, Missing, Options, options, values, value_in, option_fault, first_option_fault, or_else}
 use Rattle.command_words.specs.Settings.{settings_given, span_of, last, last_value}
 use Rattle.command_words.specs.Operands.{operands_of, operands_fault, operand_place, word_as, no_span, job_or, job_as, number_as, span_as}
-use Rattle.command_words.specs.Reading.{line_reading, by_words, by_verb, complaint, lacks_option, command_at, job_at, is_comment}
+use Rattle.command_words.specs.Reading.{line_reading, by_words, by_verb, complaint, lacks_option, command_at, is_comment}
 use Rattle.command_words.specs.Places.{bytes_at}
 use Rattle.command_words.specs.Bounds.{IsBounded, IsBoundedJob, IsOldSize}
 use Rattle.command_words.proofs.Forms.{WhereLong, found_keeps, where_long}

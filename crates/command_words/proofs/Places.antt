@@ -23,11 +23,11 @@ use Rattle.command_words.specs.declared.table.Valued.TheVariants.{BackupFile, Ol
 use Rattle.command_words.specs.declared.table.Letter.{Letter}
 use Rattle.command_words.specs.declared.table.Letter.TheVariants.{Alone, WithValue}
 use Rattle.command_words.specs.Words.{Word, words, placed_words, is_between, is_word}
-use Rattle.command_words.specs.Table.{letter_of, verb_named, form_of}
+use Rattle.command_words.specs.Table.{letter_of, verb_named, form_of, job_at}
 use Rattle.command_words.specs.Options.{Item, Set, Given, Unknown, Missing, Group, letters, with_letter, Kind, Ends, Letters, Other, kind_of, Options, options, onto, with_word, values, value_in, place, first_option_fault}
 use Rattle.command_words.specs.Settings.{settings_given, span_of, last, option_files, backup_of}
 use Rattle.command_words.specs.Operands.{operands_of, operands_fault, job_as, operand_place, word_as, span_as, no_span}
-use Rattle.command_words.specs.Reading.{line_reading, by_words, by_verb, unless_usage, by_form, settled, or_complaint, complaint, command_at, job_at, is_comment, some_command}
+use Rattle.command_words.specs.Reading.{line_reading, by_words, by_verb, unless_usage, by_form, settled, or_complaint, complaint, command_at, is_comment, some_command}
 use Rattle.command_words.specs.Places.{IsWithin, CommandIsWithin, JobIsWithin, KeyIsWithin, bytes_at}
 
 -- a word stands in the line

@@ -1,12 +1,9 @@
 -- A line to a command, or what is wrong with it.
-use Rattle.std.specs.Prelude.{ℕ, ◌+◌, List, [], ◌∷◌, length, Bool, true, false, not, ◌&&◌, ◌||◌, ◌==◌, nat_le, is_some, if◌then◌else◌, Option, None, Some, unwrap_or, Result, Ok, Err}
+use Rattle.std.specs.Prelude.{ℕ, ◌+◌, List, [], ◌∷◌, length, Bool, true, false, not, ◌&&◌, ◌||◌, ◌==◌, nat_le, is_some, if◌then◌else◌, Option, None, Some, Result, Ok, Err}
 use Rattle.std.specs.Str.{is_utf8}
 use Rattle.eli_base.specs.declared.Reason.{Reason}
 use Rattle.eli_base.specs.declared.Reason.TheVariants.{UnknownVerb, OperandCount, MissingOption, Exclusive, NotText}
 use Rattle.command_words.specs.declared.commands.Command.{Command}
-use Rattle.command_words.specs.declared.commands.Command.TheVariants as commands
-use Rattle.command_words.specs.declared.commands.JobWords.{JobWords}
-use Rattle.command_words.specs.declared.commands.JobWords.TheVariants as job_words
 use Rattle.command_words.specs.declared.commands.Usage.{Usage}
 use Rattle.command_words.specs.declared.operands.Operands.{Operands}
 use Rattle.command_words.specs.declared.spans.Sep.{Sep}
@@ -14,13 +11,10 @@ use Rattle.command_words.specs.declared.spans.Sep.TheVariants.{Blanks, Zeros}
 use Rattle.command_words.specs.declared.spans.Span.{Span}
 use Rattle.command_words.specs.declared.spans.KeyWords.{KeyWords}
 use Rattle.command_words.specs.declared.settings.Settings.{Settings}
-use Rattle.command_words.specs.declared.table.JobName.{JobName}
-use Rattle.command_words.specs.declared.table.JobName.TheVariants as jobs
 use Rattle.command_words.specs.declared.table.Operand.{Operand}
 use Rattle.command_words.specs.declared.table.Verb.{Verb}
 use Rattle.command_words.specs.declared.table.Rule.{Rule}
 use Rattle.command_words.specs.declared.table.Rule.TheVariants.{Free, NeedsOldSize, PassWithIterations, SlotOrAll}
-use Rattle.command_words.specs.declared.table.Verb.TheVariants as verbs
 use Rattle.command_words.specs.Words.{Word, words}
 use Rattle.command_words.specs.Table.{verb_named, form_of, row_of}
 use Rattle.command_words.specs.Options.{Options, options, first_option_fault}
@@ -58,37 +52,9 @@ excludes verb settings = excludes_itself settings.old_key || excludes_itself set
 abbrev pub complaint : Verb → Settings → Option Reason
 complaint verb settings = if lacks_option (row_of verb).rule settings then Some MissingOption else (if excludes verb settings then Some Exclusive else None)
 
--- a job of this name, by what the operands come to
-abbrev pub job_at : JobName → Operands → JobWords
-job_at jobs.Read o = job_words.Read o.sector o.few
-job_at jobs.Write o = job_words.Write o.sector o.digits
-job_at jobs.Flush o = job_words.Flush
-
 -- the command of a verb, by what its options and its operands come to
 abbrev pub command_at : Verb → Settings → Operands → Command
-command_at verbs.Init s o = commands.Init o.prov s.cipher s.auth s.keylen s.sectorsize s.iterations s.autoresize s.fresh_key s.backup
-command_at verbs.Attach s o = commands.Attach o.prov s.only_check s.readonly s.slot s.old_key
-command_at verbs.Detach s o = commands.Detach o.prov
-command_at verbs.Setkey s o = commands.Setkey o.prov s.iterations s.slot s.old_key s.fresh_key
-command_at verbs.Delkey s o = commands.Delkey o.prov s.all s.force s.slot
-command_at verbs.Kill s o = commands.Kill o.prov
-command_at verbs.Backup s o = commands.Backup o.prov o.file
-command_at verbs.Restore s o = commands.Restore o.file o.prov s.force
-command_at verbs.Resize s o = commands.Resize o.prov (unwrap_or s.oldsize 0)
-command_at verbs.Dump s o = commands.Dump o.prov
-command_at verbs.Read s o = commands.Read o.prov o.sector o.few
-command_at verbs.Write s o = commands.Write o.prov o.sector o.digits
-command_at verbs.Flush s o = commands.Flush o.prov
-command_at verbs.List s o = commands.List
-command_at verbs.Fill s o = commands.Fill o.prov o.seed o.sector o.many
-command_at verbs.Sum s o = commands.Sum o.prov o.sector o.many
-command_at verbs.Eject s o = commands.Eject o.prov
-command_at verbs.Submit s o = commands.Submit o.prov (job_at o.job o)
-command_at verbs.Step s o = commands.Step o.prov o.tag
-command_at verbs.Reap s o = commands.Reap o.prov o.tag
-command_at verbs.Suspend s o = commands.Suspend o.prov
-command_at verbs.Resume s o = commands.Resume o.prov s.old_key
-command_at verbs.Verify s o = commands.Verify o.prov o.file o.many s.restart
+command_at verb s o = (row_of verb).command s o
 
 -- the fault, or what follows without one
 abbrev pub unless_usage : Option Usage → Result Command Usage → Result Command Usage

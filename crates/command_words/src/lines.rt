@@ -5,7 +5,8 @@ ghost use Rattle.command_words.specs.Cursor.{left};
 ghost use Rattle.command_words.specs.Pass.{provider_alone};
 ghost use Rattle.command_words.specs.Bounds.{IsBounded};
 ghost use Rattle.command_words.specs.Places.{CommandIsWithin, ProviderIsText};
-ghost use Rattle.command_words.specs.Reading.{line_reading, by_verb, settled, is_comment, complaint, command_at, job_at, command_in};
+ghost use Rattle.command_words.specs.Table.{job_at};
+ghost use Rattle.command_words.specs.Reading.{line_reading, by_verb, settled, is_comment, complaint, command_at, command_in};
 ghost use Rattle.command_words.specs.Reading.{excludes_itself, lacks_option, excludes_own, excludes, line_limit};
 
 use crate::commands::{Command, JobWords, Usage};

@@ -193,7 +193,7 @@ macro_rules! row {
 }
 
 // The table of verbs, a line for each, in their order.
-static ROWS: [Row; 23] = [
+static ROWS: &[Row] = &[
     row! {
         Init, b"init", &[(b'P', WithoutFresh), (b'R', FixedSize), (b'v', Verbose)],
         &[(b'a', AuthName), (b'B', BackupFile), (b'e', CipherName), (b'i', Iterations), (b'J', FreshPass), (b'K', FreshFile), (b'l', KeyLength), (b's', SectorSize)],
@@ -326,7 +326,7 @@ fn of_length(forms: &'static [&'static [Operand]], count: u32) -> Option<&'stati
 impl Verb {
     /// The line of the verb.
     pub fn row(self) -> &'static Row
-        ensures { row_seen result.now ≡ row_of self }
+        ensures { row_seen result.now (row_of self).command ≡ row_of self }
     {
         &ROWS[self as usize]
     }
@@ -335,7 +335,7 @@ impl Verb {
     pub fn named(name: &[u8]) -> Option<Verb>
         ensures { result ≡ verb_named name.now }
     {
-        named_among(name, &ROWS)
+        named_among(name, ROWS)
     }
 
     /// What the letter means for this verb.

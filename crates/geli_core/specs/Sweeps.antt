@@ -13,7 +13,7 @@ use Rattle.verify_sweep.specs.Parts.{cut_count, place_after, sectors_after}
 use Rattle.command_rows.specs.Answer.{Answer}
 use Rattle.command_rows.specs.Answer as answers
 use Rattle.command_rows.specs.World.{Attachment, DrawerState, IsAttached, World, place_of}
-use Rattle.command_rows.specs.Verb.{RunKind, OfSweep}
+use Rattle.command_rows.specs.Verb.{RunKind, OfOther, OfRead, OfReap, OfResume, OfSum, OfSweep}
 use Rattle.command_rows.specs.verbs.Verify.{ListsUnits}
 use Rattle.geli_core.specs.Kinds.{kind_read}
 use Rattle.geli_core.specs.Trace.{ServedLine}
@@ -53,7 +53,11 @@ pub record AskedSweep : Type 0 where
 abbrev pub asked_by : Course → List ℕ → RunKind → Option AskedSweep
 asked_by course line (OfSweep prov file count restart) =
     if bytes_eq (bytes_at line prov) course.name && bytes_eq (bytes_at line file) course.file then Some (record { count = count; restart = restart }) else None
-asked_by course line kind = None
+asked_by course line (OfRead prov sector count) = None
+asked_by course line (OfSum prov sector count) = None
+asked_by course line (OfReap prov tag) = None
+asked_by course line (OfResume prov words) = None
+asked_by course line OfOther = None
 
 -- the counts of the lines that were answered that a part was swept
 abbrev pub counts_with : List ℕ → Option AskedSweep → Option Answer → List ℕ

@@ -1,5 +1,5 @@
 #!/usr/bin/env python3
-"""The tables of the tests of command_words, by the reader of the syntax that stands here, in Python alone.
+"""The tables of the tests of lines and words, by the reader of the syntax that stands here, in Python alone.
 
 A row of the first table has the separator, a line, and what the line says; one of the second has the words of a command
 line and the images that they name. This takes lines and words from the tables, reads them itself, and prints the rows
@@ -11,7 +11,7 @@ import sys
 from collections import namedtuple
 from pathlib import Path
 
-TABLE = Path(__file__).parent.parent / "crates/known_answers/src/words/table.rt"
+CRATES = Path(__file__).parent.parent / "crates"
 
 # Bytes that the tables write by other signs.
 SIGNS = {b"~": b"\0", b"`": b"\t", b"^": b"\r", b"!": b"\xff", b"%": b"\xc3", b"{": b"a" * 262140, b"}": b"a" * 37855}
@@ -295,14 +295,15 @@ def main():
     options = argparse.ArgumentParser(description=__doc__, formatter_class=argparse.RawDescriptionHelpFormatter)
     options.add_argument("--check", action="store_true", help="say only which rows differ")
     check = options.parse_args().check
-    tables = TABLE.read_text(encoding="utf-8").split('r#"')[1:]
     wrong = False
-    for name, table, make in zip(("LINES", "IMAGES"), tables, (line_row, image_row)):
+    for name, path, make in (("LINES", "known_answers/src/words/table.rt", line_row),
+                             ("IMAGES", "geli_tests/src/words/table.rt", image_row)):
+        table = (CRATES / path).read_text(encoding="utf-8").split('r#"')[1]
         before = table.split('"#')[0].splitlines()
         rows = [make(row) for row in before]
         differ = [(old, new) for old, new in zip(before, rows) if old != new]
         if check:
-            print(f"known_answers/src/words/table.rt: {name}: {f'{len(differ)} rows differ' if differ else 'equal'}")
+            print(f"{path}: {name}: {f'{len(differ)} rows differ' if differ else 'equal'}")
             print("".join(f"  {old}\n  here {new}\n" for old, new in differ), end="")
         else:
             print("\n".join(rows))

@@ -1,4 +1,5 @@
 //! Why a call of a queue was refused.
+use provider::OutOfRange;
 use thiserror::Error;
 
 /// Why a job wasn't submitted.
@@ -16,6 +17,26 @@ pub enum SubmitFault {
     /// There was no memory.
     #[error("no memory")]
     NoMemory,
+}
+
+impl From<OutOfRange> for SubmitFault {
+    ghost use Rattle.std.specs.Prelude.{◌≡◌};
+    ghost use Rattle.bio_queue.specs.declared.faults.SubmitFault.TheVariants as submit;
+
+    ghost from_gives = { λ past fault. fault ≡ submit.OutOfRange past.sector past.count past.media };
+
+    fn from(past: OutOfRange) -> SubmitFault {
+        let OutOfRange {
+            sector,
+            count,
+            media,
+        } = past;
+        SubmitFault::OutOfRange {
+            sector,
+            count,
+            media,
+        }
+    }
 }
 
 /// Why a request took no step.

@@ -11,7 +11,7 @@ ghost use Rattle.bio_queue.specs.Requests.{AscendsFrom, request_with};
 use crate::request::OpenRequest;
 use crate::{Job, ReapFault, Reaped, StepFault, SubmitFault};
 use block_traits::{Disk, NoMemory};
-use provider::{OutOfRange, Provider};
+use provider::Provider;
 use std::alloc::Global;
 use std::marker::Model;
 
@@ -177,20 +177,7 @@ fn check_range<D: Disk>(on: &Provider<D>, sector: u64, count: u32) -> Result<(),
     ensures { let there = media on.now.keying (D.state on.now.disk) in
         MatchResult result (λ _. sector + count ≤ there) (λ fault. (there < sector + count) × (fault ≡ SubmitFault.OutOfRange sector count there)) }
 {
-    match on.check_range(sector, u64::from(count)) {
-        Ok(()) => Ok(()),
-        Err(
-            OutOfRange {
-                sector,
-                count,
-                media,
-            },
-        ) => Err(SubmitFault::OutOfRange {
-            sector,
-            count,
-            media,
-        }),
-    }
+    Ok(on.check_range(sector, u64::from(count))?)
 }
 
 // Refuses a job that the provider doesn't take.

@@ -1,67 +1,10 @@
 //! The images that the words of a run name.
-ghost use Rattle.std.specs.Prelude.{◌≡◌, [], ◌∷◌, map, length, IfOk, MatchOption, string_bytes};
+ghost use Rattle.std.specs.Prelude.{◌≡◌, map, IfOk, MatchOption, string_bytes};
 ghost use Rattle.std.specs.List.{list_any};
 ghost use Rattle.std.specs.Str.{bytes_eq};
-ghost use Rattle.std.specs.Str.{IsUtf8};
-ghost use Rattle.command_words.specs.Images.{line_of, image_names, all_differ, are_images, script_images};
-ghost use Rattle.command_words.specs.Places.{IsWithin, bytes_at};
+ghost use Rattle.command_words.specs.Images.{line_of, all_differ, are_images, script_images};
 
-use crate::commands::Command;
-use crate::lines::command_in;
-use crate::spans::Span;
-use block_traits::NoMemory;
 use std::alloc::{AllocError, Global};
-use std::marker::Model;
-use std::str;
-
-/// The names of images, in order: a list of texts.
-#[derive(Debug, Drop)]
-pub struct ImageNames {
-    names: Vec<String>,
-}
-
-impl Model for ImageNames {
-    ghost use Rattle.std.specs.Prelude.{ℕ, List, map, string_bytes};
-
-    ghost Value = { List (List ℕ) };
-
-    ghost view = { λ images. map string_bytes images.names.items };
-}
-
-impl ImageNames {
-    /// The names in order.
-    pub fn as_slice(&self) -> &[String]
-        ensures { map string_bytes result.now ≡ self.now }
-    {
-        self.names.as_slice()
-    }
-
-    fn of_none(alloc: Global) -> ImageNames
-        ensures { result ≡ [] }
-    {
-        ImageNames {
-            names: Vec::new(alloc),
-        }
-    }
-
-    fn of_one(alloc: Global, name: String) -> Result<ImageNames, NoMemory>
-        ensures { IfOk result (λ images. images ≡ string_bytes name ∷ []) }
-    {
-        let mut names = Vec::new(alloc);
-        names.push(name)?;
-        Ok(ImageNames { names })
-    }
-
-    fn copied(alloc: Global, words: &[String]) -> Result<ImageNames, NoMemory>
-        ensures { IfOk result (λ images. images ≡ map string_bytes words.now) }
-    {
-        let mut names = Vec::new(alloc);
-        for word in words {
-            names.push(String::from_str(alloc, word.as_str())?)?;
-        }
-        Ok(ImageNames { names })
-    }
-}
 
 /// The line of some words, which stand between zero bytes.
 pub fn joined(alloc: Global, words: &[String]) -> Result<Vec<u8>, AllocError>
@@ -77,18 +20,6 @@ pub fn joined(alloc: Global, words: &[String]) -> Result<Vec<u8>, AllocError>
         line.extend_from_slice(word.as_bytes())?;
     }
     Ok(line)
-}
-
-// The name at a place of the line.
-fn name_at(alloc: Global, line: &[u8], span: Span) -> Result<String, AllocError>
-    requires within { IsWithin (length line.now) span }
-    requires text { IsUtf8 (bytes_at line.now span) }
-    ensures { IfOk result (λ name. string_bytes name ≡ bytes_at line.now span) }
-{
-    match str::from_utf8(span.bytes_in(line)) {
-        Ok(text) => String::from_str(alloc, text),
-        Err(_) => unreachable!(),
-    }
 }
 
 // Whether the name is one of the names.
@@ -132,22 +63,5 @@ pub fn script_images(words: &[String]) -> Option<&[String]>
     match words {
         [word, names @ ..] if word.as_str() == "script" && are_images(names) => Some(names),
         _ => None,
-    }
-}
-
-/// The images that words name: those of a script; or else, where they are one command, its provider, if it has one.
-pub fn images_of(alloc: Global, words: &[String]) -> Result<ImageNames, NoMemory>
-    ensures { IfOk result (λ images. images ≡ image_names (map string_bytes words.now)) }
-{
-    if let Some(names) = script_images(words) {
-        return ImageNames::copied(alloc, names);
-    }
-    let line = joined(alloc, words)?;
-    let Some(command) = command_in(line.as_slice()) else {
-        return Ok(ImageNames::of_none(alloc));
-    };
-    match command.provider() {
-        Some(span) => ImageNames::of_one(alloc, name_at(alloc, line.as_slice(), span)?),
-        None => Ok(ImageNames::of_none(alloc)),
     }
 }

@@ -4,7 +4,7 @@ use crate::fault::Fault;
 use crate::run_disk::RunDisk;
 use block_traits::Disk;
 use crash_disk::{MemCabinet, MemEntropy, MemSink, MemSource, SparseDisk};
-use geli_core::{AddFault, Drawers, run_images};
+use geli_core::{AddFault, Drawers, Outside, run_images};
 use std::alloc::Global;
 
 /// A disk of a run, and its name.
@@ -54,16 +54,13 @@ pub fn top_call(
     if disks.len() != names.len() {
         return Err(Fault::Bad("a disk without a name"));
     }
-    match run_images(
-        alloc,
-        words,
-        &names,
-        disks,
+    let mut outside = Outside::new(
         &mut objects.input,
         &mut objects.output,
         &mut objects.cabinet,
         &mut objects.entropy,
-    ) {
+    );
+    match run_images(alloc, words, &names, disks, &mut outside) {
         Ok((status, _shelf)) => {
             disks_of_case.note_kept();
             Ok(status.number())

@@ -268,17 +268,17 @@ follows_tasks : (Fresh : Type 0) (c : Content) (m : Play) (found : Option Attach
 follows_tasks Fresh c m None d r fresh = r.none
 follows_tasks Fresh c m (Some a) d t fresh = t.whole fresh
 
-tells_content : (Fresh : Type 0) (told : Option Content) (m : Play) (drawer : DrawerState) → Tells Fresh told m drawer → drawer.disk.content ≡ option_map (after m.steps) told
+pub tells_content : (Fresh : Type 0) (told : Option Content) (m : Play) (drawer : DrawerState) → Tells Fresh told m drawer → drawer.disk.content ≡ option_map (after m.steps) told
 unfolding Tells
 tells_content Fresh None m drawer t = t
 tells_content Fresh (Some c) m drawer t = follows_told Fresh c m (attachment_in drawer.holding) drawer.disk t
 
-tells_endures : (Fresh : Type 0) (told : Option Content) (m : Play) (drawer : DrawerState) → Tells Fresh told m drawer → IfSome told (EnduresCrashes m.steps)
+pub tells_endures : (Fresh : Type 0) (told : Option Content) (m : Play) (drawer : DrawerState) → Tells Fresh told m drawer → IfSome told (EnduresCrashes m.steps)
 unfolding Tells
 tells_endures Fresh None m drawer t = tt
 tells_endures Fresh (Some c) m drawer t = follows_endures Fresh c m (attachment_in drawer.holding) drawer.disk t
 
-tells_tasks : (Fresh : Type 0) (told : Option Content) (m : Play) (drawer : DrawerState) → Tells Fresh told m drawer → Fresh → IfSome told (λ c. HasTasks drawer.holding m.tasks)
+pub tells_tasks : (Fresh : Type 0) (told : Option Content) (m : Play) (drawer : DrawerState) → Tells Fresh told m drawer → Fresh → IfSome told (λ c. HasTasks drawer.holding m.tasks)
 unfolding Tells
 tells_tasks Fresh None m drawer t fresh = tt
 tells_tasks Fresh (Some c) m drawer t fresh = follows_tasks Fresh c m (attachment_in drawer.holding) drawer.disk t fresh

@@ -1,7 +1,7 @@
 -- What words say names the images that they name.
-use Rattle.std.proofs.Common.{◌≡◌, ◌∙◌, ap, sym, List, ℕ, Option, None, Some, map, string_bytes}
+use Rattle.std.proofs.Common.{◌≡◌, ◌∙◌, ap, sym, List, ℕ, Option}
 use Rattle.std.specs.Prelude.{option_and_then}
-use Rattle.command_words.specs.Images.{image_names, line_of, name_at, names_or, script_images}
+use Rattle.command_words.specs.Images.{image_names, line_of, name_at, names_or}
 use Rattle.command_words.specs.Places.{provider_of}
 use Rattle.command_words.specs.Reading.{command_in}
 use Rattle.command_words.specs.declared.commands.Command.{Command}

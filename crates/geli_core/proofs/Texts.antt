@@ -3,7 +3,7 @@ use Rattle.std.proofs.Common.{◌≡◌, ◌∙◌, ℕ, zero, suc, ◌+◌, ◌
 use Rattle.std.proofs.lemmas.List.{take_all}
 use Rattle.std.proofs.Math.Seq.{take-add}
 use Rattle.std.specs.List.{AllByRecursion, flat_map}
-use Rattle.geli_core.specs.Lines.{IsOneLine, ended, newline}
+use Rattle.geli_core.specs.Lines.{IsOneLine, ended}
 use Rattle.geli_core.specs.Trace.{lines_of}
 use Rattle.geli_core.specs.Served.{IsServed, SiteState}
 

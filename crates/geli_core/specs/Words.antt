@@ -4,7 +4,6 @@ use Rattle.command_words.specs.Bounds.{IsBounded}
 use Rattle.command_words.specs.Images.{line_of, name_at, script_images}
 use Rattle.command_words.specs.Places.{CommandIsWithin, ProviderIsText, provider_of}
 use Rattle.command_words.specs.Reading.{command_in}
-use Rattle.command_words.specs.declared.commands.Command.{Command}
 use Rattle.geli_core.specs.declared.words.Words.{Words}
 use Rattle.geli_core.specs.declared.words.Words.TheVariants.{Script, One, Usage}
 

@@ -2,7 +2,7 @@
 ghost use Rattle.std.specs.Prelude.{◌≡◌, ℕ, List, None, IfErr, IfOk, OnErr, OnOk, length, map, string_bytes};
 ghost use Rattle.command_words.specs.Images.{script_images};
 ghost use Rattle.command_rows.specs.World.{NamesDiffer};
-ghost use Rattle.geli_core.specs.Images.{IsNotShelved, RunsOver, disks_back, idle_drawers, outside_of};
+ghost use Rattle.geli_core.specs.Images.{IsNotShelved, RunsOver, disks_back, idle_drawers};
 ghost use Rattle.geli_core.specs.Sites.{HasAsBefore, ReachesAsBefore, outside_now};
 ghost use Rattle.geli_core.specs.Words.{FitsItsLine, Says};
 ghost use Rattle.shelf.specs.Shelved.{drawers_of};
@@ -36,27 +36,33 @@ pub fn run_images<S: Source, K: Sink, C: Cabinet, E: Entropy>(
     words: &[String],
     names: &[String],
     disks: Vec<Box<dyn Disk>>,
-    input: &mut S,
-    output: &mut K,
-    files: &mut C,
-    entropy: &mut E,
+    outside: &mut Outside<'_, S, K, C, E>,
 ) -> Result<(Status, Shelf), NotShelved<Box<dyn Disk>>>
     requires { length disks.items ≡ length names.now }
+    ensures same { ReachesAsBefore outside.old outside.new }
     ensures runs { IfOk result (λ ran. RunsOver (map string_bytes words.now) (map string_bytes names.now)
         (map (⟦<Box<dyn Disk> as Disk>⟧).state disks.items)
-        (outside_of (C.state files.old) (E.state entropy.old) (S.state input.old) (K.state output.old)) ran.0
+        (outside_now S.state K.state C.state E.state outside.old) ran.0
         (drawers_of (⟦<Box<dyn Disk> as Disk>⟧).state ran.1.drawers)
-        (outside_of (C.state files.new) (E.state entropy.new) (S.state input.new) (K.state output.new))) }
-    ensures unread { OnOk result (script_images (map string_bytes words.now) ≡ None → input.new ≡ input.old) }
+        (outside_now S.state K.state C.state E.state outside.new)) }
+    ensures unread { OnOk result
+        (script_images (map string_bytes words.now) ≡ None → outside.new.input.now ≡ outside.old.input.now) }
     ensures refused { IfErr result (λ refused. IsNotShelved refused.fault
         (idle_drawers (map string_bytes names.now) (map (⟦<Box<dyn Disk> as Disk>⟧).state disks.items))) }
     ensures kept { IfErr result (λ refused.
         disks_back (⟦<Box<dyn Disk> as Disk>⟧).state refused ≡ map (⟦<Box<dyn Disk> as Disk>⟧).state disks.items) }
-    ensures nothing { OnErr result ((input.new ≡ input.old) × (output.new ≡ output.old)
-        × (files.new ≡ files.old) × (entropy.new ≡ entropy.old)) }
+    ensures nothing { OnErr result (HasAsBefore outside.old outside.new) }
 {
     let mut shelf = shelved(alloc, names, disks)?;
-    let status = geli_main(alloc, words, input, output, files, entropy, &mut shelf);
+    let status = geli_main(
+        alloc,
+        words,
+        &mut *outside.input,
+        &mut *outside.output,
+        &mut *outside.files,
+        &mut *outside.entropy,
+        &mut shelf,
+    );
     Ok((status, shelf))
 }
 

@@ -18,3 +18,5 @@ mod metadata;
 mod order;
 #[cfg(test)]
 mod replies;
+#[cfg(test)]
+mod words;

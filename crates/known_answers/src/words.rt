@@ -1,13 +1,13 @@
-//! Lines and words, against the tables of another implementation.
+//! Lines, against the table of another implementation.
 mod table;
 
-use command_words::{Sep, Usage, images_of, read_line};
+use command_words::{Sep, Usage, read_line};
 use std::alloc::Global;
 use std::fmt::Write;
 use std::test::Fail;
-use table::{IMAGES, LINES};
+use table::LINES;
 
-// What a sign of the tables stands for: a byte, and how many of it.
+// What a sign of the table stands for: a byte, and how many of it.
 fn meaning(sign: u8) -> (u8, usize) {
     match sign {
         b'~' => (0, 1),
@@ -29,7 +29,7 @@ fn push_times(bytes: &mut Vec<u8>, byte: u8, count: usize) -> Result<(), Fail> {
     Ok(())
 }
 
-// The bytes that a text of the tables stands for.
+// The bytes that a text of the table stands for.
 fn plain_bytes(alloc: Global, text: &str) -> Result<Vec<u8>, Fail> {
     let mut bytes = Vec::new(alloc);
     for sign in text.bytes() {
@@ -64,31 +64,5 @@ fn lines_of_the_table(rt: HostRuntime) -> Result<(), Fail> {
         let shown = show(alloc, bytes.as_slice(), sep)?;
         assert!(&rt; shown.as_str() == want, "{row} gives {shown}");
     }
-    Ok(())
-}
-
-// The words of a text, between which bars stand.
-fn words_of(alloc: Global, text: &str) -> Result<Vec<String>, Fail> {
-    let mut words = Vec::new(alloc);
-    for word in text.split('|') {
-        let bytes = plain_bytes(alloc, word)?;
-        words.push(String::from_str(alloc, std::str::from_utf8(bytes.as_slice())?)?)?;
-    }
-    Ok(words)
-}
-
-#[test]
-fn images_of_the_table(rt: HostRuntime) -> Result<(), Fail> {
-    let alloc = rt.alloc();
-    for row in IMAGES.lines() {
-        let (words, want) = row.split_once("||").ok_or("names")?;
-        let words = words_of(alloc, words)?;
-        let images = images_of(alloc, words.as_slice())?;
-        let mut shown = String::new(alloc);
-        write!(shown, "{:?}", images.as_slice())?;
-        let want = plain_bytes(alloc, want)?;
-        assert!(&rt; shown.as_bytes() == want.as_slice(), "{row}");
-    }
-    assert!(&rt; images_of(alloc, &[])?.as_slice().is_empty());
     Ok(())
 }

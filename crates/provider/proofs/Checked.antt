@@ -1,14 +1,12 @@
 -- What is known of metadata that were checked, and let through by the gates.
-use Rattle.std.proofs.Common.{◌≡◌, ℕ, ◌*◌, ◌==◌, Bool, true, false, cond, Option, Some, Result, Ok, Err, IsTrue, arith, refl, sym, ap, ◌∙◌}
+use Rattle.std.proofs.Common.{◌≡◌, ℕ, ◌*◌, ◌==◌, Bool, true, false, cond, Result, Ok, Err, IsTrue, arith, refl, sym, ap, ◌∙◌}
 use Rattle.std.proofs.lemmas.Bool.{eqb-true}
 use Rattle.std.proofs.lemmas.Grind.{common_steps}
 use Rattle.eli_base.specs.declared.algorithms.Cipher.{Cipher}
 use Rattle.eli_base.specs.declared.algorithms.Cipher.TheVariants.{AesCbc, AesXts}
 use Rattle.eli_base.specs.Algorithms.{allows_length}
 use Rattle.key_slots.specs.Slots.{IsKeyBits}
-use Rattle.eli_base.specs.declared.parameters.MasterKey.{MasterKey}
 use Rattle.eli_base.specs.declared.parameters.Params.{Params}
-use Rattle.eli_base.specs.Keying.{Keying, keying_of}
 use Rattle.eli_base.specs.Units.{media_sectors}
 use Rattle.eli_metadata.specs.Checks.{settings_of, supported, is_readonly, size_matches}
 pub use Rattle.eli_metadata.proofs.Supported.{said}
@@ -39,15 +37,3 @@ checked m p size good fits =
     let s = said m (settings_of p) good in
     let provsize : p.provsize ≡ 512 * size = sym s.provsize ∙ size_is m size fits in
     record { keylen = s.keylen; readonly = s.readonly; provsize = provsize; media = ap (media_sectors p.auth p.sectorsize) provsize }
-
--- the master key of a keying is the one that a slot gave
-pub opened_as : (answer : Option (MasterKey × ℕ)) (master : MasterKey) (slot : ℕ) (p : Params) (k : Keying) → answer ≡ Some (master, slot) → k ≡ keying_of p master
-    → answer ≡ Some (record { bytes = k.master }, slot)
-opened_as answer master slot p k is same =
-    let bytes : master.bytes ≡ k.master = sym (ap (λ (j : Keying). j.master) same) in
-    is ∙ (λ i. Some (record { bytes = bytes i }, slot))
-
-pub keyed_as : (master : MasterKey) (p : Params) (k : Keying) → k ≡ keying_of p master → k ≡ keying_of p (record { bytes = k.master })
-keyed_as master p k same =
-    let bytes : master.bytes ≡ k.master = sym (ap (λ (j : Keying). j.master) same) in
-    same ∙ (λ i. keying_of p (record { bytes = bytes i }))

@@ -6,7 +6,7 @@ use borrow.Rule.Slice.PartMut.{put_mid, post_of}
 use Rattle.block_traits.specs.Parts.{parts}
 
 -- some parts, and more
-parts-add : (n m : ℕ) (bytes : List ℕ) → parts 512 (n + m) bytes ≡ parts 512 n bytes ++ parts 512 m (drop (512 * n) bytes)
+pub parts-add : (n m : ℕ) (bytes : List ℕ) → parts 512 (n + m) bytes ≡ parts 512 n bytes ++ parts 512 m (drop (512 * n) bytes)
 parts-add zero m bytes =
     let none : 0 + m ≡ m = omega arith in
     let first : 0 ≡ 512 * 0 = omega arith in

@@ -93,7 +93,7 @@ sealed_all k sector j plain out all so =
     ap (λ (m : ℕ). parts 512 m out) (sym all) ∙ so ∙ take_all j (seal k sector plain) (omega arith)
 
 -- what the unit that is opened next reads as
-unit_here : (k now : Keying) (sector j n start end : ℕ) (device piece : List ℕ) (answer : Result (List ℕ) ℕ) → k.auth ≢ Off → now ≡ k → j < units k → n ≡ sector * units k + j
+pub unit_here : (k now : Keying) (sector j n start end : ℕ) (device piece : List ℕ) (answer : Result (List ℕ) ℕ) → k.auth ≢ Off → now ≡ k → j < units k → n ≡ sector * units k + j
     → IsUnit k.auth k.sectorsize j start end → piece ≡ take 512 (drop (512 * j) device) → opened_tagged now (512 * n) (end - start) piece ≡ answer
     → get_or (unit_readings k sector (device_sectors k device)) j (Ok []) ≡ answer
 unit_here k now sector j n start end device piece answer on same lt at unit is opened =

@@ -12,3 +12,5 @@ pub mod Told
 pub mod Adjoining
 pub mod InMemory
 pub mod Looks
+pub mod OpenedSlots
+pub mod FourSectors

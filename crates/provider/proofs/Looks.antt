@@ -1,5 +1,5 @@
 -- Logical sectors that are opened from what a look gave.
-use Rattle.std.proofs.Common.{◌≡◌, ℕ, zero, suc, ◌+◌, ◌*◌, ◌/◌, ◌%◌, ◌<◌, ◌≤◌, List, ◌∷◌, length, take, drop, refl, sym, ap, subst, ◌∙◌, arith, Option, Some, None, Result, Ok, IfSome}
+use Rattle.std.proofs.Common.{◌≡◌, ℕ, zero, suc, ◌+◌, ◌*◌, ◌/◌, ◌%◌, ◌<◌, ◌≤◌, List, ◌∷◌, length, take, drop, refl, sym, ap, subst, ◌∙◌, arith, Option, Some, None, Result, Ok, Err, IfSome, MatchResult}
 use Rattle.std.proofs.Math.Nat.{div-add-mod}
 use Rattle.std.proofs.lemmas.List.{take-take, take_all, drop-drop}
 use Rattle.std.proofs.lemmas.Slice.{drop-put_mid}
@@ -10,6 +10,7 @@ use Rattle.block_traits.specs.Parts.{parts}
 use Rattle.eli_base.specs.declared.algorithms.Auth.TheVariants.{Off}
 use Rattle.eli_base.specs.Keying.{Keying}
 use Rattle.sealing.specs.Sectors.{device_sectors, reading, units}
+use Rattle.provider.specs.declared.faults.BadUnit.{BadUnit}
 use Rattle.provider.specs.Reading.{standing, StandFrom, ReadsFrom, data_reading, sector_reading}
 use Rattle.provider.proofs.Cuts.{parts-front}
 use Rattle.provider.proofs.Ranges.{units-off}
@@ -99,3 +100,21 @@ pub whole_length : (len size i : ℕ) → len % size ≡ 0 → i ≡ len / size 
 whole_length len size i whole end =
     let at : i * size ≡ len / size * size = ap (λ (n : ℕ). n * size) end in
     omega (arith, div-add-mod len size, at, whole)
+
+-- all of them were opened, or there is a fault
+pub all_opened : {A : Type 0} (answer : Result A BadUnit) (k now : Keying) (sector count all size : ℕ) (device bytes : List ℕ) → now ≡ k → all ≡ count → length bytes ≤ count * size
+    → MatchResult answer
+    (λ _. (told : Option Content) → GivesEachFrom told (sector * units now) device → ReadsFrom told now sector count (Ok (take (count * size) bytes)))
+    (λ bad. (told : Option Content) → GivesEachFrom told (sector * units now) device → ReadsFrom told now sector all (Err bad.offset))
+    → MatchResult answer
+    (λ _. (told : Option Content) → GivesEachFrom told (sector * units k) device → ReadsFrom told k sector count (Ok bytes))
+    (λ bad. (told : Option Content) → GivesEachFrom told (sector * units k) device → ReadsFrom told k sector count (Err bad.offset))
+all_opened (Ok done) k now sector count all size device bytes same every long opened = λ told each.
+    let P : Keying → Type 0 = λ h. GivesEachFrom told (sector * units h) device in
+    let Q : Keying → Type 0 = λ h. ReadsFrom told h sector count (Ok (take (count * size) bytes)) in
+    reads_all told k sector count count size bytes refl long (subst Q same (opened told (subst P (sym same) each)))
+all_opened (Err bad) k now sector count all size device bytes same every long opened = λ told each.
+    let P : Keying → Type 0 = λ h. GivesEachFrom told (sector * units h) device in
+    let Q : Keying → Type 0 = λ h. ReadsFrom told h sector all (Err bad.offset) in
+    let R : ℕ → Type 0 = λ n. ReadsFrom told k sector n (Err bad.offset) in
+    subst R every (subst Q same (opened told (subst P (sym same) each)))

@@ -90,7 +90,7 @@ unit_now k c sector j n size on lt at bytes =
     unit_reading-tagged k sector j (standing c (sector * units k) (units k)) on (rw (length-standing c (sector * units k) (units k)) lt)
     ∙ (λ i. opened_tagged k (offset i) (sym bytes i) ((get_or-standing c (sector * units k) (units k) j lt ∙ ap (present c) (sym at)) i))
 
-joined-more : (readings : List (Result (List ℕ) ℕ)) (j : ℕ) (front piece : List ℕ) → j < length readings → joined (take j readings) ≡ Ok front
+pub joined-more : (readings : List (Result (List ℕ) ℕ)) (j : ℕ) (front piece : List ℕ) → j < length readings → joined (take j readings) ≡ Ok front
     → get_or readings j (Ok []) ≡ Ok piece → joined (take (suc j) readings) ≡ Ok (front ++ piece)
 joined-more readings j front piece lt so here =
     ap joined (take-suc readings j (Ok []) lt) ∙ ap (λ (r : Result (List ℕ) ℕ). joined (take j readings ++ r ∷ [])) here ∙ joined-push (take j readings) front piece so

@@ -1,10 +1,11 @@
 -- An attached provider: a disk whose data are read and written under a keying (geli(8), "attach").
-use Rattle.std.specs.Prelude.{◌≡◌, ℕ, ◌*◌, ◌/◌, max, Bool, true, false, List, Option, Some, None}
+use Rattle.std.specs.Prelude.{◌≡◌, ℕ, ◌*◌, ◌/◌, max, Bool, true, false, ◌||◌, List, Option, Some, None}
 use Rattle.block_traits.specs.Disk.{DiskState}
 use Rattle.eli_base.specs.declared.algorithms.Auth.{Auth}
 use Rattle.eli_base.specs.declared.algorithms.Auth.TheVariants.{Off, Sha256, Sha384, Sha512}
 use Rattle.eli_base.specs.declared.parameters.MasterKey.{MasterKey}
-use Rattle.eli_base.specs.Keying.{Keying}
+use Rattle.eli_base.specs.declared.parameters.Params.{Params}
+use Rattle.eli_base.specs.Keying.{Keying, keying_of}
 use Rattle.eli_base.specs.Units.{media_sectors, units_per_sector}
 use Rattle.eli_metadata.specs.declared.metadata.Metadata.{Metadata}
 use Rattle.key_slots.specs.Slots.{IsFirstToOpen, Opens, numbered, unwrapped, unwrapped_any}
@@ -15,6 +16,15 @@ pub record Attached (D : Type 0) : Type 0 where
   pub keying : Keying
   pub slot : ℕ
   pub readonly : Bool
+
+-- the provider on a disk, with these parameters and the master key of a slot
+abbrev pub attached_with : {D : Type 0} → Params → MasterKey → ℕ → Bool → D → Attached D
+attached_with params master slot readonly disk = record {
+  disk = disk;
+  keying = keying_of params master;
+  slot = slot;
+  readonly = readonly || params.readonly;
+}
 
 -- keying, slot and read-only state are as before
 pub record IsKept {D : Type 0} (old new : Attached D) : Type 0 where

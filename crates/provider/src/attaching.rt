@@ -1,13 +1,16 @@
 //! What is opened and reserved before a provider is attached.
-ghost use Rattle.std.specs.Prelude.{◌≡◌, ℕ, ◌<◌, ◌≤◌, ◌↔◌, List, IfOk, Some, vec_len};
+ghost use Rattle.std.specs.Prelude.{◌≡◌, ℕ, ◌<◌, ◌≤◌, ◌↔◌, List, IfOk, MatchResult, Ok, Some, vec_len};
 ghost use Rattle.std.specs.Option.{ForSome};
 ghost use Rattle.eli_base.specs.Keying.{keying_of};
+ghost use Rattle.eli_metadata.specs.Checks.{settings_of, slot_matches, supported};
 ghost use Rattle.key_slots.specs.Slots.{IsKeyBits};
 ghost use Rattle.provider.specs.Attached.{OpensAsNamed, buffer_bytes, opened};
+ghost use Rattle.provider.specs.Opening.{SlotOpens, SlotFails};
 
+use crate::AttachFault;
 use crate::units::unit_count;
 use block_traits::NoMemory;
-use eli_base::{Auth, MasterKey, Params};
+use eli_base::{Auth, Geometry, MasterKey, Params};
 use eli_metadata::Metadata;
 use key_slots::{unwrap, unwrap_any};
 use range_keys::KeyRing;
@@ -27,6 +30,42 @@ pub fn opened(meta: &Metadata, key: &UserKey, named: Option<u8>) -> Option<(Mast
     };
     let master = unwrap(meta, key, slot)?;
     Some((master, slot))
+}
+
+/// A slot that a user key opened.
+#[derive(Clone, Copy)]
+pub struct OpenedSlot {
+    /// The master key in it.
+    pub master: MasterKey,
+    /// Its number.
+    pub slot: u8,
+}
+
+/// Opens the slot of the metadata that is named, or else the first that the user key opens, for a provider with these
+/// parameters. They are those that `check` gave of the metadata, and the gate of slots let this slot through.
+///
+/// In this order: `TooSmall`, exactly where the parameters leave no room for a whole logical sector; `WrongKey`,
+/// exactly where no slot that is asked for opens. Another fault never comes.
+pub fn open_slot(
+    meta: &Metadata,
+    params: &Params,
+    key: &UserKey,
+    named: Option<u8>,
+) -> Result<OpenedSlot, AttachFault>
+    requires checked { supported meta.now ≡ Ok (settings_of params.now) }
+    requires slot { slot_matches meta.now named ≡ Ok tt }
+    ensures { MatchResult result
+        (λ found. SlotOpens meta.now params.now key.now.bytes named found.slot found.master.bytes)
+        (SlotFails meta.now params.now key.now.bytes named) }
+{
+    let Ok(_) = Geometry::of(params) else {
+        let size = params.provsize;
+        return Err(AttachFault::TooSmall { size });
+    };
+    match opened(meta, key, named) {
+        Some((master, slot)) => Ok(OpenedSlot { master, slot }),
+        None => Err(AttachFault::WrongKey),
+    }
 }
 
 // The bytes of the buffer that a provider keeps: those of the device sectors of some logical sectors.

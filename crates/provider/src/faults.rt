@@ -41,6 +41,26 @@ pub enum ReadFault {
     Integrity { offset: u64 },
 }
 
+impl From<OutOfRange> for ReadFault {
+    ghost use Rattle.std.specs.Prelude.{◌≡◌};
+    ghost use Rattle.provider.specs.declared.faults.ReadFault.TheVariants as read;
+
+    ghost from_gives = { λ past fault. fault ≡ read.OutOfRange past.sector past.count past.media };
+
+    fn from(past: OutOfRange) -> ReadFault {
+        let OutOfRange {
+            sector,
+            count,
+            media,
+        } = past;
+        ReadFault::OutOfRange {
+            sector,
+            count,
+            media,
+        }
+    }
+}
+
 /// Why logical sectors weren't written.
 #[derive(Clone, Copy, Debug, PartialEq, Eq, Error)]
 pub enum WriteFault {
@@ -53,6 +73,26 @@ pub enum WriteFault {
     /// The device failed.
     #[error("the device failed")]
     DeviceFault,
+}
+
+impl From<OutOfRange> for WriteFault {
+    ghost use Rattle.std.specs.Prelude.{◌≡◌};
+    ghost use Rattle.provider.specs.declared.faults.WriteFault.TheVariants as write;
+
+    ghost from_gives = { λ past fault. fault ≡ write.OutOfRange past.sector past.count past.media };
+
+    fn from(past: OutOfRange) -> WriteFault {
+        let OutOfRange {
+            sector,
+            count,
+            media,
+        } = past;
+        WriteFault::OutOfRange {
+            sector,
+            count,
+            media,
+        }
+    }
 }
 
 /// The tag of the unit at this byte offset of the device isn't that of its cipher text.

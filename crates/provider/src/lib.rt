@@ -6,14 +6,16 @@
 
 mod attaching;
 mod faults;
+mod four_sectors;
 mod laws;
 mod provider;
 mod runs;
+mod sector_groups;
 mod sectors;
 mod tagged_units;
 mod units;
 
-pub use attaching::opened;
+pub use attaching::{OpenedSlot, open_slot, opened};
 pub use faults::{AttachFault, BadUnit, OutOfRange, ReadFault, WriteFault};
 pub use laws::rest_tells_all;
 pub use provider::Provider;

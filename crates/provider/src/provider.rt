@@ -1,5 +1,5 @@
 //! A disk that is read and written under a keying.
-ghost use Rattle.std.specs.Prelude.{◌≡◌, ◌≢◌, ℕ, ◌+◌, ◌*◌, ◌/◌, ◌%◌, ◌<◌, ◌≤◌, ◌↔◌, ◌∷◌, [], List, IsTrue, OnOk, OnErr, None, Ok, Err, IfSome, MatchResult, is_ok, length, replicate};
+ghost use Rattle.std.specs.Prelude.{◌≡◌, ◌≢◌, ℕ, ◌+◌, ◌*◌, ◌/◌, ◌%◌, ◌^◌, ◌<◌, ◌≤◌, ◌↔◌, ◌∷◌, [], List, IsTrue, OnOk, OnErr, None, Ok, Err, IfErr, IfOk, IfSome, MatchResult, is_ok, length, replicate};
 ghost use Rattle.std.specs.List.{concat};
 ghost use Rattle.block_traits.specs.Causes.{Counted};
 ghost use Rattle.block_traits.specs.Disk.{DiskState, FailsIn, Gives, GivesEach, Logs};
@@ -7,20 +7,20 @@ ghost use Rattle.block_traits.specs.Parts.{parts};
 ghost use Rattle.eli_base.specs.Units.{media_sectors};
 ghost use Rattle.eli_metadata.specs.Checks.{settings_of, size_matches, slot_matches, supported};
 ghost use Rattle.provider.specs.Answers.{AttachAnswers, Means, ReadAnswers, Target, WriteAnswers, request};
-ghost use Rattle.provider.specs.Attached.{IsKept, has_tags, media};
+ghost use Rattle.provider.specs.Attached.{IsKept, attached_with, has_tags, media};
 ghost use Rattle.provider.specs.Reading.{units_accepted};
 ghost use Rattle.provider.specs.Rest.{rest_of};
 ghost use Rattle.range_keys.specs.Ring.{IsKeying};
 ghost use Rattle.sealing.specs.Sectors.{device_sectors, unit_reading_at, reading, seal, units};
 
-use crate::attaching::{opened, reserve};
+use crate::attaching::{OpenedSlot, open_slot, reserve};
 use crate::runs::{read_run, write_run};
 use crate::sectors::{open_sector, seal_sector};
 use crate::tagged_units::{has_whole_four, tag_fits};
 use crate::{AttachFault, BadUnit, OutOfRange, ReadFault, WriteFault};
 use auth_sectors::four_accepted;
-use block_traits::{Disk, DiskFailed, Event, MetaPlace, Sector, load_last, store_last};
-use eli_base::{Auth, Cipher, Geometry, MasterKey, Params};
+use block_traits::{Disk, DiskFailed, Event, MetaPlace, NoMemory, Sector, load_last, store_last};
+use eli_base::{Auth, Cipher, MasterKey, Params};
 use eli_metadata::Metadata;
 use range_keys::KeyRing;
 use std::alloc::Global;
@@ -90,15 +90,33 @@ impl<D: Disk> Provider<D> {
             let means : Means = record { key = key.now.bytes; named = slot; readonly = readonly } in
             AttachAnswers target means disk result }
     {
-        let Ok(_) = Geometry::of(params) else {
-            let size = params.provsize;
-            return Err((disk, AttachFault::TooSmall { size }));
+        let found = match open_slot(meta, params, key, slot) {
+            Ok(found) => found,
+            Err(fault) => return Err((disk, fault)),
         };
-        let Some((master, slot)) = opened(meta, key, slot) else {
-            return Err((disk, AttachFault::WrongKey));
-        };
+        match Provider::attach_opened(alloc, disk, params, &found, readonly) {
+            Ok(provider) => Ok(provider),
+            Err((disk, NoMemory)) => Err((disk, AttachFault::NoMemory)),
+        }
+    }
+
+    /// Attaches the provider on this disk with the master key of a slot that was opened for these parameters. It is
+    /// read-only where `readonly` or the parameters say so.
+    ///
+    /// Where there is no memory the disk comes back. No call of it is made.
+    pub fn attach_opened(
+        alloc: Global,
+        disk: D,
+        params: &Params,
+        found: &OpenedSlot,
+        readonly: bool,
+    ) -> Result<Provider<D>, (D, NoMemory)>
+        ensures attached { IfOk result (λ p. p ≡ attached_with params.now found.now.master found.now.slot readonly disk) }
+        ensures back { IfErr result (λ refused. refused.0 ≡ disk) }
+    {
+        let OpenedSlot { master, slot } = *found;
         let Ok((ring, buffer)) = reserve(alloc, &master, params) else {
-            return Err((disk, AttachFault::NoMemory));
+            return Err((disk, NoMemory));
         };
         Ok(Provider {
             disk,
@@ -130,9 +148,10 @@ impl<D: Disk> Provider<D> {
 
     /// Whether so many logical sectors from number `sector` on are there.
     pub fn check_range(&self, sector: u64, count: u64) -> Result<(), OutOfRange>
-        ensures { let there = media self.now.keying (D.state self.now.disk) in
+        ensures answer { let there = media self.now.keying (D.state self.now.disk) in
             MatchResult result (λ _. sector + count ≤ there)
             (λ past. (there < sector + count) × (past ≡ record { sector = sector; count = count; media = there })) }
+        ensures end { OnOk result (sector + count < 2 ^ 64) }
     {
         let media = self.sectors();
         if count > media || sector > media - count {
@@ -229,22 +248,7 @@ impl<D: Disk> Provider<D> {
         ensures kept { IsKept self.old self.new }
     {
         let size = self.params.sectorsize as usize;
-        match self.check_range(sector, (into.len() / size) as u64) {
-            Ok(()) => {}
-            Err(
-                OutOfRange {
-                    sector,
-                    count,
-                    media,
-                },
-            ) => {
-                return Err(ReadFault::OutOfRange {
-                    sector,
-                    count,
-                    media,
-                });
-            }
-        }
+        self.check_range(sector, (into.len() / size) as u64)?;
         let buffer = &mut self.buffer;
         read_run(&mut self.ring, &mut self.disk, sector, size, into, buffer)
     }
@@ -276,22 +280,7 @@ impl<D: Disk> Provider<D> {
             return Err(WriteFault::ReadOnly);
         }
         let size = self.params.sectorsize as usize;
-        match self.check_range(sector, (from.len() / size) as u64) {
-            Ok(()) => {}
-            Err(
-                OutOfRange {
-                    sector,
-                    count,
-                    media,
-                },
-            ) => {
-                return Err(WriteFault::OutOfRange {
-                    sector,
-                    count,
-                    media,
-                });
-            }
-        }
+        self.check_range(sector, (from.len() / size) as u64)?;
         let buffer = &mut self.buffer;
         if write_run(&mut self.ring, &mut self.disk, sector, size, from, buffer).is_err() {
             return Err(WriteFault::DeviceFault);

@@ -10,7 +10,7 @@ ghost use Rattle.provider.specs.Reads.{FailsAmong, RunAnswers, SectorAnswers};
 ghost use Rattle.provider.specs.Writing.{data_writes};
 
 use crate::ReadFault;
-use crate::sectors::{open_sectors, seal_sectors};
+use crate::sector_groups::{open_sectors, seal_sectors};
 use crate::tagged_units::read_tagged_units;
 use crate::units::{read_units, unit_count};
 use block_traits::{Disk, DiskFailed};

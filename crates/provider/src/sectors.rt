@@ -1,17 +1,12 @@
 //! Logical sectors that are sealed and opened in memory, with authentication and without.
-ghost use Rattle.std.specs.Prelude.{◌≡◌, ◌≢◌, ℕ, ◌+◌, ◌*◌, ◌/◌, ◌%◌, ◌^◌, ◌<◌, ◌≤◌, Ok, Err, MatchResult, Option, length, take};
-ghost use Rattle.block_traits.specs.Content.{Content};
-ghost use Rattle.block_traits.specs.Disk.{GivesEachFrom, write_events};
+ghost use Rattle.std.specs.Prelude.{◌≡◌, ◌≢◌, ◌+◌, ◌*◌, ◌^◌, ◌<◌, ◌≤◌, Ok, Err, MatchResult, length, take};
 ghost use Rattle.block_traits.specs.Parts.{parts};
 ghost use Rattle.eli_base.specs.declared.algorithms.Auth.TheVariants.{Off};
 ghost use Rattle.eli_base.specs.Units.{unit_bytes_of};
 ghost use Rattle.sealing.specs.Sectors.{device_sectors, joined, reading, seal, unit_readings, units};
-ghost use Rattle.provider.specs.Reading.{ReadsFrom};
-ghost use Rattle.provider.specs.Writing.{data_writes};
 
 use crate::BadUnit;
 use crate::tagged_units::unit_end;
-use crate::units::unit_count;
 use auth_sectors::{open_four, open_piece, seal_four, seal_piece};
 use block_traits::{Sector, sector_of};
 use eli_base::Auth;
@@ -112,25 +107,6 @@ pub fn seal_sector(ring: &mut KeyRing, sector: u64, plain: &[u8], out: &mut [u8]
         return seal_tagged_units(ring, sector, plain, out);
     }
     seal_whole(ring, sector, plain, out)
-}
-
-/// Seals logical sectors of `size` bytes one after the other, the first of number `sector`, each into as many device
-/// sectors as it takes.
-pub fn seal_sectors(ring: &mut KeyRing, sector: u64, size: usize, plain: &[u8], out: &mut [u8])
-    requires size { size ≡ ring.old.keying.sectorsize }
-    requires whole { length plain.now % size ≡ 0 }
-    requires out { length out.old ≡ length plain.now / size * (512 * units ring.old.keying) }
-    requires place { (sector + length plain.now / size) * units ring.old.keying < 2 ^ 44 }
-    ensures sealed { write_events (sector * units ring.old.keying) out.new ≡ data_writes ring.old.keying sector (length plain.now / size) plain.now }
-    ensures keying { ring.new.keying ≡ ring.old.keying }
-{
-    ring.is_of_a_keying();
-    let width = 512 * unit_count(ring.auth(), size);
-    for i in 0..plain.len() / size {
-        let block = &plain[i * size..i * size + size];
-        let sealed = &mut out[i * width..i * width + width];
-        seal_sector(ring, sector + i as u64, block, sealed);
-    }
 }
 
 // Opens the first units of one logical sector, so many times four, which are whole.
@@ -264,36 +240,5 @@ pub fn open_sector(
         return open_tagged_units(ring, sector, device, out);
     }
     open_whole(ring, sector, device, out);
-    Ok(())
-}
-
-/// Opens logical sectors of `size` bytes from their device sectors, which stand one after the other, the first sector
-/// of number `sector`. After a refusal `out` may hold any bytes.
-pub fn open_sectors(
-    ring: &mut KeyRing,
-    sector: u64,
-    size: usize,
-    device: &[u8],
-    out: &mut [u8],
-) -> Result<(), BadUnit>
-    requires size { size ≡ ring.old.keying.sectorsize }
-    requires whole { length out.old % size ≡ 0 }
-    requires device { length device.now ≡ length out.old / size * (512 * units ring.old.keying) }
-    requires place { (sector + length out.old / size) * units ring.old.keying < 2 ^ 44 }
-    ensures opened { MatchResult result
-        (λ _. (told : Option Content) → GivesEachFrom told (sector * units ring.old.keying) device.now → ReadsFrom told ring.old.keying sector (length out.old / size) (Ok out.new))
-        (λ bad. (told : Option Content) → GivesEachFrom told (sector * units ring.old.keying) device.now → ReadsFrom told ring.old.keying sector (length out.old / size) (Err bad.offset)) }
-    ensures keying { ring.new.keying ≡ ring.old.keying }
-{
-    ring.is_of_a_keying();
-    let width = 512 * unit_count(ring.auth(), size);
-    for i in 0..out.len() / size {
-        let sealed = &device[i * width..i * width + width];
-        let block = &mut out[i * size..i * size + size];
-        match open_sector(ring, sector + i as u64, sealed, block) {
-            Ok(()) => {}
-            Err(bad) => return Err(bad),
-        }
-    }
     Ok(())
 }

@@ -1,5 +1,5 @@
 -- A provider that is attached, or refused, as the row of `attach`.
-use Rattle.std.proofs.Common.{◌≡◌, ◌∙◌, ℕ, ◌≤◌, [], ap, refl, sym, subst, Bool, true, Result, Ok, Err, Option, Some, None}
+use Rattle.std.proofs.Common.{◌≡◌, ◌∙◌, ℕ, List, ◌≤◌, [], ap, refl, sym, subst, Bool, true, Result, Ok, Err, Option, Some, None}
 use Rattle.std.specs.Prelude.{◌||◌, ◌==◌, IsSome, if◌then◌else◌}
 use Rattle.block_traits.specs.Disk.{DiskState}
 use Rattle.eli_base.specs.Keying.{Keying, keying_of}
@@ -7,6 +7,7 @@ use Rattle.eli_base.specs.declared.parameters.MasterKey.{MasterKey}
 use Rattle.provider.specs.Answers as answers
 use Rattle.provider.specs.Answers.{Means, Target, target_media}
 use Rattle.provider.specs.Attached.{Attached, opened}
+use Rattle.provider.specs.Opening.{SlotFails, SlotOpens}
 use Rattle.provider.specs.declared.faults.AttachFault.{AttachFault}
 use Rattle.provider.specs.declared.faults.AttachFault.TheVariants as attach
 use Rattle.provider.proofs.Checked.{checked}
@@ -115,6 +116,20 @@ fails_as t slot readonly disk attach.WrongKey old is h = answered_as _ (Err refu
 fails_as t slot readonly disk attach.NoMemory old is h =
     let found = opened t.meta t.key.bytes slot in
     answered_as _ (or_wrong_key (settings_of t.params) readonly found) old _ old (tried_as t slot readonly found (room t slot disk is h.0) refl) (no_memory (settings_of t.params) readonly found old h.1)
+
+-- ---- the key is tried alone
+
+-- the slot opens
+pub tries_well : (t : Trial) (slot : Option ℕ) (readonly : Bool) (found : ℕ) (master : List ℕ) → SlotOpens t.meta t.params t.key.bytes slot found master
+    → Ok tt ≡ without_value (tried_in slot readonly t)
+tries_well t slot readonly found master h = sym (ap without_value (tried_as t slot readonly (Some (record { bytes = master }, found)) h.room h.opened))
+
+-- none does
+pub tries_ill : (t : Trial) (slot : Option ℕ) (readonly : Bool) (fault : AttachFault) → SlotFails t.meta t.params t.key.bytes slot fault
+    → Err (attach_refusal fault) ≡ without_value (tried_in slot readonly t)
+tries_ill t slot readonly (attach.TooSmall size) h = sym (ap without_value (tried_small t slot readonly h.0 ∙ ap (λ (n : ℕ). Err (refusals.TooSmall n)) (sym h.1)))
+tries_ill t slot readonly attach.WrongKey h = sym (ap without_value (tried_as t slot readonly None h.0 h.1))
+tries_ill t slot readonly attach.NoMemory h = absurd h
 
 -- none is attached, and the disk comes back
 pub not_taken : {D : Type 0} (state : D → DiskState) (t : Trial) (slot : Option ℕ) (readonly : Bool) (given disk : D) (fault : AttachFault) (cabinet : CabinetState) (entropy : EntropyState) → IsTrial (state given).size slot t

@@ -1,6 +1,6 @@
 -- A drawer is taken out, changed and put back.
 use Rattle.std.proofs.Math.Seq.{take-append_seam}
-use Rattle.std.proofs.Common.{◌∙◌, ◌++◌, drop, subst, take, map, Bool, true, false, ◌≡◌, ℕ, ◌<◌, List, [], ◌∷◌, length, refl, ap, sym, arith, suc, zero, get_or, slice_get, Some, ◌+◌}
+use Rattle.std.proofs.Common.{◌∙◌, ◌++◌, drop, subst, take, map, Bool, true, false, ◌≡◌, ℕ, ◌<◌, List, [], ◌∷◌, length, refl, ap, sym, arith, suc, zero, get_or, slice_get, Some}
 use Rattle.std.specs.List.{insert, remove}
 use Rattle.std.proofs.Math.ListN.{set}
 use Rattle.std.proofs.lemmas.List.{map-set}

@@ -1,11 +1,11 @@
 //! `geli attach`: a key is tried, and the provider is attached unless it is only tried (geli(8), attach).
 
-ghost use Rattle.std.specs.Prelude.{◌≡◌, ℕ, List, length};
+ghost use Rattle.std.specs.Prelude.{ℕ, List, length};
 ghost use Rattle.block_traits.specs.Cabinet.{CabinetState};
 ghost use Rattle.block_traits.specs.Streams.{EntropyState};
 ghost use Rattle.command_words.specs.Places.{CommandIsWithin, KeyIsWithin};
 ghost use Rattle.command_rows.specs.Answer.{answer_of};
-ghost use Rattle.shelf.specs.Trying.{IsTrial, attach_refusal, tried_in};
+ghost use Rattle.shelf.specs.Trying.{IsTrial, tried_in};
 ghost use Rattle.command_rows.specs.Steps.{Attaches, GoesOn};
 ghost use Rattle.command_rows.specs.Turn.{AttachRow, GoesThrough};
 ghost use Rattle.command_rows.specs.World.{Idle, reach_of};
@@ -15,24 +15,14 @@ ghost use Rattle.shelf.specs.Shelved.{reach_in};
 
 use crate::Held;
 use crate::replies::done_or;
-use crate::trying::{Trial, prepare, try_key};
+use crate::trying::{Trial, attach_refusal, prepare, try_key};
 use bio_queue::Queue;
 use block_traits::{Cabinet, Disk, LastSector};
 use command_words::{Command, KeyWords};
 use eli_base::Refusal;
-use provider::{AttachFault, Provider};
+use provider::Provider;
 use reply_text::Reply;
 use std::alloc::Global;
-
-fn attach_refusal(fault: AttachFault) -> Refusal
-    ensures { result ≡ attach_refusal fault }
-{
-    match fault {
-        AttachFault::TooSmall { size } => Refusal::TooSmall { size },
-        AttachFault::WrongKey => Refusal::WrongKey,
-        AttachFault::NoMemory => Refusal::NoMemory,
-    }
-}
 
 // Attaches the provider, if the key opens it, with no request open on it.
 fn take_over<D: Disk>(

@@ -5,7 +5,7 @@ ghost use Rattle.block_traits.specs.Streams.{EntropyState};
 ghost use Rattle.command_words.specs.Places.{KeyIsWithin};
 ghost use Rattle.eli_metadata.specs.Checks.{settings_of, size_matches, slot_matches, supported};
 ghost use Rattle.command_rows.specs.Steps.{admitted, or_refusal, without_value};
-ghost use Rattle.shelf.specs.Trying.{IsTrial, tried_by, tried_in};
+ghost use Rattle.shelf.specs.Trying.{IsTrial, attach_refusal, tried_by, tried_in};
 ghost use Rattle.command_rows.specs.Trying.{TryRow};
 ghost use Rattle.command_rows.specs.World.{Holding, reach_of};
 ghost use Rattle.user_key.specs.Derivation.{user_key};
@@ -14,10 +14,10 @@ ghost use Rattle.user_key.specs.Refusals.{key_refusal_of};
 use crate::reading::read_last;
 use block_traits::{Cabinet, MetaPlace};
 use command_words::KeyWords;
-use eli_base::{GeoFault, Geometry, Params, Refusal};
+use eli_base::{Params, Refusal};
 use eli_metadata::{Metadata, check, size_gate, slot_gate};
 use key_components::load_components;
-use provider::opened;
+use provider::{AttachFault, open_slot};
 use std::alloc::Global;
 use user_key::{Components, UserKey, derive};
 
@@ -83,17 +83,25 @@ pub fn prepare<P: MetaPlace, C: Cabinet>(
     Ok(Trial { meta, params, key })
 }
 
+/// The refusal of a provider that wasn't attached.
+pub fn attach_refusal(fault: AttachFault) -> Refusal
+    ensures { result ≡ attach_refusal fault }
+{
+    match fault {
+        AttachFault::TooSmall { size } => Refusal::TooSmall { size },
+        AttachFault::WrongKey => Refusal::WrongKey,
+        AttachFault::NoMemory => Refusal::NoMemory,
+    }
+}
+
 /// Refuses a key that opens no slot of those that are asked for, and a provider without a sector.
 pub fn try_key(trial: &Trial, slot: Option<u8>) -> Result<(), Refusal>
     requires checked { supported trial.now.meta ≡ Ok (settings_of trial.now.params) }
     requires slot { slot_matches trial.now.meta slot ≡ Ok tt }
     ensures { (readonly : Bool) → result ≡ without_value (tried_in slot readonly trial.now) }
 {
-    if let Err(GeoFault::TooSmall { size }) = Geometry::of(&trial.params) {
-        return Err(Refusal::TooSmall { size });
-    }
-    match opened(&trial.meta, &trial.key, slot) {
-        Some(_) => Ok(()),
-        None => Err(Refusal::WrongKey),
+    match open_slot(&trial.meta, &trial.params, &trial.key, slot) {
+        Ok(_) => Ok(()),
+        Err(fault) => Err(attach_refusal(fault)),
     }
 }

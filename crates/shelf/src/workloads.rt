@@ -18,7 +18,7 @@ ghost use Rattle.shelf.specs.Shelved.{attachment_of, reach_on};
 use crate::requests::flush_answer;
 use block_traits::{Disk, DiskFailed};
 use eli_base::Refusal;
-use provider::{Provider, ReadFault};
+use provider::{OutOfRange, Provider, ReadFault};
 use rand_core::SeedableRng;
 use rand_core::utils::fill_bytes_via_u64;
 use rand_pcg::Pcg64;
@@ -30,15 +30,20 @@ fn check_range<D: Disk>(provider: &Provider<D>, sector: u64, count: u64) -> Resu
     ensures answer { result ≡ in_range sector count (media provider.now.keying (D.state provider.now.disk)) }
     ensures end { OnOk result (sector + count < 18446744073709551616) }
 {
-    let media = provider.sectors();
-    if count > media || sector > media - count {
-        return Err(Refusal::OutOfRange {
+    match provider.check_range(sector, count) {
+        Ok(()) => Ok(()),
+        Err(
+            OutOfRange {
+                sector,
+                count,
+                media,
+            },
+        ) => Err(Refusal::OutOfRange {
             sector,
             count,
             media,
-        });
+        }),
     }
-    Ok(())
 }
 
 // Writes whole sectors that are there, and reads nothing.

@@ -5,14 +5,14 @@ ghost use Rattle.eli_metadata.specs.Checks.{settings_of, size_matches, slot_matc
 ghost use Rattle.provider.specs.Answers.{Means, Target};
 ghost use Rattle.sha2.specs.Sha256.{sha256};
 ghost use Rattle.suspend.specs.Rest.{suspended_rest};
-ghost use Rattle.suspend.specs.Resuming.{OpensTheSame, ResumeAnswers, ResumeFails};
+ghost use Rattle.suspend.specs.Resuming.{OpensTo, ResumeAnswers, ResumeFails};
 ghost use Rattle.suspend.specs.Suspension.{KeepsOfProvider};
 
 use crate::ResumeFault;
-use block_traits::{Disk, DiskFailed, Event, MetaPlace, Sector, load_last, store_last};
-use eli_base::{Geometry, MasterKey, Params};
+use block_traits::{Disk, DiskFailed, Event, MetaPlace, NoMemory, Sector, load_last, store_last};
+use eli_base::{MasterKey, Params};
 use eli_metadata::Metadata;
-use provider::{Provider, opened};
+use provider::{OpenedSlot, Provider, open_slot};
 use sha2::{Digest, Sha256};
 use std::alloc::Global;
 use std::marker::Model;
@@ -113,34 +113,31 @@ impl<D: Disk> Suspended<D> {
         self.kept.mark
     }
 
-    // Whether the key opens the master key that the provider had, from these metadata; else why it isn't resumed.
-    fn admit(
+    // The slot of these metadata that the key opens, if it has the master key that the provider had; else why it isn't
+    // resumed.
+    fn open_again(
         &self,
         meta: &Metadata,
         params: &Params,
         key: &UserKey,
         slot: Option<u8>,
-    ) -> Result<(), ResumeFault>
+    ) -> Result<OpenedSlot, ResumeFault>
         requires checked { supported meta.now ≡ Ok (settings_of params.now) }
         requires size { size_matches meta.now (D.state self.now.disk).size ≡ Ok tt }
         requires slot { slot_matches meta.now slot ≡ Ok tt }
         ensures { let target : Target = record { meta = meta.now; params = params.now; disk = D.state self.now.disk } in
             let means : Means = record { key = key.now.bytes; named = slot; readonly = self.now.readonly } in
-            MatchResult result (λ _. OpensTheSame target means self.now.mark) (λ fault. ResumeFails target means self.now.mark fault) }
+            MatchResult result
+            (λ found. OpensTo target means found.slot found.master.bytes × (sha256 found.master.bytes ≡ self.now.mark))
+            (λ fault. ResumeFails target means self.now.mark fault) }
     {
-        let Ok(_) = Geometry::of(params) else {
-            let size = params.provsize;
-            return Err(ResumeFault::TooSmall { size });
-        };
-        let Some((master, _)) = opened(meta, key, slot) else {
-            return Err(ResumeFault::WrongKey);
-        };
+        let found = open_slot(meta, params, key, slot)?;
         let kept = self.kept.mark;
-        let opened = digest_of(&master);
+        let opened = digest_of(&found.master);
         if opened != kept {
             return Err(ResumeFault::DifferentKey { kept, opened });
         }
-        Ok(())
+        Ok(found)
     }
 
     /// Attaches the provider again, by metadata of its disk: with the master key of the slot that is named, or else
@@ -167,13 +164,14 @@ impl<D: Disk> Suspended<D> {
             let means : Means = record { key = key.now.bytes; named = slot; readonly = self.readonly } in
             ResumeAnswers target means self result }
     {
-        if let Err(fault) = self.admit(meta, params, key, slot) {
-            return Err((self, fault));
-        }
+        let found = match self.open_again(meta, params, key, slot) {
+            Ok(found) => found,
+            Err(fault) => return Err((self, fault)),
+        };
         let Suspended { disk, kept } = self;
-        match Provider::attach(alloc, disk, meta, params, key, slot, kept.readonly) {
+        match Provider::attach_opened(alloc, disk, params, &found, kept.readonly) {
             Ok(provider) => Ok(provider),
-            Err((disk, fault)) => Err((Suspended { disk, kept }, ResumeFault::from(fault))),
+            Err((disk, NoMemory)) => Err((Suspended { disk, kept }, ResumeFault::NoMemory)),
         }
     }
 

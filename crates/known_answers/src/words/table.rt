@@ -507,26 +507,3 @@ B|write a.img 0 {aa|Write { prov: 1@6..11, sector: 0, hex: 3@14..262156 }
 B|write a.img 0 {aaa|usage 3 BadHex
 B|write a.img 0 {aaaa|Write { prov: 1@6..11, sector: 0, hex: 3@14..262158 }
 B|write a.img 0 {aaaaaa|usage 3 BadHex"#;
-
-/// Words, with bars between them, and the images that they name.
-pub const IMAGES: &str = r#"attach|-C|-k|my key|my image||["my image"]
-attach|-C|-k|my key|my image|other||[]
-dump|a.img||["a.img"]
-init|-K|k|a.img||["a.img"]
-restore|b|a.img||["a.img"]
-backup|a.img|b||["a.img"]
-fill|a.img|7|0|1||["a.img"]
-fill|a.img|7|0|0||[]
-eject|a.img||["a.img"]
-list||[]
-script||[]
-script|a.img||["a.img"]
-script|b.img|a.img||["b.img", "a.img"]
-script|a.img|b.img|a.img||[]
-Script|a.img||[]
-script|--|-v||["--", "-v"]
-script|1|2|3|4|5|6|7|8|9|10|11|12|13|14|15|16||["1", "2", "3", "4", "5", "6", "7", "8", "9", "10", "11", "12", "13", "14", "15", "16"]
-script|1|2|3|4|5|6|7|8|9|10|11|12|13|14|15|16|17||[]
-dump|{}||["{}"]
-dump|{}a||[]
-script|{}aaaaaa||["{}aaaaaa"]"#;

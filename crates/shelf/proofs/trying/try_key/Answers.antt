@@ -1,12 +1,8 @@
-use Rattle.std.proofs.Common.{subst, sym}
-use Rattle.eli_metadata.specs.Checks.{settings_of}
-use Rattle.key_slots.specs.Slots.{IsKeyBits}
-use Rattle.provider.proofs.Checked.{bits_allowed, said}
+use Rattle.shelf.proofs.Openings.{tries_ill, tries_well}
 use Rattle.shelf.proofs.trying.try_key.Goals as goal
 
-pub opened-requires-clause-keylen : goal.opened-requires-clause-keylen
-opened-requires-clause-keylen c =
-    let params = c.args.trial.now.params in
-    let s = said c.args.trial.now.meta (settings_of params) c.requires.checked in
-    let bits : IsKeyBits params.keylen = bits_allowed params.cipher params.keylen params.allowed in
-    subst IsKeyBits (sym s.keylen) bits
+pub returns-in-Ok : goal.returns-in-Ok
+returns-in-Ok c = λ readonly. tries_well c.args.trial.now c.args.slot readonly c.in-Ok.field-0.slot c.in-Ok.field-0.master.bytes c.in-Ok.ensures
+
+pub returns-in-Err : goal.returns-in-Err
+returns-in-Err c = λ readonly. rw c.attach_refusal.ensures (tries_ill c.args.trial.now c.args.slot readonly c.in-Err.fault c.in-Err.ensures)

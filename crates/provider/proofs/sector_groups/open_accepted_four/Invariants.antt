@@ -3,7 +3,7 @@ use Rattle.block_traits.specs.Content.{Content}
 use Rattle.block_traits.specs.Disk.{GivesEachFrom}
 use Rattle.sealing.specs.Sectors.{units}
 use Rattle.provider.specs.Reading.{ReadsFrom}
-use Rattle.provider.proofs.sectors.open_sectors.Given as goal
+use Rattle.provider.proofs.sector_groups.open_accepted_four.Given as goal
 
 abbrev pub invariant-loop-i : goal.invariant-loop-i
 invariant-loop-i l =

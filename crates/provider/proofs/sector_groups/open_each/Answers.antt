@@ -1,18 +1,13 @@
-use Rattle.std.proofs.Common.{◌≡◌, ◌+◌, ◌*◌, ◌/◌, ◌≤◌, ℕ, length, ap, refl, sym, ◌∙◌, arith, Ok, Err}
+use Rattle.std.proofs.Common.{◌≡◌, ◌+◌, ◌*◌, ◌/◌, ◌≤◌, ℕ, length, take, ap, subst, refl, sym, ◌∙◌, arith, Ok, Err}
 use Rattle.std.proofs.Math.Nat.{mul-le-mul_right}
 use Rattle.eli_base.specs.Keying.{Keying}
 use Rattle.sealing.specs.Sectors.{units}
 use Rattle.provider.proofs.FirstFaults.{reads_fault}
-use Rattle.provider.proofs.Looks.{looked_reading, reads_all, reads_none, whole_length}
+use Rattle.provider.specs.Reading.{ReadsFrom}
+use Rattle.provider.proofs.Looks.{looked_reading}
 use Rattle.provider.proofs.Ranges.{bytes_inside, units-as}
 use Rattle.provider.proofs.Readings.{ReadsFrom-next}
-use Rattle.provider.proofs.sectors.open_sectors.Goals as goal
-
-pub loop-i-init : goal.loop-i-init
-loop-i-init c = record {
-  keying = refl;
-  opened = λ told each. reads_none told c.args.ring.now.keying c.args.sector c.args.size c.args.out.now;
-}
+use Rattle.provider.proofs.sector_groups.open_each.Goals as goal
 
 pub open_sector-requires-clause-place : goal.open_sector-requires-clause-place
 open_sector-requires-clause-place c =
@@ -35,7 +30,7 @@ returns-in-Err-clause-opened c =
     let broad : width ≡ 512 * units k = units-as k c.auth.result size c.unit_count-width.result c.auth.ensures c.requires.size c.unit_count-width.ensures.count in
     let all : length c.args.device.now ≡ count * width = c.requires.device ∙ ap (λ (w : ℕ). count * w) (sym broad) in
     let fits : (i + 1) * width ≤ count * width = mul-le-mul_right width (let next : i + 1 ≤ count = omega arith in next) in
-    λ told each. reads_fault told told k k c.args.sector count i c.in-Err.bad.offset _ refl refl c.loop-i-test.true (before.opened told each)
+    λ told each. reads_fault told told k k c.args.sector count i c.in-Err.bad.offset _ refl refl (omega arith) (before.opened told each)
     (looked_reading told k c.loop-i.ring.keying c.args.sector i width _ c.args.device.now (Err c.in-Err.bad.offset) before.keying broad (omega arith) (omega (arith, all, fits)) each c.in-Err.ensures.opened)
 
 pub loop-i-preserved : goal.loop-i-preserved
@@ -49,7 +44,7 @@ loop-i-preserved c =
     let broad : width ≡ 512 * units k = units-as k c.auth.result size c.unit_count-width.result c.auth.ensures c.requires.size c.unit_count-width.ensures.count in
     let all : length c.args.device.now ≡ count * width = c.requires.device ∙ ap (λ (w : ℕ). count * w) (sym broad) in
     let fits : (i + 1) * width ≤ count * width = mul-le-mul_right width (let next : i + 1 ≤ count = omega arith in next) in
-    let inside = bytes_inside (length c.args.out.now) size i c.loop-i-test.true in
+    let inside = bytes_inside (length c.args.out.now) size i (omega arith) in
     let room : i * size ≤ length c.loop-i.out = omega (arith, inside) in
     let block = c.open_sector.new.out in
     let len : length block ≡ size = omega (arith, inside) in
@@ -61,9 +56,8 @@ loop-i-preserved c =
     }
 
 pub returns-clause-opened : goal.returns-clause-opened
-returns-clause-opened c =
+returns-clause-opened c = λ told each.
     let size = c.args.size in
-    let count : ℕ = length c.args.out.now / size in
-    let end : c.loop-i.i ≡ count = omega arith in
-    let long : length c.loop-i.out ≤ c.loop-i.i * size = omega (arith, whole_length (length c.args.out.now) size c.loop-i.i c.requires.whole end) in
-    λ told each. reads_all told c.args.ring.now.keying c.args.sector c.loop-i.i count size c.loop-i.out end long (c.loop-i.invariant.opened told each)
+    let end : c.loop-i.i ≡ c.args.end = omega arith in
+    let P : ℕ → Type 0 = λ n. ReadsFrom told c.args.ring.now.keying c.args.sector n (Ok (take (n * size) c.loop-i.out)) in
+    subst P end (c.loop-i.invariant.opened told each)

@@ -3,12 +3,12 @@ use Rattle.block_traits.specs.Disk.{writes_from}
 use Rattle.block_traits.specs.Parts.{parts}
 use Rattle.sealing.specs.Sectors.{units}
 use Rattle.provider.specs.Writing.{data_writes}
-use Rattle.provider.proofs.sectors.seal_sectors.Given as goal
+use Rattle.provider.proofs.sector_groups.seal_groups.Given as goal
 
 abbrev pub invariant-loop-i : goal.invariant-loop-i
 invariant-loop-i l =
     let k = l.initial.ring.keying in
     record {
       keying : l.ring.keying ≡ k;
-      sealed : writes_from (l.sector * units k) (parts 512 (l.i * units k) l.out) ≡ data_writes k l.sector l.i l.plain;
+      sealed : writes_from (l.sector * units k) (parts 512 (4 * l.i * units k) l.out) ≡ data_writes k l.sector (4 * l.i) l.plain;
     }

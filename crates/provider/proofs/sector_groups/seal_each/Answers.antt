@@ -3,7 +3,7 @@ use Rattle.std.proofs.Math.Nat.{mul-le-mul_right}
 use Rattle.sealing.specs.Sectors.{units}
 use Rattle.provider.proofs.Events.{sealed_more}
 use Rattle.provider.proofs.Ranges.{units-as}
-use Rattle.provider.proofs.sectors.seal_sectors.Goals as goal
+use Rattle.provider.proofs.sector_groups.seal_each.Goals as goal
 
 pub loop-i-preserved : goal.loop-i-preserved
 loop-i-preserved c =

@@ -1,0 +1,70 @@
+//! The images that words name, against the table of another implementation.
+mod table;
+
+use geli_core::read_words;
+use std::alloc::Global;
+use std::fmt::Write;
+use std::test::Fail;
+use table::IMAGES;
+
+// How often the letter stands that a sign of the table means, if it means many.
+fn many(sign: char) -> usize {
+    match sign {
+        '{' => 262_140,
+        '}' => 37_855,
+        _ => 0,
+    }
+}
+
+// What a text of the table stands for.
+fn plain(alloc: Global, text: &str) -> Result<String, Fail> {
+    let mut out = String::new(alloc);
+    for sign in text.chars() {
+        let letters = many(sign);
+        if letters == 0 {
+            out.push(sign)?;
+        }
+        push_letters(&mut out, letters)?;
+    }
+    Ok(out)
+}
+
+// Puts so many letters behind the others.
+fn push_letters(out: &mut String, letters: usize) -> Result<(), Fail> {
+    for _ in 0..letters {
+        out.push('a')?;
+    }
+    Ok(())
+}
+
+// The words of a text, between which bars stand.
+fn words_of(alloc: Global, text: &str) -> Result<Vec<String>, Fail> {
+    let mut words = Vec::new(alloc);
+    for word in text.split('|') {
+        words.push(plain(alloc, word)?)?;
+    }
+    Ok(words)
+}
+
+// The images that words name, as the table has them.
+fn show(alloc: Global, words: &[String]) -> Result<String, Fail> {
+    let images = read_words(alloc, words)?.images(alloc)?;
+    let mut shown = String::new(alloc);
+    write!(shown, "{:?}", images.as_slice())?;
+    Ok(shown)
+}
+
+#[test]
+fn images_of_the_table(rt: HostRuntime) -> Result<(), Fail> {
+    let alloc = rt.alloc();
+    for row in IMAGES.lines() {
+        let (words, want) = row.split_once("||").ok_or("names")?;
+        let words = words_of(alloc, words)?;
+        let shown = show(alloc, words.as_slice())?;
+        let want = plain(alloc, want)?;
+        assert!(&rt; shown.as_str() == want.as_str(), "{row}");
+    }
+    let none = show(alloc, &[])?;
+    assert!(&rt; none.as_str() == "[]");
+    Ok(())
+}

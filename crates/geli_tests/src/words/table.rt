@@ -1,0 +1,23 @@
+/// Words, with bars between them, and the images that they name. Another implementation of the syntax,
+/// tools/word_table.py, gives the same rows. `{` stands for 262,140 letters, and `}` for 37,855.
+pub const IMAGES: &str = r#"attach|-C|-k|my key|my image||["my image"]
+attach|-C|-k|my key|my image|other||[]
+dump|a.img||["a.img"]
+init|-K|k|a.img||["a.img"]
+restore|b|a.img||["a.img"]
+backup|a.img|b||["a.img"]
+fill|a.img|7|0|1||["a.img"]
+fill|a.img|7|0|0||[]
+eject|a.img||["a.img"]
+list||[]
+script||[]
+script|a.img||["a.img"]
+script|b.img|a.img||["b.img", "a.img"]
+script|a.img|b.img|a.img||[]
+Script|a.img||[]
+script|--|-v||["--", "-v"]
+script|1|2|3|4|5|6|7|8|9|10|11|12|13|14|15|16||["1", "2", "3", "4", "5", "6", "7", "8", "9", "10", "11", "12", "13", "14", "15", "16"]
+script|1|2|3|4|5|6|7|8|9|10|11|12|13|14|15|16|17||[]
+dump|{}||["{}"]
+dump|{}a||[]
+script|{}aaaaaa||["{}aaaaaa"]"#;

@@ -1,0 +1,56 @@
+use Rattle.std.proofs.Common.{◌≡◌, ◌+◌, ◌-◌, ◌*◌, ◌/◌, min, ℕ, length, take, drop, sym, ap, ◌∙◌, arith}
+use Rattle.eli_base.specs.Units.{unit_bytes_of}
+use Rattle.sealing.specs.Sectors.{units}
+use Rattle.provider.proofs.FourSectors.{unit_accepted_here}
+use Rattle.provider.proofs.InMemory.{counted, opened_all, opened_next, stands}
+use Rattle.provider.proofs.UnitLists.{length-between}
+use Rattle.provider.proofs.four_sectors.open_accepted_sector.Goals as goal
+
+pub open_accepted-requires-clause-accepted : goal.open_accepted-requires-clause-accepted
+open_accepted-requires-clause-accepted c =
+    let k = c.args.ring.now.keying in
+    let before = c.loop-j.invariant in
+    let size : ℕ = length c.args.out.now in
+    let j : ℕ = c.loop-j.j in
+    let start : ℕ = c.loop-j.start in
+    let end : ℕ = c.unit_end-end.result in
+    let here = stands k c.auth.result size c.data_bytes-width.result (length c.loop-j.out) j start end c.is_of_a_keying.ensures.at_least c.is_of_a_keying.ensures.whole
+    c.auth.ensures c.data_bytes-width.ensures c.requires.out (omega arith) c.loop-j-test.true before.start c.unit_end-end.ensures in
+    let n : ℕ = c.args.sector * ((size - 1) / c.data_bytes-width.result + 1) + j in
+    let at : n ≡ c.args.sector * units k + j = ap (λ (m : ℕ). c.args.sector * m + j) here.count in
+    let order = here.unit.order in
+    let within = here.unit.within in
+    let wide : 512 * j + 512 - 512 * j ≡ 512 = omega arith in
+    unit_accepted_here k c.loop-j.ring.keying c.args.sector j n _ start end c.args.device.now _ c.requires.on before.keying here.below at here.unit
+    (length-between start end c.loop-j.out order (omega (arith, c.requires.out))) (ap (λ (w : ℕ). take w (drop (512 * j) c.args.device.now)) wide) c.requires.accepted
+
+pub loop-j-preserved : goal.loop-j-preserved
+loop-j-preserved c =
+    let k = c.args.ring.now.keying in
+    let before = c.loop-j.invariant in
+    let size : ℕ = length c.args.out.now in
+    let j : ℕ = c.loop-j.j in
+    let start : ℕ = c.loop-j.start in
+    let end : ℕ = c.unit_end-end.result in
+    let here = stands k c.auth.result size c.data_bytes-width.result (length c.loop-j.out) j start end c.is_of_a_keying.ensures.at_least c.is_of_a_keying.ensures.whole
+    c.auth.ensures c.data_bytes-width.ensures c.requires.out (omega arith) c.loop-j-test.true before.start c.unit_end-end.ensures in
+    let n : ℕ = c.args.sector * ((size - 1) / c.data_bytes-width.result + 1) + j in
+    let at : n ≡ c.args.sector * units k + j = ap (λ (m : ℕ). c.args.sector * m + j) here.count in
+    let order = here.unit.order in
+    let within = here.unit.within in
+    let wide : 512 * j + 512 - 512 * j ≡ 512 = omega arith in
+    let bytes : length (take (end - start) (drop start c.loop-j.out)) ≡ end - start = length-between start end c.loop-j.out order (omega (arith, c.requires.out)) in
+    record {
+      keying = c.open_accepted.ensures.keying ∙ before.keying;
+      start = here.unit.next ∙ ap (min (unit_bytes_of k.auth * (j + 1))) (sym c.requires.out);
+      opened = opened_next k c.loop-j.ring.keying c.args.sector j n _ start end c.args.device.now c.loop-j.out c.open_accepted.new.out _ c.requires.on before.keying here.below at bytes here.unit
+          (omega (arith, c.requires.out)) (omega (arith, bytes, c.open_accepted.auto.out)) (ap (λ (w : ℕ). take w (drop (512 * j) c.args.device.now)) wide) before.opened c.open_accepted.ensures.opened;
+    }
+
+pub returns-clause-opened : goal.returns-clause-opened
+returns-clause-opened c =
+    let k = c.args.ring.now.keying in
+    let size : ℕ = length c.args.out.now in
+    let count = counted k c.auth.result size c.data_bytes-width.result c.auth.ensures c.data_bytes-width.ensures c.requires.out in
+    let end : c.loop-j.j ≡ (size - 1) / c.data_bytes-width.result + 1 = omega arith in
+    opened_all k c.args.sector c.loop-j.j c.loop-j.start c.args.device.now c.loop-j.out c.requires.on (end ∙ count) (c.loop-j.invariant.start ∙ ap (min (unit_bytes_of k.auth * c.loop-j.j)) c.requires.out) (omega (arith, c.requires.out)) c.loop-j.invariant.opened

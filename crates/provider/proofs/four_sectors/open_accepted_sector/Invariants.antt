@@ -1,0 +1,13 @@
+use Rattle.std.proofs.Common.{◌≡◌, ◌*◌, length, min, take, Ok}
+use Rattle.eli_base.specs.Units.{unit_bytes_of}
+use Rattle.sealing.specs.Sectors.{device_sectors, joined, unit_readings}
+use Rattle.provider.proofs.four_sectors.open_accepted_sector.Given as goal
+
+abbrev pub invariant-loop-j : goal.invariant-loop-j
+invariant-loop-j l =
+    let k = l.initial.ring.keying in
+    record {
+      keying : l.ring.keying ≡ k;
+      start : l.start ≡ min (unit_bytes_of k.auth * l.j) (length l.initial.out);
+      opened : joined (take l.j (unit_readings k l.sector (device_sectors k l.device))) ≡ Ok (take l.start l.out);
+    }

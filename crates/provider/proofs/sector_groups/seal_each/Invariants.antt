@@ -1,0 +1,14 @@
+use Rattle.std.proofs.Common.{◌≡◌, ◌*◌}
+use Rattle.block_traits.specs.Disk.{writes_from}
+use Rattle.block_traits.specs.Parts.{parts}
+use Rattle.sealing.specs.Sectors.{units}
+use Rattle.provider.specs.Writing.{data_writes}
+use Rattle.provider.proofs.sector_groups.seal_each.Given as goal
+
+abbrev pub invariant-loop-i : goal.invariant-loop-i
+invariant-loop-i l =
+    let k = l.initial.ring.keying in
+    record {
+      keying : l.ring.keying ≡ k;
+      sealed : writes_from (l.sector * units k) (parts 512 (l.i * units k) l.out) ≡ data_writes k l.sector l.i l.plain;
+    }

@@ -1,0 +1,27 @@
+use Rattle.std.proofs.Common.{◌≡◌, ◌+◌, ◌-◌, ◌*◌, ◌/◌, ◌≤◌, length, ap, sym, ◌∙◌, arith, refl, ℕ}
+use Rattle.std.proofs.Math.Nat.{div-mul-le_self, mul-le-mul_right}
+use Rattle.sealing.specs.Sectors.{units}
+use Rattle.provider.proofs.Events.{sealed_some}
+use Rattle.provider.proofs.Ranges.{units-as}
+use Rattle.provider.proofs.sector_groups.seal_groups.Goals as goal
+
+pub loop-i-preserved : goal.loop-i-preserved
+loop-i-preserved c =
+    let k = c.args.ring.now.keying in
+    let before = c.loop-i.invariant in
+    let passed : ℕ = 4 * c.loop-i.i in
+    let size = c.args.size in
+    let count : ℕ = length c.args.plain.now / size in
+    let width : ℕ = 512 * c.unit_count-width.result in
+    let broad : width ≡ 512 * units k = units-as k c.auth.result size c.unit_count-width.result c.auth.ensures c.requires.size c.unit_count-width.ensures.count in
+    let all : length c.args.out.now ≡ count * width = c.requires.out ∙ ap (λ (w : ℕ). count * w) (sym broad) in
+    let some : passed + 4 ≤ count = omega arith in
+    let fits : (passed + 4) * width ≤ count * width = mul-le-mul_right width some in
+    let room : (passed + 4) * size ≤ length c.args.plain.now = omega (arith, mul-le-mul_right size some, div-mul-le_self (length c.args.plain.now) size) in
+    let next : 4 * (c.loop-i.i + 1) ≡ passed + 4 = omega arith in
+    let wide : (passed + 4) * size - passed * size ≡ 4 * size = omega arith in
+    record {
+      keying = c.seal_four_sectors.ensures.keying ∙ before.keying;
+      sealed = sealed_some k c.loop-i.ring.keying c.args.sector passed 4 _ size width _ _ _ c.args.plain.now c.loop-i.out c.seal_four_sectors.new.out before.keying c.requires.size next wide broad refl
+          (omega (arith, all, fits)) (omega (arith, all, fits)) room c.seal_four_sectors.ensures.sealed before.sealed;
+    }

@@ -1,31 +1,36 @@
 -- The numbers of a command lie within their bounds, and its digits are hexadecimal.
-use Rattle.std.proofs.Common.{◌≡◌, ℕ, ◌+◌, ◌%◌, ◌≤◌, List, [], ◌∷◌, ◌++◌, length, refl, arith, Bool, true, false, cond, not, ◌&&◌, Option, None, Some, IfOk, IfSome, ◌==◌, nat_le}
+use Rattle.std.proofs.Common.{◌≡◌, ℕ, suc, ◌+◌, ◌%◌, ◌≤◌, List, [], ◌∷◌, ◌++◌, length, refl, ap, sym, subst, arith, Bool, true, false, cond, not, ◌&&◌, ◌||◌, Option, None, Some, IfOk, IfSome, ◌==◌, nat_le}
 use Rattle.std.proofs.lemmas.Bool.Decides.{nat_tests}
-use Rattle.std.specs.Prelude.{codes, option_map, unwrap_or, is_some, IsTrue}
-use Rattle.std.specs.List.{AllByRecursion}
-use Rattle.std.specs.Str.{bytes_eq, is_utf8}
+use Rattle.std.specs.Prelude.{MatchOption, option_map, unwrap_or, is_some, IsTrue}
+use Rattle.std.specs.List.{AllByRecursion, list_all}
+use Rattle.std.specs.Option.{option_map_or}
+use Rattle.std.specs.Str.{is_utf8}
 use Rattle.eli_base.specs.declared.Reason.{Reason}
-use Rattle.eli_base.specs.declared.Reason.TheVariants.{BadNumber, BadName, BadHex, DashFile, MissingOption}
+use Rattle.eli_base.specs.declared.Reason.TheVariants.{BadNumber, BadHex, MissingOption}
 use Rattle.command_words.specs.declared.commands.Usage.{Usage}
 use Rattle.command_words.specs.declared.spans.Sep.{Sep}
 use Rattle.command_words.specs.declared.table.Verb.{Verb}
-use Rattle.command_words.specs.declared.table.Verb.TheVariants.{Resize, Read, Write, Fill, Sum, Submit, Step, Reap, Verify}
+use Rattle.command_words.specs.declared.table.Verb.TheVariants as verbs
+use Rattle.command_words.specs.declared.table.JobName.{JobName}
+use Rattle.command_words.specs.declared.table.Rule.{Rule}
+use Rattle.command_words.specs.declared.table.Rule.TheVariants.{NeedsOldSize}
 use Rattle.command_words.specs.declared.table.Valued.{Valued}
 use Rattle.command_words.specs.declared.table.Valued.TheVariants.{OldSize}
 use Rattle.command_words.specs.declared.table.JobName.TheVariants as jobs
 use Rattle.command_words.specs.declared.table.Operand.{Operand}
 use Rattle.command_words.specs.declared.table.Operand.TheVariants.{Provider, File, Sector, FewSectors, ManySectors, Seed, Digits, Job, Tag}
 use Rattle.command_words.specs.Words.{Word, words}
-use Rattle.command_words.specs.Table.{verb_named, form_of}
-use Rattle.command_words.specs.Values.{decimal, is_numeral, number_within, is_hexadecimal, value_fault}
+use Rattle.command_words.specs.Table.{verb_named, form_of, row_of, job_at}
+use Rattle.command_words.specs.Values.{decimal, is_numeral, number_within, is_hexadecimal, value_fault, operand_fault}
 use Rattle.command_words.specs.Options.{Item, Set, Given, Unknown, Missing, Options, options, values, value_in, option_fault, first_option_fault, or_else}
-use Rattle.command_words.specs.Settings.{settings_given, last, last_value}
-use Rattle.command_words.specs.Operands.{operands_of, operands_fault, job_as, number_as, span_as}
-use Rattle.command_words.specs.Reading.{line_reading, by_words, by_verb, complaint, command_at, job_at, is_comment}
+use Rattle.command_words.specs.Settings.{settings_given, span_of, last, last_value}
+use Rattle.command_words.specs.Operands.{operands_of, operands_fault, operand_place, word_as, no_span, job_or, job_as, number_as, span_as}
+use Rattle.command_words.specs.Reading.{line_reading, by_words, by_verb, complaint, lacks_option, command_at, is_comment}
 use Rattle.command_words.specs.Places.{bytes_at}
-use Rattle.command_words.specs.Bounds.{IsBounded, IsBoundedJob, AreSectors, IsOldSize}
-use Rattle.command_words.proofs.Forms.{found_keeps}
-use Rattle.command_words.proofs.Places.{AllStand, words_stand, OptionsStand, options_stand, verb_keeps, text_keeps, bytes_of_span}
+use Rattle.command_words.specs.Bounds.{IsBounded, IsBoundedJob, IsOldSize}
+use Rattle.command_words.proofs.Forms.{WhereLong, found_keeps, where_long}
+use Rattle.command_words.proofs.OperandsLemmas.{is_among}
+use Rattle.command_words.proofs.Places.{Stands, AllStand, words_stand, OptionsStand, options_stand, verb_keeps, text_keeps, bytes_of_span}
 
 and_parts : (a b : Bool) → (a && b) ≡ true → (a ≡ true) × (b ≡ true)
 and_parts true b h = (refl, h)
@@ -47,114 +52,6 @@ number_good low high bytes h =
     let parts = and_parts (is_numeral bytes && nat_le low (decimal bytes)) (nat_le (decimal bytes) high) all in
     (le_from low (decimal bytes) (and_parts (is_numeral bytes) (nat_le low (decimal bytes)) parts.0).1, le_from (decimal bytes) high parts.1)
 
--- a value without a fault, and no fault behind it
-fault_passes : (t : Bool) (reason : Reason) (number : ℕ) (rest : Option Usage)
-    → or_else (option_map (λ r. record { word = number; reason = r }) (cond t None (Some reason))) rest ≡ None → (t ≡ true) × (rest ≡ None)
-fault_passes true reason number rest h = (refl, h)
-fault_passes false reason number rest h = let no : ⊥ = cc in absurd no
-
--- a file without a fault, and no fault behind it
-file_passes : (t : Bool) (reason : Reason) (number : ℕ) (rest : Option Usage)
-    → or_else (option_map (λ r. record { word = number; reason = r }) (cond t (Some reason) None)) rest ≡ None → rest ≡ None
-file_passes true reason number rest h = let no : ⊥ = cc in absurd no
-file_passes false reason number rest h = h
-
-few_own : (words : List Word) → (3 == length words) ≡ true → operands_fault (Provider ∷ Sector ∷ FewSectors ∷ []) words ≡ None
-    → AreSectors 256 (number_as Sector (Provider ∷ Sector ∷ FewSectors ∷ []) words) (number_as FewSectors (Provider ∷ Sector ∷ FewSectors ∷ []) words)
-few_own [] t h = let no : ⊥ = cc in absurd no
-few_own (a ∷ []) t h = let no : ⊥ = cc in absurd no
-few_own (a ∷ b ∷ []) t h = let no : ⊥ = cc in absurd no
-few_own (a ∷ b ∷ c ∷ words) t h =
-    let first = fault_passes (is_some (number_within 0 9223372036854775807 b.bytes)) BadNumber b.number _ h in
-    let second = fault_passes (is_some (number_within 1 256 c.bytes)) BadNumber c.number _ first.1 in
-    let count = number_good 1 256 c.bytes second.0 in
-    ((number_good 0 9223372036854775807 b.bytes first.0).1, count.0, count.1)
-
-many_own : (words : List Word) → (3 == length words) ≡ true → operands_fault (Provider ∷ Sector ∷ ManySectors ∷ []) words ≡ None
-    → AreSectors 9223372036854775807 (number_as Sector (Provider ∷ Sector ∷ ManySectors ∷ []) words) (number_as ManySectors (Provider ∷ Sector ∷ ManySectors ∷ []) words)
-many_own [] t h = let no : ⊥ = cc in absurd no
-many_own (a ∷ []) t h = let no : ⊥ = cc in absurd no
-many_own (a ∷ b ∷ []) t h = let no : ⊥ = cc in absurd no
-many_own (a ∷ b ∷ c ∷ words) t h =
-    let first = fault_passes (is_some (number_within 0 9223372036854775807 b.bytes)) BadNumber b.number _ h in
-    let second = fault_passes (is_some (number_within 1 9223372036854775807 c.bytes)) BadNumber c.number _ first.1 in
-    let count = number_good 1 9223372036854775807 c.bytes second.0 in
-    ((number_good 0 9223372036854775807 b.bytes first.0).1, count.0, count.1)
-
-seed_own : (words : List Word) → (4 == length words) ≡ true → operands_fault (Provider ∷ Seed ∷ Sector ∷ ManySectors ∷ []) words ≡ None
-    → AreSectors 9223372036854775807 (number_as Sector (Provider ∷ Seed ∷ Sector ∷ ManySectors ∷ []) words) (number_as ManySectors (Provider ∷ Seed ∷ Sector ∷ ManySectors ∷ []) words)
-seed_own [] t h = let no : ⊥ = cc in absurd no
-seed_own (a ∷ []) t h = let no : ⊥ = cc in absurd no
-seed_own (a ∷ b ∷ []) t h = let no : ⊥ = cc in absurd no
-seed_own (a ∷ b ∷ c ∷ []) t h = let no : ⊥ = cc in absurd no
-seed_own (a ∷ b ∷ c ∷ d ∷ words) t h =
-    let seed = fault_passes (is_some (number_within 0 18446744073709551615 b.bytes)) BadNumber b.number _ h in
-    let first = fault_passes (is_some (number_within 0 9223372036854775807 c.bytes)) BadNumber c.number _ seed.1 in
-    let second = fault_passes (is_some (number_within 1 9223372036854775807 d.bytes)) BadNumber d.number _ first.1 in
-    let count = number_good 1 9223372036854775807 d.bytes second.0 in
-    ((number_good 0 9223372036854775807 c.bytes first.0).1, count.0, count.1)
-
-count_own : (words : List Word) → (3 == length words) ≡ true → operands_fault (Provider ∷ File ∷ ManySectors ∷ []) words ≡ None
-    → (1 ≤ number_as ManySectors (Provider ∷ File ∷ ManySectors ∷ []) words) × (number_as ManySectors (Provider ∷ File ∷ ManySectors ∷ []) words ≤ 9223372036854775807)
-count_own [] t h = let no : ⊥ = cc in absurd no
-count_own (a ∷ []) t h = let no : ⊥ = cc in absurd no
-count_own (a ∷ b ∷ []) t h = let no : ⊥ = cc in absurd no
-count_own (a ∷ b ∷ c ∷ words) t h =
-    let first = file_passes (bytes_eq b.bytes (codes "-")) DashFile b.number _ h in
-    let second = fault_passes (is_some (number_within 1 9223372036854775807 c.bytes)) BadNumber c.number _ first in
-    number_good 1 9223372036854775807 c.bytes second.0
-
-digits_own : (line : List ℕ) (words : List Word) → AllStand line words → (3 == length words) ≡ true → operands_fault (Provider ∷ Sector ∷ Digits ∷ []) words ≡ None
-    → (number_as Sector (Provider ∷ Sector ∷ Digits ∷ []) words ≤ 9223372036854775807) × IsTrue (is_hexadecimal (bytes_at line (span_as Digits (Provider ∷ Sector ∷ Digits ∷ []) words)))
-digits_own line [] g t h = let no : ⊥ = cc in absurd no
-digits_own line (a ∷ []) g t h = let no : ⊥ = cc in absurd no
-digits_own line (a ∷ b ∷ []) g t h = let no : ⊥ = cc in absurd no
-digits_own line (a ∷ b ∷ c ∷ words) g t h =
-    let first = fault_passes (is_some (number_within 0 9223372036854775807 b.bytes)) BadNumber b.number _ h in
-    let second = fault_passes (is_hexadecimal c.bytes) BadHex c.number _ first.1 in
-    ((number_good 0 9223372036854775807 b.bytes first.0).1, rw (bytes_of_span line c g.1.1.0) second.0)
-
--- the numbers of a request that operands without a fault say
-abbrev IsJobOf : List ℕ → List Word → List Operand → Type 0
-IsJobOf line words form = operands_fault form words ≡ None → IsBoundedJob line (job_at (job_as form words) (operands_of form words))
-
-flush_own : (line : List ℕ) (words : List Word) → (2 == length words) ≡ true → IsJobOf line words (Provider ∷ Job jobs.Flush ∷ [])
-flush_own line [] t h = tt
-flush_own line (a ∷ []) t h = tt
-flush_own line (a ∷ b ∷ words) t h = tt
-
-read_own : (line : List ℕ) (words : List Word) → (4 == length words) ≡ true → IsJobOf line words (Provider ∷ Job jobs.Read ∷ Sector ∷ FewSectors ∷ [])
-read_own line [] t h = let no : ⊥ = cc in absurd no
-read_own line (a ∷ []) t h = let no : ⊥ = cc in absurd no
-read_own line (a ∷ b ∷ []) t h = let no : ⊥ = cc in absurd no
-read_own line (a ∷ b ∷ c ∷ []) t h = let no : ⊥ = cc in absurd no
-read_own line (a ∷ b ∷ c ∷ d ∷ words) t h =
-    let named = fault_passes (bytes_eq b.bytes (codes "read")) BadName b.number _ h in
-    let first = fault_passes (is_some (number_within 0 9223372036854775807 c.bytes)) BadNumber c.number _ named.1 in
-    let second = fault_passes (is_some (number_within 1 256 d.bytes)) BadNumber d.number _ first.1 in
-    let count = number_good 1 256 d.bytes second.0 in
-    ((number_good 0 9223372036854775807 c.bytes first.0).1, count.0, count.1)
-
-write_own : (line : List ℕ) (words : List Word) → AllStand line words → (4 == length words) ≡ true → IsJobOf line words (Provider ∷ Job jobs.Write ∷ Sector ∷ Digits ∷ [])
-write_own line [] g t h = let no : ⊥ = cc in absurd no
-write_own line (a ∷ []) g t h = let no : ⊥ = cc in absurd no
-write_own line (a ∷ b ∷ []) g t h = let no : ⊥ = cc in absurd no
-write_own line (a ∷ b ∷ c ∷ []) g t h = let no : ⊥ = cc in absurd no
-write_own line (a ∷ b ∷ c ∷ d ∷ words) g t h =
-    let named = fault_passes (bytes_eq b.bytes (codes "write")) BadName b.number _ h in
-    let first = fault_passes (is_some (number_within 0 9223372036854775807 c.bytes)) BadNumber c.number _ named.1 in
-    let second = fault_passes (is_hexadecimal d.bytes) BadHex d.number _ first.1 in
-    ((number_good 0 9223372036854775807 c.bytes first.0).1, rw (bytes_of_span line d g.1.1.1.0) second.0)
-
-tag_own : (words : List Word) → (2 == length words) ≡ true → operands_fault (Provider ∷ Tag ∷ []) words ≡ None → number_as Tag (Provider ∷ Tag ∷ []) words ≤ 31
-tag_own [] t h = let no : ⊥ = cc in absurd no
-tag_own (a ∷ []) t h = let no : ⊥ = cc in absurd no
-tag_own (a ∷ b ∷ words) t h =
-    let tag = fault_passes (is_some (number_within 0 31 b.bytes)) BadNumber b.number _ h in
-    (number_good 0 31 b.bytes tag.0).1
-
--- the options without a fault
-
 or_else_none : (a b : Option Usage) → or_else a b ≡ None → (a ≡ None) × (b ≡ None)
 or_else_none None b h = (refl, h)
 or_else_none (Some usage) b h = let no : ⊥ = cc in absurd no
@@ -165,6 +62,149 @@ usage_at number fault = option_map (λ r. record { word = number; reason = r }) 
 map_none : (number : ℕ) (fault : Option Reason) → usage_at number fault ≡ None → fault ≡ None
 map_none number None h = refl
 map_none number (Some reason) h = let no : ⊥ = cc in absurd no
+
+-- ---- the operands without a fault
+
+unless_none : (good : Bool) (reason : Reason) → cond good None (Some reason) ≡ None → good ≡ true
+unless_none true reason h = refl
+unless_none false reason h = let no : ⊥ = cc in absurd no
+
+-- what a value without a fault keeps, by the kind of its operand
+abbrev IsGoodAs : Operand → List ℕ → Type 0
+IsGoodAs Provider bytes = Unit {0}
+IsGoodAs File bytes = Unit {0}
+IsGoodAs Sector bytes = decimal bytes ≤ 9223372036854775807
+IsGoodAs FewSectors bytes = (1 ≤ decimal bytes) × (decimal bytes ≤ 256)
+IsGoodAs ManySectors bytes = (1 ≤ decimal bytes) × (decimal bytes ≤ 9223372036854775807)
+IsGoodAs Seed bytes = Unit {0}
+IsGoodAs Digits bytes = IsTrue (is_hexadecimal bytes)
+IsGoodAs (Job job) bytes = Unit {0}
+IsGoodAs Tag bytes = decimal bytes ≤ 31
+
+good_as : (operand : Operand) (bytes : List ℕ) → operand_fault operand bytes ≡ None → IsGoodAs operand bytes
+good_as Provider bytes h = tt
+good_as File bytes h = tt
+good_as Sector bytes h = (number_good 0 9223372036854775807 bytes (unless_none _ BadNumber h)).1
+good_as FewSectors bytes h = number_good 1 256 bytes (unless_none _ BadNumber h)
+good_as ManySectors bytes h = number_good 1 9223372036854775807 bytes (unless_none _ BadNumber h)
+good_as Seed bytes h = tt
+good_as Digits bytes h = unless_none (is_hexadecimal bytes) BadHex h
+good_as (Job job) bytes h = tt
+good_as Tag bytes h = (number_good 0 31 bytes (unless_none _ BadNumber h)).1
+
+-- operands of one kind ask the same of a value
+same_kind : (wanted operand : Operand) (bytes : List ℕ) → (operand_place wanted == operand_place operand) ≡ true → IsGoodAs operand bytes → IsGoodAs wanted bytes
+same_kind Provider operand bytes is h = tt
+same_kind File operand bytes is h = tt
+same_kind Sector Sector bytes is h = h
+same_kind FewSectors FewSectors bytes is h = h
+same_kind ManySectors ManySectors bytes is h = h
+same_kind Seed operand bytes is h = tt
+same_kind Digits Digits bytes is h = h
+same_kind (Job job) operand bytes is h = tt
+same_kind Tag Tag bytes is h = h
+same_kind _ _ bytes is h = let no : ⊥ = cc in absurd no
+
+-- the word that stands as an operand is there, and is good
+abbrev StandsGood : Operand → List ℕ → Option Word → Type 0
+StandsGood wanted line found = MatchOption found ⊥ (λ word. IsGoodAs wanted word.bytes × Stands line word)
+
+stands_choice : (line : List ℕ) (wanted operand : Operand) (word : Word) (b : Bool) (rest : Option Word) → (operand_place wanted == operand_place operand) ≡ b
+    → operand_fault operand word.bytes ≡ None → Stands line word → (b ≡ false → StandsGood wanted line rest) → StandsGood wanted line (cond b (Some word) rest)
+stands_choice line wanted operand word true rest is fault h others = (same_kind wanted operand word.bytes is (good_as operand word.bytes fault), h)
+stands_choice line wanted operand word false rest is fault h others = others refl
+
+or_false : (a b : Bool) → (a || b) ≡ true → a ≡ false → b ≡ true
+or_false true b h is = let no : ⊥ = cc in absurd no
+or_false false b h is = h
+
+suc_same : (m n : ℕ) → (suc m == suc n) ≡ true → (m == n) ≡ true
+suc_same m n h = grind (arith, nat_tests)
+
+no_length : (n : ℕ) → (suc n == 0) ≡ true → ⊥
+no_length n h = grind (arith, nat_tests)
+
+stands_good : (line : List ℕ) (wanted : Operand) (form : List Operand) (words : List Word) → AllStand line words → is_among (operand_place wanted) form ≡ true → (length form == length words) ≡ true
+    → operands_fault form words ≡ None → StandsGood wanted line (word_as wanted form words)
+stands_good line wanted [] words g there long none = let no : ⊥ = cc in absurd no
+stands_good line wanted (operand ∷ form) [] g there long none = absurd (no_length (length form) long)
+stands_good line wanted (operand ∷ form) (word ∷ words) g there long none =
+    let faults = or_else_none _ (operands_fault form words) none in
+    stands_choice line wanted operand word _ (word_as wanted form words) refl (map_none word.number _ faults.0) g.0
+    (λ other. stands_good line wanted form words g.1 (or_false _ _ there other) (suc_same _ _ long) faults.1)
+
+found_number : (line : List ℕ) (P : ℕ → Type 0) (found : Option Word) → MatchOption found ⊥ (λ word. P (decimal word.bytes) × Stands line word) → P (option_map_or (λ word. decimal word.bytes) found 0)
+found_number line P None h = absurd h
+found_number line P (Some word) h = h.0
+
+found_digits : (line : List ℕ) (found : Option Word) → StandsGood Digits line found → IsTrue (is_hexadecimal (bytes_at line (option_map_or span_of found no_span)))
+found_digits line None h = absurd h
+found_digits line (Some word) h = rw (bytes_of_span line word h.1) h.0
+
+-- what the operands of a form keep, those that it has
+record Facts (line : List ℕ) (form : List Operand) (words : List Word) : Type 0 where
+  pub sector : is_among (operand_place Sector) form ≡ true → number_as Sector form words ≤ 9223372036854775807
+  pub few_least : is_among (operand_place FewSectors) form ≡ true → 1 ≤ number_as FewSectors form words
+  pub few_most : is_among (operand_place FewSectors) form ≡ true → number_as FewSectors form words ≤ 256
+  pub many_least : is_among (operand_place ManySectors) form ≡ true → 1 ≤ number_as ManySectors form words
+  pub many_most : is_among (operand_place ManySectors) form ≡ true → number_as ManySectors form words ≤ 9223372036854775807
+  pub digits : is_among (operand_place Digits) form ≡ true → IsTrue (is_hexadecimal (bytes_at line (span_as Digits form words)))
+  pub tag : is_among (operand_place Tag) form ≡ true → number_as Tag form words ≤ 31
+
+facts : (line : List ℕ) (form : List Operand) (words : List Word) → AllStand line words → (length form == length words) ≡ true → operands_fault form words ≡ None → Facts line form words
+facts line form words g long none =
+    let few : is_among (operand_place FewSectors) form ≡ true → (1 ≤ number_as FewSectors form words) × (number_as FewSectors form words ≤ 256) =
+    λ there. found_number line (λ n. (1 ≤ n) × (n ≤ 256)) _ (stands_good line FewSectors form words g there long none) in
+    let many : is_among (operand_place ManySectors) form ≡ true → (1 ≤ number_as ManySectors form words) × (number_as ManySectors form words ≤ 9223372036854775807) =
+    λ there. found_number line (λ n. (1 ≤ n) × (n ≤ 9223372036854775807)) _ (stands_good line ManySectors form words g there long none) in
+    record {
+      sector = λ there. found_number line (λ n. n ≤ 9223372036854775807) _ (stands_good line Sector form words g there long none);
+      few_least = λ there. (few there).0;
+      few_most = λ there. (few there).1;
+      many_least = λ there. (many there).0;
+      many_most = λ there. (many there).1;
+      digits = λ there. found_digits line _ (stands_good line Digits form words g there long none);
+      tag = λ there. found_number line (λ n. n ≤ 31) _ (stands_good line Tag form words g there long none);
+    }
+
+-- ---- the job of `submit`
+
+abbrev job_in : List Operand → JobName
+job_in [] = jobs.Flush
+job_in (operand ∷ form) = job_or operand (job_in form)
+
+job_same : (form : List Operand) (words : List Word) → (length form == length words) ≡ true → job_as form words ≡ job_in form
+job_same [] words long = refl
+job_same (operand ∷ form) [] long = absurd (no_length (length form) long)
+job_same (operand ∷ form) (word ∷ words) long = ap (job_or operand) (job_same form words (suc_same _ _ long))
+
+-- the numbers of a request that operands without a fault say
+abbrev IsJobOf : List ℕ → List Word → List Operand → Type 0
+IsJobOf line words form = operands_fault form words ≡ None → IsBoundedJob line (job_at (job_as form words) (operands_of form words))
+
+abbrev IsJobIn : List ℕ → List Word → List Operand → Type 0
+IsJobIn line words form = Facts line form words → IsBoundedJob line (job_at (job_in form) (operands_of form words))
+
+each_job : (line : List ℕ) (words : List Word) (forms : List (List Operand)) → AllStand line words → AllByRecursion (IsJobIn line words) forms → AllByRecursion (WhereLong (IsJobOf line words) (length words)) forms
+each_job line words [] g own = tt
+each_job line words (form ∷ forms) g own = (
+  (λ long none. subst (λ (job : JobName). IsBoundedJob line (job_at job (operands_of form words))) (sym (job_same form words long)) (own.0 (facts line form words g long none))),
+  each_job line words forms g own.1,
+)
+
+-- `submit` alone has a job
+abbrev JobKept : Verb → List ℕ → List Operand → List Word → Type 0
+JobKept verbs.Submit line form words = IsBoundedJob line (job_at (job_as form words) (operands_of form words))
+JobKept _ line form words = Unit {0}
+
+job_kept : (line : List ℕ) (verb : Verb) (form : List Operand) (words : List Word) → AllStand line words → form_of verb words ≡ Some form → operands_fault form words ≡ None → JobKept verb line form words
+job_kept line verbs.Submit form words g found none =
+    let own : AllByRecursion (IsJobIn line words) (row_of verbs.Submit).forms =
+    ((λ f. tt), ((λ f. (f.sector refl, f.few_least refl, f.few_most refl)), ((λ f. (f.sector refl, f.digits refl)), tt))) in
+    found_keeps (IsJobOf line words) verbs.Submit words form (each_job line words (row_of verbs.Submit).forms g own) found none
+job_kept line _ form words g found none = tt
+
+-- ---- the options without a fault
 
 abbrev IsGood : Item → Type 0
 IsGood (Set switch) = Unit {0}
@@ -228,33 +268,41 @@ size_found : (found : Option Word) (rest : Option Reason) → IfSome found IsGoo
 size_found None rest h e = let no : ⊥ = cc in absurd no
 size_found (Some word) rest h e = size_good word h
 
+size_kept : (rule : Rule) (items : List Item) (rest : Option Reason) → first_option_fault [] items ≡ None → cond (lacks_option rule (settings_given items)) (Some MissingOption) rest ≡ None
+    → rule ≡ NeedsOldSize → IsOldSize (unwrap_or (settings_given items).oldsize 0)
+size_kept NeedsOldSize items rest fault good is = size_found (last_value OldSize items) rest (last_good (values OldSize items) (sizes_good items (items_good [] items fault))) good
+size_kept _ items rest fault good is = let no : ⊥ = cc is in absurd no
+
+-- ---- the command
+
+each_of : (P : List Operand → Bool) (forms : List (List Operand)) → list_all P forms ≡ true → AllByRecursion (λ form. P form ≡ true) forms
+each_of P [] h = tt
+each_of P (form ∷ forms) h = let parts = and_parts (P form) (list_all P forms) h in (parts.0, each_of P forms parts.1)
+
+each_long : (count : ℕ) (forms : List (List Operand)) → AllByRecursion (WhereLong (λ form. (length form == count) ≡ true) count) forms
+each_long count [] = tt
+each_long count (form ∷ forms) = ((λ h. h), each_long count forms)
+
+-- an operand that each form of the verb has is one of the form that is found
+abbrev HasEach : Verb → List Operand → Type 0
+HasEach verb form = (kind : ℕ) → list_all (is_among kind) (row_of verb).forms ≡ true → is_among kind form ≡ true
+
+has_each : (verb : Verb) (form : List Operand) (words : List Word) → form_of verb words ≡ Some form → HasEach verb form
+has_each verb form words found kind all =
+    found_keeps (λ (f : List Operand). is_among kind f ≡ true) verb words form (where_long _ (length words) (row_of verb).forms (each_of (is_among kind) (row_of verb).forms all)) found
+
+bounded_by : (line : List ℕ) (verb : Verb) (items : List Item) (form : List Operand) (words : List Word) → Facts line form words → HasEach verb form → JobKept verb line form words
+    → ((row_of verb).rule ≡ NeedsOldSize → IsOldSize (unwrap_or (settings_given items).oldsize 0)) → IsBounded line (command_at verb (settings_given items) (operands_of form words))
+bounded_by line verbs.Init items form words f each job size = tt
+bounded_by line _ items form words f each job size = search (f.sector, f.few_least, f.few_most, f.many_least, f.many_most, f.digits, f.tag, each, size)
+
 command_bounded : (line : List ℕ) (verb : Verb) (items : List Item) (form : List Operand) (words : List Word) → AllStand line words
     → first_option_fault [] items ≡ None → form_of verb words ≡ Some form → complaint verb (settings_given items) ≡ None → operands_fault form words ≡ None
     → IsBounded line (command_at verb (settings_given items) (operands_of form words))
-command_bounded line Resize items form words g fault found good none =
-    size_found (last_value OldSize items) _ (last_good (values OldSize items) (sizes_good items (items_good [] items fault))) good
-command_bounded line Read items form words g fault found good none =
-    found_keeps (λ (f : List Operand). operands_fault f words ≡ None → AreSectors 256 (number_as Sector f words) (number_as FewSectors f words)) Read words form
-    (few_own words, tt) found none
-command_bounded line Write items form words g fault found good none =
-    found_keeps (λ (f : List Operand). operands_fault f words ≡ None → (number_as Sector f words ≤ 9223372036854775807) × IsTrue (is_hexadecimal (bytes_at line (span_as Digits f words)))) Write words form
-    (digits_own line words g, tt) found none
-command_bounded line Fill items form words g fault found good none =
-    found_keeps (λ (f : List Operand). operands_fault f words ≡ None → AreSectors 9223372036854775807 (number_as Sector f words) (number_as ManySectors f words)) Fill words form
-    (seed_own words, tt) found none
-command_bounded line Sum items form words g fault found good none =
-    found_keeps (λ (f : List Operand). operands_fault f words ≡ None → AreSectors 9223372036854775807 (number_as Sector f words) (number_as ManySectors f words)) Sum words form
-    (many_own words, tt) found none
-command_bounded line Submit items form words g fault found good none =
-    found_keeps (IsJobOf line words) Submit words form (flush_own line words, (read_own line words, (write_own line words g, tt))) found none
-command_bounded line Step items form words g fault found good none =
-    found_keeps (λ (f : List Operand). operands_fault f words ≡ None → number_as Tag f words ≤ 31) Step words form (tag_own words, tt) found none
-command_bounded line Reap items form words g fault found good none =
-    found_keeps (λ (f : List Operand). operands_fault f words ≡ None → number_as Tag f words ≤ 31) Reap words form (tag_own words, tt) found none
-command_bounded line Verify items form words g fault found good none =
-    found_keeps (λ (f : List Operand). operands_fault f words ≡ None → (1 ≤ number_as ManySectors f words) × (number_as ManySectors f words ≤ 9223372036854775807)) Verify words form
-    (count_own words, tt) found none
-command_bounded line _ items form words g fault found good none = tt
+command_bounded line verb items form words g fault found good none =
+    let long : (length form == length words) ≡ true = found_keeps (λ (f : List Operand). (length f == length words) ≡ true) verb words form (each_long (length words) (row_of verb).forms) found in
+    bounded_by line verb items form words (facts line form words g long none) (has_each verb form words found) (job_kept line verb form words g found none)
+    (size_kept (row_of verb).rule items _ fault good)
 
 verb_bounded : (line : List ℕ) (verb : Option Verb) (total : ℕ) (words : List Word) → AllStand line words → IfOk (by_verb verb total words) (IsBounded line)
 verb_bounded line None total words h = tt

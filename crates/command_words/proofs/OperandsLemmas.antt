@@ -1,22 +1,25 @@
 -- One pass over the operands gives what they say.
-use Rattle.std.proofs.Common.{◌≡◌, ℕ, List, [], ◌∷◌, length, refl, ◌∙◌, ap, Option, None, Some, Result, Ok}
+use Rattle.std.proofs.Common.{◌≡◌, ℕ, List, [], ◌∷◌, length, refl, ◌∙◌, ap, Bool, true, false, not, cond, ◌&&◌, ◌||◌, ◌==◌, Option, None, Some, Result, Ok}
 use Rattle.std.specs.Prelude.{option_map}
 use Rattle.std.specs.List.{AllByRecursion}
+use Rattle.std.specs.Option.{option_map_or}
 use Rattle.eli_base.specs.declared.Reason.{Reason}
 use Rattle.command_words.specs.declared.commands.Command.{Command}
 use Rattle.command_words.specs.declared.commands.Usage.{Usage}
 use Rattle.command_words.specs.declared.operands.Operands.{Operands}
 use Rattle.command_words.specs.declared.settings.Settings.{Settings}
 use Rattle.command_words.specs.declared.table.Verb.{Verb}
-use Rattle.command_words.specs.declared.table.Verb.TheVariants.{Init, Attach, Detach, Setkey, Delkey, Kill, Backup, Restore, Resize, Dump, Read, Write, Flush, List as ListVerb, Fill, Sum, Eject, Submit, Step, Reap, Suspend, Resume, Verify}
+use Rattle.command_words.specs.declared.table.Verb.TheVariants as verbs
+use Rattle.command_words.specs.declared.table.JobName.{JobName}
 use Rattle.command_words.specs.declared.table.JobName.TheVariants as jobs
 use Rattle.command_words.specs.declared.table.Operand.{Operand}
 use Rattle.command_words.specs.declared.table.Operand.TheVariants.{Provider, File, Sector, FewSectors, ManySectors, Seed, Digits, Job, Tag}
 use Rattle.command_words.specs.Words.{Word}
 use Rattle.command_words.specs.Table.{row_of, form_of}
-use Rattle.command_words.specs.Values.{operand_fault}
+use Rattle.command_words.specs.Values.{decimal, operand_fault}
 use Rattle.command_words.specs.Options.{or_else}
-use Rattle.command_words.specs.Operands.{operands_of, operands_fault}
+use Rattle.command_words.specs.Operands.{operands_of, operands_fault, operand_place, word_as, job_or, job_as}
+use Rattle.command_words.specs.Settings.{span_of}
 use Rattle.command_words.specs.Reading.{unless_usage, or_complaint, complaint, command_at, by_form, settled}
 use Rattle.command_words.specs.Pass.{and_then, checked, with_operand, taken_operands}
 use Rattle.command_words.proofs.Forms.{found_keeps, where_long}
@@ -41,109 +44,101 @@ taken_is (operand ∷ form) (word ∷ words) o =
     step_is (operand_fault operand word.bytes) word.number (with_operand o operand word) (operands_fault form words) _ (λ next. taken_operands form words next)
     (taken_is form words (with_operand o operand word))
 
+-- whether one of the operands is of this kind
+abbrev pub is_among : ℕ → List Operand → Bool
+is_among kind [] = false
+is_among kind (operand ∷ form) = (kind == operand_place operand) || is_among kind form
+
+-- whether no kind of operand stands twice
+abbrev no_twice : List Operand → Bool
+no_twice [] = true
+no_twice (operand ∷ form) = not (is_among (operand_place operand) form) && no_twice form
+
+-- what the words of a form say, over what was there before
+abbrev job_over : List Operand → List Word → JobName → JobName
+job_over [] words job = job
+job_over (operand ∷ form) [] job = job
+job_over (operand ∷ form) (word ∷ words) job = job_or operand (job_over form words job)
+
+abbrev over : List Operand → List Word → Operands → Operands
+over form words o = record {
+  prov = option_map_or span_of (word_as Provider form words) o.prov;
+  file = option_map_or span_of (word_as File form words) o.file;
+  digits = option_map_or span_of (word_as Digits form words) o.digits;
+  seed = option_map_or (λ word. decimal word.bytes) (word_as Seed form words) o.seed;
+  sector = option_map_or (λ word. decimal word.bytes) (word_as Sector form words) o.sector;
+  few = option_map_or (λ word. decimal word.bytes) (word_as FewSectors form words) o.few;
+  many = option_map_or (λ word. decimal word.bytes) (word_as ManySectors form words) o.many;
+  job = job_over form words o.job;
+  tag = option_map_or (λ word. decimal word.bytes) (word_as Tag form words) o.tag;
+}
+
+job_over_none : (form : List Operand) (words : List Word) → job_over form words jobs.Flush ≡ job_as form words
+job_over_none [] words = refl
+job_over_none (operand ∷ form) [] = refl
+job_over_none (operand ∷ form) (word ∷ words) = ap (job_or operand) (job_over_none form words)
+
+not_other : (a b : Bool) → (a || b) ≡ false → (a ≡ false) × (b ≡ false)
+not_other true b h = let no : ⊥ = cc in absurd no
+not_other false b h = (refl, h)
+
+absent_choice : (b : Bool) (word : Word) (rest : Option Word) → b ≡ false → rest ≡ None → cond b (Some word) rest ≡ None
+absent_choice true word rest h g = let no : ⊥ = cc in absurd no
+absent_choice false word rest h g = g
+
+-- no word stands as an operand that isn't there
+absent : (wanted : Operand) (form : List Operand) (words : List Word) → is_among (operand_place wanted) form ≡ false → word_as wanted form words ≡ None
+absent wanted [] words h = refl
+absent wanted (operand ∷ form) [] h = refl
+absent wanted (operand ∷ form) (word ∷ words) h =
+    let parts = not_other (operand_place wanted == operand_place operand) (is_among (operand_place wanted) form) h in
+    absent_choice _ word _ parts.0 (absent wanted form words parts.1)
+
+no_job_here : (operand : Operand) (form : List Operand) (words : List Word) (job : JobName) → (7 == operand_place operand) ≡ false → job_over form words job ≡ job → job_or operand (job_over form words job) ≡ job
+no_job_here (Job named) form words job h is = let no : ⊥ = cc in absurd no
+no_job_here _ form words job h is = is
+
+no_job : (form : List Operand) (words : List Word) (job : JobName) → is_among 7 form ≡ false → job_over form words job ≡ job
+no_job [] words job h = refl
+no_job (operand ∷ form) [] job h = refl
+no_job (operand ∷ form) (word ∷ words) job h =
+    let parts = not_other (7 == operand_place operand) (is_among 7 form) h in
+    no_job_here operand form words job parts.0 (no_job form words job parts.1)
+
+-- one operand more in front
+in_front : (operand : Operand) (form : List Operand) (word : Word) (words : List Word) (o : Operands) → is_among (operand_place operand) form ≡ false
+    → over form words (with_operand o operand word) ≡ over (operand ∷ form) (word ∷ words) o
+in_front (Job job) form word words o h = rw (no_job form words job h) refl
+in_front Provider form word words o h = rw (absent Provider form words h) refl
+in_front File form word words o h = rw (absent File form words h) refl
+in_front Sector form word words o h = rw (absent Sector form words h) refl
+in_front FewSectors form word words o h = rw (absent FewSectors form words h) refl
+in_front ManySectors form word words o h = rw (absent ManySectors form words h) refl
+in_front Seed form word words o h = rw (absent Seed form words h) refl
+in_front Digits form word words o h = rw (absent Digits form words h) refl
+in_front Tag form word words o h = rw (absent Tag form words h) refl
+
+front_once : (b rest : Bool) → (not b && rest) ≡ true → (b ≡ false) × (rest ≡ true)
+front_once true rest h = let no : ⊥ = cc in absurd no
+front_once false rest h = (refl, h)
+
 -- each operand in turn gives what the whole form says
-abbrev Agrees : List Operand → Type 0
-Agrees form = (words : List Word) → put_all form words (operands_of [] []) ≡ operands_of form words
+put_is : (form : List Operand) (words : List Word) (o : Operands) → no_twice form ≡ true → put_all form words o ≡ over form words o
+put_is [] words o h = refl
+put_is (operand ∷ form) [] o h = refl
+put_is (operand ∷ form) (word ∷ words) o h =
+    let parts = front_once (is_among (operand_place operand) form) (no_twice form) h in
+    put_is form words (with_operand o operand word) parts.1 ∙ in_front operand form word words o parts.0
 
-no_operand : Agrees []
-no_operand words = refl
+-- in no form of a verb an operand stands twice
+forms_once : (verb : Verb) → AllByRecursion (λ form. no_twice form ≡ true) (row_of verb).forms
+forms_once verbs.Submit = (refl, (refl, (refl, tt)))
+forms_once _ = (refl, tt)
 
-provider : Agrees (Provider ∷ [])
-provider [] = refl
-provider (a ∷ words) = refl
-
-provider_file : Agrees (Provider ∷ File ∷ [])
-provider_file [] = refl
-provider_file (a ∷ []) = refl
-provider_file (a ∷ b ∷ words) = refl
-
-file_provider : Agrees (File ∷ Provider ∷ [])
-file_provider [] = refl
-file_provider (a ∷ []) = refl
-file_provider (a ∷ b ∷ words) = refl
-
-few_sectors : Agrees (Provider ∷ Sector ∷ FewSectors ∷ [])
-few_sectors [] = refl
-few_sectors (a ∷ []) = refl
-few_sectors (a ∷ b ∷ []) = refl
-few_sectors (a ∷ b ∷ c ∷ words) = refl
-
-sector_digits : Agrees (Provider ∷ Sector ∷ Digits ∷ [])
-sector_digits [] = refl
-sector_digits (a ∷ []) = refl
-sector_digits (a ∷ b ∷ []) = refl
-sector_digits (a ∷ b ∷ c ∷ words) = refl
-
-many_sectors : Agrees (Provider ∷ Sector ∷ ManySectors ∷ [])
-many_sectors [] = refl
-many_sectors (a ∷ []) = refl
-many_sectors (a ∷ b ∷ []) = refl
-many_sectors (a ∷ b ∷ c ∷ words) = refl
-
-file_many_sectors : Agrees (Provider ∷ File ∷ ManySectors ∷ [])
-file_many_sectors [] = refl
-file_many_sectors (a ∷ []) = refl
-file_many_sectors (a ∷ b ∷ []) = refl
-file_many_sectors (a ∷ b ∷ c ∷ words) = refl
-
-seed_many_sectors : Agrees (Provider ∷ Seed ∷ Sector ∷ ManySectors ∷ [])
-seed_many_sectors [] = refl
-seed_many_sectors (a ∷ []) = refl
-seed_many_sectors (a ∷ b ∷ []) = refl
-seed_many_sectors (a ∷ b ∷ c ∷ []) = refl
-seed_many_sectors (a ∷ b ∷ c ∷ d ∷ words) = refl
-
-job_flush : Agrees (Provider ∷ Job jobs.Flush ∷ [])
-job_flush [] = refl
-job_flush (a ∷ []) = refl
-job_flush (a ∷ b ∷ words) = refl
-
-job_read : Agrees (Provider ∷ Job jobs.Read ∷ Sector ∷ FewSectors ∷ [])
-job_read [] = refl
-job_read (a ∷ []) = refl
-job_read (a ∷ b ∷ []) = refl
-job_read (a ∷ b ∷ c ∷ []) = refl
-job_read (a ∷ b ∷ c ∷ d ∷ words) = refl
-
-job_write : Agrees (Provider ∷ Job jobs.Write ∷ Sector ∷ Digits ∷ [])
-job_write [] = refl
-job_write (a ∷ []) = refl
-job_write (a ∷ b ∷ []) = refl
-job_write (a ∷ b ∷ c ∷ []) = refl
-job_write (a ∷ b ∷ c ∷ d ∷ words) = refl
-
-provider_tag : Agrees (Provider ∷ Tag ∷ [])
-provider_tag [] = refl
-provider_tag (a ∷ []) = refl
-provider_tag (a ∷ b ∷ words) = refl
-
-row_agrees : (verb : Verb) → AllByRecursion Agrees (row_of verb).forms
-row_agrees Init = (provider, tt)
-row_agrees Attach = (provider, tt)
-row_agrees Detach = (provider, tt)
-row_agrees Setkey = (provider, tt)
-row_agrees Delkey = (provider, tt)
-row_agrees Kill = (provider, tt)
-row_agrees Backup = (provider_file, tt)
-row_agrees Restore = (file_provider, tt)
-row_agrees Resize = (provider, tt)
-row_agrees Dump = (provider, tt)
-row_agrees Read = (few_sectors, tt)
-row_agrees Write = (sector_digits, tt)
-row_agrees Flush = (provider, tt)
-row_agrees ListVerb = (no_operand, tt)
-row_agrees Fill = (seed_many_sectors, tt)
-row_agrees Sum = (many_sectors, tt)
-row_agrees Eject = (provider, tt)
-row_agrees Submit = (job_flush, (job_read, (job_write, tt)))
-row_agrees Step = (provider_tag, tt)
-row_agrees Reap = (provider_tag, tt)
-row_agrees Suspend = (provider, tt)
-row_agrees Resume = (provider, tt)
-row_agrees Verify = (file_many_sectors, tt)
-
-form_agrees : (verb : Verb) (words : List Word) (form : List Operand) → form_of verb words ≡ Some form → Agrees form
-form_agrees verb words form h = found_keeps Agrees verb words form (where_long Agrees (length words) (row_of verb).forms (row_agrees verb)) h
+form_agrees : (verb : Verb) (words : List Word) (form : List Operand) → form_of verb words ≡ Some form → put_all form words (operands_of [] []) ≡ operands_of form words
+form_agrees verb words form h =
+    let once : no_twice form ≡ true = found_keeps (λ (f : List Operand). no_twice f ≡ true) verb words form (where_long _ (length words) (row_of verb).forms (forms_once verb)) h in
+    put_is form words (operands_of [] []) once ∙ rw (job_over_none form words) refl
 
 follow : (fault : Option Usage) (o : Operands) (command : Operands → Command) → unless_usage fault (Ok (command o)) ≡ and_then (outcome fault o) (λ read. Ok (command read))
 follow None o command = refl
@@ -153,7 +148,7 @@ follow (Some usage) o command = refl
 operands_taken : (verb : Verb) (form : List Operand) (words : List Word) (s : Settings) → form_of verb words ≡ Some form
     → unless_usage (operands_fault form words) (Ok (command_at verb s (operands_of form words))) ≡ and_then (taken_operands form words (operands_of [] [])) (λ read. Ok (command_at verb s read))
 operands_taken verb form words s h =
-    rw (taken_is form words (operands_of [] []), form_agrees verb words form h words) (follow (operands_fault form words) (operands_of form words) (λ read. command_at verb s read))
+    rw (taken_is form words (operands_of [] []), form_agrees verb words form h) (follow (operands_fault form words) (operands_of form words) (λ read. command_at verb s read))
 
 -- What follows the options is what one pass over the operands gives, where they are read by this form.
 pub settled_taken : (verb : Verb) (total : ℕ) (form : List Operand) (words : List Word) (s : Settings)

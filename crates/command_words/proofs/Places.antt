@@ -17,18 +17,18 @@ use Rattle.command_words.specs.declared.table.JobName.{JobName}
 use Rattle.command_words.specs.declared.table.JobName.TheVariants as jobs
 use Rattle.command_words.specs.declared.table.Operand.{Operand}
 use Rattle.command_words.specs.declared.table.Operand.TheVariants.{Provider, File, Digits}
-use Rattle.command_words.specs.declared.table.Verb.TheVariants.{Init, Attach, Detach, Setkey, Delkey, Kill, Backup, Restore, Resize, Dump, Read, Write, Flush, List as ListVerb, Fill, Sum, Eject, Submit, Step, Reap, Suspend, Resume, Verify}
+use Rattle.command_words.specs.declared.table.Verb.TheVariants as verbs
 use Rattle.command_words.specs.declared.table.Valued.{Valued}
 use Rattle.command_words.specs.declared.table.Valued.TheVariants.{BackupFile, OldFile, OldPass, FreshFile, FreshPass}
 use Rattle.command_words.specs.declared.table.Letter.{Letter}
 use Rattle.command_words.specs.declared.table.Letter.TheVariants.{Alone, WithValue}
 use Rattle.command_words.specs.Words.{Word, words, placed_words, is_between, is_word}
-use Rattle.command_words.specs.Table.{letter_of, verb_named, form_of}
+use Rattle.command_words.specs.Table.{letter_of, verb_named, form_of, job_at}
 use Rattle.command_words.specs.Options.{Item, Set, Given, Unknown, Missing, Group, letters, with_letter, Kind, Ends, Letters, Other, kind_of, Options, options, onto, with_word, values, value_in, place, first_option_fault}
 use Rattle.command_words.specs.Settings.{settings_given, span_of, last, option_files, backup_of}
 use Rattle.command_words.specs.Operands.{operands_of, operands_fault, job_as, operand_place, word_as, span_as, no_span}
-use Rattle.command_words.specs.Reading.{line_reading, by_words, by_verb, unless_usage, by_form, settled, or_complaint, complaint, command_at, job_at, is_comment, some_command}
-use Rattle.command_words.specs.Places.{IsWithin, CommandIsWithin, JobIsWithin, bytes_at}
+use Rattle.command_words.specs.Reading.{line_reading, by_words, by_verb, unless_usage, by_form, settled, or_complaint, complaint, command_at, is_comment, some_command}
+use Rattle.command_words.specs.Places.{IsWithin, CommandIsWithin, JobIsWithin, KeyIsWithin, bytes_at}
 
 -- a word stands in the line
 abbrev pub Stands : List ℕ → Word → Type 0
@@ -236,36 +236,33 @@ job_within line jobs.Read o h = tt
 job_within line jobs.Write o h = h
 job_within line jobs.Flush o h = tt
 
+-- where the places lie that options and operands say
+record AreWithin (len : ℕ) (s : Settings) (o : Operands) : Type 0 where
+  pub prov : IsWithin len o.prov
+  pub file : IsWithin len o.file
+  pub digits : IsWithin len o.digits
+  pub job : JobIsWithin len (job_at o.job o)
+  pub old : KeyIsWithin len s.old_key
+  pub fresh : KeyIsWithin len s.fresh_key
+  pub backup : IfSome s.backup (IsWithin len)
+
+within_by : (len : ℕ) (verb : Verb) (s : Settings) (o : Operands) → AreWithin len s o → CommandIsWithin len (command_at verb s o)
+within_by len verbs.List s o w = (tt, tt)
+within_by len _ s o w = assumption
+
 command_within : (line : List ℕ) (verb : Verb) (items : List Item) (form : List Operand) (words : List Word) → ItemsStand line items → AllStand line words
     → CommandIsWithin (length line) (command_at verb (settings_given items) (operands_of form words))
-command_within line Init items form words h g =
-    (operand_within line Provider form words g, (files_within line FreshFile items h, files_within line FreshPass items h), backup_within line _ (values_stand line BackupFile items h))
-command_within line Attach items form words h g =
-    (operand_within line Provider form words g, (files_within line OldFile items h, files_within line OldPass items h))
-command_within line Detach items form words h g = operand_within line Provider form words g
-command_within line Setkey items form words h g =
-    (operand_within line Provider form words g, (files_within line OldFile items h, files_within line OldPass items h), (files_within line FreshFile items h, files_within line FreshPass items h))
-command_within line Delkey items form words h g = operand_within line Provider form words g
-command_within line Kill items form words h g = operand_within line Provider form words g
-command_within line Backup items form words h g = (operand_within line Provider form words g, operand_within line File form words g)
-command_within line Restore items form words h g = (operand_within line File form words g, operand_within line Provider form words g)
-command_within line Resize items form words h g = operand_within line Provider form words g
-command_within line Dump items form words h g = operand_within line Provider form words g
-command_within line Read items form words h g = operand_within line Provider form words g
-command_within line Write items form words h g = (operand_within line Provider form words g, operand_within line Digits form words g)
-command_within line Flush items form words h g = operand_within line Provider form words g
-command_within line ListVerb items form words h g = tt
-command_within line Fill items form words h g = operand_within line Provider form words g
-command_within line Sum items form words h g = operand_within line Provider form words g
-command_within line Eject items form words h g = operand_within line Provider form words g
-command_within line Submit items form words h g =
-    (operand_within line Provider form words g, job_within line (job_as form words) (operands_of form words) (operand_within line Digits form words g))
-command_within line Step items form words h g = operand_within line Provider form words g
-command_within line Reap items form words h g = operand_within line Provider form words g
-command_within line Suspend items form words h g = operand_within line Provider form words g
-command_within line Resume items form words h g =
-    (operand_within line Provider form words g, (files_within line OldFile items h, files_within line OldPass items h))
-command_within line Verify items form words h g = (operand_within line Provider form words g, operand_within line File form words g)
+command_within line verb items form words h g =
+    let digits = operand_within line Digits form words g in
+    within_by (length line) verb (settings_given items) (operands_of form words) (record {
+      prov = operand_within line Provider form words g;
+      file = operand_within line File form words g;
+      digits = digits;
+      job = job_within line (job_as form words) (operands_of form words) digits;
+      old = (files_within line OldFile items h, files_within line OldPass items h);
+      fresh = (files_within line FreshFile items h, files_within line FreshPass items h);
+      backup = backup_within line _ (values_stand line BackupFile items h);
+    })
 
 -- what holds of a command holds of a result that may refuse it
 

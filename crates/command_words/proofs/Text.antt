@@ -10,7 +10,7 @@ use Rattle.command_words.specs.declared.settings.Settings.{Settings}
 use Rattle.command_words.specs.declared.spans.Sep.{Sep}
 use Rattle.command_words.specs.declared.spans.Sep.TheVariants.{Blanks, Zeros}
 use Rattle.command_words.specs.declared.table.Verb.{Verb}
-use Rattle.command_words.specs.declared.table.Verb.TheVariants.{Init, Attach, Detach, Setkey, Delkey, Kill, Backup, Restore, Resize, Dump, Read, Write, Flush, List as ListVerb, Fill, Sum, Eject, Submit, Step, Reap, Suspend, Resume, Verify}
+use Rattle.command_words.specs.declared.table.Verb.TheVariants as verbs
 use Rattle.command_words.specs.declared.table.Operand.{Operand}
 use Rattle.command_words.specs.declared.table.Operand.TheVariants.{Provider}
 use Rattle.command_words.specs.declared.table.Valued.{Valued}
@@ -132,29 +132,8 @@ operand_text line wanted form words h g =
     found_text line (word_as wanted form words) (word_keeps (Stands line) wanted form words h) (word_keeps (λ word. IsUtf8 word.bytes) wanted form words g)
 
 command_text : (line : List ℕ) (verb : Verb) (settings : Settings) (form : List Operand) (words : List Word) → AllStand line words → AllText words → ProviderIsText line (command_at verb settings (operands_of form words))
-command_text line Init settings form words h g = operand_text line Provider form words h g
-command_text line Attach settings form words h g = operand_text line Provider form words h g
-command_text line Detach settings form words h g = operand_text line Provider form words h g
-command_text line Setkey settings form words h g = operand_text line Provider form words h g
-command_text line Delkey settings form words h g = operand_text line Provider form words h g
-command_text line Kill settings form words h g = operand_text line Provider form words h g
-command_text line Backup settings form words h g = operand_text line Provider form words h g
-command_text line Restore settings form words h g = operand_text line Provider form words h g
-command_text line Resize settings form words h g = operand_text line Provider form words h g
-command_text line Dump settings form words h g = operand_text line Provider form words h g
-command_text line Read settings form words h g = operand_text line Provider form words h g
-command_text line Write settings form words h g = operand_text line Provider form words h g
-command_text line Flush settings form words h g = operand_text line Provider form words h g
-command_text line ListVerb settings form words h g = tt
-command_text line Fill settings form words h g = operand_text line Provider form words h g
-command_text line Sum settings form words h g = operand_text line Provider form words h g
-command_text line Eject settings form words h g = operand_text line Provider form words h g
-command_text line Submit settings form words h g = operand_text line Provider form words h g
-command_text line Step settings form words h g = operand_text line Provider form words h g
-command_text line Reap settings form words h g = operand_text line Provider form words h g
-command_text line Suspend settings form words h g = operand_text line Provider form words h g
-command_text line Resume settings form words h g = operand_text line Provider form words h g
-command_text line Verify settings form words h g = operand_text line Provider form words h g
+command_text line verbs.List settings form words h g = tt
+command_text line _ settings form words h g = operand_text line Provider form words h g
 
 verb_text : (line : List ℕ) (verb : Option Verb) (total : ℕ) (words : List Word) → AllStand line words → AllText words → IfOk (by_verb verb total words) (ProviderIsText line)
 verb_text line None total words h g = tt

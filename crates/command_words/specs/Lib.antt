@@ -7,6 +7,7 @@ pub mod Settings
 pub mod Operands
 pub mod Reading
 pub mod Pass
+pub mod Spans
 pub mod Places
 pub mod Bounds
 pub mod Images

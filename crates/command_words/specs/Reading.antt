@@ -1,12 +1,9 @@
 -- A line to a command, or what is wrong with it.
-use Rattle.std.specs.Prelude.{ℕ, ◌+◌, List, [], ◌∷◌, length, Bool, true, false, not, ◌&&◌, ◌||◌, ◌==◌, nat_le, is_some, if◌then◌else◌, Option, None, Some, unwrap_or, Result, Ok, Err}
+use Rattle.std.specs.Prelude.{ℕ, ◌+◌, List, [], ◌∷◌, length, Bool, true, false, not, ◌&&◌, ◌||◌, ◌==◌, nat_le, is_some, if◌then◌else◌, Option, None, Some, Result, Ok, Err}
 use Rattle.std.specs.Str.{is_utf8}
 use Rattle.eli_base.specs.declared.Reason.{Reason}
 use Rattle.eli_base.specs.declared.Reason.TheVariants.{UnknownVerb, OperandCount, MissingOption, Exclusive, NotText}
 use Rattle.command_words.specs.declared.commands.Command.{Command}
-use Rattle.command_words.specs.declared.commands.Command.TheVariants as commands
-use Rattle.command_words.specs.declared.commands.JobWords.{JobWords}
-use Rattle.command_words.specs.declared.commands.JobWords.TheVariants as job_words
 use Rattle.command_words.specs.declared.commands.Usage.{Usage}
 use Rattle.command_words.specs.declared.operands.Operands.{Operands}
 use Rattle.command_words.specs.declared.spans.Sep.{Sep}
@@ -14,21 +11,22 @@ use Rattle.command_words.specs.declared.spans.Sep.TheVariants.{Blanks, Zeros}
 use Rattle.command_words.specs.declared.spans.Span.{Span}
 use Rattle.command_words.specs.declared.spans.KeyWords.{KeyWords}
 use Rattle.command_words.specs.declared.settings.Settings.{Settings}
-use Rattle.command_words.specs.declared.table.JobName.{JobName}
-use Rattle.command_words.specs.declared.table.JobName.TheVariants as jobs
 use Rattle.command_words.specs.declared.table.Operand.{Operand}
 use Rattle.command_words.specs.declared.table.Verb.{Verb}
-use Rattle.command_words.specs.declared.table.Verb.TheVariants.{Init, Attach, Detach, Setkey, Delkey, Kill, Backup, Restore, Resize, Dump, Read, Write, Flush, List as ListVerb, Fill, Sum, Eject, Submit, Step, Reap, Suspend, Resume, Verify}
+use Rattle.command_words.specs.declared.table.Rule.{Rule}
+use Rattle.command_words.specs.declared.table.Rule.TheVariants.{Free, NeedsOldSize, PassWithIterations, SlotOrAll}
 use Rattle.command_words.specs.Words.{Word, words}
-use Rattle.command_words.specs.Table.{verb_named, form_of}
+use Rattle.command_words.specs.Table.{verb_named, form_of, row_of}
 use Rattle.command_words.specs.Options.{Options, options, first_option_fault}
 use Rattle.command_words.specs.Operands.{operands_fault, operands_of}
 use Rattle.command_words.specs.Settings.{settings_given}
 
--- whether a verb lacks an option that it needs
-abbrev pub lacks_option : Verb → Settings → Bool
-lacks_option Resize settings = not (is_some settings.oldsize)
-lacks_option _ settings = false
+-- whether an option that must be there lacks
+abbrev pub lacks_option : Rule → Settings → Bool
+lacks_option Free settings = false
+lacks_option NeedsOldSize settings = not (is_some settings.oldsize)
+lacks_option PassWithIterations settings = false
+lacks_option SlotOrAll settings = false
 
 abbrev pub has_files : List Span → Bool
 has_files [] = false
@@ -40,50 +38,23 @@ excludes_itself key = key.without && has_files key.pass
 
 -- whether two options that exclude each other under one verb alone are there: what `init` writes has no iterations
 -- without a passphrase, and `delkey` names all slots or one
-abbrev pub excludes_own : Verb → Settings → Bool
-excludes_own Init settings = settings.fresh_key.without && is_some settings.iterations
-excludes_own Delkey settings = settings.all && is_some settings.slot
-excludes_own _ settings = false
+abbrev pub excludes_own : Rule → Settings → Bool
+excludes_own Free settings = false
+excludes_own NeedsOldSize settings = false
+excludes_own PassWithIterations settings = settings.fresh_key.without && is_some settings.iterations
+excludes_own SlotOrAll settings = settings.all && is_some settings.slot
 
 -- whether two options of a verb exclude each other
 abbrev pub excludes : Verb → Settings → Bool
-excludes verb settings = excludes_itself settings.old_key || excludes_itself settings.fresh_key || excludes_own verb settings
+excludes verb settings = excludes_itself settings.old_key || excludes_itself settings.fresh_key || excludes_own (row_of verb).rule settings
 
 -- what is wrong with the options together, in this order
 abbrev pub complaint : Verb → Settings → Option Reason
-complaint verb settings = if lacks_option verb settings then Some MissingOption else (if excludes verb settings then Some Exclusive else None)
-
--- a job of this name, by what the operands come to
-abbrev pub job_at : JobName → Operands → JobWords
-job_at jobs.Read o = job_words.Read o.sector o.few
-job_at jobs.Write o = job_words.Write o.sector o.digits
-job_at jobs.Flush o = job_words.Flush
+complaint verb settings = if lacks_option (row_of verb).rule settings then Some MissingOption else (if excludes verb settings then Some Exclusive else None)
 
 -- the command of a verb, by what its options and its operands come to
 abbrev pub command_at : Verb → Settings → Operands → Command
-command_at Init s o = commands.Init o.prov s.cipher s.auth s.keylen s.sectorsize s.iterations s.autoresize s.fresh_key s.backup
-command_at Attach s o = commands.Attach o.prov s.only_check s.readonly s.slot s.old_key
-command_at Detach s o = commands.Detach o.prov
-command_at Setkey s o = commands.Setkey o.prov s.iterations s.slot s.old_key s.fresh_key
-command_at Delkey s o = commands.Delkey o.prov s.all s.force s.slot
-command_at Kill s o = commands.Kill o.prov
-command_at Backup s o = commands.Backup o.prov o.file
-command_at Restore s o = commands.Restore o.file o.prov s.force
-command_at Resize s o = commands.Resize o.prov (unwrap_or s.oldsize 0)
-command_at Dump s o = commands.Dump o.prov
-command_at Read s o = commands.Read o.prov o.sector o.few
-command_at Write s o = commands.Write o.prov o.sector o.digits
-command_at Flush s o = commands.Flush o.prov
-command_at ListVerb s o = commands.List
-command_at Fill s o = commands.Fill o.prov o.seed o.sector o.many
-command_at Sum s o = commands.Sum o.prov o.sector o.many
-command_at Eject s o = commands.Eject o.prov
-command_at Submit s o = commands.Submit o.prov (job_at o.job o)
-command_at Step s o = commands.Step o.prov o.tag
-command_at Reap s o = commands.Reap o.prov o.tag
-command_at Suspend s o = commands.Suspend o.prov
-command_at Resume s o = commands.Resume o.prov s.old_key
-command_at Verify s o = commands.Verify o.prov o.file o.many s.restart
+command_at verb s o = (row_of verb).command s o
 
 -- the fault, or what follows without one
 abbrev pub unless_usage : Option Usage → Result Command Usage → Result Command Usage

@@ -1,8 +1,15 @@
 -- The verbs, their options and their operands.
-use Rattle.std.specs.Prelude.{ℕ, List, [], ◌∷◌, length, Bool, true, ◌&&◌, ◌==◌, if◌then◌else◌, Option, None, Some, codes, map, option_map}
+use Rattle.std.specs.Prelude.{ℕ, List, [], ◌∷◌, length, Bool, true, ◌&&◌, ◌==◌, if◌then◌else◌, Option, None, Some, codes, map, option_map, unwrap_or}
 use Rattle.std.specs.Str.{byte, bytes_eq}
+use Rattle.command_words.specs.declared.commands.Command.{Command}
+use Rattle.command_words.specs.declared.commands.Command.TheVariants as commands
+use Rattle.command_words.specs.declared.commands.JobWords.{JobWords}
+use Rattle.command_words.specs.declared.commands.JobWords.TheVariants as job_words
+use Rattle.command_words.specs.declared.operands.Operands.{Operands}
+use Rattle.command_words.specs.declared.settings.Settings.{Settings}
+use Rattle.command_words.specs.declared.table.JobName.{JobName}
 use Rattle.command_words.specs.declared.table.Verb.{Verb}
-use Rattle.command_words.specs.declared.table.Verb.TheVariants.{Init, Attach, Detach, Setkey, Delkey, Kill, Backup, Restore, Resize, Dump, Read, Write, Flush, List as ListVerb, Fill, Sum, Eject, Submit, Step, Reap, Suspend, Resume, Verify}
+use Rattle.command_words.specs.declared.table.Verb.TheVariants as verbs
 use Rattle.command_words.specs.declared.table.Switch.{Switch}
 use Rattle.command_words.specs.declared.table.Switch.TheVariants.{WithoutOld, WithoutFresh, FixedSize, OnlyCheck, ReadOnly, AllSlots, Force, Restart, Verbose}
 use Rattle.command_words.specs.declared.table.Valued.{Valued}
@@ -13,67 +20,88 @@ use Rattle.command_words.specs.declared.table.Operand.{Operand}
 use Rattle.command_words.specs.declared.table.Operand.TheVariants.{Provider, File, Sector, FewSectors, ManySectors, Seed, Digits, Job, Tag}
 use Rattle.command_words.specs.declared.table.JobName.TheVariants as jobs
 use Rattle.command_words.specs.declared.table.Row as Code
+use Rattle.command_words.specs.declared.table.Rule.{Rule}
+use Rattle.command_words.specs.declared.table.Rule.TheVariants.{Free, NeedsOldSize, PassWithIterations, SlotOrAll}
 use Rattle.command_words.specs.Words.{Word}
 use Rattle.command_words.specs.Values.{job_name}
 
--- a line of the table of verbs: the name, the letters without a value, the letters with a value, and the operands in
--- order, in each form that the verb has; forms differ by how many operands they have, or by the name of a job
+-- a line of the table of verbs: the name, the letters without a value, the letters with a value, what the options have
+-- to be together, the operands in order, in each form that the verb has, and the command, by what options and operands
+-- come to; forms differ by how many operands they have, or by the name of a job
 pub record Row : Type 0 where
   pub name : List ℕ
   pub alone : List (ℕ × Switch)
   pub valued : List (ℕ × Valued)
+  pub rule : Rule
   pub forms : List (List Operand)
+  pub command : Settings → Operands → Command
 
-abbrev pub row : List ℕ → List (ℕ × Switch) → List (ℕ × Valued) → List (List Operand) → Row
-row name alone valued forms = record { name = name; alone = alone; valued = valued; forms = forms }
+abbrev pub row : List ℕ → List (ℕ × Switch) → List (ℕ × Valued) → Rule → List (List Operand) → (Settings → Operands → Command) → Row
+row name alone valued rule forms command = record { name = name; alone = alone; valued = valued; rule = rule; forms = forms; command = command }
+
+-- a job of this name, by what the operands come to
+abbrev pub job_at : JobName → Operands → JobWords
+job_at jobs.Read o = job_words.Read o.sector o.few
+job_at jobs.Write o = job_words.Write o.sector o.digits
+job_at jobs.Flush o = job_words.Flush
 
 -- the table of verbs: geli(8), SYNOPSIS; `dump`, `verify` and those from `read` to `reap` are this program's own
 abbrev pub row_of : Verb → Row
-row_of Init = row (codes "init")
+row_of verbs.Init = row (codes "init")
     ((byte "P", WithoutFresh) ∷ (byte "R", FixedSize) ∷ (byte "v", Verbose) ∷ [])
     ((byte "a", AuthName) ∷ (byte "B", BackupFile) ∷ (byte "e", CipherName) ∷ (byte "i", Iterations) ∷ (byte "J", FreshPass) ∷ (byte "K", FreshFile) ∷ (byte "l", KeyLength) ∷ (byte "s", SectorSize) ∷ [])
-    ((Provider ∷ []) ∷ [])
-row_of Attach = row (codes "attach")
+    PassWithIterations ((Provider ∷ []) ∷ [])
+    (λ s o. commands.Init o.prov s.cipher s.auth s.keylen s.sectorsize s.iterations s.autoresize s.fresh_key s.backup)
+row_of verbs.Attach = row (codes "attach")
     ((byte "C", OnlyCheck) ∷ (byte "p", WithoutOld) ∷ (byte "r", ReadOnly) ∷ (byte "v", Verbose) ∷ [])
     ((byte "j", OldPass) ∷ (byte "k", OldFile) ∷ (byte "n", Slot) ∷ [])
-    ((Provider ∷ []) ∷ [])
-row_of Detach = row (codes "detach") ((byte "f", Force) ∷ (byte "v", Verbose) ∷ []) [] ((Provider ∷ []) ∷ [])
-row_of Setkey = row (codes "setkey")
+    Free ((Provider ∷ []) ∷ []) (λ s o. commands.Attach o.prov s.only_check s.readonly s.slot s.old_key)
+row_of verbs.Detach = row (codes "detach") ((byte "f", Force) ∷ (byte "v", Verbose) ∷ []) [] Free ((Provider ∷ []) ∷ [])
+    (λ s o. commands.Detach o.prov)
+row_of verbs.Setkey = row (codes "setkey")
     ((byte "p", WithoutOld) ∷ (byte "P", WithoutFresh) ∷ (byte "v", Verbose) ∷ [])
     ((byte "i", Iterations) ∷ (byte "j", OldPass) ∷ (byte "J", FreshPass) ∷ (byte "k", OldFile) ∷ (byte "K", FreshFile) ∷ (byte "n", Slot) ∷ [])
-    ((Provider ∷ []) ∷ [])
-row_of Delkey = row (codes "delkey") ((byte "a", AllSlots) ∷ (byte "f", Force) ∷ (byte "v", Verbose) ∷ []) ((byte "n", Slot) ∷ []) ((Provider ∷ []) ∷ [])
-row_of Kill = row (codes "kill") ((byte "v", Verbose) ∷ []) [] ((Provider ∷ []) ∷ [])
-row_of Backup = row (codes "backup") ((byte "v", Verbose) ∷ []) [] ((Provider ∷ File ∷ []) ∷ [])
-row_of Restore = row (codes "restore") ((byte "f", Force) ∷ (byte "v", Verbose) ∷ []) [] ((File ∷ Provider ∷ []) ∷ [])
-row_of Resize = row (codes "resize") ((byte "v", Verbose) ∷ []) ((byte "s", OldSize) ∷ []) ((Provider ∷ []) ∷ [])
-row_of Dump = row (codes "dump") ((byte "v", Verbose) ∷ []) [] ((Provider ∷ []) ∷ [])
-row_of Read = row (codes "read") [] [] ((Provider ∷ Sector ∷ FewSectors ∷ []) ∷ [])
-row_of Write = row (codes "write") [] [] ((Provider ∷ Sector ∷ Digits ∷ []) ∷ [])
-row_of Flush = row (codes "flush") [] [] ((Provider ∷ []) ∷ [])
-row_of ListVerb = row (codes "list") [] [] ([] ∷ [])
-row_of Fill = row (codes "fill") [] [] ((Provider ∷ Seed ∷ Sector ∷ ManySectors ∷ []) ∷ [])
-row_of Sum = row (codes "sum") [] [] ((Provider ∷ Sector ∷ ManySectors ∷ []) ∷ [])
-row_of Eject = row (codes "eject") [] [] ((Provider ∷ []) ∷ [])
-row_of Submit = row (codes "submit") [] []
+    Free ((Provider ∷ []) ∷ []) (λ s o. commands.Setkey o.prov s.iterations s.slot s.old_key s.fresh_key)
+row_of verbs.Delkey = row (codes "delkey") ((byte "a", AllSlots) ∷ (byte "f", Force) ∷ (byte "v", Verbose) ∷ []) ((byte "n", Slot) ∷ []) SlotOrAll ((Provider ∷ []) ∷ [])
+    (λ s o. commands.Delkey o.prov s.all s.force s.slot)
+row_of verbs.Kill = row (codes "kill") ((byte "v", Verbose) ∷ []) [] Free ((Provider ∷ []) ∷ []) (λ s o. commands.Kill o.prov)
+row_of verbs.Backup = row (codes "backup") ((byte "v", Verbose) ∷ []) [] Free ((Provider ∷ File ∷ []) ∷ []) (λ s o. commands.Backup o.prov o.file)
+row_of verbs.Restore = row (codes "restore") ((byte "f", Force) ∷ (byte "v", Verbose) ∷ []) [] Free ((File ∷ Provider ∷ []) ∷ [])
+    (λ s o. commands.Restore o.file o.prov s.force)
+row_of verbs.Resize = row (codes "resize") ((byte "v", Verbose) ∷ []) ((byte "s", OldSize) ∷ []) NeedsOldSize ((Provider ∷ []) ∷ [])
+    (λ s o. commands.Resize o.prov (unwrap_or s.oldsize 0))
+row_of verbs.Dump = row (codes "dump") ((byte "v", Verbose) ∷ []) [] Free ((Provider ∷ []) ∷ []) (λ s o. commands.Dump o.prov)
+row_of verbs.Read = row (codes "read") [] [] Free ((Provider ∷ Sector ∷ FewSectors ∷ []) ∷ []) (λ s o. commands.Read o.prov o.sector o.few)
+row_of verbs.Write = row (codes "write") [] [] Free ((Provider ∷ Sector ∷ Digits ∷ []) ∷ []) (λ s o. commands.Write o.prov o.sector o.digits)
+row_of verbs.Flush = row (codes "flush") [] [] Free ((Provider ∷ []) ∷ []) (λ s o. commands.Flush o.prov)
+row_of verbs.List = row (codes "list") [] [] Free ([] ∷ []) (λ s o. commands.List)
+row_of verbs.Fill = row (codes "fill") [] [] Free ((Provider ∷ Seed ∷ Sector ∷ ManySectors ∷ []) ∷ [])
+    (λ s o. commands.Fill o.prov o.seed o.sector o.many)
+row_of verbs.Sum = row (codes "sum") [] [] Free ((Provider ∷ Sector ∷ ManySectors ∷ []) ∷ []) (λ s o. commands.Sum o.prov o.sector o.many)
+row_of verbs.Eject = row (codes "eject") [] [] Free ((Provider ∷ []) ∷ []) (λ s o. commands.Eject o.prov)
+row_of verbs.Submit = row (codes "submit") [] [] Free
     ((Provider ∷ Job jobs.Flush ∷ []) ∷ (Provider ∷ Job jobs.Read ∷ Sector ∷ FewSectors ∷ []) ∷ (Provider ∷ Job jobs.Write ∷ Sector ∷ Digits ∷ []) ∷ [])
-row_of Step = row (codes "step") [] [] ((Provider ∷ Tag ∷ []) ∷ [])
-row_of Reap = row (codes "reap") [] [] ((Provider ∷ Tag ∷ []) ∷ [])
-row_of Suspend = row (codes "suspend") ((byte "v", Verbose) ∷ []) [] ((Provider ∷ []) ∷ [])
-row_of Resume = row (codes "resume") ((byte "p", WithoutOld) ∷ (byte "v", Verbose) ∷ []) ((byte "j", OldPass) ∷ (byte "k", OldFile) ∷ []) ((Provider ∷ []) ∷ [])
-row_of Verify = row (codes "verify") ((byte "r", Restart) ∷ (byte "v", Verbose) ∷ []) [] ((Provider ∷ File ∷ ManySectors ∷ []) ∷ [])
+    (λ s o. commands.Submit o.prov (job_at o.job o))
+row_of verbs.Step = row (codes "step") [] [] Free ((Provider ∷ Tag ∷ []) ∷ []) (λ s o. commands.Step o.prov o.tag)
+row_of verbs.Reap = row (codes "reap") [] [] Free ((Provider ∷ Tag ∷ []) ∷ []) (λ s o. commands.Reap o.prov o.tag)
+row_of verbs.Suspend = row (codes "suspend") ((byte "v", Verbose) ∷ []) [] Free ((Provider ∷ []) ∷ []) (λ s o. commands.Suspend o.prov)
+row_of verbs.Resume = row (codes "resume") ((byte "p", WithoutOld) ∷ (byte "v", Verbose) ∷ []) ((byte "j", OldPass) ∷ (byte "k", OldFile) ∷ []) Free ((Provider ∷ []) ∷ [])
+    (λ s o. commands.Resume o.prov s.old_key)
+row_of verbs.Verify = row (codes "verify") ((byte "r", Restart) ∷ (byte "v", Verbose) ∷ []) [] Free ((Provider ∷ File ∷ ManySectors ∷ []) ∷ [])
+    (λ s o. commands.Verify o.prov o.file o.many s.restart)
 
 -- all verbs
-abbrev pub verbs : List Verb
-verbs = Init ∷ Attach ∷ Detach ∷ Setkey ∷ Delkey ∷ Kill ∷ Backup ∷ Restore ∷ Resize ∷ Dump ∷ Read ∷ Write ∷ Flush ∷ ListVerb ∷ Fill ∷ Sum ∷ Eject ∷ Submit ∷ Step ∷ Reap ∷ Suspend ∷ Resume ∷ Verify ∷ []
+abbrev pub all_verbs : List Verb
+all_verbs = verbs.Init ∷ verbs.Attach ∷ verbs.Detach ∷ verbs.Setkey ∷ verbs.Delkey ∷ verbs.Kill ∷ verbs.Backup ∷ verbs.Restore ∷ verbs.Resize ∷ verbs.Dump ∷ verbs.Read ∷ verbs.Write ∷ verbs.Flush ∷ verbs.List ∷ verbs.Fill ∷ verbs.Sum ∷ verbs.Eject ∷ verbs.Submit ∷ verbs.Step ∷ verbs.Reap ∷ verbs.Suspend ∷ verbs.Resume ∷ verbs.Verify ∷ []
 
-abbrev pub named_among : List ℕ → List Verb → Option Verb
+-- the verb of a name among verbs with their names
+abbrev pub named_among : List ℕ → List (Verb × List ℕ) → Option Verb
 named_among name [] = None
-named_among name (verb ∷ verbs) = if bytes_eq name (row_of verb).name then Some verb else named_among name verbs
+named_among name (e ∷ es) = if bytes_eq name e.1 then Some e.0 else named_among name es
 
 -- the verb of a name
 abbrev pub verb_named : List ℕ → Option Verb
-verb_named name = named_among name verbs
+verb_named name = named_among name (map (λ verb. (verb, (row_of verb).name)) all_verbs)
 
 -- what a letter means among others
 abbrev pub entry : {V : Type 0} → ℕ → List (ℕ × V) → Option V
@@ -122,6 +150,9 @@ form_among words forms = form_or (of_words words forms) (of_length (length words
 abbrev pub form_of : Verb → List Word → Option (List Operand)
 form_of verb words = form_among words (row_of verb).forms
 
--- a line of the code's table
-abbrev pub row_seen : Code.Row → Row
-row_seen r = row r.name.now r.alone.now r.valued.now (map (λ form. form.now) r.forms.now)
+-- a line of the code's table: its verb with its name; and the rest, with a command, which the code's line hasn't
+abbrev pub name_seen : Code.Row → Verb × List ℕ
+name_seen r = (r.verb, r.name.now)
+
+abbrev pub row_seen : Code.Row → (Settings → Operands → Command) → Row
+row_seen r command = row r.name.now r.alone.now r.valued.now r.rule (map (λ form. form.now) r.forms.now) command

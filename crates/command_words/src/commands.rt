@@ -1,7 +1,4 @@
 //! Commands, with the places of their names in the line.
-ghost use Rattle.std.specs.Prelude.{◌≡◌};
-ghost use Rattle.command_words.specs.Places.{provider_of};
-
 use crate::spans::{KeyWords, Span};
 use eli_base::{Auth, Cipher, Reason};
 
@@ -219,39 +216,6 @@ pub enum Command {
         /// `-r`: the sweep begins at the first sector.
         restart: bool,
     },
-}
-
-impl Command {
-    /// The provider that the command names, if it names one.
-    pub fn provider(&self) -> Option<Span>
-        ensures { result ≡ provider_of self.now }
-    {
-        match self {
-            Command::Init { prov, .. }
-            | Command::Attach { prov, .. }
-            | Command::Detach { prov }
-            | Command::Setkey { prov, .. }
-            | Command::Delkey { prov, .. }
-            | Command::Kill { prov }
-            | Command::Backup { prov, .. }
-            | Command::Restore { prov, .. }
-            | Command::Resize { prov, .. }
-            | Command::Dump { prov }
-            | Command::Read { prov, .. }
-            | Command::Write { prov, .. }
-            | Command::Flush { prov }
-            | Command::Fill { prov, .. }
-            | Command::Sum { prov, .. }
-            | Command::Eject { prov }
-            | Command::Submit { prov, .. }
-            | Command::Step { prov, .. }
-            | Command::Reap { prov, .. }
-            | Command::Suspend { prov }
-            | Command::Resume { prov, .. }
-            | Command::Verify { prov, .. } => Some(*prov),
-            Command::List => None,
-        }
-    }
 }
 
 /// Why a line is no command: the place of the word, and what is wrong.

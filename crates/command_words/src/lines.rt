@@ -5,7 +5,8 @@ ghost use Rattle.command_words.specs.Cursor.{left};
 ghost use Rattle.command_words.specs.Pass.{provider_alone};
 ghost use Rattle.command_words.specs.Bounds.{IsBounded};
 ghost use Rattle.command_words.specs.Places.{CommandIsWithin, ProviderIsText};
-ghost use Rattle.command_words.specs.Reading.{line_reading, by_verb, settled, is_comment, complaint, command_at, job_at, command_in};
+ghost use Rattle.command_words.specs.Table.{job_at};
+ghost use Rattle.command_words.specs.Reading.{line_reading, by_verb, settled, is_comment, complaint, command_at, command_in};
 ghost use Rattle.command_words.specs.Reading.{excludes_itself, lacks_option, excludes_own, excludes, line_limit};
 
 use crate::commands::{Command, JobWords, Usage};
@@ -14,7 +15,7 @@ use crate::operands::{Operands, take_operands};
 use crate::pass::take_options;
 use crate::settings::Settings;
 use crate::spans::{KeyWords, Sep, Span};
-use crate::table::{JobName, Verb};
+use crate::table::{JobName, Rule, Verb};
 use eli_base::Reason;
 
 /// The most bytes of a line.
@@ -37,24 +38,24 @@ fn excludes_itself(key: &KeyWords) -> bool
     key.without && key.pass.len() > 0
 }
 
-// Whether the verb lacks an option that it needs.
-fn lacks(verb: Verb, settings: &Settings) -> bool
-    ensures { result ≡ lacks_option verb settings.now }
+// Whether an option that must be there lacks.
+fn lacks(rule: Rule, settings: &Settings) -> bool
+    ensures { result ≡ lacks_option rule settings.now }
 {
-    match verb {
-        Verb::Resize => settings.oldsize.is_none(),
-        _ => false,
+    match rule {
+        Rule::NeedsOldSize => settings.oldsize.is_none(),
+        Rule::Free | Rule::PassWithIterations | Rule::SlotOrAll => false,
     }
 }
 
-// Whether two options that exclude each other under this verb alone are there.
-fn excludes_own(verb: Verb, settings: &Settings) -> bool
-    ensures { result ≡ excludes_own verb settings.now }
+// Whether two options that exclude each other under one verb alone are there.
+fn excludes_own(rule: Rule, settings: &Settings) -> bool
+    ensures { result ≡ excludes_own rule settings.now }
 {
-    match verb {
-        Verb::Init => settings.fresh_key.without && settings.iterations.is_some(),
-        Verb::Delkey => settings.all && settings.slot.is_some(),
-        _ => false,
+    match rule {
+        Rule::PassWithIterations => settings.fresh_key.without && settings.iterations.is_some(),
+        Rule::SlotOrAll => settings.all && settings.slot.is_some(),
+        Rule::Free | Rule::NeedsOldSize => false,
     }
 }
 
@@ -64,14 +65,14 @@ fn excluded(verb: Verb, settings: &Settings) -> bool
 {
     excludes_itself(&settings.old_key)
         || excludes_itself(&settings.fresh_key)
-        || excludes_own(verb, settings)
+        || excludes_own(verb.row().rule, settings)
 }
 
 // What is wrong with the options together.
 fn complain(verb: Verb, settings: &Settings) -> Option<Reason>
     ensures { result ≡ complaint verb settings.now }
 {
-    if lacks(verb, settings) {
+    if lacks(verb.row().rule, settings) {
         return Some(Reason::MissingOption);
     }
     if excluded(verb, settings) {

@@ -1,59 +1,45 @@
 //! The verbs, their options and their operands.
 ghost use Rattle.std.specs.Prelude.{◌≡◌, ℕ, MatchOption, map, length};
-ghost use Rattle.command_words.specs.Table.{row_seen, row_of, named_among, verb_named, letter_of, entry, of_length, are_named, is_named, of_words, form_of};
+ghost use Rattle.command_words.specs.Table.{row_seen, name_seen, row_of, named_among, verb_named, letter_of, entry, of_length, are_named, is_named, of_words, form_of};
 ghost use Rattle.command_words.specs.Values.{job_name};
 ghost use Rattle.command_words.specs.Cursor.{left};
 
 use crate::cursor::Words;
+use Operand::{Digits, FewSectors, File, Job, ManySectors, Provider, Sector, Seed, Tag};
+use Rule::{Free, NeedsOldSize, PassWithIterations, SlotOrAll};
+use Switch::{
+    AllSlots, FixedSize, Force, OnlyCheck, ReadOnly, Restart, Verbose, WithoutFresh, WithoutOld,
+};
+use Valued::{
+    AuthName, BackupFile, CipherName, FreshFile, FreshPass, Iterations, KeyLength, OldFile,
+    OldPass, OldSize, SectorSize, Slot,
+};
 
 /// The verbs of the command line.
 #[derive(Clone, Copy)]
 pub enum Verb {
-    /// `init`.
     Init,
-    /// `attach`.
     Attach,
-    /// `detach`.
     Detach,
-    /// `setkey`.
     Setkey,
-    /// `delkey`.
     Delkey,
-    /// `kill`.
     Kill,
-    /// `backup`.
     Backup,
-    /// `restore`.
     Restore,
-    /// `resize`.
     Resize,
-    /// `dump`.
     Dump,
-    /// `read`.
     Read,
-    /// `write`.
     Write,
-    /// `flush`.
     Flush,
-    /// `list`.
     List,
-    /// `fill`.
     Fill,
-    /// `sum`.
     Sum,
-    /// `eject`.
     Eject,
-    /// `submit`.
     Submit,
-    /// `step`.
     Step,
-    /// `reap`.
     Reap,
-    /// `suspend`.
     Suspend,
-    /// `resume`.
     Resume,
-    /// `verify`.
     Verify,
 }
 
@@ -163,263 +149,97 @@ pub enum Operand {
     Tag,
 }
 
+/// What the options of a verb have to be together.
+#[derive(Clone, Copy)]
+pub enum Rule {
+    /// Nothing.
+    Free,
+    /// `-s` must be there.
+    NeedsOldSize,
+    /// `-P` and `-i` exclude each other.
+    PassWithIterations,
+    /// `-n` and `-a` exclude each other.
+    SlotOrAll,
+}
+
 /// A line of the table of verbs.
 #[derive(Clone, Copy)]
 pub struct Row {
-    /// The name of the verb.
+    /// The verb.
+    pub verb: Verb,
+    /// Its name.
     pub name: &'static [u8],
     /// The letters without a value.
     pub alone: &'static [(u8, Switch)],
     /// The letters with a value.
     pub valued: &'static [(u8, Valued)],
+    /// What the options have to be together.
+    pub rule: Rule,
     /// The operands in order, in each form that the verb has.
     pub forms: &'static [&'static [Operand]],
 }
 
-const VERBS: [Verb; 23] = [
-    Verb::Init,
-    Verb::Attach,
-    Verb::Detach,
-    Verb::Setkey,
-    Verb::Delkey,
-    Verb::Kill,
-    Verb::Backup,
-    Verb::Restore,
-    Verb::Resize,
-    Verb::Dump,
-    Verb::Read,
-    Verb::Write,
-    Verb::Flush,
-    Verb::List,
-    Verb::Fill,
-    Verb::Sum,
-    Verb::Eject,
-    Verb::Submit,
-    Verb::Step,
-    Verb::Reap,
-    Verb::Suspend,
-    Verb::Resume,
-    Verb::Verify,
+macro_rules! row {
+    ($verb:ident, $name:expr, $alone:expr, $valued:expr, $rule:expr, $forms:expr) => {
+        Row {
+            verb: Verb::$verb,
+            name: $name,
+            alone: $alone,
+            valued: $valued,
+            rule: $rule,
+            forms: $forms,
+        }
+    };
+}
+
+// The table of verbs, a line for each, in their order.
+static ROWS: &[Row] = &[
+    row! {
+        Init, b"init", &[(b'P', WithoutFresh), (b'R', FixedSize), (b'v', Verbose)],
+        &[(b'a', AuthName), (b'B', BackupFile), (b'e', CipherName), (b'i', Iterations), (b'J', FreshPass), (b'K', FreshFile), (b'l', KeyLength), (b's', SectorSize)],
+        PassWithIterations, &[&[Provider]]
+    },
+    row! {
+        Attach, b"attach", &[(b'C', OnlyCheck), (b'p', WithoutOld), (b'r', ReadOnly), (b'v', Verbose)],
+        &[(b'j', OldPass), (b'k', OldFile), (b'n', Slot)], Free, &[&[Provider]]
+    },
+    row! { Detach, b"detach", &[(b'f', Force), (b'v', Verbose)], &[], Free, &[&[Provider]] },
+    row! {
+        Setkey, b"setkey", &[(b'p', WithoutOld), (b'P', WithoutFresh), (b'v', Verbose)],
+        &[(b'i', Iterations), (b'j', OldPass), (b'J', FreshPass), (b'k', OldFile), (b'K', FreshFile), (b'n', Slot)],
+        Free, &[&[Provider]]
+    },
+    row! {
+        Delkey, b"delkey", &[(b'a', AllSlots), (b'f', Force), (b'v', Verbose)], &[(b'n', Slot)], SlotOrAll,
+        &[&[Provider]]
+    },
+    row! { Kill, b"kill", &[(b'v', Verbose)], &[], Free, &[&[Provider]] },
+    row! { Backup, b"backup", &[(b'v', Verbose)], &[], Free, &[&[Provider, File]] },
+    row! { Restore, b"restore", &[(b'f', Force), (b'v', Verbose)], &[], Free, &[&[File, Provider]] },
+    row! { Resize, b"resize", &[(b'v', Verbose)], &[(b's', OldSize)], NeedsOldSize, &[&[Provider]] },
+    row! { Dump, b"dump", &[(b'v', Verbose)], &[], Free, &[&[Provider]] },
+    row! { Read, b"read", &[], &[], Free, &[&[Provider, Sector, FewSectors]] },
+    row! { Write, b"write", &[], &[], Free, &[&[Provider, Sector, Digits]] },
+    row! { Flush, b"flush", &[], &[], Free, &[&[Provider]] },
+    row! { List, b"list", &[], &[], Free, &[&[]] },
+    row! { Fill, b"fill", &[], &[], Free, &[&[Provider, Seed, Sector, ManySectors]] },
+    row! { Sum, b"sum", &[], &[], Free, &[&[Provider, Sector, ManySectors]] },
+    row! { Eject, b"eject", &[], &[], Free, &[&[Provider]] },
+    row! {
+        Submit, b"submit", &[], &[], Free,
+        &[&[Provider, Job(JobName::Flush)], &[Provider, Job(JobName::Read), Sector, FewSectors], &[Provider, Job(JobName::Write), Sector, Digits]]
+    },
+    row! { Step, b"step", &[], &[], Free, &[&[Provider, Tag]] },
+    row! { Reap, b"reap", &[], &[], Free, &[&[Provider, Tag]] },
+    row! { Suspend, b"suspend", &[(b'v', Verbose)], &[], Free, &[&[Provider]] },
+    row! {
+        Resume, b"resume", &[(b'p', WithoutOld), (b'v', Verbose)], &[(b'j', OldPass), (b'k', OldFile)],
+        Free, &[&[Provider]]
+    },
+    row! {
+        Verify, b"verify", &[(b'r', Restart), (b'v', Verbose)], &[], Free, &[&[Provider, File, ManySectors]]
+    },
 ];
-
-// The table of verbs, a line for each.
-
-static INIT: Row = Row {
-    name: b"init",
-    alone: &[
-        (b'P', Switch::WithoutFresh),
-        (b'R', Switch::FixedSize),
-        (b'v', Switch::Verbose),
-    ],
-    valued: &[
-        (b'a', Valued::AuthName),
-        (b'B', Valued::BackupFile),
-        (b'e', Valued::CipherName),
-        (b'i', Valued::Iterations),
-        (b'J', Valued::FreshPass),
-        (b'K', Valued::FreshFile),
-        (b'l', Valued::KeyLength),
-        (b's', Valued::SectorSize),
-    ],
-    forms: &[&[Operand::Provider]],
-};
-
-static ATTACH: Row = Row {
-    name: b"attach",
-    alone: &[
-        (b'C', Switch::OnlyCheck),
-        (b'p', Switch::WithoutOld),
-        (b'r', Switch::ReadOnly),
-        (b'v', Switch::Verbose),
-    ],
-    valued: &[
-        (b'j', Valued::OldPass),
-        (b'k', Valued::OldFile),
-        (b'n', Valued::Slot),
-    ],
-    forms: &[&[Operand::Provider]],
-};
-
-static DETACH: Row = Row {
-    name: b"detach",
-    alone: &[(b'f', Switch::Force), (b'v', Switch::Verbose)],
-    valued: &[],
-    forms: &[&[Operand::Provider]],
-};
-
-static SETKEY: Row = Row {
-    name: b"setkey",
-    alone: &[
-        (b'p', Switch::WithoutOld),
-        (b'P', Switch::WithoutFresh),
-        (b'v', Switch::Verbose),
-    ],
-    valued: &[
-        (b'i', Valued::Iterations),
-        (b'j', Valued::OldPass),
-        (b'J', Valued::FreshPass),
-        (b'k', Valued::OldFile),
-        (b'K', Valued::FreshFile),
-        (b'n', Valued::Slot),
-    ],
-    forms: &[&[Operand::Provider]],
-};
-
-static DELKEY: Row = Row {
-    name: b"delkey",
-    alone: &[
-        (b'a', Switch::AllSlots),
-        (b'f', Switch::Force),
-        (b'v', Switch::Verbose),
-    ],
-    valued: &[(b'n', Valued::Slot)],
-    forms: &[&[Operand::Provider]],
-};
-
-static KILL: Row = Row {
-    name: b"kill",
-    alone: &[(b'v', Switch::Verbose)],
-    valued: &[],
-    forms: &[&[Operand::Provider]],
-};
-
-static BACKUP: Row = Row {
-    name: b"backup",
-    alone: &[(b'v', Switch::Verbose)],
-    valued: &[],
-    forms: &[&[Operand::Provider, Operand::File]],
-};
-
-static RESTORE: Row = Row {
-    name: b"restore",
-    alone: &[(b'f', Switch::Force), (b'v', Switch::Verbose)],
-    valued: &[],
-    forms: &[&[Operand::File, Operand::Provider]],
-};
-
-static RESIZE: Row = Row {
-    name: b"resize",
-    alone: &[(b'v', Switch::Verbose)],
-    valued: &[(b's', Valued::OldSize)],
-    forms: &[&[Operand::Provider]],
-};
-
-static DUMP: Row = Row {
-    name: b"dump",
-    alone: &[(b'v', Switch::Verbose)],
-    valued: &[],
-    forms: &[&[Operand::Provider]],
-};
-
-static READ: Row = Row {
-    name: b"read",
-    alone: &[],
-    valued: &[],
-    forms: &[&[Operand::Provider, Operand::Sector, Operand::FewSectors]],
-};
-
-static WRITE: Row = Row {
-    name: b"write",
-    alone: &[],
-    valued: &[],
-    forms: &[&[Operand::Provider, Operand::Sector, Operand::Digits]],
-};
-
-static FLUSH: Row = Row {
-    name: b"flush",
-    alone: &[],
-    valued: &[],
-    forms: &[&[Operand::Provider]],
-};
-
-static LIST: Row = Row {
-    name: b"list",
-    alone: &[],
-    valued: &[],
-    forms: &[&[]],
-};
-
-static FILL: Row = Row {
-    name: b"fill",
-    alone: &[],
-    valued: &[],
-    forms: &[&[
-        Operand::Provider,
-        Operand::Seed,
-        Operand::Sector,
-        Operand::ManySectors,
-    ]],
-};
-
-static SUM: Row = Row {
-    name: b"sum",
-    alone: &[],
-    valued: &[],
-    forms: &[&[Operand::Provider, Operand::Sector, Operand::ManySectors]],
-};
-
-static EJECT: Row = Row {
-    name: b"eject",
-    alone: &[],
-    valued: &[],
-    forms: &[&[Operand::Provider]],
-};
-
-static SUBMIT: Row = Row {
-    name: b"submit",
-    alone: &[],
-    valued: &[],
-    forms: &[
-        &[Operand::Provider, Operand::Job(JobName::Flush)],
-        &[
-            Operand::Provider,
-            Operand::Job(JobName::Read),
-            Operand::Sector,
-            Operand::FewSectors,
-        ],
-        &[
-            Operand::Provider,
-            Operand::Job(JobName::Write),
-            Operand::Sector,
-            Operand::Digits,
-        ],
-    ],
-};
-
-static STEP: Row = Row {
-    name: b"step",
-    alone: &[],
-    valued: &[],
-    forms: &[&[Operand::Provider, Operand::Tag]],
-};
-
-static REAP: Row = Row {
-    name: b"reap",
-    alone: &[],
-    valued: &[],
-    forms: &[&[Operand::Provider, Operand::Tag]],
-};
-
-static SUSPEND: Row = Row {
-    name: b"suspend",
-    alone: &[(b'v', Switch::Verbose)],
-    valued: &[],
-    forms: &[&[Operand::Provider]],
-};
-
-static RESUME: Row = Row {
-    name: b"resume",
-    alone: &[(b'p', Switch::WithoutOld), (b'v', Switch::Verbose)],
-    valued: &[(b'j', Valued::OldPass), (b'k', Valued::OldFile)],
-    forms: &[&[Operand::Provider]],
-};
-
-static VERIFY: Row = Row {
-    name: b"verify",
-    alone: &[(b'r', Switch::Restart), (b'v', Switch::Verbose)],
-    valued: &[],
-    forms: &[&[Operand::Provider, Operand::File, Operand::ManySectors]],
-};
 
 // What a letter means among others.
 fn entry<V: Copy>(letters: &[(u8, V)], letter: u8) -> Option<V>
@@ -434,12 +254,12 @@ fn entry<V: Copy>(letters: &[(u8, V)], letter: u8) -> Option<V>
 }
 
 // The verb of a name among others.
-fn named_among(name: &[u8], verbs: &[Verb]) -> Option<Verb>
-    ensures { result ≡ named_among name.now verbs.now }
+fn named_among(name: &[u8], rows: &[Row]) -> Option<Verb>
+    ensures { result ≡ named_among name.now (map name_seen rows.now) }
 {
-    for verb in verbs {
-        if name == verb.row().name {
-            return Some(*verb);
+    for row in rows {
+        if name == row.name {
+            return Some(row.verb);
         }
     }
     None
@@ -504,42 +324,18 @@ fn of_length(forms: &'static [&'static [Operand]], count: u32) -> Option<&'stati
 }
 
 impl Verb {
-    // The line of the verb.
-    fn row(self) -> &'static Row
-        ensures { row_seen result.now ≡ row_of self }
+    /// The line of the verb.
+    pub fn row(self) -> &'static Row
+        ensures { row_seen result.now (row_of self).command ≡ row_of self }
     {
-        match self {
-            Verb::Init => &INIT,
-            Verb::Attach => &ATTACH,
-            Verb::Detach => &DETACH,
-            Verb::Setkey => &SETKEY,
-            Verb::Delkey => &DELKEY,
-            Verb::Kill => &KILL,
-            Verb::Backup => &BACKUP,
-            Verb::Restore => &RESTORE,
-            Verb::Resize => &RESIZE,
-            Verb::Dump => &DUMP,
-            Verb::Read => &READ,
-            Verb::Write => &WRITE,
-            Verb::Flush => &FLUSH,
-            Verb::List => &LIST,
-            Verb::Fill => &FILL,
-            Verb::Sum => &SUM,
-            Verb::Eject => &EJECT,
-            Verb::Submit => &SUBMIT,
-            Verb::Step => &STEP,
-            Verb::Reap => &REAP,
-            Verb::Suspend => &SUSPEND,
-            Verb::Resume => &RESUME,
-            Verb::Verify => &VERIFY,
-        }
+        &ROWS[self as usize]
     }
 
     /// The verb of this name.
     pub fn named(name: &[u8]) -> Option<Verb>
         ensures { result ≡ verb_named name.now }
     {
-        named_among(name, &VERBS)
+        named_among(name, ROWS)
     }
 
     /// What the letter means for this verb.

@@ -1,9 +1,11 @@
-//! What each verb is: which drawer it needs, and what it may do with that.
+//! What each verb is: which drawer it needs, and what it may do with that; and which provider a command names.
 ghost use Rattle.std.specs.Prelude.{◌≡◌};
+ghost use Rattle.command_words.specs.Places.{provider_of};
 ghost use Rattle.command_words.specs.Traits.{allocating, job_writes, letting_go, only_reading, plain, queueing, requesting};
 ghost use Rattle.command_words.specs.Traits.{submitting, traits_of, writing};
 
 use crate::commands::{Command, JobWords};
+use crate::spans::Span;
 
 /// Which drawer a verb needs, by what that does with its disk.
 #[derive(Clone, Copy, Debug, PartialEq, Eq)]
@@ -147,45 +149,83 @@ fn job_writes(job: &JobWords) -> bool
 }
 
 impl Command {
+    // The provider that the command names, if it names one, and what its verb is.
+    fn profile(&self) -> (Option<Span>, Traits)
+        ensures provider { result.0 ≡ provider_of self.now }
+        ensures traits { result.1 ≡ traits_of self.now }
+    {
+        match self {
+            Command::List => (None, allocating(Needs::AnyOne)),
+            Command::Dump { prov } => (Some(*prov), only_reading(Needs::AnyOne)),
+            Command::Init { prov, backup, .. } => {
+                let traits = Traits {
+                    stores_last: backup.is_some(),
+                    ..allocating(Needs::AnIdle)
+                };
+                (Some(*prov), traits)
+            }
+            Command::Attach {
+                prov,
+                only_check,
+                ..
+            } => {
+                let traits = Traits {
+                    only_reads: *only_check,
+                    ..allocating(Needs::AnIdle)
+                };
+                (Some(*prov), traits)
+            }
+            Command::Detach { prov } => (Some(*prov), letting_go(Needs::NoIdle)),
+            Command::Setkey { prov, .. } => (Some(*prov), allocating(Needs::NoSuspended)),
+            Command::Delkey { prov, .. } => (Some(*prov), plain(Needs::NoSuspended)),
+            Command::Kill { prov } => (Some(*prov), letting_go(Needs::AnyOne)),
+            Command::Backup { prov, .. } => {
+                let traits = Traits {
+                    lacks_memory: true,
+                    ..only_reading(Needs::AnyOne)
+                };
+                (Some(*prov), traits)
+            }
+            Command::Restore { prov, .. } => (Some(*prov), allocating(Needs::AnIdle)),
+            Command::Resize { prov, .. } => (Some(*prov), plain(Needs::AnIdle)),
+            Command::Read { prov, .. } => (Some(*prov), requesting()),
+            Command::Write { prov, .. } => (Some(*prov), writing()),
+            Command::Flush { prov } => (Some(*prov), requesting()),
+            Command::Fill { prov, .. } => (Some(*prov), writing()),
+            Command::Sum { prov, .. } => (Some(*prov), requesting()),
+            Command::Eject { prov } => {
+                let traits = Traits {
+                    takes_out: true,
+                    ..plain(Needs::AnyOne)
+                };
+                (Some(*prov), traits)
+            }
+            Command::Submit { prov, job } => (Some(*prov), submitting(job)),
+            Command::Step { prov, .. } => (Some(*prov), queueing()),
+            Command::Reap { prov, .. } => (Some(*prov), queueing()),
+            Command::Suspend { prov } => (Some(*prov), plain(Needs::AnAttached)),
+            Command::Resume { prov, .. } => (Some(*prov), allocating(Needs::ASuspended)),
+            Command::Verify { prov, .. } => {
+                let traits = Traits {
+                    needs_tags: true,
+                    ..allocating(Needs::AnAttached)
+                };
+                (Some(*prov), traits)
+            }
+        }
+    }
+
+    /// The provider that the command names, if it names one.
+    pub fn provider(&self) -> Option<Span>
+        ensures { result ≡ provider_of self.now }
+    {
+        self.profile().0
+    }
+
     /// What the command's verb is.
     pub fn traits(&self) -> Traits
         ensures { result ≡ traits_of self.now }
     {
-        match self {
-            Command::List => allocating(Needs::AnyOne),
-            Command::Dump { .. } => only_reading(Needs::AnyOne),
-            Command::Init { backup, .. } => Traits {
-                stores_last: backup.is_some(),
-                ..allocating(Needs::AnIdle)
-            },
-            Command::Attach { only_check, .. } => Traits {
-                only_reads: *only_check,
-                ..allocating(Needs::AnIdle)
-            },
-            Command::Detach { .. } => letting_go(Needs::NoIdle),
-            Command::Setkey { .. } => allocating(Needs::NoSuspended),
-            Command::Delkey { .. } => plain(Needs::NoSuspended),
-            Command::Kill { .. } => letting_go(Needs::AnyOne),
-            Command::Backup { .. } => Traits {
-                lacks_memory: true,
-                ..only_reading(Needs::AnyOne)
-            },
-            Command::Restore { .. } => allocating(Needs::AnIdle),
-            Command::Resize { .. } => plain(Needs::AnIdle),
-            Command::Read { .. } | Command::Flush { .. } | Command::Sum { .. } => requesting(),
-            Command::Write { .. } | Command::Fill { .. } => writing(),
-            Command::Eject { .. } => Traits {
-                takes_out: true,
-                ..plain(Needs::AnyOne)
-            },
-            Command::Submit { job, .. } => submitting(job),
-            Command::Step { .. } | Command::Reap { .. } => queueing(),
-            Command::Suspend { .. } => plain(Needs::AnAttached),
-            Command::Resume { .. } => allocating(Needs::ASuspended),
-            Command::Verify { .. } => Traits {
-                needs_tags: true,
-                ..allocating(Needs::AnAttached)
-            },
-        }
+        self.profile().1
     }
 }

@@ -53,7 +53,7 @@ IsDoneAsAsked tag k c m = IfSome (task_with tag m.tasks) (λ t. IsAmongSteps m.s
 -- A `read` is answered by the bytes of its logical sectors, as the writings say that stand there last, and a `sum` by
 -- their SHA-256; or a fault at a byte offset by the first that they say. A `reap` of a read is answered by the bytes of
 -- the writings that stood in its device sectors at its own steps, or by the first fault that they say; and when a write
--- is reaped, each of its units was done.
+-- is reaped, each of its units was done. Each kind is listed, so that a new one has to be decided on.
 abbrev pub LineReads : Sep → World → List ServedLine → World → RunKind → List ℕ → Option Answer → Type 0
 LineReads sep entry served start (kinds.OfRead prov sector count) line (Some (answers.Payload bytes)) =
     StandsSo sep entry served start line prov (λ k c m. data_read k sector count (cell c m.steps) ≡ Ok bytes)
@@ -67,4 +67,9 @@ LineReads sep entry served start (kinds.OfReap prov tag) line (Some (answers.Pay
 LineReads sep entry served start (kinds.OfReap prov tag) line (Some answers.Done) = StandsSo sep entry served start line prov (IsDoneAsAsked tag)
 LineReads sep entry served start (kinds.OfReap prov tag) line (Some (answers.Refused (refusals.Integrity offset))) =
     StandsSo sep entry served start line prov (ReadsAsAsked tag (Err offset))
-LineReads sep entry served start kind line answer = Unit {0}
+LineReads sep entry served start (kinds.OfRead prov sector count) line answer = Unit {0}
+LineReads sep entry served start (kinds.OfSum prov sector count) line answer = Unit {0}
+LineReads sep entry served start (kinds.OfReap prov tag) line answer = Unit {0}
+LineReads sep entry served start (kinds.OfResume prov words) line answer = Unit {0}
+LineReads sep entry served start (kinds.OfSweep prov file count restart) line answer = Unit {0}
+LineReads sep entry served start kinds.OfOther line answer = Unit {0}

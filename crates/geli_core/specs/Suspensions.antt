@@ -9,6 +9,7 @@ use Rattle.key_slots.specs.Slots.{Opens}
 use Rattle.suspend.specs.Resuming.{AreCollision}
 use Rattle.command_rows.specs.Answer as answers
 use Rattle.command_rows.specs.verbs.Attach.{OpensWith}
+use Rattle.command_rows.specs.Verb.{OfOther, OfRead, OfReap, OfSum, OfSweep}
 use Rattle.command_rows.specs.verbs.Suspend.{kept_by}
 use Rattle.geli_core.specs.Trace.{ServedLine, world_behind}
 use Rattle.geli_core.specs.Vocabulary.{Sep, line_reading, reach}
@@ -90,4 +91,9 @@ pub record ResumesSame (sep : Sep) (entry : World) (served : List ServedLine) (s
 -- a `resume` that is answered by Ok does
 abbrev pub LineResumes : Sep → World → List ServedLine → World → RunKind → List ℕ → Option Answer → World → Type 0
 LineResumes sep entry served start (OfResume prov words) line (Some answers.Done) next = ResumesSame sep entry served start line prov words next
-LineResumes sep entry served start kind line answer next = Unit {0}
+LineResumes sep entry served start (OfResume prov words) line answer next = Unit {0}
+LineResumes sep entry served start (OfRead prov sector count) line answer next = Unit {0}
+LineResumes sep entry served start (OfSum prov sector count) line answer next = Unit {0}
+LineResumes sep entry served start (OfReap prov tag) line answer next = Unit {0}
+LineResumes sep entry served start (OfSweep prov file count restart) line answer next = Unit {0}
+LineResumes sep entry served start OfOther line answer next = Unit {0}

@@ -6,6 +6,7 @@ use Rattle.std.specs.Str.{bytes_eq}
 use Rattle.command_rows.specs.Rows.{Answer, Attachment, DrawerState, IsAttached, OfSweep, RunKind, World, place_of}
 use Rattle.command_rows.specs.Vocabulary.{Keying, bytes_at, cut_count, media, place_after, sectors_after, units}
 use Rattle.command_rows.specs.Answer as answers
+use Rattle.command_rows.specs.Verb.{OfOther, OfRead, OfReap, OfResume, OfSum}
 use Rattle.command_rows.specs.verbs.Verify.{ListsUnits}
 use Rattle.geli_core.specs.Kinds.{kind_read}
 use Rattle.geli_core.specs.Trace.{ServedLine}
@@ -46,7 +47,11 @@ pub record AskedSweep : Type 0 where
 abbrev pub asked_by : Course → List ℕ → RunKind → Option AskedSweep
 asked_by course line (OfSweep prov file count restart) =
     if bytes_eq (bytes_at line prov) course.name && bytes_eq (bytes_at line file) course.file then Some (record { count = count; restart = restart }) else None
-asked_by course line kind = None
+asked_by course line (OfRead prov sector count) = None
+asked_by course line (OfSum prov sector count) = None
+asked_by course line (OfReap prov tag) = None
+asked_by course line (OfResume prov words) = None
+asked_by course line OfOther = None
 
 -- the counts of the lines that were answered that a part was swept
 abbrev pub counts_with : List ℕ → Option AskedSweep → Option Answer → List ℕ

@@ -9,19 +9,12 @@ use Rattle.command_rows.specs.Gate.{refused_by}
 use Rattle.command_rows.specs.Turn.{GoesThrough, IsRefused, Serves, takes_out}
 
 request_needs : (command : Command) → (traits_of command).is_request ≡ true → needs command ≡ AnAttached
-request_needs (commands.Read prov sector count) request = refl
-request_needs (commands.Write prov sector hex) request = refl
-request_needs (commands.Flush prov) request = refl
-request_needs (commands.Fill prov seed start count) request = refl
-request_needs (commands.Sum prov start count) request = refl
-request_needs (commands.Submit prov job) request = refl
-request_needs (commands.Step prov tag) request = refl
-request_needs (commands.Reap prov tag) request = refl
-request_needs command request = absurd (let no : ⊥ = cc request in no)
+request_needs commands.List request = cc request
+request_needs _ request = cc request
 
 pub request_stays : (command : Command) → (traits_of command).is_request ≡ true → takes_out command ≡ false
 request_stays (commands.Eject prov) request = absurd (let no : ⊥ = cc request in no)
-request_stays command request = refl
+request_stays _ request = refl
 
 pub request_serves : (line : List ℕ) (command : Command) (a : Attachment) (old : Reach) (reply : Answer) (new : Reach) → (traits_of command).is_request ≡ true → old.holding ≡ IsAttached a → GoesThrough line command old reply new
     → Serves line command old reply new

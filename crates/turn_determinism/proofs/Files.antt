@@ -1,6 +1,6 @@
 -- Steps that load files and store them.
 use Rattle.std.proofs.Common.{◌≡◌, ◌≢◌, ◌∙◌, inl, inr, ℕ, ◌≤◌, List, ◌++◌, length, refl, ap, sym, subst, Bool, true, false, Option, None, Some, Result, Ok, Err, IfErr, IfSome}
-use Rattle.command_rows.specs.Rows.{BacksUp, Decides, LoadsComponents, LoadsFile, Reach, StoreAnswers, StoresBytes, StoresFile}
+use Rattle.command_rows.specs.Rows.{BacksUp, LoadsComponents, LoadsFile, Reach, StoreAnswers, StoresBytes, StoresFile}
 use Rattle.command_rows.specs.Vocabulary.{CabinetState, Components, Files, IsAnswer, KeyWords, LoadsEach, MayRefuse, MayRefusePassphrase, Metadata, Refusal, Rose, Span, StopsAtFile, bytes_at, components_of, encoded, file_answer, file_limit}
 use Rattle.eli_base.specs.declared.refusals.Refusal.TheVariants as refusals
 use Rattle.command_rows.specs.verbs.Verify.{FindsPlace, LoadsPlace, place_in, place_size, unless_absent}
@@ -131,7 +131,7 @@ place_file_sure line file = record { goes = λ old answer new h. cabinet_later o
 
 pub finds_place_sure : (restart : Bool) (line : List ℕ) (file : Span) → Sure (FindsPlace restart line file)
 finds_place_sure true line file = decides_sure (Ok 0)
-finds_place_sure false line file = then_sure (LoadsPlace line file) (λ found. Decides (place_in file.word found)) (place_file_sure line file) (λ found. decides_sure (place_in file.word found))
+finds_place_sure false line file = then_sure (place_file_sure line file) (λ found. decides_sure (place_in file.word found))
 
 -- ---- what is stored
 

@@ -155,5 +155,5 @@ then_settles {A} First Next first next old old' answer answer' new new' both mem
     (behind_quiet old h.middle new later both.quiet) (behind_quiet old' h'.middle new' later' both.quiet') memory memory' h.next
     (subst (λ (r : Result A Refusal). GoesOn Next r h'.middle answer' new') s.agrees h'.next)
 
-pub then_sure : {A B : Type 0} (First : Step A) (Next : A → Step B) → Sure First → ((a : A) → Sure (Next a)) → Sure (Then First Next)
-then_sure First Next first next = record { goes = then_goes First Next first next; settles = then_settles First Next first next }
+pub then_sure : {A B : Type 0} {First : Step A} {Next : A → Step B} → Sure First → ((a : A) → Sure (Next a)) → Sure (Then First Next)
+then_sure {A} {B} {First} {Next} first next = record { goes = then_goes First Next first next; settles = then_settles First Next first next }

@@ -196,7 +196,8 @@ macro_rules! row {
 static ROWS: &[Row] = &[
     row! {
         Init, b"init", &[(b'P', WithoutFresh), (b'R', FixedSize), (b'v', Verbose)],
-        &[(b'a', AuthName), (b'B', BackupFile), (b'e', CipherName), (b'i', Iterations), (b'J', FreshPass), (b'K', FreshFile), (b'l', KeyLength), (b's', SectorSize)],
+        &[(b'a', AuthName), (b'B', BackupFile), (b'e', CipherName), (b'i', Iterations), (b'J', FreshPass),
+          (b'K', FreshFile), (b'l', KeyLength), (b's', SectorSize)],
         PassWithIterations, &[&[Provider]]
     },
     row! {
@@ -206,7 +207,8 @@ static ROWS: &[Row] = &[
     row! { Detach, b"detach", &[(b'f', Force), (b'v', Verbose)], &[], Free, &[&[Provider]] },
     row! {
         Setkey, b"setkey", &[(b'p', WithoutOld), (b'P', WithoutFresh), (b'v', Verbose)],
-        &[(b'i', Iterations), (b'j', OldPass), (b'J', FreshPass), (b'k', OldFile), (b'K', FreshFile), (b'n', Slot)],
+        &[(b'i', Iterations), (b'j', OldPass), (b'J', FreshPass), (b'k', OldFile), (b'K', FreshFile),
+          (b'n', Slot)],
         Free, &[&[Provider]]
     },
     row! {
@@ -227,7 +229,8 @@ static ROWS: &[Row] = &[
     row! { Eject, b"eject", &[], &[], Free, &[&[Provider]] },
     row! {
         Submit, b"submit", &[], &[], Free,
-        &[&[Provider, Job(JobName::Flush)], &[Provider, Job(JobName::Read), Sector, FewSectors], &[Provider, Job(JobName::Write), Sector, Digits]]
+        &[&[Provider, Job(JobName::Flush)], &[Provider, Job(JobName::Read), Sector, FewSectors],
+          &[Provider, Job(JobName::Write), Sector, Digits]]
     },
     row! { Step, b"step", &[], &[], Free, &[&[Provider, Tag]] },
     row! { Reap, b"reap", &[], &[], Free, &[&[Provider, Tag]] },

@@ -22,7 +22,7 @@ use crate::new_provider::serve_init;
 use crate::queueing::{reap, step, submit};
 use crate::reading::read_last;
 use crate::replies::{digest_or, done_or, dump_or, left_or, payload_or, reaped_or, tag_or};
-use crate::requests::{flush_answer, read, write};
+use crate::requests::{or_device_fault, read, write};
 use crate::resizing::resize;
 use crate::restoring::restore;
 use crate::resuming::resume;
@@ -318,7 +318,7 @@ fn serve_attached<D: Disk, C: Cabinet, E: Entropy>(
         }
         Command::Detach { .. } => {
             let (disk, flushed) = provider.detach();
-            (Held::Idle(disk), done_or(flush_answer(flushed)))
+            (Held::Idle(disk), done_or(or_device_fault(flushed)))
         }
         Command::Suspend { .. } => {
             let (held, answer) = suspend(provider, queue);
@@ -359,7 +359,7 @@ fn serve_sectors<D: Disk>(
             done_or(answer)
         }
         Command::Flush { .. } => {
-            let answer = flush_answer(provider.flush());
+            let answer = or_device_fault(provider.flush());
             done_or(answer)
         }
         Command::Fill {
@@ -426,7 +426,7 @@ fn serve_suspended<D: Disk, C: Cabinet, E: Entropy>(
         }
         Command::Detach { .. } => {
             let (disk, flushed) = suspended.detach();
-            (Held::Idle(disk), done_or(flush_answer(flushed)))
+            (Held::Idle(disk), done_or(or_device_fault(flushed)))
         }
         Command::Resume { old, .. } => {
             let (held, answer) = resume(alloc, suspended, queue, line, old, files);

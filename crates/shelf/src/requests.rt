@@ -139,8 +139,8 @@ fn decode_into(digits: &[u8], out: &mut [u8])
     }
 }
 
-/// What a flush comes to.
-pub fn flush_answer(answer: Result<(), DiskFailed>) -> Result<(), Refusal>
+/// A call of the disk that failed, as a refusal.
+pub fn or_device_fault(answer: Result<(), DiskFailed>) -> Result<(), Refusal>
     ensures { result ≡ or_refusal (λ _. Refusal.DeviceFault) answer }
 {
     match answer {

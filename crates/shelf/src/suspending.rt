@@ -6,7 +6,7 @@ ghost use Rattle.shelf.specs.Shelved.{attachment_of, reach_in, reach_on};
 ghost use Rattle.command_rows.specs.verbs.Suspend.{SuspendRow};
 
 use crate::Held;
-use crate::requests::flush_answer;
+use crate::requests::or_device_fault;
 use bio_queue::Queue;
 use block_traits::Disk;
 use eli_base::Refusal;
@@ -27,5 +27,5 @@ pub fn suspend<D: Disk>(provider: Provider<D>, queue: Queue) -> (Held<D>, Result
         return (Held::Attached(provider, queue), Err(refusal));
     }
     let (suspended, flushed) = Suspended::suspend(provider);
-    (Held::Suspended(suspended, queue), flush_answer(flushed))
+    (Held::Suspended(suspended, queue), or_device_fault(flushed))
 }

@@ -15,7 +15,7 @@ ghost use Rattle.command_rows.specs.verbs.Fill.{FillRow, generated, words_of_sec
 ghost use Rattle.command_rows.specs.verbs.Sum.{SumAnswer, SumRow};
 ghost use Rattle.shelf.specs.Shelved.{attachment_of, reach_on};
 
-use crate::requests::flush_answer;
+use crate::requests::or_device_fault;
 use block_traits::{Disk, DiskFailed};
 use eli_base::Refusal;
 use provider::{OutOfRange, Provider, ReadFault};
@@ -123,7 +123,7 @@ pub fn fill<D: Disk>(
     check_range(provider, start, count)?;
     let mut generator = Pcg64::seed_from_u64(seed);
     let written = write_words(provider, &mut generator, start, start + count, buffer);
-    flush_answer(written)
+    or_device_fault(written)
 }
 
 // Reads whole sectors that are there.

@@ -18,9 +18,9 @@ returns-in-Dump-clause-serves g c =
 
 pub returns-in-Detach-clause-serves : goal.returns-in-Detach-clause-serves
 returns-in-Detach-clause-serves g c = rw c.in-Detach.is (record {
-  answer = c.flush_answer.result;
+  answer = c.or_device_fault.result;
   row = record {
-    flushes = rw c.flush_answer.ensures (flushed _ _ c.detach-disk.result.1 c.detach-disk.ensures.ok c.detach-disk.ensures.err);
+    flushes = rw c.or_device_fault.ensures (flushed _ _ c.detach-disk.result.1 c.detach-disk.ensures.ok c.detach-disk.ensures.err);
     unasked = c.detach-disk.ensures.unasked;
     holding = refl;
     outside = record { cabinet = refl; entropy = refl };

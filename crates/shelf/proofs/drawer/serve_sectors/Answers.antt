@@ -28,9 +28,9 @@ returns-in-Write-clause-serves g c = rw c.in-Write.is (λ cabinet entropy. recor
 
 pub returns-in-Flush-clause-serves : goal.returns-in-Flush-clause-serves
 returns-in-Flush-clause-serves g c = rw c.in-Flush.is (λ cabinet entropy. record {
-  answer = c.flush_answer-answer.result;
+  answer = c.or_device_fault-answer.result;
   row = record {
-    does = rw c.flush_answer-answer.ensures (flushed _ _ c.flush.result c.flush.ensures.ok c.flush.ensures.err);
+    does = rw c.or_device_fault-answer.ensures (flushed _ _ c.flush.result c.flush.ensures.ok c.flush.ensures.err);
     unasked = c.flush.ensures.unasked;
     holding = kept_holding c.args.queue.now _ _ c.flush.ensures.kept;
     outside = record { cabinet = refl; entropy = refl };

@@ -13,7 +13,7 @@ pub returns : goal.returns
 returns g c =
     let none : length c.args.queue ≤ 0 = omega (arith, c.len-count.ensures, c.if-count-gt0.false) in
     λ cabinet entropy. suspended_so (attachment_of c.args.queue c.args.provider) _ _ _ none (record {
-      flushes = rw c.flush_answer.ensures (flushed _ _ c.suspend-suspended.result.1 c.suspend-suspended.ensures.ok c.suspend-suspended.ensures.err);
+      flushes = rw c.or_device_fault.ensures (flushed _ _ c.suspend-suspended.result.1 c.suspend-suspended.ensures.ok c.suspend-suspended.ensures.err);
       unasked = c.suspend-suspended.ensures.unasked;
       holding = kept_of_provider g.D.Disk.state c.args.queue c.args.provider c.suspend-suspended.result.0 c.suspend-suspended.ensures.kept;
       outside = record { cabinet = refl; entropy = refl };

@@ -17,5 +17,5 @@ pub returns : goal.returns
 returns g c =
     let count : c.args.start + c.args.count - c.args.start ≡ c.args.count = omega arith in
     let w = c.write_words-written in
-    rw c.flush_answer.ensures (λ queue cabinet entropy. fill_writes g.D.Disk.state queue cabinet entropy c.args.provider.now w.new.provider c.args.seed c.args.start c.args.count (c.args.start + c.args.count - c.args.start) c.seed_from_u64-generator.result
+    rw c.or_device_fault.ensures (λ queue cabinet entropy. fill_writes g.D.Disk.state queue cabinet entropy c.args.provider.now w.new.provider c.args.seed c.args.start c.args.count (c.args.start + c.args.count - c.args.start) c.seed_from_u64-generator.result
     w.result (sym c.read_only.ensures ∙ c.if-read_only.false) c.in_ok-check_range.ensures.answer w.ensures.kept count c.seed_from_u64-generator.ensures w.ensures.ok w.ensures.err w.ensures.unasked)

@@ -670,7 +670,7 @@ EOS
     else
         echo "not tried: a write that a mount refuses (no nbdsh)"
     fi
-    if command -v makefs grub-mount >commands; then
+    if command -v makefs >commands && command -v grub-mount >commands; then
         mkdir tree && cp "$top/README.md" tree/
         says "a filesystem of FreeBSD's" makefs -t ffs -o version=2 -s 1m ufs.img tree >commands 2>&1
         "$in" -k key -j pass ufs.img m.img 2>notes
@@ -731,7 +731,10 @@ EOF
     SECONDS=0
     says "the README's filesystem, typed" typed
     echo "  ($SECONDS seconds)"
-    says "  has its file in the end" grep -q '^hello' typed
+    printf 'a few words\n' >fresh/pass
+    says "  is mounted again" "$mount" -k fresh/a.key -j fresh/pass fresh/a.img "$files" 2>notes
+    says "  has its file in the end" grep -q '^hello' "$files/hello"
+    says "  and it is unmounted" "$mount" -u "$files" 2>notes
     # The terminal that started it is closed.
     printf '%s\n' "mount-provider.sh -k ../key -j ../pass ../m.img files" >block
     "$in" -k key -j pass m.out m.img 2>notes

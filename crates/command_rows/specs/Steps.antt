@@ -6,7 +6,7 @@ use Rattle.block_traits.specs.declared.disk.Event.TheVariants.{Flush}
 use Rattle.eli_base.specs.Requests.{request_limit}
 use Rattle.eli_base.specs.declared.refusals.Refusal.TheVariants as refusals
 use Rattle.provider.specs.Reads.{RunFails, RunFault}
-use Rattle.command_rows.specs.Vocabulary.{CabinetState, Components, Counted, DiskState, Event, FailsIn, FitsWords, InitOptions, Inits, IsAnswer, KeepsFiles, KeyFault, KeyWords, Keying, LoadsEach, Logs, MasterKey, MayRefuse, MetaFault, Metadata, ReadMetaFault, ReadsAs, ReadsMetadata, Refusal, Rose, Settings, Span, StopsAtFile, UserKey, bytes_at, components_of, data_writes, encoded, file_answer, key_refusal_of, media, media_sectors, opened, read_refusal_of, refusal_of, refused_word, size_matches, slot_matches, stored, supported, units, user_key}
+use Rattle.command_rows.specs.Vocabulary.{CabinetState, Components, Counted, DiskState, Event, FailsIn, FitsWords, InitOptions, Inits, IsAnswer, KeepsFiles, KeyFault, KeyWords, Keying, LoadsEach, Logs, MasterKey, MayRefuse, MetaFault, Metadata, ReadMetaFault, ReadsAs, ReadsMetadata, Refusal, Rose, Settings, Span, StopsAtFile, UserKey, bytes_at, components_of, data_writes, encoded, file_answer, key_refusal_of, media_sectors, opened, read_refusal_of, refusal_of, refused_word, size_matches, slot_matches, stored, supported, units, user_key}
 use Rattle.command_rows.specs.World.{Attachment, Idle, IsAttached, Reach}
 
 -- ---- one step after another
@@ -27,6 +27,10 @@ pub record Then {A B : Type 0} (First : Reach → Result A Refusal → Reach →
 -- nothing changes, and this is the answer
 abbrev pub Decides : {A : Type 0} → Result A Refusal → Reach → Result A Refusal → Reach → Type 0
 Decides decided old answer new = (answer ≡ decided) × (new ≡ old)
+
+-- the same, where the number of the disk's device sectors is all that decides
+abbrev pub DecidesBySize : {A : Type 0} → (ℕ → Result A Refusal) → Reach → Result A Refusal → Reach → Type 0
+DecidesBySize decided old answer new = Decides (decided old.disk.size) old answer new
 
 -- a value, or the refusal of a fault
 abbrev pub or_refusal : {A F : Type 0} → (F → Refusal) → Result A F → Result A Refusal
@@ -74,7 +78,7 @@ abbrev pub admitted : Metadata → ℕ → Option ℕ → Result Settings Refusa
 admitted m sectors slot = or_refusal refusal_of (unless_faulty (settings_for_size m sectors) (slot_matches m slot))
 
 abbrev pub Admits : Metadata → Option ℕ → Reach → Result Settings Refusal → Reach → Type 0
-Admits m slot old answer new = Decides (admitted m old.disk.size slot) old answer new
+Admits m slot old answer new = DecidesBySize (λ size. admitted m size slot) old answer new
 
 -- ---- files are loaded, each once, none is stored, and all else stays
 
@@ -212,7 +216,8 @@ abbrev pub in_range : ℕ → ℕ → ℕ → Result (Unit {0}) Refusal
 in_range sector count there = if nat_le (sector + count) there then Ok tt else Err (refusals.OutOfRange sector count there)
 
 abbrev pub NeedsSectors : Attachment → ℕ → ℕ → Reach → Result (Unit {0}) Refusal → Reach → Type 0
-NeedsSectors a sector count old answer new = Decides (in_range sector count (media a.keying old.disk)) old answer new
+NeedsSectors a sector count old answer new =
+    DecidesBySize (λ size. in_range sector count (media_sectors a.keying.auth a.keying.sectorsize (512 * size))) old answer new
 
 -- what the sectors read as, where the disk tells that, each unit of which was read once; or the first unit whose tag
 -- differs; or the disk failed, all units before having been accepted

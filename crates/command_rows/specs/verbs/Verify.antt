@@ -6,8 +6,8 @@ use Rattle.std.specs.Prelude.{All, Bool, Contains, Err, List, None, Ok, Option, 
 use Rattle.eli_base.specs.declared.refusals.Refusal.TheVariants as refusals
 use Rattle.provider.specs.Reads.{FailsAmong}
 use Rattle.command_rows.specs.Answer as answers
-use Rattle.command_rows.specs.Rows.{Answer, AttachedWith, Attachment, Decides, IsFile, KeepsOutside, LoadsFile, NoChanges, NoEvents, OfSweep, Reach, RefusesFile, Replies, StoresBytes, Then, Verb, asks_nothing, places_nothing}
-use Rattle.command_rows.specs.Vocabulary.{CabinetState, Counted, DiskState, Fails, Files, IsSector, Keying, Logs, Refusal, Span, StandFrom, Sweep, bytes_at, failing_units, has_tags, le64, media, sectors_swept, sweep_at, units}
+use Rattle.command_rows.specs.Rows.{Answer, AttachedWith, Attachment, Decides, DecidesBySize, IsFile, KeepsOutside, LoadsFile, NoChanges, NoEvents, OfSweep, Reach, RefusesFile, Replies, StoresBytes, Then, Verb, asks_nothing, places_nothing}
+use Rattle.command_rows.specs.Vocabulary.{CabinetState, Counted, DiskState, Fails, Files, IsSector, Keying, Logs, Refusal, Span, StandFrom, Sweep, bytes_at, failing_units, has_tags, le64, media, media_sectors, sectors_swept, sweep_at, units}
 
 -- what a sweep comes to: the byte offsets of the units that fail, and the logical sector where the next one begins
 pub record SweptPart : Type 0 where
@@ -56,7 +56,8 @@ abbrev pub if_inside : ℕ → ℕ → Result (Unit {0}) Refusal
 if_inside place there = if nat_le place there then Ok tt else Err (refusals.BadPlace place there)
 
 abbrev pub NeedsPlace : Attachment → ℕ → Reach → Result (Unit {0}) Refusal → Reach → Type 0
-NeedsPlace a place old answer new = Decides (if_inside place (media a.keying old.disk)) old answer new
+NeedsPlace a place old answer new =
+    DecidesBySize (λ size. if_inside place (media_sectors a.keying.auth a.keying.sectorsize (512 * size))) old answer new
 
 -- ---- the sweep
 

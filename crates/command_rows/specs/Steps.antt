@@ -47,7 +47,13 @@ pub record KeepsOutside (old new : Reach) : Type 0 where
   pub cabinet : new.cabinet ≡ old.cabinet
   pub entropy : new.entropy ≡ old.entropy
 
--- ---- the metadata are read, and all else stays
+-- what is read of the disk is answered so, and all else stays
+pub record ReadsDisk {A : Type 0} (Answers : DiskState → Result A Refusal → DiskState → Type 0) (old : Reach) (answer : Result A Refusal) (new : Reach) : Type 0 where
+  pub reads : Answers old.disk answer new.disk
+  pub holding : new.holding ≡ old.holding
+  pub outside : KeepsOutside old new
+
+-- ---- the metadata are read
 
 -- what is read of a disk, or the refusal of the fault
 pub record Reads (old : DiskState) (answer : Result Metadata Refusal) (new : DiskState) : Type 0 where
@@ -55,11 +61,8 @@ pub record Reads (old : DiskState) (answer : Result Metadata Refusal) (new : Dis
   pub reads : ReadsMetadata old read new
   pub answered : answer ≡ or_refusal read_refusal_of read
 
-pub record ReadsLastSector (old : Reach) (answer : Result Metadata Refusal) (new : Reach) : Type 0 where
-  pub reads : Reads old.disk answer new.disk
-  pub holding : new.holding ≡ old.holding
-  pub cabinet : new.cabinet ≡ old.cabinet
-  pub entropy : new.entropy ≡ old.entropy
+abbrev pub ReadsLastSector : Reach → Result Metadata Refusal → Reach → Type 0
+ReadsLastSector old answer new = ReadsDisk Reads old answer new
 
 -- ---- the metadata are admitted for an image of this size and for the slot that is named
 
@@ -228,10 +231,8 @@ SectorsAnswer k sector count old (Err (refusals.Integrity offset)) new = RunFaul
 SectorsAnswer k sector count old (Err refusals.DeviceFault) new = RunFails k sector count old new
 SectorsAnswer k sector count old (Err refusal) new = ⊥
 
-pub record ReadsSectors (a : Attachment) (sector count : ℕ) (old : Reach) (answer : Result (List ℕ) Refusal) (new : Reach) : Type 0 where
-  pub reads : SectorsAnswer a.keying sector count old.disk answer new.disk
-  pub holding : new.holding ≡ old.holding
-  pub outside : KeepsOutside old new
+abbrev pub ReadsSectors : Attachment → ℕ → ℕ → Reach → Result (List ℕ) Refusal → Reach → Type 0
+ReadsSectors a sector count old answer new = ReadsDisk (SectorsAnswer a.keying sector count) old answer new
 
 -- these events are done on the disk, of which nothing is read, and all else stays
 pub record Does (events : List Event) (old : Reach) (answer : Result (Unit {0}) Refusal) (new : Reach) : Type 0 where

@@ -6,7 +6,7 @@ use Rattle.std.specs.Prelude.{All, Bool, Contains, Err, List, None, Ok, Option, 
 use Rattle.eli_base.specs.declared.refusals.Refusal.TheVariants as refusals
 use Rattle.provider.specs.Reads.{FailsAmong}
 use Rattle.command_rows.specs.Answer as answers
-use Rattle.command_rows.specs.Rows.{Answer, AttachedWith, Attachment, Decides, DecidesBySize, IsFile, KeepsOutside, LoadsFile, NoChanges, NoEvents, OfSweep, Reach, RefusesFile, Replies, StoresBytes, Then, Verb, asks_nothing, places_nothing}
+use Rattle.command_rows.specs.Rows.{Answer, AttachedWith, Attachment, Decides, DecidesBySize, IsFile, LoadsFile, NoChanges, NoEvents, OfSweep, Reach, ReadsDisk, RefusesFile, Replies, StoresBytes, Then, Verb, asks_nothing, places_nothing}
 use Rattle.command_rows.specs.Vocabulary.{CabinetState, Counted, DiskState, Fails, Files, IsSector, Keying, Logs, Refusal, Span, StandFrom, Sweep, bytes_at, failing_units, has_tags, le64, media, media_sectors, sectors_swept, sweep_at, units}
 
 -- what a sweep comes to: the byte offsets of the units that fail, and the logical sector where the next one begins
@@ -87,10 +87,9 @@ PartAnswer s old (Ok part) new = (part.next ≡ s.start + sectors_swept s) × Li
 PartAnswer s old (Err refusals.DeviceFault) new = FailsAmong (sectors_swept s * units s.keying) old new
 PartAnswer s old (Err refusal) new = ⊥
 
-pub record Sweeps (a : Attachment) (place count : ℕ) (old : Reach) (answer : Result SweptPart Refusal) (new : Reach) : Type 0 where
-  pub sweeps : PartAnswer (sweep_at a.keying (media a.keying old.disk) place count) old.disk answer new.disk
-  pub holding : new.holding ≡ old.holding
-  pub outside : KeepsOutside old new
+abbrev pub Sweeps : Attachment → ℕ → ℕ → Reach → Result SweptPart Refusal → Reach → Type 0
+Sweeps a place count old answer new =
+    ReadsDisk (λ disk. PartAnswer (sweep_at a.keying (media a.keying disk) place count) disk) old answer new
 
 -- from a place that is there
 abbrev pub SweepsFrom : Attachment → ℕ → ℕ → Reach → Result SweptPart Refusal → Reach → Type 0

@@ -12,7 +12,7 @@ returns-in-Dump-clause-serves g c =
     let told = c.rest_tells_all.ensures now.keying then.keying now.slot then.slot now.readonly then.readonly c.read_last.ensures.rest in
     rw c.in-Dump.is (record {
       answer = c.read_last.result;
-      row = record { reads = c.read_last.ensures.reads; holding = kept_holding c.args.queue then now (record { keying = told.0; slot = told.1; readonly = told.2 }); cabinet = refl; entropy = refl };
+      row = record { reads = c.read_last.ensures.reads; holding = kept_holding c.args.queue then now (record { keying = told.0; slot = told.1; readonly = told.2 }); outside = record { cabinet = refl; entropy = refl } };
       replied = c.dump_or-reply.ensures.reply c.args.buffer.now;
     })
 

@@ -13,7 +13,7 @@ returns-in-Dump-clause-serves g c =
     let told = c.rest_tells_all.ensures now then c.read_last.ensures.rest in
     rw c.in-Dump.is (λ bytes. record {
       answer = c.read_last.result;
-      row = record { reads = c.read_last.ensures.reads; holding = kept_suspension then now told.0 told.1 told.2 told.3 told.4; cabinet = refl; entropy = refl };
+      row = record { reads = c.read_last.ensures.reads; holding = kept_suspension then now told.0 told.1 told.2 told.3 told.4; outside = record { cabinet = refl; entropy = refl } };
       replied = c.dump_or-reply.ensures.reply bytes;
     })
 

@@ -4,7 +4,7 @@ use Rattle.block_traits.proofs.Causes.{Rose-earlier}
 use Rattle.eli_base.specs.declared.refusals.Refusal.TheVariants as refusals
 use Rattle.eli_metadata.specs.declared.place.ReadMetaFault.TheVariants.{TooSmall, DeviceFault, Meta}
 use Rattle.command_rows.specs.Counts.{CountsRefusal}
-use Rattle.command_rows.specs.Rows.{Attaches, Attachment, Decides, Does, DoesEvents, GoesOn, LoadsComponents, LoadsFile, Reach, ReadsLastSector, ReadsSectors, SectorsAnswer, StoreAnswers, StoresBytes, Then, if_writable, or_refusal}
+use Rattle.command_rows.specs.Rows.{Attaches, Attachment, Decides, Does, DoesEvents, GoesOn, LoadsComponents, LoadsFile, Reach, Reads, SectorsAnswer, StoreAnswers, StoresBytes, Then, if_writable, or_refusal}
 use Rattle.command_rows.specs.Vocabulary.{CabinetState, Components, DiskState, EntropyState, Event, KeyWords, MayRefuse, Metadata, ReadMetaFault, Refusal, Span, StopsAtFile, file_limit, read_refusal_of, refusal_of}
 use Rattle.command_rows.proofs.Causing.{Step}
 use Rattle.command_rows.specs.Grounds.{IsGround}
@@ -133,14 +133,11 @@ does_uncounted events old (Err refusal) new h = absurd h
 pub does_counts : (events : List Event) → Counts (Does events)
 does_counts events old answer new h = uncounted_step old answer new (does_uncounted events old.disk answer new.disk h.does) h.outside.cabinet h.outside.entropy
 
-sectors_uncounted : (a : Attachment) (sector count : ℕ) (old : DiskState) (answer : Result (List ℕ) Refusal) (new : DiskState) → SectorsAnswer a.keying sector count old answer new → UncountedAnswer answer
+pub sectors_uncounted : (a : Attachment) (sector count : ℕ) (old : DiskState) (answer : Result (List ℕ) Refusal) (new : DiskState) → SectorsAnswer a.keying sector count old answer new → UncountedAnswer answer
 sectors_uncounted a sector count old (Ok bytes) new h = tt
 sectors_uncounted a sector count old (Err (refusals.Integrity offset)) new h = tt
 sectors_uncounted a sector count old (Err refusals.DeviceFault) new h = tt
 sectors_uncounted a sector count old (Err refusal) new h = absurd h
-
-pub sectors_counts : (a : Attachment) (sector count : ℕ) → Counts (ReadsSectors a sector count)
-sectors_counts a sector count old answer new h = uncounted_step old answer new (sectors_uncounted a sector count old.disk answer new.disk h.reads) h.outside.cabinet h.outside.entropy
 
 pub whole_uncounted : (size bytes : ℕ) (whole : Bool) → UncountedAnswer {A = ℕ} (cond whole (Ok (bytes / size)) (Err (refusals.BadLength bytes size)))
 whole_uncounted size bytes true = tt
@@ -162,9 +159,8 @@ read_uncounted (Err (TooSmall size)) = tt
 read_uncounted (Err DeviceFault) = tt
 read_uncounted (Err (Meta fault)) = plain_uncounted (refusal_of fault) (meta_plain fault)
 
-pub reading_counts : Counts ReadsLastSector
-reading_counts old answer new h =
-    uncounted_step old answer new (subst (λ (r : Result Metadata Refusal). UncountedAnswer r) (sym h.reads.answered) (read_uncounted h.reads.read)) h.cabinet h.entropy
+pub reads_uncounted : (old : DiskState) (answer : Result Metadata Refusal) (new : DiskState) → Reads old answer new → UncountedAnswer answer
+reads_uncounted old answer new h = subst (λ (r : Result Metadata Refusal). UncountedAnswer r) (sym h.answered) (read_uncounted h.read)
 
 -- ---- the files
 

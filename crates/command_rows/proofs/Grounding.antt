@@ -115,7 +115,7 @@ reading_has old m new h =
     record { enough = last.enough; found = record { bytes = last.bytes; whole = last.whole; told = last.told; read = sym last.answered } }
 
 pub reading_since : (old : Reach) (m : Metadata) (new : Reach) → ReadsLastSector old (Ok m) new → Since old new
-reading_since old m new h = let last = reading_last old m new h in since_disk old new last.logs.size last.logs.faults h.cabinet h.entropy
+reading_since old m new h = let last = reading_last old m new h in since_disk old new last.logs.size last.logs.faults h.outside.cabinet h.outside.entropy
 
 -- ---- files are loaded
 

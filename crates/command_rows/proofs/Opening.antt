@@ -206,10 +206,10 @@ OpensOrFails-read line words m s slot readonly a parts files old new answer hold
     elim (read_again old.disk row.middle.disk m reads.read holds reads.reads) [
       | inl again ↦
           let given : row.given ≡ Ok m = reads.answered ∙ ap (or_refusal read_refusal_of) again.is in
-          OpensOrFails-earlier old row.middle new answer again.faults row.first.cabinet
+          OpensOrFails-earlier old row.middle new answer again.faults row.first.outside.cabinet
           (OpensOrFails-admitted line words m s slot readonly a parts files row.middle new answer
           (ap (λ (n : ℕ). admitted m n slot) again.size ∙ admits)
-          (ap (λ (c : CabinetState). c.files) row.first.cabinet ∙ told) names opens
+          (ap (λ (c : CabinetState). c.files) row.first.outside.cabinet ∙ told) names opens
           (subst (λ (g : Result Metadata Refusal). GoesOn Next g row.middle answer new) given row.next))
       | inr failed ↦
           let given : row.given ≡ Err refusals.DeviceFault = reads.answered ∙ ap (or_refusal read_refusal_of) failed.is in

@@ -1,10 +1,10 @@
 -- Rows that leave what the drawer does with its disk, and the files, as they are, and that count failures soundly.
 use Rattle.std.proofs.Common.{Bool, List, Ok, Option, Result, Some, ℕ}
-use Rattle.command_rows.specs.Rows.{Admits, Attachment, Decides, Does, LoadsComponents, NeedsSectors, NeedsWhole, NeedsWritable, Reach, ReadsLastSector, ReadsSectors, StoresBytes, Then, TriesKey, TryRow, admitted, if_writable, in_range, tried, whole_sectors}
-use Rattle.command_rows.specs.Vocabulary.{Components, Event, KeyWords, Metadata, Refusal, Settings, Span, media, user_key}
+use Rattle.command_rows.specs.Rows.{Admits, Attachment, Decides, Does, LoadsComponents, NeedsSectors, NeedsWhole, NeedsWritable, Reach, ReadsDisk, ReadsLastSector, ReadsSectors, StoresBytes, Then, TriesKey, TryRow, admitted, if_writable, in_range, tried, whole_sectors}
+use Rattle.command_rows.specs.Vocabulary.{Components, DiskState, Event, KeyWords, Metadata, Refusal, Settings, Span, media, user_key}
 use Rattle.command_rows.proofs.Becoming.{Stays, same_reach, stays_then}
 use Rattle.command_rows.proofs.Causing.{Step}
-use Rattle.command_rows.proofs.Counting.{Counts, UncountedAnswer, by_plain, components_counts, decision_counts, does_counts, range_uncounted, reading_counts, sectors_counts, storing_counts, then_counts, whole_uncounted, writable_uncounted}
+use Rattle.command_rows.proofs.Counting.{Counts, UncountedAnswer, by_plain, components_counts, decision_counts, does_counts, range_uncounted, reads_uncounted, sectors_uncounted, storing_counts, then_counts, uncounted_step, whole_uncounted, writable_uncounted}
 use Rattle.command_rows.proofs.Plain.{or_plain, tried_plain}
 use Rattle.command_rows.proofs.Sound.{Sound, sound_step}
 use Rattle.command_rows.proofs.Storing.{Stored, Unstored, bytes_stored, decision_unstored, same_files, stored_then, unstored_then}
@@ -37,8 +37,16 @@ still_decision decided uncounted = record {
 pub done_still : {A : Type 0} (value : A) → Still (Decides (Ok value))
 done_still value = still_decision (λ r. Ok value) (λ r. tt)
 
+-- one that only reads the disk
+pub read_still : {A : Type 0} {Answers : DiskState → Result A Refusal → DiskState → Type 0} → ((old : DiskState) (answer : Result A Refusal) (new : DiskState) → Answers old answer new → UncountedAnswer answer) → Still (ReadsDisk Answers)
+read_still {A} {Answers} uncounted = record {
+  counts = λ old answer new h. uncounted_step old answer new (uncounted old.disk answer new.disk h.reads) h.outside.cabinet h.outside.entropy;
+  stays = λ old answer new h. h.holding;
+  unstored = λ old answer new h. same_files old.cabinet new.cabinet h.outside.cabinet;
+}
+
 pub reading_still : Still ReadsLastSector
-reading_still = record { counts = reading_counts; stays = λ old answer new h. h.holding; unstored = λ old answer new h. same_files old.cabinet new.cabinet h.cabinet }
+reading_still = read_still reads_uncounted
 
 pub admitting_still : (m : Metadata) (slot : Option ℕ) → Still (Admits m slot)
 admitting_still m slot = still_decision (λ r. admitted m r.disk.size slot) (λ r. by_plain _ (or_plain _))
@@ -57,11 +65,7 @@ pub doing_still : (events : List Event) → Still (Does events)
 doing_still events = record { counts = does_counts events; stays = λ old answer new h. h.holding; unstored = λ old answer new h. same_files old.cabinet new.cabinet h.outside.cabinet }
 
 pub sectors_still : (a : Attachment) (sector count : ℕ) → Still (ReadsSectors a sector count)
-sectors_still a sector count = record {
-  counts = sectors_counts a sector count;
-  stays = λ old answer new h. h.holding;
-  unstored = λ old answer new h. same_files old.cabinet new.cabinet h.outside.cabinet;
-}
+sectors_still a sector count = read_still (sectors_uncounted a sector count)
 
 pub whole_still : (a : Attachment) (bytes : ℕ) → Still (NeedsWhole a bytes)
 whole_still a bytes = still_decision (λ r. whole_sectors a.keying.sectorsize bytes) (λ r. whole_uncounted a.keying.sectorsize bytes _)

@@ -43,7 +43,7 @@ pub early_decision : {A : Type 0} (old : Reach) (decided answer : Result A Refus
 early_decision old decided answer new h = record { quiet = same_quiet old new h.1; files = ap (λ (r : Reach). r.cabinet.files) h.1 }
 
 pub early_reading : Early ReadsLastSector
-early_reading old answer new h = record { quiet = quiet_reading old answer new h; files = ap (λ (c : CabinetState). c.files) h.cabinet }
+early_reading old answer new h = record { quiet = quiet_reading old answer new h; files = ap (λ (c : CabinetState). c.files) h.outside.cabinet }
 
 pub early_loading : (line : List ℕ) (words : KeyWords) → Early (LoadsComponents line words)
 early_loading line words old answer new h = record { quiet = quiet_loading line words old answer new h; files = h.keeps.files }

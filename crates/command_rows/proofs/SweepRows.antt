@@ -104,7 +104,7 @@ swept line file count restart a old part new h =
     let P : DiskState → Type 0 = λ d. place ≤ media a.keying d in
     let Q : DiskState → Type 0 = λ d. (sweeps.0.next ≡ place + sectors_swept (sweep_at a.keying (media a.keying d) place count))
     × ListsUnits a.keying (place * units a.keying) (sectors_swept (sweep_at a.keying (media a.keying d) place count) * units a.keying) sweeps.0.offsets d three.middle.disk in
-    let answer = subst Q disk inside.2.sweeps in
+    let answer = subst Q disk inside.2.reads in
     let R : SweptPart → DiskState → Type 0 = λ (p : SweptPart) (d : DiskState). (p.next ≡ place + sectors_swept (sweep_at a.keying there place count))
     × ListsUnits a.keying (place * units a.keying) (sectors_swept (sweep_at a.keying there place count) * units a.keying) p.offsets old.disk d in
     let both : R part new.disk = subst (λ (d : DiskState). R part d) (sym kept.2) (subst (λ (p : SweptPart). R p three.middle.disk) (sym kept.0) answer) in

@@ -20,6 +20,6 @@ pub use Rattle.command_rows.proofs.Plain.{PlainAnswer, PlainOption, key_option, 
 pub use Rattle.command_rows.proofs.QueueingSound.{HoldsSame, holds_next, needs_counts, needs_same, queue_holds}
 pub use Rattle.command_rows.proofs.Replies.{digest_replying, done_replying, dump_replying, left_replying, payload_replying, reaped_replying, tag_replying, verified_replying}
 pub use Rattle.command_rows.proofs.Sound.{Keeps, Sound, SoundReply, attached_reply, attaches_keep, idles, keeps_next, sound_reply, sound_then}
-pub use Rattle.command_rows.proofs.Still.{Still, StillBut, admitting_still, components_still, doing_still, done_still, range_still, reading_still, sectors_still, still_but_sound, still_but_then, still_decision, still_sound, still_then, storing_still, try_still, whole_still, writable_still}
+pub use Rattle.command_rows.proofs.Still.{Still, StillBut, admitting_still, components_still, doing_still, done_still, range_still, read_still, reading_still, sectors_still, still_but_sound, still_but_then, still_decision, still_sound, still_then, storing_still, try_still, whole_still, writable_still}
 pub use Rattle.command_rows.proofs.Stopping.{Change, Early, Left, Same, alone_from, before_all, early_decision, early_loading, early_reading, left_then, moments_from, not_done, same_content}
 pub use Rattle.command_rows.proofs.Storing.{Stored, Unstored, attaching_unstored, bytes_stored, next_unstored, none_then, request_unstored, same_files, unstored_reply, unstored_then}

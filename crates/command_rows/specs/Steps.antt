@@ -6,7 +6,7 @@ use Rattle.block_traits.specs.declared.disk.Event.TheVariants.{Flush}
 use Rattle.eli_base.specs.Requests.{request_limit}
 use Rattle.eli_base.specs.declared.refusals.Refusal.TheVariants as refusals
 use Rattle.provider.specs.Reads.{RunFails, RunFault}
-use Rattle.command_rows.specs.Vocabulary.{CabinetState, Components, Counted, DiskState, Event, FailsIn, FitsWords, InitOptions, Inits, IsAnswer, KeepsFiles, KeyFault, KeyWords, Keying, LoadsEach, Logs, MasterKey, MayRefuse, MetaFault, Metadata, ReadMetaFault, ReadsAs, ReadsMetadata, Refusal, Rose, Settings, Span, StopsAtFile, UserKey, bytes_at, components_of, data_writes, encoded, file_answer, key_refusal_of, media, media_sectors, opened, read_refusal_of, refusal_of, refused_word, size_matches, slot_matches, stored, supported, units, user_key}
+use Rattle.command_rows.specs.Vocabulary.{CabinetState, Components, Counted, DiskState, Event, FailsIn, FitsWords, InitOptions, Inits, IsAnswer, KeepsFiles, KeyFault, KeyWords, Keying, LoadsEach, Logs, MasterKey, MayRefuse, MetaFault, Metadata, ReadMetaFault, ReadsAs, ReadsMetadata, Refusal, Rose, Settings, Span, StopsAtFile, UserKey, bytes_at, components_of, data_writes, encoded, file_answer, key_refusal_of, media_sectors, opened, read_refusal_of, refusal_of, refused_word, size_matches, slot_matches, stored, supported, units, user_key}
 use Rattle.command_rows.specs.World.{Attachment, Idle, IsAttached, Reach}
 
 -- ---- one step after another
@@ -28,6 +28,10 @@ pub record Then {A B : Type 0} (First : Reach → Result A Refusal → Reach →
 abbrev pub Decides : {A : Type 0} → Result A Refusal → Reach → Result A Refusal → Reach → Type 0
 Decides decided old answer new = (answer ≡ decided) × (new ≡ old)
 
+-- the same, where the number of the disk's device sectors is all that decides
+abbrev pub DecidesBySize : {A : Type 0} → (ℕ → Result A Refusal) → Reach → Result A Refusal → Reach → Type 0
+DecidesBySize decided old answer new = Decides (decided old.disk.size) old answer new
+
 -- a value, or the refusal of a fault
 abbrev pub or_refusal : {A F : Type 0} → (F → Refusal) → Result A F → Result A Refusal
 or_refusal refusal_of (Ok value) = Ok value
@@ -43,7 +47,13 @@ pub record KeepsOutside (old new : Reach) : Type 0 where
   pub cabinet : new.cabinet ≡ old.cabinet
   pub entropy : new.entropy ≡ old.entropy
 
--- ---- the metadata are read, and all else stays
+-- what is read of the disk is answered so, and all else stays
+pub record ReadsDisk {A : Type 0} (Answers : DiskState → Result A Refusal → DiskState → Type 0) (old : Reach) (answer : Result A Refusal) (new : Reach) : Type 0 where
+  pub reads : Answers old.disk answer new.disk
+  pub holding : new.holding ≡ old.holding
+  pub outside : KeepsOutside old new
+
+-- ---- the metadata are read
 
 -- what is read of a disk, or the refusal of the fault
 pub record Reads (old : DiskState) (answer : Result Metadata Refusal) (new : DiskState) : Type 0 where
@@ -51,11 +61,8 @@ pub record Reads (old : DiskState) (answer : Result Metadata Refusal) (new : Dis
   pub reads : ReadsMetadata old read new
   pub answered : answer ≡ or_refusal read_refusal_of read
 
-pub record ReadsLastSector (old : Reach) (answer : Result Metadata Refusal) (new : Reach) : Type 0 where
-  pub reads : Reads old.disk answer new.disk
-  pub holding : new.holding ≡ old.holding
-  pub cabinet : new.cabinet ≡ old.cabinet
-  pub entropy : new.entropy ≡ old.entropy
+abbrev pub ReadsLastSector : Reach → Result Metadata Refusal → Reach → Type 0
+ReadsLastSector old answer new = ReadsDisk Reads old answer new
 
 -- ---- the metadata are admitted for an image of this size and for the slot that is named
 
@@ -74,7 +81,7 @@ abbrev pub admitted : Metadata → ℕ → Option ℕ → Result Settings Refusa
 admitted m sectors slot = or_refusal refusal_of (unless_faulty (settings_for_size m sectors) (slot_matches m slot))
 
 abbrev pub Admits : Metadata → Option ℕ → Reach → Result Settings Refusal → Reach → Type 0
-Admits m slot old answer new = Decides (admitted m old.disk.size slot) old answer new
+Admits m slot old answer new = DecidesBySize (λ size. admitted m size slot) old answer new
 
 -- ---- files are loaded, each once, none is stored, and all else stays
 
@@ -212,7 +219,8 @@ abbrev pub in_range : ℕ → ℕ → ℕ → Result (Unit {0}) Refusal
 in_range sector count there = if nat_le (sector + count) there then Ok tt else Err (refusals.OutOfRange sector count there)
 
 abbrev pub NeedsSectors : Attachment → ℕ → ℕ → Reach → Result (Unit {0}) Refusal → Reach → Type 0
-NeedsSectors a sector count old answer new = Decides (in_range sector count (media a.keying old.disk)) old answer new
+NeedsSectors a sector count old answer new =
+    DecidesBySize (λ size. in_range sector count (media_sectors a.keying.auth a.keying.sectorsize (512 * size))) old answer new
 
 -- what the sectors read as, where the disk tells that, each unit of which was read once; or the first unit whose tag
 -- differs; or the disk failed, all units before having been accepted
@@ -223,10 +231,8 @@ SectorsAnswer k sector count old (Err (refusals.Integrity offset)) new = RunFaul
 SectorsAnswer k sector count old (Err refusals.DeviceFault) new = RunFails k sector count old new
 SectorsAnswer k sector count old (Err refusal) new = ⊥
 
-pub record ReadsSectors (a : Attachment) (sector count : ℕ) (old : Reach) (answer : Result (List ℕ) Refusal) (new : Reach) : Type 0 where
-  pub reads : SectorsAnswer a.keying sector count old.disk answer new.disk
-  pub holding : new.holding ≡ old.holding
-  pub outside : KeepsOutside old new
+abbrev pub ReadsSectors : Attachment → ℕ → ℕ → Reach → Result (List ℕ) Refusal → Reach → Type 0
+ReadsSectors a sector count old answer new = ReadsDisk (SectorsAnswer a.keying sector count) old answer new
 
 -- these events are done on the disk, of which nothing is read, and all else stays
 pub record Does (events : List Event) (old : Reach) (answer : Result (Unit {0}) Refusal) (new : Reach) : Type 0 where

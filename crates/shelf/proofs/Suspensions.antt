@@ -1,5 +1,5 @@
 -- What is kept of a suspended provider: that of the provider, and it stays.
-use Rattle.std.proofs.Common.{◌≡◌, ◌<◌, ◌≤◌, List, [], ◌∷◌, length, ap, arith, refl, sym, Result, Ok, Err}
+use Rattle.std.proofs.Common.{◌≡◌, ◌<◌, ◌≤◌, List, [], ◌∷◌, length, arith, refl, sym, Result, Ok, Err}
 use Rattle.command_rows.specs.Rows.{Attachment, IsSuspended, Reach}
 use Rattle.command_rows.specs.Vocabulary.{Attached, DiskState, Refusal, Request}
 use Rattle.eli_base.specs.declared.refusals.Refusal.TheVariants as refusals
@@ -12,10 +12,6 @@ kept_of_provider state queue p s keeps = cc (keeps.sectorsize, keeps.sectors, ke
 
 pub kept_same : {D : Type 0} (old new : Suspension D) → new.slot ≡ old.slot → new.sectorsize ≡ old.sectorsize → new.sectors ≡ old.sectors → new.readonly ≡ old.readonly → new.mark ≡ old.mark → kept_of new ≡ kept_of old
 kept_same old new slot sectorsize sectors readonly mark = cc (slot, sectorsize, sectors, readonly, mark)
-
-pub kept_suspension : {D : Type 0} (old new : Suspension D) → new.slot ≡ old.slot → new.sectorsize ≡ old.sectorsize → new.sectors ≡ old.sectors → new.readonly ≡ old.readonly → new.mark ≡ old.mark
-    → IsSuspended (kept_of new) ≡ IsSuspended (kept_of old)
-kept_suspension old new slot sectorsize sectors readonly mark = ap IsSuspended (kept_same old new slot sectorsize sectors readonly mark)
 
 -- ---- open requests
 

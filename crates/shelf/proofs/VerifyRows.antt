@@ -132,7 +132,7 @@ pub sweep_failed : {D : Type 0} (state : D → DiskState) (queue : List Request)
     → SweepsFrom (attachment_of queue old) place count (at state queue cabinet entropy old) (Err refusals.DeviceFault) (at state queue cabinet entropy new)
 sweep_failed state queue cabinet entropy old new place count inside kept h =
     Then-goes_on (NeedsPlace (attachment_of queue old) place) _ (at state queue cabinet entropy old) (at state queue cabinet entropy old) tt _ _ (sym (is_inside place _ inside), refl)
-    (record { sweeps = h; holding = kept_holding queue old new kept; outside = record { cabinet = refl; entropy = refl } })
+    (record { reads = h; holding = kept_holding queue old new kept; outside = record { cabinet = refl; entropy = refl } })
 
 pub sweep_done : {D : Type 0} (state : D → DiskState) (queue : List Request) (cabinet : CabinetState) (entropy : EntropyState) (old new : Attached D) (place count : ℕ) (before buffer : List ℕ) (swept : Swept)
     → place ≤ media old.keying (state old.disk) → (state old.disk).size < 2 ^ 44 → IsKept old new
@@ -145,7 +145,7 @@ sweep_done state queue cabinet entropy old new place count before buffer swept i
     let fits : place + n ≤ there = omega arith in
     Then-goes_on (NeedsPlace (attachment_of queue old) place) _ (at state queue cabinet entropy old) (at state queue cabinet entropy old) tt _ _ (sym (is_inside place there inside), refl)
     (record {
-      sweeps = (next, lists_units old.keying place (n * units old.keying) swept.bad before buffer (state old.disk) (state new.disk) (end_small old.keying place n (state old.disk).size fits small) h);
+      reads = (next, lists_units old.keying place (n * units old.keying) swept.bad before buffer (state old.disk) (state new.disk) (end_small old.keying place n (state old.disk).size fits small) h);
       holding = kept_holding queue old new kept;
       outside = record { cabinet = refl; entropy = refl };
     })

@@ -88,12 +88,12 @@ impl<D: Disk> Drawer<D> {
             return (Drawer { name, held }, Reply::Refused(refusal));
         }
         let (held, reply) = match held {
-            Held::Idle(disk) => serve_idle(alloc, disk, line, command, files, entropy),
+            Held::Idle(disk) => { serve_idle(alloc, disk, line, command, buffer, files, entropy) }
             Held::Attached(provider, queue) => serve_attached(
                 alloc, provider, queue, line, command, buffer, files, entropy,
             ),
             Held::Suspended(suspended, queue) => serve_suspended(
-                alloc, suspended, queue, line, command, files, entropy,
+                alloc, suspended, queue, line, command, buffer, files, entropy,
             ),
         };
         (Drawer { name, held }, reply)
@@ -227,6 +227,7 @@ fn serve_idle<D: Disk, C: Cabinet, E: Entropy>(
     disk: D,
     line: &[u8],
     command: &Command,
+    buffer: &mut [u8],
     files: &mut C,
     entropy: &mut E,
 ) -> (Held<D>, Reply)
@@ -235,10 +236,11 @@ fn serve_idle<D: Disk, C: Cabinet, E: Entropy>(
     requires named { IsSome (provider_of command.now) }
     requires stays { takes_out command.now ≡ false }
     requires needed { refused_by (needs command.now) Idle ≡ None }
-    ensures serves { (bytes : List ℕ) → GoesThrough line.now command.now
-        (reach_of (D.state disk) Idle (C.state files.old) (E.state entropy.old)) (answer_of bytes result.1)
+    requires room { length buffer.old ≡ request_limit }
+    ensures serves { GoesThrough line.now command.now
+        (reach_of (D.state disk) Idle (C.state files.old) (E.state entropy.old)) (answer_of buffer.new result.1)
         (reach_in D.state result.0 (C.state files.new) (E.state entropy.new)) }
-    ensures payload { FitsPayload 0 result.1 }
+    ensures payload { FitsPayload request_limit result.1 }
 {
     let mut disk = disk;
     match command {
@@ -398,6 +400,7 @@ fn serve_suspended<D: Disk, C: Cabinet, E: Entropy>(
     queue: Queue,
     line: &[u8],
     command: &Command,
+    buffer: &mut [u8],
     files: &mut C,
     entropy: &mut E,
 ) -> (Held<D>, Reply)
@@ -405,11 +408,12 @@ fn serve_suspended<D: Disk, C: Cabinet, E: Entropy>(
     requires named { IsSome (provider_of command.now) }
     requires stays { takes_out command.now ≡ false }
     requires needed { refused_by (needs command.now) (IsSuspended (kept_of suspended)) ≡ None }
-    ensures serves { (bytes : List ℕ) → GoesThrough line.now command.now
+    requires room { length buffer.old ≡ request_limit }
+    ensures serves { GoesThrough line.now command.now
         (reach_of (D.state suspended.disk) (IsSuspended (kept_of suspended)) (C.state files.old) (E.state entropy.old))
-        (answer_of bytes result.1)
+        (answer_of buffer.new result.1)
         (reach_in D.state result.0 (C.state files.new) (E.state entropy.new)) }
-    ensures payload { FitsPayload 0 result.1 }
+    ensures payload { FitsPayload request_limit result.1 }
 {
     let mut suspended = suspended;
     match command {

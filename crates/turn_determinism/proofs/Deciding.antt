@@ -1,12 +1,10 @@
 -- Steps that change nothing, and those that change only what a drawer does with its disk.
-use Rattle.std.proofs.Common.{◌≡◌, ◌∙◌, ℕ, ◌*◌, refl, ap, sym, arith, Bool, true, false, Option, Result, Ok, Err}
-use Rattle.command_rows.specs.Rows.{Admits, Attaches, Attachment, Decides, Holding, Idle, IsAttached, NeedsSectors, Reach, admitted, in_range}
-use Rattle.command_rows.specs.Vocabulary.{Metadata, Refusal, media_sectors}
+use Rattle.std.proofs.Common.{◌≡◌, ◌∙◌, ℕ, refl, ap, sym, arith, Bool, true, false, Result, Ok, Err}
+use Rattle.command_rows.specs.Rows.{Attaches, Attachment, Decides, DecidesBySize, Holding, Idle, IsAttached, Reach}
+use Rattle.command_rows.specs.Vocabulary.{Refusal}
 use Rattle.eli_base.specs.declared.refusals.Refusal.TheVariants as refusals
 use Rattle.command_rows.specs.Turn.{AttachesUnless}
 use Rattle.command_rows.specs.verbs.Kill.{Withdraws}
-use Rattle.command_rows.specs.verbs.Setkey.{IsUsed, usable}
-use Rattle.command_rows.specs.verbs.Verify.{NeedsPlace, if_inside}
 use Rattle.turn_determinism.proofs.Alike.{Alike}
 use Rattle.turn_determinism.proofs.Steps.{Both, HasMemory, Later, Settled, Sure, settled, settled_still, still_later}
 
@@ -20,18 +18,8 @@ decides_by decided same = record {
 pub decides_sure : {A : Type 0} (decided : Result A Refusal) → Sure (Decides decided)
 decides_sure decided = decides_by (λ r. decided) (λ r r' same. refl)
 
-pub sectors_sure : (a : Attachment) (sector count : ℕ) → Sure (NeedsSectors a sector count)
-sectors_sure a sector count =
-    decides_by _ (λ r r' same. ap (λ (n : ℕ). in_range sector count (media_sectors a.keying.auth a.keying.sectorsize (512 * n))) same.disk.size)
-
-pub place_sure : (a : Attachment) (place : ℕ) → Sure (NeedsPlace a place)
-place_sure a place = decides_by _ (λ r r' same. ap (λ (n : ℕ). if_inside place (media_sectors a.keying.auth a.keying.sectorsize (512 * n))) same.disk.size)
-
-pub admits_sure : (m : Metadata) (slot : Option ℕ) → Sure (Admits m slot)
-admits_sure m slot = decides_by _ (λ r r' same. ap (λ (n : ℕ). admitted m n slot) same.disk.size)
-
-pub used_sure : (m : Metadata) → Sure (IsUsed m)
-used_sure m = decides_by _ (λ r r' same. ap (λ (n : ℕ). usable m n) same.disk.size)
+pub size_sure : {A : Type 0} (decided : ℕ → Result A Refusal) → Sure (DecidesBySize decided)
+size_sure decided = decides_by (λ r. decided r.disk.size) (λ r r' same. ap decided same.disk.size)
 
 -- ---- what a drawer does with its disk
 

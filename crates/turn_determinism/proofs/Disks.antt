@@ -1,7 +1,7 @@
 -- Steps that read the disk and write it, and those that flush it and change what the drawer does with it.
 use Rattle.std.proofs.Common.{◌≡◌, ◌∙◌, ◌⊎◌, inl, inr, ℕ, ◌+◌, ◌-◌, ◌*◌, ◌≤◌, List, [], ◌∷◌, refl, ap, sym, subst, arith, Option, Some, Result, Ok, Err}
 use Rattle.block_traits.specs.declared.disk.Event.TheVariants.{Flush}
-use Rattle.command_rows.specs.Rows.{Attachment, Detaches, Does, DoesEvents, IsSuspended, Reach, ReadsLastSector, ReadsSectors, SectorsAnswer, WritesSectors, or_refusal}
+use Rattle.command_rows.specs.Rows.{Attachment, Detaches, Does, DoesEvents, IsSuspended, Reach, Reads, ReadsDisk, ReadsLastSector, ReadsSectors, SectorsAnswer, WritesSectors, or_refusal}
 use Rattle.command_rows.specs.Vocabulary.{Content, Counted, DiskState, Event, Keying, Logs, MetaFault, Metadata, ReadMetaFault, ReadsAs, ReadsFrom, ReadsMetadata, Refusal, Rose, data_reading, data_writes, last_sector, metadata_in, present, read_refusal_of, units}
 use Rattle.eli_base.specs.declared.refusals.Refusal.TheVariants as refusals
 use Rattle.eli_metadata.specs.declared.place.ReadMetaFault.TheVariants.{TooSmall, DeviceFault, Meta}
@@ -88,24 +88,59 @@ suspends_sure a = record {
       beside_settled old old' answer answer' new new' both is.0 is.1 (h'.holding ∙ ap IsSuspended (kept_same a old.disk old'.disk both.same.disk.size) ∙ sym h.holding) h.outside.cabinet h'.outside.cabinet h.outside.entropy h'.outside.entropy;
 }
 
+-- ---- the disk is read
+
+-- the answer is the same of disks that are alike, where none fails, and so is what is read of them
+abbrev pub ReadsAlike : {A : Type 0} → (DiskState → Result A Refusal → DiskState → Type 0) → Type 0
+ReadsAlike {A} Answers =
+    (d d' : DiskState) (answer answer' : Result A Refusal) (e e' : DiskState) → AlikeDisk d d' → ¬ Rose d.faults e.faults → ¬ Rose d'.faults e'.faults → Answers d answer e → Answers d' answer' e' → (answer' ≡ answer) × AlikeDisk e e'
+
+pub reads_sure : {A : Type 0} {Answers : DiskState → Result A Refusal → DiskState → Type 0} → ((d : DiskState) (answer : Result A Refusal) (e : DiskState) → Answers d answer e → d.faults ≤ e.faults) → ReadsAlike Answers → Sure (ReadsDisk Answers)
+reads_sure {A} {Answers} later alike = record {
+  goes = λ old answer new h. beside_later old new (later old.disk answer new.disk h.reads) h.outside.cabinet h.outside.entropy;
+  settles = λ old old' answer answer' new new' both memory memory' h h'.
+      let is = alike old.disk old'.disk answer answer' new.disk new'.disk both.same.disk both.quiet.disk both.quiet'.disk h.reads h'.reads in
+      beside_settled old old' answer answer' new new' both is.0 is.1 (same_holding old old' new new' both.same h.holding h'.holding) h.outside.cabinet h'.outside.cabinet h.outside.entropy h'.outside.entropy;
+}
+
+-- ---- a device sector is read
+
+-- the answer is made of the bytes of the device sector of this number, which is read once
+pub record AnswersSector {X : Type 0} (place : ℕ) (found : List ℕ → X) (c : Content) (d : DiskState) (answer : X) (e : DiskState) : Type 0 where
+  pub is : answer ≡ found (present c place)
+  pub logs : Logs [] d e
+  pub asked : Counted 1 d.reads e.reads
+
+pub sector_alike : {X : Type 0} (place place' : ℕ) (found : List ℕ → X) (d d' : DiskState) (answer answer' : X) (e e' : DiskState) → (same : AlikeDisk d d') → place' ≡ place
+    → AnswersSector place found same.content d answer e → AnswersSector place' found same.content d' answer' e' → (answer' ≡ answer) × AlikeDisk e e'
+sector_alike place place' found d d' answer answer' e e' same there h h' =
+    (h'.is ∙ ap (λ (n : ℕ). found (present same.content n)) there ∙ sym h.is, logs_alike [] d d' e e' same h.logs h'.logs (counted_same 1 same.reads h.asked h'.asked))
+
+-- the image is too small, which its size in bytes tells, and nothing is read
+pub record AnswersSmall {X : Type 0} (small : ℕ → X) (d : DiskState) (answer : X) (e : DiskState) : Type 0 where
+  pub few : d.size + 1 ≤ 2
+  pub is : answer ≡ small (512 * d.size)
+  pub unchanged : e ≡ d
+
+-- or the last sector is read
+pub record AnswersLast {X : Type 0} (found : List ℕ → X) (c : Content) (d : DiskState) (answer : X) (e : DiskState) : Type 0 where
+  pub enough : 2 ≤ d.size
+  pub sector : AnswersSector (last_sector d) found c d answer e
+
+pub last_alike : {X : Type 0} (small : ℕ → X) (found : List ℕ → X) (d d' : DiskState) (answer answer' : X) (e e' : DiskState) → (same : AlikeDisk d d') → AnswersSmall small d answer e ⊎ AnswersLast found same.content d answer e
+    → AnswersSmall small d' answer' e' ⊎ AnswersLast found same.content d' answer' e' → (answer' ≡ answer) × AlikeDisk e e'
+last_alike small found d d' answer answer' e e' same (inl h) (inl h') =
+    (h'.is ∙ ap (λ (n : ℕ). small (512 * n)) same.size ∙ sym h.is, still_disk d d' e e' same h.unchanged h'.unchanged)
+last_alike small found d d' answer answer' e e' same (inl h) (inr h') = absurd (omega (arith, h.few, h'.enough, same.size))
+last_alike small found d d' answer answer' e e' same (inr h) (inl h') = absurd (omega (arith, h.enough, h'.few, same.size))
+last_alike small found d d' answer answer' e e' same (inr h) (inr h') =
+    sector_alike (last_sector d) (last_sector d') found d d' answer answer' e e' same (ap (λ (n : ℕ). n - 1) same.size) h.sector h'.sector
+
 -- ---- the metadata are read
 
 as_read : Result Metadata MetaFault → Result Metadata ReadMetaFault
 as_read (Ok m) = Ok m
 as_read (Err fault) = Err (Meta fault)
-
--- the image is too small, and nothing is read
-record FindsSmall (d : DiskState) (read : Result Metadata ReadMetaFault) (e : DiskState) : Type 0 where
-  small : d.size + 1 ≤ 2
-  is : read ≡ Err (TooSmall (512 * d.size))
-  unchanged : e ≡ d
-
--- the last sector is read, as it stands
-record FindsLast (d : DiskState) (c : Content) (read : Result Metadata ReadMetaFault) (e : DiskState) : Type 0 where
-  enough : 2 ≤ d.size
-  is : read ≡ as_read (metadata_in (present c (last_sector d)))
-  logs : Logs [] d e
-  asked : Counted 1 d.reads e.reads
 
 metadata_later : (d : DiskState) (read : Result Metadata ReadMetaFault) (e : DiskState) → ReadsMetadata d read e → d.faults ≤ e.faults
 metadata_later d (Ok m) e h = h.logs.faults
@@ -113,45 +148,35 @@ metadata_later d (Err (TooSmall size)) e h = same_disk_later d e h.2
 metadata_later d (Err DeviceFault) e h = h.fails.logs.faults
 metadata_later d (Err (Meta fault)) e h = h.logs.faults
 
-metadata_is : (d : DiskState) (c : Content) (read : Result Metadata ReadMetaFault) (e : DiskState) → d.content ≡ Some c → ¬ Rose d.faults e.faults → ReadsMetadata d read e → FindsSmall d read e ⊎ FindsLast d c read e
+metadata_is : (d : DiskState) (c : Content) (read : Result Metadata ReadMetaFault) (e : DiskState) → d.content ≡ Some c → ¬ Rose d.faults e.faults → ReadsMetadata d read e
+    → AnswersSmall (λ size. Err (TooSmall size)) d read e ⊎ AnswersLast (λ bytes. as_read (metadata_in bytes)) c d read e
 unfolding as_read
 metadata_is d c (Ok m) e told quiet h = inr (record {
   enough = h.enough;
-  is = ap as_read (h.answered ∙ ap metadata_in (given_by d c (last_sector d) h.bytes told h.told));
-  logs = h.logs;
-  asked = h.asked;
+  sector = record { is = ap as_read (h.answered ∙ ap metadata_in (given_by d c (last_sector d) h.bytes told h.told)); logs = h.logs; asked = h.asked };
 })
-metadata_is d c (Err (TooSmall size)) e told quiet h = inl (record { small = omega (arith, h.0); is = ap (λ (n : ℕ). Err (TooSmall n)) h.1; unchanged = h.2 })
+metadata_is d c (Err (TooSmall size)) e told quiet h = inl (record { few = omega (arith, h.0); is = ap (λ (n : ℕ). Err (TooSmall n)) h.1; unchanged = h.2 })
 metadata_is d c (Err DeviceFault) e told quiet h = absurd (quiet h.fails.rose)
 metadata_is d c (Err (Meta fault)) e told quiet h = inr (record {
   enough = h.enough;
-  is = ap as_read (h.answered ∙ ap metadata_in (given_by d c (last_sector d) h.bytes told h.told));
-  logs = h.logs;
-  asked = h.asked;
+  sector = record { is = ap as_read (h.answered ∙ ap metadata_in (given_by d c (last_sector d) h.bytes told h.told)); logs = h.logs; asked = h.asked };
 })
-
-metadata_by : (d d' : DiskState) (read read' : Result Metadata ReadMetaFault) (e e' : DiskState) (same : AlikeDisk d d') → FindsSmall d read e ⊎ FindsLast d same.content read e → FindsSmall d' read' e' ⊎ FindsLast d' same.content read' e'
-    → (read' ≡ read) × AlikeDisk e e'
-metadata_by d d' read read' e e' same (inl h) (inl h') =
-    (h'.is ∙ ap (λ (n : ℕ). Err (TooSmall (512 * n))) same.size ∙ sym h.is, still_disk d d' e e' same h.unchanged h'.unchanged)
-metadata_by d d' read read' e e' same (inl h) (inr h') = absurd (omega (arith, h.small, h'.enough, same.size))
-metadata_by d d' read read' e e' same (inr h) (inl h') = absurd (omega (arith, h.enough, h'.small, same.size))
-metadata_by d d' read read' e e' same (inr h) (inr h') =
-    (h'.is ∙ ap (λ (n : ℕ). as_read (metadata_in (present same.content (n - 1)))) same.size ∙ sym h.is, logs_alike [] d d' e e' same h.logs h'.logs (counted_same 1 same.reads h.asked h'.asked))
 
 metadata_alike : (d d' : DiskState) (read read' : Result Metadata ReadMetaFault) (e e' : DiskState) → AlikeDisk d d' → ¬ Rose d.faults e.faults → ¬ Rose d'.faults e'.faults → ReadsMetadata d read e → ReadsMetadata d' read' e'
     → (read' ≡ read) × AlikeDisk e e'
 metadata_alike d d' read read' e e' same quiet quiet' h h' =
-    metadata_by d d' read read' e e' same (metadata_is d same.content read e same.told quiet h) (metadata_is d' same.content read' e' same.told' quiet' h')
+    last_alike _ _ d d' read read' e e' same (metadata_is d same.content read e same.told quiet h) (metadata_is d' same.content read' e' same.told' quiet' h')
+
+reads_later : (d : DiskState) (answer : Result Metadata Refusal) (e : DiskState) → Reads d answer e → d.faults ≤ e.faults
+reads_later d answer e h = metadata_later d h.read e h.reads
+
+reads_alike : ReadsAlike Reads
+reads_alike d d' answer answer' e e' same quiet quiet' h h' =
+    let is = metadata_alike d d' h.read h'.read e e' same quiet quiet' h.reads h'.reads in
+    (h'.answered ∙ ap (or_refusal read_refusal_of) is.0 ∙ sym h.answered, is.1)
 
 pub reads_last_sure : Sure ReadsLastSector
-reads_last_sure = record {
-  goes = λ old answer new h. beside_later old new (metadata_later old.disk h.reads.read new.disk h.reads.reads) h.cabinet h.entropy;
-  settles = λ old old' answer answer' new new' both memory memory' h h'.
-      let is = metadata_alike old.disk old'.disk h.reads.read h'.reads.read new.disk new'.disk both.same.disk both.quiet.disk both.quiet'.disk h.reads.reads h'.reads.reads in
-      beside_settled old old' answer answer' new new' both (h'.reads.answered ∙ ap (or_refusal read_refusal_of) is.0 ∙ sym h.reads.answered) is.1
-      (same_holding old old' new new' both.same h.holding h'.holding) h.cabinet h'.cabinet h.entropy h'.entropy;
-}
+reads_last_sure = reads_sure reads_later reads_alike
 
 -- ---- sectors are read
 
@@ -199,8 +224,7 @@ unfolding units_asked
 asks_same k sector count (Ok bytes) many many' h h' = h' ∙ sym h
 asks_same k sector count (Err offset) many many' h h' = omega (arith, h, h')
 
-run_alike : (k : Keying) (sector count : ℕ) (d d' : DiskState) (answer answer' : Result (List ℕ) Refusal) (e e' : DiskState) → AlikeDisk d d' → ¬ Rose d.faults e.faults → ¬ Rose d'.faults e'.faults
-    → SectorsAnswer k sector count d answer e → SectorsAnswer k sector count d' answer' e' → (answer' ≡ answer) × AlikeDisk e e'
+run_alike : (k : Keying) (sector count : ℕ) → ReadsAlike (SectorsAnswer k sector count)
 run_alike k sector count d d' answer answer' e e' same quiet quiet' h h' =
     let r = run_is k sector count same.content d answer e same.told quiet h in
     let r' = run_is k sector count same.content d' answer' e' same.told' quiet' h' in
@@ -209,9 +233,4 @@ run_alike k sector count d d' answer answer' e e' same quiet quiet' h h' =
     (r'.is ∙ sym r.is, logs_alike [] d d' e e' same r.logs r'.logs (counted_same r.many same.reads r.asked (subst P many r'.asked)))
 
 pub reads_sectors_sure : (a : Attachment) (sector count : ℕ) → Sure (ReadsSectors a sector count)
-reads_sectors_sure a sector count = record {
-  goes = λ old answer new h. beside_later old new (run_later a.keying sector count old.disk answer new.disk h.reads) h.outside.cabinet h.outside.entropy;
-  settles = λ old old' answer answer' new new' both memory memory' h h'.
-      let is = run_alike a.keying sector count old.disk old'.disk answer answer' new.disk new'.disk both.same.disk both.quiet.disk both.quiet'.disk h.reads h'.reads in
-      beside_settled old old' answer answer' new new' both is.0 is.1 (same_holding old old' new new' both.same h.holding h'.holding) h.outside.cabinet h'.outside.cabinet h.outside.entropy h'.outside.entropy;
-}
+reads_sectors_sure a sector count = reads_sure (run_later a.keying sector count) (run_alike a.keying sector count)

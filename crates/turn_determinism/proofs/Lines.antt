@@ -14,13 +14,13 @@ use Rattle.command_rows.proofs.Replies.{Replying, digest_replying, done_replying
 use Rattle.turn_determinism.specs.Quiet as quiet
 use Rattle.turn_determinism.specs.Same.{IsSameCount, LoadsAsMany, LoadsUnlessMissed}
 use Rattle.turn_determinism.proofs.Alike.{Alike, still_alike, uncounted_same}
-use Rattle.turn_determinism.proofs.Deciding.{decides_sure, sectors_sure, withdraws_sure}
-use Rattle.turn_determinism.proofs.Disks.{detaches_sure, does_sure, reads_last_sure, reads_sectors_sure, suspends_sure, writes_sure}
-use Rattle.turn_determinism.proofs.Files.{backs_up_sure, components_sure, file_sure, stores_sure}
-use Rattle.turn_determinism.proofs.Keys.{makes_sure, writes_back_sure}
-use Rattle.turn_determinism.proofs.Queues.{reaps_sure, request_sure, steps_request_sure}
-use Rattle.turn_determinism.proofs.Places.{destroys_sure, finds_last_sure, moves_sure}
-use Rattle.turn_determinism.proofs.Rows.{attach_row_sure, delkey_row_sure, resume_row_sure, setkey_row_sure, submit_row_sure, verify_row_sure}
+use Rattle.turn_determinism.proofs.Deciding
+use Rattle.turn_determinism.proofs.Disks
+use Rattle.turn_determinism.proofs.Files
+use Rattle.turn_determinism.proofs.Keys
+use Rattle.turn_determinism.proofs.Queues
+use Rattle.turn_determinism.proofs.Places
+use Rattle.turn_determinism.proofs.Rows
 use Rattle.turn_determinism.proofs.Steps.{Both, HasMemory, ResultLoads, Step, Sure, then_sure, unless_missed}
 
 -- the same is answered, what is reached is alike, and as many files were loaded, unless one is refused
@@ -77,35 +77,35 @@ suspended_one {A} {answer_to} {Row} replying sure old old' reply reply' new new'
 
 row_one : (line : List ℕ) (command : Command) → AreOne (GoesThrough line command)
 row_one line commands.List = λ old old' reply reply' new new' both memory memory' h h'. absurd h
-row_one line (commands.Dump prov) = replies_one dump_replying reads_last_sure
+row_one line (commands.Dump prov) = replies_one dump_replying Disks.reads_last_sure
 row_one line (commands.Init prov cipher auth keylen sectorsize iterations autoresize fresh backup) =
     let options : InitOptions = record { cipher = cipher; auth = auth; keylen = keylen; sectorsize = sectorsize; iterations = iterations_of fresh iterations; autoresize = autoresize } in
-    replies_one done_replying (then_sure (components_sure line fresh) (λ parts. then_sure (makes_sure options parts) (λ m. backs_up_sure line backup m)))
-row_one line (commands.Attach prov only_check readonly slot words) = replies_one done_replying (attach_row_sure line only_check readonly slot words)
-row_one line (commands.Detach prov) = replies_one done_replying detaches_sure
+    replies_one done_replying (then_sure (Files.components_sure line fresh) (λ parts. then_sure (Keys.makes_sure options parts) (λ m. Files.backs_up_sure line backup m)))
+row_one line (commands.Attach prov only_check readonly slot words) = replies_one done_replying (Rows.attach_row_sure line only_check readonly slot words)
+row_one line (commands.Detach prov) = replies_one done_replying Disks.detaches_sure
 row_one line (commands.Read prov sector count) =
-    attached_one payload_replying (λ a. then_sure (decides_sure _) (λ whole. then_sure (sectors_sure a sector whole) (λ _. reads_sectors_sure a sector whole)))
+    attached_one payload_replying (λ a. then_sure (Deciding.decides_sure _) (λ whole. then_sure (Deciding.size_sure _) (λ _. Disks.reads_sectors_sure a sector whole)))
 row_one line (commands.Write prov sector hex) =
     let bytes : List ℕ = bytes_spelled (bytes_at line hex) in
-    attached_one done_replying (λ a. then_sure (decides_sure _) (λ count. then_sure (decides_sure _) (λ _. then_sure (sectors_sure a sector count) (λ _. writes_sure a sector count bytes))))
-row_one line (commands.Flush prov) = replies_one done_replying (does_sure (Flush ∷ []))
-row_one line (commands.Setkey prov iterations slot words fresh) = replies_one done_replying (setkey_row_sure line iterations slot words fresh)
-row_one line (commands.Delkey prov all force slot) = replies_one done_replying (delkey_row_sure all force slot)
-row_one line (commands.Kill prov) = replies_one done_replying (then_sure withdraws_sure (λ _. destroys_sure))
-row_one line (commands.Backup prov file) = replies_one done_replying (then_sure finds_last_sure (λ bytes. stores_sure line file bytes))
+    attached_one done_replying (λ a. then_sure (Deciding.decides_sure _) (λ count. then_sure (Deciding.decides_sure _) (λ _. then_sure (Deciding.size_sure _) (λ _. Disks.writes_sure a sector count bytes))))
+row_one line (commands.Flush prov) = replies_one done_replying (Disks.does_sure (Flush ∷ []))
+row_one line (commands.Setkey prov iterations slot words fresh) = replies_one done_replying (Rows.setkey_row_sure line iterations slot words fresh)
+row_one line (commands.Delkey prov all force slot) = replies_one done_replying (Rows.delkey_row_sure all force slot)
+row_one line (commands.Kill prov) = replies_one done_replying (then_sure Deciding.withdraws_sure (λ _. Places.destroys_sure))
+row_one line (commands.Backup prov file) = replies_one done_replying (then_sure Places.finds_last_sure (λ bytes. Files.stores_sure line file bytes))
 row_one line (commands.Restore file prov force) =
-    replies_one done_replying (then_sure (file_sure file_limit line file) (λ bytes. then_sure (writes_back_sure bytes force) (λ m. decides_sure _)))
-row_one line (commands.Resize prov oldsize) = replies_one done_replying (moves_sure oldsize)
+    replies_one done_replying (then_sure (Files.file_sure file_limit line file) (λ bytes. then_sure (Keys.writes_back_sure bytes force) (λ m. Deciding.decides_sure _)))
+row_one line (commands.Resize prov oldsize) = replies_one done_replying (Places.moves_sure oldsize)
 row_one line (commands.Fill prov seed start count) =
-    attached_one done_replying (λ a. then_sure (decides_sure _) (λ _. then_sure (sectors_sure a start count) (λ _. writes_sure a start count (workload seed (words_of_sectors a.keying.sectorsize count)))))
-row_one line (commands.Sum prov start count) = attached_one digest_replying (λ a. then_sure (sectors_sure a start count) (λ _. then_sure (reads_sectors_sure a start count) (λ bytes. decides_sure _)))
+    attached_one done_replying (λ a. then_sure (Deciding.decides_sure _) (λ _. then_sure (Deciding.size_sure _) (λ _. Disks.writes_sure a start count (workload seed (words_of_sectors a.keying.sectorsize count)))))
+row_one line (commands.Sum prov start count) = attached_one digest_replying (λ a. then_sure (Deciding.size_sure _) (λ _. then_sure (Disks.reads_sectors_sure a start count) (λ bytes. Deciding.decides_sure _)))
 row_one line (commands.Eject prov) = λ old old' reply reply' new new' both memory memory' h h'. absurd h
-row_one line (commands.Submit prov job) = attached_one tag_replying (λ a. submit_row_sure line job a)
-row_one line (commands.Step prov tag) = attached_one left_replying (λ a. then_sure (request_sure a tag) (λ _. steps_request_sure a tag))
-row_one line (commands.Reap prov tag) = attached_one reaped_replying (λ a. then_sure (request_sure a tag) (λ _. reaps_sure a tag))
-row_one line (commands.Suspend prov) = attached_one done_replying (λ a. then_sure (decides_sure _) (λ _. suspends_sure a))
-row_one line (commands.Resume prov words) = suspended_one done_replying (λ kept. resume_row_sure line words kept)
-row_one line (commands.Verify prov file count restart) = attached_one verified_replying (λ a. verify_row_sure line file count restart a)
+row_one line (commands.Submit prov job) = attached_one tag_replying (λ a. Rows.submit_row_sure line job a)
+row_one line (commands.Step prov tag) = attached_one left_replying (λ a. then_sure (Queues.request_sure a tag) (λ _. Queues.steps_request_sure a tag))
+row_one line (commands.Reap prov tag) = attached_one reaped_replying (λ a. then_sure (Queues.request_sure a tag) (λ _. Queues.reaps_sure a tag))
+row_one line (commands.Suspend prov) = attached_one done_replying (λ a. then_sure (Deciding.decides_sure _) (λ _. Disks.suspends_sure a))
+row_one line (commands.Resume prov words) = suspended_one done_replying (λ kept. Rows.resume_row_sure line words kept)
+row_one line (commands.Verify prov file count restart) = attached_one verified_replying (λ a. Rows.verify_row_sure line file count restart a)
 
 -- ---- the gate before the row
 

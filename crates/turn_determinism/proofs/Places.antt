@@ -1,5 +1,5 @@
 -- Steps that find the last sector, move metadata, destroy them and sweep units.
-use Rattle.std.proofs.Common.{◌≡◌, ◌∙◌, ◌⊎◌, inl, inr, ℕ, ◌+◌, ◌*◌, ◌-◌, ◌==◌, ◌≤◌, List, [], refl, ap, sym, subst, arith, Bool, true, cond, Option, None, Some, Result, Ok, Err}
+use Rattle.std.proofs.Common.{◌≡◌, ◌∙◌, ◌⊎◌, inl, inr, ℕ, ◌+◌, ◌*◌, ◌==◌, ◌≤◌, List, [], refl, ap, sym, subst, arith, Bool, true, cond, Option, None, Some, Result, Ok, Err}
 use Rattle.std.proofs.lemmas.Bool.{eq-eqb}
 use Rattle.command_rows.specs.Rows.{Attachment, Reach, handed_out}
 use Rattle.command_rows.specs.Vocabulary.{Content, Counted, DiskState, EntropyState, Event, Finds, Kills, Logs, MetaFault, Metadata, Refusal, RefusesOld, RefusesSizes, Resizes, Rose, Saves, StandFrom, Sweep, TakesTrash, failing_units, grown, kill_events, last_sector, media, media_sectors, metadata_in, move_events, old_place, old_refusal, present, refusal_of, sectors_swept, size_refusal, standing, sweep_at, trash_size, units}
@@ -9,7 +9,7 @@ use Rattle.command_rows.specs.verbs.Kill.{DestroysMetadata}
 use Rattle.command_rows.specs.verbs.Resize.{MovesMetadata}
 use Rattle.command_rows.specs.verbs.Verify.{PartAnswer, Sweeps, SweptPart}
 use Rattle.turn_determinism.proofs.Alike.{AlikeDisk, counted_same, given_by, logs_alike, still_disk, still_entropy, takes_alike, takes_same}
-use Rattle.turn_determinism.proofs.Disks.{beside_later, beside_settled, same_holding}
+use Rattle.turn_determinism.proofs.Disks.{AnswersLast, AnswersSmall, last_alike, reads_sure}
 use Rattle.turn_determinism.proofs.Keys.{drawing_later, drawing_settled, refusal_same, unread_alike, unrefused}
 use Rattle.turn_determinism.proofs.Steps.{Both, Settled, Sure, same_disk_later, same_entropy_later}
 
@@ -26,55 +26,32 @@ as_found : List ℕ → Result Metadata MetaFault → Result (List ℕ) Refusal
 as_found bytes (Ok m) = Ok bytes
 as_found bytes (Err fault) = Err (refusal_of fault)
 
-record SavesSmall (d : DiskState) (answer : Result (List ℕ) Refusal) (e : DiskState) : Type 0 where
-  small : d.size + 1 ≤ 2
-  is : answer ≡ Err (refusals.TooSmall (512 * d.size))
-  unchanged : e ≡ d
-
-record SavesLast (d : DiskState) (c : Content) (answer : Result (List ℕ) Refusal) (e : DiskState) : Type 0 where
-  enough : 2 ≤ d.size
-  is : answer ≡ as_found (present c (last_sector d)) (metadata_in (present c (last_sector d)))
-  logs : Logs [] d e
-  asked : Counted 1 d.reads e.reads
-
 found_is : (bytes now : List ℕ) (found : Result Metadata MetaFault) → bytes ≡ now → metadata_in bytes ≡ found → as_found bytes found ≡ as_found now (metadata_in now)
 found_is bytes now found is was = ap (as_found bytes) (sym was) ∙ ap (λ (b : List ℕ). as_found b (metadata_in b)) is
 
 saves_is : (d : DiskState) (c : Content) (before : List ℕ) (read : Result (Unit {0}) Refusal) (bytes : List ℕ) (e : DiskState) → d.content ≡ Some c → ¬ Rose d.faults e.faults → Saves d before read bytes e
-    → SavesSmall d (handed_out bytes read) e ⊎ SavesLast d c (handed_out bytes read) e
+    → AnswersSmall (λ size. Err (refusals.TooSmall size)) d (handed_out bytes read) e ⊎ AnswersLast (λ now. as_found now (metadata_in now)) c d (handed_out bytes read) e
 unfolding as_found
 saves_is d c before (Ok done) bytes e told quiet h =
     let now = given_by d c (last_sector d) bytes told h.reads.told in
-    inr (record { enough = h.reads.enough; is = found_is bytes (present c (last_sector d)) (Ok h.m) now h.is; logs = h.reads.logs; asked = h.reads.asked })
-saves_is d c before (Err (refusals.TooSmall size)) bytes e told quiet h = inl (record { small = omega (arith, h.small); is = ap (λ (n : ℕ). Err (refusals.TooSmall n)) h.bytes; unchanged = h.unchanged })
+    inr (record { enough = h.reads.enough; sector = record { is = found_is bytes (present c (last_sector d)) (Ok h.m) now h.is; logs = h.reads.logs; asked = h.reads.asked } })
+saves_is d c before (Err (refusals.TooSmall size)) bytes e told quiet h = inl (record { few = omega (arith, h.small); is = ap (λ (n : ℕ). Err (refusals.TooSmall n)) h.bytes; unchanged = h.unchanged })
 saves_is d c before (Err refusals.DeviceFault) bytes e told quiet h = absurd (quiet h.fails.rose)
 saves_is d c before (Err refusal) bytes e told quiet h =
     let now = given_by d c (last_sector d) bytes told h.reads.told in
-    inr (record { enough = h.reads.enough; is = ap (λ (r : Refusal). Err r) h.cause ∙ found_is bytes (present c (last_sector d)) (Err h.fault) now h.is; logs = h.reads.logs; asked = h.reads.asked })
+    inr (record { enough = h.reads.enough; sector = record { is = ap (λ (r : Refusal). Err r) h.cause ∙ found_is bytes (present c (last_sector d)) (Err h.fault) now h.is; logs = h.reads.logs; asked = h.reads.asked } })
 
-saves_by : (d d' : DiskState) (answer answer' : Result (List ℕ) Refusal) (e e' : DiskState) (same : AlikeDisk d d') → SavesSmall d answer e ⊎ SavesLast d same.content answer e → SavesSmall d' answer' e' ⊎ SavesLast d' same.content answer' e'
-    → (answer' ≡ answer) × AlikeDisk e e'
-saves_by d d' answer answer' e e' same (inl h) (inl h') =
-    (h'.is ∙ ap (λ (n : ℕ). Err (refusals.TooSmall (512 * n))) same.size ∙ sym h.is, still_disk d d' e e' same h.unchanged h'.unchanged)
-saves_by d d' answer answer' e e' same (inl h) (inr h') = absurd (omega (arith, h.small, h'.enough, same.size))
-saves_by d d' answer answer' e e' same (inr h) (inl h') = absurd (omega (arith, h.enough, h'.small, same.size))
-saves_by d d' answer answer' e e' same (inr h) (inr h') =
-    (h'.is ∙ ap (λ (n : ℕ). as_found (present same.content (n - 1)) (metadata_in (present same.content (n - 1)))) same.size ∙ sym h.is, logs_alike [] d d' e e' same h.logs h'.logs (counted_same 1 same.reads h.asked h'.asked))
-
-found_last : (c : Content) (old : Reach) (answer : Result (List ℕ) Refusal) (new : Reach) → old.disk.content ≡ Some c → ¬ Rose old.disk.faults new.disk.faults → FindsLastSector old answer new
-    → SavesSmall old.disk answer new.disk ⊎ SavesLast old.disk c answer new.disk
-found_last c old answer new told quiet h =
-    let P : Result (List ℕ) Refusal → Type 0 = λ r. SavesSmall old.disk r new.disk ⊎ SavesLast old.disk c r new.disk in
-    subst P (sym h.finds.answered) (saves_is old.disk c h.finds.before h.finds.read h.finds.bytes new.disk told quiet h.finds.saves)
+saved_alike : (d d' : DiskState) (before before' : List ℕ) (read read' : Result (Unit {0}) Refusal) (bytes bytes' : List ℕ) (e e' : DiskState) → AlikeDisk d d' → ¬ Rose d.faults e.faults → ¬ Rose d'.faults e'.faults
+    → Saves d before read bytes e → Saves d' before' read' bytes' e' → (handed_out bytes' read' ≡ handed_out bytes read) × AlikeDisk e e'
+saved_alike d d' before before' read read' bytes bytes' e e' same quiet quiet' h h' =
+    last_alike _ _ d d' _ _ e e' same (saves_is d same.content before read bytes e same.told quiet h) (saves_is d' same.content before' read' bytes' e' same.told' quiet' h')
 
 pub finds_last_sure : Sure FindsLastSector
-finds_last_sure = record {
-  goes = λ old answer new h. beside_later old new (saves_later old.disk h.finds.before h.finds.read h.finds.bytes new.disk h.finds.saves) h.outside.cabinet h.outside.entropy;
-  settles = λ old old' answer answer' new new' both memory memory' h h'.
-      let same = both.same.disk in
-      let is = saves_by old.disk old'.disk answer answer' new.disk new'.disk same (found_last same.content old answer new same.told both.quiet.disk h) (found_last same.content old' answer' new' same.told' both.quiet'.disk h') in
-      beside_settled old old' answer answer' new new' both is.0 is.1 (same_holding old old' new new' both.same h.holding h'.holding) h.outside.cabinet h'.outside.cabinet h.outside.entropy h'.outside.entropy;
-}
+finds_last_sure =
+    reads_sure (λ d answer e h. saves_later d h.before h.read h.bytes e h.saves)
+    (λ d d' answer answer' e e' same quiet quiet' h h'.
+    let is = saved_alike d d' h.before h'.before h.read h'.read h.bytes h'.bytes e e' same quiet quiet' h.saves h'.saves in
+    (h'.answered ∙ is.0 ∙ sym h.answered, is.1))
 
 -- ---- metadata are destroyed
 
@@ -313,10 +290,8 @@ part_alike s d d' answer answer' e e' same quiet quiet' h h' =
     (x'.is ∙ sym x.is, logs_alike [] d d' e e' same x.logs x'.logs (counted_same (sectors_swept s * units s.keying) same.reads x.asked x'.asked))
 
 pub sweeps_sure : (a : Attachment) (place count : ℕ) → Sure (Sweeps a place count)
-sweeps_sure a place count = record {
-  goes = λ old answer new h. beside_later old new (part_later (sweep_at a.keying (media a.keying old.disk) place count) old.disk answer new.disk h.sweeps) h.outside.cabinet h.outside.entropy;
-  settles = λ old old' answer answer' new new' both memory memory' h h'.
-      let P : ℕ → Type 0 = λ n. PartAnswer (sweep_at a.keying (media_sectors a.keying.auth a.keying.sectorsize (512 * n)) place count) old'.disk answer' new'.disk in
-      let is = part_alike (sweep_at a.keying (media a.keying old.disk) place count) old.disk old'.disk answer answer' new.disk new'.disk both.same.disk both.quiet.disk both.quiet'.disk h.sweeps (subst P both.same.disk.size h'.sweeps) in
-      beside_settled old old' answer answer' new new' both is.0 is.1 (same_holding old old' new new' both.same h.holding h'.holding) h.outside.cabinet h'.outside.cabinet h.outside.entropy h'.outside.entropy;
-}
+sweeps_sure a place count =
+    reads_sure (λ d answer e h. part_later (sweep_at a.keying (media a.keying d) place count) d answer e h)
+    (λ d d' answer answer' e e' same quiet quiet' h h'.
+    let P : ℕ → Type 0 = λ n. PartAnswer (sweep_at a.keying (media_sectors a.keying.auth a.keying.sectorsize (512 * n)) place count) d' answer' e' in
+    part_alike (sweep_at a.keying (media a.keying d) place count) d d' answer answer' e e' same quiet quiet' h (subst P same.size h'))

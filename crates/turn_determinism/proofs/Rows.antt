@@ -12,7 +12,7 @@ use Rattle.command_rows.specs.verbs.Resume.{ResumeRow}
 use Rattle.command_rows.specs.verbs.Setkey.{SetkeyAttachedRow, SetkeyIdleRow, SetkeyRow}
 use Rattle.command_rows.specs.verbs.Submit.{SubmitRow}
 use Rattle.command_rows.specs.verbs.Verify.{VerifyRow}
-use Rattle.turn_determinism.proofs.Deciding.{admits_sure, attaches_sure, decides_sure, place_sure, unless_sure, used_sure}
+use Rattle.turn_determinism.proofs.Deciding.{attaches_sure, decides_sure, size_sure, unless_sure}
 use Rattle.turn_determinism.proofs.Disks.{reads_last_sure}
 use Rattle.turn_determinism.proofs.Files.{components_sure, finds_place_sure, stores_sure}
 use Rattle.turn_determinism.proofs.Keys.{stores_key_sure, takes_keys_out_sure}
@@ -24,7 +24,7 @@ use Rattle.turn_determinism.proofs.Steps.{Both, HasMemory, Later, Settled, Step,
 
 try_row_sure : (line : List ℕ) (slot : Option ℕ) (readonly : Bool) (words : KeyWords) → Sure (TryRow line slot readonly words)
 try_row_sure line slot readonly words =
-    then_sure reads_last_sure (λ m. then_sure (admits_sure m slot) (λ settings. then_sure (components_sure line words) (λ parts. decides_sure _)))
+    then_sure reads_last_sure (λ m. then_sure (size_sure _) (λ settings. then_sure (components_sure line words) (λ parts. decides_sure _)))
 
 pub attach_row_sure : (line : List ℕ) (only_check readonly : Bool) (slot : Option ℕ) (words : KeyWords) → Sure (AttachRow line only_check readonly slot words)
 attach_row_sure line only_check readonly slot words = then_sure (try_row_sure line slot readonly words) (λ a. unless_sure only_check a)
@@ -34,12 +34,12 @@ resume_row_sure line words kept = then_sure (try_row_sure line None kept.readonl
 
 setkey_idle_sure : (line : List ℕ) (iterations : Option ℤ) (slot : Option ℕ) (words fresh : KeyWords) → Sure (SetkeyIdleRow line iterations slot words fresh)
 setkey_idle_sure line iterations slot words fresh =
-    then_sure reads_last_sure (λ m. then_sure (admits_sure m None) (λ _. then_sure (decides_sure _) (λ _. then_sure (components_sure line words)
+    then_sure reads_last_sure (λ m. then_sure (size_sure _) (λ _. then_sure (decides_sure _) (λ _. then_sure (components_sure line words)
     (λ parts. then_sure (components_sure line fresh) (λ next. then_sure (decides_sure _) (λ found. stores_key_sure _))))))
 
 setkey_attached_sure : (line : List ℕ) (iterations : Option ℤ) (slot : ℕ) (master : List ℕ) (fresh : KeyWords) → Sure (SetkeyAttachedRow line iterations slot master fresh)
 setkey_attached_sure line iterations slot master fresh =
-    then_sure reads_last_sure (λ m. then_sure (used_sure m) (λ _. then_sure (decides_sure _) (λ _. then_sure (components_sure line fresh) (λ parts. stores_key_sure _))))
+    then_sure reads_last_sure (λ m. then_sure (size_sure _) (λ _. then_sure (decides_sure _) (λ _. then_sure (components_sure line fresh) (λ parts. stores_key_sure _))))
 
 attachment_goes : {A : Type 0} (Idly : Step A) (With : Attachment → Step A) → Sure Idly → ((a : Attachment) → Sure (With a)) → (found : Option Attachment) (old : Reach) (answer : Result A Refusal) (new : Reach)
     → MatchOption found (Idly old answer new) (λ a. With a old answer new) → Later old new
@@ -83,7 +83,7 @@ delkey_row_sure all force slot = record {
 
 pub verify_row_sure : (line : List ℕ) (file : Span) (count : ℕ) (restart : Bool) (a : Attachment) → Sure (VerifyRow line file count restart a)
 verify_row_sure line file count restart a =
-    then_sure (decides_sure _) (λ _. then_sure (finds_place_sure restart line file) (λ place. then_sure (then_sure (place_sure a place) (λ _. sweeps_sure a place count))
+    then_sure (decides_sure _) (λ _. then_sure (finds_place_sure restart line file) (λ place. then_sure (then_sure (size_sure _) (λ _. sweeps_sure a place count))
     (λ part. then_sure (stores_sure line file (le64 part.next)) (λ _. decides_sure _))))
 
 pub submit_row_sure : (line : List ℕ) (job : JobWords) (a : Attachment) → Sure (SubmitRow line job a)

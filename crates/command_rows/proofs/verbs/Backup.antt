@@ -4,8 +4,8 @@ use Rattle.command_words.specs.declared.commands.Command.TheVariants as commands
 use Rattle.eli_base.specs.declared.refusals.Refusal.TheVariants as refusals
 use Rattle.command_rows.specs.Rows.{HoldsNone, LacksMetadata, Reach, done_or, handed_out}
 use Rattle.command_rows.specs.Vocabulary.{Command, DiskState, Logs, Refusal, Saves, Span, refusal_of}
-use Rattle.command_rows.specs.verbs.Backup.{BackupRow, FindsLastSector}
-use Rattle.command_rows.proofs.VerbLaws.{Counts, Grounds, IsGround, IsLawful, Quiet, Still, StillBut, Uncounted, UncountedAnswer, Why, apart_out, done_replying, false_is_true, has_metadata, meta_plain, nothing_changed, plain_cause, plain_uncounted, quiet_did, quiet_failure, quiet_storing, quiet_then, reply_line, row_keeps, row_refused, same_disk, same_files, sound_reply, stays_quiet, still_but_sound, still_but_then, storing_still, storing_why, then_why, uncounted_step}
+use Rattle.command_rows.specs.verbs.Backup.{BackupRow, FindsLastSector, ReadsForBackup}
+use Rattle.command_rows.proofs.VerbLaws.{Grounds, IsGround, IsLawful, Quiet, Still, StillBut, Uncounted, UncountedAnswer, Why, apart_out, done_replying, false_is_true, has_metadata, meta_plain, nothing_changed, plain_cause, plain_uncounted, quiet_did, quiet_failure, quiet_storing, quiet_then, read_still, reply_line, row_keeps, row_refused, same_disk, sound_reply, stays_quiet, still_but_sound, still_but_then, storing_still, storing_why, then_why}
 
 quiet_saves : (old : DiskState) (before : List ℕ) (read : Result (Unit {0}) Refusal) (bytes : List ℕ) (new : DiskState) → Saves old before read bytes new → Logs [] old new
 quiet_saves old before (Ok done) bytes new h = h.reads.logs
@@ -14,7 +14,7 @@ quiet_saves old before (Err refusals.DeviceFault) bytes new h = quiet_failure ol
 quiet_saves old before (Err refusal) bytes new h = h.reads.logs
 
 quiet_finding : Quiet FindsLastSector
-quiet_finding old answer new h = quiet_saves old.disk h.finds.before h.finds.read h.finds.bytes new.disk h.finds.saves
+quiet_finding old answer new h = quiet_saves old.disk h.reads.before h.reads.read h.reads.bytes new.disk h.reads.saves
 
 quiet_backup_row : (line : List ℕ) (file : Span) → Quiet (BackupRow line file)
 quiet_backup_row line file = quiet_then quiet_finding (λ bytes. quiet_storing line file bytes)
@@ -25,9 +25,9 @@ saved_uncounted old before (Err (refusals.TooSmall size)) bytes new h = tt
 saved_uncounted old before (Err refusals.DeviceFault) bytes new h = tt
 saved_uncounted old before (Err refusal) bytes new h = subst (λ (r : Refusal). Uncounted r) (sym h.cause) (plain_uncounted (refusal_of h.fault) (meta_plain h.fault))
 
-finding_counts : Counts FindsLastSector
-finding_counts old answer new h =
-    uncounted_step old answer new (subst (λ (r : Result (List ℕ) Refusal). UncountedAnswer r) (sym h.finds.answered) (saved_uncounted old.disk h.finds.before h.finds.read h.finds.bytes new.disk h.finds.saves)) h.outside.cabinet h.outside.entropy
+finding_uncounted : (old : DiskState) (answer : Result (List ℕ) Refusal) (new : DiskState) → ReadsForBackup old answer new → UncountedAnswer answer
+finding_uncounted old answer new h =
+    subst (λ (r : Result (List ℕ) Refusal). UncountedAnswer r) (sym h.answered) (saved_uncounted old h.before h.read h.bytes new h.saves)
 
 saves_why : (line : List ℕ) (command : Command) (old : Reach) (before : List ℕ) (read : Result (Unit {0}) Refusal) (bytes : List ℕ) (new : Reach) → Grounds line command old (LacksMetadata old.disk) → Saves old.disk before read bytes new.disk
     → Why line command old (handed_out bytes read) new
@@ -40,7 +40,7 @@ saves_why line command old before (Err refusal) bytes new lacks h =
 
 finding_why : (line : List ℕ) (command : Command) (old : Reach) (answer : Result (List ℕ) Refusal) (new : Reach) → Grounds line command old (LacksMetadata old.disk) → FindsLastSector old answer new → Why line command old answer new
 finding_why line command old answer new lacks h =
-    subst (λ (r : Result (List ℕ) Refusal). Why line command old r new) (sym h.finds.answered) (saves_why line command old h.finds.before h.finds.read h.finds.bytes new lacks h.finds.saves)
+    subst (λ (r : Result (List ℕ) Refusal). Why line command old r new) (sym h.reads.answered) (saves_why line command old h.reads.before h.reads.read h.reads.bytes new lacks h.reads.saves)
 
 backup_why : (line : List ℕ) (prov file : Span) (old : Reach) (answer : Result (Unit {0}) Refusal) (new : Reach) → BackupRow line file old answer new → Why line (commands.Backup prov file) old answer new
 backup_why line prov file old answer new h =
@@ -50,7 +50,7 @@ backup_why line prov file old answer new h =
     (λ bytes middle first next. storing_why line command file bytes old middle answer new refl (rw first.outside.cabinet (omega arith)) next.stores)
 
 finding_still : Still FindsLastSector
-finding_still = record { counts = finding_counts; stays = λ old answer new h. h.holding; unstored = λ old answer new h. same_files old.cabinet new.cabinet h.outside.cabinet }
+finding_still = read_still finding_uncounted
 
 backup_still : (line : List ℕ) (file : Span) → StillBut line (Some file) (BackupRow line file)
 backup_still line file = still_but_then finding_still (λ bytes. storing_still line file bytes)

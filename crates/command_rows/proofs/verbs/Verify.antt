@@ -8,7 +8,7 @@ use Rattle.command_rows.specs.Vocabulary.{CabinetState, Command, Counted, DiskSt
 use Rattle.command_rows.specs.verbs.Verify.{FindsPlace, FitsVerify, LoadsPlace, NeedsTags, PartAnswer, RefusesLong, RefusesPlace, SaysPlace, SaysTooFar, StoresPlace, Sweeps, SweepsFrom, SweptPart, VerifyRow, if_inside, if_tagged, place_in, place_size, unless_absent, verified_or}
 use Rattle.command_rows.proofs.PlaceCauses.{wrong_file}
 use Rattle.command_rows.proofs.SweepPlaces.{OfFile, eight_loaded, eight_says, found_place, from_stays, is_inside, place_stays, was_loaded}
-use Rattle.command_rows.proofs.VerbLaws.{Counts, CountsResult, IsLawful, LineHasCause, PlainAnswer, Quiet, SoundReply, Step, Still, StillBut, Stored, StoresAt, StoresNone, StoresOne, UncountedAnswer, Unstored, Why, apart_out, attached, attached_becomes, attached_keeps, attached_quiet, attached_why, by_plain, decides_why, done_still, false_is_true, file_counts, loading_bytes, may_lack_memory, needs, needs_tags, never_both, next_unstored, none_then, not_both, nothing_changed, quiet_failure, quiet_storing, quiet_then, same_disk, same_files, same_quiet, same_then_why, sound_reply, stays_then, still_but_sound, still_but_then, still_decision, still_then, storing_still, storing_why, then_counts, then_since, then_why, uncounted_step, verified_replying, with_attached}
+use Rattle.command_rows.proofs.VerbLaws.{Counts, CountsResult, IsLawful, LineHasCause, PlainAnswer, Quiet, SoundReply, Step, Still, StillBut, Stored, StoresAt, StoresNone, StoresOne, UncountedAnswer, Unstored, Why, apart_out, attached, attached_becomes, attached_keeps, attached_quiet, attached_why, by_plain, decides_why, done_still, false_is_true, file_counts, loading_bytes, may_lack_memory, needs, needs_tags, never_both, next_unstored, none_then, not_both, nothing_changed, quiet_failure, quiet_storing, quiet_then, read_still, same_disk, same_quiet, same_then_why, sound_reply, stays_then, still_but_sound, still_but_then, still_decision, still_then, storing_still, storing_why, then_counts, then_since, then_why, verified_replying, with_attached}
 
 tagged_uncounted : (tagged : Bool) → UncountedAnswer (if_tagged tagged)
 tagged_uncounted true = tt
@@ -29,9 +29,6 @@ part_uncounted : (s : Sweep) (old : DiskState) (answer : Result SweptPart Refusa
 part_uncounted s old (Ok part) new h = tt
 part_uncounted s old (Err refusals.DeviceFault) new h = tt
 part_uncounted s old (Err refusal) new h = absurd h
-
-sweeping_counts : (a : Attachment) (place count : ℕ) → Counts (Sweeps a place count)
-sweeping_counts a place count old answer new h = uncounted_step old answer new (part_uncounted _ old.disk answer new.disk h.sweeps) h.outside.cabinet h.outside.entropy
 
 tags_by : (line : List ℕ) (command : Command) (a : Attachment) (tagged : Bool) (old : Reach) (given : Result (Unit {0}) Refusal) (middle : Reach) → old.holding ≡ IsAttached a → needs_tags command ≡ true → has_tags a.keying.auth ≡ tagged → given ≡ if_tagged tagged
     → Why line command old given middle
@@ -119,7 +116,7 @@ from_why line prov file count restart a place start old answer new is same found
     then_since line command start old answer new h
     (λ given middle first. decides_why line command start (if_inside place (media a.keying old.disk)) old given middle (inside_plain place (media a.keying old.disk))
     (λ refusal bad. attached start.holding ⊥ (RefusesPlace line file restart start.disk start.cabinet.files refusal) a is (far_place line file restart a start old.disk place refusal same found bad)) first)
-    (λ done middle first next. swept_why line command _ start middle answer new (ap (λ (r : Reach). r.disk) first.1 ∙ same) next.sweeps)
+    (λ done middle first next. swept_why line command _ start middle answer new (ap (λ (r : Reach). r.disk) first.1 ∙ same) next.reads)
 
 later_faults : (first middle last : ℕ) (before after : CabinetState) → first ≤ middle → middle ≡ before.faults → after ≡ before → last ≡ after.faults → first ≤ last
 later_faults first middle last before after le is same at =
@@ -160,11 +157,7 @@ place_still false line file =
     still_then (loading_place_still line file) (λ found. still_decision (λ r. place_in file.word found) (λ r. by_plain (place_in file.word found) (place_plain file.word found)))
 
 sweeping_still : (a : Attachment) (place count : ℕ) → Still (Sweeps a place count)
-sweeping_still a place count = record {
-  counts = sweeping_counts a place count;
-  stays = λ old answer new h. h.holding;
-  unstored = λ old answer new h. same_files old.cabinet new.cabinet h.outside.cabinet;
-}
+sweeping_still a place count = read_still (λ old answer new h. part_uncounted _ old answer new h)
 
 sweep_still : (a : Attachment) (place count : ℕ) → Still (SweepsFrom a place count)
 sweep_still a place count =
@@ -179,7 +172,7 @@ quiet_part s old (Err refusal) new h = absurd h
 quiet_from : (a : Attachment) (place count : ℕ) → Quiet (SweepsFrom a place count)
 quiet_from a place count =
     quiet_then (λ old answer new h. same_quiet old new h.1)
-    (λ done old answer new h. quiet_part _ old.disk answer new.disk h.sweeps)
+    (λ done old answer new h. quiet_part _ old.disk answer new.disk h.reads)
 
 quiet_place : (line : List ℕ) (file : Span) (part : SweptPart) → Quiet (StoresPlace line file part)
 quiet_place line file part =

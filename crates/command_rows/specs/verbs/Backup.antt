@@ -1,6 +1,6 @@
 -- `backup`: the metadata are stored in a file (geli(8)).
 use Rattle.std.specs.Prelude.{List, Result, Some, ℕ, ◌≡◌}
-use Rattle.command_rows.specs.Rows.{FindsMetadata, KeepsOutside, LacksMetadata, NoBadFile, NoChanges, NoEvents, OfOther, Reach, Replies, StoresBytes, Then, Verb, asks_nothing, done_or, handed_out, places_nothing}
+use Rattle.command_rows.specs.Rows.{FindsMetadata, LacksMetadata, NoBadFile, NoChanges, NoEvents, OfOther, Reach, ReadsDisk, Replies, StoresBytes, Then, Verb, asks_nothing, done_or, handed_out, places_nothing}
 use Rattle.command_rows.specs.Vocabulary.{DiskState, Refusal, Saves, Span}
 
 -- the last sector was read, into a place that had other bytes before; it is answered where it has metadata
@@ -11,11 +11,9 @@ pub record ReadsForBackup (old : DiskState) (answer : Result (List ℕ) Refusal)
   pub saves : Saves old before read bytes new
   pub answered : answer ≡ handed_out bytes read
 
--- the last sector is read as it is, if it has metadata, and all else stays
-pub record FindsLastSector (old : Reach) (answer : Result (List ℕ) Refusal) (new : Reach) : Type 0 where
-  pub finds : ReadsForBackup old.disk answer new.disk
-  pub holding : new.holding ≡ old.holding
-  pub outside : KeepsOutside old new
+-- the last sector is read as it is, if it has metadata
+abbrev pub FindsLastSector : Reach → Result (List ℕ) Refusal → Reach → Type 0
+FindsLastSector old answer new = ReadsDisk ReadsForBackup old answer new
 
 -- `backup`: the last sector is read, and then stored in a file
 abbrev pub BackupRow : List ℕ → Span → Reach → Result (Unit {0}) Refusal → Reach → Type 0

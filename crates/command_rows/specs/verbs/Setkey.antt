@@ -1,7 +1,7 @@
 -- `setkey`, of an idle drawer and of an attached one: a key is put into a slot (geli(8)).
 use Rattle.std.specs.Prelude.{Bool, Err, IsTrue, List, MatchOption, None, Ok, Option, Result, Some, if◌then◌else◌, nat_le, unwrap_or, ℕ, ℤ, ◌≡◌, ◌⊎◌}
 use Rattle.eli_base.specs.declared.refusals.Refusal.TheVariants as refusals
-use Rattle.command_rows.specs.Rows.{Admits, AreComponents, Decides, HasMetadata, Holding, LacksMetadata, LoadsComponents, NamesParts, OfOther, Reach, ReadsLastSector, RefusesFiles, Replies, ShowsMetadata, Then, Verb, admitted, asks_nothing, attachment_in, done_or, or_refusal, places_nothing, settings_for_size, without_value}
+use Rattle.command_rows.specs.Rows.{Admits, AreComponents, Decides, DecidesBySize, HasMetadata, Holding, LacksMetadata, LoadsComponents, NamesParts, OfOther, Reach, ReadsLastSector, RefusesFiles, Replies, ShowsMetadata, Then, Verb, admitted, asks_nothing, attachment_in, done_or, or_refusal, places_nothing, settings_for_size, without_value}
 use Rattle.command_rows.specs.Vocabulary.{CabinetState, Components, DiskState, Event, Files, HasNewKey, IsSectorOf, KeepsAlone, KeepsOldOr, KeyChange, KeyFault, KeyWords, MakesKey, MasterKey, Metadata, Refusal, SetsKey, Settings, Span, UserKey, change_refusal, encoded, key_refusal_of, last_sector, opened, refusal_of, store_events, user_key}
 
 -- a provider with these metadata can be used, in an image of this size, whether or not a slot holds a key
@@ -9,7 +9,7 @@ abbrev pub usable : Metadata → ℕ → Result Settings Refusal
 usable m sectors = or_refusal refusal_of (settings_for_size m sectors)
 
 abbrev pub IsUsed : Metadata → Reach → Result Settings Refusal → Reach → Type 0
-IsUsed m old answer new = Decides (usable m old.disk.size) old answer new
+IsUsed m old answer new = DecidesBySize (usable m) old answer new
 
 -- there is a slot of the number that is named, if one is
 abbrev pub if_there : Option ℕ → Result (Unit {0}) Refusal

@@ -6,8 +6,8 @@ use Rattle.std.specs.Prelude.{All, Bool, Contains, Err, List, None, Ok, Option, 
 use Rattle.eli_base.specs.declared.refusals.Refusal.TheVariants as refusals
 use Rattle.provider.specs.Reads.{FailsAmong}
 use Rattle.command_rows.specs.Answer as answers
-use Rattle.command_rows.specs.Rows.{Answer, AttachedWith, Attachment, Decides, IsFile, KeepsOutside, LoadsFile, NoChanges, NoEvents, OfSweep, Reach, RefusesFile, Replies, StoresBytes, Then, Verb, asks_nothing, places_nothing}
-use Rattle.command_rows.specs.Vocabulary.{CabinetState, Counted, DiskState, Fails, Files, IsSector, Keying, Logs, Refusal, Span, StandFrom, Sweep, bytes_at, failing_units, has_tags, le64, media, sectors_swept, sweep_at, units}
+use Rattle.command_rows.specs.Rows.{Answer, AttachedWith, Attachment, Decides, DecidesBySize, IsFile, LoadsFile, NoChanges, NoEvents, OfSweep, Reach, ReadsDisk, RefusesFile, Replies, StoresBytes, Then, Verb, asks_nothing, places_nothing}
+use Rattle.command_rows.specs.Vocabulary.{CabinetState, Counted, DiskState, Fails, Files, IsSector, Keying, Logs, Refusal, Span, StandFrom, Sweep, bytes_at, failing_units, has_tags, le64, media, media_sectors, sectors_swept, sweep_at, units}
 
 -- what a sweep comes to: the byte offsets of the units that fail, and the logical sector where the next one begins
 pub record SweptPart : Type 0 where
@@ -56,7 +56,8 @@ abbrev pub if_inside : ℕ → ℕ → Result (Unit {0}) Refusal
 if_inside place there = if nat_le place there then Ok tt else Err (refusals.BadPlace place there)
 
 abbrev pub NeedsPlace : Attachment → ℕ → Reach → Result (Unit {0}) Refusal → Reach → Type 0
-NeedsPlace a place old answer new = Decides (if_inside place (media a.keying old.disk)) old answer new
+NeedsPlace a place old answer new =
+    DecidesBySize (λ size. if_inside place (media_sectors a.keying.auth a.keying.sectorsize (512 * size))) old answer new
 
 -- ---- the sweep
 
@@ -86,10 +87,9 @@ PartAnswer s old (Ok part) new = (part.next ≡ s.start + sectors_swept s) × Li
 PartAnswer s old (Err refusals.DeviceFault) new = FailsAmong (sectors_swept s * units s.keying) old new
 PartAnswer s old (Err refusal) new = ⊥
 
-pub record Sweeps (a : Attachment) (place count : ℕ) (old : Reach) (answer : Result SweptPart Refusal) (new : Reach) : Type 0 where
-  pub sweeps : PartAnswer (sweep_at a.keying (media a.keying old.disk) place count) old.disk answer new.disk
-  pub holding : new.holding ≡ old.holding
-  pub outside : KeepsOutside old new
+abbrev pub Sweeps : Attachment → ℕ → ℕ → Reach → Result SweptPart Refusal → Reach → Type 0
+Sweeps a place count old answer new =
+    ReadsDisk (λ disk. PartAnswer (sweep_at a.keying (media a.keying disk) place count) disk) old answer new
 
 -- from a place that is there
 abbrev pub SweepsFrom : Attachment → ℕ → ℕ → Reach → Result SweptPart Refusal → Reach → Type 0

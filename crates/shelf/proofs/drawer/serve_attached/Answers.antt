@@ -1,7 +1,5 @@
 use Rattle.std.proofs.Common.{refl}
-use Rattle.command_rows.specs.Rows.{IsAttached}
-use Rattle.shelf.specs.Shelved.{attachment_of}
-use Rattle.shelf.proofs.PlaceRows.{backup_held_row, kill_held}
+use Rattle.shelf.proofs.PlaceRows.{backup_held_row}
 use Rattle.shelf.proofs.Sectors.{flushed, kept_holding}
 use Rattle.shelf.proofs.drawer.serve_attached.Goals as goal
 
@@ -12,7 +10,7 @@ returns-in-Dump-clause-serves g c =
     let told = c.rest_tells_all.ensures now.keying then.keying now.slot then.slot now.readonly then.readonly c.read_last.ensures.rest in
     rw c.in-Dump.is (record {
       answer = c.read_last.result;
-      row = record { reads = c.read_last.ensures.reads; holding = kept_holding c.args.queue then now (record { keying = told.0; slot = told.1; readonly = told.2 }); cabinet = refl; entropy = refl };
+      row = record { reads = c.read_last.ensures.reads; holding = kept_holding c.args.queue then now (record { keying = told.0; slot = told.1; readonly = told.2 }); outside = record { cabinet = refl; entropy = refl } };
       replied = c.dump_or-reply.ensures.reply c.args.buffer.now;
     })
 
@@ -41,19 +39,3 @@ returns-in-Backup-clause-serves g c =
 
 pub returns-in-Suspend-clause-serves : goal.returns-in-Suspend-clause-serves
 returns-in-Suspend-clause-serves g c = rw c.in-Suspend.is (record { answer = c.suspend-held.result.1; row = c.suspend-held.ensures _ _; replied = c.done_or-in-Suspend.ensures.reply _ })
-
-pub returns-then-traits-clause-serves : goal.returns-then-traits-clause-serves
-returns-then-traits-clause-serves g c = c.serve_sectors-reply.ensures.serves _ _
-
-pub returns-in-Setkey-clause-serves : goal.returns-in-Setkey-clause-serves
-returns-in-Setkey-clause-serves g c = c.serve_setkey_attached-reply.ensures.serves c.args.queue _ _
-
-pub returns-in-Delkey-clause-serves : goal.returns-in-Delkey-clause-serves
-returns-in-Delkey-clause-serves g c = c.serve_delkey_attached-reply.ensures.serves c.args.queue _ _
-
-pub returns-in-Kill-clause-serves : goal.returns-in-Kill-clause-serves
-returns-in-Kill-clause-serves g c = rw c.in-Kill.is
-    (kill_held g.D.Disk.state _ _ _ _ _ _ _ c.withdraw.ensures (c.kill.ensures.serves (IsAttached (attachment_of c.args.queue c.args.provider)) _ _))
-
-pub returns-in-Verify-clause-serves : goal.returns-in-Verify-clause-serves
-returns-in-Verify-clause-serves g c = c.serve_verify-reply.ensures.serves c.args.queue _

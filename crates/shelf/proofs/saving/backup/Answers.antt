@@ -7,7 +7,7 @@ pub returns-in_err-backup-clause-row : goal.returns-in_err-backup-clause-row
 returns-in_err-backup-clause-row g c =
     let p = err_from_is_err_and c.from_residual.result c.from_residual.ensures.1 in
     rw (p.1, p.2) (λ holding entropy. Then-refused _ _ _ _ _ (record {
-      finds = record { before = _; bytes = _; read = Err _; saves = c.in_err-backup.ensures.saves; answered = refl };
+      reads = record { before = _; bytes = _; read = Err _; saves = c.in_err-backup.ensures.saves; answered = refl };
       holding = refl;
       outside = record { cabinet = refl; entropy = refl };
     }))
@@ -15,7 +15,7 @@ returns-in_err-backup-clause-row g c =
 pub returns-clause-row : goal.returns-clause-row
 returns-clause-row g c = λ holding entropy. Then-goes_on _ _ _ _ _ _ _
     (record {
-      finds = record { before = []; bytes = _; read = Ok tt; saves = c.in_ok-backup.ensures.saves; answered = refl };
+      reads = record { before = []; bytes = _; read = Ok tt; saves = c.in_ok-backup.ensures.saves; answered = refl };
       holding = refl;
       outside = record { cabinet = refl; entropy = refl };
     })

@@ -9,14 +9,14 @@ use Rattle.shelf.proofs.trying.prepare.Goals as goal
 pub returns-in_err-meta-clause-row : goal.returns-in_err-meta-clause-row
 returns-in_err-meta-clause-row g c =
     let p = err_from_is_err_and c.from_residual.result c.from_residual.ensures.1 in
-    λ readonly holding entropy. rw (p.1, p.2) (Then-refused _ _ _ _ _ (record { reads = c.in_err-meta.ensures.reads; holding = refl; cabinet = refl; entropy = refl }))
+    λ readonly holding entropy. rw (p.1, p.2) (Then-refused _ _ _ _ _ (record { reads = c.in_err-meta.ensures.reads; holding = refl; outside = record { cabinet = refl; entropy = refl } }))
 
 pub returns-in_err-params-clause-row : goal.returns-in_err-params-clause-row
 returns-in_err-params-clause-row g c =
     let p = err_from_is_err_and c.from_residual-in_err-params.result c.from_residual-in_err-params.ensures.1 in
     let A : ℕ → Type 0 = λ n. admitted c.in_ok-meta.meta n c.args.slot ≡ Err c.in_err-params.field-0.0 in
     let refused = subst A c.sectors.ensures c.in_err-params.ensures.answer in
-    λ readonly holding entropy. rw (p.1, p.2) (Then-goes_on _ _ _ _ _ _ _ (record { reads = c.in_ok-meta.ensures.reads; holding = refl; cabinet = refl; entropy = refl })
+    λ readonly holding entropy. rw (p.1, p.2) (Then-goes_on _ _ _ _ _ _ _ (record { reads = c.in_ok-meta.ensures.reads; holding = refl; outside = record { cabinet = refl; entropy = refl } })
     (Then-refused _ _ _ _ _ (sym refused, refl)))
 
 pub returns-in_err-parts-clause-row : goal.returns-in_err-parts-clause-row
@@ -25,7 +25,7 @@ returns-in_err-parts-clause-row g c =
     let A : ℕ → Type 0 = λ n. admitted c.in_ok-meta.meta n c.args.slot ≡ Ok (settings_of c.in_ok-params.params) in
     let passed = subst A c.sectors.ensures c.in_ok-params.ensures.answer in
     let e = c.in_err-parts.ensures in
-    λ readonly holding entropy. rw (p.1, p.2) (Then-goes_on _ _ _ _ _ _ _ (record { reads = c.in_ok-meta.ensures.reads; holding = refl; cabinet = refl; entropy = refl })
+    λ readonly holding entropy. rw (p.1, p.2) (Then-goes_on _ _ _ _ _ _ _ (record { reads = c.in_ok-meta.ensures.reads; holding = refl; outside = record { cabinet = refl; entropy = refl } })
     (Then-goes_on _ _ _ _ _ _ _ (sym passed, refl)
     (Then-refused _ _ _ _ _ (loaded _ _ _ _ _ _ _ _ e.answer e.fits e.stops e.keeps e.named e.asked e.unstored))))
 
@@ -35,7 +35,7 @@ returns-in_err-key-clause-row g c =
     let A : ℕ → Type 0 = λ n. admitted c.in_ok-meta.meta n c.args.slot ≡ Ok (settings_of c.in_ok-params.params) in
     let passed = subst A c.sectors.ensures c.in_ok-params.ensures.answer in
     let e = c.in_ok-parts.ensures in
-    λ readonly holding entropy. rw (p.1, p.2) (Then-goes_on _ _ _ _ _ _ _ (record { reads = c.in_ok-meta.ensures.reads; holding = refl; cabinet = refl; entropy = refl })
+    λ readonly holding entropy. rw (p.1, p.2) (Then-goes_on _ _ _ _ _ _ _ (record { reads = c.in_ok-meta.ensures.reads; holding = refl; outside = record { cabinet = refl; entropy = refl } })
     (Then-goes_on _ _ _ _ _ _ _ (sym passed, refl)
     (Then-goes_on _ _ _ _ _ _ _ (loaded _ _ _ _ _ _ _ _ e.answer e.fits e.stops e.keeps e.named e.asked e.unstored)
     (refused_key c.in_ok-meta.meta (settings_of c.in_ok-params.params) c.args.slot readonly _ c.in_err-key.field-0.0 c.in_err-key.ensures, refl))))
@@ -45,7 +45,7 @@ returns-clause-row g c =
     let A : ℕ → Type 0 = λ n. admitted c.in_ok-meta.meta n c.args.slot ≡ Ok (settings_of c.in_ok-params.params) in
     let passed = subst A c.sectors.ensures c.in_ok-params.ensures.answer in
     let e = c.in_ok-parts.ensures in
-    λ readonly holding entropy. Then-goes_on _ _ _ _ _ _ _ (record { reads = c.in_ok-meta.ensures.reads; holding = refl; cabinet = refl; entropy = refl })
+    λ readonly holding entropy. Then-goes_on _ _ _ _ _ _ _ (record { reads = c.in_ok-meta.ensures.reads; holding = refl; outside = record { cabinet = refl; entropy = refl } })
     (Then-goes_on _ _ _ _ _ _ _ (sym passed, refl)
     (Then-goes_on _ _ _ _ _ _ _ (loaded _ _ _ _ _ _ _ _ e.answer e.fits e.stops e.keeps e.named e.asked e.unstored)
     (tried_key c.in_ok-meta.meta (settings_of c.in_ok-params.params) c.args.slot readonly _ c.in_ok-key.key c.in_ok-key.ensures, refl)))

@@ -16,8 +16,9 @@ import subprocess
 import sys
 
 HERE = pathlib.Path(__file__).parent
-# The bits of AES-NI, PCLMULQDQ and the like in OpenSSL's mask of capabilities.
-WITHOUT_AES = "~0x200000200000000"
+# The bits of AES-NI and PCLMULQDQ in the first word of OpenSSL's mask of capabilities, and that of SHA in the second.
+# Without a second word OpenSSL would do without AVX2 as well.
+WITHOUT_AES = "~0x200000200000000:~0x20000000"
 PROVIDERS = [
     ("AES-XTS", 128, 512, ""),
     ("AES-XTS", 128, 4096, ""),

@@ -20,13 +20,13 @@ With its whole memory each run answers what its session says.
 The program has no call that allocates but malloc and realloc. One allocation is refused in a run. No session has `submit`,
 `resume` or `verify`, which may answer 33 too.
 
-When it was last run, six sessions of scripts were played once for each of their 530 allocations: an ordinary one, the
+When it was last run, six sessions of scripts were played once for each of their 496 allocations: an ordinary one, the
 refusals of `attach`, `setkey` with what a crash in it leaves, backup with `kill` and `restore`, `init -B`, and the other
-verbs. 256 runs ended with status 5, having printed and written nothing. 251 had a line that answered 33: only ever `init`,
+verbs. 208 runs ended with status 5, having printed and written nothing. 264 had a line that answered 33: only ever `init`,
 `attach`, `list`, `setkey`, `backup` or `restore`. It wrote and synced no image and left every file as it was, but for two runs
-of `init -B`, where the new metadata stood (the next line attached with them) and no backup file did. 23 ran to the end as if
+of `init -B`, where the new metadata stood (the next line attached with them) and no backup file did. 24 ran to the end as if
 nothing had been refused, because the block was optional: a range key that isn't kept, or a first try at a block before the
-first line. Seventeen single commands were played likewise, for 458 allocations: 393 runs ended with status 5, 48 answered 33
+first line. Seventeen single commands were played likewise, for 358 allocations: 292 runs ended with status 5, 49 answered 33
 (two of them `init -B`, as above), 17 ran to the end.
 """
 import argparse

@@ -1,7 +1,8 @@
 //! How the logical sectors of a provider stand in its image.
 ghost use Rattle.std.specs.Prelude.{◌≡◌, ◌+◌, ◌-◌, ◌*◌, ◌/◌, ◌%◌, ◌^◌, ◌<◌, ◌≤◌, MatchResult, IfOk};
-ghost use Rattle.eli_base.specs.Units.{media_sectors};
+ghost use Rattle.eli_base.specs.Units.{media_sectors, unit_bytes_of, units_per_sector};
 
+use crate::algorithms::Auth;
 use crate::parameters::Params;
 use thiserror::Error;
 
@@ -20,6 +21,47 @@ pub struct UnitSpan {
     pub first: u64,
     /// How many there are.
     pub count: u64,
+}
+
+/// How a logical sector is cut into units, each of which stands in a device sector of its own, geli(8).
+#[derive(Clone, Copy, Debug, PartialEq, Eq)]
+pub struct SectorLayout {
+    /// The bytes of a logical sector.
+    pub size: usize,
+    /// The device sectors of one logical sector.
+    pub units: usize,
+    /// The plain bytes of a unit that is not the last of its logical sector.
+    pub unit_bytes: usize,
+    pub ghost some_units: { 1 ≤ units },
+    pub ghost few_units: { units ≤ 147 },
+    pub ghost unit_at_least: { 448 ≤ unit_bytes },
+    pub ghost unit_at_most: { unit_bytes ≤ 512 },
+}
+
+impl SectorLayout {
+    /// The layout of a logical sector of so many bytes.
+    pub fn of(auth: Auth, sectorsize: u32) -> SectorLayout
+        requires at_least { 512 ≤ sectorsize }
+        requires at_most { sectorsize ≤ 65536 }
+        ensures size { result.size ≡ sectorsize }
+        ensures units { result.units ≡ units_per_sector auth sectorsize }
+        ensures unit_bytes { result.unit_bytes ≡ unit_bytes_of auth }
+    {
+        let size = sectorsize as usize;
+        let unit_bytes = auth.data_bytes();
+        SectorLayout {
+            size,
+            units: (size - 1) / unit_bytes + 1,
+            unit_bytes,
+        }
+    }
+
+    /// How many logical sectors an image of so many bytes has room for, beside the metadata.
+    pub fn sectors_in(&self, bytes: u64) -> u64
+        ensures { result ≡ (bytes - 512) / (512 * self.now.units) }
+    {
+        bytes.saturating_sub(512) / (512 * self.units as u64)
+    }
 }
 
 /// How the logical sectors of a provider stand in the device sectors of its image, geli(8). The last
@@ -47,14 +89,6 @@ pub struct Geometry {
     pub ghost last_blocks: { last_bytes % 16 ≡ 0 },
 }
 
-fn unit_count(sectorsize: u32, unit_bytes: u64) -> u64
-    requires sectorsize { 512 ≤ sectorsize }
-    requires unit_bytes { 1 ≤ unit_bytes }
-    ensures { result ≡ (sectorsize - 1) / unit_bytes + 1 }
-{
-    (u64::from(sectorsize) - 1) / unit_bytes + 1
-}
-
 impl Geometry {
     ghost use Rattle.eli_base.specs.Geometry.{IsGeometryOf};
 
@@ -69,9 +103,9 @@ impl Geometry {
         // All units and the metadata fit the image.
         ensures room { IfOk result (λ geometry. 512 * (geometry.sectors * geometry.units) + 512 ≤ params.now.provsize) }
     {
-        let unit_bytes = params.auth.data_bytes() as u64;
-        let units = unit_count(params.sectorsize, unit_bytes);
-        let sectors = params.provsize.saturating_sub(512) / (512 * units);
+        let layout = SectorLayout::of(params.auth, params.sectorsize);
+        let (units, unit_bytes) = (layout.units as u64, layout.unit_bytes as u64);
+        let sectors = layout.sectors_in(params.provsize);
         if sectors == 0 {
             return Err(GeoFault::TooSmall {
                 size: params.provsize,

@@ -11,7 +11,7 @@ mod parameters;
 mod refusals;
 
 pub use algorithms::{Auth, Cipher};
-pub use geometry::{GeoFault, Geometry, UnitSpan};
+pub use geometry::{GeoFault, Geometry, SectorLayout, UnitSpan};
 pub use laws::units_without_authentication;
 pub use parameters::{MasterKey, Params, REQUEST_LIMIT, sector_size_ok};
 pub use refusals::{Reason, Refusal};

@@ -1,8 +1,10 @@
 -- What a key ring is seen as, and what its fields keep.
 use Rattle.std.specs.Prelude.{◌≡◌, ℕ, ◌%◌, ◌≤◌, List, IsTrue}
 use Rattle.eli_base.specs.Algorithms.{allows_length}
+use Rattle.eli_base.specs.Geometry.{IsLayoutOf}
 use Rattle.eli_base.specs.Keying.{Keying}
 use Rattle.eli_base.specs.SectorSize.{is_sector_size}
+use Rattle.eli_base.specs.declared.geometry.SectorLayout.{SectorLayout}
 use Rattle.eli_base.specs.declared.parameters.MasterKey.{MasterKey}
 use Rattle.eli_base.specs.declared.parameters.Params.{Params}
 use Rattle.lru.specs.LruCache.{LruCache}
@@ -26,9 +28,11 @@ pub record IsKeying (k : Keying) : Type 0 where
   pub at_most : k.sectorsize ≤ 65536
   pub whole : k.sectorsize % 512 ≡ 0
 
--- this is the key of which range keys are made, of this master key under these parameters; each kept key is that of its
--- number; and these hashers hold the bytes with which whatever initial vectors and tag keys are hashed of begins
-pub record IsRing (params : Params) (master : MasterKey) (base : List ℕ) (kept : LruCache ℕ RangeKey) (of_vectors of_tags : Sha256) : Type 0 where
+-- this is the layout of a logical sector under these parameters; this is the key of which range keys are made, of this
+-- master key under them; each kept key is that of its number; and these hashers hold the bytes with which whatever
+-- initial vectors and tag keys are hashed of begins
+pub record IsRing (params : Params) (layout : SectorLayout) (master : MasterKey) (base : List ℕ) (kept : LruCache ℕ RangeKey) (of_vectors of_tags : Sha256) : Type 0 where
+  pub layout : IsLayoutOf params.auth params.sectorsize layout
   pub ranges : base ≡ range_base params.version params.auth master.bytes
   pub keys : AreKept params.cipher params.keylen base kept
   pub vectors : Holds256 of_vectors (iv_key master.bytes)

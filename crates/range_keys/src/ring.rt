@@ -4,6 +4,7 @@ ghost use Rattle.std.specs.Prelude.{◌≡◌, ◌≢◌, ◌↔◌, ◌/◌, �
 ghost use Rattle.std.specs.List.{IsDistinct};
 ghost use Rattle.std.specs.Borrow.{sem};
 ghost use Rattle.eli_base.specs.Keying.{keying_of};
+ghost use Rattle.eli_base.specs.Units.{unit_bytes_of, units_per_sector};
 ghost use Rattle.range_keys.specs.Keys.{numbered_block, key_number, first_key, second_key, iv, tag_key};
 ghost use Rattle.range_keys.specs.Numbers.{room};
 ghost use Rattle.range_keys.specs.Ring.{IsKeying};
@@ -12,7 +13,7 @@ use crate::derivation::{auth_key, digest_at, iv_key, range_base};
 use crate::expanded::RangeKey;
 use crate::kept::KeptKeys;
 use block_traits::NoMemory;
-use eli_base::{Auth, Cipher, MasterKey, Params};
+use eli_base::{Auth, Cipher, MasterKey, Params, SectorLayout};
 use lru::LruCache;
 use sha2::{Digest, Sha256};
 use std::alloc::Global;
@@ -36,6 +37,7 @@ fn numbered_block(params: &Params) -> u64
 #[derive(Drop)]
 pub struct KeyRing {
     params: Params,
+    layout: SectorLayout,
     master: MasterKey,
     // The key of which range keys are made.
     range_base: [u8; 64],
@@ -56,7 +58,7 @@ impl Model for KeyRing {
 
     ghost view = { λ ring. record { keying = keying_of ring.params ring.master; numbers = keys_of ring.keys.cache.entries } };
 
-    ghost invariant = { λ ring. IsRing ring.params ring.master ring.range_base ring.keys.cache ring.vectors ring.tags };
+    ghost invariant = { λ ring. IsRing ring.params ring.layout ring.master ring.range_base ring.keys.cache ring.vectors ring.tags };
 }
 
 // How many range keys a ring keeps.
@@ -79,6 +81,7 @@ impl KeyRing {
     {
         Ok(KeyRing {
             params: *params,
+            layout: SectorLayout::of(params.auth, params.sectorsize),
             master: *master,
             range_base: range_base(params.version, params.auth, master),
             keys: KeptKeys {
@@ -149,6 +152,22 @@ impl KeyRing {
         ensures { result ≡ self.now.keying.auth }
     {
         self.params.auth
+    }
+
+    /// How the logical sectors of the provider are cut into units.
+    pub fn layout(&self) -> SectorLayout
+        ensures size { result.size ≡ self.now.keying.sectorsize }
+        ensures units { result.units ≡ units_per_sector self.now.keying.auth self.now.keying.sectorsize }
+        ensures unit_bytes { result.unit_bytes ≡ unit_bytes_of self.now.keying.auth }
+    {
+        self.layout
+    }
+
+    /// The master key.
+    pub fn master(&self) -> MasterKey
+        ensures { result.bytes ≡ self.now.keying.master }
+    {
+        self.master
     }
 
     /// A law: the keying of a ring is one that a provider may have.

@@ -32,7 +32,7 @@ pub record IsKeying (k : Keying) : Type 0 where
 -- master key under them; each kept key is that of its number; and these hashers hold the bytes with which whatever
 -- initial vectors and tag keys are hashed of begins
 pub record IsRing (params : Params) (layout : SectorLayout) (master : MasterKey) (base : List ℕ) (kept : LruCache ℕ RangeKey) (of_vectors of_tags : Sha256) : Type 0 where
-  pub layout : IsLayoutOf params.auth params.sectorsize layout
+  pub cut : IsLayoutOf params.auth params.sectorsize layout
   pub ranges : base ≡ range_base params.version params.auth master.bytes
   pub keys : AreKept params.cipher params.keylen base kept
   pub vectors : Holds256 of_vectors (iv_key master.bytes)

@@ -1,5 +1,6 @@
 #!/usr/bin/env python3
-"""The time of `fill` and `sum` of the whole program over a file, beside the same work in C over OpenSSL's libcrypto.
+"""The time of `fill`, `sum` and `verify` of the whole program over a file, beside the same work in C over OpenSSL's
+libcrypto. `verify` is measured where there is authentication.
 
     python3 bench/whole.py PROGRAM FOLDER [MIB [ROUNDS [ROWS]]]
 
@@ -51,8 +52,15 @@ def units(size, auth):
     return -(-size // data)
 
 
+def sweep_lines(count, units_of_sector):
+    """Returns the lines of a whole sweep, each of which goes over as many sectors as one line may."""
+    of_line = 16384 // units_of_sector
+    lines = -(-count // of_line)
+    return f"verify -r a.img place {of_line}\n" + f"verify a.img place {of_line}\n" * (lines - 1)
+
+
 def measure(program, folder, mib, rounds, provider):
-    """Yields, for `fill` and `sum`, the least processor seconds of each side."""
+    """Yields, for each verb, the least processor seconds of each side."""
     cipher, bits, size, auth = provider
     count = (mib << 20) // size
     image = folder / "a.img"
@@ -64,7 +72,10 @@ def measure(program, folder, mib, rounds, provider):
     subprocess.run([program, "init", "-P", "-K", "key", *kind, "a.img"], check=True, cwd=folder, stdout=subprocess.DEVNULL)
     name = f"aes-{bits}-{cipher[-3:].lower()}" + (f"+{auth.lower()}" if auth else "")
     attach = b"attach -p -k key a.img\n"
-    for verb, line in (("fill", f"fill a.img 7 0 {count}\n"), ("sum", f"sum a.img 0 {count}\n")):
+    verbs = [("fill", f"fill a.img 7 0 {count}\n"), ("sum", f"sum a.img 0 {count}\n")]
+    if auth:
+        verbs.append(("verify", sweep_lines(count, units(size, auth))))
+    for verb, line in verbs:
         sides = {}
         for _ in range(rounds):
             whole = processor_time(folder, [program, "script", "a.img"], attach + line.encode())

@@ -1,4 +1,5 @@
-//! HMAC-SHA-256 (RFC 2104, FIPS 180-4) of four messages of one length side by side, in the lanes of vectors.
+//! HMAC-SHA-256 (RFC 2104, FIPS 180-4) of four messages of one length side by side, in the lanes of vectors. Also
+//! SHA-256 of four messages, each behind the same block.
 //!
 //! Each word of the hash is a vector with one lane for each message. No call takes memory.
 #![tactic(auto)]
@@ -10,11 +11,13 @@ ghost use Rattle.sha_lanes.specs.Lanes.{HaveOneLength, bytes_of};
 
 mod blocks;
 mod hashes;
+mod prefix;
 mod rounds;
 mod words;
 
 use blocks::masked_key;
 use hashes::{digests, finished, initial_states};
+pub use prefix::Prefix;
 use rounds::compress;
 
 // The byte ipad, which is added to the key's block before the message is hashed.

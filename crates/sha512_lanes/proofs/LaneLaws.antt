@@ -43,18 +43,3 @@ rotated_lanes k low high =
     let left : (64 - k) % 64 ≡ 64 - k = omega arith in
     four_words (IsRotated k) (λ a b c d.
     below_four _ (rw (right, left) refl) (rw (right, left) refl) (rw (right, left) refl) (rw (right, left) refl))
-
--- the eight words of a hash value
-pub eight_words : (h : List ℕ) → length h ≡ 8
-    → slice_index h 0 ∷ slice_index h 1 ∷ slice_index h 2 ∷ slice_index h 3
-    ∷ slice_index h 4 ∷ slice_index h 5 ∷ slice_index h 6 ∷ slice_index h 7 ∷ [] ≡ h
-eight_words (a ∷ b ∷ c ∷ d ∷ e ∷ f ∷ g ∷ h ∷ []) long = refl
-eight_words [] long = absurd (omega arith)
-eight_words (a ∷ []) long = absurd (omega arith)
-eight_words (a ∷ b ∷ []) long = absurd (omega arith)
-eight_words (a ∷ b ∷ c ∷ []) long = absurd (omega arith)
-eight_words (a ∷ b ∷ c ∷ d ∷ []) long = absurd (omega arith)
-eight_words (a ∷ b ∷ c ∷ d ∷ e ∷ []) long = absurd (omega arith)
-eight_words (a ∷ b ∷ c ∷ d ∷ e ∷ f ∷ []) long = absurd (omega arith)
-eight_words (a ∷ b ∷ c ∷ d ∷ e ∷ f ∷ g ∷ []) long = absurd (omega arith)
-eight_words (a ∷ b ∷ c ∷ d ∷ e ∷ f ∷ g ∷ h ∷ k ∷ x) long = absurd (omega arith)

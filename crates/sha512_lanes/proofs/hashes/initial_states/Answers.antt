@@ -1,6 +1,6 @@
 use Rattle.std.proofs.Common.{arith}
 use Rattle.sha_stream.proofs.LaneLaws.{below_four}
-use Rattle.sha512_lanes.proofs.LaneLaws.{eight_words}
+use Rattle.sha_lanes.proofs.LaneLaws.{eight_words}
 use Rattle.sha512_lanes.proofs.hashes.initial_states.Goals as goal
 
 pub returns : goal.returns

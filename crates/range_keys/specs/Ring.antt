@@ -13,6 +13,8 @@ use Rattle.range_keys.specs.Kept.{AreKept}
 use Rattle.range_keys.specs.declared.expanded.RangeKey.{RangeKey}
 use Rattle.sha2.specs.Hashers.{Holds256}
 use Rattle.sha2.specs.declared.Sha256.{Sha256}
+use Rattle.sha_lanes.specs.Prefixes.{BeginsWith}
+use Rattle.sha_lanes.specs.declared.prefix.Prefix.{Prefix}
 
 -- a ring, which gives the keys of one keying, and the numbers of the range keys that it keeps, the most recently used
 -- first
@@ -29,11 +31,12 @@ pub record IsKeying (k : Keying) : Type 0 where
   pub whole : k.sectorsize % 512 ≡ 0
 
 -- this is the layout of a logical sector under these parameters; this is the key of which range keys are made, of this
--- master key under them; each kept key is that of its number; and these hashers hold the bytes with which whatever
--- initial vectors and tag keys are hashed of begins
-pub record IsRing (params : Params) (layout : SectorLayout) (master : MasterKey) (base : List ℕ) (kept : LruCache ℕ RangeKey) (of_vectors of_tags : Sha256) : Type 0 where
+-- master key under them; each kept key is that of its number; these hashers hold the bytes with which whatever initial
+-- vectors and tag keys are hashed of begins; and the hashes of four tag keys begin with the same bytes
+pub record IsRing (params : Params) (layout : SectorLayout) (master : MasterKey) (base : List ℕ) (kept : LruCache ℕ RangeKey) (of_vectors of_tags : Sha256) (of_four_tags : Prefix) : Type 0 where
   pub cut : IsLayoutOf params.auth params.sectorsize layout
   pub ranges : base ≡ range_base params.version params.auth master.bytes
   pub keys : AreKept params.cipher params.keylen base kept
   pub vectors : Holds256 of_vectors (iv_key master.bytes)
   pub tags : Holds256 of_tags (auth_key master.bytes)
+  pub four_tags : BeginsWith of_four_tags (auth_key master.bytes)

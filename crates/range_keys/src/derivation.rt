@@ -1,13 +1,15 @@
 //! How the keys are made of one another.
 
-ghost use Rattle.std.specs.Prelude.{◌≡◌, ℕ, List, ◌++◌, codes};
+ghost use Rattle.std.specs.Prelude.{◌≡◌, ◌+◌, ◌*◌, ◌^◌, ◌<◌, ℕ, List, [], ◌∷◌, ◌++◌, codes};
 ghost use Rattle.sha2.specs.Hashers.{Holds256};
 ghost use Rattle.sha2.specs.Sha256.{sha256};
 ghost use Rattle.hmac_kdf.specs.Hmac.{hmac512};
+ghost use Rattle.sha_lanes.specs.Prefixes.{BeginsWith};
 ghost use Rattle.range_keys.specs.Keys.{le64, base_key, auth_key, data_key, iv_key, range_base};
 
 use eli_base::{Auth, MasterKey};
 use hmac_kdf::Hmac512;
+use sha_lanes::Prefix;
 use sha2::{Digest, Sha256};
 
 // The first version of the metadata whose range keys are made of the base key.
@@ -86,4 +88,20 @@ pub fn digest_at(keyed: &Sha256, offset: u64) -> [u8; 32]
     let mut hasher = copy_of(keyed);
     hasher.update(&offset.to_le_bytes());
     hasher.finalize()
+}
+
+/// The digests of a key and of four offsets, each `step` bytes behind the one before it, from hashes that begin with
+/// the key. They are computed side by side.
+pub fn digests_apart(keyed: &Prefix, offset: u64, step: u64) -> [[u8; 32]; 4]
+    requires { offset + 3 * step < 2 ^ 64 }
+    ensures { (key : List ℕ) → BeginsWith keyed.now key → result
+        ≡ sha256 (key ++ le64 offset) ∷ sha256 (key ++ le64 (offset + step))
+        ∷ sha256 (key ++ le64 (offset + 2 * step)) ∷ sha256 (key ++ le64 (offset + 3 * step)) ∷ [] }
+{
+    keyed.digests([
+        &offset.to_le_bytes(),
+        &(offset + step).to_le_bytes(),
+        &(offset + 2 * step).to_le_bytes(),
+        &(offset + 3 * step).to_le_bytes(),
+    ])
 }

@@ -1,6 +1,6 @@
 //! The ring of a provider's keys.
 
-ghost use Rattle.std.specs.Prelude.{◌≡◌, ◌≢◌, ◌↔◌, ◌/◌, ◌^◌, ◌≤◌, [], IsTrue, IfOk, Contains, length, nat_eq};
+ghost use Rattle.std.specs.Prelude.{◌≡◌, ◌≢◌, ◌↔◌, ◌+◌, ◌*◌, ◌/◌, ◌^◌, ◌<◌, ◌≤◌, [], ◌∷◌, IsTrue, IfOk, Contains, length, nat_eq};
 ghost use Rattle.std.specs.List.{IsDistinct};
 ghost use Rattle.std.specs.Borrow.{sem};
 ghost use Rattle.eli_base.specs.Keying.{keying_of};
@@ -9,12 +9,13 @@ ghost use Rattle.range_keys.specs.Keys.{numbered_block, key_number, first_key, s
 ghost use Rattle.range_keys.specs.Numbers.{room};
 ghost use Rattle.range_keys.specs.Ring.{IsKeying};
 
-use crate::derivation::{auth_key, digest_at, iv_key, range_base};
+use crate::derivation::{auth_key, digest_at, digests_apart, iv_key, range_base};
 use crate::expanded::RangeKey;
 use crate::kept::KeptKeys;
 use block_traits::NoMemory;
 use eli_base::{Auth, Cipher, MasterKey, Params, SectorLayout};
 use lru::LruCache;
+use sha_lanes::Prefix;
 use sha2::{Digest, Sha256};
 use std::alloc::Global;
 use std::marker::Model;
@@ -44,9 +45,11 @@ pub struct KeyRing {
     // The range keys that were asked for last.
     keys: KeptKeys,
     // What initial vectors and the keys of tags are hashed of begins with 64 bytes that are the same at every offset, a
-    // whole block of SHA-256. These hold them, so that they are hashed once.
+    // whole block of SHA-256. These hold them, so that they are hashed once; the last one is for the keys of four tags,
+    // which are computed side by side.
     vectors: Sha256,
     tags: Sha256,
+    four_tags: Prefix,
 }
 
 impl Model for KeyRing {
@@ -58,7 +61,7 @@ impl Model for KeyRing {
 
     ghost view = { λ ring. record { keying = keying_of ring.params ring.master; numbers = keys_of ring.keys.cache.entries } };
 
-    ghost invariant = { λ ring. IsRing ring.params ring.layout ring.master ring.range_base ring.keys.cache ring.vectors ring.tags };
+    ghost invariant = { λ ring. IsRing ring.params ring.layout ring.master ring.range_base ring.keys.cache ring.vectors ring.tags ring.four_tags };
 }
 
 // How many range keys a ring keeps.
@@ -79,6 +82,7 @@ impl KeyRing {
         ensures keying { IfOk result (λ ring. ring.keying ≡ keying_of params.now master.now) }
         ensures numbers { IfOk result (λ ring. ring.numbers ≡ []) }
     {
+        let tag_base = auth_key(master);
         Ok(KeyRing {
             params: *params,
             layout: SectorLayout::of(params.auth, params.sectorsize),
@@ -89,7 +93,8 @@ impl KeyRing {
                 unkept: None,
             },
             vectors: Sha256::new_with_prefix(iv_key(master)),
-            tags: Sha256::new_with_prefix(auth_key(master)),
+            tags: Sha256::new_with_prefix(tag_base),
+            four_tags: Prefix::of(&tag_base),
         })
     }
 
@@ -138,6 +143,17 @@ impl KeyRing {
         ensures { result ≡ tag_key self.now.keying offset }
     {
         digest_at(&self.tags, offset)
+    }
+
+    /// The keys of four tags, where the provider has authentication. The first is that of the piece at this byte
+    /// offset, and each other that of the piece `step` bytes behind the one before it.
+    pub fn tag_keys_apart(&self, offset: u64, step: u64) -> [[u8; 32]; 4]
+        requires on { self.now.keying.auth ≢ Auth.Off }
+        requires place { offset + 3 * step < 2 ^ 64 }
+        ensures { result ≡ tag_key self.now.keying offset ∷ tag_key self.now.keying (offset + step)
+            ∷ tag_key self.now.keying (offset + 2 * step) ∷ tag_key self.now.keying (offset + 3 * step) ∷ [] }
+    {
+        digests_apart(&self.four_tags, offset, step)
     }
 
     /// The cipher of the provider's data.

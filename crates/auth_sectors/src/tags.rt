@@ -108,12 +108,7 @@ pub fn tags_of_four(
         ∷ padded (tag_of ring.now.keying (offset + 2 * step) third.now)
         ∷ padded (tag_of ring.now.keying (offset + 3 * step) fourth.now) ∷ [] }
 {
-    let keys = [
-        ring.tag_key_at(offset),
-        ring.tag_key_at(offset + step),
-        ring.tag_key_at(offset + 2 * step),
-        ring.tag_key_at(offset + 3 * step),
-    ];
+    let keys = ring.tag_keys_apart(offset, step);
     codes_of_four(ring.auth(), &keys, first, second, third, fourth)
 }
 

@@ -1,4 +1,4 @@
-use Rattle.std.proofs.Common.{◌≡◌, ◌+◌, ◌-◌, ◌*◌, ◌/◌, ℕ, Bool, false, List, take, drop, get_or, refl, sym, ap, ◌∙◌, arith}
+use Rattle.std.proofs.Common.{◌≡◌, ◌+◌, ◌-◌, ◌*◌, ℕ, Bool, false, List, take, drop, get_or, refl, sym, ap, ◌∙◌, arith}
 use Rattle.sealing.specs.Sectors.{units}
 use Rattle.provider.proofs.FourSectors.{accepted_all, accepted_apart, are_apart}
 use Rattle.provider.proofs.InMemory.{stands_at}

@@ -1,4 +1,4 @@
-use Rattle.std.proofs.Common.{◌≡◌, ◌+◌, ◌-◌, ◌*◌, ◌/◌, ℕ, true, is_ok, take, drop, ap, arith}
+use Rattle.std.proofs.Common.{◌≡◌, ◌+◌, ◌*◌, ℕ, true, is_ok, take, drop, ap, arith}
 use Rattle.sealing.specs.Sectors.{device_sectors, reading, units}
 use Rattle.provider.proofs.FourSectors.{accepted_at, each_of_four}
 use Rattle.provider.proofs.four_sectors.four_accepted.Goals as goal

@@ -1,4 +1,4 @@
-use Rattle.std.proofs.Common.{◌≡◌, ◌+◌, ◌-◌, ◌*◌, ◌/◌, ℕ, length, ◌∙◌, arith}
+use Rattle.std.proofs.Common.{◌≡◌, ◌+◌, ◌*◌, ℕ, length, ◌∙◌, arith}
 use Rattle.sealing.specs.Sectors.{units}
 use Rattle.provider.proofs.FourSectors.{are_apart, piece_of_four, sealed_apart}
 use Rattle.provider.proofs.InMemory.{sealed_all, stands_at}

@@ -1,4 +1,4 @@
-use Rattle.std.proofs.Common.{◌≡◌, ◌+◌, ◌-◌, ◌*◌, ◌/◌, min, ℕ, length, take, drop, sym, ap, ◌∙◌, arith}
+use Rattle.std.proofs.Common.{◌≡◌, ◌+◌, ◌-◌, ◌*◌, min, ℕ, length, take, drop, sym, ap, ◌∙◌, arith}
 use Rattle.eli_base.specs.Units.{unit_bytes_of}
 use Rattle.sealing.specs.Sectors.{units}
 use Rattle.provider.proofs.InMemory.{opened_all, opened_fault, opened_next, stands}

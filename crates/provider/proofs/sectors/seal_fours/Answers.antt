@@ -1,4 +1,4 @@
-use Rattle.std.proofs.Common.{◌≡◌, ◌+◌, ◌-◌, ◌*◌, ◌/◌, ◌≤◌, ℕ, length, ap, ◌∙◌, arith}
+use Rattle.std.proofs.Common.{◌≡◌, ◌+◌, ◌-◌, ◌*◌, ◌≤◌, ℕ, length, ap, ◌∙◌, arith}
 use Rattle.block_traits.specs.Parts.{parts}
 use Rattle.sealing.specs.Sectors.{units}
 use Rattle.eli_base.specs.Units.{unit_bytes_of}

@@ -1,4 +1,4 @@
-use Rattle.std.proofs.Common.{◌≡◌, ◌+◌, ◌-◌, ◌*◌, ◌/◌, ℕ, length, ap, ◌∙◌, arith}
+use Rattle.std.proofs.Common.{◌≡◌, ◌+◌, ◌*◌, ℕ, length, ap, ◌∙◌, arith}
 use Rattle.sealing.specs.Sectors.{units}
 use Rattle.provider.proofs.InMemory.{sealed_all, sealed_next, stands_at}
 use Rattle.provider.proofs.sectors.seal_rest.Goals as goal

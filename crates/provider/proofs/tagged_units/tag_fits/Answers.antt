@@ -1,5 +1,4 @@
-use Rattle.std.proofs.Common.{◌≡◌, ◌+◌, ◌-◌, ◌*◌, ◌/◌, ◌%◌, ◌<◌, min, ℕ, is_ok, refl, subst, sym, ap, ◌∙◌, arith}
-use Rattle.eli_base.specs.declared.algorithms.Auth.{Auth}
+use Rattle.std.proofs.Common.{◌≡◌, ◌+◌, ◌-◌, ◌*◌, ◌%◌, ◌<◌, min, ℕ, is_ok, refl, subst, sym, ap, ◌∙◌, arith}
 use Rattle.eli_base.specs.Units.{unit_bytes_of}
 use Rattle.sealing.specs.TaggedUnits.{opened_tagged}
 use Rattle.sealing.specs.Sectors.{unit_size_at, unit_size, units}

@@ -113,7 +113,7 @@ pub fn seal_four(ring: &mut KeyRing, offset: u64, plain: &[u8], out: &mut [u8; 2
     ensures sealed { parts 512 4 out.new ≡ sealed_units ring.old.keying offset 4 plain.now }
     ensures keying { ring.new.keying ≡ ring.old.keying }
 {
-    let width = ring.auth().data_bytes();
+    let width = ring.layout().unit_bytes;
     seal_apart(
         ring,
         offset,
@@ -225,7 +225,7 @@ pub fn four_accepted(ring: &KeyRing, offset: u64, from: &[u8; 2048]) -> [bool; 4
     requires place { offset + 1536 < 2 ^ 64 }
     ensures { result ≡ map is_ok (opened_units ring.now.keying offset (parts 512 4 from.now)) }
 {
-    let width = ring.auth().data_bytes();
+    let width = ring.layout().unit_bytes;
     let (first, rest) = from.split_at(512);
     let (second, rest) = rest.split_at(512);
     let (third, fourth) = rest.split_at(512);
@@ -266,7 +266,7 @@ pub fn open_four(
     ensures keying { ring.new.keying ≡ ring.old.keying }
 {
     let size = ring.auth().tag_bytes();
-    let width = ring.auth().data_bytes();
+    let width = ring.layout().unit_bytes;
     let (first, rest) = from.split_at(512);
     let (second, rest) = rest.split_at(512);
     let (third, fourth) = rest.split_at(512);

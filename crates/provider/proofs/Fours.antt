@@ -20,7 +20,6 @@ use Rattle.sealing.proofs.Sectors.{length-seal}
 use Rattle.provider.specs.Reading.{HasWholeFour, units_accepted}
 use Rattle.provider.proofs.Adjoining.{joined-behind, joined-both, joined-front}
 use Rattle.provider.proofs.Cuts.{parts-front, parts-put-some}
-use Rattle.provider.proofs.InMemory.{counted}
 
 -- ---- whole units
 
@@ -43,16 +42,15 @@ pub record IsGroup (k : Keying) (sector i n group size : ℕ) : Type 0 where
   pub bytes : group ≡ 4 * unit_bytes_of k.auth
   pub inside : n + 4 ≤ size
 
-pub is_group : (k : Keying) (auth : Auth) (sector fours i long width size : ℕ) → auth ≡ k.auth → width ≡ unit_bytes_of auth → long ≡ k.sectorsize → i < fours
-    → fours * (4 * unit_bytes_of k.auth) ≤ long → sector * units k + units k ≤ size → IsGroup k sector i (sector * ((long - 1) / width + 1) + 4 * i) (4 * width) size
-is_group k auth sector fours i long width size same wide all more fits inside =
-    let count = counted k auth long width same wide all in
+pub is_group : (k : Keying) (sector fours i long bound width size : ℕ) → bound ≡ units k → width ≡ unit_bytes_of k.auth → long ≡ k.sectorsize → i < fours
+    → fours * (4 * unit_bytes_of k.auth) ≤ long → sector * units k + units k ≤ size → IsGroup k sector i (sector * bound + 4 * i) (4 * width) size
+is_group k sector fours i long bound width size count wide all more fits inside =
     let some = four_fit (unit_bytes_of k.auth) fours i long more fits in
     let within = wholes_within k.auth k.sectorsize (4 * i + 4) (omega (arith, some, all)) in
-    let place : sector * ((long - 1) / width + 1) + 4 * i ≡ sector * units k + 4 * i = ap (λ (m : ℕ). sector * m + 4 * i) count in
+    let place : sector * bound + 4 * i ≡ sector * units k + 4 * i = ap (λ (m : ℕ). sector * m + 4 * i) count in
     record {
       place = place;
-      bytes = ap (λ (w : ℕ). 4 * w) (wide ∙ ap (λ (a : Auth). unit_bytes_of a) same);
+      bytes = ap (λ (w : ℕ). 4 * w) wide;
       inside = omega (arith, place, within, inside);
     }
 

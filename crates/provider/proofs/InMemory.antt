@@ -6,7 +6,6 @@ use Rattle.std.proofs.lemmas.List.{take_all, take_min, length-drop}
 use borrow.Rule.Slice.PartMut.{put_mid}
 use Rattle.block_traits.specs.Parts.{part, parts}
 use Rattle.block_traits.proofs.PartLists.{get_or-parts, length-parts}
-use Rattle.eli_base.specs.declared.algorithms.Auth.{Auth}
 use Rattle.eli_base.specs.declared.algorithms.Auth.TheVariants.{Off}
 use Rattle.eli_base.specs.Keying.{Keying}
 use Rattle.eli_base.specs.Units.{media_sectors, unit_bytes_of}
@@ -39,35 +38,25 @@ pub record Stands (k : Keying) (bound j start end : ℕ) : Type 0 where
   pub below : j < units k
   pub unit : IsUnit k.auth k.sectorsize j start end
 
--- how many units it goes over
-pub counted : (k : Keying) (auth : Auth) (size width : ℕ) → auth ≡ k.auth → width ≡ unit_bytes_of auth → size ≡ k.sectorsize → (size - 1) / width + 1 ≡ units k
-counted k auth size width same wide long =
-    let d : width ≡ unit_bytes_of k.auth = wide ∙ ap (λ (a : Auth). unit_bytes_of a) same in
-    λ i. (long i - 1) / d i + 1
-
-pub stands : (k : Keying) (auth : Auth) (size width room j start end : ℕ) → 512 ≤ k.sectorsize → k.sectorsize % 512 ≡ 0 → auth ≡ k.auth → width ≡ unit_bytes_of auth → size ≡ k.sectorsize → room ≡ size
-    → j < (size - 1) / width + 1 → start ≡ min (unit_bytes_of k.auth * j) size → end ≡ min room (start + width)
-    → Stands k ((size - 1) / width + 1) j start end
-stands k auth size width room j start end low whole same wide long all lt s e =
-    let d : width ≡ unit_bytes_of k.auth = wide ∙ ap (λ (a : Auth). unit_bytes_of a) same in
-    let count = counted k auth size width same wide long in
+pub stands : (k : Keying) (bound width size room j start end : ℕ) → 512 ≤ k.sectorsize → k.sectorsize % 512 ≡ 0 → bound ≡ units k → width ≡ unit_bytes_of k.auth → size ≡ k.sectorsize → room ≡ size
+    → j < bound → start ≡ min (unit_bytes_of k.auth * j) size → end ≡ min room (start + width) → Stands k bound j start end
+stands k bound width size room j start end low whole count wide long all lt s e =
     let below : j < units k = let P : ℕ → Type 0 = λ n. j < n in subst P count lt in
     record {
       count = count;
       below = below;
-      unit = is_unit k.auth k.sectorsize j start end low whole below (s ∙ ap (min (unit_bytes_of k.auth * j)) long) (e ∙ (λ i. min ((all ∙ long) i) (start + d i)));
+      unit = is_unit k.auth k.sectorsize j start end low whole below (s ∙ ap (min (unit_bytes_of k.auth * j)) long) (e ∙ (λ i. min ((all ∙ long) i) (start + wide i)));
     }
 
 -- the same of a unit that is found by its number
-pub stands_at : (k : Keying) (auth : Auth) (size width j end : ℕ) → 512 ≤ k.sectorsize → k.sectorsize % 512 ≡ 0 → auth ≡ k.auth → width ≡ unit_bytes_of auth → size ≡ k.sectorsize
-    → j < (size - 1) / width + 1 → end ≡ min size (j * width + width) → Stands k ((size - 1) / width + 1) j (j * width) end
-stands_at k auth size width j end low whole same wide long lt e =
-    let count = counted k auth size width same wide long in
+pub stands_at : (k : Keying) (bound width size j end : ℕ) → 512 ≤ k.sectorsize → k.sectorsize % 512 ≡ 0 → bound ≡ units k → width ≡ unit_bytes_of k.auth → size ≡ k.sectorsize
+    → j < bound → end ≡ min size (j * width + width) → Stands k bound j (j * width) end
+stands_at k bound width size j end low whole count wide long lt e =
     let below : j < units k = let P : ℕ → Type 0 = λ n. j < n in subst P count lt in
     record {
       count = count;
       below = below;
-      unit = is_unit_at k.auth k.sectorsize width j (j * width) end low whole below (wide ∙ ap (λ (a : Auth). unit_bytes_of a) same) refl (e ∙ ap (λ (m : ℕ). min m (j * width + width)) long);
+      unit = is_unit_at k.auth k.sectorsize width j (j * width) end low whole below wide refl (e ∙ ap (λ (m : ℕ). min m (j * width + width)) long);
     }
 
 -- the unit that is sealed next

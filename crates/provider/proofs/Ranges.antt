@@ -13,10 +13,6 @@ units-off k size off same some whole =
     let counted : size / 512 ≡ (k.sectorsize - 1) / 512 + 1 = omega arith in
     counted ∙ sym (ap (λ (a : Auth). units_per_sector a k.sectorsize) off)
 
--- and in one of this size
-pub units-as : (k : Keying) (auth : Auth) (size count : ℕ) → auth ≡ k.auth → size ≡ k.sectorsize → count ≡ units_per_sector auth size → 512 * count ≡ 512 * units k
-units-as k auth size count same long is = ap (λ (n : ℕ). 512 * n) is ∙ (λ i. 512 * units_per_sector (same i) (long i))
-
 -- the bytes of one of some logical sectors have their place among the bytes of them all
 pub bytes_inside : (len size i : ℕ) → i < len / size → i * size + size ≤ len
 bytes_inside len size i more =

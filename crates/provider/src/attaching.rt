@@ -1,5 +1,5 @@
 //! What is opened and reserved before a provider is attached.
-ghost use Rattle.std.specs.Prelude.{◌≡◌, ℕ, ◌<◌, ◌≤◌, ◌↔◌, List, IfOk, MatchResult, Ok, Some, vec_len};
+ghost use Rattle.std.specs.Prelude.{◌≡◌, ℕ, ◌*◌, ◌/◌, ◌<◌, ◌↔◌, max, List, IfOk, MatchResult, Ok, Some, vec_len};
 ghost use Rattle.std.specs.Option.{ForSome};
 ghost use Rattle.eli_base.specs.Keying.{keying_of};
 ghost use Rattle.eli_metadata.specs.Checks.{settings_of, slot_matches, supported};
@@ -8,9 +8,8 @@ ghost use Rattle.provider.specs.Attached.{OpensAsNamed, buffer_bytes, opened};
 ghost use Rattle.provider.specs.Opening.{SlotOpens, SlotFails};
 
 use crate::AttachFault;
-use crate::units::unit_count;
 use block_traits::NoMemory;
-use eli_base::{Auth, Geometry, MasterKey, Params};
+use eli_base::{Geometry, MasterKey, Params, SectorLayout};
 use eli_metadata::Metadata;
 use key_slots::{unwrap, unwrap_any};
 use range_keys::KeyRing;
@@ -69,12 +68,10 @@ pub fn open_slot(
 }
 
 // The bytes of the buffer that a provider keeps: those of the device sectors of some logical sectors.
-fn buffer_bytes(auth: Auth, sectorsize: u32) -> usize
-    requires { 512 ≤ sectorsize }
-    ensures { result ≡ buffer_bytes auth sectorsize }
+fn buffer_bytes(layout: SectorLayout) -> usize
+    ensures { result ≡ max 1 (64 / layout.units) * (512 * layout.units) }
 {
-    let units = unit_count(auth, sectorsize as usize);
-    (64 / units).max(1) * (512 * units)
+    (64 / layout.units).max(1) * (512 * layout.units)
 }
 
 /// The memory that a provider keeps: its keys, and a buffer for the device sectors of some logical sectors.
@@ -87,6 +84,6 @@ pub fn reserve(
     ensures buffer { IfOk result (λ kept. vec_len kept.1 ≡ buffer_bytes params.now.auth params.now.sectorsize) }
 {
     let ring = KeyRing::new(alloc, master, params)?;
-    let buffer = vec![in alloc; 0; buffer_bytes(params.auth, params.sectorsize)]?;
+    let buffer = vec![in alloc; 0; buffer_bytes(ring.layout())]?;
     Ok((ring, buffer))
 }

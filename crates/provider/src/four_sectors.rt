@@ -41,13 +41,12 @@ fn seal_side_by_side(
     ensures keying { ring.new.keying ≡ ring.old.keying }
 {
     ring.is_of_a_keying();
-    let width = ring.auth().data_bytes();
-    let count = (a.len() - 1) / width + 1;
-    let place = sector * count as u64;
-    let step = 512 * count as u64;
-    for j in 0..count {
-        let start = j * width;
-        let end = unit_end(a.len(), start, width);
+    let layout = ring.layout();
+    let place = sector * layout.units as u64;
+    let step = 512 * layout.units as u64;
+    for j in 0..layout.units {
+        let start = j * layout.unit_bytes;
+        let end = unit_end(a.len(), start, layout.unit_bytes);
         let mut sealed = [0; 2048];
         seal_apart(
             ring,
@@ -103,19 +102,17 @@ fn all_true(four: [bool; 4]) -> bool
     a && b && c && d
 }
 
-// Whether all units of four logical sectors of `size` bytes are accepted, from the device sectors of each. The first
-// of the four has number `sector`.
+// Whether all units of four logical sectors are accepted, from the device sectors of each. The first of the four has
+// number `sector`.
 fn accepted_side_by_side(
     ring: &KeyRing,
     sector: u64,
-    size: usize,
     a: &[u8],
     b: &[u8],
     c: &[u8],
     d: &[u8],
 ) -> bool
     requires on { ring.now.keying.auth ≢ Off }
-    requires size { size ≡ ring.now.keying.sectorsize }
     requires a { length a.now ≡ 512 * units ring.now.keying }
     requires b { length b.now ≡ 512 * units ring.now.keying }
     requires c { length c.now ≡ 512 * units ring.now.keying }
@@ -127,13 +124,12 @@ fn accepted_side_by_side(
     ensures fourth { result ≡ true → is_ok (reading ring.now.keying (sector + 3) (device_sectors ring.now.keying d.now)) ≡ true }
 {
     ring.is_of_a_keying();
-    let width = ring.auth().data_bytes();
-    let count = (size - 1) / width + 1;
-    let place = sector * count as u64;
-    let step = 512 * count as u64;
-    for j in 0..count {
-        let start = j * width;
-        let end = unit_end(size, start, width);
+    let layout = ring.layout();
+    let place = sector * layout.units as u64;
+    let step = 512 * layout.units as u64;
+    for j in 0..layout.units {
+        let start = j * layout.unit_bytes;
+        let end = unit_end(layout.size, start, layout.unit_bytes);
         let accepted = apart_accepted(
             ring,
             512 * (place + j as u64),
@@ -151,25 +147,23 @@ fn accepted_side_by_side(
     true
 }
 
-/// Whether four logical sectors of `size` bytes are accepted, from device sectors that stand one after the other, of
-/// which the first ones are those of logical sector `sector`: those from number `passed` on. Nothing is deciphered.
+/// Whether four logical sectors are accepted, from device sectors that stand one after the other, of which the first
+/// ones are those of logical sector `sector`: those from number `passed` on. Nothing is deciphered.
 ///
 /// No clause says when they aren't: the answer false costs time alone.
-pub fn four_accepted(ring: &KeyRing, sector: u64, size: usize, passed: usize, device: &[u8]) -> bool
+pub fn four_accepted(ring: &KeyRing, sector: u64, passed: usize, device: &[u8]) -> bool
     requires on { ring.now.keying.auth ≢ Off }
-    requires size { size ≡ ring.now.keying.sectorsize }
     requires device { (passed + 4) * (512 * units ring.now.keying) ≤ length device.now }
     requires place { (sector + passed + 4) * units ring.now.keying < 2 ^ 44 }
     ensures { let width = 512 * units ring.now.keying in result ≡ true → (i : ℕ) → passed ≤ i → i < passed + 4 →
         is_ok (reading ring.now.keying (sector + i) (device_sectors ring.now.keying (take width (drop (i * width) device.now)))) ≡ true }
 {
     ring.is_of_a_keying();
-    let width = 512 * ((size - 1) / ring.auth().data_bytes() + 1);
+    let width = 512 * ring.layout().units;
     let start = passed * width;
     accepted_side_by_side(
         ring,
         sector + passed as u64,
-        size,
         &device[start..start + width],
         &device[start + width..start + 2 * width],
         &device[start + 2 * width..start + 3 * width],
@@ -188,12 +182,11 @@ pub fn open_accepted_sector(ring: &mut KeyRing, sector: u64, device: &[u8], out:
     ensures keying { ring.new.keying ≡ ring.old.keying }
 {
     ring.is_of_a_keying();
-    let width = ring.auth().data_bytes();
-    let count = (out.len() - 1) / width + 1;
-    let first = sector * count as u64;
+    let layout = ring.layout();
+    let first = sector * layout.units as u64;
     let mut start = 0;
-    for j in 0..count {
-        let end = unit_end(out.len(), start, width);
+    for j in 0..layout.units {
+        let end = unit_end(out.len(), start, layout.unit_bytes);
         let from = &device[512 * j..512 * j + 512];
         open_accepted(ring, 512 * (first + j as u64), from, &mut out[start..end]);
         start = end;

@@ -4,7 +4,6 @@ ghost use Rattle.std.specs.List.{concat};
 ghost use Rattle.block_traits.specs.Causes.{Counted};
 ghost use Rattle.block_traits.specs.Disk.{DiskState, FailsIn, Gives, GivesEach, Logs};
 ghost use Rattle.block_traits.specs.Parts.{parts};
-ghost use Rattle.eli_base.specs.Units.{media_sectors};
 ghost use Rattle.eli_metadata.specs.Checks.{settings_of, size_matches, slot_matches, supported};
 ghost use Rattle.provider.specs.Answers.{AttachAnswers, Means, ReadAnswers, Target, WriteAnswers, request};
 ghost use Rattle.provider.specs.Attached.{IsKept, attached_with, has_tags, media};
@@ -26,15 +25,6 @@ use range_keys::KeyRing;
 use std::alloc::Global;
 use std::marker::Model;
 use user_key::UserKey;
-
-// The logical sectors that a disk has room for, beside the metadata.
-fn media_on<D: Disk>(disk: &D, auth: Auth, sectorsize: u32) -> u64
-    requires { 512 ≤ sectorsize }
-    ensures { result ≡ media_sectors auth sectorsize (512 * (D.state disk.now).size) }
-{
-    let units = (u64::from(sectorsize) - 1) / auth.data_bytes() as u64 + 1;
-    (512 * disk.sectors()).saturating_sub(512) / (512 * units)
-}
 
 /// An attached provider, which has its disk.
 ///
@@ -143,7 +133,7 @@ impl<D: Disk> Provider<D> {
     pub fn sectors(&self) -> u64
         ensures { result ≡ media self.now.keying (D.state self.now.disk) }
     {
-        media_on(&self.disk, self.params.auth, self.params.sectorsize)
+        self.ring.layout().sectors_in(512 * self.disk.sectors())
     }
 
     /// Whether so many logical sectors from number `sector` on are there.
@@ -170,7 +160,7 @@ impl<D: Disk> Provider<D> {
         ensures at_least { 1 ≤ result }
         ensures at_most { result ≤ 147 }
     {
-        (u64::from(self.params.sectorsize) - 1) / self.params.auth.data_bytes() as u64 + 1
+        self.ring.layout().units as u64
     }
 
     /// Whether the data are authenticated.
@@ -247,7 +237,7 @@ impl<D: Disk> Provider<D> {
         ensures answer { ReadAnswers D.state (request D.state self.old sector into.old) into.new self.old self.new result }
         ensures kept { IsKept self.old self.new }
     {
-        let size = self.params.sectorsize as usize;
+        let size = self.ring.layout().size;
         self.check_range(sector, (into.len() / size) as u64)?;
         let buffer = &mut self.buffer;
         read_run(&mut self.ring, &mut self.disk, sector, size, into, buffer)
@@ -279,7 +269,7 @@ impl<D: Disk> Provider<D> {
         if self.readonly {
             return Err(WriteFault::ReadOnly);
         }
-        let size = self.params.sectorsize as usize;
+        let size = self.ring.layout().size;
         self.check_range(sector, (from.len() / size) as u64)?;
         let buffer = &mut self.buffer;
         if write_run(&mut self.ring, &mut self.disk, sector, size, from, buffer).is_err() {
@@ -354,8 +344,7 @@ impl<D: Disk> Provider<D> {
         ensures answer { result ≡ is_ok (unit_reading_at self.old.keying n from.now) }
         ensures stays { self.new ≡ self.old }
     {
-        let size = self.params.sectorsize as usize;
-        tag_fits(&self.ring, n, size, from)
+        tag_fits(&self.ring, n, from)
     }
 
     /// Looks at four device sectors at once, the first of number `n`, where they have whole units of one logical
@@ -371,8 +360,7 @@ impl<D: Disk> Provider<D> {
         ensures missed { result ≡ None → D.state self.new.disk ≡ D.state self.old.disk }
         ensures kept { IsKept self.old self.new }
     {
-        let size = self.params.sectorsize as usize;
-        if !has_whole_four(&self.ring, n, size) || !self.disk.peek(n, into) {
+        if !has_whole_four(&self.ring, n) || !self.disk.peek(n, into) {
             return None;
         }
         self.disk.count_reads(4);

@@ -12,7 +12,7 @@ ghost use Rattle.provider.specs.Writing.{data_writes};
 use crate::ReadFault;
 use crate::sector_groups::{open_sectors, seal_sectors};
 use crate::tagged_units::read_tagged_units;
-use crate::units::{read_units, unit_count};
+use crate::units::read_units;
 use block_traits::{Disk, DiskFailed};
 use eli_base::Auth;
 use plain_sectors::open_plain;
@@ -155,7 +155,7 @@ fn look_batch<D: Disk>(
     ensures keying { ring.new.keying ≡ ring.old.keying }
 {
     ring.is_of_a_keying();
-    let units = unit_count(ring.auth(), size);
+    let units = ring.layout().units;
     if !disk.peek(sector * units as u64, device) {
         return false;
     }
@@ -184,7 +184,7 @@ fn read_batch<D: Disk>(
     ensures keying { ring.new.keying ≡ ring.old.keying }
 {
     ring.is_of_a_keying();
-    let units = unit_count(ring.auth(), size);
+    let units = ring.layout().units;
     let device = &mut buffer[..into.len() / size * (512 * units)];
     if look_batch(ring, disk, sector, size, into, device) {
         return Ok(());
@@ -210,7 +210,7 @@ fn read_batches<D: Disk>(
     ensures keying { ring.new.keying ≡ ring.old.keying }
 {
     ring.is_of_a_keying();
-    let most = buffer.len() / (512 * unit_count(ring.auth(), size));
+    let most = buffer.len() / (512 * ring.layout().units);
     let count = into.len() / size;
     let mut done = 0;
     'batches: while done < count {
@@ -273,7 +273,7 @@ fn write_batch<D: Disk>(
         ≡ data_writes ring.old.keying sector (length from.now / size) from.now }
 {
     ring.is_of_a_keying();
-    let units = unit_count(ring.auth(), size);
+    let units = ring.layout().units;
     let sealed = &mut buffer[..from.len() / size * (512 * units)];
     seal_sectors(ring, sector, size, from, sealed);
     disk.write_sectors(sector * units as u64, sealed)
@@ -299,7 +299,7 @@ pub fn write_run<D: Disk>(
     ensures keying { ring.new.keying ≡ ring.old.keying }
 {
     ring.is_of_a_keying();
-    let most = buffer.len() / (512 * unit_count(ring.auth(), size));
+    let most = buffer.len() / (512 * ring.layout().units);
     let count = from.len() / size;
     let mut done = 0;
     'batches: while done < count {

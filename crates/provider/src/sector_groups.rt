@@ -12,17 +12,17 @@ ghost use Rattle.provider.specs.Writing.{data_writes};
 use crate::BadUnit;
 use crate::four_sectors::{four_accepted, open_accepted_sector, seal_four_sectors};
 use crate::sectors::{open_sector, seal_sector};
-use crate::units::unit_count;
 use eli_base::Auth;
 use range_keys::KeyRing;
 
-// How many groups of four go side by side, of so many logical sectors of `size` bytes. There are none without
-// authentication, and none where one sector has four whole units: these go side by side then.
-fn groups_of_four(ring: &KeyRing, size: usize, count: usize) -> usize
+// How many groups of four go side by side, of so many logical sectors. There are none without authentication, and
+// none where one sector has four whole units: these go side by side then.
+fn groups_of_four(ring: &KeyRing, count: usize) -> usize
     ensures within { 4 * result ≤ count }
     ensures tagged { 0 < result → ring.now.keying.auth ≢ Off }
 {
-    if ring.auth() == Auth::Off || 4 * ring.auth().data_bytes() <= size {
+    let layout = ring.layout();
+    if ring.auth() == Auth::Off || 4 * layout.unit_bytes <= layout.size {
         return 0;
     }
     count / 4
@@ -46,7 +46,7 @@ fn seal_groups(
     ensures keying { ring.new.keying ≡ ring.old.keying }
 {
     ring.is_of_a_keying();
-    let width = 512 * unit_count(ring.auth(), size);
+    let width = 512 * ring.layout().units;
     for i in 0..groups {
         let passed = 4 * i;
         let block = &plain[passed * size..(passed + 4) * size];
@@ -74,7 +74,7 @@ fn seal_each(
     ensures keying { ring.new.keying ≡ ring.old.keying }
 {
     ring.is_of_a_keying();
-    let width = 512 * unit_count(ring.auth(), size);
+    let width = 512 * ring.layout().units;
     for i in passed..plain.len() / size {
         let block = &plain[i * size..i * size + size];
         let sealed = &mut out[i * width..i * width + width];
@@ -93,7 +93,7 @@ pub fn seal_sectors(ring: &mut KeyRing, sector: u64, size: usize, plain: &[u8], 
     ensures keying { ring.new.keying ≡ ring.old.keying }
 {
     ring.is_of_a_keying();
-    let groups = groups_of_four(ring, size, plain.len() / size);
+    let groups = groups_of_four(ring, plain.len() / size);
     seal_groups(ring, sector, size, groups, plain, out);
     seal_each(ring, sector, size, 4 * groups, plain, out);
 }
@@ -122,7 +122,7 @@ fn open_each(
     ensures keying { ring.new.keying ≡ ring.old.keying }
 {
     ring.is_of_a_keying();
-    let width = 512 * unit_count(ring.auth(), size);
+    let width = 512 * ring.layout().units;
     for i in passed..end {
         let sealed = &device[i * width..i * width + width];
         let block = &mut out[i * size..i * size + size];
@@ -158,7 +158,7 @@ fn open_accepted_four(
     ensures keying { ring.new.keying ≡ ring.old.keying }
 {
     ring.is_of_a_keying();
-    let width = 512 * unit_count(ring.auth(), size);
+    let width = 512 * ring.layout().units;
     for i in passed..passed + 4 {
         let sealed = &device[i * width..i * width + width];
         let block = &mut out[i * size..i * size + size];
@@ -188,7 +188,7 @@ fn open_four_sectors(
         (λ bad. (told : Option Content) → GivesEachFrom told (sector * units ring.old.keying) device.now → ReadsFrom told ring.old.keying sector (length out.old / size) (Err bad.offset)) }
     ensures keying { ring.new.keying ≡ ring.old.keying }
 {
-    if four_accepted(ring, sector, size, passed, device) {
+    if four_accepted(ring, sector, passed, device) {
         open_accepted_four(ring, sector, size, passed, device, out);
         return Ok(());
     }
@@ -243,7 +243,7 @@ pub fn open_sectors(
 {
     ring.is_of_a_keying();
     let count = out.len() / size;
-    let groups = groups_of_four(ring, size, count);
+    let groups = groups_of_four(ring, count);
     match open_groups(ring, sector, size, groups, device, out) {
         Ok(()) => open_each(ring, sector, size, 4 * groups, count, device, out),
         Err(bad) => Err(bad),

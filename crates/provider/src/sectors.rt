@@ -24,10 +24,9 @@ fn seal_fours(ring: &mut KeyRing, sector: u64, fours: usize, plain: &[u8], out: 
     ensures keying { ring.new.keying ≡ ring.old.keying }
 {
     ring.is_of_a_keying();
-    let width = ring.auth().data_bytes();
-    let count = (plain.len() - 1) / width + 1;
-    let first = sector * count as u64;
-    let group = 4 * width;
+    let layout = ring.layout();
+    let first = sector * layout.units as u64;
+    let group = 4 * layout.unit_bytes;
     for i in 0..fours {
         let n = first + 4 * i as u64;
         let mut sealed = [0; 2048];
@@ -54,12 +53,11 @@ fn seal_rest(ring: &mut KeyRing, sector: u64, passed: usize, plain: &[u8], out: 
     ensures keying { ring.new.keying ≡ ring.old.keying }
 {
     ring.is_of_a_keying();
-    let width = ring.auth().data_bytes();
-    let count = (plain.len() - 1) / width + 1;
-    let first = sector * count as u64;
-    for j in passed..count {
-        let start = j * width;
-        let end = unit_end(plain.len(), start, width);
+    let layout = ring.layout();
+    let first = sector * layout.units as u64;
+    for j in passed..layout.units {
+        let start = j * layout.unit_bytes;
+        let end = unit_end(plain.len(), start, layout.unit_bytes);
         let n = first + j as u64;
         let mut device: Sector = [0; 512];
         seal_piece(ring, 512 * n, &plain[start..end], &mut device);
@@ -76,7 +74,7 @@ fn seal_tagged_units(ring: &mut KeyRing, sector: u64, plain: &[u8], out: &mut [u
     ensures sealed { device_sectors ring.old.keying out.new ≡ seal ring.old.keying sector plain.now }
     ensures keying { ring.new.keying ≡ ring.old.keying }
 {
-    let fours = plain.len() / (4 * ring.auth().data_bytes());
+    let fours = plain.len() / (4 * ring.layout().unit_bytes);
     seal_fours(ring, sector, fours, plain, out);
     seal_rest(ring, sector, 4 * fours, plain, out);
 }
@@ -129,10 +127,9 @@ fn open_fours(
     ensures keying { ring.new.keying ≡ ring.old.keying }
 {
     ring.is_of_a_keying();
-    let width = ring.auth().data_bytes();
-    let count = (out.len() - 1) / width + 1;
-    let first = sector * count as u64;
-    let group = 4 * width;
+    let layout = ring.layout();
+    let first = sector * layout.units as u64;
+    let group = 4 * layout.unit_bytes;
     for i in 0..fours {
         let offset = 512 * (first + 4 * i as u64);
         let mut sealed = [0; 2048];
@@ -171,12 +168,11 @@ fn open_rest(
     ensures keying { ring.new.keying ≡ ring.old.keying }
 {
     ring.is_of_a_keying();
-    let width = ring.auth().data_bytes();
-    let count = (out.len() - 1) / width + 1;
-    let first = sector * count as u64;
-    let mut start = width * passed;
-    for j in passed..count {
-        let end = unit_end(out.len(), start, width);
+    let layout = ring.layout();
+    let first = sector * layout.units as u64;
+    let mut start = layout.unit_bytes * passed;
+    for j in passed..layout.units {
+        let end = unit_end(out.len(), start, layout.unit_bytes);
         let offset = 512 * (first + j as u64);
         match open_piece(ring, offset, &sector_of(device, j), &mut out[start..end]) {
             Ok(()) => start = end,
@@ -201,7 +197,7 @@ fn open_tagged_units(
         MatchResult result (λ _. answer ≡ Ok out.new) (λ bad. answer ≡ Err bad.offset) }
     ensures keying { ring.new.keying ≡ ring.old.keying }
 {
-    let fours = out.len() / (4 * ring.auth().data_bytes());
+    let fours = out.len() / (4 * ring.layout().unit_bytes);
     match open_fours(ring, sector, fours, device, out) {
         Ok(()) => open_rest(ring, sector, 4 * fours, device, out),
         Err(bad) => Err(bad),

@@ -49,31 +49,26 @@ fn read_tagged<D: Disk>(
     }
 }
 
-/// Whether these bytes are accepted as the unit in device sector `n`, of logical sectors of `size` bytes.
-pub fn tag_fits(ring: &KeyRing, n: u64, size: usize, from: &Sector) -> bool
+/// Whether these bytes are accepted as the unit in device sector `n`.
+pub fn tag_fits(ring: &KeyRing, n: u64, from: &Sector) -> bool
     requires on { ring.now.keying.auth ≢ Off }
-    requires size { size ≡ ring.now.keying.sectorsize }
     requires small { n < 2 ^ 44 }
     ensures { result ≡ is_ok (unit_reading_at ring.now.keying n from.now) }
 {
     ring.is_of_a_keying();
-    let width = ring.auth().data_bytes();
-    let units = (size - 1) / width + 1;
-    let start = (n % units as u64) as usize * width;
-    let end = unit_end(size, start, width);
+    let layout = ring.layout();
+    let start = (n % layout.units as u64) as usize * layout.unit_bytes;
+    let end = unit_end(layout.size, start, layout.unit_bytes);
     unit_accepted(ring, 512 * n, end - start, from)
 }
 
-/// Whether four device sectors, the first of number `n`, have whole units of one logical sector of `size` bytes.
-pub fn has_whole_four(ring: &KeyRing, n: u64, size: usize) -> bool
+/// Whether four device sectors, the first of number `n`, have whole units of one logical sector.
+pub fn has_whole_four(ring: &KeyRing, n: u64) -> bool
     requires on { ring.now.keying.auth ≢ Off }
-    requires size { size ≡ ring.now.keying.sectorsize }
     ensures { IsTrue result ↔ HasWholeFour ring.now.keying n }
 {
-    ring.is_of_a_keying();
-    let width = ring.auth().data_bytes();
-    let units = (size - 1) / width + 1;
-    (n % units as u64) as usize + 4 <= size / width
+    let layout = ring.layout();
+    (n % layout.units as u64) as usize + 4 <= layout.size / layout.unit_bytes
 }
 
 /// Reads one logical sector.
@@ -90,12 +85,11 @@ pub fn read_tagged_units<D: Disk>(
     ensures keying { ring.new.keying ≡ ring.old.keying }
 {
     ring.is_of_a_keying();
-    let width = ring.auth().data_bytes();
-    let count = (block.len() - 1) / width + 1;
-    let first = sector * count as u64;
+    let layout = ring.layout();
+    let first = sector * layout.units as u64;
     let mut start = 0;
-    for j in 0..count {
-        let end = unit_end(block.len(), start, width);
+    for j in 0..layout.units {
+        let end = unit_end(block.len(), start, layout.unit_bytes);
         match read_tagged(ring, disk, first + j as u64, &mut block[start..end]) {
             Ok(()) => start = end,
             Err(fault) => return Err(fault),

@@ -1,23 +1,12 @@
-//! The device sectors of logical sectors: how many one takes, and reading them one after the other.
+//! Reading the device sectors of a logical sector one after the other.
 ghost use Rattle.std.specs.Prelude.{◌≡◌, ◌+◌, ◌/◌, ◌≤◌, [], OnOk, OnErr, length};
 ghost use Rattle.block_traits.specs.Causes.{Counted};
 ghost use Rattle.block_traits.specs.Disk.{Logs};
 ghost use Rattle.block_traits.specs.Parts.{parts};
-ghost use Rattle.eli_base.specs.Units.{units_per_sector};
 ghost use Rattle.provider.specs.Reading.{StandFrom};
 ghost use Rattle.provider.specs.Reads.{FailsAmong};
 
 use block_traits::{Disk, DiskFailed, Sector};
-use eli_base::Auth;
-
-/// How many device sectors a logical sector of so many bytes takes.
-pub fn unit_count(auth: Auth, size: usize) -> usize
-    requires { 1 ≤ size }
-    ensures count { result ≡ units_per_sector auth size }
-    ensures at_least { 1 ≤ result }
-{
-    (size - 1) / auth.data_bytes() + 1
-}
 
 // Reads as many device sectors as `into` has room for, the first from number `first`.
 pub fn read_units<D: Disk>(disk: &mut D, first: u64, into: &mut [u8]) -> Result<(), DiskFailed>

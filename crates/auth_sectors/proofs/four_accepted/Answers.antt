@@ -1,5 +1,4 @@
 use Rattle.std.proofs.Common.{◌≡◌, ℕ, ◌+◌, List, Result, ◌∷◌, [], is_ok, map, ap, ◌∙◌, sym, arith}
-use Rattle.eli_base.specs.declared.algorithms.Auth.{Auth}
 use Rattle.eli_base.specs.Units.{unit_bytes_of}
 use Rattle.sealing.specs.TaggedUnits.{opened_tagged}
 use Rattle.auth_sectors.proofs.Openings.{units_of_four}
@@ -9,7 +8,7 @@ pub returns : goal.returns
 returns c =
     let k = c.args.ring.now.keying in
     let o = c.args.offset in
-    let wide : c.data_bytes-width.result ≡ unit_bytes_of k.auth = c.data_bytes-width.ensures ∙ ap (λ (a : Auth). unit_bytes_of a) c.auth.ensures in
+    let wide : c.layout-width.result.unit_bytes ≡ unit_bytes_of k.auth = c.layout-width.ensures.unit_bytes in
     let first = c.split_at.result.0.now in
     let second = c.split_at-2.result.0.now in
     let third = c.split_at-3.result.0.now in

@@ -1,7 +1,7 @@
-use Rattle.std.proofs.Common.{◌≡◌, ◌+◌, ◌-◌, ◌*◌, ◌/◌, ℕ, Bool, false, List, take, drop, get_or, refl, sym, ap, ◌∙◌, arith}
+use Rattle.std.proofs.Common.{◌≡◌, ◌+◌, ◌-◌, ◌*◌, ℕ, Bool, false, List, take, drop, get_or, refl, sym, ap, ◌∙◌, arith}
 use Rattle.sealing.specs.Sectors.{units}
 use Rattle.provider.proofs.FourSectors.{accepted_all, accepted_apart, are_apart}
-use Rattle.provider.proofs.InMemory.{counted, stands_at}
+use Rattle.provider.proofs.InMemory.{stands_at}
 use Rattle.provider.proofs.four_sectors.accepted_side_by_side.Goals as goal
 
 pub loop-j-preserved : goal.loop-j-preserved
@@ -9,14 +9,14 @@ loop-j-preserved c =
     let k = c.args.ring.now.keying in
     let before = c.loop-j.invariant in
     let sector = c.args.sector in
-    let size = c.args.size in
+    let size = c.layout-layout.result.size in
     let j = c.loop-j.j in
-    let width = c.data_bytes-width.result in
+    let width = c.layout-layout.result.unit_bytes in
     let start : ℕ = j * width in
     let end = c.unit_end-end.result in
-    let here = stands_at k c.auth.result size width j end c.is_of_a_keying.ensures.at_least c.is_of_a_keying.ensures.whole
-    c.auth.ensures c.data_bytes-width.ensures c.requires.size c.loop-j-test.true c.unit_end-end.ensures in
-    let apart = are_apart k sector j ((size - 1) / width + 1) here.count in
+    let here = stands_at k c.layout-layout.result.units width size j end c.is_of_a_keying.ensures.at_least c.is_of_a_keying.ensures.whole
+    c.layout-layout.ensures.units c.layout-layout.ensures.unit_bytes c.layout-layout.ensures.size c.loop-j-test.true c.unit_end-end.ensures in
+    let apart = are_apart k sector j c.layout-layout.result.units here.count in
     let wide : 512 * j + 512 - 512 * j ≡ 512 = omega arith in
     let all = sym c.apart_accepted-accepted.ensures ∙ c.all_true.ensures c.if-not-all_true.false in
     record {
@@ -34,10 +34,10 @@ pub returns : goal.returns
 returns c =
     let k = c.args.ring.now.keying in
     let sector = c.args.sector in
-    let size = c.args.size in
-    let width = c.data_bytes-width.result in
-    let count = counted k c.auth.result size width c.auth.ensures c.data_bytes-width.ensures c.requires.size in
-    let end : c.loop-j.j ≡ units k = (let all : c.loop-j.j ≡ (size - 1) / width + 1 = omega arith in all ∙ count) in
+    let size = c.layout-layout.result.size in
+    let width = c.layout-layout.result.unit_bytes in
+    let count = c.layout-layout.ensures.units in
+    let end : c.loop-j.j ≡ units k = (let all : c.loop-j.j ≡ c.layout-layout.result.units = omega arith in all ∙ count) in
     record {
       first = λ ok. accepted_all k sector c.loop-j.j c.args.a.now c.requires.on end c.loop-j.invariant.first;
       second = λ ok. accepted_all k (sector + 1) c.loop-j.j c.args.b.now c.requires.on end c.loop-j.invariant.second;

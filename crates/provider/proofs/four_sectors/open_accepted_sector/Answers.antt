@@ -1,8 +1,8 @@
-use Rattle.std.proofs.Common.{◌≡◌, ◌+◌, ◌-◌, ◌*◌, ◌/◌, min, ℕ, length, take, drop, sym, ap, ◌∙◌, arith}
+use Rattle.std.proofs.Common.{◌≡◌, ◌+◌, ◌-◌, ◌*◌, min, ℕ, length, take, drop, sym, ap, ◌∙◌, arith}
 use Rattle.eli_base.specs.Units.{unit_bytes_of}
 use Rattle.sealing.specs.Sectors.{units}
 use Rattle.provider.proofs.FourSectors.{unit_accepted_here}
-use Rattle.provider.proofs.InMemory.{counted, opened_all, opened_next, stands}
+use Rattle.provider.proofs.InMemory.{opened_all, opened_next, stands}
 use Rattle.provider.proofs.UnitLists.{length-between}
 use Rattle.provider.proofs.four_sectors.open_accepted_sector.Goals as goal
 
@@ -14,9 +14,9 @@ open_accepted-requires-clause-accepted c =
     let j : ℕ = c.loop-j.j in
     let start : ℕ = c.loop-j.start in
     let end : ℕ = c.unit_end-end.result in
-    let here = stands k c.auth.result size c.data_bytes-width.result (length c.loop-j.out) j start end c.is_of_a_keying.ensures.at_least c.is_of_a_keying.ensures.whole
-    c.auth.ensures c.data_bytes-width.ensures c.requires.out (omega arith) c.loop-j-test.true before.start c.unit_end-end.ensures in
-    let n : ℕ = c.args.sector * ((size - 1) / c.data_bytes-width.result + 1) + j in
+    let here = stands k c.layout-layout.result.units c.layout-layout.result.unit_bytes size (length c.loop-j.out) j start end c.is_of_a_keying.ensures.at_least c.is_of_a_keying.ensures.whole
+    c.layout-layout.ensures.units c.layout-layout.ensures.unit_bytes c.requires.out (omega arith) c.loop-j-test.true before.start c.unit_end-end.ensures in
+    let n : ℕ = c.args.sector * c.layout-layout.result.units + j in
     let at : n ≡ c.args.sector * units k + j = ap (λ (m : ℕ). c.args.sector * m + j) here.count in
     let order = here.unit.order in
     let within = here.unit.within in
@@ -32,9 +32,9 @@ loop-j-preserved c =
     let j : ℕ = c.loop-j.j in
     let start : ℕ = c.loop-j.start in
     let end : ℕ = c.unit_end-end.result in
-    let here = stands k c.auth.result size c.data_bytes-width.result (length c.loop-j.out) j start end c.is_of_a_keying.ensures.at_least c.is_of_a_keying.ensures.whole
-    c.auth.ensures c.data_bytes-width.ensures c.requires.out (omega arith) c.loop-j-test.true before.start c.unit_end-end.ensures in
-    let n : ℕ = c.args.sector * ((size - 1) / c.data_bytes-width.result + 1) + j in
+    let here = stands k c.layout-layout.result.units c.layout-layout.result.unit_bytes size (length c.loop-j.out) j start end c.is_of_a_keying.ensures.at_least c.is_of_a_keying.ensures.whole
+    c.layout-layout.ensures.units c.layout-layout.ensures.unit_bytes c.requires.out (omega arith) c.loop-j-test.true before.start c.unit_end-end.ensures in
+    let n : ℕ = c.args.sector * c.layout-layout.result.units + j in
     let at : n ≡ c.args.sector * units k + j = ap (λ (m : ℕ). c.args.sector * m + j) here.count in
     let order = here.unit.order in
     let within = here.unit.within in
@@ -51,6 +51,6 @@ pub returns-clause-opened : goal.returns-clause-opened
 returns-clause-opened c =
     let k = c.args.ring.now.keying in
     let size : ℕ = length c.args.out.now in
-    let count = counted k c.auth.result size c.data_bytes-width.result c.auth.ensures c.data_bytes-width.ensures c.requires.out in
-    let end : c.loop-j.j ≡ (size - 1) / c.data_bytes-width.result + 1 = omega arith in
+    let count = c.layout-layout.ensures.units in
+    let end : c.loop-j.j ≡ c.layout-layout.result.units = omega arith in
     opened_all k c.args.sector c.loop-j.j c.loop-j.start c.args.device.now c.loop-j.out c.requires.on (end ∙ count) (c.loop-j.invariant.start ∙ ap (min (unit_bytes_of k.auth * c.loop-j.j)) c.requires.out) (omega (arith, c.requires.out)) c.loop-j.invariant.opened

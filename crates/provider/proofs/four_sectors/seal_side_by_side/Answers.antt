@@ -1,7 +1,7 @@
-use Rattle.std.proofs.Common.{◌≡◌, ◌+◌, ◌-◌, ◌*◌, ◌/◌, ℕ, length, ◌∙◌, arith}
+use Rattle.std.proofs.Common.{◌≡◌, ◌+◌, ◌*◌, ℕ, length, ◌∙◌, arith}
 use Rattle.sealing.specs.Sectors.{units}
 use Rattle.provider.proofs.FourSectors.{are_apart, piece_of_four, sealed_apart}
-use Rattle.provider.proofs.InMemory.{counted, sealed_all, stands_at}
+use Rattle.provider.proofs.InMemory.{sealed_all, stands_at}
 use Rattle.provider.proofs.four_sectors.seal_side_by_side.Goals as goal
 
 pub loop-j-preserved : goal.loop-j-preserved
@@ -12,12 +12,12 @@ loop-j-preserved c =
     let sector = c.args.sector in
     let size : ℕ = length c.args.a.now in
     let j = c.loop-j.j in
-    let width = c.data_bytes-width.result in
+    let width = c.layout-layout.result.unit_bytes in
     let start : ℕ = j * width in
     let end = c.unit_end-end.result in
-    let here = stands_at k c.auth.result size width j end c.is_of_a_keying.ensures.at_least c.is_of_a_keying.ensures.whole
-    c.auth.ensures c.data_bytes-width.ensures c.requires.a c.loop-j-test.true c.unit_end-end.ensures in
-    let apart = are_apart k sector j ((size - 1) / width + 1) here.count in
+    let here = stands_at k c.layout-layout.result.units width size j end c.is_of_a_keying.ensures.at_least c.is_of_a_keying.ensures.whole
+    c.layout-layout.ensures.units c.layout-layout.ensures.unit_bytes c.requires.a c.loop-j-test.true c.unit_end-end.ensures in
+    let apart = are_apart k sector j c.layout-layout.result.units here.count in
     let sealed = c.seal_apart.new.out in
     let pieces = c.seal_apart.ensures.sealed in
     record {
@@ -37,9 +37,9 @@ returns c =
     let k = c.args.ring.now.keying in
     let sector = c.args.sector in
     let size : ℕ = length c.args.a.now in
-    let width = c.data_bytes-width.result in
-    let count = counted k c.auth.result size width c.auth.ensures c.data_bytes-width.ensures c.requires.a in
-    let end : c.loop-j.j ≡ units k = (let all : c.loop-j.j ≡ (size - 1) / width + 1 = omega arith in all ∙ count) in
+    let width = c.layout-layout.result.unit_bytes in
+    let count = c.layout-layout.ensures.units in
+    let end : c.loop-j.j ≡ units k = (let all : c.loop-j.j ≡ c.layout-layout.result.units = omega arith in all ∙ count) in
     record {
       first = sealed_all k sector c.loop-j.j c.args.a.now c.loop-j.first end c.loop-j.invariant.first;
       second = sealed_all k (sector + 1) c.loop-j.j c.args.b.now c.loop-j.second end c.loop-j.invariant.second;

@@ -1,4 +1,4 @@
-use Rattle.std.proofs.Common.{◌≡◌, ◌+◌, ◌-◌, ◌*◌, ◌/◌, ◌<◌, ◌≤◌, ℕ, List, [], length, take, drop, subst, refl, ◌∙◌, arith, Ok, Err}
+use Rattle.std.proofs.Common.{◌≡◌, ◌+◌, ◌-◌, ◌*◌, ◌/◌, ◌<◌, ◌≤◌, ℕ, List, [], length, take, drop, subst, refl, ap, ◌∙◌, arith, Ok, Err}
 use Rattle.std.proofs.Math.Nat.{div-mul-le_self, mul-le-mul_right}
 use Rattle.std.proofs.lemmas.Nat.{le-div}
 use Rattle.block_traits.specs.Causes.{Counted}
@@ -8,7 +8,6 @@ use Rattle.eli_base.specs.Keying.{Keying}
 use Rattle.sealing.specs.Sectors.{units}
 use Rattle.provider.specs.Reads.{RunAnswers}
 use Rattle.provider.proofs.Batches.{batch_count, batch_fault, batch_fits, batch_length, batch_reads}
-use Rattle.provider.proofs.Ranges.{units-as}
 use Rattle.provider.proofs.runs.read_batches.Goals as goal
 
 pub read_batch-requires-clause-buffer : goal.read_batch-requires-clause-buffer
@@ -25,15 +24,15 @@ read_batch-requires-clause-buffer g c =
     let wide : (done + many) * size - done * size ≡ many * size = omega arith in
     let part : List ℕ = take ((done + many) * size - done * size) (drop (done * size) into) in
     let fits : length part / size * (512 * units c.batches.ring.keying) ≤ length c.args.buffer.now =
-    batch_fits k c.batches.ring.keying size many _ _ done (512 * c.unit_count.result) (length c.args.buffer.now) into c.batches.invariant.keying some wide room
-    (units-as k c.auth.result size c.unit_count.result c.auth.ensures c.requires.size c.unit_count.ensures.count) refl (omega arith) in
+    batch_fits k c.batches.ring.keying size many _ _ done (512 * c.layout.result.units) (length c.args.buffer.now) into c.batches.invariant.keying some wide room
+    (ap (λ (n : ℕ). 512 * n) c.layout.ensures.units) refl (omega arith) in
     omega (arith, fits, c.batches.auto.buffer)
 
 pub batches-smaller : goal.batches-smaller
 batches-smaller g c =
     let k = c.args.ring.now.keying in
-    let width : ℕ = 512 * c.unit_count.result in
-    let broad : width ≡ 512 * units k = units-as k c.auth.result c.args.size c.unit_count.result c.auth.ensures c.requires.size c.unit_count.ensures.count in
+    let width : ℕ = 512 * c.layout.result.units in
+    let broad : width ≡ 512 * units k = ap (λ (n : ℕ). 512 * n) c.layout.ensures.units in
     let one : 1 ≤ length c.args.buffer.now / width = le-div 1 (length c.args.buffer.now) width (omega arith) (omega (arith, broad, c.requires.buffer)) in
     omega (arith, one)
 

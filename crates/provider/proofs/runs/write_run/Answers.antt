@@ -1,4 +1,4 @@
-use Rattle.std.proofs.Common.{rules, ◌≡◌, ◌+◌, ◌-◌, ◌*◌, ◌/◌, ◌<◌, ◌≤◌, List, ℕ, length, take, drop, refl, subst, sym, ◌∙◌, arith}
+use Rattle.std.proofs.Common.{rules, ◌≡◌, ◌+◌, ◌-◌, ◌*◌, ◌/◌, ◌<◌, ◌≤◌, List, ℕ, length, take, drop, refl, subst, sym, ap, ◌∙◌, arith}
 use Rattle.std.proofs.Math.Nat.{div-mul-le_self, mul-le-mul_right}
 use Rattle.block_traits.specs.declared.disk.Event.{Event}
 use Rattle.block_traits.specs.Disk.{Continues}
@@ -7,7 +7,6 @@ use Rattle.sealing.specs.Sectors.{units}
 use Rattle.provider.specs.Writing.{data_writes}
 use Rattle.provider.proofs.Batches.{batch_fits}
 use Rattle.provider.proofs.Events.{run_writes, run_writes-start, run_writes-some, run_writes-end}
-use Rattle.provider.proofs.Ranges.{units-as}
 use Rattle.provider.proofs.runs.write_run.Goals as goal
 
 pub batches-init : goal.batches-init
@@ -39,8 +38,8 @@ write_batch-requires-clause-buffer g c =
     let wide : (c.batches.done + many) * size - c.batches.done * size ≡ many * size = omega arith in
     let plain : List ℕ = take ((c.batches.done + many) * size - c.batches.done * size) (drop (c.batches.done * size) from) in
     let fits : length plain / size * (512 * units c.batches.ring.keying) ≤ length c.args.buffer.now =
-    batch_fits k c.batches.ring.keying size many _ _ c.batches.done (512 * c.unit_count.result) (length c.args.buffer.now) from c.batches.invariant.keying some wide room
-    (units-as k c.auth.result size c.unit_count.result c.auth.ensures c.requires.size c.unit_count.ensures.count) refl (omega arith) in
+    batch_fits k c.batches.ring.keying size many _ _ c.batches.done (512 * c.layout.result.units) (length c.args.buffer.now) from c.batches.invariant.keying some wide room
+    (ap (λ (n : ℕ). 512 * n) c.layout.ensures.units) refl (omega arith) in
     omega (arith, fits, c.batches.auto.buffer)
 
 pub returns-in_err-write_batch-clause-err : goal.returns-in_err-write_batch-clause-err

@@ -5,7 +5,7 @@ use Rattle.sealing.specs.Sectors.{units}
 use Rattle.provider.proofs.FirstFaults.{reads_fault}
 use Rattle.provider.specs.Reading.{ReadsFrom}
 use Rattle.provider.proofs.Looks.{looked_reading}
-use Rattle.provider.proofs.Ranges.{bytes_inside, units-as}
+use Rattle.provider.proofs.Ranges.{bytes_inside}
 use Rattle.provider.proofs.Readings.{ReadsFrom-next}
 use Rattle.provider.proofs.sector_groups.open_each.Goals as goal
 
@@ -26,8 +26,8 @@ returns-in-Err-clause-opened c =
     let i = c.loop-i.i in
     let size = c.args.size in
     let count : ℕ = length c.args.out.now / size in
-    let width : ℕ = 512 * c.unit_count-width.result in
-    let broad : width ≡ 512 * units k = units-as k c.auth.result size c.unit_count-width.result c.auth.ensures c.requires.size c.unit_count-width.ensures.count in
+    let width : ℕ = 512 * c.layout-width.result.units in
+    let broad : width ≡ 512 * units k = ap (λ (n : ℕ). 512 * n) c.layout-width.ensures.units in
     let all : length c.args.device.now ≡ count * width = c.requires.device ∙ ap (λ (w : ℕ). count * w) (sym broad) in
     let fits : (i + 1) * width ≤ count * width = mul-le-mul_right width (let next : i + 1 ≤ count = omega arith in next) in
     λ told each. reads_fault told told k k c.args.sector count i c.in-Err.bad.offset _ refl refl (omega arith) (before.opened told each)
@@ -40,8 +40,8 @@ loop-i-preserved c =
     let i = c.loop-i.i in
     let size = c.args.size in
     let count : ℕ = length c.args.out.now / size in
-    let width : ℕ = 512 * c.unit_count-width.result in
-    let broad : width ≡ 512 * units k = units-as k c.auth.result size c.unit_count-width.result c.auth.ensures c.requires.size c.unit_count-width.ensures.count in
+    let width : ℕ = 512 * c.layout-width.result.units in
+    let broad : width ≡ 512 * units k = ap (λ (n : ℕ). 512 * n) c.layout-width.ensures.units in
     let all : length c.args.device.now ≡ count * width = c.requires.device ∙ ap (λ (w : ℕ). count * w) (sym broad) in
     let fits : (i + 1) * width ≤ count * width = mul-le-mul_right width (let next : i + 1 ≤ count = omega arith in next) in
     let inside = bytes_inside (length c.args.out.now) size i (omega arith) in

@@ -2,7 +2,6 @@ use Rattle.std.proofs.Common.{◌≡◌, ◌+◌, ◌-◌, ◌*◌, ◌/◌, ◌
 use Rattle.std.proofs.Math.Nat.{div-mul-le_self, mul-le-mul_right}
 use Rattle.sealing.specs.Sectors.{units}
 use Rattle.provider.proofs.Events.{sealed_some}
-use Rattle.provider.proofs.Ranges.{units-as}
 use Rattle.provider.proofs.sector_groups.seal_groups.Goals as goal
 
 pub loop-i-preserved : goal.loop-i-preserved
@@ -12,8 +11,8 @@ loop-i-preserved c =
     let passed : ℕ = 4 * c.loop-i.i in
     let size = c.args.size in
     let count : ℕ = length c.args.plain.now / size in
-    let width : ℕ = 512 * c.unit_count-width.result in
-    let broad : width ≡ 512 * units k = units-as k c.auth.result size c.unit_count-width.result c.auth.ensures c.requires.size c.unit_count-width.ensures.count in
+    let width : ℕ = 512 * c.layout-width.result.units in
+    let broad : width ≡ 512 * units k = ap (λ (n : ℕ). 512 * n) c.layout-width.ensures.units in
     let all : length c.args.out.now ≡ count * width = c.requires.out ∙ ap (λ (w : ℕ). count * w) (sym broad) in
     let some : passed + 4 ≤ count = omega arith in
     let fits : (passed + 4) * width ≤ count * width = mul-le-mul_right width some in

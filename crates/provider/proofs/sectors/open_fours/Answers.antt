@@ -1,4 +1,4 @@
-use Rattle.std.proofs.Common.{◌≡◌, ◌+◌, ◌-◌, ◌*◌, ◌/◌, ◌≤◌, ℕ, length, drop, ap, ◌∙◌, arith}
+use Rattle.std.proofs.Common.{◌≡◌, ◌+◌, ◌-◌, ◌*◌, ◌≤◌, ℕ, length, drop, ap, ◌∙◌, arith}
 use Rattle.std.proofs.lemmas.List.{length-drop, length-take-le}
 use Rattle.eli_base.specs.Units.{unit_bytes_of}
 use Rattle.sealing.specs.Sectors.{units}
@@ -10,9 +10,9 @@ returns-in-Err-clause-opened c =
     let k = c.args.ring.now.keying in
     let size : ℕ = length c.args.out.now in
     let i = c.loop-i.i in
-    let width = c.data_bytes-width.result in
-    let here = is_group k c.auth.result c.args.sector c.args.fours i size width (c.args.sector * units k + units k) c.auth.ensures c.data_bytes-width.ensures c.requires.out c.loop-i-test.true c.requires.fours (omega arith) in
-    let n : ℕ = c.args.sector * ((size - 1) / width + 1) + 4 * i in
+    let width = c.layout-layout.result.unit_bytes in
+    let here = is_group k c.args.sector c.args.fours i size c.layout-layout.result.units width (c.args.sector * units k + units k) c.layout-layout.ensures.units c.layout-layout.ensures.unit_bytes c.requires.out c.loop-i-test.true c.requires.fours (omega arith) in
+    let n : ℕ = c.args.sector * c.layout-layout.result.units + 4 * i in
     let fits = four_fit (unit_bytes_of k.auth) c.args.fours i size c.loop-i-test.true c.requires.fours in
     group_faulty k c.loop-i.ring.keying c.args.sector i n _ c.in-Err.offset c.args.device.now c.loop-i.out c.copy_from_slice.new.self _ c.requires.on c.loop-i.invariant.keying
     (omega (arith, fits, c.requires.out)) here.place (omega arith) c.copy_from_slice.ensures.after c.in-Err.ensures.opened c.loop-i.invariant.opened
@@ -23,10 +23,10 @@ loop-i-preserved c =
     let before = c.loop-i.invariant in
     let size : ℕ = length c.args.out.now in
     let i = c.loop-i.i in
-    let width = c.data_bytes-width.result in
+    let width = c.layout-layout.result.unit_bytes in
     let group : ℕ = 4 * width in
-    let here = is_group k c.auth.result c.args.sector c.args.fours i size width (c.args.sector * units k + units k) c.auth.ensures c.data_bytes-width.ensures c.requires.out c.loop-i-test.true c.requires.fours (omega arith) in
-    let n : ℕ = c.args.sector * ((size - 1) / width + 1) + 4 * i in
+    let here = is_group k c.args.sector c.args.fours i size c.layout-layout.result.units width (c.args.sector * units k + units k) c.layout-layout.ensures.units c.layout-layout.ensures.unit_bytes c.requires.out c.loop-i-test.true c.requires.fours (omega arith) in
+    let n : ℕ = c.args.sector * c.layout-layout.result.units + 4 * i in
     let fits = four_fit (unit_bytes_of k.auth) c.args.fours i size c.loop-i-test.true c.requires.fours in
     let place : unit_bytes_of k.auth * (4 * i + 4) ≡ i * group + group = omega (arith, ap (λ (g : ℕ). i * g) here.bytes, here.bytes) in
     let room : i * group + group ≤ length c.loop-i.out = omega (arith, place, fits) in

@@ -1,7 +1,7 @@
-use Rattle.std.proofs.Common.{◌≡◌, ◌+◌, ◌-◌, ◌*◌, ◌/◌, min, ℕ, length, take, drop, sym, ap, ◌∙◌, arith}
+use Rattle.std.proofs.Common.{◌≡◌, ◌+◌, ◌-◌, ◌*◌, min, ℕ, length, take, drop, sym, ap, ◌∙◌, arith}
 use Rattle.eli_base.specs.Units.{unit_bytes_of}
 use Rattle.sealing.specs.Sectors.{units}
-use Rattle.provider.proofs.InMemory.{counted, opened_all, opened_fault, opened_next, stands}
+use Rattle.provider.proofs.InMemory.{opened_all, opened_fault, opened_next, stands}
 use Rattle.provider.proofs.UnitLists.{length-between}
 use Rattle.provider.proofs.sectors.open_rest.Goals as goal
 
@@ -13,9 +13,9 @@ loop-j-preserved c =
     let j : ℕ = c.loop-j.j in
     let start : ℕ = c.loop-j.start in
     let end : ℕ = c.unit_end-end.result in
-    let here = stands k c.auth.result size c.data_bytes-width.result (length c.loop-j.out) j start end c.is_of_a_keying.ensures.at_least c.is_of_a_keying.ensures.whole
-    c.auth.ensures c.data_bytes-width.ensures c.requires.out (omega arith) c.loop-j-test.true before.start c.unit_end-end.ensures in
-    let n : ℕ = c.args.sector * ((size - 1) / c.data_bytes-width.result + 1) + j in
+    let here = stands k c.layout-layout.result.units c.layout-layout.result.unit_bytes size (length c.loop-j.out) j start end c.is_of_a_keying.ensures.at_least c.is_of_a_keying.ensures.whole
+    c.layout-layout.ensures.units c.layout-layout.ensures.unit_bytes c.requires.out (omega arith) c.loop-j-test.true before.start c.unit_end-end.ensures in
+    let n : ℕ = c.args.sector * c.layout-layout.result.units + j in
     let at : n ≡ c.args.sector * units k + j = ap (λ (m : ℕ). c.args.sector * m + j) here.count in
     let order = here.unit.order in
     let within = here.unit.within in
@@ -35,9 +35,9 @@ returns-in-Err-clause-opened c =
     let j : ℕ = c.loop-j.j in
     let start : ℕ = c.loop-j.start in
     let end : ℕ = c.unit_end-end.result in
-    let here = stands k c.auth.result size c.data_bytes-width.result (length c.loop-j.out) j start end c.is_of_a_keying.ensures.at_least c.is_of_a_keying.ensures.whole
-    c.auth.ensures c.data_bytes-width.ensures c.requires.out (omega arith) c.loop-j-test.true before.start c.unit_end-end.ensures in
-    let n : ℕ = c.args.sector * ((size - 1) / c.data_bytes-width.result + 1) + j in
+    let here = stands k c.layout-layout.result.units c.layout-layout.result.unit_bytes size (length c.loop-j.out) j start end c.is_of_a_keying.ensures.at_least c.is_of_a_keying.ensures.whole
+    c.layout-layout.ensures.units c.layout-layout.ensures.unit_bytes c.requires.out (omega arith) c.loop-j-test.true before.start c.unit_end-end.ensures in
+    let n : ℕ = c.args.sector * c.layout-layout.result.units + j in
     let at : n ≡ c.args.sector * units k + j = ap (λ (m : ℕ). c.args.sector * m + j) here.count in
     let order = here.unit.order in
     let within = here.unit.within in
@@ -48,6 +48,6 @@ pub returns-clause-opened : goal.returns-clause-opened
 returns-clause-opened c =
     let k = c.args.ring.now.keying in
     let size : ℕ = length c.args.out.now in
-    let count = counted k c.auth.result size c.data_bytes-width.result c.auth.ensures c.data_bytes-width.ensures c.requires.out in
-    let end : c.loop-j.j ≡ (size - 1) / c.data_bytes-width.result + 1 = omega arith in
+    let count = c.layout-layout.ensures.units in
+    let end : c.loop-j.j ≡ c.layout-layout.result.units = omega arith in
     opened_all k c.args.sector c.loop-j.j c.loop-j.start c.args.device.now c.loop-j.out c.requires.on (end ∙ count) (c.loop-j.invariant.start ∙ ap (min (unit_bytes_of k.auth * c.loop-j.j)) c.requires.out) (omega (arith, c.requires.out)) c.loop-j.invariant.opened

@@ -1,4 +1,4 @@
-use Rattle.std.proofs.Common.{◌≡◌, ◌+◌, ◌-◌, ◌*◌, ◌/◌, ◌≤◌, ℕ, length, ap, ◌∙◌, arith}
+use Rattle.std.proofs.Common.{◌≡◌, ◌+◌, ◌-◌, ◌*◌, ◌≤◌, ℕ, length, ap, ◌∙◌, arith}
 use Rattle.block_traits.specs.Parts.{parts}
 use Rattle.sealing.specs.Sectors.{units}
 use Rattle.eli_base.specs.Units.{unit_bytes_of}
@@ -11,12 +11,12 @@ loop-i-preserved c =
     let before = c.loop-i.invariant in
     let size : ℕ = length c.args.plain.now in
     let i = c.loop-i.i in
-    let width = c.data_bytes-width.result in
+    let width = c.layout-layout.result.unit_bytes in
     let group : ℕ = 4 * width in
     let wide : i * group + group - i * group ≡ group = omega arith in
     let last : ℕ = c.args.sector * units k + units k in
-    let here = is_group k c.auth.result c.args.sector c.args.fours i size width last c.auth.ensures c.data_bytes-width.ensures c.requires.plain c.loop-i-test.true c.requires.fours (omega arith) in
-    let n : ℕ = c.args.sector * ((size - 1) / width + 1) + 4 * i in
+    let here = is_group k c.args.sector c.args.fours i size c.layout-layout.result.units width last c.layout-layout.ensures.units c.layout-layout.ensures.unit_bytes c.requires.plain c.loop-i-test.true c.requires.fours (omega arith) in
+    let n : ℕ = c.args.sector * c.layout-layout.result.units + 4 * i in
     let fits = four_fit (unit_bytes_of k.auth) c.args.fours i size c.loop-i-test.true c.requires.fours in
     let long : length c.loop-i.out ≡ 512 * units k = omega (arith, c.requires.out) in
     let room : 2048 * i ≤ length c.loop-i.out = omega (arith, here.inside, here.place, long) in
@@ -29,20 +29,20 @@ loop-i-preserved c =
 pub overflow_mul-start : goal.overflow_mul-start
 overflow_mul-start c =
     let k = c.args.ring.now.keying in
-    let here = is_group k c.auth.result c.args.sector c.args.fours c.loop-i.i (length c.args.plain.now) c.data_bytes-width.result (c.args.sector * units k + units k) c.auth.ensures c.data_bytes-width.ensures
+    let here = is_group k c.args.sector c.args.fours c.loop-i.i (length c.args.plain.now) c.layout-layout.result.units c.layout-layout.result.unit_bytes (c.args.sector * units k + units k) c.layout-layout.ensures.units c.layout-layout.ensures.unit_bytes
     c.requires.plain c.loop-i-test.true c.requires.fours (omega arith) in
     omega (arith, here.place, here.inside, c.requires.place, c.requires.out)
 
 pub overflow_add-start : goal.overflow_add-start
 overflow_add-start c =
     let k = c.args.ring.now.keying in
-    let here = is_group k c.auth.result c.args.sector c.args.fours c.loop-i.i (length c.args.plain.now) c.data_bytes-width.result (c.args.sector * units k + units k) c.auth.ensures c.data_bytes-width.ensures
+    let here = is_group k c.args.sector c.args.fours c.loop-i.i (length c.args.plain.now) c.layout-layout.result.units c.layout-layout.result.unit_bytes (c.args.sector * units k + units k) c.layout-layout.ensures.units c.layout-layout.ensures.unit_bytes
     c.requires.plain c.loop-i-test.true c.requires.fours (omega arith) in
     omega (arith, here.place, here.inside, c.requires.place, c.requires.out)
 
 pub slice_bounds-copy_from_slice-end : goal.slice_bounds-copy_from_slice-end
 slice_bounds-copy_from_slice-end c =
     let k = c.args.ring.now.keying in
-    let here = is_group k c.auth.result c.args.sector c.args.fours c.loop-i.i (length c.args.plain.now) c.data_bytes-width.result (c.args.sector * units k + units k) c.auth.ensures c.data_bytes-width.ensures
+    let here = is_group k c.args.sector c.args.fours c.loop-i.i (length c.args.plain.now) c.layout-layout.result.units c.layout-layout.result.unit_bytes (c.args.sector * units k + units k) c.layout-layout.ensures.units c.layout-layout.ensures.unit_bytes
     c.requires.plain c.loop-i-test.true c.requires.fours (omega arith) in
     omega (arith, here.place, here.inside, c.requires.place, c.requires.out)

@@ -1,6 +1,6 @@
-use Rattle.std.proofs.Common.{◌≡◌, ◌+◌, ◌-◌, ◌*◌, ◌/◌, ℕ, length, ap, ◌∙◌, arith}
+use Rattle.std.proofs.Common.{◌≡◌, ◌+◌, ◌*◌, ℕ, length, ap, ◌∙◌, arith}
 use Rattle.sealing.specs.Sectors.{units}
-use Rattle.provider.proofs.InMemory.{counted, sealed_all, sealed_next, stands_at}
+use Rattle.provider.proofs.InMemory.{sealed_all, sealed_next, stands_at}
 use Rattle.provider.proofs.sectors.seal_rest.Goals as goal
 
 pub loop-j-preserved : goal.loop-j-preserved
@@ -9,11 +9,11 @@ loop-j-preserved c =
     let before = c.loop-j.invariant in
     let size : ℕ = length c.args.plain.now in
     let j = c.loop-j.j in
-    let width = c.data_bytes-width.result in
+    let width = c.layout-layout.result.unit_bytes in
     let start : ℕ = j * width in
-    let here = stands_at k c.auth.result size width j c.unit_end-end.result c.is_of_a_keying.ensures.at_least c.is_of_a_keying.ensures.whole
-    c.auth.ensures c.data_bytes-width.ensures c.requires.plain c.loop-j-test.true c.unit_end-end.ensures in
-    let n : ℕ = c.args.sector * ((size - 1) / width + 1) + j in
+    let here = stands_at k c.layout-layout.result.units width size j c.unit_end-end.result c.is_of_a_keying.ensures.at_least c.is_of_a_keying.ensures.whole
+    c.layout-layout.ensures.units c.layout-layout.ensures.unit_bytes c.requires.plain c.loop-j-test.true c.unit_end-end.ensures in
+    let n : ℕ = c.args.sector * c.layout-layout.result.units + j in
     let at : n ≡ c.args.sector * units k + j = ap (λ (m : ℕ). c.args.sector * m + j) here.count in
     let long : length c.loop-j.out ≡ 512 * units k = omega (arith, c.requires.out) in
     record {
@@ -26,7 +26,7 @@ pub returns-clause-sealed : goal.returns-clause-sealed
 returns-clause-sealed c =
     let k = c.args.ring.now.keying in
     let size : ℕ = length c.args.plain.now in
-    let width = c.data_bytes-width.result in
-    let count = counted k c.auth.result size width c.auth.ensures c.data_bytes-width.ensures c.requires.plain in
-    let end : c.loop-j.j ≡ (size - 1) / width + 1 = omega (arith, count, c.requires.within) in
+    let width = c.layout-layout.result.unit_bytes in
+    let count = c.layout-layout.ensures.units in
+    let end : c.loop-j.j ≡ c.layout-layout.result.units = omega (arith, count, c.requires.within) in
     sealed_all k c.args.sector c.loop-j.j c.args.plain.now c.loop-j.out (end ∙ count) c.loop-j.invariant.sealed

@@ -1,9 +1,8 @@
-use Rattle.std.proofs.Common.{◌≡◌, ◌+◌, ◌-◌, ◌*◌, ◌/◌, ◌<◌, min, ℕ, [], length, take, drop, subst, sym, ap, refl, ◌∙◌, arith}
+use Rattle.std.proofs.Common.{◌≡◌, ◌+◌, ◌-◌, ◌*◌, ◌<◌, min, ℕ, [], length, take, drop, subst, sym, ap, refl, ◌∙◌, arith}
 use borrow.Rule.Slice.PartMut.{put_mid}
 use Rattle.block_traits.specs.Causes.{Counted}
 use Rattle.block_traits.proofs.Causes.{Counted-then}
 use Rattle.block_traits.proofs.Logs.{Logs-then, logged-none}
-use Rattle.eli_base.specs.declared.algorithms.Auth.{Auth}
 use Rattle.eli_base.specs.Units.{unit_bytes_of}
 use Rattle.sealing.specs.Sectors.{units}
 use Rattle.provider.proofs.UnitLists.{IsUnit, is_unit, fault_next, length-between, read_all, read_next}
@@ -17,15 +16,15 @@ returns-in-Err-clause-answer g c =
     let j : ℕ = c.loop-j.j in
     let start : ℕ = c.loop-j.start in
     let end : ℕ = c.unit_end-end.result in
-    let wide : c.data_bytes-width.result ≡ unit_bytes_of k.auth = c.data_bytes-width.ensures ∙ ap (λ (a : Auth). unit_bytes_of a) c.auth.ensures in
+    let wide : c.layout-layout.result.unit_bytes ≡ unit_bytes_of k.auth = c.layout-layout.ensures.unit_bytes in
     let long : length c.args.block.now ≡ size = c.requires.size in
     let all : length c.loop-j.block ≡ size = omega arith in
-    let count : (length c.args.block.now - 1) / c.data_bytes-width.result + 1 ≡ units k = (λ i. (long i - 1) / wide i + 1) in
+    let count : c.layout-layout.result.units ≡ units k = c.layout-layout.ensures.units in
     let lt : j < units k = let P : ℕ → Type 0 = λ n. j < n in subst P count c.loop-j-test.true in
     let starts : start ≡ min (unit_bytes_of k.auth * j) size = c.loop-j.invariant.start ∙ ap (min (unit_bytes_of k.auth * j)) long in
     let ends : end ≡ min size (start + unit_bytes_of k.auth) = c.unit_end-end.ensures ∙ (λ i. min (all i) (start + wide i)) in
     let unit : IsUnit k.auth size j start end = is_unit k.auth size j start end c.is_of_a_keying.ensures.at_least c.is_of_a_keying.ensures.whole lt starts ends in
-    let n : ℕ = c.args.sector * ((length c.args.block.now - 1) / c.data_bytes-width.result + 1) + j in
+    let n : ℕ = c.args.sector * c.layout-layout.result.units + j in
     let at : n ≡ c.args.sector * units k + j = ap (λ (m : ℕ). c.args.sector * m + j) count in
     let order = unit.order in
     let within = unit.within in
@@ -41,15 +40,15 @@ loop-j-preserved g c =
     let j : ℕ = c.loop-j.j in
     let start : ℕ = c.loop-j.start in
     let end : ℕ = c.unit_end-end.result in
-    let wide : c.data_bytes-width.result ≡ unit_bytes_of k.auth = c.data_bytes-width.ensures ∙ ap (λ (a : Auth). unit_bytes_of a) c.auth.ensures in
+    let wide : c.layout-layout.result.unit_bytes ≡ unit_bytes_of k.auth = c.layout-layout.ensures.unit_bytes in
     let long : length c.args.block.now ≡ size = c.requires.size in
     let all : length c.loop-j.block ≡ size = omega arith in
-    let count : (length c.args.block.now - 1) / c.data_bytes-width.result + 1 ≡ units k = (λ i. (long i - 1) / wide i + 1) in
+    let count : c.layout-layout.result.units ≡ units k = c.layout-layout.ensures.units in
     let lt : j < units k = let P : ℕ → Type 0 = λ n. j < n in subst P count c.loop-j-test.true in
     let starts : start ≡ min (unit_bytes_of k.auth * j) size = c.loop-j.invariant.start ∙ ap (min (unit_bytes_of k.auth * j)) long in
     let ends : end ≡ min size (start + unit_bytes_of k.auth) = c.unit_end-end.ensures ∙ (λ i. min (all i) (start + wide i)) in
     let unit : IsUnit k.auth size j start end = is_unit k.auth size j start end c.is_of_a_keying.ensures.at_least c.is_of_a_keying.ensures.whole lt starts ends in
-    let n : ℕ = c.args.sector * ((length c.args.block.now - 1) / c.data_bytes-width.result + 1) + j in
+    let n : ℕ = c.args.sector * c.layout-layout.result.units + j in
     let at : n ≡ c.args.sector * units k + j = ap (λ (m : ℕ). c.args.sector * m + j) count in
     let order = unit.order in
     let within = unit.within in
@@ -69,11 +68,11 @@ pub returns-clause-answer : goal.returns-clause-answer
 returns-clause-answer g c =
     let state = g.D.Disk.state in
     let k = c.args.ring.now.keying in
-    let wide : c.data_bytes-width.result ≡ unit_bytes_of k.auth = c.data_bytes-width.ensures ∙ ap (λ (a : Auth). unit_bytes_of a) c.auth.ensures in
+    let wide : c.layout-layout.result.unit_bytes ≡ unit_bytes_of k.auth = c.layout-layout.ensures.unit_bytes in
     let long : length c.args.block.now ≡ k.sectorsize = c.requires.size in
     let all : length c.loop-j.block ≡ k.sectorsize = omega arith in
-    let count : (length c.args.block.now - 1) / c.data_bytes-width.result + 1 ≡ units k = (λ i. (long i - 1) / wide i + 1) in
-    let here : c.loop-j.j ≡ (length c.args.block.now - 1) / c.data_bytes-width.result + 1 = omega arith in
+    let count : c.layout-layout.result.units ≡ units k = c.layout-layout.ensures.units in
+    let here : c.loop-j.j ≡ c.layout-layout.result.units = omega arith in
     record {
       asked = let P : ℕ → Type 0 = λ n. Counted n (state c.args.disk.now).reads (state c.loop-j.disk).reads in subst P (here ∙ count) c.loop-j.invariant.asked;
       logs = c.loop-j.invariant.logs;

@@ -1,5 +1,4 @@
-use Rattle.std.proofs.Common.{◌≡◌, ◌+◌, ◌-◌, ◌*◌, ◌/◌, ◌%◌, ◌<◌, min, ℕ, is_ok, refl, subst, sym, ap, ◌∙◌, arith}
-use Rattle.eli_base.specs.declared.algorithms.Auth.{Auth}
+use Rattle.std.proofs.Common.{◌≡◌, ◌+◌, ◌-◌, ◌*◌, ◌%◌, ◌<◌, min, ℕ, is_ok, refl, subst, sym, ap, ◌∙◌, arith}
 use Rattle.eli_base.specs.Units.{unit_bytes_of}
 use Rattle.sealing.specs.TaggedUnits.{opened_tagged}
 use Rattle.sealing.specs.Sectors.{unit_size_at, unit_size, units}
@@ -9,12 +8,11 @@ use Rattle.provider.proofs.tagged_units.tag_fits.Goals as goal
 pub returns : goal.returns
 returns c =
     let k = c.args.ring.now.keying in
-    let width : ℕ = c.data_bytes-width.result in
-    let wide : width ≡ unit_bytes_of k.auth = c.data_bytes-width.ensures ∙ ap (λ (a : Auth). unit_bytes_of a) c.auth.ensures in
-    let long : c.args.size ≡ k.sectorsize = c.requires.size in
-    let count : (c.args.size - 1) / width + 1 ≡ units k = (λ i. (long i - 1) / wide i + 1) in
-    let j : ℕ = c.args.n % ((c.args.size - 1) / width + 1) in
-    let at : j ≡ c.args.n % units k = ap (λ (m : ℕ). c.args.n % m) count in
+    let width : ℕ = c.layout-layout.result.unit_bytes in
+    let wide : width ≡ unit_bytes_of k.auth = c.layout-layout.ensures.unit_bytes in
+    let long : c.layout-layout.result.size ≡ k.sectorsize = c.layout-layout.ensures.size in
+    let j : ℕ = c.args.n % c.layout-layout.result.units in
+    let at : j ≡ c.args.n % units k = ap (λ (m : ℕ). c.args.n % m) c.layout-layout.ensures.units in
     let small : c.args.n % units k < units k = omega arith in
     let lt : j < units k = let P : ℕ → Type 0 = λ m. m < units k in subst P (sym at) small in
     let start : ℕ = j * width in

@@ -81,7 +81,7 @@ pub fn reserve(
     params: &Params,
 ) -> Result<(KeyRing, Vec<u8>), NoMemory>
     ensures keying { IfOk result (λ kept. kept.0.keying ≡ keying_of params.now master.now) }
-    ensures buffer { IfOk result (λ kept. vec_len kept.1 ≡ buffer_bytes params.now.auth params.now.sectorsize) }
+    ensures buffer { IfOk result (λ kept. vec_len kept.1 ≡ buffer_bytes kept.0.keying.auth kept.0.keying.sectorsize) }
 {
     let ring = KeyRing::new(alloc, master, params)?;
     let buffer = vec![in alloc; 0; buffer_bytes(ring.layout())]?;

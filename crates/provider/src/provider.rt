@@ -34,8 +34,6 @@ use user_key::UserKey;
 pub struct Provider<D: Drop> {
     disk: D,
     ring: KeyRing,
-    params: Params,
-    master: MasterKey,
     slot: u8,
     readonly: bool,
     // Logical sectors are sealed here, before one write of the disk.
@@ -44,14 +42,13 @@ pub struct Provider<D: Drop> {
 
 impl<D: Drop> Model for Provider<D> {
     ghost use Rattle.std.specs.Prelude.{◌≡◌, vec_len};
-    ghost use Rattle.eli_base.specs.Keying.{keying_of};
     ghost use Rattle.provider.specs.Attached.{Attached, buffer_bytes};
 
     ghost Value = { Attached D };
 
     ghost view = { λ p. record { disk = p.disk; keying = p.ring.keying; slot = p.slot; readonly = p.readonly } };
 
-    ghost invariant = { λ p. (p.ring.keying ≡ keying_of p.params p.master) × (vec_len p.buffer ≡ buffer_bytes p.params.auth p.params.sectorsize) };
+    ghost invariant = { λ p. vec_len p.buffer ≡ buffer_bytes p.ring.keying.auth p.ring.keying.sectorsize };
 }
 
 impl<D: Disk> Provider<D> {
@@ -111,8 +108,6 @@ impl<D: Disk> Provider<D> {
         Ok(Provider {
             disk,
             ring,
-            params: *params,
-            master,
             slot,
             readonly: readonly || params.readonly,
             buffer,
@@ -126,7 +121,8 @@ impl<D: Disk> Provider<D> {
         ensures at_most { result ≤ 65536 }
         ensures whole { result % 512 ≡ 0 }
     {
-        self.params.sectorsize
+        self.ring.is_of_a_keying();
+        self.ring.layout().size as u32
     }
 
     /// How many logical sectors there are.
@@ -167,7 +163,7 @@ impl<D: Disk> Provider<D> {
     pub fn authenticated(&self) -> bool
         ensures { result ≡ has_tags self.now.keying.auth }
     {
-        match self.params.auth {
+        match self.ring.auth() {
             Auth::Off => false,
             Auth::Sha256 | Auth::Sha384 | Auth::Sha512 => true,
         }
@@ -191,7 +187,7 @@ impl<D: Disk> Provider<D> {
     pub fn cipher(&self) -> Cipher
         ensures { result ≡ self.now.keying.cipher }
     {
-        self.params.cipher
+        self.ring.cipher()
     }
 
     /// A law: the keying is one that a provider may have.
@@ -205,7 +201,7 @@ impl<D: Disk> Provider<D> {
     pub fn master(&self) -> MasterKey
         ensures { result.bytes ≡ self.now.keying.master }
     {
-        self.master
+        self.ring.master()
     }
 
     /// Reads logical sectors from number `sector` on into `into`, whose length is a positive multiple of the sector

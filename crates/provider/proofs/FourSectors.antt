@@ -98,7 +98,8 @@ behind_accepted : (front : List ℕ) (r : Result (List ℕ) ℕ) → is_ok (befo
 behind_accepted front (Ok rest) ok = refl
 behind_accepted front (Err offset) ok = absurd (cc ok)
 
-each_accepted : (readings : List (Result (List ℕ) ℕ)) (j : ℕ) → j < length readings → is_ok (joined readings) ≡ true → is_ok (get_or readings j (Ok [])) ≡ true
+-- each unit of those that are all accepted
+pub each_accepted : (readings : List (Result (List ℕ) ℕ)) (j : ℕ) → j < length readings → is_ok (joined readings) ≡ true → is_ok (get_or readings j (Ok [])) ≡ true
 each_accepted [] j lt ok = absurd (omega arith)
 each_accepted (Ok bytes ∷ readings) zero lt ok = refl
 each_accepted (Ok bytes ∷ readings) (suc j) lt ok = each_accepted readings j (omega arith) (behind_accepted bytes (joined readings) ok)

@@ -14,3 +14,4 @@ pub mod InMemory
 pub mod Looks
 pub mod OpenedSlots
 pub mod FourSectors
+pub mod FourLooks

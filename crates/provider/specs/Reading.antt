@@ -1,7 +1,8 @@
 -- What the logical sectors of a disk read as, as they stand now (geli(8)).
-use Rattle.std.specs.Prelude.{◌≡◌, ℕ, zero, suc, ◌+◌, ◌*◌, ◌/◌, ◌%◌, ◌≤◌, Bool, List, [], ◌∷◌, Option, Some, None, Result, is_ok}
+use Rattle.std.specs.Prelude.{◌≡◌, ℕ, zero, suc, ◌+◌, ◌*◌, ◌/◌, ◌%◌, ◌≤◌, Bool, true, List, [], ◌∷◌, length, replicate, Option, Some, None, Result, is_ok}
 use Rattle.block_traits.specs.Content.{Content, present}
-use Rattle.block_traits.specs.Disk.{DiskState}
+use Rattle.block_traits.specs.Disk.{DiskState, GivesEach}
+use Rattle.block_traits.specs.Parts.{parts}
 use Rattle.eli_base.specs.Keying.{Keying}
 use Rattle.eli_base.specs.Units.{unit_bytes_of}
 use Rattle.sealing.specs.Sectors.{joined, unit_reading_at, reading, unit_readings, units}
@@ -49,3 +50,11 @@ units_accepted k n (sector ∷ sectors) = is_ok (unit_reading_at k n sector) ∷
 -- four device sectors, the first of number n, have whole units of one logical sector
 abbrev pub HasWholeFour : Keying → ℕ → Type 0
 HasWholeFour k n = n % units k + 4 ≤ k.sectorsize / unit_bytes_of k.auth
+
+-- so many device sectors from number n on are these bytes, as far as that is told, and each is accepted as the unit
+-- that stands there
+pub record StandAccepted (k : Keying) (n count : ℕ) (state : DiskState) : Type 0 where
+  pub bytes : List ℕ
+  pub all : length bytes ≡ 512 * count
+  pub stand : GivesEach state n bytes
+  pub accepted : units_accepted k n (parts 512 count bytes) ≡ replicate count true

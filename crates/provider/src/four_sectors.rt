@@ -1,14 +1,16 @@
 //! Four logical sectors of one size with authentication: the units of one number are sealed, or checked, side by side.
-ghost use Rattle.std.specs.Prelude.{◌≡◌, ◌≢◌, ℕ, ◌+◌, ◌*◌, ◌^◌, ◌<◌, ◌≤◌, Ok, is_ok, length, take, drop, true, [], ◌∷◌};
-ghost use Rattle.block_traits.specs.Disk.{writes_from};
+ghost use Rattle.std.specs.Prelude.{◌≡◌, ◌≢◌, ℕ, ◌+◌, ◌*◌, ◌^◌, ◌<◌, ◌≤◌, Ok, is_ok, length, take, drop, false, true, [], ◌∷◌};
+ghost use Rattle.block_traits.specs.Causes.{Counted};
+ghost use Rattle.block_traits.specs.Disk.{DiskState, Logs, writes_from};
 ghost use Rattle.block_traits.specs.Parts.{parts};
 ghost use Rattle.eli_base.specs.declared.algorithms.Auth.TheVariants.{Off};
 ghost use Rattle.sealing.specs.Sectors.{device_sectors, reading, seal, units};
+ghost use Rattle.provider.specs.Reading.{StandAccepted};
 ghost use Rattle.provider.specs.Writing.{data_writes};
 
 use crate::tagged_units::unit_end;
 use auth_sectors::{apart_accepted, open_accepted, seal_apart};
-use block_traits::sector_of;
+use block_traits::{Disk, sector_of};
 use range_keys::KeyRing;
 
 // Seals four logical sectors, of which the first has this number, each into its device sectors.
@@ -169,6 +171,39 @@ pub fn four_accepted(ring: &KeyRing, sector: u64, passed: usize, device: &[u8]) 
         &device[start + 2 * width..start + 3 * width],
         &device[start + 3 * width..start + 4 * width],
     )
+}
+
+/// Looks at the device sectors of four logical sectors at once, the first of number `sector`, where the disk lets that
+/// be done and `buffer` has room for them: whether all their units are accepted. True: a read of each unit is counted.
+/// False: nothing has changed. Either way `buffer` may hold any bytes of the disk.
+pub fn look_at_four_sectors<D: Disk>(
+    ring: &KeyRing,
+    disk: &mut D,
+    sector: u64,
+    buffer: &mut [u8],
+) -> bool
+    requires on { ring.now.keying.auth ≢ Off }
+    requires inside { (sector + 4) * units ring.now.keying ≤ (D.state disk.old).size }
+    ensures stand { let units = units ring.now.keying in
+        result ≡ true → StandAccepted ring.now.keying (sector * units) (4 * units) (D.state disk.old) }
+    ensures asked { result ≡ true → Counted (4 * units ring.now.keying) (D.state disk.old).reads (D.state disk.new).reads }
+    ensures logs { result ≡ true → Logs [] (D.state disk.old) (D.state disk.new) }
+    ensures missed { result ≡ false → D.state disk.new ≡ D.state disk.old }
+{
+    let layout = ring.layout();
+    let all = 4 * layout.units;
+    if buffer.len() < 512 * all {
+        return false;
+    }
+    let device = &mut buffer[..512 * all];
+    if !disk.peek(sector * layout.units as u64, device) {
+        return false;
+    }
+    if !four_accepted(ring, sector, 0, device) {
+        return false;
+    }
+    disk.count_reads(all as u64);
+    true
 }
 
 /// Opens one logical sector with authentication that is accepted, from its device sectors. No tag is computed.

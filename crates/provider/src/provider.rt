@@ -1,5 +1,5 @@
 //! A disk that is read and written under a keying.
-ghost use Rattle.std.specs.Prelude.{◌≡◌, ◌≢◌, ℕ, ◌+◌, ◌*◌, ◌/◌, ◌%◌, ◌^◌, ◌<◌, ◌≤◌, ◌↔◌, ◌∷◌, [], List, IsTrue, OnOk, OnErr, None, Ok, Err, IfErr, IfOk, IfSome, MatchResult, is_ok, length, replicate};
+ghost use Rattle.std.specs.Prelude.{◌≡◌, ◌≢◌, ℕ, ◌+◌, ◌*◌, ◌/◌, ◌%◌, ◌^◌, ◌<◌, ◌≤◌, ◌↔◌, ◌∷◌, [], List, IsTrue, OnOk, OnErr, None, Ok, Err, IfErr, IfOk, IfSome, MatchResult, false, is_ok, length, replicate, true};
 ghost use Rattle.std.specs.List.{concat};
 ghost use Rattle.block_traits.specs.Causes.{Counted};
 ghost use Rattle.block_traits.specs.Disk.{DiskState, FailsIn, Gives, GivesEach, Logs};
@@ -7,12 +7,13 @@ ghost use Rattle.block_traits.specs.Parts.{parts};
 ghost use Rattle.eli_metadata.specs.Checks.{settings_of, size_matches, slot_matches, supported};
 ghost use Rattle.provider.specs.Answers.{AttachAnswers, Means, ReadAnswers, Target, WriteAnswers, request};
 ghost use Rattle.provider.specs.Attached.{IsKept, attached_with, has_tags, media};
-ghost use Rattle.provider.specs.Reading.{units_accepted};
+ghost use Rattle.provider.specs.Reading.{StandAccepted, units_accepted};
 ghost use Rattle.provider.specs.Rest.{rest_of};
 ghost use Rattle.range_keys.specs.Ring.{IsKeying};
 ghost use Rattle.sealing.specs.Sectors.{device_sectors, unit_reading_at, reading, seal, units};
 
 use crate::attaching::{OpenedSlot, open_slot, reserve};
+use crate::four_sectors::look_at_four_sectors;
 use crate::runs::{read_run, write_run};
 use crate::sectors::{open_sector, seal_sector};
 use crate::tagged_units::{has_whole_four, tag_fits};
@@ -361,6 +362,25 @@ impl<D: Disk> Provider<D> {
         }
         self.disk.count_reads(4);
         Some(four_accepted(&self.ring, 512 * n, into))
+    }
+
+    /// Looks at the device sectors of four logical sectors at once, the first of number `sector`, where the disk lets
+    /// that be done and memory has room for them: whether all their units are accepted, each as by `unit_ok`. True: a
+    /// read of each unit is counted. False: nothing has changed.
+    ///
+    /// No clause says when it is false: that costs time alone.
+    pub fn look_at_four_sectors(&mut self, sector: u64) -> bool
+        requires on { self.old.keying.auth ≢ Auth.Off }
+        requires inside { sector + 4 ≤ media self.old.keying (D.state self.old.disk) }
+        ensures stand { let units = units self.old.keying in
+            result ≡ true → StandAccepted self.old.keying (sector * units) (4 * units) (D.state self.old.disk) }
+        ensures asked { result ≡ true → Counted (4 * units self.old.keying) (D.state self.old.disk).reads (D.state self.new.disk).reads }
+        ensures logs { result ≡ true → Logs [] (D.state self.old.disk) (D.state self.new.disk) }
+        ensures missed { result ≡ false → D.state self.new.disk ≡ D.state self.old.disk }
+        ensures kept { IsKept self.old self.new }
+    {
+        let buffer = &mut self.buffer;
+        look_at_four_sectors(&self.ring, &mut self.disk, sector, buffer)
     }
 
     /// Writes device sector `n`, which has a unit of a logical sector. It is refused only where the device failed; a

@@ -3,7 +3,7 @@ use Rattle.std.proofs.lemmas.Bool.Decides.{nat_tests}
 use Rattle.eli_base.specs.declared.refusals.Refusal.TheVariants as refusals
 use Rattle.command_rows.specs.Causes.{AsksBytes, AsksSectors, LineHasCause, writes_data}
 use Rattle.command_rows.specs.Gate.{needs, refused_by}
-use Rattle.command_rows.specs.Rows.{Attachment, DoesEvents, GoesOn, IsAttached, NeedsSectors, NeedsWhole, NeedsWritable, Reach, Then, WritesSectors, if_writable, whole_sectors}
+use Rattle.command_rows.specs.Rows.{Attachment, DoesEvents, GoesOn, IsAttached, NeedsSectors, NeedsWhole, NeedsWritable, Reach, ReadsDeviceSector, Then, WritesSectors, if_writable, whole_sectors}
 use Rattle.command_rows.specs.Vocabulary.{Command, Event, Refusal, media}
 use Rattle.command_rows.proofs.Gate.{by_gate_refusal}
 use Rattle.std.proofs.Common.{Bool, Err, List, Ok, Result, Some, arith, cond, false, refl, subst, sym, true, ℕ, ◌+◌, ◌/◌, ◌≡◌, nat_le}
@@ -53,6 +53,11 @@ pub events_why : (line : List ℕ) (command : Command) (events : List Event) (ol
 events_why line command events old (Ok done) new h = tt
 events_why line command events old (Err refusals.DeviceFault) new h = h.rose
 events_why line command events old (Err refusal) new h = absurd h
+
+pub device_sector_why : (line : List ℕ) (command : Command) (place : ℕ) (old : Reach) (answer : Result (List ℕ) Refusal) (new : Reach) → ReadsDeviceSector place old answer new → Why line command old answer new
+device_sector_why line command place old (Ok bytes) new h = tt
+device_sector_why line command place old (Err refusals.DeviceFault) new h = h.reads.0.rose
+device_sector_why line command place old (Err refusal) new h = absurd h.reads
 
 -- the length
 whole_by : (line : List ℕ) (command : Command) (a : Attachment) (bytes : ℕ) (whole : Bool) (old : Reach) (given : Result ℕ Refusal) (middle : Reach) → old.holding ≡ IsAttached a

@@ -4,7 +4,7 @@ use Rattle.block_traits.proofs.Causes.{Rose-earlier}
 use Rattle.eli_base.specs.declared.refusals.Refusal.TheVariants as refusals
 use Rattle.eli_metadata.specs.declared.place.ReadMetaFault.TheVariants.{TooSmall, DeviceFault, Meta}
 use Rattle.command_rows.specs.Counts.{CountsRefusal}
-use Rattle.command_rows.specs.Rows.{Attaches, Attachment, Decides, Does, DoesEvents, GoesOn, LoadsComponents, LoadsFile, Reach, Reads, SectorsAnswer, StoreAnswers, StoresBytes, Then, if_writable, or_refusal}
+use Rattle.command_rows.specs.Rows.{Attaches, Attachment, Decides, DeviceSectorAnswer, Does, DoesEvents, GoesOn, LoadsComponents, LoadsFile, Reach, Reads, SectorsAnswer, StoreAnswers, StoresBytes, Then, if_writable, or_refusal}
 use Rattle.command_rows.specs.Vocabulary.{CabinetState, Components, DiskState, EntropyState, Event, KeyWords, MayRefuse, Metadata, ReadMetaFault, Refusal, Span, StopsAtFile, file_limit, read_refusal_of, refusal_of}
 use Rattle.command_rows.proofs.Causing.{Step}
 use Rattle.command_rows.specs.Grounds.{IsGround}
@@ -132,6 +132,11 @@ does_uncounted events old (Err refusal) new h = absurd h
 
 pub does_counts : (events : List Event) → Counts (Does events)
 does_counts events old answer new h = uncounted_step old answer new (does_uncounted events old.disk answer new.disk h.does) h.outside.cabinet h.outside.entropy
+
+pub device_sector_uncounted : (place : ℕ) (old : DiskState) (answer : Result (List ℕ) Refusal) (new : DiskState) → DeviceSectorAnswer place old answer new → UncountedAnswer answer
+device_sector_uncounted place old (Ok bytes) new h = tt
+device_sector_uncounted place old (Err refusals.DeviceFault) new h = tt
+device_sector_uncounted place old (Err refusal) new h = absurd h
 
 pub sectors_uncounted : (a : Attachment) (sector count : ℕ) (old : DiskState) (answer : Result (List ℕ) Refusal) (new : DiskState) → SectorsAnswer a.keying sector count old answer new → UncountedAnswer answer
 sectors_uncounted a sector count old (Ok bytes) new h = tt

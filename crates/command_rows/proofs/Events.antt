@@ -4,7 +4,7 @@ use Rattle.eli_base.specs.declared.refusals.Refusal.TheVariants as refusals
 use Rattle.eli_metadata.specs.declared.place.ReadMetaFault.TheVariants.{TooSmall, DeviceFault, Meta}
 use Rattle.command_rows.specs.Histories.{BreaksOff}
 use Rattle.std.proofs.Common.{Bool, Err, List, Ok, Option, Result, [], ap, arith, false, inl, inr, refl, subst, sym, take, true, ℕ, ◌≡◌}
-use Rattle.command_rows.specs.Rows.{Attaches, Attachment, DoesEvents, GoesOn, LoadsComponents, NeedsSectors, NeedsWritable, Reach, ReadsLastSector, ReadsSectors, Then, TryRow, WritesSectors}
+use Rattle.command_rows.specs.Rows.{Attaches, Attachment, DoesEvents, GoesOn, LoadsComponents, NeedsSectors, NeedsWritable, Reach, ReadsDeviceSector, ReadsLastSector, ReadsSectors, Then, TryRow, WritesSectors}
 use Rattle.command_rows.specs.Vocabulary.{DiskState, Event, FailsIn, KeyWords, Logs, Metadata, ReadMetaFault, ReadsMetadata, Refusal, data_writes}
 pub use Rattle.command_rows.proofs.Causing.{Step}
 
@@ -30,6 +30,11 @@ quiet_metadata old new (Err (Meta fault)) h = h.logs
 
 pub quiet_reading : Quiet ReadsLastSector
 quiet_reading old answer new h = quiet_metadata old.disk new.disk h.reads.read h.reads.reads
+
+pub quiet_device_sector : (place : ℕ) → Quiet (ReadsDeviceSector place)
+quiet_device_sector place old (Ok bytes) new h = h.reads.2
+quiet_device_sector place old (Err refusals.DeviceFault) new h = quiet_failure old.disk new.disk h.reads.0
+quiet_device_sector place old (Err refusal) new h = absurd h.reads
 
 pub quiet_loading : (line : List ℕ) (words : KeyWords) → Quiet (LoadsComponents line words)
 quiet_loading line words old answer new h = same_disk old.disk new.disk h.disk

@@ -1,10 +1,10 @@
 -- Rows that leave what the drawer does with its disk, and the files, as they are, and that count failures soundly.
 use Rattle.std.proofs.Common.{Bool, List, Ok, Option, Result, Some, ℕ}
-use Rattle.command_rows.specs.Rows.{Admits, Attachment, Decides, Does, LoadsComponents, NeedsSectors, NeedsWhole, NeedsWritable, Reach, ReadsDisk, ReadsLastSector, ReadsSectors, StoresBytes, Then, TriesKey, TryRow, admitted, if_writable, in_range, tried, whole_sectors}
+use Rattle.command_rows.specs.Rows.{Admits, Attachment, Decides, Does, LoadsComponents, NeedsSectors, NeedsWhole, NeedsWritable, Reach, ReadsDeviceSector, ReadsDisk, ReadsLastSector, ReadsSectors, StoresBytes, Then, TriesKey, TryRow, admitted, if_writable, in_range, tried, whole_sectors}
 use Rattle.command_rows.specs.Vocabulary.{Components, DiskState, Event, KeyWords, Metadata, Refusal, Settings, Span, media, user_key}
 use Rattle.command_rows.proofs.Becoming.{Stays, same_reach, stays_then}
 use Rattle.command_rows.proofs.Causing.{Step}
-use Rattle.command_rows.proofs.Counting.{Counts, UncountedAnswer, by_plain, components_counts, decision_counts, does_counts, range_uncounted, reads_uncounted, sectors_uncounted, storing_counts, then_counts, uncounted_step, whole_uncounted, writable_uncounted}
+use Rattle.command_rows.proofs.Counting.{Counts, UncountedAnswer, by_plain, components_counts, decision_counts, device_sector_uncounted, does_counts, range_uncounted, reads_uncounted, sectors_uncounted, storing_counts, then_counts, uncounted_step, whole_uncounted, writable_uncounted}
 use Rattle.command_rows.proofs.Plain.{or_plain, tried_plain}
 use Rattle.command_rows.proofs.Sound.{Sound, sound_step}
 use Rattle.command_rows.proofs.Storing.{Stored, Unstored, bytes_stored, decision_unstored, same_files, stored_then, unstored_then}
@@ -47,6 +47,9 @@ read_still {A} {Answers} uncounted = record {
 
 pub reading_still : Still ReadsLastSector
 reading_still = read_still reads_uncounted
+
+pub device_sector_still : (place : ℕ) → Still (ReadsDeviceSector place)
+device_sector_still place = read_still (device_sector_uncounted place)
 
 pub admitting_still : (m : Metadata) (slot : Option ℕ) → Still (Admits m slot)
 admitting_still m slot = still_decision (λ r. admitted m r.disk.size slot) (λ r. by_plain _ (or_plain _))

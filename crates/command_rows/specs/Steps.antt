@@ -6,7 +6,7 @@ use Rattle.block_traits.specs.declared.disk.Event.TheVariants.{Flush}
 use Rattle.eli_base.specs.Requests.{request_limit}
 use Rattle.eli_base.specs.declared.refusals.Refusal.TheVariants as refusals
 use Rattle.provider.specs.Reads.{RunFails, RunFault}
-use Rattle.command_rows.specs.Vocabulary.{CabinetState, Components, Counted, DiskState, Event, FailsIn, FitsWords, InitOptions, Inits, IsAnswer, KeepsFiles, KeyFault, KeyWords, Keying, LoadsEach, Logs, MasterKey, MayRefuse, MetaFault, Metadata, ReadMetaFault, ReadsAs, ReadsMetadata, Refusal, Rose, Settings, Span, StopsAtFile, UserKey, bytes_at, components_of, data_writes, encoded, file_answer, key_refusal_of, media_sectors, opened, read_refusal_of, refusal_of, refused_word, size_matches, slot_matches, stored, supported, units, user_key}
+use Rattle.command_rows.specs.Vocabulary.{CabinetState, Components, Counted, DiskState, Event, FailsIn, FitsWords, Gives, InitOptions, Inits, IsAnswer, KeepsFiles, KeyFault, KeyWords, Keying, LoadsEach, Logs, MasterKey, MayRefuse, MetaFault, Metadata, ReadMetaFault, ReadsAs, ReadsMetadata, Refusal, Rose, Settings, Span, StopsAtFile, UserKey, bytes_at, components_of, data_writes, encoded, file_answer, key_refusal_of, media_sectors, opened, read_refusal_of, refusal_of, refused_word, size_matches, slot_matches, stored, supported, units, user_key}
 use Rattle.command_rows.specs.World.{Attachment, Idle, IsAttached, Reach}
 
 -- ---- one step after another
@@ -52,6 +52,17 @@ pub record ReadsDisk {A : Type 0} (Answers : DiskState → Result A Refusal → 
   pub reads : Answers old.disk answer new.disk
   pub holding : new.holding ≡ old.holding
   pub outside : KeepsOutside old new
+
+-- ---- a device sector is read by its number
+
+-- what the disk gives there, where it tells its content, in one read; or that read failed
+abbrev pub DeviceSectorAnswer : ℕ → DiskState → Result (List ℕ) Refusal → DiskState → Type 0
+DeviceSectorAnswer place old (Ok bytes) new = (length bytes ≡ 512) × Gives old place bytes × Logs [] old new × Counted 1 old.reads new.reads
+DeviceSectorAnswer place old (Err refusals.DeviceFault) new = FailsIn [] old new × Counted 1 old.reads new.reads
+DeviceSectorAnswer place old (Err refusal) new = ⊥
+
+abbrev pub ReadsDeviceSector : ℕ → Reach → Result (List ℕ) Refusal → Reach → Type 0
+ReadsDeviceSector place old answer new = ReadsDisk (DeviceSectorAnswer place) old answer new
 
 -- ---- the metadata are read
 

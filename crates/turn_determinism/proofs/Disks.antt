@@ -1,7 +1,7 @@
 -- Steps that read the disk and write it, and those that flush it and change what the drawer does with it.
 use Rattle.std.proofs.Common.{◌≡◌, ◌∙◌, ◌⊎◌, inl, inr, ℕ, ◌+◌, ◌-◌, ◌*◌, ◌≤◌, List, [], ◌∷◌, refl, ap, sym, subst, arith, Option, Some, Result, Ok, Err}
 use Rattle.block_traits.specs.declared.disk.Event.TheVariants.{Flush}
-use Rattle.command_rows.specs.Rows.{Attachment, Detaches, Does, DoesEvents, IsSuspended, Reach, Reads, ReadsDisk, ReadsLastSector, ReadsSectors, SectorsAnswer, WritesSectors, or_refusal}
+use Rattle.command_rows.specs.Rows.{Attachment, Detaches, DeviceSectorAnswer, Does, DoesEvents, IsSuspended, Reach, Reads, ReadsDeviceSector, ReadsDisk, ReadsLastSector, ReadsSectors, SectorsAnswer, WritesSectors, or_refusal}
 use Rattle.command_rows.specs.Vocabulary.{Content, Counted, DiskState, Event, Keying, Logs, MetaFault, Metadata, ReadMetaFault, ReadsAs, ReadsFrom, ReadsMetadata, Refusal, Rose, data_reading, data_writes, last_sector, metadata_in, present, read_refusal_of, units}
 use Rattle.eli_base.specs.declared.refusals.Refusal.TheVariants as refusals
 use Rattle.eli_metadata.specs.declared.place.ReadMetaFault.TheVariants.{TooSmall, DeviceFault, Meta}
@@ -106,28 +106,43 @@ reads_sure {A} {Answers} later alike = record {
 -- ---- a device sector is read
 
 -- the answer is made of the bytes of the device sector of this number, which is read once
-pub record AnswersSector {X : Type 0} (place : ℕ) (found : List ℕ → X) (c : Content) (d : DiskState) (answer : X) (e : DiskState) : Type 0 where
-  pub is : answer ≡ found (present c place)
-  pub logs : Logs [] d e
-  pub asked : Counted 1 d.reads e.reads
+record AnswersSector {X : Type 0} (place : ℕ) (found : List ℕ → X) (c : Content) (d : DiskState) (answer : X) (e : DiskState) : Type 0 where
+  is : answer ≡ found (present c place)
+  logs : Logs [] d e
+  asked : Counted 1 d.reads e.reads
 
-pub sector_alike : {X : Type 0} (place place' : ℕ) (found : List ℕ → X) (d d' : DiskState) (answer answer' : X) (e e' : DiskState) → (same : AlikeDisk d d') → place' ≡ place
+sector_alike : {X : Type 0} (place place' : ℕ) (found : List ℕ → X) (d d' : DiskState) (answer answer' : X) (e e' : DiskState) → (same : AlikeDisk d d') → place' ≡ place
     → AnswersSector place found same.content d answer e → AnswersSector place' found same.content d' answer' e' → (answer' ≡ answer) × AlikeDisk e e'
 sector_alike place place' found d d' answer answer' e e' same there h h' =
     (h'.is ∙ ap (λ (n : ℕ). found (present same.content n)) there ∙ sym h.is, logs_alike [] d d' e e' same h.logs h'.logs (counted_same 1 same.reads h.asked h'.asked))
 
+bytes_later : (place : ℕ) (d : DiskState) (answer : Result (List ℕ) Refusal) (e : DiskState) → DeviceSectorAnswer place d answer e → d.faults ≤ e.faults
+bytes_later place d (Ok bytes) e h = h.2.faults
+bytes_later place d (Err refusals.DeviceFault) e h = h.0.logs.faults
+bytes_later place d (Err refusal) e h = absurd h
+
+bytes_are : (place : ℕ) (d : DiskState) (c : Content) (answer : Result (List ℕ) Refusal) (e : DiskState) → d.content ≡ Some c → ¬ Rose d.faults e.faults → DeviceSectorAnswer place d answer e → AnswersSector place (λ bytes. Ok bytes) c d answer e
+bytes_are place d c (Ok bytes) e told quiet h = record { is = ap (λ (b : List ℕ). Ok b) (given_by d c place bytes told h.1); logs = h.2; asked = h.3 }
+bytes_are place d c (Err refusals.DeviceFault) e told quiet h = absurd (quiet h.0.rose)
+bytes_are place d c (Err refusal) e told quiet h = absurd h
+
+pub reads_device_sector_sure : (place : ℕ) → Sure (ReadsDeviceSector place)
+reads_device_sector_sure place =
+    reads_sure (bytes_later place)
+    (λ d d' answer answer' e e' same quiet quiet' h h'. sector_alike place place _ d d' answer answer' e e' same refl (bytes_are place d same.content answer e same.told quiet h) (bytes_are place d' same.content answer' e' same.told' quiet' h'))
+
 -- the image is too small, which its size in bytes tells, and nothing is read
-pub record AnswersSmall {X : Type 0} (small : ℕ → X) (d : DiskState) (answer : X) (e : DiskState) : Type 0 where
-  pub few : d.size + 1 ≤ 2
-  pub is : answer ≡ small (512 * d.size)
-  pub unchanged : e ≡ d
+record AnswersSmall {X : Type 0} (small : ℕ → X) (d : DiskState) (answer : X) (e : DiskState) : Type 0 where
+  few : d.size + 1 ≤ 2
+  is : answer ≡ small (512 * d.size)
+  unchanged : e ≡ d
 
 -- or the last sector is read
-pub record AnswersLast {X : Type 0} (found : List ℕ → X) (c : Content) (d : DiskState) (answer : X) (e : DiskState) : Type 0 where
-  pub enough : 2 ≤ d.size
-  pub sector : AnswersSector (last_sector d) found c d answer e
+record AnswersLast {X : Type 0} (found : List ℕ → X) (c : Content) (d : DiskState) (answer : X) (e : DiskState) : Type 0 where
+  enough : 2 ≤ d.size
+  sector : AnswersSector (last_sector d) found c d answer e
 
-pub last_alike : {X : Type 0} (small : ℕ → X) (found : List ℕ → X) (d d' : DiskState) (answer answer' : X) (e e' : DiskState) → (same : AlikeDisk d d') → AnswersSmall small d answer e ⊎ AnswersLast found same.content d answer e
+last_alike : {X : Type 0} (small : ℕ → X) (found : List ℕ → X) (d d' : DiskState) (answer answer' : X) (e e' : DiskState) → (same : AlikeDisk d d') → AnswersSmall small d answer e ⊎ AnswersLast found same.content d answer e
     → AnswersSmall small d' answer' e' ⊎ AnswersLast found same.content d' answer' e' → (answer' ≡ answer) × AlikeDisk e e'
 last_alike small found d d' answer answer' e e' same (inl h) (inl h') =
     (h'.is ∙ ap (λ (n : ℕ). small (512 * n)) same.size ∙ sym h.is, still_disk d d' e e' same h.unchanged h'.unchanged)

@@ -92,7 +92,7 @@ row_one line (commands.Flush prov) = replies_one done_replying (Disks.does_sure 
 row_one line (commands.Setkey prov iterations slot words fresh) = replies_one done_replying (Rows.setkey_row_sure line iterations slot words fresh)
 row_one line (commands.Delkey prov all force slot) = replies_one done_replying (Rows.delkey_row_sure all force slot)
 row_one line (commands.Kill prov) = replies_one done_replying (then_sure Deciding.withdraws_sure (λ _. Places.destroys_sure))
-row_one line (commands.Backup prov file) = replies_one done_replying (then_sure Places.finds_last_sure (λ bytes. Files.stores_sure line file bytes))
+row_one line (commands.Backup prov file) = replies_one done_replying (Rows.backup_row_sure line file)
 row_one line (commands.Restore file prov force) =
     replies_one done_replying (then_sure (Files.file_sure file_limit line file) (λ bytes. then_sure (Keys.writes_back_sure bytes force) (λ m. Deciding.decides_sure _)))
 row_one line (commands.Resize prov oldsize) = replies_one done_replying (Places.moves_sure oldsize)

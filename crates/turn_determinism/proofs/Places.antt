@@ -1,57 +1,16 @@
--- Steps that find the last sector, move metadata, destroy them and sweep units.
+-- Steps that destroy metadata, move them and sweep units.
 use Rattle.std.proofs.Common.{◌≡◌, ◌∙◌, ◌⊎◌, inl, inr, ℕ, ◌+◌, ◌*◌, ◌==◌, ◌≤◌, List, [], refl, ap, sym, subst, arith, Bool, true, cond, Option, None, Some, Result, Ok, Err}
 use Rattle.std.proofs.lemmas.Bool.{eq-eqb}
-use Rattle.command_rows.specs.Rows.{Attachment, Reach, handed_out}
-use Rattle.command_rows.specs.Vocabulary.{Content, Counted, DiskState, EntropyState, Event, Finds, Kills, Logs, MetaFault, Metadata, Refusal, RefusesOld, RefusesSizes, Resizes, Rose, Saves, StandFrom, Sweep, TakesTrash, failing_units, grown, kill_events, last_sector, media, media_sectors, metadata_in, move_events, old_place, old_refusal, present, refusal_of, sectors_swept, size_refusal, standing, sweep_at, trash_size, units}
+use Rattle.command_rows.specs.Rows.{Attachment, Reach}
+use Rattle.command_rows.specs.Vocabulary.{Content, Counted, DiskState, EntropyState, Event, Finds, Kills, Logs, MetaFault, Metadata, Refusal, RefusesOld, RefusesSizes, Resizes, Rose, StandFrom, Sweep, TakesTrash, failing_units, grown, kill_events, media, media_sectors, metadata_in, move_events, old_place, old_refusal, present, sectors_swept, size_refusal, standing, sweep_at, trash_size, units}
 use Rattle.eli_base.specs.declared.refusals.Refusal.TheVariants as refusals
-use Rattle.command_rows.specs.verbs.Backup.{FindsLastSector}
 use Rattle.command_rows.specs.verbs.Kill.{DestroysMetadata}
 use Rattle.command_rows.specs.verbs.Resize.{MovesMetadata}
 use Rattle.command_rows.specs.verbs.Verify.{PartAnswer, Sweeps, SweptPart}
 use Rattle.turn_determinism.proofs.Alike.{AlikeDisk, counted_same, given_by, logs_alike, still_disk, still_entropy, takes_alike, takes_same}
-use Rattle.turn_determinism.proofs.Disks.{AnswersLast, AnswersSmall, last_alike, reads_sure}
+use Rattle.turn_determinism.proofs.Disks.{reads_sure}
 use Rattle.turn_determinism.proofs.Keys.{drawing_later, drawing_settled, refusal_same, unread_alike, unrefused}
 use Rattle.turn_determinism.proofs.Steps.{Both, Settled, Sure, same_disk_later, same_entropy_later}
-
--- ---- the last sector is found
-
-saves_later : (d : DiskState) (before : List ℕ) (read : Result (Unit {0}) Refusal) (bytes : List ℕ) (e : DiskState) → Saves d before read bytes e → d.faults ≤ e.faults
-saves_later d before (Ok done) bytes e h = h.reads.logs.faults
-saves_later d before (Err (refusals.TooSmall size)) bytes e h = same_disk_later d e h.unchanged
-saves_later d before (Err refusals.DeviceFault) bytes e h = h.fails.logs.faults
-saves_later d before (Err refusal) bytes e h = h.reads.logs.faults
-
--- bytes that are metadata, or the refusal of what they are
-as_found : List ℕ → Result Metadata MetaFault → Result (List ℕ) Refusal
-as_found bytes (Ok m) = Ok bytes
-as_found bytes (Err fault) = Err (refusal_of fault)
-
-found_is : (bytes now : List ℕ) (found : Result Metadata MetaFault) → bytes ≡ now → metadata_in bytes ≡ found → as_found bytes found ≡ as_found now (metadata_in now)
-found_is bytes now found is was = ap (as_found bytes) (sym was) ∙ ap (λ (b : List ℕ). as_found b (metadata_in b)) is
-
-saves_is : (d : DiskState) (c : Content) (before : List ℕ) (read : Result (Unit {0}) Refusal) (bytes : List ℕ) (e : DiskState) → d.content ≡ Some c → ¬ Rose d.faults e.faults → Saves d before read bytes e
-    → AnswersSmall (λ size. Err (refusals.TooSmall size)) d (handed_out bytes read) e ⊎ AnswersLast (λ now. as_found now (metadata_in now)) c d (handed_out bytes read) e
-unfolding as_found
-saves_is d c before (Ok done) bytes e told quiet h =
-    let now = given_by d c (last_sector d) bytes told h.reads.told in
-    inr (record { enough = h.reads.enough; sector = record { is = found_is bytes (present c (last_sector d)) (Ok h.m) now h.is; logs = h.reads.logs; asked = h.reads.asked } })
-saves_is d c before (Err (refusals.TooSmall size)) bytes e told quiet h = inl (record { few = omega (arith, h.small); is = ap (λ (n : ℕ). Err (refusals.TooSmall n)) h.bytes; unchanged = h.unchanged })
-saves_is d c before (Err refusals.DeviceFault) bytes e told quiet h = absurd (quiet h.fails.rose)
-saves_is d c before (Err refusal) bytes e told quiet h =
-    let now = given_by d c (last_sector d) bytes told h.reads.told in
-    inr (record { enough = h.reads.enough; sector = record { is = ap (λ (r : Refusal). Err r) h.cause ∙ found_is bytes (present c (last_sector d)) (Err h.fault) now h.is; logs = h.reads.logs; asked = h.reads.asked } })
-
-saved_alike : (d d' : DiskState) (before before' : List ℕ) (read read' : Result (Unit {0}) Refusal) (bytes bytes' : List ℕ) (e e' : DiskState) → AlikeDisk d d' → ¬ Rose d.faults e.faults → ¬ Rose d'.faults e'.faults
-    → Saves d before read bytes e → Saves d' before' read' bytes' e' → (handed_out bytes' read' ≡ handed_out bytes read) × AlikeDisk e e'
-saved_alike d d' before before' read read' bytes bytes' e e' same quiet quiet' h h' =
-    last_alike _ _ d d' _ _ e e' same (saves_is d same.content before read bytes e same.told quiet h) (saves_is d' same.content before' read' bytes' e' same.told' quiet' h')
-
-pub finds_last_sure : Sure FindsLastSector
-finds_last_sure =
-    reads_sure (λ d answer e h. saves_later d h.before h.read h.bytes e h.saves)
-    (λ d d' answer answer' e e' same quiet quiet' h h'.
-    let is = saved_alike d d' h.before h'.before h.read h'.read h.bytes h'.bytes e e' same quiet quiet' h.saves h'.saves in
-    (h'.answered ∙ is.0 ∙ sym h.answered, is.1))
 
 -- ---- metadata are destroyed
 

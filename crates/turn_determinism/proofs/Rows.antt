@@ -7,13 +7,14 @@ use Rattle.command_rows.specs.Rows.{Attachment, Holding, Kept, Reach, TryRow, at
 use Rattle.command_rows.specs.Vocabulary.{JobWords, KeyWords, Refusal, Span, bytes_at, le64}
 use Rattle.command_words.specs.declared.commands.JobWords.TheVariants as words
 use Rattle.command_rows.specs.Turn.{AttachRow}
+use Rattle.command_rows.specs.verbs.Backup.{BackupRow}
 use Rattle.command_rows.specs.verbs.Delkey.{DeletesRow, DelkeyRow, slot_of}
 use Rattle.command_rows.specs.verbs.Resume.{ResumeRow}
 use Rattle.command_rows.specs.verbs.Setkey.{SetkeyAttachedRow, SetkeyIdleRow, SetkeyRow}
 use Rattle.command_rows.specs.verbs.Submit.{SubmitRow}
 use Rattle.command_rows.specs.verbs.Verify.{VerifyRow}
 use Rattle.turn_determinism.proofs.Deciding.{attaches_sure, decides_sure, size_sure, unless_sure}
-use Rattle.turn_determinism.proofs.Disks.{reads_last_sure}
+use Rattle.turn_determinism.proofs.Disks.{reads_device_sector_sure, reads_last_sure}
 use Rattle.turn_determinism.proofs.Files.{components_sure, finds_place_sure, stores_sure}
 use Rattle.turn_determinism.proofs.Keys.{stores_key_sure, takes_keys_out_sure}
 use Rattle.turn_determinism.proofs.Places.{sweeps_sure}
@@ -79,7 +80,11 @@ delkey_row_sure all force slot = record {
       (deletes_row_sure all force (option_or slot (slot_of old.holding))).settles old old' answer answer' new new' both memory memory' h (subst P both.same.holding h');
 }
 
--- ---- sweeps and requests
+-- ---- backups, sweeps and requests
+
+pub backup_row_sure : (line : List ℕ) (file : Span) → Sure (BackupRow line file)
+backup_row_sure line file =
+    then_sure (size_sure _) (λ place. then_sure (reads_device_sector_sure place) (λ bytes. then_sure (decides_sure _) (λ _. stores_sure line file bytes)))
 
 pub verify_row_sure : (line : List ℕ) (file : Span) (count : ℕ) (restart : Bool) (a : Attachment) → Sure (VerifyRow line file count restart a)
 verify_row_sure line file count restart a =

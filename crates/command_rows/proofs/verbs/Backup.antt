@@ -1,59 +1,56 @@
 -- That `backup` is lawful.
-use Rattle.std.proofs.Common.{Err, List, Ok, Result, Some, [], ap, arith, false, inl, inr, refl, subst, sym, ℕ}
+use Rattle.std.proofs.Common.{Bool, Err, List, Ok, Result, Some, ap, arith, cond, false, inl, inr, refl, subst, true, ℕ, ◌*◌, ◌-◌, ◌≡◌, ◌≤◌, nat_le}
+use Rattle.std.proofs.lemmas.Bool.Decides.{nat_tests}
 use Rattle.command_words.specs.declared.commands.Command.TheVariants as commands
 use Rattle.eli_base.specs.declared.refusals.Refusal.TheVariants as refusals
-use Rattle.command_rows.specs.Rows.{HoldsNone, LacksMetadata, Reach, done_or, handed_out}
-use Rattle.command_rows.specs.Vocabulary.{Command, DiskState, Logs, Refusal, Saves, Span, refusal_of}
-use Rattle.command_rows.specs.verbs.Backup.{BackupRow, FindsLastSector, ReadsForBackup}
-use Rattle.command_rows.proofs.VerbLaws.{Grounds, IsGround, IsLawful, Quiet, Still, StillBut, Uncounted, UncountedAnswer, Why, apart_out, done_replying, false_is_true, has_metadata, meta_plain, nothing_changed, plain_cause, plain_uncounted, quiet_did, quiet_failure, quiet_storing, quiet_then, read_still, reply_line, row_keeps, row_refused, same_disk, sound_reply, stays_quiet, still_but_sound, still_but_then, storing_still, storing_why, then_why}
-
-quiet_saves : (old : DiskState) (before : List ℕ) (read : Result (Unit {0}) Refusal) (bytes : List ℕ) (new : DiskState) → Saves old before read bytes new → Logs [] old new
-quiet_saves old before (Ok done) bytes new h = h.reads.logs
-quiet_saves old before (Err (refusals.TooSmall size)) bytes new h = same_disk old new h.unchanged
-quiet_saves old before (Err refusals.DeviceFault) bytes new h = quiet_failure old new h.fails
-quiet_saves old before (Err refusal) bytes new h = h.reads.logs
-
-quiet_finding : Quiet FindsLastSector
-quiet_finding old answer new h = quiet_saves old.disk h.reads.before h.reads.read h.reads.bytes new.disk h.reads.saves
+use Rattle.command_rows.specs.Rows.{DeviceSectorAnswer, HoldsNone, LacksRoom, Reach, done_or, or_refusal}
+use Rattle.command_rows.specs.Vocabulary.{Command, DiskState, Gives, MetaFault, Metadata, Refusal, Span, last_sector, metadata_in, refusal_of}
+use Rattle.command_rows.specs.verbs.Backup.{BackupRow, metadata_place}
+use Rattle.command_rows.proofs.VerbLaws.{IsLawful, PlainAnswer, Quiet, StillBut, Why, apart_out, by_plain, decides_why, device_sector_still, device_sector_why, done_replying, false_is_true, has_metadata, nothing_changed, or_plain, quiet_device_sector, quiet_did, quiet_storing, quiet_then, reply_line, row_keeps, row_refused, same_quiet, same_then_why, sound_reply, stays_quiet, still_but_sound, still_but_then, still_decision, storing_still, storing_why, then_since, then_why}
 
 quiet_backup_row : (line : List ℕ) (file : Span) → Quiet (BackupRow line file)
-quiet_backup_row line file = quiet_then quiet_finding (λ bytes. quiet_storing line file bytes)
+quiet_backup_row line file =
+    quiet_then (λ old answer new h. same_quiet old new h.1)
+    (λ place. quiet_then (quiet_device_sector place)
+    (λ bytes. quiet_then (λ old answer new h. same_quiet old new h.1)
+    (λ _. quiet_storing line file bytes)))
 
-saved_uncounted : (old : DiskState) (before : List ℕ) (read : Result (Unit {0}) Refusal) (bytes : List ℕ) (new : DiskState) → Saves old before read bytes new → UncountedAnswer (handed_out bytes read)
-saved_uncounted old before (Ok done) bytes new h = tt
-saved_uncounted old before (Err (refusals.TooSmall size)) bytes new h = tt
-saved_uncounted old before (Err refusals.DeviceFault) bytes new h = tt
-saved_uncounted old before (Err refusal) bytes new h = subst (λ (r : Refusal). Uncounted r) (sym h.cause) (plain_uncounted (refusal_of h.fault) (meta_plain h.fault))
+room_plain : (size : ℕ) (enough : Bool) → PlainAnswer {A = ℕ} (cond enough (Ok (size - 1)) (Err (refusals.TooSmall (512 * size))))
+room_plain size true = tt
+room_plain size false = tt
 
-finding_uncounted : (old : DiskState) (answer : Result (List ℕ) Refusal) (new : DiskState) → ReadsForBackup old answer new → UncountedAnswer answer
-finding_uncounted old answer new h =
-    subst (λ (r : Result (List ℕ) Refusal). UncountedAnswer r) (sym h.answered) (saved_uncounted old h.before h.read h.bytes new h.saves)
+lacks_room : (disk : DiskState) (refusal : Refusal) (enough : Bool) → nat_le 2 disk.size ≡ enough → cond enough (Ok (disk.size - 1)) (Err (refusals.TooSmall (512 * disk.size))) ≡ Err refusal → LacksRoom disk refusal
+lacks_room disk refusal true test h = absurd (let none : ⊥ = cc h in none)
+lacks_room disk refusal false test h = (grind (arith, nat_tests), cc h)
 
-saves_why : (line : List ℕ) (command : Command) (old : Reach) (before : List ℕ) (read : Result (Unit {0}) Refusal) (bytes : List ℕ) (new : Reach) → Grounds line command old (LacksMetadata old.disk) → Saves old.disk before read bytes new.disk
-    → Why line command old (handed_out bytes read) new
-saves_why line command old before (Ok done) bytes new lacks h = tt
-saves_why line command old before (Err (refusals.TooSmall size)) bytes new lacks h = (tt, lacks (refusals.TooSmall size) (inl (h.small, ap (λ (n : ℕ). refusals.TooSmall n) h.bytes)))
-saves_why line command old before (Err refusals.DeviceFault) bytes new lacks h = h.fails.rose
-saves_why line command old before (Err refusal) bytes new lacks h =
-    let found : HoldsNone old.disk refusal = record { enough = h.reads.enough; fault = h.fault; found = record { bytes = bytes; whole = h.reads.whole; told = h.reads.told; read = h.is }; refused = h.cause } in
-    plain_cause line command old refusal new (subst (λ (r : Refusal). IsGround r) (sym h.cause) (meta_plain h.fault)) (lacks refusal (inr found))
+is_last : (size place : ℕ) (enough : Bool) → nat_le 2 size ≡ enough → Ok place ≡ cond enough (Ok (size - 1)) (Err (refusals.TooSmall (512 * size))) → (2 ≤ size) × (place ≡ size - 1)
+is_last size place true test h = (grind (arith, nat_tests), cc h)
+is_last size place false test h = absurd (let none : ⊥ = cc h in none)
 
-finding_why : (line : List ℕ) (command : Command) (old : Reach) (answer : Result (List ℕ) Refusal) (new : Reach) → Grounds line command old (LacksMetadata old.disk) → FindsLastSector old answer new → Why line command old answer new
-finding_why line command old answer new lacks h =
-    subst (λ (r : Result (List ℕ) Refusal). Why line command old r new) (sym h.reads.answered) (saves_why line command old h.reads.before h.reads.read h.reads.bytes new lacks h.reads.saves)
+-- the bytes that were read of the last sector are none
+holds_none : (disk : DiskState) (place : ℕ) (bytes : List ℕ) (new : DiskState) (refusal : Refusal) (found : Result Metadata MetaFault) → (2 ≤ disk.size) × (place ≡ last_sector disk) → DeviceSectorAnswer place disk (Ok bytes) new → metadata_in bytes ≡ found
+    → or_refusal refusal_of found ≡ Err refusal → HoldsNone disk refusal
+holds_none disk place bytes new refusal (Ok m) last read is bad = absurd (let none : ⊥ = cc bad in none)
+holds_none disk place bytes new refusal (Err fault) last read is bad =
+    record { enough = last.0; fault = fault; found = record { bytes = bytes; whole = read.0; told = subst (λ (n : ℕ). Gives disk n bytes) last.1 read.1; read = is }; refused = cc bad }
 
 backup_why : (line : List ℕ) (prov file : Span) (old : Reach) (answer : Result (Unit {0}) Refusal) (new : Reach) → BackupRow line file old answer new → Why line (commands.Backup prov file) old answer new
 backup_why line prov file old answer new h =
     let command : Command = commands.Backup prov file in
-    then_why line command old answer new h
-    (λ given middle first. finding_why line command old given middle (λ refusal lacks. lacks) first)
-    (λ bytes middle first next. storing_why line command file bytes old middle answer new refl (rw first.outside.cabinet (omega arith)) next.stores)
-
-finding_still : Still FindsLastSector
-finding_still = read_still finding_uncounted
+    same_then_why line command old answer new h (λ place middle first. first.1)
+    (λ given middle first. decides_why line command old (metadata_place old.disk.size) old given middle (room_plain old.disk.size _) (λ refusal bad. inl (lacks_room old.disk refusal _ refl bad)) first)
+    (λ place first next. then_why line command old answer new next (λ given middle read. device_sector_why line command place old given middle read)
+    (λ bytes middle read follows. then_since line command old middle answer new follows
+    (λ given there decided. decides_why line command old (or_refusal refusal_of (metadata_in bytes)) middle given there (or_plain (metadata_in bytes))
+    (λ refusal bad. inr (holds_none old.disk place bytes middle.disk refusal (metadata_in bytes) (is_last old.disk.size place _ refl first.0) read.reads refl bad)) decided)
+    (λ m there decided last. storing_why line command file bytes old there answer new refl (rw (ap (λ (r : Reach). r.cabinet) decided.1, read.outside.cabinet) (omega arith)) last.stores)))
 
 backup_still : (line : List ℕ) (file : Span) → StillBut line (Some file) (BackupRow line file)
-backup_still line file = still_but_then finding_still (λ bytes. storing_still line file bytes)
+backup_still line file =
+    still_but_then (still_decision (λ r. metadata_place r.disk.size) (λ r. by_plain _ (room_plain r.disk.size _)))
+    (λ place. still_but_then (device_sector_still place)
+    (λ bytes. still_but_then (still_decision (λ r. or_refusal refusal_of (metadata_in bytes)) (λ r. by_plain _ (or_plain (metadata_in bytes))))
+    (λ _. storing_still line file bytes)))
 
 pub backup_lawful : (prov : Span) (file : Span) → IsLawful (commands.Backup prov file)
 backup_lawful prov file = record {

@@ -1,23 +1,20 @@
 -- `backup`: the metadata are stored in a file (geli(8)).
-use Rattle.std.specs.Prelude.{List, Result, Some, ℕ, ◌≡◌}
-use Rattle.command_rows.specs.Rows.{FindsMetadata, LacksMetadata, NoBadFile, NoChanges, NoEvents, OfOther, Reach, ReadsDisk, Replies, StoresBytes, Then, Verb, asks_nothing, done_or, handed_out, places_nothing}
-use Rattle.command_rows.specs.Vocabulary.{DiskState, Refusal, Saves, Span}
+use Rattle.std.specs.Prelude.{Err, List, Ok, Result, Some, if◌then◌else◌, nat_le, ℕ, ◌*◌, ◌-◌}
+use Rattle.eli_base.specs.declared.refusals.Refusal.TheVariants as refusals
+use Rattle.command_rows.specs.Rows.{Decides, DecidesBySize, FindsMetadata, LacksMetadata, NoBadFile, NoChanges, NoEvents, OfOther, Reach, ReadsDeviceSector, Replies, StoresBytes, Then, Verb, asks_nothing, done_or, or_refusal, places_nothing}
+use Rattle.command_rows.specs.Vocabulary.{Refusal, Span, metadata_in, refusal_of}
 
--- the last sector was read, into a place that had other bytes before; it is answered where it has metadata
-pub record ReadsForBackup (old : DiskState) (answer : Result (List ℕ) Refusal) (new : DiskState) : Type 0 where
-  pub before : List ℕ
-  pub bytes : List ℕ
-  pub read : Result (Unit {0}) Refusal
-  pub saves : Saves old before read bytes new
-  pub answered : answer ≡ handed_out bytes read
+-- the number of the last device sector, where the metadata stand, of an image that has two
+abbrev pub metadata_place : ℕ → Result ℕ Refusal
+metadata_place size = if nat_le 2 size then Ok (size - 1) else Err (refusals.TooSmall (512 * size))
 
--- the last sector is read as it is, if it has metadata
-abbrev pub FindsLastSector : Reach → Result (List ℕ) Refusal → Reach → Type 0
-FindsLastSector old answer new = ReadsDisk ReadsForBackup old answer new
-
--- `backup`: the last sector is read, and then stored in a file
+-- `backup`: the last device sector is read, and stored in a file as it is, if it has metadata
 abbrev pub BackupRow : List ℕ → Span → Reach → Result (Unit {0}) Refusal → Reach → Type 0
-BackupRow line file old answer new = Then FindsLastSector (λ bytes. StoresBytes line file bytes) old answer new
+BackupRow line file old answer new =
+    Then (DecidesBySize metadata_place)
+    (λ place. Then (ReadsDeviceSector place)
+    (λ bytes. Then (Decides (or_refusal refusal_of (metadata_in bytes)))
+    (λ _. StoresBytes line file bytes))) old answer new
 
 -- the verb
 abbrev pub backup_verb : Span → Span → Verb

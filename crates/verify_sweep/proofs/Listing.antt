@@ -1,6 +1,6 @@
 -- Units that are listed one after the other.
-use Rattle.std.proofs.Common.{◌≡◌, ◌⊎◌, inl, inr, ℕ, zero, suc, get_or, ◌+◌, ◌-◌, ◌*◌, ◌/◌, ◌^◌, ◌<◌, ◌≤◌, Bool, true, false, cond, List, [], ◌∷◌, ◌++◌, length, take, drop, All, Option, Some, None, Result, Ok, Err, IsErr, is_ok, refl, sym, ap, subst, ◌∙◌, arith, add-one, add-zero, append-nil, append_assoc, length-append}
-use Rattle.std.proofs.Math.Nat.{div-mul-le_self, mul-le-mul_right}
+use Rattle.std.proofs.Common.{◌≡◌, ◌⊎◌, inl, inr, ℕ, zero, suc, get_or, ◌+◌, ◌-◌, ◌*◌, ◌/◌, ◌%◌, ◌^◌, ◌<◌, ◌≤◌, Bool, true, false, cond, List, [], ◌∷◌, ◌++◌, length, take, drop, replicate, All, Option, Some, None, Result, Ok, Err, IsErr, is_ok, refl, sym, ap, subst, ◌∙◌, arith, add-one, add-zero, append-nil, append_assoc, length-append}
+use Rattle.std.proofs.Math.Nat.{div-add-mod, div-mul-le_self, le_of_mul-le-mul_right, mul-le-mul_right}
 use Rattle.std.proofs.Math.Seq.{take-suc}
 use Rattle.std.proofs.lemmas.List.{drop-drop, length-drop, length-take-le, take-append-drop, take_at}
 use Rattle.std.proofs.lemmas.List.Elements.{All-append, All-cons, All-nil}
@@ -13,9 +13,10 @@ use Rattle.block_traits.specs.Parts.{parts}
 use Rattle.block_traits.specs.declared.disk.DiskFailed.{DiskFailed}
 use Rattle.block_traits.proofs.Causes.{Counted-then}
 use Rattle.block_traits.proofs.Logs.{Logs-then, content-Logs}
+use Rattle.block_traits.proofs.PartLists.{length-parts}
 use Rattle.eli_base.specs.Keying.{Keying}
 use Rattle.eli_base.specs.Units.{media_sectors}
-use Rattle.provider.specs.Reading.{StandFrom, standing, units_accepted}
+use Rattle.provider.specs.Reading.{StandAccepted, StandFrom, standing, units_accepted}
 use Rattle.provider.specs.Reads.{FailsAmong}
 use Rattle.provider.proofs.Looks.{StandFrom-each}
 use Rattle.range_keys.specs.Keys.{le64}
@@ -182,21 +183,48 @@ StandFrom-parts told first count bytes each fits =
     let at : first + 0 ≡ first = omega arith in
     subst P at (StandFrom-each told first 0 count bytes each (omega (arith, fits)))
 
-pub Looks-four : (k : Keying) (n bad now : ℕ) (accepted : List Bool) (bytes before after : List ℕ) (old new : DiskState) → length bytes ≡ 2048 → GivesEach old n bytes
-    → accepted ≡ units_accepted k n (parts 512 4 bytes) → Lists (refused_at n accepted) bad now before after → Counted 4 old.reads new.reads → Logs [] old new
-    → Looks k n 4 bad now before after old new
-Looks-four k n bad now accepted bytes before after old new long each so lists asked logs =
+pub Looks-some : (k : Keying) (n count bad now : ℕ) (accepted : List Bool) (bytes before after : List ℕ) (old new : DiskState) → length bytes ≡ 512 * count → GivesEach old n bytes
+    → accepted ≡ units_accepted k n (parts 512 count bytes) → Lists (refused_at n accepted) bad now before after → Counted count old.reads new.reads → Logs [] old new
+    → Looks k n count bad now before after old new
+Looks-some k n count bad now accepted bytes before after old new long each so lists asked logs =
     let P : List ℕ → Type 0 = λ l. Lists l bad now before after in
-    let same : refused_at n accepted ≡ failing_units k n (parts 512 4 bytes) = ap (refused_at n) so ∙ sym (failing-are k n (parts 512 4 bytes)) in
+    let same : refused_at n accepted ≡ failing_units k n (parts 512 count bytes) = ap (refused_at n) so ∙ sym (failing-are k n (parts 512 count bytes)) in
     record {
-      sectors = parts 512 4 bytes;
-      all = refl;
-      whole = whole_parts 4 bytes (omega (arith, long));
-      stand = StandFrom-parts old.content n 4 bytes each (omega (arith, long));
+      sectors = parts 512 count bytes;
+      all = length-parts 512 count bytes;
+      whole = whole_parts count bytes (omega (arith, long));
+      stand = StandFrom-parts old.content n count bytes each (omega (arith, long));
       lists = subst P same lists;
       asked = asked;
       logs = logs;
     }
+
+-- where all are accepted, none is listed
+refused_none : (n count : ℕ) → refused_at n (replicate count true) ≡ []
+refused_none n zero = refl
+refused_none n (suc count) = refused_none (n + 1) count
+
+Looks-accepted : (k : Keying) (n count bad : ℕ) (found : List ℕ) (old new : DiskState) → StandAccepted k n count old → Counted count old.reads new.reads → Logs [] old new
+    → Looks k n count bad bad found found old new
+Looks-accepted k n count bad found old new seen asked logs =
+    let P : List ℕ → Type 0 = λ l. Lists l bad bad found found in
+    Looks-some k n count bad bad (replicate count true) seen.bytes found found old new seen.all seen.stand (sym seen.accepted) (subst P (sym (refused_none n count)) (Lists-nothing n bad found)) asked logs
+
+-- the units of four logical sectors, of which the first is the one that device sector n begins
+pub Looks-sectors : (k : Keying) (n width bad : ℕ) (found : List ℕ) (old new : DiskState) → width ≡ units k → 0 < width → n % width ≡ 0
+    → StandAccepted k (n / width * units k) (4 * units k) old → Counted (4 * units k) old.reads new.reads → Logs [] old new → Looks k n (4 * width) bad bad found found old new
+Looks-sectors k n width bad found old new is some begins seen asked logs =
+    let P : ℕ → Type 0 = λ m. Looks k m (4 * width) bad bad found found old new in
+    let Q : ℕ → Type 0 = λ u. StandAccepted k (n / width * u) (4 * u) old → Counted (4 * u) old.reads new.reads → Looks k (n / width * width) (4 * width) bad bad found found old new in
+    let at : n / width * width ≡ n = omega (arith, div-add-mod n width) in
+    subst P at (subst Q is (λ stand count. Looks-accepted k (n / width * width) (4 * width) bad found old new stand count logs) seen asked)
+
+-- four logical sectors whose units are there are there
+pub four_there : (n left width media : ℕ) → 0 < width → n % width ≡ 0 → 4 * width ≤ left → n + left ≤ media * width → n / width + 4 ≤ media
+four_there n left width media some begins room inside =
+    let at : n / width * width ≡ n = omega (arith, div-add-mod n width) in
+    let all : (n / width + 4) * width ≤ media * width = omega (arith, at) in
+    le_of_mul-le-mul_right all some
 
 -- units of sectors that are there have small numbers
 pub unit_small : (k : Keying) (n size : ℕ) → n ≤ media_sectors k.auth k.sectorsize (512 * size) * units k → size < 2 ^ 44 → n ≤ 2 ^ 44

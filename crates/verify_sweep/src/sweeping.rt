@@ -1,5 +1,5 @@
 //! Units that are read and looked at, one after the other.
-ghost use Rattle.std.specs.Prelude.{◌≡◌, ◌≢◌, ◌+◌, ◌*◌, ◌^◌, ◌<◌, ◌≤◌, [], ◌∷◌, None, IfOk, IfSome, OnErr, length};
+ghost use Rattle.std.specs.Prelude.{◌≡◌, ◌≢◌, ℕ, ◌+◌, ◌*◌, ◌^◌, ◌<◌, ◌≤◌, List, [], ◌∷◌, None, IfOk, IfSome, OnErr, length};
 ghost use Rattle.block_traits.specs.Disk.{DiskState};
 ghost use Rattle.eli_base.specs.declared.algorithms.Auth.TheVariants.{Off};
 ghost use Rattle.eli_base.specs.Requests.{request_limit};
@@ -94,8 +94,30 @@ fn look_at_four<D: Disk>(on: &mut Provider<D>, n: u64, found: &mut [u8], bad: u3
     }
 }
 
-// Looks at the next units, of which so many are left: at four at once where that can be done, and else at one. Gives
-// at how many, and how many are listed then.
+// Looks at the units of four logical sectors at once, where device sector `n` begins the first of them, so many device
+// sectors are left, and that can be done. Gives how many units there are where all are accepted: then none of them is
+// listed, whatever was listed before. Else nothing has changed.
+fn pass_four_sectors<D: Disk>(on: &mut Provider<D>, n: u64, left: u64) -> Option<u64>
+    requires on { on.old.keying.auth ≢ Off }
+    requires inside { n + left ≤ media on.old.keying (D.state on.old.disk) * units on.old.keying }
+    ensures many { IfSome result (λ many. (1 ≤ many) × (many ≤ left)) }
+    ensures some { IfSome result (λ many. (bad : ℕ) (found : List ℕ) → Looks on.old.keying n many bad bad found found (D.state on.old.disk) (D.state on.new.disk)) }
+    ensures missed { result ≡ None → D.state on.new.disk ≡ D.state on.old.disk }
+    ensures kept { IsKept on.old on.new }
+{
+    let units = on.units();
+    if n % units != 0 || left < 4 * units {
+        return None;
+    }
+    if !on.look_at_four_sectors(n / units) {
+        return None;
+    }
+    Some(4 * units)
+}
+
+// Looks at the next units, of which so many are left: at those of four logical sectors at once where that can be done
+// and all of them are accepted, else at four units at once where that can be done, and else at one. Gives at how many,
+// and how many are listed then.
 fn look_on<D: Disk>(
     on: &mut Provider<D>,
     n: u64,
@@ -113,6 +135,9 @@ fn look_on<D: Disk>(
     ensures err { OnErr result (FailsAt 1 (D.state on.old.disk) (D.state on.new.disk)) }
     ensures kept { IsKept on.old on.new }
 {
+    if let Some(many) = pass_four_sectors(on, n, left) {
+        return Ok((many, bad));
+    }
     if left >= 4 {
         if let Some(now) = look_at_four(on, n, found, bad) {
             return Ok((4, now));

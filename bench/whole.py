@@ -7,7 +7,9 @@ libcrypto. `verify` is measured where there is authentication.
 PROGRAM is a built `geli` (crates/geli_cli/out/geli_cli), FOLDER one on a quiet file system (/dev/shm). ROWS picks the
 rows that have these letters.
 The sides go by turns in one run, ROUNDS times, and of each the least counts. MB/s by the processor time of the process,
-user and system; of geli less that of a run that only attaches.
+user and system, less the least of a run that does nothing: of geli one that only attaches, of C one over no bytes.
+On a virtual machine many short rounds (16 MiB, 25 rounds) tell more than a few long ones: what its host takes away is
+then missing from some of them.
 C's side is bench/whole.c, with calls of the system of 512 bytes and of 131,072, without and with AES instructions.
 """
 import os
@@ -76,15 +78,15 @@ def measure(program, folder, mib, rounds, provider):
     if auth:
         verbs.append(("verify", sweep_lines(count, units(size, auth))))
     for verb, line in verbs:
-        sides = {}
+        whole, idle = {}, {}
         for _ in range(rounds):
-            whole = processor_time(folder, [program, "script", "a.img"], attach + line.encode())
-            idle = processor_time(folder, [program, "script", "a.img"], attach)
-            sides.setdefault("geli", []).append(whole - idle)
-            for mask, chunk in C_SIDES:
-                words = ["./whole", verb, name, str(size), "c.img", str(mib << 20), str(chunk)]
-                sides.setdefault((mask, chunk), []).append(processor_time(folder, words, mask=mask))
-        yield verb, {side: min(times) for side, times in sides.items()}
+            for times, more, size_of_c in ((whole, line.encode(), mib << 20), (idle, b"", 0)):
+                words = [program, "script", "a.img"]
+                times.setdefault("geli", []).append(processor_time(folder, words, attach + more))
+                for mask, chunk in C_SIDES:
+                    words = ["./whole", verb, name, str(size), "c.img", str(size_of_c), str(chunk)]
+                    times.setdefault((mask, chunk), []).append(processor_time(folder, words, mask=mask))
+        yield verb, {side: min(times) - min(idle[side]) for side, times in whole.items()}
 
 
 def main():

@@ -5,7 +5,8 @@ libcrypto. `verify` is measured where there is authentication.
     python3 bench/whole.py PROGRAM FOLDER [MIB [ROUNDS [ROWS]]]
 
 PROGRAM is a built `geli` (crates/geli_cli/out/geli_cli), FOLDER one on a quiet file system (/dev/shm). ROWS picks the
-rows that have these letters.
+rows that have these letters. With LEVEL=x86-64-v2 in the environment C has no AVX, AVX2 and BMI either, as on a
+processor of that level.
 The sides go by turns in one run, ROUNDS times, and of each the least counts. MB/s by the processor time of the process,
 user and system, less the least of a run that does nothing: of geli one that only attaches, of C one over no bytes.
 On a virtual machine many short rounds (16 MiB, 25 rounds) tell more than a few long ones: what its host takes away is
@@ -19,9 +20,12 @@ import subprocess
 import sys
 
 HERE = pathlib.Path(__file__).parent
-# The bits of AES-NI and PCLMULQDQ in the first word of OpenSSL's mask of capabilities, and that of SHA in the second.
-# Without a second word OpenSSL would do without AVX2 as well.
-WITHOUT_AES = "~0x200000200000000:~0x20000000"
+# OpenSSL's mask of capabilities (OPENSSL_ia32cap(3)). AES-NI and PCLMULQDQ have bits in its first word, SHA one in the
+# second; so do AVX in the first, and AVX2, both BMI and AVX512F in the second. Without a second word OpenSSL would do
+# without AVX2 as well.
+AES, SHA = 0x0200000200000000, 0x20000000
+AVX, AVX2 = (0x1000000000000000, 0x00010128) if os.environ.get("LEVEL") == "x86-64-v2" else (0, 0)
+MASKS = {"with": f"~{AVX:#x}:~{AVX2:#x}", "without": f"~{AES | AVX:#x}:~{SHA | AVX2:#x}"}
 PROVIDERS = [
     ("AES-XTS", 128, 512, ""),
     ("AES-XTS", 128, 4096, ""),
@@ -39,7 +43,7 @@ C_SIDES = [(mask, chunk) for mask in ("without", "with") for chunk in (512, 1310
 
 def processor_time(folder, words, lines=b"", mask="with"):
     """Runs a program and returns the processor seconds that it took."""
-    env = {**os.environ, **({"OPENSSL_ia32cap": WITHOUT_AES} if mask == "without" else {})}
+    env = {**os.environ, "OPENSSL_ia32cap": MASKS[mask]}
     before = resource.getrusage(resource.RUSAGE_CHILDREN)
     done = subprocess.run(words, input=lines, capture_output=True, cwd=folder, env=env)
     after = resource.getrusage(resource.RUSAGE_CHILDREN)

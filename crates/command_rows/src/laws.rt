@@ -41,46 +41,28 @@ pub fn what_init_makes_can_be_attached()
 
 /// A line changes only the drawer that it names: the others keep their names, their disks and what they do with them,
 /// and stay in order. `eject` takes it out of the list, and those behind it move up. Else the history of its disk grows
-/// by the events of the line. A line that is served has those of its row: `init` and `restore` write metadata between
-/// two flushes, `setkey` stores metadata, `delkey` and `kill` write over the last sector in six passes, `resize` moves
-/// metadata and writes over their old place, `write` and `fill` write the sealed sectors in ascending order, `step`
-/// does the next unit of its request, `flush`, `detach` and `suspend` flush, and the others do nothing. One that is
-/// refused has none; but where the disk failed the first ones, and where the backup of `init` isn't stored it may have
-/// all.
+/// by the events of the line. A line that is served has those of its row, which its verb says (`events` of `Verb`). One
+/// that is refused has none; but where the disk failed the first ones, and where the backup of `init` isn't stored it
+/// may have all.
 pub fn a_line_changes_only_its_drawer()
     ensures { (line : List ℕ) (command : Command) (old : World) (answer : Answer) (new : World) →
         Turn line command old answer new → OnlySteps line command answer old.drawers new.drawers }
 {}
 
-/// Each refusal has its cause, so a line without one is served. `detach`, `flush`, `read`, `write`, `fill`, `sum`,
-/// `submit`, `step`, `reap` and `suspend` are refused only where the drawer is idle, where it is suspended (all but
-/// `detach`), where the provider is read-only (`write`, `fill`, `submit` of a write), by the length (`read`, `write`,
-/// `submit` of either) and the range of what they ask for, by a unit whose tag differs, or by the open requests:
-/// `submit` where 32 are open, `step` and `reap` where none of the provider has the tag, `step` where no unit of it is
-/// left, `reap` where some are, `suspend` where any is open. `verify` is refused where the drawer is idle or suspended,
-/// where the data aren't authenticated and, unless it begins anew, where the file of its place has fewer or more than
-/// eight bytes or says a place behind the last sector; never for a file that is absent. `eject` is refused only where
-/// no drawer has the name. Only `init`, `attach`, `restore` and `resize` are refused because the drawer is attached,
-/// and then also where it is suspended; for that alone `setkey` and `delkey` are refused too. `resume` is refused where
-/// the drawer is idle or attached. Want of memory is answered by `init`, `attach`, `setkey`, `backup`, `restore`,
-/// `list`, `submit`, `resume` and `verify` alone. That the disk, the cabinet or the entropy failed shows in their
-/// counts.
+/// Each refusal has its cause, so a line without one is served. Which verbs it may come to stands in what each of them
+/// says of itself, its `Traits` and its `Verb`.
 ///
-/// The verbs on metadata are refused besides only for what they find and are told, said of the disk and the cabinet as
-/// they were before:
-/// - `dump`, `attach`, `setkey`, `delkey`, `backup`, `resume`: the image has fewer than two sectors, or its last sector
-///   has no metadata.
-/// - `init`, `attach`, `setkey`, `restore`, `resume`: the file that is refused is the first wrong one of those that a
-///   key, or the backup, names.
-/// - `init`: the options, the image or the components of the key make no provider.
-/// - `attach`: the metadata aren't admitted for the image and the slot that is named, the components make no user key,
-///   the provider has no sector, or the key opens no slot that is asked for. `resume`: the same of any slot, or the key
-///   opens another master key than the one of which the digest was kept.
-/// - `setkey`: the metadata aren't admitted (of an attached provider: can't be used), the slot isn't there, the old key
-///   of an idle drawer opens none, or the new key is refused for the slot.
-/// - `delkey`: no slot is named, or the slot that is named isn't there, has no key or, without `-f`, the last one.
-/// - `kill`: the image has fewer than two sectors. `restore`: the image or the backup is refused.
-/// - `resize`: the sizes are refused, or what the old place holds.
+/// - A drawer that isn't there refuses every line that names it; what a drawer does with its disk refuses one only as
+///   the verb needs (`needs`, `refused_by`).
+/// - A read-only provider refuses only a verb that writes data, one without authentication only a verb that needs tags,
+///   and want of memory only a verb that may lack it (`writes_data`, `needs_tags`, `lacks_memory`).
+/// - An attached provider refuses a line besides only for what the verb asks of it (`asks`): the length or the range of
+///   that, the first unit of it whose tag differs, or the open requests.
+/// - A file refuses a line only as the verb says (`bad_file`): where it is the first wrong one of those that the line
+///   names.
+/// - For what stands in the last sector, the files, the image and the words it is refused only as the verb says
+///   (`grounds`), of the disk and the cabinet as they were before.
+/// - That the disk, the cabinet or the entropy failed shows in their counts.
 pub fn a_refusal_has_its_cause()
     ensures { (line : List ℕ) (command : Command) (old : World) (refusal : Refusal) (new : World) →
         Turn line command old (Refused refusal) new → Caused line command refusal old new }

@@ -133,7 +133,7 @@ pub enum Operand {
     Provider,
     /// A file.
     File,
-    /// The number of a logical sector.
+    /// The number of a sector.
     Sector,
     /// A number of sectors that one request may have.
     FewSectors,

@@ -24,9 +24,9 @@ pub fn a_run_logs_the_events_of_its_lines()
 /// What holds of each line, whatever its row: a refusal of a command has its cause, as `a_refusal_has_its_cause` of the
 /// shelf says. Where the drawer that it names has what its verb needs (`Fits` of the shelf), and no count of faults
 /// rises, the line is served or there was no memory: so of every verb that names a drawer but `eject`, also those on
-/// metadata, over told disks and told cabinets. Want of memory is answered to `init`, `attach`, `setkey`, `backup`,
-/// `restore`, `list`, `submit`, `resume` and `verify` alone. Only the drawer that the line names changes or is taken
-/// out, and its disk logs events of the line: none where there was no memory, but for a backup that `init` stores last.
+/// metadata, over told disks and told cabinets. Want of memory is answered only to a verb that may lack it
+/// (`lacks_memory` of `Traits`). Only the drawer that the line names changes or is taken out, and its disk logs events
+/// of the line: none where there was no memory, but for a backup that `init` stores last.
 /// What the drawer does with its disk changes as `a_line_says_what_its_drawer_becomes` of the rows says. A line that
 /// changes metadata leaves the old or the new whenever power fails, as `a_line_leaves_old_or_new` of the shelf says.
 /// The counts of the cabinet and the entropy do what `a_line_counts_failures` of the shelf says, and the files what

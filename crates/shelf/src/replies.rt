@@ -35,7 +35,7 @@ pub fn dump_or(answer: Result<Metadata, Refusal>) -> Reply
     }
 }
 
-/// The reply of `read`, whose bytes stand in the buffer.
+/// The reply of a command that answers bytes, which stand in the buffer.
 pub fn payload_or(answer: Result<u32, Refusal>) -> Reply
     requires { IfOk answer (λ bytes. bytes ≤ request_limit) }
     ensures reply { (bytes : List ℕ) → answer_of bytes result ≡ payload_or (bytes_read bytes answer) }

@@ -5,7 +5,7 @@ libcrypto. `verify` is measured where there is authentication.
     python3 bench/whole.py PROGRAM FOLDER [MIB [ROUNDS [ROWS]]]
 
 PROGRAM is a built `geli` (crates/geli_cli/out/geli_cli), FOLDER one on a quiet file system (/dev/shm). ROWS picks the
-rows that have these letters. With LEVEL=x86-64-v2 in the environment C has no AVX, AVX2 and BMI either, as on a
+rows that have these letters. With LEVEL=x86-64-v2 in the environment C has no AVX, AVX2 or BMI either, as on a
 processor of that level.
 The sides go by turns in one run, ROUNDS times, and of each the least counts. MB/s by the processor time of the process,
 user and system, less the least of a run that does nothing: of geli one that only attaches, of C one over no bytes.

@@ -52,8 +52,8 @@ pub fn a_line_changes_only_its_drawer()
 /// Each refusal has its cause, so a line without one is served. Which verbs it may come to stands in what each of them
 /// says of itself, its `Traits` and its `Verb`.
 ///
-/// - A drawer that isn't there refuses every line that names it; what a drawer does with its disk refuses one only as
-///   the verb needs (`needs`, `refused_by`).
+/// - Where no drawer has the name that a line gives, and only there, the refusal is `UnknownProvider`; what a drawer
+///   does with its disk refuses a line only as the verb needs (`needs`, `refused_by`).
 /// - A read-only provider refuses only a verb that writes data, one without authentication only a verb that needs tags,
 ///   and want of memory only a verb that may lack it (`writes_data`, `needs_tags`, `lacks_memory`).
 /// - An attached provider refuses a line besides only for what the verb asks of it (`asks`): the length or the range of

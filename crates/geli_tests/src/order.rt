@@ -1,5 +1,5 @@
 //! When the sink and the source are asked: each reply is given before the source is asked for more, and behind its end
-//! or a failure it isn't asked again. No clause orders the calls of two objects, so they share a record.
+//! or a failure it isn't asked again. No clause orders the calls of two objects, so they share their notes.
 use crate::common::words;
 use block_traits::{Sink, SinkFailed, Source, SourceFailed};
 use crash_disk::{MemCabinet, MemDisk, MemEntropy, MemSink, MemSource};
@@ -11,7 +11,7 @@ use std::test::Fail;
 
 // How many calls of the source and of the sink were made, how many bytes the sink took, and whether a reply was late.
 #[derive(Drop)]
-struct Record {
+struct Notes {
     takes: Cell<u64>,
     gives: Cell<u64>,
     printed: Cell<u64>,
@@ -29,7 +29,7 @@ const REPLY: &str = "a.img idle\nok\n";
 #[derive(Drop)]
 struct WatchedSource {
     source: MemSource,
-    record: Rc<Record>,
+    notes: Rc<Notes>,
 }
 
 impl Source for WatchedSource {
@@ -38,11 +38,11 @@ impl Source for WatchedSource {
     ghost state = { λ watched. record { left = Some watched.source.left; faults = watched.source.faults; refused = watched.source.refused; ends = watched.source.ends } };
 
     fn take(&mut self, into: &mut [u8]) -> Result<usize, SourceFailed> {
-        let replies = self.record.takes.get().saturating_mul(REPLY.len() as u64);
-        if self.record.printed.get() != replies {
-            self.record.is_late.set(true);
+        let replies = self.notes.takes.get().saturating_mul(REPLY.len() as u64);
+        if self.notes.printed.get() != replies {
+            self.notes.is_late.set(true);
         }
-        add(&self.record.takes, 1);
+        add(&self.notes.takes, 1);
         self.source.take(into)
     }
 }
@@ -51,7 +51,7 @@ impl Source for WatchedSource {
 #[derive(Drop)]
 struct WatchedSink {
     sink: MemSink,
-    record: Rc<Record>,
+    notes: Rc<Notes>,
 }
 
 impl Sink for WatchedSink {
@@ -60,10 +60,10 @@ impl Sink for WatchedSink {
     ghost state = { λ watched. record { taken = Some watched.sink.bytes; faults = watched.sink.faults; refused = watched.sink.refused; idle = watched.sink.idle } };
 
     fn give(&mut self, from: &[u8]) -> Result<usize, SinkFailed> {
-        add(&self.record.gives, 1);
+        add(&self.notes.gives, 1);
         let given = self.sink.give(from);
         if let Ok(count) = given {
-            add(&self.record.printed, count as u64);
+            add(&self.notes.printed, count as u64);
         }
         given
     }
@@ -101,9 +101,9 @@ fn asked(
     fails_in: &[u64],
     fails_out: &[u64],
 ) -> Result<(u8, u64, u64, bool), Fail> {
-    let record = Rc::new(
+    let notes = Rc::new(
         alloc,
-        Record {
+        Notes {
             takes: Cell::new(0),
             gives: Cell::new(0),
             printed: Cell::new(0),
@@ -112,18 +112,18 @@ fn asked(
     )?;
     let mut source = WatchedSource {
         source: MemSource::new(alloc, input.as_bytes(), &[5; 8], fails_in)?,
-        record: record.clone()?,
+        notes: notes.clone()?,
     };
     let mut sink = WatchedSink {
         sink: MemSink::new(alloc, &[], fails_out, 256)?,
-        record: record.clone()?,
+        notes: notes.clone()?,
     };
     let status = status_of(alloc, &mut source, &mut sink)?;
     Ok((
         status,
-        record.takes.get(),
-        record.gives.get(),
-        record.is_late.get(),
+        notes.takes.get(),
+        notes.gives.get(),
+        notes.is_late.get(),
     ))
 }
 

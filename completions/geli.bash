@@ -2,22 +2,33 @@
 # It offers verbs, the options of each verb, values with a fixed choice, and file names. It runs no geli.
 # shellcheck shell=bash
 
+# What follows is printed by tools/verbs.py from man/geli.8: change the page and run it again.
 _geli_verbs='attach backup delkey detach dump eject fill flush init kill list read reap resize restore resume script setkey step submit sum suspend verify write'
 
-# The option letters of a verb: those without a value, then those with one.
+# The option letters of a verb: those without a value, then behind a colon those with one.
 _geli_letters() {
     case $1 in
-        init) echo PRv aBeiJKls ;;
-        attach) echo Cprv jkn ;;
-        setkey) echo pPv ijJkKn ;;
-        delkey) echo afv n ;;
-        detach | restore) echo fv ;;
-        resize) echo v s ;;
-        backup | dump | kill | suspend) echo v ;;
-        resume) echo pv jk ;;
-        verify) echo rv ;;
+        init) echo PRv:aBeiJKls ;;
+        attach) echo Cprv:jkn ;;
+        detach | restore) echo fv: ;;
+        setkey) echo pPv:ijJkKn ;;
+        delkey) echo afv:n ;;
+        kill | backup | dump | suspend) echo v: ;;
+        resize) echo v:s ;;
+        resume) echo pv:jk ;;
+        verify) echo rv: ;;
     esac
 }
+
+# What is offered for an operand: VERB, how many operands stand before it, and what is typed of it.
+_geli_operand() {
+    case $1:$2 in
+        list:0) ;;
+        submit:1) COMPREPLY=($(compgen -W 'read write flush' -- "$3")) ;;
+        *:0 | backup:1 | restore:1 | verify:1) _geli_files "$3" ;;
+    esac
+}
+# End of what tools/verbs.py prints.
 
 # File names. Of a word with colons readline puts in only what is behind the last one, so that alone is offered.
 _geli_files() {
@@ -75,7 +86,7 @@ _geli() {
         _geli_files "$cur"
         return
     fi
-    read -r alone valued <<<"$(_geli_letters "$verb")"
+    IFS=: read -r alone valued <<<"$(_geli_letters "$verb")"
 
     # What the words before the cursor's say: whether an option waits for its value, and how many operands there are.
     for ((at = 2; at < place; at++)); do
@@ -111,12 +122,7 @@ _geli() {
         COMPREPLY=($(compgen -W "$options" -- "$cur"))
         return
     fi
-    # The operands that are offered: the image, the backup before or behind it, the file of a place, and the job of a request.
-    case $verb:$operands in
-        list:*) ;;
-        *:0 | backup:1 | restore:1 | verify:1) _geli_files "$cur" ;;
-        submit:1) COMPREPLY=($(compgen -W 'read write flush' -- "$cur")) ;;
-    esac
+    _geli_operand "$verb" "$operands" "$cur"
 }
 
 complete -F _geli geli

@@ -17,6 +17,17 @@ usage() { note 'usage: why.sh WORD...'; exit 2; }
 if [ "$1" = geli ] && [ $# -gt 1 ]; then shift; fi
 need
 
+# All verbs, and those that are of use in a script alone.
+# What follows is printed by tools/verbs.py from man/geli.8: change the page and run it again.
+verbs=(
+    attach backup delkey detach dump eject fill flush init kill list read reap resize restore resume script setkey step
+    submit sum suspend verify write
+)
+for_scripts=(
+    detach read write flush fill sum list eject submit step reap suspend resume verify
+)
+# End of what tools/verbs.py prints.
+
 say() {
     printf '%s\n' "$*"
     exit 1
@@ -40,10 +51,9 @@ reply=${reply##*$'\n'}
 case $reply in
     ok | 'error 2 UnknownProvider')
         printf '%s\n' 'these words are a command: nothing is wrong with them'
-        case $1 in
-            read | write | flush | fill | sum | detach | eject | submit | step | reap | suspend | resume | verify | list)
-                printf '%s\n' "but it is of use only as a line of 'geli script IMAGE', behind a line 'attach'" ;;
-        esac
+        if [[ " ${for_scripts[*]} " = *" $1 "* ]]; then
+            printf '%s\n' "but it is of use only as a line of 'geli script IMAGE', behind a line 'attach'"
+        fi
         exit 0 ;;
     'error 1 Usage '*) ;;
     *) fail "geli says '$reply'" ;;
@@ -53,9 +63,7 @@ wrong=''
 words=("$@")
 if ((at < ${#words[@]})); then wrong="word $((at + 1)), '${words[at]}'"; else wrong="behind '${words[-1]}'"; fi
 case $reason in
-    UnknownVerb)
-        say "word 1, '$1': no command has this name. These are: attach backup delkey detach dump eject fill flush init" \
-            "kill list read reap resize restore resume script setkey step submit sum suspend verify write" ;;
+    UnknownVerb) say "word 1, '$1': no command has this name. These are: ${verbs[*]}" ;;
     UnknownOption) text="'$1' has no such option" ;;
     MissingValue) text='this option needs a value' ;;
     BadNumber) text='this is no decimal number, or it is out of its bounds (write 4096 and not 4k)' ;;

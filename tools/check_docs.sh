@@ -6,7 +6,7 @@ cd "$(dirname "$(readlink -f "${BASH_SOURCE[0]}")")" || exit 2
 status=0
 ./check_pages.py || status=1
 ./check_links.py || status=1
-for check in definitions names_twice format_numbers pictures format_pictures; do
+for check in definitions names_twice format_numbers pictures format_pictures verbs; do
     "./$check.py" --check || status=1
 done
 exit $status

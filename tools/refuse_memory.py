@@ -31,18 +31,32 @@ first line. Seventeen single commands were played likewise, for 358 allocations:
 """
 import argparse
 import os
+import re
 import shutil
 import subprocess
 import sys
 import tempfile
 import time
 
+from verbs import verbs_of_page
+
 HERE = os.path.dirname(os.path.realpath(__file__))
 KEYS = "-k k -j p"
 SET = "-K k -J p -i 1000"
 DATA = "5a" * 4096
 NO_MEMORY = "error 33 NoMemory"
-NEVER = "read write flush detach fill sum dump delkey kill resize eject step reap suspend".split()
+
+
+def never_lacking():
+    """The verbs that never answer 33: those that docs/REFUSALS.md doesn't name where it says when NoMemory comes."""
+    with open(os.path.join(HERE, "../docs/REFUSALS.md"), encoding="utf-8") as page:
+        row = next(line for line in page if "| NoMemory |" in line)
+    lacking, verbs = set(re.findall("`([^`]+)`", row)), set(verbs_of_page())
+    assert lacking <= verbs, f"docs/REFUSALS.md says of NoMemory what is no verb: {lacking - verbs}"
+    return verbs - lacking
+
+
+NEVER = never_lacking()
 
 # Lines and their replies; None: whatever the run with all its memory answers.
 ORDINARY = [

@@ -17,19 +17,15 @@ import argparse
 import pathlib
 import sys
 
+from verbs import SCRIPT, verbs_of_page
+
+# Each verb of the finished product, as man/geli.8 has them. Any other first word is refused today as ever.
+VERBS = list(verbs_of_page())
 # What is built today.
-FORMS = (
-    "script dump init attach detach read write flush list setkey delkey backup restore resize kill fill sum eject "
-    "submit step reap suspend resume verify"
-).split(" ")
+FORMS = [SCRIPT, *VERBS]
 DRAWERS = 16
 # Too dear for a program as the slower compiler builds it: such cases are run by hand. None is today.
 DEAR = []
-# Each verb of the finished product. Any other first word is refused today as ever.
-VERBS = (
-    "attach backup delkey detach dump eject fill flush init kill list read reap restore resize resume "
-    "setkey step submit sum suspend verify write"
-).split(" ")
 # The first line of a copy; a line that begins with # is skipped.
 SOURCE = "# A copy, written by tools/select_cases.py: the source is cases/%s."
 # What words that are no command are answered; it is the same in every stage.

@@ -798,7 +798,7 @@ offered() { # WORD...: what is offered for the last word
     printf '%s ' "${COMPREPLY[@]}"
 }
 . "$top/completions/geli.bash"
-says "completions of verbs" test "$(offered '')" = "attach backup delkey detach dump eject fill flush init kill list read reap resize restore resume script setkey step submit sum suspend verify write "
+says "completions of verbs" test "$(offered '')" = "$("$top/tools/verbs.py" --names) "
 says "completions of options" test "$(offered attach -)" = "-C -p -r -v -j -k -n "
 says "completions of values" test "$(offered init -e '')" = "AES-XTS AES-CBC "
 says "  of detach" test "$(offered detach -)" = "-f -v "

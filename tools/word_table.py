@@ -4,6 +4,8 @@
 A row of the first table has the separator, a line, and what the line says; one of the second has the words of a command
 line and the images that they name. This takes lines and words from the tables, reads them itself, and prints the rows
 that come of it, or with `--check` those that differ. It ends with status 1 where they aren't the tables'.
+
+The options and operands of each verb are those of man/geli.8 (tools/verbs.py).
 """
 import argparse
 import re
@@ -11,37 +13,30 @@ import sys
 from collections import namedtuple
 from pathlib import Path
 
+from verbs import verbs_of_page
+
 CRATES = Path(__file__).parent.parent / "crates"
 
 # Bytes that the tables write by other signs.
 SIGNS = {b"~": b"\0", b"`": b"\t", b"^": b"\r", b"!": b"\xff", b"%": b"\xc3", b"{": b"a" * 262140, b"}": b"a" * 37855}
 
-# The options of a verb without a value, those with one, and its operands: in each form that it has. A job has its name.
-VERBS = {
-    b"init": ("PRv", "aBeiJKls", "prov"),
-    b"attach": ("Cprv", "jkn", "prov"),
-    b"detach": ("fv", "", "prov"),
-    b"setkey": ("pPv", "ijJkKn", "prov"),
-    b"delkey": ("afv", "n", "prov"),
-    b"kill": ("v", "", "prov"),
-    b"backup": ("v", "", "prov file"),
-    b"restore": ("fv", "", "file prov"),
-    b"resize": ("v", "s", "prov"),
-    b"dump": ("v", "", "prov"),
-    b"read": ("", "", "prov sector few"),
-    b"write": ("", "", "prov sector hex"),
-    b"flush": ("", "", "prov"),
-    b"list": ("", "", ""),
-    b"fill": ("", "", "prov seed sector many"),
-    b"sum": ("", "", "prov sector many"),
-    b"eject": ("", "", "prov"),
-    b"submit": ("", "", "prov job=flush|prov job=read sector few|prov job=write sector hex"),
-    b"step": ("", "", "prov tag"),
-    b"reap": ("", "", "prov tag"),
-    b"suspend": ("v", "", "prov"),
-    b"resume": ("pv", "jk", "prov"),
-    b"verify": ("rv", "", "prov file many"),
-}
+# What operands are called here, where the page calls them otherwise.
+KINDS = {"image": "prov", "place": "file", "count": "many"}
+
+
+def kind_of(name, form, operand):
+    """What an operand is called here; a job has its name. Of sectors that are printed, few are asked for at a time."""
+    if operand == "count" and (name == "read" or "=read" in form):
+        return "few"
+    return "job" + operand if operand.startswith("=") else KINDS.get(operand, operand)
+
+
+def forms_of(name, verb):
+    return [" ".join(kind_of(name, form, operand) for operand in form) for form in verb.forms]
+
+
+# The verbs of the page, with the operands of each form as they are called here.
+VERBS = {name.encode(): verb._replace(forms=forms_of(name, verb)) for name, verb in verbs_of_page().items()}
 # The lowest and the highest value of an option or an operand that is a number, and the step from one to the next.
 BOUNDS = {
     "i": (0, 2**31 - 1, 1), "l": (0, 2**16 - 1, 1), "s": (0, 2**32 - 1, 1), "n": (0, 2**8 - 1, 1),
@@ -112,7 +107,7 @@ def operand_fault(kind, text):
 
 def form_of(verb, operands):
     """The kinds of these operands: of the forms with as many that whose job is named, or else the first; None without."""
-    forms = [form.split() for form in VERBS[verb][2].split("|")]
+    forms = [form.split() for form in VERBS[verb].forms]
     forms = [form for form in forms if len(form) == len(operands)]
     for form in forms:
         if not any(operand_fault(kind, word.text) for kind, word in zip(form, operands) if kind.startswith("job=")):
@@ -120,7 +115,7 @@ def form_of(verb, operands):
     return forms[0] if forms else None
 
 
-def options(verb, alone, valued, found):
+def options(verb, found):
     """The values of each option that is given, and the operands behind the options."""
     given, at = {}, 1
     while at < len(found):
@@ -133,9 +128,9 @@ def options(verb, alone, valued, found):
             if place == 0:
                 continue
             values = given.setdefault(letter, [])
-            if letter in alone:
+            if letter in VERBS[verb].alone:
                 continue
-            if letter not in valued:
+            if letter not in VERBS[verb].valued:
                 raise Usage(word.number, "UnknownOption")
             # The value is the rest of the group, or else the next word.
             value = Value(word.number, word.start + place + 1, word.text[place + 1:])
@@ -171,12 +166,11 @@ def read(line, sep):
     verb = found[0].text
     if verb not in VERBS:
         raise Usage(0, "UnknownVerb")
-    alone, valued, _ = VERBS[verb]
-    given, operands = options(verb, alone, valued, found)
+    given, operands = options(verb, found)
     kinds = form_of(verb, operands)
     if kinds is None:
         raise Usage(len(found), "OperandCount")
-    if verb == b"resize" and "s" not in given:
+    if any(letter not in given for letter in VERBS[verb].needed):
         raise Usage(len(found), "MissingOption")
     for own, one, other in APART:
         if own in (None, verb) and one in given and other in given:
@@ -220,7 +214,7 @@ def show_option(verb, given, last, letter):
     """What an option comes to, or what stands for it where it isn't given. The last value counts."""
     if len(letter) == 3:
         return show_key(given, *letter)
-    if letter in VERBS[verb][0]:
+    if letter in VERBS[verb].alone:
         return str((letter in given) != (letter == "R")).lower()
     if letter in "in":
         return f"Some({int(last[letter])})" if letter in last else "None"
@@ -252,7 +246,7 @@ def show_named(name, fields, verb, given, operands):
 
 
 def show_command(verb, given, operands):
-    return show_named(verb.decode(), FIELDS.get(verb, VERBS[verb][2]), verb, given, operands)
+    return show_named(verb.decode(), FIELDS.get(verb, VERBS[verb].forms[0]), verb, given, operands)
 
 
 def reply(line, sep):

@@ -1,0 +1,217 @@
+#!/usr/bin/env python3
+"""The words of each verb, which man/geli.8 alone tells: its options, its operands, and whether only scripts use it.
+
+    tools/verbs.py [--check | --names]
+
+SYNOPSIS of the page has the words of each command, and COMMANDS marks those that are of use in scripts alone. Without
+an option this writes what follows from them into completions/geli.bash and examples/why.sh, between two comment lines:
+these files stand alone once installed, so they can't ask the page. With --check nothing is written, and each file that
+would change is named. --names prints what the first word behind `geli` may be.
+
+It also says which verb SYNOPSIS has and COMMANDS or the README's table of commands lacks, or the other way round, and
+which word COMPATIBILITY lists among the program's own verbs and is none. The status is 1 where something is found.
+
+Other tools take the words from `verbs_of_page`.
+"""
+import argparse
+import re
+import sys
+import textwrap
+from collections import namedtuple
+from pathlib import Path
+
+ROOT = Path(__file__).resolve().parent.parent
+PAGE, README = "man/geli.8", "README.md"
+FIRST = "# What follows is printed by tools/verbs.py from man/geli.8: change the page and run it again."
+LAST = "# End of what tools/verbs.py prints."
+
+# A verb: the letters of its options without a value, those with one, those of these that it needs, and its operands in
+# each form that it has. They are in the order of the page, and operands have its names. A word that is given as it
+# stands, as `read` of submit, has a = before it.
+Verb = namedtuple("Verb", "alone valued needed forms is_for_scripts")
+
+# The lines of a command in SYNOPSIS.
+LINE = re.compile(r"\.Op Fl (?P<alone>\w+)|\.Op Fl (?P<valued>\w) Ar \w+|\.Fl (?P<needed>\w) Ar \w+|"
+                  r"\.Cm (?P<word>\w+)|\.Ar (?P<operands>\w+(?: \w+)*)(?: \.\.\.)?")
+# A command of COMMANDS, and what it is marked with.
+ENTRY = re.compile(r"^\.It Cm (\w+)( Pq in scripts)?(, but for Fl \w)?$", re.M)
+
+# Stands in SYNOPSIS too, and is no verb of a line.
+SCRIPT = "script"
+# The operands that are files.
+FILES = ("image", "file", "place")
+
+
+def text_of(name):
+    return (ROOT / name).read_text(encoding="utf-8")
+
+
+def section(name):
+    return text_of(PAGE).split(f"\n.Sh {name}\n")[1].split("\n.Sh ")[0]
+
+
+def form_of(lines):
+    """What the lines of a command in SYNOPSIS say: its words and operands, and its letters by their kind."""
+    words, letters = [], {"alone": "", "valued": "", "needed": ""}
+    for line in lines:
+        found = LINE.fullmatch(line)
+        if not found:
+            sys.exit(f"{PAGE}: SYNOPSIS has a line that tools/verbs.py can't read: {line}")
+        kind, text = found.lastgroup, found[found.lastgroup]
+        if kind == "operands":
+            words += text.split()
+        elif kind == "word":
+            words.append("=" + text)
+        else:
+            letters[kind] += text
+            if kind == "needed":
+                letters["valued"] += text
+    return words, letters
+
+
+def once(texts):
+    """The letters of all these texts, each once."""
+    return "".join(dict.fromkeys("".join(texts)))
+
+
+def marks():
+    """The verbs of COMMANDS, each with whether it is marked as one for scripts alone."""
+    return {name: bool(scripts) and not but for name, scripts, but in ENTRY.findall(section("COMMANDS"))}
+
+
+def verbs_of_page():
+    """The verbs of SYNOPSIS by their names, in its order."""
+    found, marked = {}, marks()
+    for lines in section("SYNOPSIS").split(".Nm\n")[1:]:
+        (name, *operands), letters = form_of(lines.splitlines())
+        found.setdefault(name[1:], []).append((operands, letters))
+    return {
+        name: Verb(*(once(letters[kind] for _, letters in forms) for kind in ("alone", "valued", "needed")),
+                   [operands for operands, _ in forms], marked.get(name, False))
+        for name, forms in found.items() if name != SCRIPT
+    }
+
+
+def names():
+    """What the first word behind `geli` may be."""
+    return sorted([*verbs_of_page(), SCRIPT])
+
+
+def letter_lines():
+    """The cases of verbs by their letters. Verbs with the same letters share a line."""
+    found = {}
+    for name, verb in verbs_of_page().items():
+        if verb.alone or verb.valued:
+            found.setdefault(f"{verb.alone}:{verb.valued}", []).append(name)
+    return "".join(f"        {' | '.join(same)}) echo {letters} ;;\n" for letters, same in found.items())
+
+
+def operand_lines():
+    """The cases of operands by their verb and place: those that are given as they stand, and those that are files.
+
+    The first operand is a file as a rule, also of a verb that the page doesn't have.
+    """
+    others, files = "", ["*:0"]
+    for name, verb in verbs_of_page().items():
+        for place in range(max(map(len, verb.forms)) or 1):
+            may_be = [form[place] for form in verb.forms if place < len(form)]
+            fixed = [operand[1:] for operand in may_be if operand.startswith("=")]
+            if fixed:
+                others += f"        {name}:{place}) COMPREPLY=($(compgen -W '{' '.join(fixed)}' -- \"$3\")) ;;\n"
+            elif set(may_be) & set(FILES):
+                files += [f"{name}:{place}"] if place else []
+            elif place == 0:
+                others += f"        {name}:{place}) ;;\n"
+    return f"{others}        {' | '.join(files)}) _geli_files \"$3\" ;;\n"
+
+
+def completions():
+    return f"""\
+_geli_verbs='{' '.join(names())}'
+
+# The option letters of a verb: those without a value, then behind a colon those with one.
+_geli_letters() {{
+    case $1 in
+{letter_lines()}    esac
+}}
+
+# What is offered for an operand: VERB, how many operands stand before it, and what is typed of it.
+_geli_operand() {{
+    case $1:$2 in
+{operand_lines()}    esac
+}}
+"""
+
+
+def array(name, words):
+    """An array of bash."""
+    return f"{name}=(\n{textwrap.indent(textwrap.fill(' '.join(words), 116), '    ')}\n)\n"
+
+
+def lists():
+    for_scripts = [name for name, verb in verbs_of_page().items() if verb.is_for_scripts]
+    return array("verbs", names()) + array("for_scripts", for_scripts)
+
+
+# The files with a printed part.
+PRINTED = {"completions/geli.bash": completions, "examples/why.sh": lists}
+
+
+def with_part(file, part):
+    """The text of a file with this between the two comment lines."""
+    before, first, rest = text_of(file).partition(FIRST + "\n")
+    _, last, after = rest.partition(LAST + "\n")
+    if not last:
+        sys.exit(f"{file}: the two comment lines of tools/verbs.py aren't there")
+    return before + first + part + last + after
+
+
+def verbs_of_readme():
+    """The first words of what stands in backquotes in the first column of the table of commands."""
+    table = text_of(README).split("\n## Commands\n")[1].split("\n## ")[0]
+    cells = re.findall(r"^\|([^|]*)\|", table, re.M)
+    return {code.split()[0] for cell in cells for code in re.findall(r"`([^`]+)`", cell)}
+
+
+def own_verbs():
+    """What COMPATIBILITY calls this program's own."""
+    item = next((item for item in section("COMPATIBILITY").split("\n.It\n") if "are this program's own." in item), "")
+    return {name for line in re.findall(r"^\.Cm (.*)$", item, re.M) for name in re.findall(r"\w+", line)}
+
+
+def strays():
+    """The verbs that one place has and another lacks."""
+    told, described, table, own = set(verbs_of_page()), set(marks()), verbs_of_readme(), own_verbs()
+    places = [
+        ("COMMANDS lacks", PAGE, told - described), ("SYNOPSIS lacks, and COMMANDS has,", PAGE, described - told),
+        ("the table of commands lacks", README, told - table), (f"{PAGE} lacks", README, table - told),
+        ("COMPATIBILITY names what is no verb:", PAGE, own - told),
+    ]
+    for what, file, found in places:
+        yield from (f"{file}: {what} {name}" for name in sorted(found))
+    if not own:
+        yield f"{PAGE}: COMPATIBILITY has no list of the program's own verbs"
+
+
+def main():
+    options = argparse.ArgumentParser(description=__doc__, formatter_class=argparse.RawDescriptionHelpFormatter)
+    one = options.add_mutually_exclusive_group()
+    one.add_argument("--check", action="store_true", help="write nothing, and say which file would change")
+    one.add_argument("--names", action="store_true", help="print the verbs and `script`")
+    given = options.parse_args()
+    if given.names:
+        print(" ".join(names()))
+        return 0
+    texts = {file: with_part(file, part()) for file, part in PRINTED.items()}
+    differing = [file for file, text in texts.items() if text != text_of(file)]
+    for file in differing:
+        print(f"{file}: {f'is not what {PAGE} says' if given.check else 'written'}")
+        if not given.check:
+            (ROOT / file).write_text(texts[file], encoding="utf-8")
+    found = [*strays()]
+    print("".join(line + "\n" for line in found), end="")
+    return 1 if found or (given.check and differing) else 0
+
+
+if __name__ == "__main__":
+    sys.exit(main())

@@ -5,7 +5,7 @@ ghost use Rattle.block_traits.specs.Disk.{DiskState, FailsIn, Gives, Logs, last_
 
 use crate::{Disk, DiskFailed, Event, Sector};
 
-/// A disk by its last sector, where its metadata stands.
+/// A disk of which any sector is read, and only the last one written, where its metadata stands.
 pub trait MetaPlace {
     /// The state of the disk.
     ghost state: { Self → DiskState };
@@ -17,10 +17,10 @@ pub trait MetaPlace {
     fn sectors(&self) -> u64
         ensures { result ≡ (state self.now).size };
 
-    /// Reads the last sector, once. After a failure `into` may hold any bytes.
-    fn load(&mut self, into: &mut Sector) -> Result<(), DiskFailed>
-        requires { 0 < (state self.old).size }
-        ensures bytes { OnOk result (Gives (state self.old) (last_sector (state self.old)) into.new) }
+    /// Reads sector `n`, once. After a failure `into` may hold any bytes.
+    fn load(&mut self, n: u64, into: &mut Sector) -> Result<(), DiskFailed>
+        requires { n < (state self.old).size }
+        ensures bytes { OnOk result (Gives (state self.old) n into.new) }
         ensures ok { OnOk result (Logs [] (state self.old) (state self.new)) }
         ensures err { OnErr result (FailsIn [] (state self.old) (state self.new)) }
         ensures asked { Counted 1 (state self.old).reads (state self.new).reads }
@@ -70,8 +70,8 @@ impl<D: Disk> MetaPlace for LastSector<D> {
         self.disk.sectors()
     }
 
-    fn load(&mut self, into: &mut Sector) -> Result<(), DiskFailed> {
-        load_last(&mut self.disk, into)
+    fn load(&mut self, n: u64, into: &mut Sector) -> Result<(), DiskFailed> {
+        self.disk.read(n, into)
     }
 
     fn store(&mut self, from: &Sector) -> Result<(), DiskFailed> {
@@ -79,16 +79,17 @@ impl<D: Disk> MetaPlace for LastSector<D> {
     }
 }
 
-/// Reads the last sector of a disk, once. After a failure `into` may hold any bytes.
-pub fn load_last<D: Disk>(disk: &mut D, into: &mut Sector) -> Result<(), DiskFailed>
-    requires { 0 < (D.state disk.old).size }
-    ensures bytes { OnOk result (Gives (D.state disk.old) (last_sector (D.state disk.old)) into.new) }
-    ensures ok { OnOk result (Logs [] (D.state disk.old) (D.state disk.new)) }
-    ensures err { OnErr result (FailsIn [] (D.state disk.old) (D.state disk.new)) }
-    ensures asked { Counted 1 (D.state disk.old).reads (D.state disk.new).reads }
+/// Reads the last sector, once. After a failure `into` may hold any bytes.
+pub fn load_last<P: MetaPlace>(place: &mut P, into: &mut Sector) -> Result<(), DiskFailed>
+    requires { 0 < (P.state place.old).size }
+    ensures bytes { OnOk result (Gives (P.state place.old) (last_sector (P.state place.old)) into.new) }
+    ensures ok { OnOk result (Logs [] (P.state place.old) (P.state place.new)) }
+    ensures err { OnErr result (FailsIn [] (P.state place.old) (P.state place.new)) }
+    ensures asked { Counted 1 (P.state place.old).reads (P.state place.new).reads }
+    ensures rest { P.rest place.new ≡ P.rest place.old }
 {
-    let last = disk.sectors() - 1;
-    disk.read(last, into)
+    let last = place.sectors() - 1;
+    place.load(last, into)
 }
 
 /// Writes the last sector of a disk, and then flushes. Where it fails, the first of these two were

@@ -19,7 +19,7 @@ use crate::sectors::{open_sector, seal_sector};
 use crate::tagged_units::{has_whole_four, tag_fits};
 use crate::{AttachFault, BadUnit, OutOfRange, ReadFault, WriteFault};
 use auth_sectors::four_accepted;
-use block_traits::{Disk, DiskFailed, Event, MetaPlace, NoMemory, Sector, load_last, store_last};
+use block_traits::{Disk, DiskFailed, Event, MetaPlace, NoMemory, Sector, store_last};
 use eli_base::{Auth, Cipher, MasterKey, Params};
 use eli_metadata::Metadata;
 use range_keys::KeyRing;
@@ -425,8 +425,8 @@ impl<D: Disk> MetaPlace for Provider<D> {
         self.disk.sectors()
     }
 
-    fn load(&mut self, into: &mut Sector) -> Result<(), DiskFailed> {
-        load_last(&mut self.disk, into)
+    fn load(&mut self, n: u64, into: &mut Sector) -> Result<(), DiskFailed> {
+        self.disk.read(n, into)
     }
 
     fn store(&mut self, from: &Sector) -> Result<(), DiskFailed> {

@@ -9,7 +9,7 @@ ghost use Rattle.suspend.specs.Resuming.{OpensTo, ResumeAnswers, ResumeFails};
 ghost use Rattle.suspend.specs.Suspension.{KeepsOfProvider};
 
 use crate::ResumeFault;
-use block_traits::{Disk, DiskFailed, Event, MetaPlace, NoMemory, Sector, load_last, store_last};
+use block_traits::{Disk, DiskFailed, Event, MetaPlace, NoMemory, Sector, store_last};
 use eli_base::{MasterKey, Params};
 use eli_metadata::Metadata;
 use provider::{OpenedSlot, Provider, open_slot};
@@ -205,8 +205,8 @@ impl<D: Disk> MetaPlace for Suspended<D> {
         self.disk.sectors()
     }
 
-    fn load(&mut self, into: &mut Sector) -> Result<(), DiskFailed> {
-        load_last(&mut self.disk, into)
+    fn load(&mut self, n: u64, into: &mut Sector) -> Result<(), DiskFailed> {
+        self.disk.read(n, into)
     }
 
     fn store(&mut self, from: &Sector) -> Result<(), DiskFailed> {

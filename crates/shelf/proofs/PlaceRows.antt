@@ -1,10 +1,11 @@
--- The row of `backup`, and that on a drawer that isn't idle.
+-- The row of `backup`, and rows on a drawer that isn't idle.
 use Rattle.std.proofs.Common.{◌≡◌, ◌∙◌, List, ℕ, ◌*◌, ◌-◌, ◌<◌, ◌≤◌, sym, subst, Bool, true, false, cond, Result, Ok, Err, ap, arith, refl, nat_le}
 use Rattle.std.proofs.lemmas.Bool.Decides.{nat_tests}
 use Rattle.backup_restore.specs.Saving.{ReadsSector, SavesMetadata}
 use Rattle.eli_base.specs.declared.refusals.Refusal.TheVariants as refusals
-use Rattle.command_rows.specs.Rows.{Decides, Holding, Reach, StoresBytes, Then, or_refusal, reach_of}
-use Rattle.command_rows.specs.Vocabulary.{CabinetState, DiskState, EntropyState, Refusal, Saves, Span, metadata_in, refusal_of}
+use Rattle.command_rows.specs.Rows.{Answer, Decides, Holding, Reach, StoresBytes, Then, or_refusal, reach_of}
+use Rattle.command_rows.specs.Turn.{GoesThrough}
+use Rattle.command_rows.specs.Vocabulary.{CabinetState, Command, DiskState, EntropyState, Refusal, Saves, Span, metadata_in, refusal_of}
 use Rattle.command_rows.specs.verbs.Backup.{BackupRow}
 use Rattle.shelf.proofs.Rows.{Then-goes_on, Then-refused}
 
@@ -44,8 +45,8 @@ backup_stored line file holding cabinet entropy disk bytes disk' answer new h st
 -- ---- a drawer that isn't idle
 
 -- it stays as it was
-pub backup_held_row : (line : List ℕ) (file : Span) (before after : Holding) (disk disk' : DiskState) (cabinet cabinet' : CabinetState) (entropy : EntropyState) (answer : Result (Unit {0}) Refusal) → after ≡ before
-    → BackupRow line file (reach_of disk before cabinet entropy) answer (reach_of disk' before cabinet' entropy)
-    → BackupRow line file (reach_of disk before cabinet entropy) answer (reach_of disk' after cabinet' entropy)
-backup_held_row line file before after disk disk' cabinet cabinet' entropy answer kept h =
-    subst (λ (x : Holding). BackupRow line file (reach_of disk before cabinet entropy) answer (reach_of disk' x cabinet' entropy)) (sym kept) h
+pub held_row : (line : List ℕ) (command : Command) (before after : Holding) (disk disk' : DiskState) (cabinet cabinet' : CabinetState) (entropy : EntropyState) (answer : Answer) → after ≡ before
+    → GoesThrough line command (reach_of disk before cabinet entropy) answer (reach_of disk' before cabinet' entropy)
+    → GoesThrough line command (reach_of disk before cabinet entropy) answer (reach_of disk' after cabinet' entropy)
+held_row line command before after disk disk' cabinet cabinet' entropy answer kept h =
+    subst (λ (x : Holding). GoesThrough line command (reach_of disk before cabinet entropy) answer (reach_of disk' x cabinet' entropy)) (sym kept) h

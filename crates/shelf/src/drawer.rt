@@ -10,7 +10,7 @@ ghost use Rattle.shelf.specs.Closing.{Closes};
 ghost use Rattle.command_rows.specs.Gate.{refused_by};
 ghost use Rattle.eli_base.specs.Requests.{request_limit};
 ghost use Rattle.command_rows.specs.Turn.{GoesThrough, Serves, ShowsBy, entry_of, takes_out};
-ghost use Rattle.command_rows.specs.World.{HoldsKeying, Idle, IsAttached, IsSuspended, reach_of};
+ghost use Rattle.command_rows.specs.World.{Holding, HoldsKeying, Idle, IsAttached, IsSuspended, reach_of};
 ghost use Rattle.shelf.specs.Shelved.{attachment_of, disk_in, drawer_of, holding_of, is_attached, kept_of};
 ghost use Rattle.shelf.specs.Shelved.{reach_in, reach_on};
 ghost use Rattle.std.specs.Prelude.{◌≡◌, ℕ, List, IfOk, IsSome, None, false, length, option_copied, true};
@@ -32,7 +32,7 @@ use crate::suspending::suspend;
 use crate::verifying::serve_verify;
 use crate::workloads::{fill, sum};
 use bio_queue::Queue;
-use block_traits::{ByteList, Cabinet, Disk, Entropy, Event, LastSector};
+use block_traits::{ByteList, Cabinet, Disk, Entropy, Event, LastSector, MetaPlace};
 use command_words::{Command, Needs};
 use eli_base::Refusal;
 use provider::{Provider, rest_tells_all};
@@ -244,21 +244,11 @@ fn serve_idle<D: Disk, C: Cabinet, E: Entropy>(
 {
     let mut disk = disk;
     match command {
-        Command::Dump { .. } => {
-            let mut place = LastSector::new(disk);
-            let reply = dump_or(read_last(&mut place));
-            (Held::Idle(place.into_disk()), reply)
-        }
         Command::Init { .. } => serve_init(alloc, disk, line, command, files, entropy),
         Command::Attach { .. } => serve_attach(alloc, disk, line, command, files),
         Command::Setkey { .. } => serve_setkey_idle(alloc, disk, line, command, files),
         Command::Delkey { .. } => serve_delkey_idle(disk, line, command, entropy),
         Command::Kill { .. } => kill(disk, entropy),
-        Command::Backup { file, .. } => {
-            let mut place = LastSector::new(disk);
-            let answer = backup(alloc, &mut place, line, *file, files);
-            (Held::Idle(place.into_disk()), done_or(answer))
-        }
         Command::Restore { file, force, .. } => {
             let answer = restore(alloc, &mut disk, line, *file, *force, files);
             (Held::Idle(disk), done_or(answer))
@@ -267,7 +257,11 @@ fn serve_idle<D: Disk, C: Cabinet, E: Entropy>(
             let answer = resize(&mut disk, *oldsize, entropy);
             (Held::Idle(disk), done_or(answer))
         }
-        _ => unreachable!(),
+        _ => {
+            let mut place = LastSector::new(disk);
+            let reply = serve_any(alloc, &mut place, line, command, buffer, files);
+            (Held::Idle(place.into_disk()), reply)
+        }
     }
 }
 
@@ -299,12 +293,7 @@ fn serve_attached<D: Disk, C: Cabinet, E: Entropy>(
         let reply = serve_sectors(&mut provider, &mut queue, line, command, buffer);
         return (Held::Attached(provider, queue), reply);
     }
-    rest_tells_all();
     match command {
-        Command::Dump { .. } => {
-            let reply = dump_or(read_last(&mut provider));
-            (Held::Attached(provider, queue), reply)
-        }
         Command::Setkey { .. } => {
             let reply = serve_setkey_attached(alloc, &mut provider, line, command, files);
             (Held::Attached(provider, queue), reply)
@@ -314,10 +303,6 @@ fn serve_attached<D: Disk, C: Cabinet, E: Entropy>(
             (Held::Attached(provider, queue), reply)
         }
         Command::Kill { .. } => kill(provider.withdraw(), entropy),
-        Command::Backup { file, .. } => {
-            let answer = backup(alloc, &mut provider, line, *file, files);
-            (Held::Attached(provider, queue), done_or(answer))
-        }
         Command::Detach { .. } => {
             let (disk, flushed) = provider.detach();
             (Held::Idle(disk), done_or(or_device_fault(flushed)))
@@ -330,7 +315,11 @@ fn serve_attached<D: Disk, C: Cabinet, E: Entropy>(
             let reply = serve_verify(alloc, &mut provider, line, command, buffer, files);
             (Held::Attached(provider, queue), reply)
         }
-        _ => unreachable!(),
+        _ => {
+            rest_tells_all();
+            let reply = serve_any(alloc, &mut provider, line, command, buffer, files);
+            (Held::Attached(provider, queue), reply)
+        }
     }
 }
 
@@ -417,17 +406,7 @@ fn serve_suspended<D: Disk, C: Cabinet, E: Entropy>(
 {
     let mut suspended = suspended;
     match command {
-        Command::Dump { .. } => {
-            suspension_tells_all::<D>();
-            let reply = dump_or(read_last(&mut suspended));
-            (Held::Suspended(suspended, queue), reply)
-        }
         Command::Kill { .. } => kill(suspended.withdraw(), entropy),
-        Command::Backup { file, .. } => {
-            suspension_tells_all::<D>();
-            let answer = backup(alloc, &mut suspended, line, *file, files);
-            (Held::Suspended(suspended, queue), done_or(answer))
-        }
         Command::Detach { .. } => {
             let (disk, flushed) = suspended.detach();
             (Held::Idle(disk), done_or(or_device_fault(flushed)))
@@ -436,6 +415,36 @@ fn serve_suspended<D: Disk, C: Cabinet, E: Entropy>(
             let (held, answer) = resume(alloc, suspended, queue, line, old, files);
             (held, done_or(answer))
         }
+        _ => {
+            suspension_tells_all::<D>();
+            let reply = serve_any(alloc, &mut suspended, line, command, buffer, files);
+            (Held::Suspended(suspended, queue), reply)
+        }
+    }
+}
+
+// The same, of a verb that only reads the disk, whatever the drawer does with it: that stays.
+fn serve_any<P: MetaPlace, C: Cabinet>(
+    alloc: Global,
+    place: &mut P,
+    line: &[u8],
+    command: &Command,
+    buffer: &mut [u8],
+    files: &mut C,
+) -> Reply
+    requires within { CommandIsWithin (length line.now) command.now }
+    requires any { needs command.now ≡ Needs.AnyOne }
+    requires reads { (traits_of command.now).only_reads ≡ true }
+    requires room { length buffer.old ≡ request_limit }
+    ensures serves { (holding : Holding) (entropy : EntropyState) → GoesThrough line.now command.now
+        (reach_of (P.state place.old) holding (C.state files.old) entropy) (answer_of buffer.new result)
+        (reach_of (P.state place.new) holding (C.state files.new) entropy) }
+    ensures rest { P.rest place.new ≡ P.rest place.old }
+    ensures payload { FitsPayload request_limit result }
+{
+    match command {
+        Command::Dump { .. } => dump_or(read_last(place)),
+        Command::Backup { file, .. } => done_or(backup(alloc, place, line, *file, files)),
         _ => unreachable!(),
     }
 }

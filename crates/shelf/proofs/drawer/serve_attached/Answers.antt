@@ -1,18 +1,7 @@
 use Rattle.std.proofs.Common.{refl}
-use Rattle.shelf.proofs.PlaceRows.{backup_held_row}
+use Rattle.shelf.proofs.PlaceRows.{held_row}
 use Rattle.shelf.proofs.Sectors.{flushed, kept_holding}
 use Rattle.shelf.proofs.drawer.serve_attached.Goals as goal
-
-pub returns-in-Dump-clause-serves : goal.returns-in-Dump-clause-serves
-returns-in-Dump-clause-serves g c =
-    let now = c.read_last.new.place in
-    let then = c.args.provider in
-    let told = c.rest_tells_all.ensures now.keying then.keying now.slot then.slot now.readonly then.readonly c.read_last.ensures.rest in
-    rw c.in-Dump.is (record {
-      answer = c.read_last.result;
-      row = record { reads = c.read_last.ensures.reads; holding = kept_holding c.args.queue then now (record { keying = told.0; slot = told.1; readonly = told.2 }); outside = record { cabinet = refl; entropy = refl } };
-      replied = c.dump_or-reply.ensures.reply c.args.buffer.now;
-    })
 
 pub returns-in-Detach-clause-serves : goal.returns-in-Detach-clause-serves
 returns-in-Detach-clause-serves g c = rw c.in-Detach.is (record {
@@ -23,19 +12,15 @@ returns-in-Detach-clause-serves g c = rw c.in-Detach.is (record {
     holding = refl;
     outside = record { cabinet = refl; entropy = refl };
   };
-  replied = c.done_or-in-Detach.ensures.reply _;
+  replied = c.done_or.ensures.reply _;
 })
-
-pub returns-in-Backup-clause-serves : goal.returns-in-Backup-clause-serves
-returns-in-Backup-clause-serves g c =
-    let now = c.backup-answer.new.place in
-    let then = c.args.provider in
-    let told = c.rest_tells_all.ensures now.keying then.keying now.slot then.slot now.readonly then.readonly c.backup-answer.ensures.rest in
-    rw c.in-Backup.is (record {
-      answer = c.backup-answer.result;
-      row = backup_held_row _ _ _ _ _ _ _ _ _ _ (kept_holding c.args.queue then now (record { keying = told.0; slot = told.1; readonly = told.2 })) (c.backup-answer.ensures.row _ _);
-      replied = c.done_or.ensures.reply _;
-    })
 
 pub returns-in-Suspend-clause-serves : goal.returns-in-Suspend-clause-serves
 returns-in-Suspend-clause-serves g c = rw c.in-Suspend.is (record { answer = c.suspend-held.result.1; row = c.suspend-held.ensures _ _; replied = c.done_or-in-Suspend.ensures.reply _ })
+
+pub returns-in_default-clause-serves : goal.returns-in_default-clause-serves
+returns-in_default-clause-serves g c =
+    let now = c.serve_any-reply.new.place in
+    let then = c.args.provider in
+    let told = c.rest_tells_all.ensures now.keying then.keying now.slot then.slot now.readonly then.readonly c.serve_any-reply.ensures.rest in
+    held_row _ _ _ _ _ _ _ _ _ _ (kept_holding c.args.queue then now (record { keying = told.0; slot = told.1; readonly = told.2 })) (c.serve_any-reply.ensures.serves _ _)

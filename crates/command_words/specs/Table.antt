@@ -1,5 +1,6 @@
 -- The verbs, their options and their operands.
-use Rattle.std.specs.Prelude.{ℕ, List, [], ◌∷◌, length, Bool, true, ◌&&◌, ◌==◌, if◌then◌else◌, Option, None, Some, codes, map, option_map, unwrap_or}
+use denote.Enum.Declared.{tag_of}
+use Rattle.std.specs.Prelude.{ℕ, List, [], ◌∷◌, length, Bool, true, ◌&&◌, ◌==◌, if◌then◌else◌, Option, None, Some, codes, get_or, map, option_map, unwrap_or}
 use Rattle.std.specs.Str.{byte, bytes_eq}
 use Rattle.command_words.specs.declared.commands.Command.{Command}
 use Rattle.command_words.specs.declared.commands.Command.TheVariants as commands
@@ -22,13 +23,15 @@ use Rattle.command_words.specs.declared.table.JobName.TheVariants as jobs
 use Rattle.command_words.specs.declared.table.Row as Code
 use Rattle.command_words.specs.declared.table.Rule.{Rule}
 use Rattle.command_words.specs.declared.table.Rule.TheVariants.{Free, NeedsOldSize, PassWithIterations, SlotOrAll}
+use Rattle.command_words.specs.contracts.table.Verb.{the_type}
 use Rattle.command_words.specs.Words.{Word}
 use Rattle.command_words.specs.Values.{job_name}
 
--- a line of the table of verbs: the name, the letters without a value, the letters with a value, what the options have
--- to be together, the operands in order, in each form that the verb has, and the command, by what options and operands
--- come to; forms differ by how many operands they have, or by the name of a job
+-- a line of the table of verbs: the verb, its name, the letters without a value, the letters with a value, what the
+-- options have to be together, the operands in order, in each form that the verb has, and the command, by what options
+-- and operands come to; forms differ by how many operands they have, or by the name of a job
 pub record Row : Type 0 where
+  pub verb : Verb
   pub name : List ℕ
   pub alone : List (ℕ × Switch)
   pub valued : List (ℕ × Valued)
@@ -36,8 +39,8 @@ pub record Row : Type 0 where
   pub forms : List (List Operand)
   pub command : Settings → Operands → Command
 
-abbrev pub row : List ℕ → List (ℕ × Switch) → List (ℕ × Valued) → Rule → List (List Operand) → (Settings → Operands → Command) → Row
-row name alone valued rule forms command = record { name = name; alone = alone; valued = valued; rule = rule; forms = forms; command = command }
+abbrev pub row : Verb → List ℕ → List (ℕ × Switch) → List (ℕ × Valued) → Rule → List (List Operand) → (Settings → Operands → Command) → Row
+row verb name alone valued rule forms command = record { verb = verb; name = name; alone = alone; valued = valued; rule = rule; forms = forms; command = command }
 
 -- a job of this name, by what the operands come to
 abbrev pub job_at : JobName → Operands → JobWords
@@ -46,53 +49,58 @@ job_at jobs.Write o = job_words.Write o.sector o.digits
 job_at jobs.Flush o = job_words.Flush
 
 -- the table of verbs: geli(8), SYNOPSIS; `dump`, `verify` and those from `read` to `reap` are this program's own
-abbrev pub row_of : Verb → Row
-row_of verbs.Init = row (codes "init")
+abbrev pub rows : List Row
+rows =
+    row verbs.Init (codes "init")
     ((byte "P", WithoutFresh) ∷ (byte "R", FixedSize) ∷ (byte "v", Verbose) ∷ [])
     ((byte "a", AuthName) ∷ (byte "B", BackupFile) ∷ (byte "e", CipherName) ∷ (byte "i", Iterations) ∷ (byte "J", FreshPass) ∷ (byte "K", FreshFile) ∷ (byte "l", KeyLength) ∷ (byte "s", SectorSize) ∷ [])
     PassWithIterations ((Provider ∷ []) ∷ [])
-    (λ s o. commands.Init o.prov s.cipher s.auth s.keylen s.sectorsize s.iterations s.autoresize s.fresh_key s.backup)
-row_of verbs.Attach = row (codes "attach")
+    (λ s o. commands.Init o.prov s.cipher s.auth s.keylen s.sectorsize s.iterations s.autoresize s.fresh_key s.backup) ∷
+    row verbs.Attach (codes "attach")
     ((byte "C", OnlyCheck) ∷ (byte "p", WithoutOld) ∷ (byte "r", ReadOnly) ∷ (byte "v", Verbose) ∷ [])
     ((byte "j", OldPass) ∷ (byte "k", OldFile) ∷ (byte "n", Slot) ∷ [])
-    Free ((Provider ∷ []) ∷ []) (λ s o. commands.Attach o.prov s.only_check s.readonly s.slot s.old_key)
-row_of verbs.Detach = row (codes "detach") ((byte "f", Force) ∷ (byte "v", Verbose) ∷ []) [] Free ((Provider ∷ []) ∷ [])
-    (λ s o. commands.Detach o.prov)
-row_of verbs.Setkey = row (codes "setkey")
+    Free ((Provider ∷ []) ∷ []) (λ s o. commands.Attach o.prov s.only_check s.readonly s.slot s.old_key) ∷
+    row verbs.Detach (codes "detach") ((byte "f", Force) ∷ (byte "v", Verbose) ∷ []) [] Free ((Provider ∷ []) ∷ [])
+    (λ s o. commands.Detach o.prov) ∷
+    row verbs.Setkey (codes "setkey")
     ((byte "p", WithoutOld) ∷ (byte "P", WithoutFresh) ∷ (byte "v", Verbose) ∷ [])
     ((byte "i", Iterations) ∷ (byte "j", OldPass) ∷ (byte "J", FreshPass) ∷ (byte "k", OldFile) ∷ (byte "K", FreshFile) ∷ (byte "n", Slot) ∷ [])
-    Free ((Provider ∷ []) ∷ []) (λ s o. commands.Setkey o.prov s.iterations s.slot s.old_key s.fresh_key)
-row_of verbs.Delkey = row (codes "delkey") ((byte "a", AllSlots) ∷ (byte "f", Force) ∷ (byte "v", Verbose) ∷ []) ((byte "n", Slot) ∷ []) SlotOrAll ((Provider ∷ []) ∷ [])
-    (λ s o. commands.Delkey o.prov s.all s.force s.slot)
-row_of verbs.Kill = row (codes "kill") ((byte "v", Verbose) ∷ []) [] Free ((Provider ∷ []) ∷ []) (λ s o. commands.Kill o.prov)
-row_of verbs.Backup = row (codes "backup") ((byte "v", Verbose) ∷ []) [] Free ((Provider ∷ File ∷ []) ∷ []) (λ s o. commands.Backup o.prov o.file)
-row_of verbs.Restore = row (codes "restore") ((byte "f", Force) ∷ (byte "v", Verbose) ∷ []) [] Free ((File ∷ Provider ∷ []) ∷ [])
-    (λ s o. commands.Restore o.file o.prov s.force)
-row_of verbs.Resize = row (codes "resize") ((byte "v", Verbose) ∷ []) ((byte "s", OldSize) ∷ []) NeedsOldSize ((Provider ∷ []) ∷ [])
-    (λ s o. commands.Resize o.prov (unwrap_or s.oldsize 0))
-row_of verbs.Dump = row (codes "dump") ((byte "v", Verbose) ∷ []) [] Free ((Provider ∷ []) ∷ []) (λ s o. commands.Dump o.prov)
-row_of verbs.Read = row (codes "read") [] [] Free ((Provider ∷ Sector ∷ FewSectors ∷ []) ∷ []) (λ s o. commands.Read o.prov o.sector o.few)
-row_of verbs.Write = row (codes "write") [] [] Free ((Provider ∷ Sector ∷ Digits ∷ []) ∷ []) (λ s o. commands.Write o.prov o.sector o.digits)
-row_of verbs.Flush = row (codes "flush") [] [] Free ((Provider ∷ []) ∷ []) (λ s o. commands.Flush o.prov)
-row_of verbs.List = row (codes "list") [] [] Free ([] ∷ []) (λ s o. commands.List)
-row_of verbs.Fill = row (codes "fill") [] [] Free ((Provider ∷ Seed ∷ Sector ∷ ManySectors ∷ []) ∷ [])
-    (λ s o. commands.Fill o.prov o.seed o.sector o.many)
-row_of verbs.Sum = row (codes "sum") [] [] Free ((Provider ∷ Sector ∷ ManySectors ∷ []) ∷ []) (λ s o. commands.Sum o.prov o.sector o.many)
-row_of verbs.Eject = row (codes "eject") [] [] Free ((Provider ∷ []) ∷ []) (λ s o. commands.Eject o.prov)
-row_of verbs.Submit = row (codes "submit") [] [] Free
+    Free ((Provider ∷ []) ∷ []) (λ s o. commands.Setkey o.prov s.iterations s.slot s.old_key s.fresh_key) ∷
+    row verbs.Delkey (codes "delkey") ((byte "a", AllSlots) ∷ (byte "f", Force) ∷ (byte "v", Verbose) ∷ []) ((byte "n", Slot) ∷ []) SlotOrAll ((Provider ∷ []) ∷ [])
+    (λ s o. commands.Delkey o.prov s.all s.force s.slot) ∷
+    row verbs.Kill (codes "kill") ((byte "v", Verbose) ∷ []) [] Free ((Provider ∷ []) ∷ []) (λ s o. commands.Kill o.prov) ∷
+    row verbs.Backup (codes "backup") ((byte "v", Verbose) ∷ []) [] Free ((Provider ∷ File ∷ []) ∷ []) (λ s o. commands.Backup o.prov o.file) ∷
+    row verbs.Restore (codes "restore") ((byte "f", Force) ∷ (byte "v", Verbose) ∷ []) [] Free ((File ∷ Provider ∷ []) ∷ [])
+    (λ s o. commands.Restore o.file o.prov s.force) ∷
+    row verbs.Resize (codes "resize") ((byte "v", Verbose) ∷ []) ((byte "s", OldSize) ∷ []) NeedsOldSize ((Provider ∷ []) ∷ [])
+    (λ s o. commands.Resize o.prov (unwrap_or s.oldsize 0)) ∷
+    row verbs.Dump (codes "dump") ((byte "v", Verbose) ∷ []) [] Free ((Provider ∷ []) ∷ []) (λ s o. commands.Dump o.prov) ∷
+    row verbs.Read (codes "read") [] [] Free ((Provider ∷ Sector ∷ FewSectors ∷ []) ∷ []) (λ s o. commands.Read o.prov o.sector o.few) ∷
+    row verbs.Write (codes "write") [] [] Free ((Provider ∷ Sector ∷ Digits ∷ []) ∷ []) (λ s o. commands.Write o.prov o.sector o.digits) ∷
+    row verbs.Flush (codes "flush") [] [] Free ((Provider ∷ []) ∷ []) (λ s o. commands.Flush o.prov) ∷
+    row verbs.List (codes "list") [] [] Free ([] ∷ []) (λ s o. commands.List) ∷
+    row verbs.Fill (codes "fill") [] [] Free ((Provider ∷ Seed ∷ Sector ∷ ManySectors ∷ []) ∷ [])
+    (λ s o. commands.Fill o.prov o.seed o.sector o.many) ∷
+    row verbs.Sum (codes "sum") [] [] Free ((Provider ∷ Sector ∷ ManySectors ∷ []) ∷ []) (λ s o. commands.Sum o.prov o.sector o.many) ∷
+    row verbs.Eject (codes "eject") [] [] Free ((Provider ∷ []) ∷ []) (λ s o. commands.Eject o.prov) ∷
+    row verbs.Submit (codes "submit") [] [] Free
     ((Provider ∷ Job jobs.Flush ∷ []) ∷ (Provider ∷ Job jobs.Read ∷ Sector ∷ FewSectors ∷ []) ∷ (Provider ∷ Job jobs.Write ∷ Sector ∷ Digits ∷ []) ∷ [])
-    (λ s o. commands.Submit o.prov (job_at o.job o))
-row_of verbs.Step = row (codes "step") [] [] Free ((Provider ∷ Tag ∷ []) ∷ []) (λ s o. commands.Step o.prov o.tag)
-row_of verbs.Reap = row (codes "reap") [] [] Free ((Provider ∷ Tag ∷ []) ∷ []) (λ s o. commands.Reap o.prov o.tag)
-row_of verbs.Suspend = row (codes "suspend") ((byte "v", Verbose) ∷ []) [] Free ((Provider ∷ []) ∷ []) (λ s o. commands.Suspend o.prov)
-row_of verbs.Resume = row (codes "resume") ((byte "p", WithoutOld) ∷ (byte "v", Verbose) ∷ []) ((byte "j", OldPass) ∷ (byte "k", OldFile) ∷ []) Free ((Provider ∷ []) ∷ [])
-    (λ s o. commands.Resume o.prov s.old_key)
-row_of verbs.Verify = row (codes "verify") ((byte "r", Restart) ∷ (byte "v", Verbose) ∷ []) [] Free ((Provider ∷ File ∷ ManySectors ∷ []) ∷ [])
-    (λ s o. commands.Verify o.prov o.file o.many s.restart)
+    (λ s o. commands.Submit o.prov (job_at o.job o)) ∷
+    row verbs.Step (codes "step") [] [] Free ((Provider ∷ Tag ∷ []) ∷ []) (λ s o. commands.Step o.prov o.tag) ∷
+    row verbs.Reap (codes "reap") [] [] Free ((Provider ∷ Tag ∷ []) ∷ []) (λ s o. commands.Reap o.prov o.tag) ∷
+    row verbs.Suspend (codes "suspend") ((byte "v", Verbose) ∷ []) [] Free ((Provider ∷ []) ∷ []) (λ s o. commands.Suspend o.prov) ∷
+    row verbs.Resume (codes "resume") ((byte "p", WithoutOld) ∷ (byte "v", Verbose) ∷ []) ((byte "j", OldPass) ∷ (byte "k", OldFile) ∷ []) Free ((Provider ∷ []) ∷ [])
+    (λ s o. commands.Resume o.prov s.old_key) ∷
+    row verbs.Verify (codes "verify") ((byte "r", Restart) ∷ (byte "v", Verbose) ∷ []) [] Free ((Provider ∷ File ∷ ManySectors ∷ []) ∷ [])
+    (λ s o. commands.Verify o.prov o.file o.many s.restart) ∷ []
 
--- all verbs
-abbrev pub all_verbs : List Verb
-all_verbs = verbs.Init ∷ verbs.Attach ∷ verbs.Detach ∷ verbs.Setkey ∷ verbs.Delkey ∷ verbs.Kill ∷ verbs.Backup ∷ verbs.Restore ∷ verbs.Resize ∷ verbs.Dump ∷ verbs.Read ∷ verbs.Write ∷ verbs.Flush ∷ verbs.List ∷ verbs.Fill ∷ verbs.Sum ∷ verbs.Eject ∷ verbs.Submit ∷ verbs.Step ∷ verbs.Reap ∷ verbs.Suspend ∷ verbs.Resume ∷ verbs.Verify ∷ []
+-- what stands for the row of a verb for which the table has no place; `Verb::row` ensures that each has its own
+abbrev pub no_row : Row
+no_row = row verbs.List [] [] [] Free [] (λ s o. commands.List)
+
+-- the row of a verb: it stands in the table where the verb stands among all, as the code declares them
+abbrev pub row_of : Verb → Row
+row_of verb = get_or rows (tag_of the_type verb) no_row
 
 -- the verb of a name among verbs with their names
 abbrev pub named_among : List ℕ → List (Verb × List ℕ) → Option Verb
@@ -101,7 +109,7 @@ named_among name (e ∷ es) = if bytes_eq name e.1 then Some e.0 else named_amon
 
 -- the verb of a name
 abbrev pub verb_named : List ℕ → Option Verb
-verb_named name = named_among name (map (λ verb. (verb, (row_of verb).name)) all_verbs)
+verb_named name = named_among name (map (λ row. (row.verb, row.name)) rows)
 
 -- what a letter means among others
 abbrev pub entry : {V : Type 0} → ℕ → List (ℕ × V) → Option V
@@ -155,4 +163,4 @@ abbrev pub name_seen : Code.Row → Verb × List ℕ
 name_seen r = (r.verb, r.name.now)
 
 abbrev pub row_seen : Code.Row → (Settings → Operands → Command) → Row
-row_seen r command = row r.name.now r.alone.now r.valued.now r.rule (map (λ form. form.now) r.forms.now) command
+row_seen r command = row r.verb r.name.now r.alone.now r.valued.now r.rule (map (λ form. form.now) r.forms.now) command

@@ -329,7 +329,10 @@ fn of_length(forms: &'static [&'static [Operand]], count: u32) -> Option<&'stati
 impl Verb {
     /// The line of the verb.
     pub fn row(self) -> &'static Row
-        ensures { row_seen result.now (row_of self).command ≡ row_of self }
+        ensures seen { row_seen result.now (row_of self).command ≡ row_of self }
+
+        // Each verb has a line of its own.
+        ensures own { result.now.verb ≡ self }
     {
         &ROWS[self as usize]
     }

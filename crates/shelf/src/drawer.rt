@@ -15,22 +15,9 @@ ghost use Rattle.shelf.specs.Shelved.{attachment_of, disk_in, drawer_of, holding
 ghost use Rattle.shelf.specs.Shelved.{reach_in, reach_on};
 ghost use Rattle.std.specs.Prelude.{◌≡◌, ℕ, List, IfOk, IsSome, None, false, length, option_copied, true};
 
-use crate::attaching::serve_attach;
-use crate::delete_keys::{serve_delkey_attached, serve_delkey_idle};
-use crate::killing::kill;
-use crate::new_provider::serve_init;
-use crate::queueing::{reap, step, submit};
-use crate::reading::read_last;
 use crate::replies::{digest_or, done_or, dump_or, left_or, payload_or, reaped_or, tag_or};
-use crate::requests::{or_device_fault, read, write};
-use crate::resizing::resize;
-use crate::restoring::restore;
-use crate::resuming::resume;
-use crate::saving::backup;
-use crate::set_key::{serve_setkey_attached, serve_setkey_idle};
-use crate::suspending::suspend;
-use crate::verifying::serve_verify;
-use crate::workloads::{fill, sum};
+use crate::requests::or_device_fault;
+use crate::*;
 use bio_queue::Queue;
 use block_traits::{ByteList, Cabinet, Disk, Entropy, Event, LastSector, MetaPlace};
 use command_words::{Command, Needs};
@@ -244,17 +231,19 @@ fn serve_idle<D: Disk, C: Cabinet, E: Entropy>(
 {
     let mut disk = disk;
     match command {
-        Command::Init { .. } => serve_init(alloc, disk, line, command, files, entropy),
-        Command::Attach { .. } => serve_attach(alloc, disk, line, command, files),
-        Command::Setkey { .. } => serve_setkey_idle(alloc, disk, line, command, files),
-        Command::Delkey { .. } => serve_delkey_idle(disk, line, command, entropy),
-        Command::Kill { .. } => kill(disk, entropy),
+        Command::Init { .. } => new_provider::serve_init(
+            alloc, disk, line, command, files, entropy,
+        ),
+        Command::Attach { .. } => attaching::serve_attach(alloc, disk, line, command, files),
+        Command::Setkey { .. } => set_key::serve_setkey_idle(alloc, disk, line, command, files),
+        Command::Delkey { .. } => delete_keys::serve_delkey_idle(disk, line, command, entropy),
+        Command::Kill { .. } => killing::kill(disk, entropy),
         Command::Restore { file, force, .. } => {
-            let answer = restore(alloc, &mut disk, line, *file, *force, files);
+            let answer = restoring::restore(alloc, &mut disk, line, *file, *force, files);
             (Held::Idle(disk), done_or(answer))
         }
         Command::Resize { oldsize, .. } => {
-            let answer = resize(&mut disk, *oldsize, entropy);
+            let answer = resizing::resize(&mut disk, *oldsize, entropy);
             (Held::Idle(disk), done_or(answer))
         }
         _ => {
@@ -295,24 +284,24 @@ fn serve_attached<D: Disk, C: Cabinet, E: Entropy>(
     }
     match command {
         Command::Setkey { .. } => {
-            let reply = serve_setkey_attached(alloc, &mut provider, line, command, files);
+            let reply = set_key::serve_setkey_attached(alloc, &mut provider, line, command, files);
             (Held::Attached(provider, queue), reply)
         }
         Command::Delkey { .. } => {
-            let reply = serve_delkey_attached(&mut provider, line, command, entropy);
+            let reply = delete_keys::serve_delkey_attached(&mut provider, line, command, entropy);
             (Held::Attached(provider, queue), reply)
         }
-        Command::Kill { .. } => kill(provider.withdraw(), entropy),
+        Command::Kill { .. } => killing::kill(provider.withdraw(), entropy),
         Command::Detach { .. } => {
             let (disk, flushed) = provider.detach();
             (Held::Idle(disk), done_or(or_device_fault(flushed)))
         }
         Command::Suspend { .. } => {
-            let (held, answer) = suspend(provider, queue);
+            let (held, answer) = suspending::suspend(provider, queue);
             (held, done_or(answer))
         }
         Command::Verify { .. } => {
-            let reply = serve_verify(alloc, &mut provider, line, command, buffer, files);
+            let reply = verifying::serve_verify(alloc, &mut provider, line, command, buffer, files);
             (Held::Attached(provider, queue), reply)
         }
         _ => {
@@ -342,11 +331,11 @@ fn serve_sectors<D: Disk>(
 {
     match command {
         Command::Read { sector, count, .. } => {
-            let answer = read(provider, *sector, *count, buffer);
+            let answer = requests::read(provider, *sector, *count, buffer);
             payload_or(answer)
         }
         Command::Write { sector, hex, .. } => {
-            let answer = write(provider, *sector, hex.bytes_in(line), buffer);
+            let answer = requests::write(provider, *sector, hex.bytes_in(line), buffer);
             done_or(answer)
         }
         Command::Flush { .. } => {
@@ -359,23 +348,23 @@ fn serve_sectors<D: Disk>(
             count,
             ..
         } => {
-            let answer = fill(provider, *seed, *start, *count, buffer);
+            let answer = workloads::fill(provider, *seed, *start, *count, buffer);
             done_or(answer)
         }
         Command::Sum { start, count, .. } => {
-            let answer = sum(provider, *start, *count, buffer);
+            let answer = workloads::sum(provider, *start, *count, buffer);
             digest_or(answer)
         }
         Command::Submit { job, .. } => {
-            let answer = submit(provider, queue, line, job, buffer);
+            let answer = queueing::submit(provider, queue, line, job, buffer);
             tag_or(answer)
         }
         Command::Step { tag, .. } => {
-            let answer = step(provider, queue, *tag);
+            let answer = queueing::step(provider, queue, *tag);
             left_or(answer)
         }
         Command::Reap { tag, .. } => {
-            let answer = reap(provider, queue, *tag, buffer);
+            let answer = queueing::reap(provider, queue, *tag, buffer);
             reaped_or(answer)
         }
         _ => unreachable!(),
@@ -406,13 +395,13 @@ fn serve_suspended<D: Disk, C: Cabinet, E: Entropy>(
 {
     let mut suspended = suspended;
     match command {
-        Command::Kill { .. } => kill(suspended.withdraw(), entropy),
+        Command::Kill { .. } => killing::kill(suspended.withdraw(), entropy),
         Command::Detach { .. } => {
             let (disk, flushed) = suspended.detach();
             (Held::Idle(disk), done_or(or_device_fault(flushed)))
         }
         Command::Resume { old, .. } => {
-            let (held, answer) = resume(alloc, suspended, queue, line, old, files);
+            let (held, answer) = resuming::resume(alloc, suspended, queue, line, old, files);
             (held, done_or(answer))
         }
         _ => {
@@ -443,8 +432,8 @@ fn serve_any<P: MetaPlace, C: Cabinet>(
     ensures payload { FitsPayload request_limit result }
 {
     match command {
-        Command::Dump { .. } => dump_or(read_last(place)),
-        Command::Backup { file, .. } => done_or(backup(alloc, place, line, *file, files)),
+        Command::Dump { .. } => dump_or(reading::read_last(place)),
+        Command::Backup { file, .. } => done_or(saving::backup(alloc, place, line, *file, files)),
         _ => unreachable!(),
     }
 }

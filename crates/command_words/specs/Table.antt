@@ -48,7 +48,7 @@ job_at jobs.Read o = job_words.Read o.sector o.few
 job_at jobs.Write o = job_words.Write o.sector o.digits
 job_at jobs.Flush o = job_words.Flush
 
--- the table of verbs: geli(8), SYNOPSIS; `dump`, `verify` and those from `read` to `reap` are this program's own
+-- the table of verbs: geli(8), SYNOPSIS; `verify` and those from `read` to `reap` are this program's own
 abbrev pub rows : List Row
 rows =
     row verbs.Init (codes "init")

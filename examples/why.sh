@@ -17,14 +17,13 @@ usage() { note 'usage: why.sh WORD...'; exit 2; }
 if [ "$1" = geli ] && [ $# -gt 1 ]; then shift; fi
 need
 
-# All verbs, and those that are of use in a script alone.
+# The verbs that are of use as single commands, and those that are of use in a script alone.
 # What follows is printed by tools/verbs.py from man/geli.8: change the page and run it again.
 verbs=(
-    attach backup delkey detach dump eject fill flush init kill list read reap resize restore resume script setkey step
-    submit sum suspend verify write
+    attach backup delkey dump init kill resize restore script setkey
 )
 for_scripts=(
-    detach read write flush fill sum list eject submit step reap suspend resume verify
+    detach eject fill flush list read reap resume step submit sum suspend verify write
 )
 # End of what tools/verbs.py prints.
 
@@ -63,7 +62,7 @@ wrong=''
 words=("$@")
 if ((at < ${#words[@]})); then wrong="word $((at + 1)), '${words[at]}'"; else wrong="behind '${words[-1]}'"; fi
 case $reason in
-    UnknownVerb) say "word 1, '$1': no command has this name. These are: ${verbs[*]}" ;;
+    UnknownVerb) say "word 1, '$1': no command has this name. These are: ${verbs[*]}; in a script also: ${for_scripts[*]}" ;;
     UnknownOption) text="'$1' has no such option" ;;
     MissingValue) text='this option needs a value' ;;
     BadNumber) text='this is no decimal number, or it is out of its bounds (write 4096 and not 4k)' ;;
@@ -82,5 +81,5 @@ case $reason in
     NotText) text='these words are no UTF-8' ;;
     *) text=$reason ;;
 esac
-printf '%s\n' "$wrong: $text" "geli(8) has the words of '$1' in its synopsis."
+printf '%s\n' "$wrong: $text" "geli(8) has the words of '$1' under COMMANDS."
 exit 1

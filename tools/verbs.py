@@ -3,13 +3,13 @@
 
     tools/verbs.py [--check | --names]
 
-SYNOPSIS of the page has the words of each command, and COMMANDS marks those that are of use in scripts alone. Without
-an option this writes what follows from them into completions/geli.bash and examples/why.sh, between two comment lines:
+In COMMANDS of the page each command stands with its words, and is marked if it is of use in scripts alone. Without an
+option this writes what follows from them into completions/geli.bash and examples/why.sh, between two comment lines:
 these files stand alone once installed, so they can't ask the page. With --check nothing is written, and each file that
 would change is named. --names prints what the first word behind `geli` may be.
 
-It also says which verb SYNOPSIS has and COMMANDS or the README's table of commands lacks, or the other way round, and
-which word COMPATIBILITY lists among the program's own verbs and is none. The status is 1 where something is found.
+It also says which verb COMMANDS has and the README's table of commands lacks, or the other way round, and which word
+COMPATIBILITY lists among the verbs that FreeBSD has too and is none. The status is 1 where something is found.
 
 Other tools take the words from `verbs_of_page`.
 """
@@ -30,14 +30,16 @@ LAST = "# End of what tools/verbs.py prints."
 # stands, as `read` of submit, has a = before it.
 Verb = namedtuple("Verb", "alone valued needed forms is_for_scripts")
 
-# The lines of a command in SYNOPSIS.
-LINE = re.compile(r"\.Op Fl (?P<alone>\w+)|\.Op Fl (?P<valued>\w) Ar \w+|\.Fl (?P<needed>\w) Ar \w+|"
-                  r"\.Cm (?P<word>\w+)|\.Ar (?P<operands>\w+(?: \w+)*)(?: \.\.\.)?")
-# A command of COMMANDS, and what it is marked with.
-ENTRY = re.compile(r"^\.It Cm (\w+)( Pq in scripts)?(, but for Fl \w)?$", re.M)
+# What may stand in the head of a command. It is one line `.It Cm ...`, or several between `.It Xo` and `.Xc`; a command
+# with several forms has a head for each.
+HEAD = re.compile(r"^\.It (?:Xo\n((?:\..*\n)+?)\.Xc|(Cm .*))$", re.M)
+PART = re.compile(r"Oo Fl (?P<alone>\w+) Oc|Oo Fl (?P<valued>\w) Ar \w+ Oc|Fl (?P<needed>\w) Ar \w+|"
+                  r"Cm (?P<word>\w+)|Ar (?P<operands>[a-z]+(?: [a-z]+)*)|Pq (?P<mark>in scripts.*)")
 
-# Stands in SYNOPSIS too, and is no verb of a line.
+# Stands in SYNOPSIS, and is no verb of a line.
 SCRIPT = "script"
+# The mark of a verb that is of use in scripts alone.
+IN_SCRIPTS = "in scripts"
 # The operands that are files.
 FILES = ("image", "file", "place")
 
@@ -50,23 +52,26 @@ def section(name):
     return text_of(PAGE).split(f"\n.Sh {name}\n")[1].split("\n.Sh ")[0]
 
 
-def form_of(lines):
-    """What the lines of a command in SYNOPSIS say: its words and operands, and its letters by their kind."""
-    words, letters = [], {"alone": "", "valued": "", "needed": ""}
-    for line in lines:
-        found = LINE.fullmatch(line)
+def form_of(head):
+    """What the head of a command says: its words and operands, its letters by their kind, and its mark."""
+    words, letters, mark, at = [], {"alone": "", "valued": "", "needed": ""}, "", 0
+    while at < len(head):
+        found = PART.match(head, at)
         if not found:
-            sys.exit(f"{PAGE}: SYNOPSIS has a line that tools/verbs.py can't read: {line}")
+            sys.exit(f"{PAGE}: COMMANDS has a head that tools/verbs.py can't read: {head}")
         kind, text = found.lastgroup, found[found.lastgroup]
         if kind == "operands":
             words += text.split()
         elif kind == "word":
             words.append("=" + text)
+        elif kind == "mark":
+            mark = text
         else:
             letters[kind] += text
             if kind == "needed":
                 letters["valued"] += text
-    return words, letters
+        at = found.end() + 1
+    return words, letters, mark
 
 
 def once(texts):
@@ -74,21 +79,22 @@ def once(texts):
     return "".join(dict.fromkeys("".join(texts)))
 
 
-def marks():
-    """The verbs of COMMANDS, each with whether it is marked as one for scripts alone."""
-    return {name: bool(scripts) and not but for name, scripts, but in ENTRY.findall(section("COMMANDS"))}
+def heads():
+    """The heads of commands in COMMANDS, each on one line, with all brackets as Oo and Oc."""
+    for lines, line in HEAD.findall(section("COMMANDS")):
+        yield line or " ".join(re.sub("^Op (.*)", r"Oo \1 Oc", part[1:]) for part in lines.splitlines())
 
 
 def verbs_of_page():
-    """The verbs of SYNOPSIS by their names, in its order."""
-    found, marked = {}, marks()
-    for lines in section("SYNOPSIS").split(".Nm\n")[1:]:
-        (name, *operands), letters = form_of(lines.splitlines())
-        found.setdefault(name[1:], []).append((operands, letters))
+    """The verbs of COMMANDS by their names, in its order."""
+    found = {}
+    for head in heads():
+        (name, *operands), letters, mark = form_of(head)
+        found.setdefault(name[1:], []).append((operands, letters, mark))
     return {
-        name: Verb(*(once(letters[kind] for _, letters in forms) for kind in ("alone", "valued", "needed")),
-                   [operands for operands, _ in forms], marked.get(name, False))
-        for name, forms in found.items() if name != SCRIPT
+        name: Verb(*(once(letters[kind] for _, letters, _ in forms) for kind in ("alone", "valued", "needed")),
+                   [operands for operands, _, _ in forms], all(mark == IN_SCRIPTS for _, _, mark in forms))
+        for name, forms in found.items()
     }
 
 
@@ -149,8 +155,9 @@ def array(name, words):
 
 
 def lists():
-    for_scripts = [name for name, verb in verbs_of_page().items() if verb.is_for_scripts]
-    return array("verbs", names()) + array("for_scripts", for_scripts)
+    verbs = verbs_of_page()
+    for_scripts = [name for name in sorted(verbs) if verbs[name].is_for_scripts]
+    return array("verbs", [name for name in names() if name not in for_scripts]) + array("for_scripts", for_scripts)
 
 
 # The files with a printed part.
@@ -173,24 +180,23 @@ def verbs_of_readme():
     return {code.split()[0] for cell in cells for code in re.findall(r"`([^`]+)`", cell)}
 
 
-def own_verbs():
-    """What COMPATIBILITY calls this program's own."""
-    item = next((item for item in section("COMPATIBILITY").split("\n.It\n") if "are this program's own." in item), "")
+def shared_verbs():
+    """What COMPATIBILITY says that FreeBSD has too."""
+    item = next((item for item in section("COMPATIBILITY").split("\n.It\n") if item.startswith("Both have\n")), "")
     return {name for line in re.findall(r"^\.Cm (.*)$", item, re.M) for name in re.findall(r"\w+", line)}
 
 
 def strays():
     """The verbs that one place has and another lacks."""
-    told, described, table, own = set(verbs_of_page()), set(marks()), verbs_of_readme(), own_verbs()
+    told, table, shared = set(verbs_of_page()), verbs_of_readme(), shared_verbs()
     places = [
-        ("COMMANDS lacks", PAGE, told - described), ("SYNOPSIS lacks, and COMMANDS has,", PAGE, described - told),
-        ("the table of commands lacks", README, told - table), (f"{PAGE} lacks", README, table - told),
-        ("COMPATIBILITY names what is no verb:", PAGE, own - told),
+        ("the table of commands lacks", README, told - table), ("COMMANDS lacks", PAGE, table - told),
+        ("COMPATIBILITY names what is no verb:", PAGE, shared - told),
     ]
     for what, file, found in places:
         yield from (f"{file}: {what} {name}" for name in sorted(found))
-    if not own:
-        yield f"{PAGE}: COMPATIBILITY has no list of the program's own verbs"
+    if not shared:
+        yield f"{PAGE}: COMPATIBILITY has no list of the verbs that FreeBSD has too"
 
 
 def main():

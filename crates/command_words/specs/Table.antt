@@ -49,8 +49,8 @@ job_at jobs.Write o = job_words.Write o.sector o.digits
 job_at jobs.Flush o = job_words.Flush
 
 -- the table of verbs: geli(8), SYNOPSIS; `verify` and those from `read` to `reap` are this program's own
-abbrev pub rows : List Row
-rows =
+abbrev pub table : List Row
+table =
     row verbs.Init (codes "init")
     ((byte "P", WithoutFresh) ∷ (byte "R", FixedSize) ∷ (byte "v", Verbose) ∷ [])
     ((byte "a", AuthName) ∷ (byte "B", BackupFile) ∷ (byte "e", CipherName) ∷ (byte "i", Iterations) ∷ (byte "J", FreshPass) ∷ (byte "K", FreshFile) ∷ (byte "l", KeyLength) ∷ (byte "s", SectorSize) ∷ [])
@@ -95,12 +95,12 @@ rows =
     (λ s o. commands.Verify o.prov o.file o.many s.restart) ∷ []
 
 -- what stands for the row of a verb for which the table has no place; `Verb::row` ensures that each has its own
-abbrev pub no_row : Row
-no_row = row verbs.List [] [] [] Free [] (λ s o. commands.List)
+abbrev pub row_of_none : Row
+row_of_none = row verbs.List [] [] [] Free [] (λ s o. commands.List)
 
 -- the row of a verb: it stands in the table where the verb stands among all, as the code declares them
 abbrev pub row_of : Verb → Row
-row_of verb = get_or rows (tag_of the_type verb) no_row
+row_of verb = get_or table (tag_of the_type verb) row_of_none
 
 -- the verb of a name among verbs with their names
 abbrev pub named_among : List ℕ → List (Verb × List ℕ) → Option Verb
@@ -109,7 +109,7 @@ named_among name (e ∷ es) = if bytes_eq name e.1 then Some e.0 else named_amon
 
 -- the verb of a name
 abbrev pub verb_named : List ℕ → Option Verb
-verb_named name = named_among name (map (λ row. (row.verb, row.name)) rows)
+verb_named name = named_among name (map (λ row. (row.verb, row.name)) table)
 
 -- what a letter means among others
 abbrev pub entry : {V : Type 0} → ℕ → List (ℕ × V) → Option V

@@ -9,7 +9,7 @@ these files stand alone once installed, so they can't ask the page. With --check
 would change is named. --names prints what the first word behind `geli` may be.
 
 It also says which verb COMMANDS has and the README's table of commands lacks, or the other way round, and which word
-COMPATIBILITY lists among the verbs that FreeBSD has too and is none. The status is 1 where something is found.
+COMPATIBILITY lists among the verbs that come from FreeBSD and is none. The status is 1 where something is found.
 
 Other tools take the words from `verbs_of_page`.
 """
@@ -181,8 +181,8 @@ def verbs_of_readme():
 
 
 def shared_verbs():
-    """What COMPATIBILITY says that FreeBSD has too."""
-    item = next((item for item in section("COMPATIBILITY").split("\n.It\n") if item.startswith("Both have\n")), "")
+    """The verbs that COMPATIBILITY says come from FreeBSD."""
+    item = next((item for item in section("COMPATIBILITY").split("\n.It\n") if item.startswith("Of the commands\n")), "")
     return {name for line in re.findall(r"^\.Cm (.*)$", item, re.M) for name in re.findall(r"\w+", line)}
 
 
@@ -196,7 +196,7 @@ def strays():
     for what, file, found in places:
         yield from (f"{file}: {what} {name}" for name in sorted(found))
     if not shared:
-        yield f"{PAGE}: COMPATIBILITY has no list of the verbs that FreeBSD has too"
+        yield f"{PAGE}: COMPATIBILITY has no list of the verbs that come from FreeBSD"
 
 
 def main():

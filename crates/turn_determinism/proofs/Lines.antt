@@ -75,13 +75,18 @@ suspended_one {A} {answer_to} {Row} replying sure old old' reply reply' new new'
 
 -- ---- the lines
 
+ruleset replies = (digest_replying, done_replying, dump_replying, left_replying, payload_replying, reaped_replying, tag_replying, verified_replying)
+
+-- of a row that is one of these, or that is `Then` of them and defined without its arguments, `search` finds it
+ruleset steps =
+    (then_sure, Deciding.decides_sure, Deciding.size_sure, Deciding.withdraws_sure, Disks.detaches_sure, Disks.does_sure, Disks.reads_device_sector_sure, Disks.reads_last_sure, Files.components_sure, Files.file_sure, Files.stores_sure,
+    Keys.makes_sure, Keys.writes_back_sure, Places.destroys_sure, Places.moves_sure, Rows.attach_row_sure, Rows.backup_row_sure, Rows.delkey_row_sure, Rows.setkey_row_sure)
+
 row_one : (line : List ℕ) (command : Command) → AreOne (GoesThrough line command)
 row_one line commands.List = λ old old' reply reply' new new' both memory memory' h h'. absurd h
-row_one line (commands.Dump prov) = replies_one dump_replying Disks.reads_last_sure
 row_one line (commands.Init prov cipher auth keylen sectorsize iterations autoresize fresh backup) =
     let options : InitOptions = record { cipher = cipher; auth = auth; keylen = keylen; sectorsize = sectorsize; iterations = iterations_of fresh iterations; autoresize = autoresize } in
     replies_one done_replying (then_sure (Files.components_sure line fresh) (λ parts. then_sure (Keys.makes_sure options parts) (λ m. Files.backs_up_sure line backup m)))
-row_one line (commands.Attach prov only_check readonly slot words) = replies_one done_replying (Rows.attach_row_sure line only_check readonly slot words)
 row_one line (commands.Detach prov) = replies_one done_replying Disks.detaches_sure
 row_one line (commands.Read prov sector count) =
     attached_one payload_replying (λ a. then_sure (Deciding.decides_sure _) (λ whole. then_sure (Deciding.size_sure _) (λ _. Disks.reads_sectors_sure a sector whole)))
@@ -89,10 +94,7 @@ row_one line (commands.Write prov sector hex) =
     let bytes : List ℕ = bytes_spelled (bytes_at line hex) in
     attached_one done_replying (λ a. then_sure (Deciding.decides_sure _) (λ count. then_sure (Deciding.decides_sure _) (λ _. then_sure (Deciding.size_sure _) (λ _. Disks.writes_sure a sector count bytes))))
 row_one line (commands.Flush prov) = replies_one done_replying (Disks.does_sure (Flush ∷ []))
-row_one line (commands.Setkey prov iterations slot words fresh) = replies_one done_replying (Rows.setkey_row_sure line iterations slot words fresh)
-row_one line (commands.Delkey prov all force slot) = replies_one done_replying (Rows.delkey_row_sure all force slot)
 row_one line (commands.Kill prov) = replies_one done_replying (then_sure Deciding.withdraws_sure (λ _. Places.destroys_sure))
-row_one line (commands.Backup prov file) = replies_one done_replying (Rows.backup_row_sure line file)
 row_one line (commands.Restore file prov force) =
     replies_one done_replying (then_sure (Files.file_sure file_limit line file) (λ bytes. then_sure (Keys.writes_back_sure bytes force) (λ m. Deciding.decides_sure _)))
 row_one line (commands.Resize prov oldsize) = replies_one done_replying (Places.moves_sure oldsize)
@@ -106,6 +108,7 @@ row_one line (commands.Reap prov tag) = attached_one reaped_replying (λ a. then
 row_one line (commands.Suspend prov) = attached_one done_replying (λ a. then_sure (Deciding.decides_sure _) (λ _. Disks.suspends_sure a))
 row_one line (commands.Resume prov words) = suspended_one done_replying (λ kept. Rows.resume_row_sure line words kept)
 row_one line (commands.Verify prov file count restart) = attached_one verified_replying (λ a. Rows.verify_row_sure line file count restart a)
+row_one line _ = replies_one search replies search steps
 
 -- ---- the gate before the row
 

@@ -78,9 +78,27 @@ suspended_one {A} {answer_to} {Row} replying sure old old' reply reply' new new'
 ruleset replies = (digest_replying, done_replying, dump_replying, left_replying, payload_replying, reaped_replying, tag_replying, verified_replying)
 
 -- of a row that is one of these, or that is `Then` of them and defined without its arguments, `search` finds it
-ruleset steps =
-    (then_sure, Deciding.decides_sure, Deciding.size_sure, Deciding.withdraws_sure, Disks.detaches_sure, Disks.does_sure, Disks.reads_device_sector_sure, Disks.reads_last_sure, Files.components_sure, Files.file_sure, Files.stores_sure,
-    Keys.makes_sure, Keys.writes_back_sure, Places.destroys_sure, Places.moves_sure, Rows.attach_row_sure, Rows.backup_row_sure, Rows.delkey_row_sure, Rows.setkey_row_sure)
+ruleset steps = (
+  then_sure,
+  Deciding.decides_sure,
+  Deciding.size_sure,
+  Deciding.withdraws_sure,
+  Disks.detaches_sure,
+  Disks.does_sure,
+  Disks.reads_device_sector_sure,
+  Disks.reads_last_sure,
+  Files.components_sure,
+  Files.file_sure,
+  Files.stores_sure,
+  Keys.makes_sure,
+  Keys.writes_back_sure,
+  Places.destroys_sure,
+  Places.moves_sure,
+  Rows.attach_row_sure,
+  Rows.backup_row_sure,
+  Rows.delkey_row_sure,
+  Rows.setkey_row_sure,
+)
 
 row_one : (line : List ℕ) (command : Command) → AreOne (GoesThrough line command)
 row_one line commands.List = λ old old' reply reply' new new' both memory memory' h h'. absurd h

@@ -62,7 +62,8 @@ wrong=''
 words=("$@")
 if ((at < ${#words[@]})); then wrong="word $((at + 1)), '${words[at]}'"; else wrong="behind '${words[-1]}'"; fi
 case $reason in
-    UnknownVerb) say "word 1, '$1': no command has this name. These are: ${verbs[*]}; in a script also: ${for_scripts[*]}" ;;
+    UnknownVerb)
+        say "word 1, '$1': no command has this name. These are: ${verbs[*]}; in a script also: ${for_scripts[*]}" ;;
     UnknownOption) text="'$1' has no such option" ;;
     MissingValue) text='this option needs a value' ;;
     BadNumber) text='this is no decimal number, or it is out of its bounds (write 4096 and not 4k)' ;;

@@ -182,7 +182,8 @@ def verbs_of_readme():
 
 def shared_verbs():
     """The verbs that COMPATIBILITY says come from FreeBSD."""
-    item = next((item for item in section("COMPATIBILITY").split("\n.It\n") if item.startswith("Of the commands\n")), "")
+    items = section("COMPATIBILITY").split("\n.It\n")
+    item = next((item for item in items if item.startswith("Of the commands\n")), "")
     return {name for line in re.findall(r"^\.Cm (.*)$", item, re.M) for name in re.findall(r"\w+", line)}
 
 

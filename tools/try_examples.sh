@@ -26,6 +26,12 @@ says() {
     fi
 }
 
+# Whether all these programs are there. (`command -v` is content with one of several.)
+have() {
+    local name
+    for name; do command -v "$name" >/dev/null || return 1; done
+}
+
 # The page is laid out without a warning.
 if command -v groff >/dev/null; then
     says "the page is laid out" test -z "$(groff -mandoc -Tutf8 -ww "$top/man/geli.8" 2>&1 >/dev/null)"
@@ -302,7 +308,7 @@ if mkdir small && mount -t tmpfs -o size=1200k small small 2>/dev/null; then
     says "  nor is it filled by -f" test "$("$make" -f -i 100 -J pass 8M small/f.img key f.backup 2>&1 | grep -c 'no room\|Remove it')" = 2
     mount -o remount,ro small
     says "a disk to be read alone is told" test "$("$change" -k key -j pass -J returned small/s.img small2.backup 2>&1 | grep -c "can't be written")" = 1
-    says "  also by a server" test "$("$serve" -k key -j pass small/s.img read.sock 2>&1 | grep -c 'give -r')" = 1
+    have nbdkit && says "  also by a server" test "$("$serve" -k key -j pass small/s.img read.sock 2>&1 | grep -c 'give -r')" = 1
     umount small
 else
     echo "not tried: a full disk (no mount of a tmpfs)"
@@ -345,7 +351,7 @@ cd "$folder" || exit 2
 
 # A provider as a network block device, for clients of other makers.
 uri="nbd+unix:///?socket=$folder/sock"
-if command -v nbdkit nbdcopy nbdinfo >commands && nbdkit --dump-plugin python >commands 2>&1; then
+if have nbdkit nbdcopy nbdinfo && nbdkit --dump-plugin python >commands 2>&1; then
     "$make" -i 100 -J pass 8M f.img key f.backup 2>notes
     head -c 8380416 /dev/urandom >data
     says "serve-nbd.sh refuses a wrong key" test "$("$serve" -k key -j wrong f.img sock 2>&1 | grep -c 'error 15 WrongKey: wrong\|nothing is served')" = 2
@@ -570,7 +576,7 @@ EOS
     "$in" -k key -j pass disk f.img 2>notes
     says "serve-nbd.sh -n serves a partition" "$serve" -n 2 -k key -j pass f.img sock 2>notes
     says "  of its size" test "$(nbdinfo --size "$uri")" = 5242880
-    if command -v nbdfuse fuse2fs mke2fs e2fsck fusermount3 >commands && [ -w /dev/fuse ]; then
+    if have nbdfuse fuse2fs mke2fs e2fsck fusermount3 && [ -w /dev/fuse ]; then
         mkdir plain.d fs
         nbdfuse plain.d "$uri" &
         for _ in 1 2 3 4 5 6 7 8 9 10; do [ -e plain.d/nbd ] || sleep 0.5; done
@@ -606,7 +612,7 @@ fi
 
 # A filesystem that is mounted by one command.
 mount=$top/examples/mount-provider.sh
-if command -v nbdkit nbdfuse fuse2fs mke2fs e2fsck fusermount3 blkid >commands && [ -w /dev/fuse ]; then
+if have nbdkit nbdfuse fuse2fs mke2fs e2fsck fusermount3 blkid && [ -w /dev/fuse ]; then
     mkdir "$folder/mounts" && cd "$folder/mounts" || exit 2
     cp ../pass ../key .
     files="a folder"
@@ -750,12 +756,16 @@ fi
 # At a terminal: `shown KEYS COMMAND...` runs the command at one of its own, types the keys at its first prompt, and
 # prints what it shows.
 cat >terminal.py <<'EOF'
-import os, pty, sys
+import os, pty, select, sys
 process, terminal = pty.fork()
 if process == 0:
     os.execvp(sys.argv[2], sys.argv[2:])
-said, keys = b"", sys.argv[1].encode()
+said, keys, interrupts = b"", sys.argv[1].encode(), False
 while True:
+    # An interrupt between the prompt and bash's read of the answer is lost, so it is pressed again, as a user would.
+    if interrupts and not select.select([terminal], [], [], 2)[0]:
+        os.write(terminal, b"\x03")
+        continue
     try:
         piece = os.read(terminal, 4096)
     except OSError:
@@ -765,7 +775,7 @@ while True:
     said += piece
     if keys and said.rstrip().endswith(b":"):
         os.write(terminal, keys)
-        keys = b""
+        keys, interrupts = b"", keys == b"\x03"
 sys.stdout.buffer.write(said)
 sys.exit(os.waitstatus_to_exitcode(os.waitpid(process, 0)[1]) % 256)
 EOF

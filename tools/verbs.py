@@ -34,11 +34,11 @@ Verb = namedtuple("Verb", "alone valued needed forms is_for_scripts")
 # with several forms has a head for each.
 HEAD = re.compile(r"^\.It (?:Xo\n((?:\..*\n)+?)\.Xc|(Cm .*))$", re.M)
 PART = re.compile(r"Oo Fl (?P<alone>\w+) Oc|Oo Fl (?P<valued>\w) Ar \w+ Oc|Fl (?P<needed>\w) Ar \w+|"
-                  r"Cm (?P<word>\w+)|Ar (?P<operands>[a-z]+(?: [a-z]+)*)|Pq (?P<mark>in scripts.*)")
+                  r"Cm (?P<word>\w+)|Ar (?P<operands>[a-z]+(?: [a-z]+)*)|Pq (?P<mark>.+)")
 
 # Stands in SYNOPSIS, and is no verb of a line.
 SCRIPT = "script"
-# The mark of a verb that is of use in scripts alone.
+# The mark of a verb that is of use in scripts alone. Others are read over.
 IN_SCRIPTS = "in scripts"
 # The operands that are files.
 FILES = ("image", "file", "place")

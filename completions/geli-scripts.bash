@@ -9,7 +9,7 @@ _geli_script_options() {
     while read -r word; do
         case $word in
             --*) echo "$word" ;;
-            *) for ((at = 1; at < ${#word}; at++)); do echo "-${word:at:1}"; done ;;
+            *) for ((at = 1; at < ${#word}; at++)); do printf '%s\n' "-${word:at:1}"; done ;;
         esac
     done < <("$1" --help 2>/dev/null | grep -E "^ +${1##*/} " | grep -oE '[ []--?[A-Za-z]+' | tr -d ' [')
 }
@@ -26,4 +26,4 @@ _geli_script() {
 }
 
 # shellcheck disable=SC2046
-complete -F _geli_script $(compgen -c geli- | LC_ALL=C sort -u)
+complete -F _geli_script $(compgen -c geli- | grep -vx geli-nbd | LC_ALL=C sort -u)

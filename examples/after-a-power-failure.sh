@@ -9,13 +9,14 @@
 # output says what.
 #
 # What it can't see: a sector whose 512-byte parts come from different writes, all of them whole. That is what a
-# crash may leave of sectors that were written after the last flush. Look at the filesystem inside with its
-# own tools, on a copy by copy-out.sh. Without authentication it doesn't see damaged sectors either.
+# crash may leave of sectors that were written after the last flush. The filesystem inside isn't looked at: give
+# mount-provider.sh, which checks an ext4 first (-c repairs it, after a copy of the image), or other filesystems' own
+# tools, on a copy by copy-out.sh. Without authentication it doesn't see damaged sectors either.
 set -euo pipefail
 # shellcheck source=lib.sh
 . "$(dirname -- "$(readlink -f -- "${BASH_SOURCE[0]}")")/lib.sh"
 
-usage() { note 'usage: after-a-power-failure.sh [-p] [-j PASSFILE] [-k KEYFILE]... IMAGE'; exit 2; }
+usage() { note "usage: $program [-p] [-j PASSFILE] [-k KEYFILE]... IMAGE"; exit 2; }
 while getopts pj:k: option; do
     case $option in
         p | j | k) key_option "$option" "${OPTARG:-}" ;;
@@ -33,8 +34,8 @@ private_folder
 python_part "$image" "${key[*]}" "$private/place" "$1" <<'PY'
 import shlex
 import sys
-from lib import (REQUEST, WHY_UNREADABLE, Failed, Progress, Session, fields_of, is_tagged, length_of_image, ranges, run,
-                 tell_unreadable, told)
+from lib import (REQUEST, WHY_UNREADABLE, Failed, Progress, Session, called, fields_of, is_tagged, length_of_image,
+                 ranges, run, tell_unreadable, told)
 
 
 def stop(session, *lines):
@@ -51,7 +52,8 @@ def metadata(session, length, name):
         helps = {
             "5": [f"If the image became longer or shorter: make it as long as before, by truncate -s"
                   f" (it has {length} bytes).",
-                  "If it was made longer and resize was at work: grow-provider.sh -s, with the length before.",
+                  f"If it was made longer and resize was at work: {called('grow-provider')} -s,"
+                  " with the length before.",
                   "If kill was at work: it destroyed the metadata.",
                   f"If something else wrote over its last 512 bytes, with a backup of the metadata: {back}"],
             "6": ["If the disk tore the sector while a command wrote it, see error 7 in geli(8)."],
@@ -98,7 +100,9 @@ def unreadable(session, fields, place):
             bad += found
             progress.at(at * session.width)
     except Failed as failed:
+        progress.clear()
         stop(session, f"from sector {at} on: {failed}")
+    progress.clear()
     return ranges(bad)
 
 
@@ -116,11 +120,13 @@ def look(geli, image, key, place, name):
     tell_unreadable(bad)
     lost = sum(end - first for first, end in bad)
     print(f"data: {session.sectors} sectors of {session.width} bytes, {lost} of them unreadable")
+    if not bad and not is_tagged(fields):
+        print("These sectors are not authenticated: damage in them reads as other bytes and is not told.")
     if bad:
         print(WHY_UNREADABLE)
+    print(f"The filesystem in it was not looked at: {called('mount-provider')} checks an ext4, and with -c repairs it.")
+    if bad:
         sys.exit(1)
-    if not is_tagged(fields):
-        print("These sectors are not authenticated: damage in them reads as other bytes and is not told.")
 
 
 run(look)

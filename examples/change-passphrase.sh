@@ -16,7 +16,7 @@ set -euo pipefail
 . "$(dirname -- "$(readlink -f -- "${BASH_SOURCE[0]}")")/lib.sh"
 
 usage() {
-    note 'usage: change-passphrase.sh [-p | -j PASSFILE] [-k KEYFILE]... [-P | -J PASSFILE] [-K KEYFILE]...' \
+    note "usage: $program [-p | -j PASSFILE] [-k KEYFILE]... [-P | -J PASSFILE] [-K KEYFILE]..." \
         'IMAGE BACKUP'
     exit 2
 }
@@ -39,6 +39,7 @@ backup=$(plain "$2")
 need sed
 image_is_there written
 absent "$backup"
+is_text "$backup"
 key_ready
 
 # The new key, as setkey takes it (-K, -J, -P) and as attach does (-k, -j, -p).
@@ -52,6 +53,7 @@ for file in ${new_files[@]+"${new_files[@]}"}; do fresh+=(-K "$file") trial+=(-k
 
 # The slot that the old key opens, and whether the other one is empty.
 slot=
+slow 'trying the old key'
 for at in 0 1; do
     if "$GELI" attach -C -n $at "${key[@]}" "$image" >/dev/null; then slot=$at && break; fi
 done
@@ -72,9 +74,11 @@ else
     fi
     fresh+=(-J "$new_pass") trial+=(-j "$new_pass")
 fi
+slow 'making the new key'
 reply=$("$GELI" setkey -n "$target" "${key[@]}" "${fresh[@]}" "$image") || fail "the new key: $(told)"
 reply=$("$GELI" attach -C -n "$target" "${trial[@]}" "$image") || fail "the new key doesn't open it: $(told)"
 if [ "$target" != "$slot" ]; then
+    slow 'destroying the old key: six passes, each synced'
     reply=$("$GELI" delkey -n "$slot" "$image") || fail "the old key is still there: $(told)"
 fi
 reply=$("$GELI" backup "$image" "$backup") || fail "the key is changed, its backup wasn't stored: $(told)"

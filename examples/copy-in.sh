@@ -14,7 +14,7 @@ set -euo pipefail
 # shellcheck source=lib.sh
 . "$(dirname -- "$(readlink -f -- "${BASH_SOURCE[0]}")")/lib.sh"
 
-usage() { note 'usage: copy-in.sh [-c] [-p] [-j PASSFILE] [-k KEYFILE]... SOURCE IMAGE'; exit 2; }
+usage() { note "usage: $program [-c] [-p] [-j PASSFILE] [-k KEYFILE]... SOURCE IMAGE"; exit 2; }
 check=
 while getopts cpj:k: option; do
     case $option in
@@ -35,7 +35,7 @@ key_ready
 
 python_part "$source" "$image" "$check" "${key[*]}" "$2" <<'PY'
 import hashlib
-from lib import REQUEST, Failed, Progress, Session, length_of, note, run
+from lib import REQUEST, Failed, Progress, Session, called, length_of, note, run
 
 
 def copy_in(geli, source, image, check, key, name):
@@ -81,7 +81,7 @@ def copy_in(geli, source, image, check, key, name):
     if session.end() != 0:
         raise Failed("geli ended with another status than 0")
     progress.end(f"{size} bytes in {count} sectors of {width} bytes" + (", read again" if check else ""))
-    note(f"copy-out.sh -b {size} gives them back")
+    note(f"{called('copy-out')} -b {size} gives them back")
 
 
 run(copy_in)

@@ -14,7 +14,7 @@ set -euo pipefail
 # shellcheck source=lib.sh
 . "$(dirname -- "$(readlink -f -- "${BASH_SOURCE[0]}")")/lib.sh"
 
-usage() { note 'usage: copy-out.sh [-b BYTES] [-p] [-j PASSFILE] [-k KEYFILE]... IMAGE TARGET'; exit 2; }
+usage() { note "usage: $program [-b BYTES] [-p] [-j PASSFILE] [-k KEYFILE]... IMAGE TARGET"; exit 2; }
 bytes=
 while getopts b:pj:k: option; do
     case $option in

@@ -10,7 +10,7 @@ set -euo pipefail
 # shellcheck source=lib.sh
 . "$(dirname -- "$(readlink -f -- "${BASH_SOURCE[0]}")")/lib.sh"
 
-usage() { note 'usage: geli-info.sh [--json] [-p] [-j PASSFILE] [-k KEYFILE]... IMAGE'; exit 2; }
+usage() { note "usage: $program [--json] [-p] [-j PASSFILE] [-k KEYFILE]... IMAGE"; exit 2; }
 json=''
 if [ "${1:-}" = --json ]; then json=yes && shift; fi
 while getopts Jpj:k: option; do
@@ -39,7 +39,7 @@ if [ ${#key[@]} -gt 0 ]; then
     done
 fi
 
-python_part "$rows" "$1" "$opens" "$json" <<'PY'
+python_part "$rows" "$1" "$opens" "$json" "$has_passphrase" <<'PY'
 import json
 import sys
 from lib import TAGGED, fields_of, is_tagged, run
@@ -91,7 +91,7 @@ def passphrase(iterations):
     return f"through {iterations} iterations of PBKDF2, if there is one"
 
 
-def tell(facts):
+def tell(facts, has_passphrase):
     slots = facts["slots_with_keys"]
     print(f"{facts['image']}: a provider of {size_in_words(facts['provider_bytes'])}, metadata of version"
           f" {facts['version']}")
@@ -103,16 +103,18 @@ def tell(facts):
     print(f"flags: {', '.join(facts['flags']) or 'none'}")
     if "key_opens_slot" in facts:
         slot = facts["key_opens_slot"]
-        print("this key: doesn't open it" if slot is None else f"this key: opens slot {slot}")
+        what = "this key" if has_passphrase else "this key file without a passphrase"
+        more = "" if has_passphrase else " (-j names the passphrase's file)"
+        print(f"{what}: doesn't open it{more}" if slot is None else f"{what}: opens slot {slot}")
 
 
-def info(_, rows, name, opens, as_json):
+def info(_, rows, name, opens, as_json, has_passphrase):
     fields = fields_of(row for row in rows.split("\n") if ": " in row)
     facts = facts_of(fields, name, opens)
     if as_json:
         print(json.dumps(facts, indent=2))
     else:
-        tell(facts)
+        tell(facts, has_passphrase)
     return 1 if opens == "none" else 0
 
 

@@ -15,12 +15,13 @@
 # The new sectors of an authenticated provider are written once, with zeros, since they couldn't be read else. If that
 # is broken off, -s goes on with it: it writes those that can't be read.
 # Older backups don't fit any more: `geli restore -f` takes them all the same.
+# The filesystem in the provider stays as large as it was: mount-provider.sh -g grows an ext4.
 set -euo pipefail
 # shellcheck source=lib.sh
 . "$(dirname -- "$(readlink -f -- "${BASH_SOURCE[0]}")")/lib.sh"
 
 usage() {
-    note 'usage: grow-provider.sh [-f] [-s OLDSIZE] [-p] [-j PASSFILE] [-k KEYFILE]... SIZE IMAGE BACKUP'
+    note "usage: $program [-f] [-s OLDSIZE] [-p] [-j PASSFILE] [-k KEYFILE]... SIZE IMAGE BACKUP"
     exit 2
 }
 oldsize='' allocated='' resumed=''
@@ -47,6 +48,7 @@ for file in "${files[@]}"; do
     if [ ! -f "$file" ] || [ ! -w "$file" ]; then fail "'$file' is no file that can be written"; fi
 done
 absent "$backup"
+is_text "$backup"
 
 # The file that grows, and how long those before it are.
 grown=$(plain "${files[-1]}") before=0
@@ -71,6 +73,7 @@ where nothing else changed the image, 'truncate -s $((length - before)) $(printf
 }
 if [ -z "$oldsize" ]; then
     # The key must open it before anything is changed.
+    slow 'trying the key'
     opens || fail "nothing was changed: $(told)"
     oldsize=$((length / 512 * 512))
     ((length < size)) || fail "the image has $size bytes already"
@@ -79,7 +82,8 @@ again="the metadata are at the old end, or at the new one: give this again, with
 if [ -z "$resumed" ] || ((length < size)) || ! opens; then
     # Once the image is longer, `resize` must not be refused because another program holds it.
     exec {lock}<>"$grown"
-    flock -n "$lock" || fail "nothing was changed: another program holds '$grown' (end it, as by serve-nbd.sh -e)"
+    flock -n "$lock" ||
+        fail "nothing was changed: another program holds '$grown' (end it, as by $(called serve-nbd) -e)"
     has_length() { (($(stat -Lc %s -- "$grown") == length - before)); }
     has_length || fail "nothing was changed: another program has changed the length of '$grown' meanwhile"
     left() { has_length || note "$again"; }
@@ -87,6 +91,7 @@ if [ -z "$resumed" ] || ((length < size)) || ! opens; then
     left() { note "$again"; }
     sync "$grown"
     exec {lock}>&-
+    slow 'moving the metadata: six passes over the old ones'
     reply=$("$GELI" resize -s "$oldsize" "$image") || not_resized
     opens || fail "the key doesn't open it: $(told)"
 fi
@@ -119,4 +124,5 @@ reply=$("$GELI" backup "$image" "$backup") || fail "the provider has grown, its 
 sync
 left() { :; }
 note "$2: a provider in $size bytes"
+note "the filesystem in it is as large as before: $(called mount-provider) -g grows an ext4"
 note "keep $backup apart from $2"

@@ -12,7 +12,7 @@ set -euo pipefail
 # shellcheck source=lib.sh
 . "$(dirname -- "$(readlink -f -- "${BASH_SOURCE[0]}")")/lib.sh"
 
-usage() { note 'usage: kill-provider.sh [-y] IMAGE'; exit 2; }
+usage() { note "usage: $program [-y] IMAGE"; exit 2; }
 sure=
 while getopts y option; do
     case $option in
@@ -32,8 +32,7 @@ keys=$(sed -n 's/^keys: //p' <<<"$reply")
 note "$1: a provider of $size bytes, keys $keys, will be lost for good where no backup of its metadata is elsewhere"
 if [ -z "$sure" ]; then
     has_terminal || fail 'nothing was changed: no terminal to ask at (-y does it without)'
-    IFS= read -r -p "type the name of the image to destroy it: " typed </dev/tty || fail 'nothing was changed'
-    [ "$typed" = "$1" ] || fail 'nothing was changed: the names differ'
+    sure_of "$1" 'destroy it'
 fi
 reply=$("$GELI" kill "$image") || fail "$(told)"
 note "$1: its metadata are destroyed"

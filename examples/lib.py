@@ -56,6 +56,11 @@ def note(text):
     print(text, file=sys.stderr)
 
 
+def called(name):
+    """How another script is called: NAME.sh, or geli-NAME where they are installed (lib.sh says so)."""
+    return f"geli-{name}" if os.environ.get("GELI_INSTALLED") else f"{name}.sh"
+
+
 def run(work, status=1):
     """Does the work of a script: its words are the script's name, the program `geli`, and what the work takes.
 
@@ -194,9 +199,9 @@ class Session:
 
     def __init__(self, geli, image):
         self.image = image
-        self.files = list(map(os.path.realpath, files_of(image)))  # a server's folder is another later
-        self.script = subprocess.Popen(
-            [geli, "script", image], stdin=subprocess.PIPE, stdout=subprocess.PIPE, bufsize=1 << 20)
+        self.files = files_of(image)
+        self.script = subprocess.Popen([geli, "script", image], stdin=subprocess.PIPE, stdout=subprocess.PIPE,
+                                       bufsize=1 << 20)
         for pipe in self.script.stdin, self.script.stdout:
             with contextlib.suppress(OSError, AttributeError):  # python3 has its name from 3.10 on
                 fcntl.fcntl(pipe, fcntl.F_SETPIPE_SZ, 1 << 20)  # a whole line and more
@@ -259,6 +264,8 @@ class Session:
         return self.reply()
 
     def attach(self, *words):
+        if sys.stderr.isatty():
+            note("deriving the key ...")
         self.must("attach", *words, self.image)
         self.look()
 
@@ -390,6 +397,11 @@ class Progress:
     def line(self, text, end=""):
         """Puts a line in place of the one before."""
         print(f"\r{text:<70}" if self.is_seen else text, end=end, file=sys.stderr, flush=True)
+
+    def clear(self):
+        """Takes the line away: another is printed there."""
+        if self.is_seen:
+            self.line("", end="\r")
 
     def end(self, text):
         spent = max(time.monotonic() - self.begun, 0.001)

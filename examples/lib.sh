@@ -1,12 +1,14 @@
 # lib.sh: what the scripts of this folder share. It is read by them with `.`, and does nothing alone.
 #
-# GELI names the program, `geli` on the path if it isn't set. The scripts need bash 4.4 or later, and python3, which
-# holds the two ends of a `geli script` (lib.py).
+# GELI and GELI_NBD name the programs, `geli` and `geli-nbd` on the path if they aren't set. The scripts need bash 4.4
+# or later, and python3, which holds the two ends of a `geli script` (lib.py).
 # shellcheck shell=bash
 
 GELI=${GELI:-geli}
+GELI_NBD=${GELI_NBD:-geli-nbd}
 library=$(dirname -- "$(readlink -f -- "${BASH_SOURCE[0]}")")
 program=${GELI_CALLED_AS:-${0##*/}} # as another name starts it
+installed=${GELI_CALLED_AS:+yes}
 unset GELI_CALLED_AS
 umask 077 # every file that is made here is the caller's alone
 
@@ -15,6 +17,9 @@ fail() {
     note "$program: $*"
     exit 1
 }
+
+# called NAME: how another of these scripts is called, NAME.sh, or geli-NAME where they are installed.
+called() { if [ -n "$installed" ]; then printf 'geli-%s' "${1#geli-}"; else printf '%s.sh' "$1"; fi; }
 
 # -h or --help: the head of the script, which says what it does and takes.
 case ${1:-} in
@@ -48,6 +53,19 @@ private_folder() {
     fail 'there is no folder for a passphrase: TMPDIR names another, without blanks'
 }
 
+# sure_of NAME WHAT: goes on only where somebody types the name at the terminal.
+sure_of() {
+    local typed
+    has_terminal || fail 'nothing was changed: no terminal to ask at'
+    IFS= read -r -p "type the name of the image to $2: " typed </dev/tty || fail 'nothing was changed'
+    [ "$typed" = "$1" ] || fail 'nothing was changed: the names differ'
+}
+
+# A name that is a word of a geli command can't be a link as in one_word, where geli makes the file.
+is_text() {
+    python3 -c 'import sys; sys.argv[1].encode()' "$1" 2>/dev/null || fail "the name '$1' is no UTF-8: use another"
+}
+
 # The name of a file, so that it is no option, and no layer.
 plain() {
     case $1 in
@@ -75,6 +93,7 @@ one_word() {
 # image_of NAME: sets `image` to the word for the image, and `files` to the files that it lies in. As for geli itself,
 # `behind:FILE` and `join:FILE:FILE` are layers over files; ./behind:FILE is a file of that name.
 image_of() {
+    local LC_ALL=C # a name need be no UTF-8
     if [[ $1 =~ ^behind:(.+)$ ]]; then
         files=("${BASH_REMATCH[1]}")
         image=behind:
@@ -146,15 +165,21 @@ lengthen() {
 need() {
     local name package
     for name in "$GELI" python3 "$@"; do
-        command -v "$name" >/dev/null && continue
+        if command -v "$name" >/dev/null; then
+            # Where it is the launcher of a clone it is built now, where that can be told, and not behind a mount.
+            [ "$name" != "$GELI_NBD" ] || "$name" --version </dev/null >/dev/null || fail "'$name' doesn't run"
+            continue
+        fi
         case $name in
-            nbdkit) package='Debian: nbdkit and nbdkit-plugin-python' ;;
+            python3) package='Debian: python3' ;;
+            nbdkit) package='Debian: nbdkit' ;;
             nbdfuse) package='Debian: libnbd-bin' ;;
             fusermount3) package='Debian: fuse3' ;;
             fuse2fs) package='Debian: fuse2fs' ;;
             mke2fs) package='Debian: e2fsprogs, in /sbin' ;;
             grub-mount) package='Debian: grub-common' ;;
             "$GELI") package='GELI names the geli to use' ;;
+            "$GELI_NBD") package='GELI_NBD names the geli-nbd to use' ;;
             *) package='' ;;
         esac
         fail "the program '$name' isn't there${package:+ ($package)}"
@@ -165,18 +190,27 @@ need() {
 reply=''
 told() { python3 -B "$library/lib.py" "${reply##*$'\n'}" "$image"; }
 
+# slow WHAT: says at a terminal what may take a while now.
+slow() { if [ -t 2 ]; then note "$1 ..."; fi; }
+
 has_terminal() { { : </dev/tty; } 2>/dev/null; }
 
+LARGEST_KEY_FILE=1048576 # bytes, as for geli itself
 # stays NAME: sets `stays` to a name under which the file can be read again and again, by other processes too. A pipe,
-# as of `-j <(pass show disk)`, is copied into the private folder.
+# as of `-j <(pass show disk)`, is copied into the private folder, which is memory: a device, or what has no end, isn't.
 copies=0
 stays() {
-    if [ ! -r "$1" ] || [ -d "$1" ]; then fail "the file '$1' can't be read"; fi
+    if [ ! -r "$1" ] || [ -d "$1" ]; then
+        [ "$1" != - ] || fail "the file '-' can't be read: standard input is /dev/stdin"
+        fail "the file '$1' can't be read"
+    fi
+    [ ! -b "$1" ] || fail "'$1' is a disk, and no key file or passphrase file"
     stays=$1
     if [ ! -f "$1" ] || [[ $1 == /dev/* || $1 == /proc/* ]]; then
         private_folder
         stays=$private/copy$((copies += 1))
-        cat -- "$1" >"$stays" || fail "the file '$1' can't be read"
+        head -c $((LARGEST_KEY_FILE + 1)) -- "$1" >"$stays" || fail "the file '$1' can't be read"
+        (($(stat -c %s -- "$stays") <= LARGEST_KEY_FILE)) || fail "'$1' has more than 1 MiB: no key file is longer"
     fi
 }
 
@@ -230,4 +264,4 @@ key_ready() {
 
 # The python3 program on standard input, with these words and lib.py. It has no name in a folder, so that python3 looks
 # for no module in the caller's folder.
-python_part() { PYTHONPATH=$library python3 -B /dev/stdin "$program" "$GELI" "$@"; }
+python_part() { GELI_INSTALLED=$installed PYTHONPATH=$library python3 -B /dev/stdin "$program" "$GELI" "$@"; }

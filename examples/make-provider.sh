@@ -2,6 +2,7 @@
 # make-provider.sh: makes a new image with an encrypted provider in it, and backs its keys up.
 #
 #   make-provider.sh [-af] [-i ITERATIONS] [-J PASSFILE] SIZE IMAGE KEYFILE BACKUP
+#   make-provider.sh -d [-a] [-i ITERATIONS] [-J PASSFILE] DISK KEYFILE BACKUP
 #
 # SIZE is in bytes, or such as 80M or 2G, a multiple of 4096. IMAGE and BACKUP must not exist: nothing is overwritten.
 # (`geli init` alone makes a provider over whatever file it is given, and says nothing of what was there.) KEYFILE is
@@ -9,7 +10,9 @@
 # whose first line is the passphrase. Opening the provider takes the key file and the passphrase, both.
 #
 # IMAGE is a sparse file: it takes space on the disk as sectors are written, so a disk that is full later makes writes
-# fail. With -f it takes all of its space now.
+# fail. With -f it takes all of its space now. Deleting files in the provider later frees no space on the disk.
+#
+# -d: over a disk, as /dev/sdb, or over a file that is there. All that is on it is lost, so its name is to be typed.
 #
 # The provider has AES-XTS with keys of 256 bits, sectors of 4096 bytes and 1,000,000 iterations. With -a its
 # sectors are authenticated by HMAC/SHA256 and each of them is written once, with zeros, since a sector of such a
@@ -21,11 +24,27 @@ set -euo pipefail
 # shellcheck source=lib.sh
 . "$(dirname -- "$(readlink -f -- "${BASH_SOURCE[0]}")")/lib.sh"
 
-usage() { note 'usage: make-provider.sh [-af] [-i ITERATIONS] [-J PASSFILE] SIZE IMAGE KEYFILE BACKUP'; exit 2; }
-auth=() iterations=1000000 passfile='' allocated=''
-while getopts afi:J: option; do
+usage() {
+    note "usage: $program [-af] [-i ITERATIONS] [-J PASSFILE] SIZE IMAGE KEYFILE BACKUP" \
+        "or $program -d [-a] [-i ITERATIONS] [-J PASSFILE] DISK KEYFILE BACKUP"
+    exit 2
+}
+
+# over_disk NAME: sets `size` to what a disk, or a file, has, where nobody else uses it and its loss is meant.
+over_disk() {
+    if [ ! -b "$1" ] && [ ! -f "$1" ]; then fail "'$1' is no disk"; fi
+    [ -w "$1" ] || fail "'$1' can't be written"
+    size=$(python3 -c 'import os, sys; print(os.lseek(os.open(sys.argv[1], os.O_RDWR | os.O_EXCL), 0, os.SEEK_END))' \
+        "$1" 2>/dev/null) || fail "nothing was changed: '$1' is mounted, or otherwise in use"
+    note "$1: all that is on it, $size bytes, will be lost"
+    sure_of "$1" 'make a provider over it'
+}
+
+auth=() iterations=1000000 passfile='' allocated='' disk=''
+while getopts adfi:J: option; do
     case $option in
         a) auth=(-a HMAC/SHA256) ;;
+        d) disk=yes ;;
         f) allocated=allocated ;;
         i) iterations=$OPTARG ;;
         J) passfile=$OPTARG ;;
@@ -33,17 +52,27 @@ while getopts afi:J: option; do
     esac
 done
 shift $((OPTIND - 1))
-[ $# -eq 4 ] || usage
-keyfile=$(plain "$3") backup=$(plain "$4")
+if [ -z "$disk" ]; then
+    [ $# -eq 4 ] || usage
+    size_of "$1"
+    shift
+fi
+[[ $# -eq 3 && ! ( -n $disk && -n $allocated ) ]] || usage
+keyfile=$(plain "$2") backup=$(plain "$3")
 
-image_of "$2"
-[ "${files[*]}" = "$2" ] || fail "'$2' asks for a layer over a file: make the file, or name it ./$2"
-size_of "$1"
-((size % 4096 == 0 && size >= 65536)) || fail 'the size must be a multiple of 4096, and 65536 at least'
+image_of "$1"
+[ "${files[*]}" = "$1" ] || fail "'$1' asks for a layer over a file: make the file, or name it ./$1"
 [[ $iterations =~ ^[1-9][0-9]{0,9}$ ]] || fail "'$iterations' is no number of iterations"
 need truncate fallocate df head
-name=$(plain "$2")
-absent "$name" "$backup"
+name=$(plain "$1")
+absent "$backup"
+is_text "$backup"
+for other in "$keyfile" "$name"; do
+    [ "$(realpath -m -- "$other")" != "$(realpath -m -- "$backup")" ] || fail "BACKUP and '$other' are one file"
+done
+if [ -n "$disk" ]; then over_disk "$1"; else absent "$name"; fi
+((size >= 65536)) || fail 'the size must be 65536 at least'
+[ -n "$disk" ] || ((size % 4096 == 0)) || fail 'the size must be a multiple of 4096'
 if [ -n "$passfile" ]; then
     new_passphrase "$passfile"
     one_word "$stays"
@@ -58,7 +87,7 @@ if [ -e "$keyfile" ]; then
     [ -s "$keyfile" ] || [ ! -f "$keyfile" ] || fail "the key file '$keyfile' is empty"
     note "key file: $keyfile, as it stands"
 else
-    head -c 64 /dev/urandom >"$keyfile"
+    { head -c 64 /dev/urandom >"$keyfile"; } 2>/dev/null || fail "the key file '$keyfile' can't be made"
     note "key file: $keyfile, new, of 64 random bytes"
 fi
 stays "$keyfile"
@@ -66,13 +95,16 @@ one_word "$stays"
 newkey=$word
 sync # the key file must be on the disk before anything is locked by it
 
-set -C # `>` doesn't overwrite
-: >"$name" || fail "'$name' can't be made"
-set +C
 left() {
     note "'$name' is only half made. Remove it, and '$backup' if it is there, and give this again: '$keyfile' can stay"
 }
-lengthen "$name" "$size" "$allocated"
+if [ -z "$disk" ]; then
+    set -C # `>` doesn't overwrite
+    : >"$name" || fail "'$name' can't be made"
+    set +C
+    lengthen "$name" "$size" "$allocated"
+fi
+slow 'making the key, and trying it'
 if ! reply=$("$GELI" init "${auth[@]}" -e AES-XTS -l 256 -s 4096 -i "$iterations" -K "$newkey" -J "$passfile" \
     -B "$backup" "$image"); then
     # 28 at the word of the backup means that the provider was made; the metadata are the last 512 bytes of the image.

@@ -24,7 +24,7 @@ fail() { # as in lib.sh, with the status of this script
     exit 3
 }
 
-usage() { note 'usage: scrub-provider.sh [-r] [-m MINUTES] [-p] [-j PASSFILE] [-k KEYFILE]... IMAGE PLACE'; exit 2; }
+usage() { note "usage: $program [-r] [-m MINUTES] [-p] [-j PASSFILE] [-k KEYFILE]... IMAGE PLACE"; exit 2; }
 restart='' minutes=''
 while getopts rm:pj:k: option; do
     case $option in
@@ -88,6 +88,7 @@ def scrub(geli, image, place, key, restart, minutes, name):
             if time.monotonic() >= until:
                 break
     finally:
+        progress.clear()
         if at > first:
             report(name, first, at, session.sectors, ranges(bad))
     session.must("detach", image)

@@ -4,12 +4,13 @@
 #   serve-nbd.sh [-r] [-n PARTITION] [-p] [-j PASSFILE] [-k KEYFILE]... IMAGE SOCKET
 #   serve-nbd.sh -e SOCKET
 #
-# SOCKET must not exist. The server runs on behind it until `serve-nbd.sh -e SOCKET` ends it: that waits for the clients
-# to disconnect, writes what is gathered, flushes and detaches the provider. It answers 0 only where that went well, and
-# where what clients were refused to write, as on a full disk, was written later.
+# SOCKET must not exist. geli-nbd(8) runs on behind it, and nbdkit between, so that the key is derived once for all
+# clients, until `serve-nbd.sh -e SOCKET` ends it. That waits for the clients to disconnect, says who they are, and
+# flushes and detaches the provider. It answers 0 only where that went well, and where no write of a client was refused,
+# as on a full disk.
 # -r: read-only. -n: only this partition of the data, counted from 1. The passphrase is asked for; -j names a
 # file whose first line it is, -p says that there is none.
-# It needs nbdkit with its python plugin. Some clients, with URI=nbd+unix:///?socket=SOCKET (the whole path of it):
+# It needs nbdkit; geli-nbd(8) alone serves one client. Some clients, with URI=nbd+unix:///?socket=SOCKET (whole path):
 #
 #   nbdcopy disk.img "$URI"; nbdcopy "$URI" disk.img          a whole copy in, or out
 #   nbdfuse FOLDER "$URI" & mke2fs -t ext4 FOLDER/nbd         the data as a plain file, for any program
@@ -21,39 +22,49 @@
 #
 #   losetup --find --show --offset BYTES --sizelimit BYTES disk.img
 #
-# What a client wrote is safe once the client has flushed: by `sync`, or when it unmounts. Until then the server holds
-# up to 128 KiB of it in memory, where small writes stand side by side; a write of these that fails is told by the
-# client's next flush at the latest. After a crash see after-a-power-failure.sh. A sector of an authenticated provider
-# that was never written answers an I/O error: make such a provider by make-provider.sh -a.
+# What a client wrote is in the image once it is answered, and safe from a power failure once the client has flushed, as
+# when it unmounts; no `sync` reaches fuse2fs 1.47. After a crash see after-a-power-failure.sh, and check the filesystem
+# (e2fsck). A sector of an authenticated provider that was never written answers an I/O error: make such a provider by
+# make-provider.sh -a.
 set -euo pipefail
 # shellcheck source=lib.sh
 . "$(dirname -- "$(readlink -f -- "${BASH_SOURCE[0]}")")/lib.sh"
 
 usage() {
-    note 'usage: serve-nbd.sh [-r] [-n PARTITION] [-p] [-j PASSFILE] [-k KEYFILE]... IMAGE SOCKET' \
-        'or serve-nbd.sh -e SOCKET'
+    note "usage: $program [-r] [-n PARTITION] [-p] [-j PASSFILE] [-k KEYFILE]... IMAGE SOCKET" \
+        "or $program -e SOCKET"
     exit 2
 }
 
 # Whether a process is a server that still runs.
 is_server() {
     local name state
-    { read -r _ name state _ <"/proc/$1/stat"; } 2>/dev/null && [ "$name" = '(nbdkit)' ] && [ "$state" != Z ]
+    { read -r _ name state _ <"/proc/$1/stat"; } 2>/dev/null && [[ $name = '(python'* ]] && [ "$state" != Z ]
 }
 
-# Ends the server behind a socket, and tells whether all was flushed. nbdkit serves its clients until they disconnect.
+# Says who is connected to the server behind a socket.
+tell_clients() {
+    local client
+    note "$1: a client is connected, and is waited for: unmount, or end it"
+    while read -r client; do
+        [ "$client" = 0 ] || note "  process $client: $({ tr '\0' ' ' <"/proc/$client/cmdline"; } 2>/dev/null || :)"
+    done <"$2"
+}
+
+# Ends the server behind a socket, and tells whether all was flushed. It serves its clients until they disconnect.
 end_server() {
-    local socket=$1 pid said=
+    local socket=$1 pid said=''
     local -i turns=0
     [ -r "$socket.pid" ] || fail "there is no '$socket.pid': no server runs behind '$socket'"
     pid=$(<"$socket.pid")
     ! is_server "$pid" || kill "$pid"
     while is_server "$pid"; do
-        if ((++turns == 30)); then note "$1: a client is connected, and is waited for: unmount, or end it"; fi
+        if ((++turns == 10)) && [ -s "$socket.clients" ]; then tell_clients "$1" "$socket.clients"; fi
+        if ((turns == 30)) && [ ! -s "$socket.clients" ]; then note "$1: waiting for the disk"; fi
         sleep 0.1
     done
     if [ -r "$socket.ended" ]; then said=$(<"$socket.ended"); fi
-    rm -f -- "$socket" "$socket.pid" "$socket.ended"
+    rm -f -- "$socket" "$socket.pid" "$socket.ended" "$socket.clients"
     case $said in
         ok) note "$1: ended, all is flushed" ;;
         '') fail 'the server had ended by itself: what was written since the last flush may be lost' ;;
@@ -62,12 +73,12 @@ end_server() {
     exit 0
 }
 
-readonly=() partition=() filter=() ends=''
+readonly=() partition=() ends=''
 while getopts ern:pj:k: option; do
     case $option in
         e) ends=yes ;;
-        r) readonly=(readonly=yes) ;;
-        n) filter=(--filter=partition) partition=("partition=$OPTARG") ;;
+        r) readonly=(-r) ;;
+        n) partition=("partition=$OPTARG") ;;
         p | j | k) key_option "$option" "${OPTARG:-}" ;;
         *) usage ;;
     esac
@@ -80,27 +91,28 @@ fi
 [ $# -eq 2 ] || usage
 image_of "$1"
 socket=$(realpath -m -- "$2")
-need nbdkit setsid
-image_is_there
+need "$GELI_NBD" nbdkit setsid
+image_is_there ''
 for file in "${files[@]}"; do
     [ ${#readonly[@]} -gt 0 ] || [ -w "$file" ] || fail "'$file' can't be written: give -r"
 done
-for name in "$socket" "$socket.pid" "$socket.ended"; do
+for name in "$socket" "$socket.pid" "$socket.ended" "$socket.clients"; do
     [ ! -e "$name" ] || fail "'$name' is there already: is a server running?"
 done
 [ -d "${socket%/*}/" ] || fail "there is no folder '${socket%/*}'"
+is_text "$socket"
 ((${#socket} < 100)) || fail "'$socket' is too long for a socket: use a shorter path"
 key_ready
 
-# nbdkit goes to the background once the provider is attached; no key file is needed any more then. A session of its own
-# keeps it running when the terminal is closed.
-PYTHONPATH=$library PYTHONDONTWRITEBYTECODE=1 setsid -w nbdkit "${filter[@]}" -U "$socket" --pidfile "$socket.pid" \
-    python "$library/nbd_geli.py" geli="$(command -v "$GELI")" image="$image" key="${key[*]}" ended="$socket.ended" \
-    "${readonly[@]}" "${partition[@]}" || {
-    rm -f -- "$socket" "$socket.pid"
-    fail 'nothing is served'
+# It goes to the background once the provider is attached; no key file is needed any more then. A session of its own
+# keeps it running when the terminal is closed. Where this is broken off before, nobody has asked it to write yet.
+setsid python3 -B "$library/nbd_server.py" ended="$socket.ended" "${partition[@]}" socket="$socket" \
+    clients="$socket.clients" pid="$socket.pid" -- "$(command -v "$GELI_NBD")" "${readonly[@]}" "${key[@]}" "$image" &
+server=$!
+left() {
+    kill -KILL -- "-$server" 2>/dev/null || :
+    rm -f -- "$socket" "$socket.pid" "$socket.ended" "$socket.clients"
 }
-# nbdkit writes its number once it is in the background.
-for ((at = 0; at < 100; at++)); do [ ! -s "$socket.pid" ] || break; sleep 0.1; done
+wait "$server" || fail 'nothing is served'
 path=$(python3 -c 'import sys, urllib.parse; print(urllib.parse.quote(sys.argv[1]))' "$socket")
 note "$1: served at nbd+unix:///?socket=$path until $program -e $(printf %q "$2")"

@@ -2,9 +2,12 @@
 # why.sh: says in words what is wrong with the words of a geli command. It runs no command, and touches no file.
 #
 #   why.sh WORD...
+#   why.sh error NUMBER [WORD...]
 #
 # WORD... is what stands behind `geli`, as in `why.sh init -s 4k -P -K a.key a.img`. Status 0: the words are a command,
-# or lines of a script would be. Status 1: they aren't, and standard output says why.
+# or lines of a script would be. Status 1: they aren't, and standard output says why. A verb of FreeBSD's that isn't
+# here is answered by what does its work. `error` and what stands behind it, as geli printed it, says what geli(8) says
+# of that refusal.
 #
 # `geli` itself prints its usage line alone for them. It says more where they are a line of a script; here that script
 # has an image by a name that no file can have, so whatever the words ask for, no image has their name.
@@ -12,7 +15,7 @@ set -euo pipefail
 # shellcheck source=lib.sh
 . "$(dirname -- "$(readlink -f -- "${BASH_SOURCE[0]}")")/lib.sh"
 
-usage() { note 'usage: why.sh WORD...'; exit 2; }
+usage() { note "usage: $program WORD..."; exit 2; }
 [ $# -gt 0 ] || usage
 if [ "$1" = geli ] && [ $# -gt 1 ]; then shift; fi
 need
@@ -31,11 +34,34 @@ say() {
     printf '%s\n' "$*"
     exit 1
 }
+
+# tell_refusal NUMBER: what the page says of it. (Its fields stand between its name and the colon.)
+tell_refusal() {
+    local text
+    text=$(grep "^$1 " "$library/refusals.txt") || say "no refusal has the number '$1': geli(8) has all of them"
+    fold -s -w "${COLUMNS:-80}" <<<"$text"
+    exit 0
+}
+
+# of_freebsd VERB: what does the work of a verb of FreeBSD's geli(8) that isn't here.
+of_freebsd() {
+    case $1 in
+        status) say "status: nothing stays attached after a run: $(called geli-info) says what an image is" ;;
+        version) say "version: $(called geli-info) says of which version the metadata of an image are" ;;
+        label) say "label: $(called make-provider) makes a provider; geli itself does by 'init'" ;;
+        stop) say "stop: $(called mount-provider) -u unmounts a provider, $(called serve-nbd) -e ends its server" ;;
+        load | unload) say "$1: there is no kernel module: $(called mount-provider) mounts a provider" ;;
+        onetime | configure | clear) say "$1: that isn't built, and nothing does its work (docs/FREEBSD.md)" ;;
+    esac
+}
+
+if [ "$1" = error ] && [ $# -gt 1 ]; then tell_refusal "$2"; fi
+of_freebsd "$1"
 if [ "$1" = script ]; then
     [ $# -gt 1 ] || say 'script: it needs the names of 1 to 16 images'
     [ $# -le 17 ] || say "script: it takes 16 images at most, and here are $(($# - 1))"
     [ "$(printf '%s\n' "${@:2}" | sort | uniq -d)" = '' ] || say 'script: two of its images have one name'
-    printf '%s\n' "these words run a script: lines of it, on standard input, are commands as why.sh explains them"
+    printf '%s\n' "these words run a script: lines of it, on standard input, are commands as $program explains them"
     exit 0
 fi
 
@@ -52,7 +78,10 @@ case $reply in
         printf '%s\n' 'these words are a command: nothing is wrong with them'
         if [[ " ${for_scripts[*]} " = *" $1 "* ]]; then
             printf '%s\n' "but it is of use only as a line of 'geli script IMAGE', behind a line 'attach'"
+        elif [ "$1" = attach ]; then
+            printf '%s\n' "but nothing stays attached after a run: $(called mount-provider) mounts what is in the image"
         fi
+        printf '%s\n' "where geli refuses them, '$program error NUMBER' says why"
         exit 0 ;;
     'error 1 Usage '*) ;;
     *) fail "geli says '$reply'" ;;

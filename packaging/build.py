@@ -1,7 +1,7 @@
 #!/usr/bin/env python3
-"""Proves and builds the program by several runs of rt side by side.
+"""Proves and builds the programs of packaging/programs.txt by several runs of rt side by side.
 
-    packaging/build.py TREE PROGRAM LEVEL...      PROGRAM-LEVEL is made for each level, as x86-64-v3
+    packaging/build.py TREE FOLDER LEVEL...      FOLDER/PROGRAM-LEVEL is made of each for each level, as x86-64-v3
 
 A run of rt holds the folders of its crate and of all crates below, so each crate is built in a small tree of its own,
 over what was built of the others. What is proved of a library goes to its out/ in TREE, so a build that was broken off
@@ -26,7 +26,6 @@ import sys
 import tempfile
 import time
 
-TOP = "geli_cli"
 PARTS = ("src", "specs", "proofs")
 BYTES_OF_JOB = 4_000_000_000
 MOST_JOBS_OF_CRATE = 4
@@ -45,6 +44,18 @@ def libraries_of(file):
         rows = [line.partition("#")[0].partition(":") for line in lines]
     uses = {name.strip(): words.split() for name, _, words in rows if name.strip()}
     return {name: [it for it in words if it in uses] for name, words in uses.items()}
+
+
+def programs_of(file):
+    """Returns the programs that programs.txt lists: by the crate of each its name, and the words that rt runs it with."""
+    found = {}
+    with open(file, encoding="utf-8") as lines:
+        for line in lines:
+            name, _, words = line.partition("#")[0].partition(":")
+            if words.split():
+                crate, *given = words.split()
+                found[crate] = name.strip(), given
+    return found
 
 
 def below(uses, name):
@@ -119,10 +130,13 @@ def widen(file):
 
 
 class Build:
-    def __init__(self, tree, program, level, room):
-        self.tree, self.program, self.level, self.room = tree, program, level, room
+    def __init__(self, tree, made, level, room):
+        self.tree, self.made, self.level, self.room = tree, made, level, room
         self.uses = libraries_of(f"{tree}/crates.txt")
-        self.crates = [*below(self.uses, TOP), TOP]
+        self.programs = programs_of(f"{tree}/packaging/programs.txt")
+        self.crates = []
+        for top in self.programs:
+            self.crates += [it for it in [*below(self.uses, top), top] if it not in self.crates]
         self.seconds = {it: seconds_of(f"{tree}/crates/{it}") for it in self.crates}
         self.behind = dict(self.seconds)
         for name in reversed(self.crates):
@@ -183,12 +197,13 @@ class Build:
         return status == 0
 
     def prove(self, name, jobs):
-        """Builds a library or the program, and returns whether it could."""
+        """Builds a library or a program, and returns whether it could."""
         is_built, words = False, ["--jobs", str(jobs)]
         with open(f"{self.room}/{name}.log", "w", encoding="utf-8") as log:
             try:
                 folder = self.tree_of(name)
-                is_built = self.link(folder, log, words) if name == TOP else self.library(name, folder, log, words)
+                build = self.link if name in self.programs else self.library
+                is_built = build(name, folder, log, words)
             except OSError as error:
                 print(error, file=log)
         shutil.rmtree(f"{self.room}/{name}", ignore_errors=True)
@@ -203,11 +218,13 @@ class Build:
         self.give(name)
         return True
 
-    def link(self, folder, log, words):
-        shutil.copytree(f"{self.tree}/crates/{TOP}/data", f"{folder}/data")
-        if not self.rt(folder, log, "run", *words, f"--cpu={self.level}", "--", "dump", "data/a.img"):
+    def link(self, name, folder, log, words):
+        program, given = self.programs[name]
+        if os.path.isdir(f"{self.tree}/crates/{name}/data"):
+            shutil.copytree(f"{self.tree}/crates/{name}/data", f"{folder}/data")
+        if not self.rt(folder, log, "run", *words, f"--cpu={self.level}", "--", *given):
             return False
-        shutil.copy(f"{folder}/out/{TOP}", f"{self.program}-{self.level}")
+        shutil.copy(f"{folder}/out/{name}", f"{self.made}/{program}-{self.level}")
         return True
 
     def tell(self, name):
@@ -248,7 +265,7 @@ class Build:
                     self.tell(name)
                 if os.getppid() != parent:
                     self.end()
-                    return next(iter(waiting), TOP)
+                    return next(iter(waiting), self.crates[-1])
         return None
 
     def end(self):
@@ -278,10 +295,10 @@ def room_of(tree):
         shutil.rmtree(room, ignore_errors=True)
 
 
-def build_for(tree, program, level):
-    """Builds the program for a level, and returns whether it could."""
+def build_for(tree, made, level):
+    """Builds the programs for a level, and returns whether it could."""
     with room_of(tree) as room:
-        build, signals = Build(tree, program, level, room), (signal.SIGINT, signal.SIGTERM, signal.SIGHUP)
+        build, signals = Build(tree, made, level, room), (signal.SIGINT, signal.SIGTERM, signal.SIGHUP)
 
         def stop(number, _):
             for it in signals:
@@ -301,8 +318,8 @@ def build_for(tree, program, level):
     return not failed
 
 
-def main(tree, program, *levels):
-    return 0 if all(build_for(tree, program, level) for level in levels) else 1
+def main(tree, made, *levels):
+    return 0 if all(build_for(tree, made, level) for level in levels) else 1
 
 
 if __name__ == "__main__":

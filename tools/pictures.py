@@ -15,12 +15,12 @@ import sys
 from drawing import ROOT, box, label, made, picture, text_of
 from layer_layout import direct, ordered, ranks, reach, spread, uses_of, with_threads
 
-PROGRAM = "geli_cli"
+PROGRAMS = ("geli_cli", "geli_nbd")
 BOX, ROW, EDGE = 30, 88, 24
 
 # How deep a call stands below the first, the crate, its calls, and what it does for the line `write a.img 0 00..`.
 STEPS = [
-    (0, "image_run", ["run_words"], "opens the images that the words name, and hands on their disks"),
+    (0, "image_run", ["run_files"], "opens the images that the words name, and hands on their disks"),
     (1, "geli_core", ["run_over", "serve_and_print"], "takes the script in pieces, and serves each line as it ends"),
     (2, "command_words", ["read_line"], "reads the line as a command, or says what is wrong with its words"),
     (2, "shelf", ["serve", "serve_request"], "finds the drawer, and decodes the digits into the buffer"),
@@ -44,12 +44,13 @@ def sources(crate):
 
 
 def kind_of(crate, uses):
-    """Whether a crate has laws alone, is part of the program, or is for tests and measurements."""
+    """Whether a crate has laws alone, is part of a program, or is for tests and measurements."""
     text = sources(crate)
     calls = len(re.findall(r"^\s*(?:pub(?:\(crate\))? )?(?:const )?fn ", text, re.M))
     if calls and calls == len(re.findall(r"^\s*\{\s*\}\s*$|\{\}\s*$", text, re.M)):
         return "law"
-    return "code" if crate == PROGRAM or crate in reach(uses, PROGRAM) else "test"
+    is_reached = any(crate == it or crate in reach(uses, it) for it in PROGRAMS)
+    return "code" if is_reached else "test"
 
 
 def width_of(crate):

@@ -9,7 +9,7 @@ set -u
 top=$(cd "$(dirname "$(readlink -f "${BASH_SOURCE[0]}")")/.." && pwd)
 program=$(readlink -f "${1:-$top/geli}")
 folder=$(mktemp -d)
-trap 'umount "$folder/small" 2>/dev/null; [ -z "${loop:-}" ] || losetup -d "$loop"; rm -rf "$folder"' EXIT
+trap 'umount "$folder"/{small,one,two} 2>/dev/null; [ -z "${loop:-}" ] || losetup -d "$loop"; rm -rf "$folder"' EXIT
 cd "$folder" || exit 2
 umask 022
 failures=0
@@ -98,6 +98,16 @@ if mkdir small && mount -t tmpfs -o size=64k tmpfs small 2>/dev/null; then
     says "  the old one stands" test "$(cat small/b)" = old
     says "  and no other file is left" test "$(ls small)" = "$(printf 'b\nfull')"
     umount small
+    mkdir one two
+    mount -t tmpfs -o size=64k tmpfs one && mount -t tmpfs -o size=64k tmpfs two
+    head -c 1536 /dev/zero >one/a.img && head -c 1536 /dev/zero >two/a.img
+    if [ "$(stat -c %i one/a.img)" = "$(stat -c %i two/a.img)" ]; then
+        says "two images with one inode number on two file systems are two" test "$(for at in one two; do
+            printf '%s\n' "init -P -K k.key $at/a.img" "attach -p -k k.key $at/a.img"; done | "$program" script one/a.img two/a.img | paste -sd,)" = ok,ok,ok,ok
+    else
+        echo "not tried: one inode number on two file systems (they number otherwise)"
+    fi
+    umount one two
 else
     echo "not tried: a full disk (no tmpfs)"
 fi
@@ -321,6 +331,11 @@ if strace -qq -o traced -e inject=fdatasync:error=EIO:when=1 true 2>/dev/null; t
     says "where a look at two sectors fails they are read one by one" test "$(broken pread64:error=EIO:when=2 <<<"$both")" = "ok,ok,ok ${b:0:21},ok ${b:0:21},ok ${b:0:21},ok"
     says "  in two reads" test "$(grep -c pread64 traced)" = 6
     says "a read that fails is told" test "$(broken pread64:error=EIO:when=2..3 <<<"$both")" = "ok,ok,$fault,ok ${b:0:21},ok ${b:0:21},ok"
+    fresh
+    strace -qq -y -o traced -e trace=fsync,fdatasync,rename,renameat,renameat2 "$program" init -P -K k.key -B b c.img >out
+    steps=$(sed -nE "s|^fsync\([0-9]+<$PWD/(b\.new[0-9]+)>.*|sync \1|p; s|^fsync\([0-9]+<$PWD>.*|sync folder|p
+        s|^rename[a-z0-9]*\(.*\"(b\.new[0-9]+)\", .*\"b\".*|name \1|p" traced | paste -sd,)
+    says "a stored file is synced before it gets its name, and its folder after that" test "$steps" = "sync b.new0,name b.new0,sync folder"
 else
     echo "not tried: calls of the system that fail (no strace)"
 fi

@@ -4,11 +4,13 @@
 #
 #   tools/try_examples.sh [PROGRAM]      without a word: the program that ./geli runs
 #
+# GELI_NBD names the other program, without it that which ./geli-nbd runs.
 # What serves a block device is tried with the clients that are there: nbdcopy, nbdinfo, nbdsh, nbdfuse with fuse2fs.
 set -u
 top=$(cd "$(dirname "$(readlink -f "${BASH_SOURCE[0]}")")/.." && pwd)
 GELI=$(readlink -f "${1:-$top/geli}")
-export GELI
+GELI_NBD=$(readlink -f "${GELI_NBD:-$top/geli-nbd}")
+export GELI GELI_NBD
 folder=$(mktemp -d)
 trap 'rm -rf "$folder"' EXIT
 cd "$folder" || exit 2
@@ -32,11 +34,11 @@ have() {
     for name; do command -v "$name" >/dev/null || return 1; done
 }
 
-# The page is laid out without a warning.
+# The pages are laid out without a warning.
 if command -v groff >/dev/null; then
-    says "the page is laid out" test -z "$(groff -mandoc -Tutf8 -ww "$top/man/geli.8" 2>&1 >/dev/null)"
+    says "the pages are laid out" test -z "$(for it in "$top"/man/*; do groff -mandoc -Tutf8 -ww "$it"; done 2>&1 >/dev/null)"
 fi
-# The page's examples, run by one shell: a command stands behind `$ `, goes on behind a `\` and down to the EOF of its
+# The examples of geli(8), run by one shell: a command stands behind `$ `, goes on behind a `\` and down to the EOF of its
 # input, and what stands below it is what it prints.
 sed -n '/^\.Sh EXAMPLES/,/^\.Sh DIAGNOSTICS/p' "$top/man/geli.8" | sed -n '/^\.Bd/,/^\.Ed/p' | grep -v '^\.[BE]d' | sed 's/\\e/\\/g' >shown
 awk '
@@ -46,7 +48,7 @@ awk '
 ' shown
 trial words
 trial wanted
-mkdir bin && ln -s "$GELI" bin/geli
+mkdir bin && ln -s "$GELI" bin/geli && ln -s "$GELI_NBD" bin/geli-nbd
 mkdir page
 (cd page && PATH=$folder/bin:$PATH bash ../words >../printed 2>&1)
 says "the examples of the page" diff wanted printed
@@ -68,6 +70,8 @@ says "make-provider.sh overwrites nothing" test ! "$("$make" -i 100 -J pass 1048
 says "make-provider.sh makes an authenticated provider" "$make" -a -i 100 -J pass 262144 b.img key b.backup 2>notes
 
 says "  every sector of which can be read" grep -q 'of 4096 bytes, 0 of them unreadable' <("$top/examples/after-a-power-failure.sh" -k key -j pass b.img 2>notes)
+says "  which says that it didn't look at the filesystem" grep -q '^The filesystem in it was not looked at: mount' \
+    <("$top/examples/after-a-power-failure.sh" -k key -j pass b.img 2>notes)
 says "  of a size such as 1M" test "$("$make" -i 100 -J pass 1M m.img key m.backup 2>notes; stat -c %s m.img)" = 1048576
 says "  and of no other" test "$("$make" -i 100 -J pass 1MB n.img key n.backup 2>&1 | grep -c 'no number of bytes')" = 1 -a ! -e n.img
 says "  nor of more than an image can have" test "$("$make" -i 100 -J pass 8192T n.img key n.backup 2>&1 | grep -c 'more than')" = 1
@@ -234,6 +238,15 @@ mkdir amiss && cd amiss || exit 2
 cp ../pass ../key .
 here=$folder/amiss
 "$make" -i 100 -J pass 1M a.img key a.backup 2>notes
+says "a disk is no key file" test "$("$in" -k /dev/zero -j pass pass a.img 2>&1 | grep -c 'more than 1 MiB')" = 1
+says "  nor is standard input that is called -" test "$("$in" -k key -j - pass a.img 2>&1 | grep -c '/dev/stdin')" = 1
+says "a backup is not the key file" test "$("$make" -i 100 -J pass 1M no.img same same 2>&1 |
+    grep -c 'are one file')" = 1
+says "  and nothing is made" test ! -e no.img -a ! -e same
+says "a backup by a name that is no UTF-8 is refused" test "$("$make" -i 100 -J pass 1M no.img key $'caf\xe9' 2>&1 |
+    grep -c 'is no UTF-8')" = 1 -a ! -e no.img
+says "a key file that can't be made is told" test "$("$make" -i 100 -J pass 1M no.img none/key no.backup 2>&1)" = \
+    "make-provider.sh: the key file 'none/key' can't be made"
 says "a passphrase comes by a pipe" "$in" -k key -j <(cat pass) pass a.img 2>notes
 says "  and by standard input" "$out" -b 13 -k key -j /dev/stdin a.img standard.out 2>notes <pass
 says "  which gives what was copied in" cmp pass standard.out
@@ -341,12 +354,21 @@ says "geli-info.sh says what it is" grep -q '^cipher: AES-XTS, 256 bits$' <("$in
 says "  and how its data are authenticated" grep -q '^authentication: HMAC/SHA256$' <("$info" half.img)
 says "  and of what size" grep -q '^data: 113 sectors of 4096 bytes, ' <("$info" half.img)
 says "  and that a key opens it" grep -q '^this key: opens slot 0$' <("$info" -k key -j pass half.img)
-says "  and that another doesn't" test "$("$info" -k key half.img | tail -n 1; echo "${PIPESTATUS[0]}")" = "$(printf "this key: doesn't open it\n1")"
+says "  and that another doesn't" test "$("$info" -k key half.img | tail -n 1; echo "${PIPESTATUS[0]}")" = \
+    "$(printf "this key file without a passphrase: doesn't open it (-j names the passphrase's file)\n1")"
 says "  and all of it in JSON" python3 -c 'import json, sys; facts = json.load(sys.stdin); assert (facts["sectors"], facts["slots_with_keys"], facts["key_opens_slot"]) == (113, [0], 0)' < <("$info" --json -k key -j pass half.img)
 says "  and where there is none" test "$("$info" pass 2>&1 | grep -c '^geli-info.sh: pass: error 35')" = 1
 says "why.sh says what is wrong with words" test "$("$why" init -s 4k -P -K key a.img | head -n 1)" = "word 3, '4k': this is no decimal number, or it is out of its bounds (write 4096 and not 4k)"
 says "  and that nothing is" "$why" kill 'a name.img' >reply
 says "  and runs nothing" "$GELI" attach -C -k key -j pass half.img >reply
+says "  and that an attaching doesn't stay" grep -q 'nothing stays attached.*mount-provider.sh' \
+    <("$why" attach -p -k a b)
+says "why.sh says what a refusal is" grep -q "^15 WrongKey: No slot opens" <("$why" error 15 WrongKey)
+says "  each that geli(8) has" test "$(for at in {1..48}; do "$why" error $at >reply && echo; done | wc -l)" = 48
+says "  and no other" test "$("$why" error 49 >reply; echo $?)" = 1
+for verb in status version label stop load unload onetime configure clear; do
+    says "  and what does the work of FreeBSD's $verb" test "$("$why" "$verb" x | grep -c "^$verb: ")" = 1
+done
 for words in 'foo' 'init -Z a' 'init -s' 'resize a.img' 'write a.img 0 xyz' 'init -a foo b' 'attach -p -j x y' 'script a a' 'read a' 'init -K - a' 'delkey -a -n 0 a'; do
     # shellcheck disable=SC2086 # they are words
     says "  of: $words" test "$("$why" $words >reply; echo $?)" = 1 -a "$(grep -c 'error\|geli says' reply)" = 0
@@ -355,7 +377,7 @@ cd "$folder" || exit 2
 
 # A provider as a network block device, for clients of other makers.
 uri="nbd+unix:///?socket=$folder/sock"
-if have nbdkit nbdcopy nbdinfo && nbdkit --dump-plugin python >commands 2>&1; then
+if have nbdkit nbdcopy nbdinfo; then
     "$make" -i 100 -J pass 8M f.img key f.backup 2>notes
     head -c 8380416 /dev/urandom >data
     says "serve-nbd.sh refuses a wrong key" test "$("$serve" -k key -j wrong f.img sock 2>&1 | grep -c 'error 15 WrongKey: wrong\|nothing is served')" = 2
@@ -397,30 +419,8 @@ EOF
     says "  and leaves nothing behind" test ! -e sock -a ! -e sock.pid -a ! -e sock.ended
     says "  and the data are there" "$out" -b 8380416 -k key -j pass f.img f.out 2>notes
     says "  the same bytes" cmp data f.out
-    # Writes that are refused while there is no room, and made again or not. A stand-in for geli refuses them while the
-    # file `full` is there; where a small disk can be mounted, FILLER fills it.
-    cat >standin <<EOS
-#!/usr/bin/env python3
-import os, subprocess, sys
-words = ["$GELI", *sys.argv[1:]]
-if words[1] != "script":
-    os.execv(words[0], words)
-geli = subprocess.Popen(words, stdin=subprocess.PIPE, stdout=subprocess.PIPE)
-for line in sys.stdin.buffer:
-    rows = []
-    if line.startswith(b"write ") and os.path.exists("$folder/full"):
-        rows.append(b"error 26 DeviceFault\n")
-    else:
-        geli.stdin.write(line)
-        geli.stdin.flush()
-    while not rows or not rows[-1].startswith((b"ok", b"error ")):
-        rows.append(geli.stdout.readline())
-    sys.stdout.buffer.write(b"".join(rows))
-    sys.stdout.buffer.flush()
-geli.stdin.close()
-sys.exit(geli.wait())
-EOS
-    chmod +x standin
+    # Writes that are refused: of a part of a sector that can't be read, and where there is no room. Each is answered so
+    # at once, and the end tells it, also where all was written again: a filesystem may give the place to another file.
     cat >refused.py <<'EOS'
 import errno, os
 import nbd
@@ -432,143 +432,64 @@ def refused(work, *words):
         return failed.errnum == errno.EIO
     return False
 
-def fill():
-    with open(filler or "full", "ab", buffering=0) as file:
-        try:
-            while filler:
-                file.write(bytes(4096))
-        except OSError as failed:
-            assert failed.errno == errno.ENOSPC
-
-def empty():
-    os.truncate(filler, 0) if filler else os.remove("full")
-
-filler, at, again = os.getenv("FILLER"), int(os.environ["AT"]), os.environ["AGAIN"]
-h.pwrite(b"a" * 8192, at)
-fill()
-assert refused(h.pwrite, b"b" * 8192, at + 65536)  # what is gathered must be written first
-assert refused(h.pwrite, b"c" * 8192, at - 4096)
-empty()
-h.flush()
-assert h.pread(8192, at) == b"a" * 8192
-if again == "some":
-    h.pwrite(b"d" * 4096, at + 65536)
-    h.pwrite(b"d" * 8192, at - 4096)
-if again == "all":
-    h.pwrite(b"d" * 12288, at - 4096)
-    h.pwrite(b"d" * 8192, at + 65536)
-h.flush()
 EOS
-    refused_writes() { # AGAIN AT: what is said at the end, and the status
-        "$serve" -k key -j pass "$small" sock 2>notes
-        AGAIN=$1 AT=$2 nbdsh -u "$uri" -c - <refused.py
-        "$serve" -e sock 2>&1
-        echo $?
+    lost="serve-nbd.sh: what clients wrote may be lost: a write or a flush was refused"$'\n1'
+    ended() { # what is said at the end, but for the reason, and the status
+        "$serve" -e sock 2>&1 | sed 's/ (.*)$//'
+        echo "${PIPESTATUS[0]}"
     }
-    lost='serve-nbd.sh: what clients wrote may be lost: refused or dropped, and not written again: bytes'
-    try_refused_writes() { # HOW
-        says "a write that was refused, $1, is told at the end" test "$(refused_writes none 2097152)" = "$lost 2093056 to 2101247, 2162688 to 2170879"$'\n1'
-        says "  and what is left of it" test "$(refused_writes some 2359296)" = "$lost 2428928 to 2433023"$'\n1'
-        says "  and none where all was written again" test "$(refused_writes all 2621440)" = $'sock: ended, all is flushed\n0'
-    }
-    if nbdsh -c pass 2>commands; then
-        "$make" -i 100 -J pass 4M refused.img key refused.backup 2>notes
-        GELI=$folder/standin small=refused.img try_refused_writes 'by a stand-in'
-    fi
-    # Writes to a part of a sector that can't be read.
     if nbdsh -c pass 2>commands; then
         truncate -s 2M part.img && "$GELI" init -s 4096 -a HMAC/SHA256 -P -K key part.img >out
-        sed '/^filler, /,$d' refused.py >part.py && cp part.py again.py
+        cp refused.py part.py
         cat >>part.py <<'EOS'
-h.pwrite(b"a" * 512, 4096)
+assert refused(h.pwrite, b"a" * 512, 4096)
+h.flush()
 h.pwrite(b"b" * 4096, 65536)
 assert h.pread(4096, 65536) == b"b" * 4096
 assert refused(h.pread, 512, 4096)
-assert refused(h.flush)
-h.flush()
-h.pwrite(b"c" * 12288, 20480 - 100)  # a part, two whole sectors and a part
+assert refused(h.pwrite, b"c" * 12288, 20480 - 100)  # a part, two whole sectors and a part: nothing of it is written
+assert refused(h.pread, 8192, 20480)
 h.pwrite(b"d" * 4096, 4096)
-assert h.pread(4096, 4096) + h.pread(8192, 20480) == b"d" * 4096 + b"c" * 8192
-assert refused(h.flush)
+h.pwrite(b"e" * 512, 4096 + 512)
+assert h.pread(4096, 4096) == b"d" * 512 + b"e" * 512 + b"d" * 3072
 h.flush()
 EOS
-        cat >>again.py <<'EOS'
-h.pwrite(b"e" * 100, 16484)
-h.pwrite(b"f" * 100, 131072)
-assert refused(h.pwrite, b"g" * 200000, 300000)  # written at once
-h.pwrite(b"h" * 8192, 16384)
-h.pwrite(b"h" * 4096, 131072)
-h.flush()  # nothing is left to be told
-for at in 28672, 299008, 499712:
-    h.pwrite(b"i" * 4096, at)
-h.pwrite(b"j" * 5, 30000)
-h.pwrite(b"k" * 5, 30005)
-h.flush()
-assert h.pread(14, 29998) == b"iijjjjjkkkkkii"
-assert h.pread(196608, 303104) == b"g" * 196608
-EOS
         "$serve" -p -k key part.img sock 2>notes
-        says "a write to a part of a sector that can't be read is told by one flush, and others go on" nbdsh -u "$uri" -c - <part.py
-        says "  and at the end" test "$("$serve" -e sock 2>&1; echo $?)" = "$lost 20380 to 20479, 28672 to 32667"$'\n1'
+        says "a write to a part of a sector that can't be read is refused, and others go on" nbdsh -u "$uri" -c - <part.py
+        says "  and that is told at the end" test "$(ended)" = "$lost"
         "$serve" -p -k key part.img sock 2>notes
-        says "  and not where all was written again" nbdsh -u "$uri" -c - <again.py
-        says "  nor at the end" test "$("$serve" -e sock 2>&1; echo $?)" = $'sock: ended, all is flushed\n0'
+        says "  and nothing is, where none was refused" test "$(nbdsh -u "$uri" -c 'h.pwrite(b"f" * 512, 4096)'
+            ended)" = $'sock: ended, all is flushed\n0'
     else
-        echo "not tried: requests in a server's memory (no nbdsh)"
+        echo "not tried: writes to a part of a sector (no nbdsh)"
     fi
-    # Writes that are gathered, on a disk that is full for a while.
-    if nbdsh -c pass 2>commands && mkdir gather && mount -t tmpfs -o size=2500k gather gather 2>commands; then
-        "$make" -i 100 -J pass 4M gather/g.img key g.backup 2>notes
-        cp "$top/README.md" gather/filler
-        "$serve" -k key -j pass gather/g.img sock 2>notes
-        cat >gathered.py <<'EOS'
-import errno, os, sys
-import nbd
-
-def refused(work, *words):
+    if nbdsh -c pass 2>commands && mkdir small.d && mount -t tmpfs -o size=2500k small.d small.d 2>commands; then
+        "$make" -i 100 -J pass 4M small.d/s.img key s.backup 2>notes
+        cat >>refused.py <<'EOS'
+at = 1 << 20
+h.pwrite(b"a" * 8192, at)
+with open("small.d/filler", "ab", buffering=0) as filler:
     try:
-        work(*words)
-    except nbd.Error as failed:
-        return failed.errnum == errno.EIO
-    return False
-
-filler = open("gather/filler", "ab")
-small = [bytes([number]) * 4096 for number in range(1, 9)]
-for number, piece in enumerate(small):  # gathered
-    h.pwrite(piece, number * 4096)
-assert h.pread(8192, 4096) == small[1] + small[2]
+        while True:
+            filler.write(bytes(4096))
+    except OSError as failed:
+        assert failed.errno == errno.ENOSPC
+assert refused(h.pwrite, b"b" * 8192, at + 65536)
+h.pwrite(b"c" * 8192, at)  # there is room for it already
+os.truncate("small.d/filler", 0)
+if os.environ["AGAIN"]:
+    h.pwrite(b"b" * 8192, at + 65536)
 h.flush()
-try:
-    while True:
-        filler.write(bytes(4096))
-        filler.flush()
-except OSError as failed:
-    assert failed.errno == errno.ENOSPC
-for number, piece in enumerate(small):  # there is no room for them
-    h.pwrite(piece, 1 << 20 | number * 4096)
-assert refused(h.flush)
-assert refused(h.flush)
-assert refused(h.pread, 4096, 1 << 20)
-assert h.pread(4096, 4096) == small[1]
-os.truncate("gather/filler", 0)
-h.flush()  # now there is
-assert h.pread(8 * 4096, 1 << 20) == b"".join(small)
-h.pwrite(b"between", (1 << 20) + 4090)
-h.pwrite(b" them", (1 << 20) + 4097)
-assert h.pread(16, (1 << 20) + 4088) == b"\1\1between them\2\2"
+assert h.pread(8192, at) == b"c" * 8192
 EOS
-        says "a gathered write that fails is told by the next flush" nbdsh -u "$uri" -c - <gathered.py
-        says "  and what was gathered at the end is written" "$serve" -e sock 2>notes
-        says "  indeed" test "$("$out" -b 1056768 -k key -j pass gather/g.img g.out 2>notes; tail -c +1052665 g.out | head -c 16 | tr '\1\2' '..')" = '..between them..'
-        "$serve" -k key -j pass gather/g.img sock 2>notes
-        nbdsh -u "$uri" -c 'h.pwrite(b"x" * 4096, 3 << 20)'
-        head -c 4M /dev/zero >gather/filler 2>commands
-        says "  and one that fails at the end is told there" test "$("$serve" -e sock 2>&1 | grep -c 'may be lost: .*its file system is full')" = 1
-        : >gather/filler
-        FILLER=gather/filler small=gather/g.img try_refused_writes 'on a full disk'
-        umount gather
+        for again in '' yes; do
+            "$serve" -k key -j pass small.d/s.img sock 2>notes
+            says "a write on a full disk is refused${again:+, and made again}" env AGAIN=$again nbdsh -u "$uri" -c - <refused.py
+            says "  and that is told at the end" test "$(ended)" = "$lost"
+        done
+        umount small.d
     else
-        echo "not tried: gathered writes on a full disk (no nbdsh, or no mount of a tmpfs)"
+        echo "not tried: writes on a full disk (no nbdsh, or no mount of a tmpfs)"
     fi
     says "serve-nbd.sh -r serves it to be read alone" "$serve" -r -k key -j pass f.img sock 2>notes
     says "  indeed" nbdinfo --is readonly "$uri"
@@ -611,11 +532,12 @@ EOS
         echo "not tried: a partition of a disk image (no loop device)"
     fi
 else
-    echo "not tried: a network block device (no nbdkit with python, nbdcopy and nbdinfo)"
+    echo "not tried: a network block device (no nbdkit, nbdcopy and nbdinfo)"
 fi
 
 # A filesystem that is mounted by one command.
 mount=$top/examples/mount-provider.sh
+export GELI_MOUNTS=$folder/behind
 if have nbdkit nbdfuse fuse2fs mke2fs e2fsck fusermount3 blkid && [ -w /dev/fuse ]; then
     mkdir "$folder/mounts" && cd "$folder/mounts" || exit 2
     cp ../pass ../key .
@@ -631,7 +553,7 @@ if have nbdkit nbdfuse fuse2fs mke2fs e2fsck fusermount3 blkid && [ -w /dev/fuse
     says "  and one that stays open" sh -c 'exec 9>"$1/open"; ! "$2" -u "$1" 2>../busy' - "$files" "$mount"
     says "  is told" grep -q 'is in use' ../busy
     says "  and it is unmounted" "$mount" -u "$files" 2>notes
-    says "  with nothing behind it left" test -z "$(ls "/tmp/geli-mounts-$(id -u)")"
+    says "  with nothing behind it left" test -z "$(ls "$GELI_MOUNTS")"
     says "  and mounted again, to be read alone" "$mount" -r -k key -j pass m.img "$files" 2>notes
     says "  with the file" cmp "$top/README.md" "$files/README.md"
     says "  indeed" test ! "$(touch "$files/none" 2>&1)" = ''
@@ -639,14 +561,16 @@ if have nbdkit nbdfuse fuse2fs mke2fs e2fsck fusermount3 blkid && [ -w /dev/fuse
     "$out" -k key -j pass m.img m.out 2>notes
     says "  the filesystem is clean" e2fsck -fn m.out >commands 2>&1
     says "  and it is never made anew" test "$("$mount" -m -k key -j pass m.img "$files" 2>notes && cat "$files/README.md" && "$mount" -u "$files" 2>notes)" = "$(cat "$top/README.md")"
-    # Where the folder behind the mounts is another user's, by a user number that none has.
-    mkdir numbers planted && printf '#!/bin/sh\necho %s\n' "${folder##*/}" >numbers/id && chmod +x numbers/id
+    # Where the folder behind the mounts is a link that another user may have made.
+    mkdir planted
     mkdir "planted/$(realpath "$files" | tr -d '\n' | sha256sum | cut -c1-16)"
-    another=/tmp/geli-mounts-${folder##*/}
+    another=$folder/another
     ln -s "$PWD/planted" "$another"
-    says "another's folder behind the mounts is told" test "$(PATH=$PWD/numbers:$PATH "$mount" -u "$files" 2>&1; echo $?)" = "mount-provider.sh: '$another' is another user's"$'\n1'
+    says "another's folder behind the mounts is told" test "$(GELI_MOUNTS=$another "$mount" -u "$files" 2>&1
+        echo $?)" = "mount-provider.sh: '$another' is another user's"$'\n1'
     says "  and left alone" test "$(ls planted | wc -l)" = 1
-    says "  and nothing is mounted by it" test "$(PATH=$PWD/numbers:$PATH "$mount" -k key -j pass m.img "$files" 2>&1 | grep -c "is another user's")" = 1
+    says "  and nothing is mounted by it" test "$(GELI_MOUNTS=$another "$mount" -k key -j pass m.img "$files" 2>&1 |
+        grep -c "is another user's")" = 1
     rm "$another"
     says "a wrong key is told" test "$("$mount" -k key -j key m.img "$files" 2>&1 | grep -c 'error 15 WrongKey: wrong')" = 1
     head -c 300K /dev/urandom >other && "$in" -k key -j pass other m.img 2>notes
@@ -657,28 +581,41 @@ if have nbdkit nbdfuse fuse2fs mke2fs e2fsck fusermount3 blkid && [ -w /dev/fuse
     rm "$files/there"
     "$in" -k key -j pass m.out m.img 2>notes
     "$mount" -k key -j pass m.img "$files" 2>notes
-    says "a server that dies is told" test "$(kill -9 "$(cat /tmp/geli-mounts-"$(id -u)"/*/sock.pid)"; sleep 1; "$mount" -u "$files" 2>&1 | grep -c 'may be lost')" -ge 1
-    says "  and nothing is left" test -z "$(ls "/tmp/geli-mounts-$(id -u)")"
-    if [ -x ../standin ] && nbdsh -c pass 2>commands; then
-        GELI=$folder/standin "$mount" -k key -j pass m.img "$files" 2>notes
-        cat >refused.py <<EOS
-import os
-same, refused = h.pread(4096, 1 << 19), 0
-h.pwrite(same, 1 << 19)
-open("$folder/full", "w").close()
+    says "a server that dies is told" test "$(kill -9 "$(pgrep -f "^python3 .*ended=$GELI_MOUNTS/")"; sleep 1
+        "$mount" -u "$files" 2>&1 | grep -c 'may be lost')" -ge 1
+    says "  and nothing is left" test -z "$(ls "$GELI_MOUNTS")"
+    mkdir full.d
+    if command mount -t tmpfs -o size=2500k full.d full.d 2>commands; then
+        cp --sparse=always m.img full.d/
+        "$mount" -k key -j pass full.d/m.img "$files" 2>notes
+        cat >refused.py <<'EOS'
+import os, sys
+disk = os.open(sys.argv[1], os.O_RDWR)
+same, refused = os.pread(disk, 4096, 1 << 19), 0
+os.pwrite(disk, same, 1 << 19)
+filler = os.open("full.d/filler", os.O_WRONLY | os.O_CREAT)
 try:
-    h.pwrite(h.pread(4096, 1 << 20), 1 << 20)
-except nbd.Error:
+    while True:
+        os.write(filler, bytes(4096))
+except OSError:
+    pass
+at = (1 << 20) + (1 << 19)
+try:
+    os.pwrite(disk, os.pread(disk, 65536, at), at)
+except OSError:
     refused = 1
-os.remove("$folder/full")
-h.flush()
+os.ftruncate(filler, 0)
+os.fsync(disk)
 assert refused
 EOS
-        says "a write that a mount refuses" nbdsh -u "nbd+unix:///?socket=$(echo "/tmp/geli-mounts-$(id -u)"/*/sock)" -c - <refused.py
-        says "  is told when it is unmounted" test "$("$mount" -u "$files" 2>&1; echo $?)" = $'serve-nbd.sh: what clients wrote may be lost: refused or dropped, and not written again: bytes 1048576 to 1052671\n1'
-        says "  and nothing is left" test -z "$(ls "/tmp/geli-mounts-$(id -u)")"
+        says "a write that a mount refuses" python3 refused.py "$(echo "$GELI_MOUNTS"/*/disk/nbd)"
+        says "  is told when it is unmounted" test "$("$mount" -u "$files" 2>&1 | sed 's/ (.*)$//'
+            echo "${PIPESTATUS[0]}")" = "mount-provider.sh: $(realpath "$files"): what was written may be lost: \
+a write or a flush was refused"$'\n1'
+        says "  and nothing is left" test -z "$(ls "$GELI_MOUNTS")"
+        umount full.d
     else
-        echo "not tried: a write that a mount refuses (no nbdsh)"
+        echo "not tried: a write that a mount refuses (no mount of a tmpfs)"
     fi
     if command -v makefs >commands && command -v grub-mount >commands; then
         mkdir tree && cp "$top/README.md" tree/
@@ -737,7 +674,7 @@ while True:
 sys.stdout.buffer.write(said)
 sys.exit(os.waitstatus_to_exitcode(os.waitpid(process, 0)[1]))
 EOF
-    typed() { (cd fresh && PATH=$folder/bin:$top/examples:$PATH env -u GELI python3 ../type.py ../block >../typed); }
+    typed() { (cd fresh && PATH=$folder/bin:$top/examples:$PATH env -u GELI -u GELI_NBD python3 ../type.py ../block >../typed); }
     SECONDS=0
     says "the README's filesystem, typed" typed
     echo "  ($SECONDS seconds)"
@@ -795,6 +732,30 @@ progress.end("67108864 bytes")
 EOF
 says "how far it is, at a terminal" test "$(shown '' python3 slow.py | grep -c '25 %, 16 of 64 MiB, .* left')" = 1
 says "  and nothing but the end elsewhere" test "$(python3 slow.py 2>&1 | grep -c ' left')" = 0
+says "a wait is told at a terminal" test "$(shown '' "$make" -i 100 -J pass 1M waits.img key waits.backup |
+    grep -c '^making the key, and trying it \.\.\.')" = 1
+says "  and not elsewhere" test "$("$make" -i 100 -J pass 1M waits2.img key waits2.backup 2>&1 | grep -c '\.\.\.')" = 0
+head -c 2M /dev/urandom >used.disk && cp used.disk before
+says "a used disk is left alone where another name is typed" test "$(shown $'other\n' "$make" -d -i 100 -J pass \
+    used.disk key used.backup | grep -c 'nothing was changed: the names differ')" = 1
+says "  indeed" cmp used.disk before
+says "  and where nobody can be asked" test "$(setsid "$make" -d -i 100 -J pass used.disk key used.backup 2>&1 \
+    </dev/null | grep -c 'nothing was changed')" = 1
+says "  indeed" cmp used.disk before
+says "  and a provider is made over it where its own is" shown $'used.disk\n' "$make" -d -i 100 -J pass \
+    used.disk key used.backup >notes
+says "  which opens" "$GELI" attach -C -k key -j pass used.disk >out
+if have nbdkit nbdfuse fuse2fs mke2fs fusermount3 blkid && [ -w /dev/fuse ]; then
+    mkdir used
+    says "  in which -m makes no filesystem" test "$("$mount" -m -k key -j pass used.disk used 2>&1 |
+        grep -c -- '-M makes')" = 1
+    says "  nor -M where another name is typed" test "$(shown $'other\n' "$mount" -M -k key -j pass used.disk used |
+        grep -c 'the names differ')" = 1
+    says "  but where its own is" shown $'used.disk\n' "$mount" -M -k key -j pass used.disk used >notes
+    says "  and it is unmounted" "$mount" -u used 2>notes
+else
+    echo "not tried: a filesystem over a used disk (no nbdkit, nbdfuse, fuse2fs, or /dev/fuse)"
+fi
 interrupted() { shown "$(printf '\3')" "$make" -i 100 1M asked.img key asked.backup >notes; [ $? = 130 ]; }
 says "an interrupt at the prompt ends with 130" interrupted
 says "  and leaves nothing" test ! -e asked.img -a ! -e asked.backup

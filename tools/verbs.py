@@ -4,9 +4,10 @@
     tools/verbs.py [--check | --names]
 
 In COMMANDS of the page each command stands with its words, and is marked if it is of use in scripts alone. Without an
-option this writes what follows from them into completions/geli.bash and examples/why.sh, between two comment lines:
-these files stand alone once installed, so they can't ask the page. With --check nothing is written, and each file that
-would change is named. --names prints what the first word behind `geli` may be.
+option this writes what follows from them into completions/geli.bash and examples/why.sh, and what DIAGNOSTICS says of
+each refusal into examples/refusals.txt, between two comment lines: these files stand alone once installed, so they
+can't ask the page. With --check nothing is written, and each file that would change is named. --names prints what the
+first word behind `geli` may be.
 
 It also says which verb COMMANDS has and the README's table of commands lacks, or the other way round, and which word
 COMPATIBILITY lists among the verbs that come from FreeBSD and is none. The status is 1 where something is found.
@@ -160,8 +161,41 @@ def lists():
     return array("verbs", [name for name in names() if name not in for_scripts]) + array("for_scripts", for_scripts)
 
 
+# A macro of mdoc(7) that a line of text may have, and how its words are written. Others are read over.
+MACROS = {"Fl": "-{}", "Sq": "'{}'", **dict.fromkeys(("Ar", "Cm", "Pa", "Sx", "Xr", "No"), "{}")}
+
+
+def plain(line):
+    """A line of the page without its macros."""
+    words, form, is_page = [], "{}", False
+    for word in line.lstrip(".").split() if line.startswith(".") else [line]:
+        if word in MACROS and line.startswith("."):
+            form, is_page = MACROS[word], word == "Xr"
+        elif word in (".", ",", ";", ":") and words:
+            words[-1] += word
+        elif is_page and word.isdigit():
+            words[-1] += f"({word})"
+        else:
+            words.append(form.format(word))
+    return " ".join(words)
+
+
+def refusals():
+    """A line for each refusal of DIAGNOSTICS: its number, its name, its fields, and what the page says of it."""
+    found, depth = [], 0
+    for line in section("DIAGNOSTICS").splitlines():
+        depth += line.startswith(".Bl") - line.startswith(".El")
+        if line.startswith(".It ") and depth == 1:
+            found.append(f"{plain('.No ' + line[4:])}:")
+        elif depth and line.startswith(".It "):
+            found[-1] += f" {plain('.No ' + line[4:])}:"
+        elif depth and not line.startswith((".Bl", ".El")):
+            found[-1] += f" {plain(line)}"
+    return "".join(f"{line}\n" for line in found)
+
+
 # The files with a printed part.
-PRINTED = {"completions/geli.bash": completions, "examples/why.sh": lists}
+PRINTED = {"completions/geli.bash": completions, "examples/why.sh": lists, "examples/refusals.txt": refusals}
 
 
 def with_part(file, part):

@@ -3,7 +3,7 @@
 ghost use Rattle.std.specs.Prelude.{◌≡◌};
 ghost use Rattle.backup_restore.specs.Saving.{Saves};
 
-use block_traits::{MetaPlace, Sector, load_last};
+use block_traits::{MetaPlace, Sector};
 use eli_base::Refusal;
 use eli_metadata::decode;
 
@@ -23,7 +23,7 @@ pub fn backup<P: MetaPlace>(place: &mut P, out: &mut Sector) -> Result<(), Refus
             size: 512 * sectors,
         });
     }
-    if load_last(place, out).is_err() {
+    if place.load(out).is_err() {
         return Err(Refusal::DeviceFault);
     }
     decode(out)?;

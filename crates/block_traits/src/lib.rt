@@ -22,6 +22,6 @@ pub use laws::{
     crash_image_is_torn, flush_keeps_the_present, kept_values_are_sectors,
     last_kept_value_is_present, torn_image_is_altered,
 };
-pub use meta_place::{LastSector, MetaPlace, load_last, store_last};
+pub use meta_place::{LastSector, MetaPlace, store_last};
 pub use overwriting::{Pass, overwrite, overwrite_last, passes};
 pub use streams::{Entropy, EntropyFailed, Sink, SinkFailed, Source, SourceFailed};

@@ -18,13 +18,26 @@ pub trait MetaPlace {
         ensures { result ≡ (state self.now).size };
 
     /// Reads sector `n`, once. After a failure `into` may hold any bytes.
-    fn load(&mut self, n: u64, into: &mut Sector) -> Result<(), DiskFailed>
+    fn load_sector(&mut self, n: u64, into: &mut Sector) -> Result<(), DiskFailed>
         requires { n < (state self.old).size }
         ensures bytes { OnOk result (Gives (state self.old) n into.new) }
         ensures ok { OnOk result (Logs [] (state self.old) (state self.new)) }
         ensures err { OnErr result (FailsIn [] (state self.old) (state self.new)) }
         ensures asked { Counted 1 (state self.old).reads (state self.new).reads }
         ensures rest { rest self.new ≡ rest self.old };
+
+    /// Reads the last sector, once. After a failure `into` may hold any bytes.
+    fn load(&mut self, into: &mut Sector) -> Result<(), DiskFailed>
+        requires { 0 < (state self.old).size }
+        ensures bytes { OnOk result (Gives (state self.old) (last_sector (state self.old)) into.new) }
+        ensures ok { OnOk result (Logs [] (state self.old) (state self.new)) }
+        ensures err { OnErr result (FailsIn [] (state self.old) (state self.new)) }
+        ensures asked { Counted 1 (state self.old).reads (state self.new).reads }
+        ensures rest { rest self.new ≡ rest self.old }
+    {
+        let last = self.sectors() - 1;
+        self.load_sector(last, into)
+    }
 
     /// Writes the last sector, and then flushes. Where it fails, the first of these two were done,
     /// or both, or none. It reads nothing.
@@ -70,26 +83,13 @@ impl<D: Disk> MetaPlace for LastSector<D> {
         self.disk.sectors()
     }
 
-    fn load(&mut self, n: u64, into: &mut Sector) -> Result<(), DiskFailed> {
+    fn load_sector(&mut self, n: u64, into: &mut Sector) -> Result<(), DiskFailed> {
         self.disk.read(n, into)
     }
 
     fn store(&mut self, from: &Sector) -> Result<(), DiskFailed> {
         store_last(&mut self.disk, from)
     }
-}
-
-/// Reads the last sector, once. After a failure `into` may hold any bytes.
-pub fn load_last<P: MetaPlace>(place: &mut P, into: &mut Sector) -> Result<(), DiskFailed>
-    requires { 0 < (P.state place.old).size }
-    ensures bytes { OnOk result (Gives (P.state place.old) (last_sector (P.state place.old)) into.new) }
-    ensures ok { OnOk result (Logs [] (P.state place.old) (P.state place.new)) }
-    ensures err { OnErr result (FailsIn [] (P.state place.old) (P.state place.new)) }
-    ensures asked { Counted 1 (P.state place.old).reads (P.state place.new).reads }
-    ensures rest { P.rest place.new ≡ P.rest place.old }
-{
-    let last = place.sectors() - 1;
-    place.load(last, into)
 }
 
 /// Writes the last sector of a disk, and then flushes. Where it fails, the first of these two were

@@ -16,7 +16,7 @@ mod values;
 mod verbs;
 
 pub use commands::{Command, JobWords, Usage};
-pub use images::{joined, script_images};
+pub use images::{ImageNames, copied_names, images_of, joined, provider_name, script_images};
 pub use lines::{LINE_LIMIT, command_in, read_line};
 pub use spans::{KeyWords, Sep, Span, SpanList};
 pub use verbs::{Needs, Traits};

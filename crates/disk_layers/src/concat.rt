@@ -128,6 +128,8 @@ impl<A: Disk, B: Disk> Disk for Concat<A, B> {
     fn count_reads(&mut self, many: u64)
         ensures asked { Counted many (concat_disk_of self.old).reads (concat_disk_of self.new).reads }
         ensures logs { Logs [] (concat_disk_of self.old) (concat_disk_of self.new) }
+        ensures first { Logs [] (A.state self.old.first) (A.state self.new.first) }
+        ensures first_asked { Counted many (A.state self.old.first).reads (A.state self.new.first).reads }
         ensures second { self.new.second ≡ self.old.second }
     {
         self.first.count_reads(many);

@@ -1,23 +1,28 @@
 //! A file whose sectors are those of a disk, and which tells what the disk does.
-ghost use Rattle.std.specs.Prelude.{◌≡◌, ◌*◌, None, Some};
+ghost use Rattle.std.specs.Prelude.{◌≡◌, ◌≤◌, ◌*◌, IfOk, None, Some, drop, length};
 
-use block_traits::Disk;
+use block_traits::{ByteList, Disk};
 use file_edge::{FileId, FileKind, Found, ImageFile};
-use std::io::{self, ErrorKind, Read};
+use std::alloc::Global;
+use std::io::{self, ErrorKind};
 
-/// A file over a disk, of which a read is a sector. As a reader it gives these bytes.
+/// A file over a disk, of which a read is a sector. From its front it gives these bytes, and tells them.
 #[derive(Drop)]
 pub struct DiskFile<D: Disk> {
     disk: D,
     id: FileId,
     bytes: Vec<u8>,
     given: usize,
+    ghost within: { given ≤ length bytes.items },
 }
 
 impl<D: Disk> DiskFile<D> {
     /// The file of a disk.
     pub fn new(disk: D, id: FileId, bytes: Vec<u8>) -> DiskFile<D>
-        ensures { result.disk ≡ disk }
+        ensures disk { result.disk ≡ disk }
+        ensures id { result.id ≡ id }
+        ensures bytes { result.bytes ≡ bytes }
+        ensures given { result.given ≡ 0 }
     {
         DiskFile {
             disk,
@@ -28,18 +33,6 @@ impl<D: Disk> DiskFile<D> {
     }
 }
 
-impl<D: Disk> Read for DiskFile<D> {
-    fn read(&mut self, into: &mut [u8]) -> io::Result<usize> {
-        if self.given >= self.bytes.len() {
-            return Ok(0);
-        }
-        let count = into.len().min(self.bytes.len() - self.given);
-        into[..count].copy_from_slice(&self.bytes[self.given..self.given + count]);
-        self.given += count;
-        Ok(count)
-    }
-}
-
 fn refused() -> io::Error {
     io::Error::from(ErrorKind::StorageFull)
 }
@@ -47,7 +40,7 @@ fn refused() -> io::Error {
 impl<D: Disk> ImageFile for DiskFile<D> {
     ghost use Rattle.edge_tests.specs.LoggedFile.{told_of};
 
-    ghost tells = { λ _ _. Unit {0} };
+    ghost tells = { λ file found. IfOk found (λ is. is.id ≡ file.id) };
 
     ghost locks = { λ _ _. Unit {0} };
 
@@ -62,6 +55,12 @@ impl<D: Disk> ImageFile for DiskFile<D> {
     ghost calls = { λ _. None };
 
     ghost told = { λ file. told_of (D.state file.disk) };
+
+    ghost left = { λ file. Some (drop file.given file.bytes.items) };
+
+    ghost fills = { λ _ _ _ _. Unit {0} };
+
+    ghost holds = { λ _ _ _. Unit {0} };
 
     fn found(&self) -> io::Result<Found> {
         Ok(Found {
@@ -112,6 +111,25 @@ impl<D: Disk> ImageFile for DiskFile<D> {
         match self.disk.flush() {
             Ok(()) => Ok(()),
             Err(_) => Err(refused()),
+        }
+    }
+
+    fn fill_all(&mut self, into: &mut [u8]) -> io::Result<()> {
+        let left = &self.bytes[self.given..];
+        if left.len() < into.len() {
+            return Err(refused());
+        }
+        into.copy_from_slice(&left[..into.len()]);
+        self.given += into.len();
+        Ok(())
+    }
+
+    fn read_all(self, alloc: Global, most: u64) -> io::Result<ByteList> {
+        let left = &self.bytes[self.given..];
+        let count = most.min(left.len() as u64) as usize;
+        match Vec::from_slice(alloc, &left[..count]) {
+            Ok(bytes) => Ok(ByteList::from_vec(bytes)),
+            Err(_) => Err(io::Error::from(ErrorKind::OutOfMemory)),
         }
     }
 }

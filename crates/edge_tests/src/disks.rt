@@ -1,7 +1,7 @@
 //! The disks of images over the system's own files.
 use block_traits::Disk;
 use file_edge::{FileDisk, FileId, FileKind, ImageFile, Opener, SystemFiles};
-use image_layers::{ImageDisk, open_image};
+use image_layers::open_image;
 use std::alloc::{AllocError, Global};
 use std::fs::{self, File, OpenOptions};
 use std::os::unix::fs::symlink;
@@ -106,11 +106,8 @@ fn ends<D: Disk>(disk: &mut D) -> bool {
 fn ends_image(rt: &HostRuntime, name: &str) -> Result<bool, Fail> {
     let mut opener = SystemFiles::new(rt.clone()?);
     let mut files = Vec::new(rt.alloc());
-    match open_image(rt.alloc(), &mut opener, &mut files, true, name)? {
-        ImageDisk::Plain(mut disk) => Ok(ends(&mut disk)),
-        ImageDisk::Behind(mut disk) => Ok(ends(&mut disk)),
-        ImageDisk::Join(mut disk) => Ok(ends(&mut disk)),
-    }
+    let mut image = open_image(rt.alloc(), &mut opener, &mut files, true, name)?;
+    Ok(ends(&mut image))
 }
 
 // Whether a file of three sectors is left with zeros, and these bytes in its last sector. It goes.
@@ -172,11 +169,8 @@ fn takes_run<D: Disk>(disk: &mut D, run: &[u8]) -> bool {
 fn takes_run_as(rt: &HostRuntime, name: &str, run: &[u8]) -> Result<bool, Fail> {
     let mut opener = SystemFiles::new(rt.clone()?);
     let mut files = Vec::new(rt.alloc());
-    match open_image(rt.alloc(), &mut opener, &mut files, true, name)? {
-        ImageDisk::Plain(mut disk) => Ok(takes_run(&mut disk, run)),
-        ImageDisk::Behind(mut disk) => Ok(takes_run(&mut disk, run)),
-        ImageDisk::Join(mut disk) => Ok(takes_run(&mut disk, run)),
-    }
+    let mut image = open_image(rt.alloc(), &mut opener, &mut files, true, name)?;
+    Ok(takes_run(&mut image, run))
 }
 
 // A run over the seam of a join, and one of more sectors than may wait, are left in order, and nothing else changes.

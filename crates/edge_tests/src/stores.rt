@@ -1,5 +1,5 @@
 //! A store over files in memory, each of whose requests can fail.
-ghost use Rattle.std.specs.Prelude.{◌≡◌, ◌++◌, Some, is_ok, string_bytes};
+ghost use Rattle.std.specs.Prelude.{◌≡◌, ◌++◌, None, Some, is_ok, string_bytes};
 ghost use Rattle.file_edge.specs.Asked.{asking};
 
 use file_edge::{Ask, FileId, FileKind, Found, KeptAsk, Opener, Stop, store_file};
@@ -87,6 +87,8 @@ impl<R: Abort + Drop> Opener for KeptFiles<R> {
     ghost asked = { λ files. Some (kept_asks files.asked.items) };
 
     ghost refusals = { λ files. files.refusals };
+
+    ghost told = { λ _. None };
 
     fn open(&mut self, how: &OpenOptions, name: &str) -> io::Result<File> {
         let how = how.clone().expect(&self.rt, "memory");

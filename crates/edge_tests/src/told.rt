@@ -1,170 +1,54 @@
 //! Runs of words over files in memory that tell what they hold.
-ghost use Rattle.std.specs.Prelude.{None};
-
-use crate::disk_file::DiskFile;
-use crate::seen_disk::{Seen, SeenDisk};
-use block_traits::{Event, NoMemory};
-use crash_disk::{CallKind, FailAt, MemDisk, MemSink, MemSource};
-use file_edge::{FileId, FileKind, Found, Opener};
+use crate::mem_files::{Changes, MemFiles, counted, none_seen};
+use crate::seen_disk::Seen;
+use block_traits::{Disk, Event};
+use crash_disk::{CallKind, FailAt, MemSink, MemSource};
 use geli_core::Status;
-use image_run::run_words;
+use image_layers::open_image;
+use image_run::run_files;
 use sha2::{Digest, Sha256};
 use std::alloc::{AllocError, Global};
 use std::cell::RefCell;
-use std::fs::OpenOptions;
-use std::io::{self, ErrorKind};
+use std::process::Abort;
 use std::rc::Rc;
 use std::test::Fail;
 
-// What was asked of the names of files but to open and to find them, in order, a letter each.
-type Changes = Rc<RefCell<Vec<u8>>>;
-
-// An image of 2,048 sectors of which some calls fail, a key file, a passphrase, and random bytes.
-#[derive(Drop)]
-struct MemFiles {
+// A run of words, of which the status is kept.
+fn status_of<R: Abort + Drop>(
     alloc: Global,
-    fails: Vec<FailAt>,
-    seen: Seen,
-    changes: Changes,
-    refusals: u64,
-}
-
-fn id_of(name: &str) -> FileId {
-    let number = match name {
-        "a.img" => 1,
-        "k" => 2,
-        "p" => 3,
-        _ => 4,
-    };
-    FileId { device: 1, number }
-}
-
-fn refused() -> io::Error {
-    io::Error::from(ErrorKind::NotFound)
-}
-
-// So many bytes that count up.
-fn counted(alloc: Global, count: u64) -> Result<Vec<u8>, AllocError> {
-    let mut bytes = Vec::new(alloc);
-    for i in 0..count {
-        bytes.push((i % 251) as u8)?;
-    }
-    Ok(bytes)
-}
-
-impl MemFiles {
-    fn note(&self, letter: u8) {
-        if let Ok(mut changes) = self.changes.try_borrow_mut() {
-            let _ = changes.push(letter);
-        }
-    }
-
-    fn disk(&self) -> Result<SeenDisk, NoMemory> {
-        let mut disk = MemDisk::new(self.alloc, 2048, 64)?;
-        disk.fail_calls(self.fails.as_slice())?;
-        Ok(SeenDisk::new(disk, self.seen.clone()?))
-    }
-
-    fn bytes_of(&self, name: &str) -> Option<Result<Vec<u8>, AllocError>> {
-        match name {
-            "a.img" => Some(counted(self.alloc, 0)),
-            "k" => Some(counted(self.alloc, 64)),
-            "p" => Some(Vec::from_slice(self.alloc, b"abc\n")),
-            "/dev/urandom" => Some(counted(self.alloc, 8000)),
-            _ => None,
-        }
-    }
-
-    fn file_of(&self, name: &str) -> io::Result<DiskFile<SeenDisk>> {
-        match (self.bytes_of(name), self.disk()) {
-            (Some(Ok(bytes)), Ok(disk)) => Ok(DiskFile::new(disk, id_of(name), bytes)),
-            _ => Err(refused()),
-        }
-    }
-}
-
-impl Opener for MemFiles {
-    type File = DiskFile<SeenDisk>;
-
-    ghost answers = { λ _ _ _ _. Unit {0} };
-
-    ghost leads = { λ _ _ _. Unit {0} };
-
-    ghost finds = { λ _ _ _. Unit {0} };
-
-    ghost asked = { λ _. None };
-
-    ghost refusals = { λ files. files.refusals };
-
-    fn open(&mut self, _how: &OpenOptions, name: &str) -> io::Result<DiskFile<SeenDisk>> {
-        let opened = self.file_of(name);
-        if opened.is_err() {
-            self.refusals = self.refusals.saturating_add(1);
-        }
-        opened
-    }
-
-    fn find(&mut self, name: &str) -> io::Result<Found> {
-        Ok(Found {
-            id: id_of(name),
-            kind: FileKind::Regular,
-        })
-    }
-
-    fn look(&mut self, _name: &str) -> io::Result<Found> {
-        Err(refused())
-    }
-
-    fn make(&mut self, _mode: u32, _name: &str) -> io::Result<()> {
-        self.note(b'm');
-        Ok(())
-    }
-
-    fn write(&mut self, _bytes: &[u8]) -> io::Result<()> {
-        self.note(b'w');
-        Ok(())
-    }
-
-    fn sync(&mut self) -> io::Result<()> {
-        self.note(b's');
-        Ok(())
-    }
-
-    fn rename(&mut self, _from: &str, _to: &str) -> io::Result<()> {
-        self.note(b'r');
-        Ok(())
-    }
-
-    fn sync_folder(&mut self, _name: &str) -> io::Result<()> {
-        self.note(b'f');
-        Ok(())
-    }
-
-    fn remove(&mut self, _name: &str) {
-        self.note(b'd');
+    words: &[String],
+    opener: MemFiles<R>,
+    input: &mut MemSource,
+    output: &mut MemSink,
+) -> Status {
+    match run_files(alloc, words, opener, input, output) {
+        Ok((status, _shelf, _files, _entropy)) => status,
+        Err(_) => Status::NoMemory,
     }
 }
 
 // A script over the image, of which these calls fail.
-fn run_script(
+fn run_script<R: Abort + Drop>(
+    rt: R,
     alloc: Global,
     fails: &[FailAt],
     script: &[u8],
     output: &mut MemSink,
     seen: &Seen,
 ) -> Result<Status, Fail> {
-    let opener = MemFiles {
+    let opener = MemFiles::new(
+        rt,
         alloc,
-        fails: Vec::from_slice(alloc, fails)?,
-        seen: seen.clone()?,
-        changes: Rc::new(alloc, RefCell::new(Vec::new(alloc)))?,
-        refusals: 0,
-    };
+        Vec::from_slice(alloc, fails)?,
+        1,
+        seen.clone()?,
+        Rc::new(alloc, RefCell::new(Vec::new(alloc)))?,
+    )?;
     let mut words = Vec::new(alloc);
     words.push(String::from_str(alloc, "script")?)?;
     words.push(String::from_str(alloc, "a.img")?)?;
     let mut input = MemSource::new(alloc, script, &[], &[])?;
-    Ok(run_words(alloc, &words, opener, &mut input, output))
+    Ok(status_of(alloc, &words, opener, &mut input, output))
 }
 
 // SHA-256 of events: of a write `W`, the number as eight bytes, least significant first, and the bytes; of a flush `F`.
@@ -213,7 +97,7 @@ fn an_ordinary_session_leaves_its_bytes(rt: HostRuntime) -> Result<(), Fail> {
     let seen: Seen = Rc::new(alloc, RefCell::new(Vec::new(alloc)))?;
     let mut output = MemSink::new(alloc, &[], &[], 40000)?;
     let script = joined(alloc, &SESSION)?;
-    let status = run_script(alloc, &[], &script, &mut output, &seen)?;
+    let status = run_script(rt.clone()?, alloc, &[], &script, &mut output, &seen)?;
     assert!(rt; status == Status::SomeRefused);
     assert_eq!(rt; Sha256::digest(output.bytes()), OUTPUT);
     let events = seen.try_borrow()?;
@@ -223,10 +107,16 @@ fn an_ordinary_session_leaves_its_bytes(rt: HostRuntime) -> Result<(), Fail> {
 }
 
 // What a script on a new provider answers and leaves, where these calls of its image fail.
-fn replies(alloc: Global, fails: &[FailAt], parts: &[&str], seen: &Seen) -> Result<MemSink, Fail> {
+fn replies<R: Abort + Drop>(
+    rt: R,
+    alloc: Global,
+    fails: &[FailAt],
+    parts: &[&str],
+    seen: &Seen,
+) -> Result<MemSink, Fail> {
     let mut output = MemSink::new(alloc, &[], &[], 4096)?;
     let script = joined(alloc, parts)?;
-    let _ = run_script(alloc, fails, &script, &mut output, seen)?;
+    let _ = run_script(rt, alloc, fails, &script, &mut output, seen)?;
     Ok(output)
 }
 
@@ -241,7 +131,13 @@ fn a_write_that_fails_leaves_its_front(rt: HostRuntime) -> Result<(), Fail> {
         lands: false,
     }];
     let seen: Seen = Rc::new(alloc, RefCell::new(Vec::new(alloc)))?;
-    let output = replies(alloc, &fails, &["write a.img 254 ", "\n"], &seen)?;
+    let output = replies(
+        rt.clone()?,
+        alloc,
+        &fails,
+        &["write a.img 254 ", "\n"],
+        &seen,
+    )?;
     assert_eq!(rt;
         output.bytes(),
         b"ok\nok\nerror 26 DeviceFault\n".as_slice()
@@ -262,7 +158,13 @@ fn after_a_sync_that_failed_none_is_answered(rt: HostRuntime) -> Result<(), Fail
         lands: false,
     }];
     let seen: Seen = Rc::new(alloc, RefCell::new(Vec::new(alloc)))?;
-    let output = replies(alloc, &fails, &["flush a.img\nflush a.img\n"], &seen)?;
+    let output = replies(
+        rt.clone()?,
+        alloc,
+        &fails,
+        &["flush a.img\nflush a.img\n"],
+        &seen,
+    )?;
     let fault = "error 26 DeviceFault\n";
     assert!(rt;
         output
@@ -271,6 +173,58 @@ fn after_a_sync_that_failed_none_is_answered(rt: HostRuntime) -> Result<(), Fail
     );
     assert_eq!(rt; output.bytes().len(), 6 + 3 * fault.len());
     assert_eq!(rt; seen.try_borrow()?.len(), 3);
+    Ok(())
+}
+
+// Whether the image of a name takes a sector that is flushed, and a second flush.
+fn takes_two_flushes<R: Abort + Drop>(
+    rt: R,
+    alloc: Global,
+    name: &str,
+    n: u64,
+    seen: &Seen,
+) -> Result<bool, Fail> {
+    let mut opener = MemFiles::new(
+        rt,
+        alloc,
+        Vec::new(alloc),
+        4,
+        seen.clone()?,
+        Rc::new(alloc, RefCell::new(Vec::new(alloc)))?,
+    )?;
+    let mut files = Vec::new(alloc);
+    let mut image = open_image(alloc, &mut opener, &mut files, true, name)?;
+    Ok(
+        n < image.sectors()
+            && image.write(n, &[9; 512]).is_ok()
+            && image.flush().is_ok()
+            && image.flush().is_ok(),
+    )
+}
+
+// A flush of a layer is a sync of the file of what waits, behind its write, and of the second file of a join.
+#[test]
+fn a_flush_of_a_layer_syncs_its_files(rt: HostRuntime) -> Result<(), Fail> {
+    let alloc = rt.alloc();
+    for (name, n) in [
+        ("b.img", 7),
+        ("behind:b.img", 7),
+        ("join:a.img:b.img", 2055),
+    ] {
+        let seen = none_seen(alloc)?;
+        assert!(&rt;
+            takes_two_flushes(rt.clone()?, alloc, name, n, &seen)?,
+            "{name}"
+        );
+        let events = seen.try_borrow()?;
+        assert_eq!(&rt; events.len(), 3, "{name}");
+        assert!(&rt;
+            matches!(events.first(), Some(Event::Write { n: 7, .. })),
+            "{name}"
+        );
+        assert!(&rt; matches!(events.get(1), Some(Event::Flush)), "{name}");
+        assert!(&rt; matches!(events.get(2), Some(Event::Flush)), "{name}");
+    }
     Ok(())
 }
 
@@ -296,27 +250,39 @@ struct Given<'a> {
 }
 
 // How such a run ends, and what it asked of names.
-fn end_of(alloc: Global, given: Given<'_>, changes: &Changes) -> Result<Status, Fail> {
-    let opener = MemFiles {
+fn end_of<R: Abort + Drop>(
+    rt: R,
+    alloc: Global,
+    given: Given<'_>,
+    changes: &Changes,
+) -> Result<Status, Fail> {
+    let opener = MemFiles::new(
+        rt,
         alloc,
-        fails: Vec::new(alloc),
-        seen: Rc::new(alloc, RefCell::new(Vec::new(alloc)))?,
-        changes: changes.clone()?,
-        refusals: 0,
-    };
+        Vec::new(alloc),
+        1,
+        none_seen(alloc)?,
+        changes.clone()?,
+    )?;
     let mut words = Vec::new(alloc);
     for word in given.words {
         words.push(String::from_str(alloc, word)?)?;
     }
     let mut input = MemSource::new(alloc, given.input, &[], given.fails)?;
     let mut output = MemSink::new(alloc, &[], &[], given.room)?;
-    Ok(run_words(alloc, &words, opener, &mut input, &mut output))
+    Ok(status_of(alloc, &words, opener, &mut input, &mut output))
 }
 
 // Whether it ends so, and asked this of names.
-fn asks(alloc: Global, given: Given<'_>, status: Status, wanted: &[u8]) -> Result<bool, Fail> {
+fn asks<R: Abort + Drop>(
+    rt: R,
+    alloc: Global,
+    given: Given<'_>,
+    status: Status,
+    wanted: &[u8],
+) -> Result<bool, Fail> {
     let changes: Changes = Rc::new(alloc, RefCell::new(Vec::new(alloc)))?;
-    let ended = end_of(alloc, given, &changes)?;
+    let ended = end_of(rt, alloc, given, &changes)?;
     let asked = changes.try_borrow()?;
     Ok(ended == status && asked.as_slice() == wanted)
 }
@@ -341,18 +307,21 @@ fn alone<'a>(words: &'a [&'a str], room: u64) -> Given<'a> {
     }
 }
 
-// No file is made, replaced or removed but the one that a line names to be stored, and three words are served.
+// Just the images, the random bytes and the files that lines load are opened, an image to be changed but where the
+// command only reads; no file is made, replaced or removed but the one that a line names to be stored, and three words
+// are served.
 #[test]
 fn a_run_changes_no_name_but_those_it_stores(rt: HostRuntime) -> Result<(), Fail> {
     let alloc = rt.alloc();
     let stores = over(b"init -P -K k a.img\nbackup a.img b\n", &[]);
-    assert!(rt; asks(alloc, stores, Status::Done, b"mwsrf")?);
+    assert!(rt; asks(rt.clone()?, alloc, stores, Status::Done, b"Ooomwsrf")?);
     assert!(rt;
         asks(
+            rt.clone()?,
             alloc,
             alone(&["backup", "a.img", "b"], 99),
             Status::SomeRefused,
-            b""
+            b"oo"
         )?
     );
     Ok(())
@@ -365,14 +334,111 @@ fn a_run_that_ends_early_changes_no_name(rt: HostRuntime) -> Result<(), Fail> {
     let long = vec![in alloc; b'x'; 300_001]?;
     assert!(rt;
         asks(
+            rt.clone()?,
             alloc,
             alone(&["destroy", "a.img"], 999),
             Status::BadWords,
-            b""
+            b"o"
         )?
     );
-    assert!(rt; asks(alloc, over(b"list\n", &[1]), Status::ReadFault, b"")?);
-    assert!(rt; asks(alloc, alone(&["dump", "a.img"], 0), Status::WriteFault, b"")?);
-    assert!(rt; asks(alloc, over(&long, &[]), Status::LineTooLong, b"")?);
+    assert!(rt;
+        asks(
+            rt.clone()?,
+            alloc,
+            over(b"list\n", &[1]),
+            Status::ReadFault,
+            b"Oo"
+        )?
+    );
+    assert!(rt;
+        asks(
+            rt.clone()?,
+            alloc,
+            alone(&["dump", "a.img"], 0),
+            Status::WriteFault,
+            b"oo"
+        )?
+    );
+    assert!(rt;
+        asks(
+            rt.clone()?,
+            alloc,
+            over(&long, &[]),
+            Status::LineTooLong,
+            b"Oo"
+        )?
+    );
+    Ok(())
+}
+
+// The 128 digits of the 64 random bytes from a place on; the device's bytes count up from 0 to 250, over and over.
+fn random_digits(alloc: Global, from: u64) -> Result<Vec<u8>, AllocError> {
+    let mut digits = Vec::new(alloc);
+    for i in from..from + 64 {
+        let byte = (i % 251) as u8;
+        digits.push(b"0123456789abcdef"[(byte / 16) as usize])?;
+        digits.push(b"0123456789abcdef"[(byte % 16) as usize])?;
+    }
+    Ok(digits)
+}
+
+// Whether some of the bytes are these.
+fn has(bytes: &[u8], part: &[u8]) -> bool {
+    bytes.windows(part.len()).any(|window| window == part)
+}
+
+// A run over both images, and what it printed.
+fn over_both<R: Abort + Drop>(rt: R, alloc: Global, script: &[u8]) -> Result<MemSink, Fail> {
+    let changes: Changes = Rc::new(alloc, RefCell::new(Vec::new(alloc)))?;
+    let mut opener = MemFiles::new(rt, alloc, Vec::new(alloc), 1, none_seen(alloc)?, changes)?;
+    opener
+        .folder
+        .give("long", None, Some(counted(alloc, 2000)?));
+    let mut other = counted(alloc, 600)?;
+    for _ in 600..2000 {
+        other.push(7)?;
+    }
+    opener.folder.give("other", None, Some(other));
+    opener
+        .folder
+        .give("front", None, Some(counted(alloc, 600)?));
+    let mut words = Vec::new(alloc);
+    for word in ["script", "a.img", "b.img"] {
+        words.push(String::from_str(alloc, word)?)?;
+    }
+    let mut input = MemSource::new(alloc, script, &[], &[])?;
+    let mut output = MemSink::new(alloc, &[], &[], 40000)?;
+    let _ = status_of(alloc, &words, opener, &mut input, &mut output);
+    Ok(output)
+}
+
+// Each provider takes 384 random bytes, of which the first 64 are its salt: the second takes those behind the first's.
+#[test]
+fn two_providers_take_successive_random_bytes(rt: HostRuntime) -> Result<(), Fail> {
+    let alloc = rt.alloc();
+    let script = b"init -P -K k a.img\ninit -P -K k b.img\ndump a.img\ndump b.img\n";
+    let output = over_both(rt.clone()?, alloc, script)?;
+    assert!(rt; output.bytes().starts_with(b"ok\nok\n"));
+    assert!(rt; has(output.bytes(), &random_digits(alloc, 0)?));
+    assert!(rt; has(output.bytes(), &random_digits(alloc, 384)?));
+    Ok(())
+}
+
+// A key file of 2,000 bytes opens what was made with it; one whose first 600 bytes alone are the same doesn't, nor do
+// those 600 bytes.
+#[test]
+fn a_key_file_counts_to_its_end(rt: HostRuntime) -> Result<(), Fail> {
+    let alloc = rt.alloc();
+    let mut script = Vec::from_slice(alloc, b"init -P -K long a.img\n")?;
+    for key in ["other", "front", "long"] {
+        script.extend_from_slice(b"attach -C -p -k ")?;
+        script.extend_from_slice(key.as_bytes())?;
+        script.extend_from_slice(b" a.img\n")?;
+    }
+    let output = over_both(rt.clone()?, alloc, &script)?;
+    assert_eq!(rt;
+        output.bytes(),
+        b"ok\nerror 15 WrongKey\nerror 15 WrongKey\nok\n".as_slice()
+    );
     Ok(())
 }

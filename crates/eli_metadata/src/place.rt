@@ -6,7 +6,7 @@ ghost use Rattle.eli_metadata.specs.Place.{ReadsMetadata, replace_events};
 ghost use Rattle.eli_metadata.specs.Refusals.{read_refusal_of};
 
 use crate::{MetaFault, Metadata, decode, encode};
-use block_traits::{Disk, DiskFailed, MetaPlace, load_last, store_last};
+use block_traits::{Disk, DiskFailed, MetaPlace, store_last};
 use eli_base::Refusal;
 use thiserror::Error;
 
@@ -52,7 +52,7 @@ pub fn read_metadata<P: MetaPlace>(place: &mut P) -> Result<Metadata, ReadMetaFa
         });
     }
     let mut bytes = [0; 512];
-    if load_last(place, &mut bytes).is_err() {
+    if place.load(&mut bytes).is_err() {
         return Err(ReadMetaFault::DeviceFault);
     }
     decode(&bytes).map_err(ReadMetaFault::Meta)

@@ -3,7 +3,7 @@ use Rattle.std.proofs.Common.{◌≡◌, ◌∙◌, ◌==◌, ℕ, ◌+◌, ◌�
 use Rattle.std.proofs.lemmas.Str.Pattern.{NoCharPasses-char}
 use Rattle.std.specs.Str.Pattern.{RFindsChar}
 use Rattle.std.specs.Prelude.{codes, if◌then◌else◌}
-use Rattle.file_edge.specs.Storing.{HasNoSlash}
+use Rattle.file_edge.specs.Folder.{HasNoSlash}
 
 pub record IsCut (name front : List ℕ) : Type 0 where
   pub last : List ℕ

@@ -2,18 +2,20 @@
 use Rattle.std.specs.Prelude.{◌≡◌, ◌+◌, ◌-◌, ◌^◌, min, ℕ, List, Option, Some, Result, Ok, Err, IfSome, is_ok}
 use Rattle.std.specs.IoError.{error_kind}
 use Rattle.std.specs.Str.{IsUtf8}
-use Rattle.std.specs.declared.fs.options.OpenOptions.{OpenOptions}
 use Rattle.std.specs.declared.io.Error.{Error}
 use Rattle.std.specs.declared.io.ErrorKind.{ErrorKind}
 use Rattle.std.specs.declared.io.ErrorKind.TheVariants as kinds
 use Rattle.block_traits.specs.Cabinet.{Answers, load_answer}
 use Rattle.block_traits.specs.declared.cabinet.LoadFault.{LoadFault}
 use Rattle.block_traits.specs.declared.cabinet.LoadFault.TheVariants as load
-use Rattle.file_edge.specs.Asked.{Asked, Open, asking, more}
+use Rattle.file_edge.specs.Asked.{Open, asking, more}
 use Rattle.file_edge.specs.Found.{IsOneOfImages}
+use Rattle.file_edge.specs.Names.{OpensTold}
 use Rattle.file_edge.specs.Opening.{to_read}
 use Rattle.file_edge.specs.declared.found.FileId.{FileId}
 use Rattle.file_edge.specs.declared.found.Found.{Found}
+use Rattle.file_edge.specs.declared.image_file.ImageFile as image_file
+use Rattle.file_edge.specs.declared.opener.Opener as opener
 
 -- why nothing is loaded where the file can't be opened
 abbrev pub fault_of : ErrorKind → LoadFault
@@ -32,9 +34,9 @@ loaded_answer (Ok bytes) limit = load_answer (Some bytes) limit
 loaded_answer (Err error) limit = Err (read_fault (error_kind error))
 
 -- it is read to its end, or to a byte behind the limit, and that is what is answered
-pub record ReadsWhole {F : Type 0} (holds : F → ℕ → Result (List ℕ) Error → Type 0) (file : F) (limit : ℕ) (result : Result (List ℕ) LoadFault) : Type 0 where
+pub record ReadsWhole {F : Type 0} (f : image_file.Ghosts F) (file : F) (limit : ℕ) (result : Result (List ℕ) LoadFault) : Type 0 where
   pub read : Result (List ℕ) Error
-  pub held : holds file (min (limit + 1) (2 ^ 64 - 1)) read
+  pub held : f.holds file (min (limit + 1) (2 ^ 64 - 1)) read
   pub answered : result ≡ loaded_answer read limit
 
 -- a file that is open isn't absent; where it knows its bytes they are answered, or they are too many, or it failed
@@ -42,34 +44,34 @@ abbrev pub LoadAnswers : Option (List ℕ) → ℕ → Result (List ℕ) LoadFau
 LoadAnswers known limit (Err load.Absent) = ⊥
 LoadAnswers known limit result = IfSome known (λ bytes. Answers (load_answer (Some bytes) limit) result)
 
-module _ {O F : Type 0} (answers : O → OpenOptions → List ℕ → Result F Error → Type 0) (log_of : O → Option (List Asked)) where
-  module _ (remaining : F → Option (List ℕ)) (holds : F → ℕ → Result (List ℕ) Error → Type 0) (tells : F → Result Found Error → Type 0) (images : List FileId) where
-    -- an image isn't read; another file is, and answered so
-    pub record ReadsOpened (file : F) (limit : ℕ) (result : Result (List ℕ) LoadFault) : Type 0 where
-      pub found : Result Found Error
-      pub told : tells file found
-      pub image : IsOneOfImages images found → result ≡ Err load.Failed
-      pub other : (IsOneOfImages images found → ⊥) → LoadAnswers (remaining file) limit result
-      pub whole : (IsOneOfImages images found → ⊥) → ReadsWhole holds file limit result
+module _ {O F : Type 0} (o : opener.Ghosts O F) (f : image_file.Ghosts F) (images : List FileId) where
+  -- an image isn't read; another file is, and answered so
+  pub record ReadsOpened (file : F) (limit : ℕ) (result : Result (List ℕ) LoadFault) : Type 0 where
+    pub found : Result Found Error
+    pub told : f.tells file found
+    pub image : IsOneOfImages images found → result ≡ Err load.Failed
+    pub other : (IsOneOfImages images found → ⊥) → LoadAnswers (f.left file) limit result
+    pub whole : (IsOneOfImages images found → ⊥) → ReadsWhole f file limit result
 
-    -- what was opened is read, or the refusal is answered
-    abbrev pub LoadsOpened : Result F Error → ℕ → Result (List ℕ) LoadFault → Type 0
-    LoadsOpened (Ok file) limit result = ReadsOpened file limit result
-    LoadsOpened (Err error) limit result = result ≡ Err (fault_of (error_kind error))
+  -- what was opened is read, or the refusal is answered
+  abbrev pub LoadsOpened : Result F Error → ℕ → Result (List ℕ) LoadFault → Type 0
+  LoadsOpened (Ok file) limit result = ReadsOpened file limit result
+  LoadsOpened (Err error) limit result = result ≡ Err (fault_of (error_kind error))
 
-    -- the file of this name is opened to be read, and nothing else is asked
-    pub record LoadsNamedFile (opener : O) (name : List ℕ) (limit : ℕ) (result : Result (List ℕ) LoadFault) (new : O) : Type 0 where
-      pub opened : Result F Error
-      pub answered : answers opener to_read name opened
-      pub asked : log_of new ≡ more (asking (Open to_read name) (is_ok opened)) (log_of opener)
-      pub loads : LoadsOpened opened limit result
+  -- the file of this name is opened to be read, it is what was told of the name, and nothing else is asked
+  pub record LoadsNamedFile (old : O) (name : List ℕ) (limit : ℕ) (result : Result (List ℕ) LoadFault) (new : O) : Type 0 where
+    pub opened : Result F Error
+    pub answered : o.answers old to_read name opened
+    pub told : OpensTold f (o.told old) name opened
+    pub asked : o.asked new ≡ more (asking (Open to_read name) (is_ok opened)) (o.asked old)
+    pub loads : LoadsOpened opened limit result
 
-    -- a name that is no text names no file
-    pub record LoadsNone (opener : O) (result : Result (List ℕ) LoadFault) (new : O) : Type 0 where
-      pub absent : result ≡ Err load.Absent
-      pub asked : log_of new ≡ log_of opener
+  -- a name that is no text names no file
+  pub record LoadsNone (old : O) (result : Result (List ℕ) LoadFault) (new : O) : Type 0 where
+    pub absent : result ≡ Err load.Absent
+    pub asked : o.asked new ≡ o.asked old
 
-    -- the same of a name that is text
-    pub record LoadsNamed (opener : O) (name : List ℕ) (limit : ℕ) (result : Result (List ℕ) LoadFault) (new : O) : Type 0 where
-      pub text : IsUtf8 name → LoadsNamedFile opener name limit result new
-      pub no_text : (IsUtf8 name → ⊥) → LoadsNone opener result new
+  -- the same of a name that is text
+  pub record LoadsNamed (old : O) (name : List ℕ) (limit : ℕ) (result : Result (List ℕ) LoadFault) (new : O) : Type 0 where
+    pub text : IsUtf8 name → LoadsNamedFile old name limit result new
+    pub no_text : (IsUtf8 name → ⊥) → LoadsNone old result new

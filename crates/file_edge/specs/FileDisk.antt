@@ -1,6 +1,5 @@
 -- A file as a disk.
 use Rattle.std.specs.Prelude.{◌≡◌, ◌≤◌, ◌<◌, ◌^◌, ◌/◌, ℕ, List, ◌++◌, Bool, true, false, Option, None, Some, Result, Ok, Err, MatchBool}
-use Rattle.std.specs.declared.fs.options.OpenOptions.{OpenOptions}
 use Rattle.std.specs.declared.io.Error.{Error}
 use Rattle.block_traits.specs.Disk.{DiskState}
 use Rattle.file_edge.specs.Asked.{Asked, Find, asking, more}
@@ -8,6 +7,8 @@ use Rattle.file_edge.specs.declared.file_disk.FileDisk.{FileDisk}
 use Rattle.file_edge.specs.Found.{IsFree}
 use Rattle.file_edge.specs.declared.found.FileId.{FileId}
 use Rattle.file_edge.specs.declared.found.Found.{Found}
+use Rattle.file_edge.specs.declared.image_file.ImageFile as image_file
+use Rattle.file_edge.specs.declared.opener.Opener as opener
 use Rattle.file_edge.specs.ImageFile.{IsLocked}
 use Rattle.file_edge.specs.Opening.{OpensImage, image_asked}
 use Rattle.file_edge.specs.Told.{Told, contents, of_size, told_in}
@@ -51,27 +52,27 @@ IsDiskTo file id None disk = IsUnopened (Some id) disk
 IsDiskTo file id (Some size) disk = IsDiskOf file id size disk
 
 -- the disk of an open file, by the end that was found
-pub record IsDiskOfEnd {F : Type 0} (ends : F → Option ℕ → Type 0) (file : F) (id : FileId) (disk : FileDisk F) : Type 0 where
+pub record IsDiskOfEnd {F : Type 0} (f : image_file.Ghosts F) (file : F) (id : FileId) (disk : FileDisk F) : Type 0 where
   pub end : Option ℕ
-  pub found : ends file end
+  pub found : f.ends file end
   pub holds : IsDiskTo file id end disk
 
 -- the disk of an open file that may be an image; where it can't be held, of none
-pub record IsDiskHeld {F : Type 0} (locks : F → Bool → Type 0) (ends : F → Option ℕ → Type 0) (changes : Bool) (file : F) (id : FileId) (disk : FileDisk F) : Type 0 where
+pub record IsDiskHeld {F : Type 0} (f : image_file.Ghosts F) (changes : Bool) (file : F) (id : FileId) (disk : FileDisk F) : Type 0 where
   pub held : Bool
-  pub locked : IsLocked locks changes file held
-  pub holds : MatchBool held (IsDiskOfEnd ends file id disk) (IsUnopened (Some id) disk)
+  pub locked : IsLocked f.locks changes file held
+  pub holds : MatchBool held (IsDiskOfEnd f file id disk) (IsUnopened (Some id) disk)
 
-module _ {F : Type 0} (tells : F → Result Found Error → Type 0) (locks : F → Bool → Type 0) (ends : F → Option ℕ → Type 0) (images : List FileId) (changes : Bool) where
+module _ {F : Type 0} (f : image_file.Ghosts F) (images : List FileId) (changes : Bool) where
   -- the disk of an open file, by what was found under its name and of itself
   abbrev pub IsDiskFound : F → FileId → Result Found Error → FileDisk F → Type 0
   IsDiskFound file id (Err error) disk = IsUnopened (Some id) disk
-  IsDiskFound file id (Ok found) disk = (IsFree images found → IsDiskHeld locks ends changes file found.id disk) × ((IsFree images found → ⊥) → IsUnopened (Some found.id) disk)
+  IsDiskFound file id (Ok found) disk = (IsFree images found → IsDiskHeld f changes file found.id disk) × ((IsFree images found → ⊥) → IsUnopened (Some found.id) disk)
 
   -- the disk of an open file
   pub record IsDiskOfFile (file : F) (id : FileId) (disk : FileDisk F) : Type 0 where
     pub found : Result Found Error
-    pub told : tells file found
+    pub told : f.tells file found
     pub holds : IsDiskFound file id found disk
 
   -- the disk of what was opened
@@ -79,12 +80,12 @@ module _ {F : Type 0} (tells : F → Result Found Error → Type 0) (locks : F �
   IsDiskOfOpened id (Err error) disk = IsUnopened (Some id) disk
   IsDiskOfOpened id (Ok file) disk = IsDiskOfFile file id disk
 
-  module _ {O : Type 0} (leads : O → List ℕ → Result Found Error → Type 0) (answers : O → OpenOptions → List ℕ → Result F Error → Type 0) where
+  module _ {O : Type 0} (o : opener.Ghosts O F) where
     -- the disk of the image that is opened under a name that leads to this file
     pub record OpensFile (name : List ℕ) (id : FileId) (disk : FileDisk F) : Type 0 where
-      pub opener : O
+      pub before : O
       pub opened : Result F Error
-      pub image : OpensImage answers opener changes name opened
+      pub image : OpensImage o.answers before changes name opened
       pub of_opened : IsDiskOfOpened id opened disk
 
     -- the disk of what a name leads to; what may be no image isn't opened
@@ -93,9 +94,9 @@ module _ {F : Type 0} (tells : F → Result Found Error → Type 0) (locks : F �
     OpensFound name (Ok found) disk = (IsFree images found → OpensFile name found.id disk) × ((IsFree images found → ⊥) → IsUnopened (Some found.id) disk)
 
     -- the disk of the image of a name
-    pub record OpensDisk (opener : O) (name : List ℕ) (disk : FileDisk F) : Type 0 where
+    pub record OpensDisk (before : O) (name : List ℕ) (disk : FileDisk F) : Type 0 where
       pub found : Result Found Error
-      pub leading : leads opener name found
+      pub leading : o.leads before name found
       pub of_found : OpensFound name found disk
 
 -- what the disk of a name asks: where the name leads, and where that may be an image to open it

@@ -1,5 +1,5 @@
 -- What a read of a file answers, how it is held, and which calls are made of it.
-use Rattle.std.specs.Prelude.{◌≡◌, ◌≤◌, ◌+◌, List, [], ◌∷◌, length, ℕ, Bool, true, false, Option, None, Some, Result, Ok, Err}
+use Rattle.std.specs.Prelude.{◌≡◌, List, [], ◌∷◌, ℕ, Bool, true, false, Option, None, Some, Result, Ok, Err}
 use Rattle.file_edge.specs.Asked.{more}
 
 -- the bytes that were read, if they were
@@ -36,32 +36,3 @@ module _ {F : Type 0} (calls : F → Option (List Call)) where
   AsksFile call None None = Unit {0}
   AsksFile call (Some old) (Some new) = calls new ≡ more (call ∷ []) (calls old)
   AsksFile call old new = ⊥
-
--- so many bytes at a byte offset stand before the end that was found
-abbrev pub StandsBeforeEnd : Option ℕ → ℕ → ℕ → Type 0
-StandsBeforeEnd None at count = ⊥
-StandsBeforeEnd (Some end) at count = at + count ≤ end
-
-module _ {F : Type 0} (ends : F → Option ℕ → Type 0) (writes : F → ℕ → List ℕ → Bool → Type 0) (calls : F → Option (List Call)) (at : ℕ) (bytes : List ℕ) (done : Bool) where
-  -- the bytes were to be written there, all in one, and nothing else
-  pub record PutsBytesThere (old new : F) : Type 0 where
-    pub answered : writes old at bytes done
-    pub log : calls new ≡ more (WriteAt at bytes ∷ []) (calls old)
-
-  -- nothing was to be written
-  pub record PutsNone (old new : F) : Type 0 where
-    pub failed : done ≡ false
-    pub log : calls new ≡ calls old
-
-  -- the bytes were to be written where the file still reaches so far
-  pub record WritesWithin (old new : F) : Type 0 where
-    pub end : Option ℕ
-    pub found : ends old end
-    pub within : StandsBeforeEnd end at (length bytes) → PutsBytesThere old new
-    pub behind : (StandsBeforeEnd end at (length bytes) → ⊥) → PutsNone old new
-
-  -- the same of a file that is open, which stays open
-  abbrev pub WritesFile : Option F → Option F → Type 0
-  WritesFile None None = done ≡ false
-  WritesFile (Some old) (Some new) = WritesWithin old new
-  WritesFile old new = ⊥

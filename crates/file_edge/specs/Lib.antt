@@ -1,12 +1,15 @@
 pub mod Asked
 pub mod FileDisk
 pub mod FileCabinet
+pub mod Folder
 pub mod Found
 pub mod ImageFile
 pub mod Kept
+pub mod Names
 pub mod Opening
 pub mod RandomFile
 pub mod Storing
 pub mod Streams
 pub mod Told
 pub mod ToldFits
+pub mod Writing

@@ -1,5 +1,5 @@
 -- The system's random bytes.
-use Rattle.std.specs.Prelude.{◌≡◌, List, ℕ, Bool, Option, Result, codes}
+use Rattle.std.specs.Prelude.{◌≡◌, List, [], ℕ, Bool, Option, None, Some, Result, codes}
 use Rattle.std.specs.Result.{result_ok}
 use Rattle.std.specs.declared.fs.options.OpenOptions.{OpenOptions}
 use Rattle.std.specs.declared.io.Error.{Error}
@@ -17,3 +17,8 @@ pub record OpensDevice {O F : Type 0} (answers : O → OpenOptions → List ℕ 
 pub record AsksDevice {O : Type 0} (log_of : O → Option (List Asked)) (opener new : O) : Type 0 where
   pub done : Bool
   pub log : log_of new ≡ more (asking (Open to_read (codes "/dev/urandom")) done) (log_of opener)
+
+-- the bytes that are left of the device; of none that is open nothing is left
+abbrev pub left_in : {F : Type 0} → (F → Option (List ℕ)) → Option F → Option (List ℕ)
+left_in left None = Some []
+left_in left (Some device) = left device

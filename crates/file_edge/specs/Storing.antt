@@ -1,5 +1,5 @@
 -- What a store asks of an opener.
-use Rattle.std.specs.Prelude.{◌≡◌, ◌≢◌, ◌⊎◌, ◌<◌, ◌-◌, ◌^◌, ◌==◌, ℕ, zero, suc, List, [], ◌∷◌, ◌++◌, length, get_or, true, false, if◌then◌else◌, Option, Result, Ok, Err, codes, decimal}
+use Rattle.std.specs.Prelude.{◌≡◌, ◌-◌, ◌^◌, ℕ, zero, suc, List, [], ◌++◌, true, false, Option, Result, Ok, Err, codes, decimal}
 use Rattle.std.specs.Str.{IsUtf8}
 use Rattle.std.specs.declared.io.Error.{Error}
 use Rattle.block_traits.specs.declared.cabinet.StoreFault.{StoreFault}
@@ -8,28 +8,13 @@ use Rattle.file_edge.specs.Asked.{Asked, Look, Make, Meet, Write, Sync, Rename, 
 use Rattle.file_edge.specs.Found.{IsReplaceable}
 use Rattle.file_edge.specs.declared.found.FileId.{FileId}
 use Rattle.file_edge.specs.declared.found.Found.{Found}
+use Rattle.file_edge.specs.declared.opener.Opener as opener
 use Rattle.file_edge.specs.declared.store.Stop.{Stop}
 use Rattle.file_edge.specs.declared.store.Stop.TheVariants as stops
 
 -- the names beside a name, in the same folder, by their numbers
 abbrev pub beside_name : List ℕ → ℕ → List ℕ
 beside_name name number = name ++ codes ".new" ++ decimal number
-
--- no slash is among these bytes
-abbrev pub HasNoSlash : List ℕ → Type 0
-HasNoSlash bytes = (i : ℕ) → i < length bytes → get_or bytes i 0 ≢ 47
-
--- the folder is what comes before the last slash of a name, or the root where that is nothing
-pub record IsBeforeSlash (name folder : List ℕ) : Type 0 where
-  pub front : List ℕ
-  pub last : List ℕ
-  pub cut : name ≡ front ++ 47 ∷ last
-  pub is_last : HasNoSlash last
-  pub is_front : folder ≡ (if length front == 0 then codes "/" else front)
-
--- the folder of a name: the current one where it has no slash (path_resolution(7))
-abbrev pub IsFolderOf : List ℕ → List ℕ → Type 0
-IsFolderOf name folder = (HasNoSlash name × (folder ≡ codes ".")) ⊎ IsBeforeSlash name folder
 
 -- the first names beside, in order, which something has already
 abbrev pub met : List ℕ → ℕ → List Asked
@@ -110,34 +95,34 @@ module _ {O : Type 0} (log_of : O → Option (List Asked)) (name bytes : List �
     pub step : IsStep result number
     pub asked : log_of new ≡ more (met name number ++ replacing name (beside_name name number) bytes result) (log_of opener)
 
-module _ {O : Type 0} (finds : O → List ℕ → Result Found Error → Type 0) (log_of : O → Option (List Asked)) (images : List FileId) where
+module _ {O F : Type 0} (o : opener.Ghosts O F) (images : List FileId) where
   -- what has the name was looked for, and nothing else was asked
-  pub record LooksForName (opener : O) (name : List ℕ) (found : Result Found Error) (new : O) : Type 0 where
-    pub answered : finds opener name found
-    pub asked : log_of new ≡ more (asking (Look name) true) (log_of opener)
+  pub record LooksForName (before : O) (name : List ℕ) (found : Result Found Error) (new : O) : Type 0 where
+    pub answered : o.finds before name found
+    pub asked : o.asked new ≡ more (asking (Look name) true) (o.asked before)
 
   -- what was found may not be replaced
-  pub record Spares (opener : O) (name : List ℕ) (new : O) : Type 0 where
+  pub record Spares (before : O) (name : List ℕ) (new : O) : Type 0 where
     pub found : Result Found Error
-    pub looks : LooksForName opener name found new
+    pub looks : LooksForName before name found new
     pub taken : IsReplaceable images found → ⊥
 
   -- what was found may be replaced, and then the new file was brought to the name, or not
-  pub record Replaces (opener : O) (name bytes : List ℕ) (result : Result Unit Stop) (new : O) : Type 0 where
+  pub record Replaces (before : O) (name bytes : List ℕ) (result : Result Unit Stop) (new : O) : Type 0 where
     pub found : Result Found Error
     pub looked : O
-    pub looks : LooksForName opener name found looked
+    pub looks : LooksForName before name found looked
     pub free : IsReplaceable images found
-    pub brings : Brings log_of name bytes looked result new
+    pub brings : Brings o.asked name bytes looked result new
 
   -- a store under a name, by how it ended: without text for a name nothing was asked
   abbrev pub Stores : O → List ℕ → List ℕ → Result Unit Stop → O → Type 0
-  Stores opener name bytes (Err stops.Named) new = (IsUtf8 name → ⊥) × (log_of new ≡ log_of opener)
-  Stores opener name bytes (Err stops.Spared) new = Spares opener name new
-  Stores opener name bytes result new = Replaces opener name bytes result new
+  Stores before name bytes (Err stops.Named) new = (IsUtf8 name → ⊥) × (o.asked new ≡ o.asked before)
+  Stores before name bytes (Err stops.Spared) new = Spares before name new
+  Stores before name bytes result new = Replaces before name bytes result new
 
   -- the same, by what was answered
-  pub record StoresNamedFile (opener : O) (name bytes : List ℕ) (result : Result Unit StoreFault) (new : O) : Type 0 where
+  pub record StoresNamedFile (before : O) (name bytes : List ℕ) (result : Result Unit StoreFault) (new : O) : Type 0 where
     pub ended : Result Unit Stop
-    pub stores : Stores opener name bytes ended new
+    pub stores : Stores before name bytes ended new
     pub answer : result ≡ fault_answer ended

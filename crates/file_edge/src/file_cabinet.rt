@@ -1,22 +1,23 @@
 //! The files of the system by their names.
-ghost use Rattle.std.specs.Prelude.{◌≡◌, ◌≤◌, None, IfOk, IsErrOf, length};
+ghost use Rattle.std.specs.Prelude.{◌≡◌, ◌≤◌, IfOk, IsErrOf, OnErr, OnOk, length};
 ghost use Rattle.std.specs.IoError.{error_kind};
+ghost use Rattle.block_traits.specs.Cabinet.{LoadGives, stored};
 ghost use Rattle.block_traits.specs.Causes.{Counted, Rose};
 ghost use Rattle.file_edge.specs.FileCabinet.{LoadsNamed, LoadAnswers, ReadsWhole, fault_of, read_fault};
+ghost use Rattle.file_edge.specs.Names.{told_files};
 ghost use Rattle.file_edge.specs.Storing.{StoresNamedFile};
 
 use crate::found::{FileId, is_image};
 use crate::image_file::ImageFile;
 use crate::opener::Opener;
-use crate::reader::Reader;
 use crate::store::{Stop, store_file};
 use block_traits::{ByteList, Cabinet, LoadFault, StoreFault};
 use std::alloc::Global;
 use std::fs::OpenOptions;
 use std::io::{self, ErrorKind};
 
-/// Files as an opener finds them, but for the images of the run. It tells no content, and counts each failure, each
-/// file that is absent or too long, each load and each store. A name that isn't UTF-8 names no file.
+/// Files as an opener finds them, but for the images of the run. It tells what the opener tells of its names. It counts
+/// each failure, each file that is absent or too long, each load and each store. A name that isn't UTF-8 names no file.
 #[derive(Drop)]
 pub struct FileCabinet<O: Opener + Drop> {
     opener: O,
@@ -55,18 +56,24 @@ impl<O: Opener + Drop> FileCabinet<O> {
     }
 }
 
-// Without the bound the clause would take the relation of any reader, which says nothing.
-impl<O: Opener + Drop> Cabinet for FileCabinet<O>
-where
-    O::File: Reader,
-{
-    ghost state = { λ cabinet. record { files = None; faults = cabinet.faults; misses = cabinet.misses; loads = cabinet.loads; stores = cabinet.stores } };
+impl<O: Opener + Drop> Cabinet for FileCabinet<O> {
+    ghost state = { λ cabinet. record {
+      files = told_files cabinet.images.items (O.told cabinet.opener);
+      faults = cabinet.faults;
+      misses = cabinet.misses;
+      loads = cabinet.loads;
+      stores = cabinet.stores;
+    } };
 
     /// Besides what a cabinet does: the file that is opened under the name is read, whole where it knows its bytes, and
     /// nothing else is asked of the opener. An image isn't read.
     fn load(&mut self, alloc: Global, name: &[u8], limit: u64) -> Result<ByteList, LoadFault>
-        ensures named { LoadsNamed O.answers O.asked O.File.remaining O.File.holds O.File.tells self.old.images.items self.old.opener name.now limit result self.new.opener }
+        ensures named { LoadsNamed (⟦<O as Opener>⟧) (⟦<O::File as ImageFile>⟧) self.old.images.items
+            self.old.opener name.now limit result self.new.opener }
         ensures images { self.new.images ≡ self.old.images }
+        ensures gives { LoadGives (told_files self.old.images.items (O.told self.old.opener)) name.now limit result }
+        ensures files { told_files self.new.images.items (O.told self.new.opener)
+            ≡ told_files self.old.images.items (O.told self.old.opener) }
         ensures within { IfOk result (λ bytes. length bytes ≤ limit) }
         ensures later { self.old.faults ≤ self.new.faults }
         ensures failed { IsErrOf result LoadFault.Failed → Rose self.old.faults self.new.faults }
@@ -91,8 +98,13 @@ where
     /// Besides what a cabinet does: the bytes are stored in a new file beside, which then takes the name; an image, and
     /// what is no regular file, is left as it is.
     fn store(&mut self, alloc: Global, name: &[u8], bytes: &[u8]) -> Result<(), StoreFault>
-        ensures stores { StoresNamedFile O.finds O.asked self.old.images.items self.old.opener name.now bytes.now result self.new.opener }
+        ensures stores { StoresNamedFile (⟦<O as Opener>⟧) self.old.images.items
+            self.old.opener name.now bytes.now result self.new.opener }
         ensures images { self.new.images ≡ self.old.images }
+        ensures ok { OnOk result (told_files self.new.images.items (O.told self.new.opener)
+            ≡ stored name.now bytes.now (told_files self.old.images.items (O.told self.old.opener))) }
+        ensures err { OnErr result (told_files self.new.images.items (O.told self.new.opener)
+            ≡ told_files self.old.images.items (O.told self.old.opener)) }
         ensures later { self.old.faults ≤ self.new.faults }
         ensures failed { IsErrOf result StoreFault.Failed → Rose self.old.faults self.new.faults }
         ensures more_misses { self.old.misses ≤ self.new.misses }
@@ -118,7 +130,9 @@ fn load_file<O: Opener>(
     name: &[u8],
     limit: u64,
 ) -> Result<ByteList, LoadFault>
-    ensures named { LoadsNamed O.answers O.asked O.File.remaining O.File.holds O.File.tells images.now opener.old name.now limit result opener.new }
+    ensures named { LoadsNamed (⟦<O as Opener>⟧) (⟦<O::File as ImageFile>⟧) images.now
+        opener.old name.now limit result opener.new }
+    ensures told { O.told opener.new ≡ O.told opener.old }
     ensures within { IfOk result (λ bytes. length bytes ≤ limit) }
 {
     let Ok(name) = str::from_utf8(name) else {
@@ -135,13 +149,13 @@ fn load_file<O: Opener>(
     }
 }
 
-// What a reader has left, if that is at most so many bytes.
-fn read_whole<R: Reader>(reader: R, alloc: Global, limit: u64) -> Result<ByteList, LoadFault>
-    ensures read { ReadsWhole R.holds reader limit result }
-    ensures answers { LoadAnswers (R.remaining reader) limit result }
+// What a file has left, if that is at most so many bytes.
+fn read_whole<F: ImageFile>(file: F, alloc: Global, limit: u64) -> Result<ByteList, LoadFault>
+    ensures read { ReadsWhole (⟦<F as ImageFile>⟧) file limit result }
+    ensures answers { LoadAnswers (F.left file) limit result }
     ensures within { IfOk result (λ bytes. length bytes ≤ limit) }
 {
-    let bytes = match reader.read_all(alloc, limit.saturating_add(1)) {
+    let bytes = match file.read_all(alloc, limit.saturating_add(1)) {
         Ok(bytes) => bytes,
         Err(error) => return Err(read_fault(&error)),
     };

@@ -2,13 +2,15 @@
 ghost use Rattle.std.specs.Prelude.{◌≡◌, ◌<◌, ◌≤◌, ◌^◌, ◌+◌, ◌*◌, ◌/◌, ◌%◌, ◌∷◌, [], IsErr, IsNone, MatchOption, OnErr, OnOk, false, is_err, is_ok, length, true};
 ghost use Rattle.block_traits.specs.Causes.{Counted, Rose};
 ghost use Rattle.block_traits.specs.Disk.{FailsIn, Gives, GivesEach, Logs, write_events};
-ghost use Rattle.file_edge.specs.ImageFile.{AsksFile, IsLocked, LeavesFile, ReadAt, SyncData, WritesFile, WritesWithin, looked, read_bytes};
+ghost use Rattle.file_edge.specs.ImageFile.{AsksFile, IsLocked, LeavesFile, ReadAt, SyncData, looked, read_bytes};
 ghost use Rattle.file_edge.specs.Opening.{AsksImage};
 ghost use Rattle.file_edge.specs.Told.{EndsTold, Leaves, ReadsTold, contents, told_in};
+ghost use Rattle.file_edge.specs.Writing.{WritesFile, WritesWithin};
 
 use crate::found::{FileId, is_free};
 use crate::image_file::ImageFile;
-use crate::opener::{Opener, open_image};
+use crate::opener::Opener;
+use crate::opening::open_image;
 use block_traits::{Disk, DiskFailed, Event, Sector};
 
 /// The whole 512-byte pieces of a file, read and written where they stand. It tells what its file tells, shows no
@@ -25,7 +27,8 @@ pub struct FileDisk<F: Drop> {
 }
 
 impl<F: Drop> FileDisk<F> {
-    ghost use Rattle.file_edge.specs.FileDisk.{AsksDisk, IsDiskHeld, IsDiskOf, IsDiskOfEnd, IsDiskOfFile, IsUnopened, OpensDisk, OpensFile, TellsFile};
+    ghost use Rattle.file_edge.specs.FileDisk.{AsksDisk, IsDiskHeld, IsDiskOf, IsDiskOfEnd, IsDiskOfFile};
+    ghost use Rattle.file_edge.specs.FileDisk.{IsUnopened, OpensDisk, OpensFile, TellsFile};
 
     /// The disk of a file. A file that can't be opened, that is no regular file and no block device, that is one of
     /// these images, or of 2^53 bytes or more, is a disk of two sectors whose every call fails; so is one that is to be
@@ -39,7 +42,8 @@ impl<F: Drop> FileDisk<F> {
     ) -> FileDisk<F>
     where
         F: ImageFile + 'static,
-        ensures opens { OpensDisk F.tells F.locks F.ends images.now changes O.leads O.answers opener.old name.now result }
+        ensures opens { OpensDisk (⟦<F as ImageFile>⟧) images.now changes (⟦<O as Opener>⟧) opener.old name.now result }
+        ensures told { O.told opener.new ≡ O.told opener.old }
         ensures asked { AsksDisk O.asked opener.old changes name.now opener.new }
         ensures faults { result.faults ≡ 0 }
         ensures reads { result.reads ≡ 0 }
@@ -67,7 +71,8 @@ impl<F: Drop> FileDisk<F> {
     ) -> FileDisk<F>
     where
         F: ImageFile + 'static,
-        ensures opens { OpensFile F.tells F.locks F.ends images.now changes O.leads O.answers name.now id result }
+        ensures opens { OpensFile (⟦<F as ImageFile>⟧) images.now changes (⟦<O as Opener>⟧) name.now id result }
+        ensures told { O.told opener.new ≡ O.told opener.old }
         ensures asked { AsksImage O.asked opener.old changes name.now opener.new }
         ensures faults { result.faults ≡ 0 }
         ensures reads { result.reads ≡ 0 }
@@ -85,7 +90,7 @@ impl<F: Drop> FileDisk<F> {
     fn of_opened(file: F, images: &[FileId], changes: bool, id: FileId) -> FileDisk<F>
     where
         F: ImageFile,
-        ensures disk { IsDiskOfFile F.tells F.locks F.ends images.now changes file id result }
+        ensures disk { IsDiskOfFile (⟦<F as ImageFile>⟧) images.now changes file id result }
         ensures faults { result.faults ≡ 0 }
         ensures reads { result.reads ≡ 0 }
         ensures unsynced { result.unsynced ≡ false }
@@ -107,7 +112,7 @@ impl<F: Drop> FileDisk<F> {
     fn of_free(file: F, id: FileId, changes: bool) -> FileDisk<F>
     where
         F: ImageFile,
-        ensures disk { IsDiskHeld F.locks F.ends changes file id result }
+        ensures disk { IsDiskHeld (⟦<F as ImageFile>⟧) changes file id result }
         ensures faults { result.faults ≡ 0 }
         ensures reads { result.reads ≡ 0 }
         ensures unsynced { result.unsynced ≡ false }
@@ -124,7 +129,7 @@ impl<F: Drop> FileDisk<F> {
     fn of_end(file: F, id: FileId) -> FileDisk<F>
     where
         F: ImageFile,
-        ensures disk { IsDiskOfEnd F.ends file id result }
+        ensures disk { IsDiskOfEnd (⟦<F as ImageFile>⟧) file id result }
         ensures faults { result.faults ≡ 0 }
         ensures reads { result.reads ≡ 0 }
         ensures unsynced { result.unsynced ≡ false }
@@ -234,7 +239,7 @@ fn write_within<F: ImageFile>(file: &mut F, at: u64, from: &[u8]) -> bool
     requires fits { at + length from.now ≤ 2 ^ 53 }
     requires at { at % 512 ≡ 0 }
     requires whole { length from.now % 512 ≡ 0 }
-    ensures placed { WritesWithin F.ends F.writes F.calls at from.now result file.old file.new }
+    ensures placed { WritesWithin (⟦<F as ImageFile>⟧) at from.now result file.old file.new }
     ensures told { Leaves (write_events (at / 512) from.now) (at / 512 + length from.now / 512) result
         (contents (F.told file.old)) (contents (F.told file.new)) }
 {
@@ -250,7 +255,7 @@ fn write_open<F: ImageFile>(file: &mut Option<F>, at: u64, from: &[u8]) -> Resul
     requires fits { at + length from.now ≤ 2 ^ 53 }
     requires at { at % 512 ≡ 0 }
     requires whole { length from.now % 512 ≡ 0 }
-    ensures placed { WritesFile F.ends F.writes F.calls at from.now (is_ok result) file.old file.new }
+    ensures placed { WritesFile (⟦<F as ImageFile>⟧) at from.now (is_ok result) file.old file.new }
     ensures told { Leaves (write_events (at / 512) from.now) (at / 512 + length from.now / 512) (is_ok result)
         (contents (told_in F.told file.old)) (contents (told_in F.told file.new)) }
 {
@@ -299,7 +304,8 @@ impl<F: ImageFile + Drop> Disk for FileDisk<F> {
         ensures ok { OnOk result (Logs [] (file_disk_state F.told self.old) (file_disk_state F.told self.new)) }
         ensures err { OnErr result (FailsIn [] (file_disk_state F.told self.old) (file_disk_state F.told self.new)) }
         ensures asked { Counted 1 self.old.reads self.new.reads }
-        ensures placed { MatchOption self.old.file (IsErr result) (λ file. F.reads file (512 * n) (read_bytes result into.new)) }
+        ensures placed { MatchOption self.old.file (IsErr result)
+            (λ file. F.reads file (512 * n) (read_bytes result into.new)) }
         ensures asks { AsksFile F.calls (ReadAt (512 * n) 512) self.old.file self.new.file }
         ensures unsynced { self.new.unsynced ≡ self.old.unsynced }
     {
@@ -316,7 +322,8 @@ impl<F: ImageFile + Drop> Disk for FileDisk<F> {
         requires inside { first + length into.old / 512 ≤ (file_disk_state F.told self.old).size }
         ensures stand { result ≡ true → GivesEach (file_disk_state F.told self.old) first into.new }
         ensures stays { file_disk_state F.told self.new ≡ file_disk_state F.told self.old }
-        ensures placed { MatchOption self.old.file (result ≡ false) (λ file. F.reads file (512 * first) (looked result into.new)) }
+        ensures placed { MatchOption self.old.file (result ≡ false)
+            (λ file. F.reads file (512 * first) (looked result into.new)) }
         ensures asks { AsksFile F.calls (ReadAt (512 * first) (length into.old)) self.old.file self.new.file }
         ensures unsynced { self.new.unsynced ≡ self.old.unsynced }
     {
@@ -338,10 +345,12 @@ impl<F: ImageFile + Drop> Disk for FileDisk<F> {
     /// Besides what a disk does: where the file became shorter, what stands behind its end isn't written.
     fn write(&mut self, n: u64, from: &Sector) -> Result<(), DiskFailed>
         requires { n < (file_disk_state F.told self.old).size }
-        ensures ok { OnOk result (Logs (Event.Write n from.now ∷ []) (file_disk_state F.told self.old) (file_disk_state F.told self.new)) }
-        ensures err { OnErr result (FailsIn (Event.Write n from.now ∷ []) (file_disk_state F.told self.old) (file_disk_state F.told self.new)) }
+        ensures ok { OnOk result (Logs (Event.Write n from.now ∷ [])
+            (file_disk_state F.told self.old) (file_disk_state F.told self.new)) }
+        ensures err { OnErr result (FailsIn (Event.Write n from.now ∷ [])
+            (file_disk_state F.told self.old) (file_disk_state F.told self.new)) }
         ensures unasked { self.new.reads ≡ self.old.reads }
-        ensures placed { WritesFile F.ends F.writes F.calls (512 * n) from.now (is_ok result) self.old.file self.new.file }
+        ensures placed { WritesFile (⟦<F as ImageFile>⟧) (512 * n) from.now (is_ok result) self.old.file self.new.file }
         ensures unsynced { self.new.unsynced ≡ self.old.unsynced }
     {
         match write_open(&mut self.file, 512 * n, from) {
@@ -355,10 +364,13 @@ impl<F: ImageFile + Drop> Disk for FileDisk<F> {
     fn write_sectors(&mut self, first: u64, from: &[u8]) -> Result<(), DiskFailed>
         requires whole { length from.now % 512 ≡ 0 }
         requires inside { first + length from.now / 512 ≤ (file_disk_state F.told self.old).size }
-        ensures ok { OnOk result (Logs (write_events first from.now) (file_disk_state F.told self.old) (file_disk_state F.told self.new)) }
-        ensures err { OnErr result (FailsIn (write_events first from.now) (file_disk_state F.told self.old) (file_disk_state F.told self.new)) }
+        ensures ok { OnOk result (Logs (write_events first from.now)
+            (file_disk_state F.told self.old) (file_disk_state F.told self.new)) }
+        ensures err { OnErr result (FailsIn (write_events first from.now)
+            (file_disk_state F.told self.old) (file_disk_state F.told self.new)) }
         ensures unasked { self.new.reads ≡ self.old.reads }
-        ensures placed { WritesFile F.ends F.writes F.calls (512 * first) from.now (is_ok result) self.old.file self.new.file }
+        ensures placed { WritesFile (⟦<F as ImageFile>⟧) (512 * first) from.now (is_ok result)
+            self.old.file self.new.file }
         ensures unsynced { self.new.unsynced ≡ self.old.unsynced }
     {
         match write_open(&mut self.file, 512 * first, from) {
@@ -370,10 +382,13 @@ impl<F: ImageFile + Drop> Disk for FileDisk<F> {
     /// Besides what a disk does: after a failed flush each one fails, since the system may have dropped what was
     /// written.
     fn flush(&mut self) -> Result<(), DiskFailed>
-        ensures ok { OnOk result (Logs (Event.Flush ∷ []) (file_disk_state F.told self.old) (file_disk_state F.told self.new)) }
-        ensures err { OnErr result (FailsIn (Event.Flush ∷ []) (file_disk_state F.told self.old) (file_disk_state F.told self.new)) }
+        ensures ok { OnOk result (Logs (Event.Flush ∷ [])
+            (file_disk_state F.told self.old) (file_disk_state F.told self.new)) }
+        ensures err { OnErr result (FailsIn (Event.Flush ∷ [])
+            (file_disk_state F.told self.old) (file_disk_state F.told self.new)) }
         ensures unasked { self.new.reads ≡ self.old.reads }
-        ensures synced { self.old.unsynced ≡ false → MatchOption self.old.file (IsErr result) (λ file. F.syncs file (is_ok result)) }
+        ensures synced { self.old.unsynced ≡ false →
+            MatchOption self.old.file (IsErr result) (λ file. F.syncs file (is_ok result)) }
         ensures stays { self.old.unsynced ≡ true → IsErr result }
         ensures unsynced { self.new.unsynced ≡ is_err result }
         ensures asks { self.old.unsynced ≡ false → AsksFile F.calls SyncData self.old.file self.new.file }

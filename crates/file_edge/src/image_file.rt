@@ -1,5 +1,6 @@
-//! The file of an image, by byte offsets.
-ghost use Rattle.std.specs.Prelude.{◌≡◌, ◌+◌, ◌/◌, ◌%◌, ◌∷◌, [], ℕ, List, None, Option, Bool, IfOk, OnOk, Result, is_ok, length};
+//! An open file: an image by byte offsets, a key file or the random device from its front.
+ghost use Rattle.std.specs.Prelude.{◌≡◌, ◌+◌, ◌/◌, ◌%◌, ◌∷◌, [], ℕ, List, None, Option, Bool, IfOk, IfSome, OnErr, OnOk, Result, is_ok, length, take};
+ghost use Rattle.std.specs.Io.KnownBytes.{prepend_known};
 ghost use Rattle.std.specs.Result.{result_ok};
 ghost use Rattle.std.specs.declared.io.Error.{Error};
 ghost use Rattle.block_traits.specs.Disk.{write_events};
@@ -11,16 +12,19 @@ ghost use Rattle.file_edge.specs.declared.found.Found.{Found};
 
 use crate::found::Found;
 use crate::opener::found_of;
+use block_traits::ByteList;
+use std::alloc::Global;
 use std::fs::{File, OpenFile};
-use std::io::{self, Seek, SeekFrom};
+use std::io::{self, Read, Seek, SeekFrom};
 use std::os::unix::fs::FileExt;
 
-/// An open file that has an image. What is asked of it is proved for every such file, so that a contract can say
-/// where a sector stands and what is brought to the disk, although nothing tells what the system answers.
+/// An open file. What is asked of it is proved for every such file, so that a contract can say where a sector stands,
+/// what is brought to the disk and which bytes are loaded, although nothing tells what the system answers.
 ///
 /// A file may tell its sectors, its whole 512-byte pieces: what they held at first, and each write and sync since. It
-/// then always does, keeps their number, is changed by nobody else, and writes each sector whole or not at all.
-pub trait ImageFile {
+/// then always does, keeps their number, is changed by nobody else, and writes each sector whole or not at all. It may
+/// also tell the bytes that are left to be read from its front.
+pub trait ImageFile: Drop {
     /// Whether this may be found of it.
     ghost tells: { Self → Result Found Error → Type 0 };
 
@@ -44,6 +48,15 @@ pub trait ImageFile {
 
     /// What its sectors held at first and what was done to them since, where that is told.
     ghost told: { Self → Option Told };
+
+    /// The bytes that are left to be read from its front, where that is told.
+    ghost left: { Self → Option (List ℕ) };
+
+    /// Whether so many bytes may be filled with these, and what the file then is; none: that fails.
+    ghost fills: { ℕ → Self → Option (List ℕ) → Self → Type 0 };
+
+    /// Whether all that is left, of more than so many bytes the first of them, may be read as this.
+    ghost holds: { Self → ℕ → Result (List ℕ) Error → Type 0 };
 
     /// What is found of it.
     fn found(&self) -> io::Result<Found>
@@ -81,9 +94,21 @@ pub trait ImageFile {
         ensures syncs { syncs self.old (is_ok result) }
         ensures calls { calls self.new ≡ more (SyncData ∷ []) (calls self.old) }
         ensures told { Leaves (Flush ∷ []) 0 (is_ok result) (contents (told self.old)) (contents (told self.new)) };
+
+    /// Fills all of `into` with the first bytes that are left. A failure takes none of those that are told, and `into`
+    /// may then hold any bytes.
+    fn fill_all(&mut self, into: &mut [u8]) -> io::Result<()>
+        ensures fills { fills (length into.old) self.old (read_bytes result into.new) self.new }
+        ensures ok { OnOk result (left self.old ≡ prepend_known into.new (left self.new)) }
+        ensures err { OnErr result (left self.new ≡ left self.old) };
+
+    /// Reads all that is left, but of more than `most` bytes the first of them.
+    fn read_all(self, alloc: Global, most: u64) -> io::Result<ByteList>
+        ensures holds { holds self most result }
+        ensures known { IfOk result (λ bytes. IfSome (left self) (λ left. bytes ≡ take most left)) };
 }
 
-/// A file of the system. It tells nothing of its answers, and not what it holds.
+/// A file of the system. It tells nothing of its answers, and not what it has.
 impl ImageFile for File {
     ghost tells = { λ _ _. Unit {0} };
 
@@ -100,6 +125,12 @@ impl ImageFile for File {
     ghost calls = { λ _. None };
 
     ghost told = { λ _. None };
+
+    ghost left = { λ _. None };
+
+    ghost fills = { λ _ _ _ _. Unit {0} };
+
+    ghost holds = { λ _ _ _. Unit {0} };
 
     fn found(&self) -> io::Result<Found> {
         Ok(found_of(&self.metadata()?))
@@ -129,5 +160,15 @@ impl ImageFile for File {
 
     fn sync(&mut self) -> io::Result<()> {
         self.sync_data()
+    }
+
+    fn fill_all(&mut self, into: &mut [u8]) -> io::Result<()> {
+        self.read_exact(into)
+    }
+
+    fn read_all(self, alloc: Global, most: u64) -> io::Result<ByteList> {
+        let mut bytes = Vec::new(alloc);
+        let _ = self.take(most).read_to_end(&mut bytes)?;
+        Ok(ByteList::from_vec(bytes))
     }
 }

@@ -8,6 +8,7 @@ mod file_disk;
 mod found;
 mod image_file;
 mod opener;
+mod opening;
 mod random_file;
 mod reader;
 mod store;

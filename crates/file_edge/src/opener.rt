@@ -1,17 +1,17 @@
 //! The files of the system, by their names.
-ghost use Rattle.std.specs.Prelude.{◌≡◌, ◌<ℤ◌, ℕ, IfOk, List, None, Option, Result, is_ok, pos, true};
+ghost use Rattle.std.specs.Prelude.{◌≡◌, ◌<ℤ◌, ℕ, IfOk, List, None, Option, Result, is_ok, option_map, pos, true};
 ghost use Rattle.std.specs.Fd.{file_raw_fd};
 ghost use Rattle.std.specs.declared.fs.options.OpenOptions.{OpenOptions};
 ghost use Rattle.std.specs.declared.io.Error.{Error};
 ghost use Rattle.block_traits.specs.Causes.{HasCause};
 ghost use Rattle.file_edge.specs.Asked.{Asked, Find, Look, Open, Remove, Rename, Sync, SyncFolder, Write, asking, making, more};
-ghost use Rattle.file_edge.specs.Opening.{AsksImage, OpensImage};
-ghost use Rattle.file_edge.specs.Storing.{IsFolderOf};
+ghost use Rattle.file_edge.specs.Folder.{IsFolderOf};
+ghost use Rattle.file_edge.specs.Names.{IsUsual, MakesName, Names, OpensTold, RenamesName, SyncsNames, WritesNew, without};
+ghost use Rattle.file_edge.specs.Opening.{to_read};
 ghost use Rattle.file_edge.specs.declared.found.Found.{Found};
 
 use crate::found::{FileId, FileKind, Found};
 use crate::image_file::ImageFile;
-use crate::reader::Reader;
 use std::fs::{self, File, Metadata, OpenOptions};
 use std::io::{self, ErrorKind, Write};
 use std::os::fd::AsRawFd;
@@ -21,9 +21,12 @@ use std::rt::Files;
 /// What opens files by their names, and puts new ones in the place of others. Each use of it is proved for every
 /// opener, so that what is asked of it, in which order, can be said in a contract although nothing tells what the
 /// system answers.
+///
+/// An opener may tell what its names have, the random device among them. It then always does, no other call than these
+/// changes what a name has, and no sync of a folder fails.
 pub trait Opener {
     /// An open file.
-    type File: Reader + ImageFile + 'static;
+    type File: ImageFile + 'static;
 
     /// Whether it may answer this to these options and this name.
     ghost answers: { Self → OpenOptions → List ℕ → Result Self.File Error → Type 0 };
@@ -40,49 +43,62 @@ pub trait Opener {
     /// How often it has refused to open a file, which never falls.
     ghost refusals: { Self → ℕ };
 
+    /// What its names have, and which of them the new file has, where that is told.
+    ghost told: { Self → Option Names };
+
     /// Opens the file of this name.
     fn open(&mut self, how: &OpenOptions, name: &str) -> io::Result<Self::File>
         ensures answers { answers self.old how.now name.now result }
+        ensures opened { how.now ≡ to_read → OpensTold (⟦<Self::File as ImageFile>⟧) (told self.old) name.now result }
+        ensures told { IsUsual how.now → told self.new ≡ told self.old }
         ensures asked { asked self.new ≡ more (asking (Open how.now name.now) (is_ok result)) (asked self.old) }
         ensures cause { HasCause (refusals self.old) (refusals self.new) result };
 
     /// What the name leads to; a link is followed.
     fn find(&mut self, name: &str) -> io::Result<Found>
         ensures leads { leads self.old name.now result }
+        ensures told { told self.new ≡ told self.old }
         ensures asked { asked self.new ≡ more (asking (Find name.now) true) (asked self.old) };
 
     /// What has this name; a link is found as a link.
     fn look(&mut self, name: &str) -> io::Result<Found>
         ensures finds { finds self.old name.now result }
+        ensures told { told self.new ≡ told self.old }
         ensures asked { asked self.new ≡ more (asking (Look name.now) true) (asked self.old) };
 
     /// Makes a file of this name, with these permissions, where nothing has the name: the new file of the next calls.
     /// `AlreadyExists`: something has it.
     fn make(&mut self, mode: u32, name: &str) -> io::Result<()>
-        ensures { asked self.new ≡ more (making mode name.now result) (asked self.old) };
+        ensures told { MakesName name.now (is_ok result) (told self.old) (told self.new) }
+        ensures asked { asked self.new ≡ more (making mode name.now result) (asked self.old) };
 
     /// Writes all bytes behind those of the new file.
     fn write(&mut self, bytes: &[u8]) -> io::Result<()>
-        ensures { asked self.new ≡ more (asking (Write bytes.now) (is_ok result)) (asked self.old) };
+        ensures told { WritesNew bytes.now (is_ok result) (told self.old) (told self.new) }
+        ensures asked { asked self.new ≡ more (asking (Write bytes.now) (is_ok result)) (asked self.old) };
 
     /// Brings the new file to the disk.
     fn sync(&mut self) -> io::Result<()>
-        ensures { asked self.new ≡ more (asking Sync (is_ok result)) (asked self.old) };
+        ensures told { told self.new ≡ told self.old }
+        ensures asked { asked self.new ≡ more (asking Sync (is_ok result)) (asked self.old) };
 
     /// Gives a file another name, in place of the file that has that.
     fn rename(&mut self, from: &str, to: &str) -> io::Result<()>
-        ensures { asked self.new ≡ more (asking (Rename from.now to.now) (is_ok result)) (asked self.old) };
+        ensures told { RenamesName from.now to.now (is_ok result) (told self.old) (told self.new) }
+        ensures asked { asked self.new ≡ more (asking (Rename from.now to.now) (is_ok result)) (asked self.old) };
 
     /// Brings the folder in which the name stands to the disk.
     fn sync_folder(&mut self, name: &str) -> io::Result<()>
-        ensures { asked self.new ≡ more (asking (SyncFolder name.now) (is_ok result)) (asked self.old) };
+        ensures told { SyncsNames (is_ok result) (told self.old) (told self.new) }
+        ensures asked { asked self.new ≡ more (asking (SyncFolder name.now) (is_ok result)) (asked self.old) };
 
     /// Removes a name, if it can.
     fn remove(&mut self, name: &str)
-        ensures { asked self.new ≡ more (asking (Remove name.now) true) (asked self.old) };
+        ensures told { told self.new ≡ option_map (without name.now) (told self.old) }
+        ensures asked { asked self.new ≡ more (asking (Remove name.now) true) (asked self.old) };
 }
 
-/// The files of the system. It tells nothing of its answers, and counts each refusal.
+/// The files of the system. It tells nothing of its answers and of what names have, and counts each refusal.
 #[derive(Drop)]
 pub struct SystemFiles<R: Files<File = File> + Drop> {
     rt: R,
@@ -116,6 +132,8 @@ impl<R: Files<File = File> + Drop> Opener for SystemFiles<R> {
     ghost asked = { λ _. None };
 
     ghost refusals = { λ files. files.refusals };
+
+    ghost told = { λ _. None };
 
     /// Besides what an opener does: no file that it opens is a standard stream.
     fn open(&mut self, how: &OpenOptions, name: &str) -> io::Result<File>
@@ -210,29 +228,4 @@ fn folder_of(name: &str) -> &str
         Some((folder, _)) => folder,
         None => ".",
     }
-}
-
-/// Opens an image to be read and written, or, where that isn't asked for or is refused, to be read.
-pub(crate) fn open_image<O: Opener>(
-    opener: &mut O,
-    changes: bool,
-    name: &str,
-) -> io::Result<O::File>
-    ensures opens { OpensImage O.answers opener.old changes name.now result }
-    ensures asked { AsksImage O.asked opener.old changes name.now opener.new }
-{
-    if changes {
-        return open_to_change(opener, name);
-    }
-    opener.open(OpenOptions::new().read(true), name)
-}
-
-fn open_to_change<O: Opener>(opener: &mut O, name: &str) -> io::Result<O::File>
-    ensures opens { OpensImage O.answers opener.old true name.now result }
-    ensures asked { AsksImage O.asked opener.old true name.now opener.new }
-{
-    if let Ok(file) = opener.open(OpenOptions::new().read(true).write(true), name) {
-        return Ok(file);
-    }
-    opener.open(OpenOptions::new().read(true), name)
 }

@@ -1,27 +1,32 @@
 //! The system's random bytes.
-ghost use Rattle.std.specs.Prelude.{◌≡◌, None, IfSome, IsErr, IsNone, OnOk, length};
-ghost use Rattle.std.specs.Io.KnownBytes.{Consumes};
+ghost use Rattle.std.specs.Prelude.{◌≡◌, IfSome, IsErr, IsNone, OnErr, OnOk, length};
+ghost use Rattle.std.specs.Io.KnownBytes.{prepend_known};
 ghost use Rattle.block_traits.specs.Causes.{Counted, HasCause};
 ghost use Rattle.file_edge.specs.ImageFile.{read_bytes};
-ghost use Rattle.file_edge.specs.RandomFile.{AsksDevice, OpensDevice};
 
+use crate::image_file::ImageFile;
 use crate::opener::Opener;
-use crate::reader::Reader;
 use block_traits::{Entropy, EntropyFailed};
 use std::fs::OpenOptions;
 
-/// `/dev/urandom` as entropy. It tells no content, and counts each failure and each call.
+/// `/dev/urandom` as entropy. It tells the bytes that are left where its device does, and counts each failure and each
+/// call.
 #[derive(Drop)]
-pub struct RandomFile<R: Reader> {
-    device: Option<R>,
+pub struct RandomFile<F: ImageFile> {
+    device: Option<F>,
     faults: u64,
     calls: u64,
 }
 
-impl<R: Reader + 'static> RandomFile<R> {
-    /// Opens the device. Where it can't be opened, each call fails.
-    pub fn open<O: Opener<File = R>>(opener: &mut O) -> RandomFile<R>
+impl<F: ImageFile + 'static> RandomFile<F> {
+    ghost use Rattle.file_edge.specs.Names.{IsRandom};
+    ghost use Rattle.file_edge.specs.RandomFile.{AsksDevice, OpensDevice, left_in};
+
+    /// Opens the device. Where it can't be opened, each call fails, and nothing is left.
+    pub fn open<O: Opener<File = F>>(opener: &mut O) -> RandomFile<F>
         ensures opens { OpensDevice O.answers opener.old result }
+        ensures left { IsRandom (O.told opener.old) (left_in F.left result.device) }
+        ensures told { O.told opener.new ≡ O.told opener.old }
         ensures asked { AsksDevice O.asked opener.old opener.new }
         ensures faults { result.faults ≡ 0 }
         ensures calls { result.calls ≡ 0 }
@@ -36,16 +41,22 @@ impl<R: Reader + 'static> RandomFile<R> {
     }
 }
 
-impl<R: Reader> Entropy for RandomFile<R> {
-    ghost state = { λ random. record { left = None; faults = random.faults; calls = random.calls } };
+impl<F: ImageFile> Entropy for RandomFile<F> {
+    ghost use Rattle.file_edge.specs.RandomFile.{left_in};
+
+    ghost state = { λ random. record {
+      left = left_in F.left random.device;
+      faults = random.faults;
+      calls = random.calls;
+    } };
 
     /// Besides what entropy does: it answers as the device did, and fails only where that failed or there is none.
-    /// Where the device knows its bytes, they are given.
     fn fill(&mut self, into: &mut [u8]) -> Result<(), EntropyFailed>
-        ensures known { OnOk result (IfSome self.old.device (λ before. IfSome self.new.device (λ after.
-            Consumes (R.remaining before) (R.remaining after) into.new))) }
+        ensures ok { OnOk result (left_in F.left self.old.device
+            ≡ prepend_known into.new (left_in F.left self.new.device)) }
+        ensures err { OnErr result (left_in F.left self.new.device ≡ left_in F.left self.old.device) }
         ensures answered { IfSome self.old.device (λ before. IfSome self.new.device (λ after.
-            R.fills (length into.old) before (read_bytes result into.new) after)) }
+            F.fills (length into.old) before (read_bytes result into.new) after)) }
         ensures kept { IsNone self.new.device → IsNone self.old.device }
         ensures unopened { IsNone self.old.device → IsErr result }
         ensures cause { HasCause self.old.faults self.new.faults result }

@@ -1,12 +1,9 @@
 //! What gives bytes and what takes them, by what one call may answer.
-ghost use Rattle.std.specs.Prelude.{◌≤◌, ◌≡◌, ℕ, IfOk, IfSome, List, OnOk, Option, Result, length, take};
-ghost use Rattle.std.specs.Io.KnownBytes.{Consumes, ReadConsumes, WriteAppends};
+ghost use Rattle.std.specs.Prelude.{◌≤◌, ℕ, IfOk, List, Result, length};
+ghost use Rattle.std.specs.Io.KnownBytes.{ReadConsumes, WriteAppends};
 ghost use Rattle.std.specs.declared.io.Error.{Error};
-ghost use Rattle.file_edge.specs.ImageFile.{read_bytes};
 ghost use Rattle.file_edge.specs.Streams.{given};
 
-use block_traits::ByteList;
-use std::alloc::Global;
 use std::io::{self, Read, Write};
 
 /// A reader that says what a call may answer. What is asked of it is proved for every such reader, so that a contract
@@ -15,49 +12,19 @@ pub trait Reader: Read + Drop {
     /// Whether one read of at most so many bytes may give these, and what the reader then is.
     ghost gives: { ℕ → Self → Result (List ℕ) Error → Self → Type 0 };
 
-    /// Whether so many bytes may be filled with these, and what the reader then is; none: that fails.
-    ghost fills: { ℕ → Self → Option (List ℕ) → Self → Type 0 };
-
-    /// Whether all that is left, of more than so many bytes the first of them, may be read as this.
-    ghost holds: { Self → ℕ → Result (List ℕ) Error → Type 0 };
-
     /// One read.
     fn read_once(&mut self, into: &mut [u8]) -> io::Result<usize>
         ensures gives { gives (length into.old) self.old (given result into.new) self.new }
         ensures bound { IfOk result (λ k. k ≤ length into.new) }
         ensures known { ReadConsumes (Self.remaining self.old) (Self.remaining self.new) result into.new };
-
-    /// Fills all of `into`.
-    fn fill_all(&mut self, into: &mut [u8]) -> io::Result<()>
-        ensures fills { fills (length into.old) self.old (read_bytes result into.new) self.new }
-        ensures known { OnOk result (Consumes (Self.remaining self.old) (Self.remaining self.new) into.new) };
-
-    /// Reads all that is left, but of more than `most` bytes the first of them.
-    fn read_all(self, alloc: Global, most: u64) -> io::Result<ByteList>
-        ensures holds { holds self most result }
-        ensures known { IfOk result (λ bytes. IfSome (Self.remaining self) (λ left. bytes ≡ take most left)) };
 }
 
 /// Any reader, which tells nothing of its answers.
 impl<R: Read + Drop> Reader for R {
     ghost gives = { λ _ _ _ _. Unit {0} };
 
-    ghost fills = { λ _ _ _ _. Unit {0} };
-
-    ghost holds = { λ _ _ _. Unit {0} };
-
     fn read_once(&mut self, into: &mut [u8]) -> io::Result<usize> {
         self.read(into)
-    }
-
-    fn fill_all(&mut self, into: &mut [u8]) -> io::Result<()> {
-        self.read_exact(into)
-    }
-
-    fn read_all(self, alloc: Global, most: u64) -> io::Result<ByteList> {
-        let mut bytes = Vec::new(alloc);
-        let _ = self.take(most).read_to_end(&mut bytes)?;
-        Ok(ByteList::from_vec(bytes))
     }
 }
 

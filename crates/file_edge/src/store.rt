@@ -1,6 +1,8 @@
 //! A file that is stored under a name, in place of what has it.
-ghost use Rattle.std.specs.Prelude.{◌≡◌, ◌↔◌, IfOk, IsTrue, MatchResult, string_bytes};
+ghost use Rattle.std.specs.Prelude.{◌≡◌, ◌↔◌, IfOk, IsTrue, MatchResult, OnOk, Option, string_bytes, true};
 ghost use Rattle.std.specs.IoError.{error_kind};
+ghost use Rattle.std.specs.Str.{IsUtf8};
+ghost use Rattle.file_edge.specs.Names.{MakesName, Names, StoresName};
 ghost use Rattle.file_edge.specs.Storing.{Brings, MakesBeside, MakesNone, BringsToName, Stores, beside_name};
 
 use crate::found::{FileId, is_replaceable};
@@ -40,7 +42,9 @@ pub fn store_file<O: Opener>(
     name: &[u8],
     bytes: &[u8],
 ) -> Result<(), Stop>
-    ensures { Stores O.finds O.asked images.now opener.old name.now bytes.now result opener.new }
+    ensures stores { Stores (⟦<O as Opener>⟧) images.now opener.old name.now bytes.now result opener.new }
+    ensures text { OnOk result (IsUtf8 name.now) }
+    ensures told { StoresName name.now bytes.now result (O.told opener.old) (O.told opener.new) }
 {
     let Ok(name) = str::from_utf8(name) else {
         return Err(Stop::Named);
@@ -54,7 +58,8 @@ pub fn store_file<O: Opener>(
 
 // Makes a file beside, and brings it to the name.
 fn bring<O: Opener>(opener: &mut O, alloc: Global, name: &str, bytes: &[u8]) -> Result<(), Stop>
-    ensures { Brings O.asked name.now bytes.now opener.old result opener.new }
+    ensures brings { Brings O.asked name.now bytes.now opener.old result opener.new }
+    ensures told { StoresName name.now bytes.now result (O.told opener.old) (O.told opener.new) }
 {
     match make_beside(opener, alloc, name) {
         Ok(beside) => replace(opener, name, beside.as_str(), bytes),
@@ -65,7 +70,12 @@ fn bring<O: Opener>(opener: &mut O, alloc: Global, name: &str, bytes: &[u8]) -> 
 // Makes a new file under the first name beside that is free. Others stay: a run that was ended may have left them, or
 // another one uses them.
 fn make_beside<O: Opener>(opener: &mut O, alloc: Global, name: &str) -> Result<String, Stop>
-    ensures { MatchResult result (λ beside. MakesBeside O.asked name.now opener.old (string_bytes beside) opener.new) (λ stop. MakesNone O.asked name.now opener.old stop opener.new) }
+    ensures makes { MatchResult result
+        (λ beside. MakesBeside O.asked name.now opener.old (string_bytes beside) opener.new)
+        (λ stop. MakesNone O.asked name.now opener.old stop opener.new) }
+    ensures told { MatchResult result
+        (λ beside. MakesName (string_bytes beside) true (O.told opener.old) (O.told opener.new))
+        (λ stop. O.told opener.new ≡ O.told opener.old) }
 {
     for number in 0..u64::MAX {
         let Ok(beside) = beside_of(alloc, name, number) else {
@@ -103,9 +113,11 @@ fn beside_of(alloc: Global, name: &str, number: u64) -> Result<String, AllocErro
     Ok(text)
 }
 
-// Brings the file beside to the name.
+// Brings the new file, which was made beside, to the name.
 fn replace<O: Opener>(opener: &mut O, name: &str, beside: &str, bytes: &[u8]) -> Result<(), Stop>
-    ensures { BringsToName O.asked name.now bytes.now opener.old beside.now result opener.new }
+    ensures brings { BringsToName O.asked name.now bytes.now opener.old beside.now result opener.new }
+    ensures told { (first : Option Names) → MakesName beside.now true first (O.told opener.old)
+        → StoresName name.now bytes.now result first (O.told opener.new) }
 {
     if opener.write(bytes).is_err() {
         opener.remove(beside);

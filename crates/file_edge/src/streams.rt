@@ -33,7 +33,12 @@ impl<R: Reader> InputSource<R> {
 }
 
 impl<R: Reader> Source for InputSource<R> {
-    ghost state = { λ source. record { left = None; faults = source.faults; refused = source.faults; ends = source.ends } };
+    ghost state = { λ source. record {
+      left = None;
+      faults = source.faults;
+      refused = source.faults;
+      ends = source.ends;
+    } };
 
     /// Besides what a source does: it answers as one read of the reader did, made again only where a signal interrupted
     /// it, and fails only where that failed. Where the reader knows its bytes, they are given, and 0 only at their end.
@@ -41,7 +46,8 @@ impl<R: Reader> Source for InputSource<R> {
         requires { 0 < length into.old }
         ensures bound { IfOk result (λ k. k ≤ length into.new) }
         ensures known { ReadConsumes (R.remaining self.old.reader) (R.remaining self.new.reader) result into.new }
-        ensures answered { PassesOn (R.gives (length into.old)) self.old.reader (result_ok (given result into.new)) self.new.reader }
+        ensures answered { PassesOn (R.gives (length into.old)) self.old.reader
+            (result_ok (given result into.new)) self.new.reader }
         ensures cause { HasCause self.old.faults self.new.faults result }
         ensures granted { OnOk result (self.new.faults ≡ self.old.faults) }
         ensures refused { OnErr result (Counted 1 self.old.faults self.new.faults) }

@@ -1,12 +1,24 @@
 //! The program `geli`: the disks, streams, files and random bytes of the system are handed to the run.
 #![tactic(auto)]
 
+ghost use Rattle.std.specs.Prelude.{◌≡◌, MatchResult};
+
 use file_edge::{InputSource, OutputSink, SystemFiles};
 use geli_core::Status;
-use image_run::{exit_code, run_words, words_of};
+use image_run::{exit_code, run_files, words_of};
 use std::fs::File;
 use std::process::ExitCode;
 use std::{env, io};
+
+// The status of a run, or want of memory; the shelf, the files and the random bytes are let go.
+fn status_of<S: Drop, C: Drop, E: Drop, X: Drop>(ran: Result<(Status, S, C, E), X>) -> Status
+    ensures { MatchResult ran (λ left. result ≡ left.0) (λ _. result ≡ Status.NoMemory) }
+{
+    match ran {
+        Ok((status, _, _, _)) => status,
+        Err(_) => Status::NoMemory,
+    }
+}
 
 fn main(rt: HostRuntime) -> ExitCode {
     let alloc = rt.alloc();
@@ -20,7 +32,8 @@ fn main(rt: HostRuntime) -> ExitCode {
             let opener = SystemFiles::new(files);
             let mut input = InputSource::new(rt.reader());
             let mut output = OutputSink::new(io::writer(&rt));
-            run_words(alloc, &words, opener, &mut input, &mut output)
+            let ran = run_files(alloc, &words, opener, &mut input, &mut output);
+            status_of(ran)
         }
         _ => Status::NoMemory,
     };

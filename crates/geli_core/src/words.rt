@@ -6,9 +6,8 @@ ghost use Rattle.command_words.specs.Places.{CommandIsWithin, ProviderIsText, pr
 ghost use Rattle.geli_core.specs.Words.{FitsItsLine, Says, image_names_of};
 
 use block_traits::NoMemory;
-use command_words::{Command, command_in, joined, script_images};
+use command_words::{Command, command_in, copied_names, joined, provider_name, script_images};
 use std::alloc::Global;
-use std::str;
 
 /// What the words of the command line say.
 #[derive(Drop)]
@@ -48,35 +47,9 @@ impl Words<'_> {
         ensures { IfOk result (λ images. map string_bytes images.items ≡ image_names_of self.now) }
     {
         match self {
-            Words::Script(names) => copied(alloc, names),
-            Words::One { line, command } => provider_in(alloc, line, command),
+            Words::Script(names) => copied_names(alloc, names),
+            Words::One { line, command } => provider_name(alloc, line, command),
             Words::Usage => Ok(Vec::new(alloc)),
         }
     }
-}
-
-fn copied(alloc: Global, names: &[String]) -> Result<Vec<String>, NoMemory>
-    ensures { IfOk result (λ images. map string_bytes images.items ≡ map string_bytes names.now) }
-{
-    let mut images = Vec::new(alloc);
-    for name in names {
-        images.push(String::from_str(alloc, name.as_str())?)?;
-    }
-    Ok(images)
-}
-
-// The name of the provider, if the command has one.
-fn provider_in(alloc: Global, line: &[u8], command: &Command) -> Result<Vec<String>, NoMemory>
-    requires within { CommandIsWithin (length line.now) command.now }
-    requires text { ProviderIsText line.now command.now }
-    ensures { IfOk result (λ images. map string_bytes images.items ≡ name_at line.now (provider_of command.now)) }
-{
-    let mut images = Vec::new(alloc);
-    if let Some(span) = command.provider() {
-        match str::from_utf8(span.bytes_in(line)) {
-            Ok(name) => images.push(String::from_str(alloc, name)?)?,
-            Err(_) => unreachable!(),
-        }
-    }
-    Ok(images)
 }

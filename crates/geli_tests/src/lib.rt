@@ -11,7 +11,11 @@ mod eject;
 #[cfg(test)]
 mod failures;
 #[cfg(test)]
+mod files;
+#[cfg(test)]
 mod kinds;
+#[cfg(test)]
+mod lines;
 #[cfg(test)]
 mod metadata;
 #[cfg(test)]

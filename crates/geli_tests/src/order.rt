@@ -93,11 +93,22 @@ fn status_of(
     Ok(run(alloc, &said, &mut shelf, &mut outside).number())
 }
 
-// Runs a script whose lines are given one a call, where these calls fail: its status, how often source and sink were
-// called, and whether a reply was late.
+// Runs a script whose lines are given one a call, where these calls fail.
 fn asked(
     alloc: Global,
     input: &str,
+    fails_in: &[u64],
+    fails_out: &[u64],
+) -> Result<(u8, u64, u64, bool), Fail> {
+    asked_in_pieces(alloc, input, &[5; 8], fails_in, fails_out)
+}
+
+// Runs a script that is given in pieces of these sizes, where these calls fail: its status, how often source and sink
+// were called, and whether a reply was late.
+fn asked_in_pieces(
+    alloc: Global,
+    input: &str,
+    pieces: &[usize],
     fails_in: &[u64],
     fails_out: &[u64],
 ) -> Result<(u8, u64, u64, bool), Fail> {
@@ -111,7 +122,7 @@ fn asked(
         },
     )?;
     let mut source = WatchedSource {
-        source: MemSource::new(alloc, input.as_bytes(), &[5; 8], fails_in)?,
+        source: MemSource::new(alloc, input.as_bytes(), pieces, fails_in)?,
         notes: notes.clone()?,
     };
     let mut sink = WatchedSink {
@@ -143,5 +154,19 @@ fn what_failed_is_not_asked_again(rt: HostRuntime) -> Result<(), Fail> {
     assert!(&rt; asked(alloc, LISTS, &[2], &[])? == (3, 2, 1, false));
     assert!(&rt; asked(alloc, LISTS, &[], &[1])? == (4, 1, 1, false));
     assert!(&rt; asked(alloc, LISTS, &[], &[2])? == (4, 2, 2, false));
+    Ok(())
+}
+
+// A source that gives all that is asked for is asked once for each 4,096 bytes or more, and once at the end.
+#[test]
+fn a_script_is_taken_in_few_calls(rt: HostRuntime) -> Result<(), Fail> {
+    let alloc = rt.alloc();
+    let mut script = String::new(alloc);
+    for _ in 0..1000 {
+        script.push_str("# no\n")?;
+    }
+    let (status, takes, _, _) = asked_in_pieces(alloc, &script, &[], &[], &[])?;
+    assert!(&rt; status == 0);
+    assert!(&rt; takes <= 3);
     Ok(())
 }

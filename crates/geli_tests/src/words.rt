@@ -1,6 +1,7 @@
 //! The images that words name, against the table of another implementation.
 mod table;
 
+use command_words::images_of;
 use geli_core::read_words;
 use std::alloc::Global;
 use std::fmt::Write;
@@ -46,12 +47,20 @@ fn words_of(alloc: Global, text: &str) -> Result<Vec<String>, Fail> {
     Ok(words)
 }
 
-// The images that words name, as the table has them.
-fn show(alloc: Global, words: &[String]) -> Result<String, Fail> {
-    let images = read_words(alloc, words)?.images(alloc)?;
+// Names, as the table has them.
+fn show(alloc: Global, names: &[String]) -> Result<String, Fail> {
     let mut shown = String::new(alloc);
-    write!(shown, "{:?}", images.as_slice())?;
+    write!(shown, "{:?}", names)?;
     Ok(shown)
+}
+
+// Whether words name these images, as a run reads them and as `images_of` does.
+fn name(alloc: Global, words: &[String], want: &str) -> Result<bool, Fail> {
+    let of_run = read_words(alloc, words)?.images(alloc)?;
+    let of_words = images_of(alloc, words)?;
+    let as_read = show(alloc, of_run.as_slice())?;
+    let as_named = show(alloc, of_words.as_slice())?;
+    Ok(as_read.as_str() == want && as_named.as_str() == want)
 }
 
 #[test]
@@ -60,11 +69,9 @@ fn images_of_the_table(rt: HostRuntime) -> Result<(), Fail> {
     for row in IMAGES.lines() {
         let (words, want) = row.split_once("||").ok_or("names")?;
         let words = words_of(alloc, words)?;
-        let shown = show(alloc, words.as_slice())?;
         let want = plain(alloc, want)?;
-        assert!(&rt; shown.as_str() == want.as_str(), "{row}");
+        assert!(&rt; name(alloc, words.as_slice(), want.as_str())?, "{row}");
     }
-    let none = show(alloc, &[])?;
-    assert!(&rt; none.as_str() == "[]");
+    assert!(&rt; name(alloc, &[], "[]")?);
     Ok(())
 }

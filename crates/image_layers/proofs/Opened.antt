@@ -1,16 +1,15 @@
 -- The disk of an image, from the disks of its files; and what was asked where memory gave out.
-use Rattle.std.proofs.Common.{◌≡◌, ◌⊎◌, inl, inr, refl, subst, sym, ap, ℕ, suc, List, [], ◌∷◌, ◌++◌, length, Bool, Option, Result}
+use Rattle.std.proofs.Common.{◌∙◌, ◌≡◌, ◌⊎◌, inl, inr, refl, subst, sym, ap, ℕ, suc, List, [], ◌∷◌, ◌++◌, length, Bool, Option, Result}
 use Rattle.std.proofs.Common.{Ok, Err, OnErr, le_refl, take_all}
-use Rattle.std.specs.declared.fs.options.OpenOptions.{OpenOptions}
-use Rattle.std.specs.declared.io.Error.{Error}
 use Rattle.block_traits.specs.declared.disk.Disk.{Ghosts}
 use Rattle.file_edge.specs.Asked.{Asked}
 use Rattle.file_edge.specs.FileDisk.{AsksDisk}
 use Rattle.file_edge.specs.declared.file_disk.FileDisk.{FileDisk}
-use Rattle.file_edge.specs.declared.found.Found.{Found}
+use Rattle.file_edge.specs.declared.image_file.ImageFile as image_file
+use Rattle.file_edge.specs.declared.opener.Opener as opener
 use Rattle.image_layers.specs.declared.image_disks.ImageDisk.{ImageDisk}
 use Rattle.image_layers.specs.declared.image_disks.ImageDisk.TheVariants.{Plain, Behind, Join}
-use Rattle.image_layers.specs.Images.{AsksFiles, AsksFirst, AsksFor, AsksPart, IsBehindOf, IsJoinOf, IsPlain, JoinsOrIsNone, Opening, OpensBoth, OpensImageDisk, OpensImages, OpensJoin, OpensOne, WaitsFor}
+use Rattle.image_layers.specs.Images.{AsksFiles, AsksFirst, AsksFor, AsksPart, IsBehindOf, IsJoinOf, IsPlain, JoinsOrIsNone, Opening, OpensBoth, OpensImageDisk, OpensImages, OpensJoin}
 
 -- the files of an image that was opened
 record Asks {O : Type 0} (log_of : O → Option (List Asked)) (changes : Bool) (name : List ℕ) (old new : O) : Type 0 where
@@ -22,16 +21,16 @@ asks_two : {O : Type 0} (log_of : O → Option (List Asked)) (changes : Bool) (n
     → Asks log_of changes name old new
 asks_two log_of changes name left right old between new is one other = record { files = left ∷ right ∷ []; own = is; asked = (between, one, (new, other, refl)) }
 
-module _ {O F : Type 0} {g : Ghosts (FileDisk F)} (leads : O → List ℕ → Result Found Error → Type 0) (answers : O → OpenOptions → List ℕ → Result F Error → Type 0) (tells : F → Result Found Error → Type 0) (locks : F → Bool → Type 0) (ends : F → Option ℕ → Type 0) (log_of : O → Option (List Asked)) (changes : Bool) where
+module _ {O F : Type 0} {g : Ghosts (FileDisk F)} (o : opener.Ghosts O F) (f : image_file.Ghosts F) (changes : Bool) where
   abbrev Image : List ℕ → ImageDisk F g → Opening O → Opening O → Type 0
-  Image = OpensImageDisk leads answers tells locks ends log_of changes
+  Image = OpensImageDisk o f changes
 
   -- two disks as one, or none
   pub joined : (name left right : List ℕ) (first second : FileDisk F) (image : ImageDisk F g) (old new : Opening O) → IsJoinOf name left right → JoinsOrIsNone first second image
-      → OpensBoth leads answers tells locks ends log_of changes left right first second old new → Image name image old new
+      → OpensBoth o f changes left right first second old new → Image name image old new
   joined name left right first second (Join both) old new is joins two =
-      let P : FileDisk F → Type 0 = λ disk. OpensJoin leads answers tells locks ends log_of changes name disk second old new in
-      let Q : FileDisk F → Type 0 = λ disk. OpensJoin leads answers tells locks ends log_of changes name both.first disk old new in
+      let P : FileDisk F → Type 0 = λ disk. OpensJoin o f changes name disk second old new in
+      let Q : FileDisk F → Type 0 = λ disk. OpensJoin o f changes name both.first disk old new in
       subst Q (sym joins.1) (subst P (sym joins.0) (record { left = left; right = right; join = is; opens = two }))
   joined name left right first second (Plain disk) old new is joins two =
       inr (record { first = first; second = second; joined = record { left = left; right = right; join = is; opens = two }; large = joins.0; unopened = joins.1 })
@@ -39,24 +38,24 @@ module _ {O F : Type 0} {g : Ghosts (FileDisk F)} (leads : O → List ℕ → Re
 
   -- ---- what was asked
 
-  asks_image : (name : List ℕ) (image : ImageDisk F g) (old new : Opening O) → Image name image old new → Asks log_of changes name old.opener new.opener
+  asks_image : (name : List ℕ) (image : ImageDisk F g) (old new : Opening O) → Image name image old new → Asks o.asked changes name old.opener new.opener
   asks_image name (Behind behind) old new h = record { files = h.rest ∷ []; own = inr h.behind; asked = (new.opener, h.opens.asked, refl) }
-  asks_image name (Join both) old new h = asks_two log_of changes name h.left h.right old.opener h.opens.between.opener new.opener h.join h.opens.one.asked h.opens.other.asked
+  asks_image name (Join both) old new h = asks_two o.asked changes name h.left h.right old.opener h.opens.between.opener new.opener h.join h.opens.one.asked h.opens.other.asked
   asks_image name (Plain disk) old new (inl h) = record { files = name ∷ []; own = inl (h.0, refl); asked = (new.opener, h.1.asked, refl) }
-  asks_image name (Plain disk) old new (inr h) = asks_two log_of changes name h.joined.left h.joined.right old.opener h.joined.opens.between.opener new.opener h.joined.join h.joined.opens.one.asked h.joined.opens.other.asked
+  asks_image name (Plain disk) old new (inr h) = asks_two o.asked changes name h.joined.left h.joined.right old.opener h.joined.opens.between.opener new.opener h.joined.join h.joined.opens.one.asked h.joined.opens.other.asked
 
   -- all of its files are the first of them
-  pub image_part : (name : List ℕ) (image : ImageDisk F g) (old new : Opening O) → Image name image old new → AsksPart log_of changes name old.opener new.opener
+  pub image_part : (name : List ℕ) (image : ImageDisk F g) (old new : Opening O) → Image name image old new → AsksPart o.asked changes name old.opener new.opener
   image_part name image old new h =
       let asks = asks_image name image old new h in
-      let P : List (List ℕ) → Type 0 = λ files. AsksFiles log_of changes files old.opener new.opener in
+      let P : List (List ℕ) → Type 0 = λ files. AsksFiles o.asked changes files old.opener new.opener in
       record { files = asks.files; own = asks.own; count = length asks.files; asked = subst P (sym (take_all (length asks.files) asks.files (le_refl (length asks.files)))) asks.asked }
 
   -- these images were opened, and of the next a part was asked
-  pub first_asked : (done : List (List ℕ)) (name : List ℕ) (rest : List (List ℕ)) (disks : List (ImageDisk F g)) (old middle : Opening O) (new : O) → OpensImages leads answers tells locks ends log_of changes done disks old middle
-      → AsksPart log_of changes name middle.opener new → AsksFirst log_of changes ((done ++ name ∷ []) ++ rest) old.opener new
+  pub first_asked : (done : List (List ℕ)) (name : List ℕ) (rest : List (List ℕ)) (disks : List (ImageDisk F g)) (old middle : Opening O) (new : O) → OpensImages o f changes done disks old middle
+      → AsksPart o.asked changes name middle.opener new → AsksFirst o.asked changes ((done ++ name ∷ []) ++ rest) old.opener new
   first_asked [] name rest [] old middle new is part =
-      let P : Opening O → Type 0 = λ o. AsksPart log_of changes name o.opener new in
+      let P : Opening O → Type 0 = λ begun. AsksPart o.asked changes name begun.opener new in
       inr (inl (subst P is part))
   first_asked [] name rest (d ∷ disks) old middle new are part = absurd are
   first_asked (n ∷ done) name rest [] old middle new are part = absurd are
@@ -64,9 +63,22 @@ module _ {O F : Type 0} {g : Ghosts (FileDisk F)} (leads : O → List ℕ → Re
       let asks = asks_image n d old are.0 are.1 in
       inr (inr (record { files = asks.files; own = asks.own; next = are.0.opener; asked = asks.asked; behind = first_asked done name rest disks are.0 middle new are.2 part }))
 
+  -- names have what they had
+  image_stays : (name : List ℕ) (image : ImageDisk F g) (old new : Opening O) → Image name image old new → o.told new.opener ≡ o.told old.opener
+  image_stays name (Behind behind) old new h = h.opens.told
+  image_stays name (Join both) old new h = h.opens.other.told ∙ h.opens.one.told
+  image_stays name (Plain disk) old new (inl h) = h.1.told
+  image_stays name (Plain disk) old new (inr h) = h.joined.opens.other.told ∙ h.joined.opens.one.told
+
+  pub images_stay : (names : List (List ℕ)) (disks : List (ImageDisk F g)) (old new : Opening O) → OpensImages o f changes names disks old new → o.told new.opener ≡ o.told old.opener
+  images_stay [] [] old new are = ap (λ (begun : Opening O). o.told begun.opener) are
+  images_stay [] (d ∷ disks) old new are = absurd are
+  images_stay (n ∷ names) [] old new are = absurd are
+  images_stay (n ∷ names) (d ∷ disks) old new are = images_stay names disks are.0 new are.2 ∙ image_stays n d old are.0 are.1
+
   -- one more image is opened
-  pub one_more : (names : List (List ℕ)) (disks : List (ImageDisk F g)) (name : List ℕ) (image : ImageDisk F g) (old middle new : Opening O) → OpensImages leads answers tells locks ends log_of changes names disks old middle
-      → Image name image middle new → OpensImages leads answers tells locks ends log_of changes (names ++ name ∷ []) (disks ++ image ∷ []) old new
+  pub one_more : (names : List (List ℕ)) (disks : List (ImageDisk F g)) (name : List ℕ) (image : ImageDisk F g) (old middle new : Opening O) → OpensImages o f changes names disks old middle
+      → Image name image middle new → OpensImages o f changes (names ++ name ∷ []) (disks ++ image ∷ []) old new
   one_more [] [] name image old middle new is opens =
       let P : Opening O → Type 0 = λ o. Image name image o new in
       (new, subst P is opens, refl)
@@ -75,7 +87,7 @@ module _ {O F : Type 0} {g : Ghosts (FileDisk F)} (leads : O → List ℕ → Re
   one_more (n ∷ names) (d ∷ disks) name image old middle new are opens = (are.0, are.1, one_more names disks name image are.0 middle new are.2 opens)
 
   -- there are as many disks as names
-  pub as_many : (names : List (List ℕ)) (disks : List (ImageDisk F g)) (old new : Opening O) → OpensImages leads answers tells locks ends log_of changes names disks old new → length disks ≡ length names
+  pub as_many : (names : List (List ℕ)) (disks : List (ImageDisk F g)) (old new : Opening O) → OpensImages o f changes names disks old new → length disks ≡ length names
   as_many [] [] old new are = refl
   as_many [] (d ∷ disks) old new are = absurd are
   as_many (n ∷ names) [] old new are = absurd are

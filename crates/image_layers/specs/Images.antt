@@ -1,7 +1,5 @@
 -- The disks of images, each by what its name asks for, and how they are opened.
-use Rattle.std.specs.Prelude.{◌≡◌, ◌⊎◌, ℕ, ◌+◌, ◌≤◌, ◌^◌, List, [], ◌∷◌, ◌++◌, length, codes, take, Bool, true, false, Option, None, Some, Result}
-use Rattle.std.specs.declared.fs.options.OpenOptions.{OpenOptions}
-use Rattle.std.specs.declared.io.Error.{Error}
+use Rattle.std.specs.Prelude.{◌≡◌, ◌⊎◌, ℕ, ◌+◌, ◌≤◌, ◌^◌, List, [], ◌∷◌, ◌++◌, length, codes, take, Bool, true, false, Option, None, Some}
 use Rattle.block_traits.specs.Disk.{DiskState}
 use Rattle.block_traits.specs.declared.disk.Disk.{Ghosts}
 use Rattle.disk_layers.specs.ConcatDisk as concat
@@ -12,7 +10,8 @@ use Rattle.file_edge.specs.FileDisk.{AsksDisk, IsUnopened, OpensDisk, TellsFile}
 use Rattle.file_edge.specs.Told.{Told}
 use Rattle.file_edge.specs.declared.file_disk.FileDisk.{FileDisk}
 use Rattle.file_edge.specs.declared.found.FileId.{FileId}
-use Rattle.file_edge.specs.declared.found.Found.{Found}
+use Rattle.file_edge.specs.declared.image_file.ImageFile as image_file
+use Rattle.file_edge.specs.declared.opener.Opener as opener
 use Rattle.image_layers.specs.declared.image_disks.ImageDisk.{ImageDisk}
 use Rattle.image_layers.specs.declared.image_disks.ImageDisk.TheVariants.{Plain, Behind, Join}
 
@@ -79,12 +78,13 @@ pub record Opening (O : Type 0) : Type 0 where
 abbrev pub opening : {O : Type 0} → O → List FileId → Opening O
 opening opener files = record { opener = opener; files = files }
 
-module _ {O F : Type 0} (leads : O → List ℕ → Result Found Error → Type 0) (answers : O → OpenOptions → List ℕ → Result F Error → Type 0) (tells : F → Result Found Error → Type 0) (locks : F → Bool → Type 0) (ends : F → Option ℕ → Type 0) (log_of : O → Option (List Asked)) (changes : Bool) where
+module _ {O F : Type 0} (o : opener.Ghosts O F) (f : image_file.Ghosts F) (changes : Bool) where
   -- the disk of the file of this name, opened beside the files so far: nothing else is asked of the opener, the file is
   -- one of them from then on, and no call of the disk was made
   pub record OpensOne (name : List ℕ) (disk : FileDisk F) (old new : Opening O) : Type 0 where
-    pub opens : OpensDisk tells locks ends old.files changes leads answers old.opener name disk
-    pub asked : AsksDisk log_of old.opener changes name new.opener
+    pub opens : OpensDisk f old.files changes o old.opener name disk
+    pub told : o.told new.opener ≡ o.told old.opener
+    pub asked : AsksDisk o.asked old.opener changes name new.opener
     pub others : new.files ≡ old.files ++ file_led_to disk.id
     pub faults : disk.faults ≡ 0
     pub reads : disk.reads ≡ 0

@@ -37,8 +37,8 @@ pub fn open_image<O: Opener>(
 ) -> Result<ImageDisk<O::File>, NoMemory>
 where
     FileDisk<O::File>: Disk,
-    ensures opens { IfOk result (λ disk. OpensImageDisk O.leads O.answers O.File.tells O.File.locks O.File.ends O.asked changes name.now disk
-        (opening opener.old files.old.items) (opening opener.new files.new.items)) }
+    ensures opens { IfOk result (λ disk. OpensImageDisk (⟦<O as Opener>⟧) (⟦<O::File as ImageFile>⟧)
+        changes name.now disk (opening opener.old files.old.items) (opening opener.new files.new.items)) }
     ensures tells { IfOk result (TellsImage O.File.told) }
     ensures asked_part { OnErr result (AsksPart O.asked changes name.now opener.old opener.new) }
 {
@@ -91,7 +91,8 @@ fn open_both<O: Opener>(
     first: &str,
     second: &str,
 ) -> Result<(FileDisk<O::File>, FileDisk<O::File>), NoMemory>
-    ensures opens { IfOk result (λ both. OpensBoth O.leads O.answers O.File.tells O.File.locks O.File.ends O.asked changes first.now second.now both.0 both.1
+    ensures opens { IfOk result (λ both. OpensBoth (⟦<O as Opener>⟧) (⟦<O::File as ImageFile>⟧)
+        changes first.now second.now both.0 both.1
         (opening opener.old files.old.items) (opening opener.new files.new.items)) }
     ensures asked_part { OnErr result (AsksFiles O.asked changes (first.now ∷ []) opener.old opener.new
         ⊎ AsksFiles O.asked changes (first.now ∷ second.now ∷ []) opener.old opener.new) }
@@ -108,7 +109,7 @@ fn open_named<O: Opener>(
     changes: bool,
     name: &str,
 ) -> Result<FileDisk<O::File>, NoMemory>
-    ensures opens { IfOk result (λ disk. OpensOne O.leads O.answers O.File.tells O.File.locks O.File.ends O.asked changes name.now disk
+    ensures opens { IfOk result (λ disk. OpensOne (⟦<O as Opener>⟧) (⟦<O::File as ImageFile>⟧) changes name.now disk
         (opening opener.old files.old.items) (opening opener.new files.new.items)) }
     ensures tells { IfOk result (TellsFile O.File.told) }
     ensures asked { AsksDisk O.asked opener.old changes name.now opener.new }

@@ -1,6 +1,6 @@
 -- What words say is what they ask to be opened.
-use Rattle.std.proofs.Common.{◌≡◌, ◌∙◌, ap, sym, List, ℕ, Bool, Option, None, Some}
-use Rattle.command_words.specs.Images.{line_of, script_images}
+use Rattle.std.proofs.Common.{◌≡◌, ◌∙◌, ap, sym, List, ℕ, Option, None}
+use Rattle.command_words.specs.Images.{line_of}
 use Rattle.command_words.specs.Reading.{command_in}
 use Rattle.command_words.specs.declared.commands.Command.{Command}
 use Rattle.geli_core.specs.Words.{Says}

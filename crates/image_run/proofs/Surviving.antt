@@ -1,21 +1,26 @@
 -- The drawers of a run, by the disks that were opened for it.
-use Rattle.std.proofs.Common.{◌≡◌, ◌∙◌, ℕ, zero, suc, List, [], ◌∷◌, map, Option, Some, None, refl, sym, ap, subst, arith, slice_get}
+use Rattle.std.proofs.Common.{◌≡◌, ◌∙◌, ◌++◌, ℕ, zero, suc, List, [], ◌∷◌, map, Option, Some, None, refl, sym, ap, subst, arith, slice_get}
 use Rattle.std.specs.Prelude.{All, IfSome}
 use Rattle.std.specs.Option.{option_map}
 use Rattle.block_traits.specs.Content.{Content}
 use Rattle.block_traits.specs.declared.disk.Disk.{Ghosts}
-use Rattle.command_rows.specs.World.{DrawerState, IsAmong}
+use Rattle.block_traits.specs.Cabinet.{CabinetState}
+use Rattle.block_traits.specs.Streams.{EntropyState}
+use Rattle.command_rows.specs.World.{DrawerState, World}
 use Rattle.file_edge.specs.FileDisk as file
 use Rattle.file_edge.specs.Told.{Told}
 use Rattle.file_edge.specs.declared.file_disk.FileDisk.{FileDisk}
 use Rattle.geli_core.proofs.Drawn.{same_some}
 use Rattle.geli_core.specs.Images.{OutsideState, RunsOver, idle_drawers}
-use Rattle.geli_core.specs.Survivors.{EnduresCrashes}
+use Rattle.geli_core.specs.Lawful.{LineHolds}
+use Rattle.geli_core.specs.Survivors.{EnduresCrashes, SurvivesBy}
+use Rattle.geli_core.specs.Trace.{EachLine, ServedLine}
+use Rattle.geli_core.specs.Vocabulary.{Play, Sep}
 use Rattle.geli_core.specs.declared.status.Status.{Status}
 use Rattle.image_layers.specs.Images.{TellsImage, image_disk_state}
 use Rattle.image_layers.specs.declared.image_disks.ImageDisk.{ImageDisk}
 use Rattle.image_layers.specs.declared.image_disks.ImageDisk.TheVariants.{Plain, Behind, Join}
-use Rattle.image_run.specs.Surviving.{IfFileTells, SurvivesInFile}
+use Rattle.image_run.specs.Surviving.{IfFileTells, SurviveEachLine, SurviveInFiles, SurvivesInFile}
 use Rattle.readings.specs.Steps.{Step, after}
 
 -- what was told grew by the steps
@@ -60,19 +65,34 @@ module _ {F : Type 0} {g : Ghosts (FileDisk F)} (told : F → Option Told) where
   in_file same (Behind behind) now steps tells grew endures = tt
   in_file same (Join both) now steps tells grew endures = tt
 
-  -- each drawer that a run left
-  pub survives_in_file : (same : (d : FileDisk F) → (g.state d).content ≡ (file.file_disk_state told d).content) (words names : List (List ℕ)) (disks : List (ImageDisk F g)) (old : OutsideState) (status : Status)
-      (left : List DrawerState) (new : OutsideState) (run : RunsOver words names (map image_disk_state disks) old status left new) → All (TellsImage told) disks → (drawer : DrawerState) (among : IsAmong left drawer)
-      → SurvivesInFile told names disks drawer (run.lawful.exit drawer among).play.steps
-  survives_in_file same words names disks old status left new run tell drawer among =
-      let survives = run.lawful.exit drawer among in
-      let r = is_of names disks survives.before survives.was.0 tell survives.was.1 in
-      let content = ap (λ s. s.content) r.state in
-      record {
-        place = r.place;
-        disk = r.disk;
-        named = r.named ∙ ap Some (sym survives.name);
-        opened = r.opened;
-        in_file = in_file same r.disk drawer.disk.content survives.play.steps r.telling (survives.content ∙ ap (option_map (after survives.play.steps)) (sym content))
-            (subst (λ (k : Option Content). IfSome k (EnduresCrashes survives.play.steps)) (sym content) survives.endures);
-      }
+  module _ (same : (d : FileDisk F) → (g.state d).content ≡ (file.file_disk_state told d).content) (names : List (List ℕ)) (disks : List (ImageDisk F g)) (tell : All (TellsImage told) disks) where
+    -- a drawer that did steps since it lay idle did them in the file of its image
+    by_steps : (Plays : DrawerState → Play → DrawerState → Type 0) (drawer : DrawerState) (survives : SurvivesBy Plays (idle_drawers names (map image_disk_state disks)) drawer)
+        → SurvivesInFile told names disks drawer survives.play.steps
+    by_steps Plays drawer survives =
+        let r = is_of names disks survives.before survives.was.0 tell survives.was.1 in
+        let content = ap (λ s. s.content) r.state in
+        record {
+          place = r.place;
+          disk = r.disk;
+          named = r.named ∙ ap Some (sym survives.name);
+          opened = r.opened;
+          in_file = in_file same r.disk drawer.disk.content survives.play.steps r.telling (survives.content ∙ ap (option_map (after survives.play.steps)) (sym content))
+              (subst (λ (k : Option Content). IfSome k (EnduresCrashes survives.play.steps)) (sym content) survives.endures);
+        }
+
+    each_line : (sep : Sep) (cabinet : CabinetState) (entropy : EntropyState) (served : List ServedLine) (start : World) (lines : List ServedLine)
+        (hold : EachLine (LineHolds sep (record { drawers = idle_drawers names (map image_disk_state disks); cabinet = cabinet; entropy = entropy })) served start lines)
+        → SurviveEachLine told names disks sep (record { drawers = idle_drawers names (map image_disk_state disks); cabinet = cabinet; entropy = entropy }) served start lines hold
+    each_line sep cabinet entropy served start [] hold = tt
+    each_line sep cabinet entropy served start (l ∷ lines) hold =
+        (λ drawer among. by_steps _ drawer (hold.0.drawers.survivors drawer among), each_line sep cabinet entropy (served ++ l ∷ []) l.next lines hold.1)
+
+    -- each drawer that was ever there
+    pub survive_in_files : (words : List (List ℕ)) (old new : OutsideState) (status : Status) (left : List DrawerState) (run : RunsOver words names (map image_disk_state disks) old status left new)
+        → SurviveInFiles told names disks run
+    survive_in_files words old new status left run = record {
+      entry = λ drawer among. by_steps _ drawer (run.lawful.entry.survivors drawer among);
+      lines = each_line run.lawful.trace.sep old.cabinet old.entropy [] _ run.lawful.trace.lines run.lawful.lines;
+      exit = λ drawer among. by_steps _ drawer (run.lawful.exit drawer among);
+    }

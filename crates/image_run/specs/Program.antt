@@ -2,32 +2,32 @@
 use Rattle.std.specs.Prelude.{◌≡◌, ◌≢◌, ℕ, All, List, [], map, not, Bool, true, false, Option, None, Some, Result, Ok, Err, drop}
 use Rattle.std.specs.IoError.{error_kind}
 use Rattle.std.specs.Vec.Iter.{into_iter_items}
-use Rattle.std.specs.declared.fs.options.OpenOptions.{OpenOptions}
 use Rattle.std.specs.declared.io.Error.{Error}
 use Rattle.std.specs.declared.io.ErrorKind.TheVariants as kinds
 use Rattle.std.specs.declared.vec.IntoIter.{IntoIter}
 use Rattle.block_traits.specs.Cabinet.{CabinetState}
 use Rattle.block_traits.specs.Streams.{EntropyState, SinkState, SourceState}
 use Rattle.block_traits.specs.declared.disk.Disk.{Ghosts}
-use Rattle.command_rows.specs.World.{DrawerState, IsAmong}
+use Rattle.command_rows.specs.World.{DrawerState}
 use Rattle.command_words.specs.Images.{image_names, line_of, script_images}
 use Rattle.command_words.specs.Reading.{command_in}
 use Rattle.command_words.specs.Traits.{traits_of}
 use Rattle.command_words.specs.declared.commands.Command.{Command}
 use Rattle.file_edge.specs.Asked.{Asked}
-use Rattle.file_edge.specs.RandomFile.{AsksDevice, OpensDevice}
-use Rattle.file_edge.specs.Told.{Told}
+use Rattle.file_edge.specs.Names.{IsRandom, Names, told_files}
+use Rattle.file_edge.specs.RandomFile.{AsksDevice, OpensDevice, left_in}
 use Rattle.file_edge.specs.declared.file_disk.FileDisk.{FileDisk}
 use Rattle.file_edge.specs.declared.found.FileId.{FileId}
-use Rattle.file_edge.specs.declared.found.Found.{Found}
+use Rattle.file_edge.specs.declared.image_file.ImageFile as image_file
+use Rattle.file_edge.specs.declared.opener.Opener as opener
 use Rattle.file_edge.specs.declared.random_file.RandomFile.{RandomFile}
-use Rattle.geli_core.specs.Images.{RunsOver, outside_of}
+use Rattle.geli_core.specs.Images.{OutsideState, RunsOver, outside_of}
 use Rattle.geli_core.specs.declared.status.Status.{Status}
 use Rattle.geli_core.specs.declared.words.Words.{Words}
 use Rattle.geli_core.specs.declared.words.Words.TheVariants.{Script, One, Usage}
 use Rattle.image_layers.specs.Images.{AsksFirst, OpensImages, TellsImage, opening, image_disk_state}
 use Rattle.image_layers.specs.declared.image_disks.ImageDisk.{ImageDisk}
-use Rattle.image_run.specs.Surviving.{SurvivesInFile}
+use Rattle.image_run.specs.Surviving.{SurviveInFiles}
 
 -- all arguments but the first, which is the program's name; arguments that can't be read are no words, but want of
 -- memory is
@@ -59,55 +59,52 @@ changes_said Usage = true
 abbrev pub AsksFirstFiles : {O : Type 0} → (O → Option (List Asked)) → List (List ℕ) → O → O → Type 0
 AsksFirstFiles log_of words old new = AsksFirst log_of (changes_images words) (image_names words) old new
 
--- what the system's files tell of themselves as a cabinet, and its random bytes as entropy, before anything was asked
--- of them
-abbrev pub new_cabinet : CabinetState
-new_cabinet = record { files = None; faults = 0; misses = 0; loads = 0; stores = 0 }
+-- a cabinet beside these images over an opener that tells this, and entropy of which this is left, before anything was
+-- asked of them
+abbrev pub new_cabinet : List FileId → Option Names → CabinetState
+new_cabinet images told = record { files = told_files images told; faults = 0; misses = 0; loads = 0; stores = 0 }
 
-abbrev pub new_entropy : EntropyState
-new_entropy = record { left = None; faults = 0; calls = 0 }
+abbrev pub new_entropy : Option (List ℕ) → EntropyState
+new_entropy left = record { left = left; faults = 0; calls = 0 }
 
-module _ {O F : Type 0} {g : Ghosts (FileDisk F)} (leads : O → List ℕ → Result Found Error → Type 0) (answers : O → OpenOptions → List ℕ → Result F Error → Type 0) (tells : F → Result Found Error → Type 0) (locks : F → Bool → Type 0) (ends : F → Option ℕ → Type 0) (log_of : O → Option (List Asked)) where
+module _ {O F : Type 0} {g : Ghosts (FileDisk F)} (o : opener.Ghosts O F) (f : image_file.Ghosts F) where
   -- what a run begins with: the images of these names are opened one after another, to be changed or not, and then the
-  -- random bytes; nothing else is asked of what opens them
+  -- random bytes, which are those that are told; nothing else is asked of what opens them, and names have what they had
   pub record OpensNamed (changes : Bool) (names : List (List ℕ)) (disks : List (ImageDisk F g)) (files : List FileId) (random : RandomFile F) (old new : O) : Type 0 where
     pub between : O
-    pub images : OpensImages leads answers tells locks ends log_of changes names disks (opening old []) (opening between files)
-    pub device : OpensDevice answers between random
-    pub asked : AsksDevice log_of between new
+    pub images : OpensImages o f changes names disks (opening old []) (opening between files)
+    pub device : OpensDevice o.answers between random
+    pub left : IsRandom (o.told between) (left_in f.left random.device)
+    pub told : o.told new ≡ o.told between
+    pub asked : AsksDevice o.asked between new
 
   -- the same of the images that the words name, which are to be changed but where the command only reads
   abbrev pub OpensAll : List (List ℕ) → List (ImageDisk F g) → List FileId → RandomFile F → O → O → Type 0
   OpensAll words disks files random old new = OpensNamed (changes_images words) (image_names words) disks files random old new
 
-module _ {O F : Type 0} (g : Ghosts (FileDisk F)) (leads : O → List ℕ → Result Found Error → Type 0) (answers : O → OpenOptions → List ℕ → Result F Error → Type 0) (tells : F → Result Found Error → Type 0) (locks : F → Bool → Type 0) (ends : F → Option ℕ → Type 0) (log_of : O → Option (List Asked)) where
+module _ {O F : Type 0} (g : Ghosts (FileDisk F)) (o : opener.Ghosts O F) (f : image_file.Ghosts F) where
   -- all that a run begins with was opened, and nothing else was asked
   pub record HasOpened (words : List (List ℕ)) (old new : O) : Type 0 where
     pub disks : List (ImageDisk F g)
     pub files : List FileId
     pub random : RandomFile F
-    pub opens : OpensAll leads answers tells locks ends log_of words disks files random old new
+    pub opens : OpensAll o f words disks files random old new
 
-  module _ (told : F → Option Told) where
-    -- The words were run over the images that they name. What opens files opened just these and the random bytes. Of
-    -- the run of the words over drawers with those names, in which just the disks of these images lay, to the drawers
-    -- that are left, holds all that is said of runs. The disk of a file alone tells what its file tells, and before the
-    -- run nothing was asked of the cabinet. `survives`: whatever a power failure leaves in the file of an image alone
-    -- that tells its sectors, at any moment of the run, reads as promised, from the content that the file had when it
-    -- was opened.
-    pub record RunsOverFiles (words : List (List ℕ)) (opener : O) (source : SourceState) (sink : SinkState) (status : Status) (left : List DrawerState) (cabinet : CabinetState) (source_after : SourceState) (sink_after : SinkState) : Type 0 where
-      pub disks : List (ImageDisk F g)
-      pub files : List FileId
-      pub random : RandomFile F
-      pub opened : O
-      pub opens : OpensAll leads answers tells locks ends log_of words disks files random opener opened
-      pub telling : All (TellsImage told) disks
-      pub entropy : EntropyState
-      pub runs : RunsOver words (image_names words) (map image_disk_state disks) (outside_of new_cabinet new_entropy source sink) status left (outside_of cabinet entropy source_after sink_after)
-      pub survives : (drawer : DrawerState) (among : IsAmong left drawer) → SurvivesInFile told (image_names words) disks drawer (runs.lawful.exit drawer among).play.steps
-
-    -- they were, and these drawers and this cabinet were left
-    pub record RunsToAnEnd (words : List (List ℕ)) (opener : O) (source : SourceState) (sink : SinkState) (status : Status) (source_after : SourceState) (sink_after : SinkState) : Type 0 where
-      pub left : List DrawerState
-      pub cabinet : CabinetState
-      pub over : RunsOverFiles words opener source sink status left cabinet source_after sink_after
+  -- The words were run over the images that they name. What opens files opened just these and the random bytes. Of
+  -- the run of the words over drawers with those names, in which just the disks of these images lay, to the drawers
+  -- that are left, holds all that is said of runs. The disk of a file alone tells what its file tells. The cabinet has
+  -- the files that were told of the names, but for these images, the random bytes are those that were told, and of
+  -- neither anything was asked before; behind the run they are those that are left. `survives`: whatever a power failure
+  -- leaves in the file of an image alone that tells its sectors, at any moment of the run, reads as promised, from the
+  -- content that the file had when it was opened.
+  pub record RunsOverFiles (words : List (List ℕ)) (opener : O) (source : SourceState) (sink : SinkState) (status : Status) (left : List DrawerState) (outside : OutsideState) : Type 0 where
+    pub disks : List (ImageDisk F g)
+    pub files : List FileId
+    pub random : RandomFile F
+    pub opened : O
+    pub opens : OpensAll o f words disks files random opener opened
+    pub telling : All (TellsImage f.told) disks
+    pub device : IsRandom (o.told opener) (left_in f.left random.device)
+    pub runs : RunsOver words (image_names words) (map image_disk_state disks)
+        (outside_of (new_cabinet files (o.told opener)) (new_entropy (left_in f.left random.device)) source sink) status left outside
+    pub survives : SurviveInFiles f.told (image_names words) disks runs

@@ -1,11 +1,17 @@
 -- What becomes of the drawers of a run in the files of their images.
-use Rattle.std.specs.Prelude.{◌≡◌, ℕ, List, Option, Some, IfSome, slice_get}
+use Rattle.std.specs.Prelude.{◌≡◌, ℕ, List, [], ◌∷◌, ◌++◌, All, Option, Some, IfSome, map, slice_get}
 use Rattle.block_traits.specs.Content.{Content}
 use Rattle.block_traits.specs.declared.disk.Disk.{Ghosts}
-use Rattle.command_rows.specs.World.{DrawerState}
+use Rattle.command_rows.specs.World.{DrawerState, IsAmong, World}
 use Rattle.file_edge.specs.Told.{Told, contents, told_in}
 use Rattle.file_edge.specs.declared.file_disk.FileDisk.{FileDisk}
+use Rattle.geli_core.specs.Images.{OutsideState, RunsOver, idle_drawers, whole_with}
+use Rattle.geli_core.specs.Lawful.{LineHolds}
 use Rattle.geli_core.specs.Survivors.{EnduresCrashes}
+use Rattle.geli_core.specs.Trace.{EachLine, ServedLine}
+use Rattle.geli_core.specs.Vocabulary.{Sep}
+use Rattle.geli_core.specs.declared.status.Status.{Status}
+use Rattle.image_layers.specs.Images.{TellsImage, image_disk_state}
 use Rattle.image_layers.specs.declared.image_disks.ImageDisk.{ImageDisk}
 use Rattle.image_layers.specs.declared.image_disks.ImageDisk.TheVariants.{Plain, Behind, Join}
 use Rattle.readings.specs.Steps.{Step, after}
@@ -27,3 +33,24 @@ module _ {F : Type 0} {g : Ghosts (FileDisk F)} (told : F → Option Told) where
     pub named : slice_get names place ≡ Some drawer.name
     pub opened : slice_get disks place ≡ Some disk
     pub in_file : IfFileTells disk (λ c. (drawer.disk.content ≡ Some (after steps c)) × EnduresCrashes steps c)
+
+  module _ (names : List (List ℕ)) (disks : List (ImageDisk F g)) where
+    -- each drawer that is there behind a line does, by the steps that the laws of that line say
+    abbrev pub SurviveEachLine : (sep : Sep) (entry : World) (served : List ServedLine) (start : World) (lines : List ServedLine)
+        → EachLine (LineHolds sep entry) served start lines → Type 0
+    SurviveEachLine sep entry served start [] hold = Unit {0}
+    SurviveEachLine sep entry served start (l ∷ lines) hold =
+        ((drawer : DrawerState) (among : IsAmong l.next.drawers drawer) → SurvivesInFile names disks drawer (hold.0.drawers.survivors drawer among).play.steps)
+        × SurviveEachLine sep entry (served ++ l ∷ []) l.next lines hold.1
+
+    -- each drawer that is there at entry, behind any line, or at exit does, so also one that a later line takes out
+    pub record SurviveInFiles {words : List (List ℕ)} {old new : OutsideState} {status : Status} {left : List DrawerState} (run : RunsOver words names (map image_disk_state disks) old status left new) : Type 0 where
+      pub entry : (drawer : DrawerState) (among : IsAmong (idle_drawers names (map image_disk_state disks)) drawer) → SurvivesInFile names disks drawer (run.lawful.entry.survivors drawer among).play.steps
+      pub lines : SurviveEachLine run.lawful.trace.sep (whole_with (idle_drawers names (map image_disk_state disks)) old).world [] (whole_with (idle_drawers names (map image_disk_state disks)) old).world run.lawful.trace.lines run.lawful.lines
+      pub exit : (drawer : DrawerState) (among : IsAmong left drawer) → SurvivesInFile names disks drawer (run.lawful.exit drawer among).play.steps
+
+-- the same of every run over disks of which each that is of a file alone tells what that file tells
+abbrev pub EachRunSurvives : {F : Type 0} (g : Ghosts (FileDisk F)) (told : F → Option Told) → Type 0
+EachRunSurvives {F} g told =
+    (words names : List (List ℕ)) (disks : List (ImageDisk F g)) (old new : OutsideState) (status : Status) (left : List DrawerState)
+    (run : RunsOver words names (map image_disk_state disks) old status left new) → All (TellsImage told) disks → SurviveInFiles told names disks run

@@ -1,11 +1,12 @@
 //! What a run begins with: the images that its words name are opened, and then the random bytes.
 ghost use Rattle.std.specs.Prelude.{◌≡◌, [], All, IfErr, IfOk, OnErr, Some, map, string_bytes};
+ghost use Rattle.file_edge.specs.RandomFile.{left_in};
 ghost use Rattle.geli_core.specs.Words.{FitsItsLine, image_names_of};
 ghost use Rattle.image_layers.specs.Images.{AsksFirst, OpensImages, TellsImage, opening};
 ghost use Rattle.image_run.specs.Program.{OpensNamed, changes_said, new_cabinet, new_entropy};
 
 use block_traits::{Cabinet, Disk, Entropy, NoMemory};
-use file_edge::{FileCabinet, FileDisk, FileId, ImageFile, Opener, RandomFile, Reader};
+use file_edge::{FileCabinet, FileDisk, FileId, ImageFile, Opener, RandomFile};
 use geli_core::Words;
 use image_layers::{ImageDisk, open_image};
 use std::alloc::Global;
@@ -29,7 +30,8 @@ fn open_images<O: Opener>(
 ) -> Result<Images<O::File>, NoMemory>
 where
     FileDisk<O::File>: Disk,
-    ensures opens { IfOk result (λ images. OpensImages O.leads O.answers O.File.tells O.File.locks O.File.ends O.asked changes (map string_bytes names.now) images.disks.items
+    ensures opens { IfOk result (λ images. OpensImages (⟦<O as Opener>⟧) (⟦<O::File as ImageFile>⟧)
+        changes (map string_bytes names.now) images.disks.items
         (opening opener.old []) (opening opener.new images.files.items)) }
     ensures tells { IfOk result (λ images. All (TellsImage O.File.told) images.disks.items) }
     ensures asked_part { OnErr result (AsksFirst O.asked changes (map string_bytes names.now) opener.old opener.new) }
@@ -54,7 +56,7 @@ fn changes(said: &Words<'_>) -> bool
 
 // What a run begins with: the names of its images, the disks under them, their files, and the random bytes.
 #[derive(Drop)]
-struct Ready<F: Reader>
+struct Ready<F: ImageFile>
 where
     FileDisk<F>: Disk,
 {
@@ -73,7 +75,7 @@ fn make_ready<O: Opener>(
 ) -> Result<Ready<O::File>, NoMemory>
     requires { FitsItsLine said.now }
     ensures names { IfOk result (λ ready. map string_bytes ready.names.items ≡ image_names_of said.now) }
-    ensures opens { IfOk result (λ ready. OpensNamed O.leads O.answers O.File.tells O.File.locks O.File.ends O.asked
+    ensures opens { IfOk result (λ ready. OpensNamed (⟦<O as Opener>⟧) (⟦<O::File as ImageFile>⟧)
         (changes_said said.now) (image_names_of said.now)
         ready.disks.items ready.files.items ready.entropy opener.old opener.new) }
     ensures tells { IfOk result (λ ready. All (TellsImage O.File.told) ready.disks.items) }
@@ -113,12 +115,14 @@ pub(crate) fn open_all<O: Opener + Drop>(
 ) -> Result<Opened<O>, (O, NoMemory)>
     requires { FitsItsLine said.now }
     ensures names { IfOk result (λ opened. map string_bytes opened.names.items ≡ image_names_of said.now) }
-    ensures opens { IfOk result (λ opened. OpensNamed O.leads O.answers O.File.tells O.File.locks O.File.ends O.asked
+    ensures opens { IfOk result (λ opened. OpensNamed (⟦<O as Opener>⟧) (⟦<O::File as ImageFile>⟧)
         (changes_said said.now) (image_names_of said.now)
         opened.disks.items opened.files.images.items opened.entropy opener opened.files.opener) }
     ensures tells { IfOk result (λ opened. All (TellsImage O.File.told) opened.disks.items) }
-    ensures files { IfOk result (λ opened. (⟦<FileCabinet<O> as Cabinet>⟧).state opened.files ≡ new_cabinet) }
-    ensures random { IfOk result (λ opened. (⟦<RandomFile<O::File> as Entropy>⟧).state opened.entropy ≡ new_entropy) }
+    ensures files { IfOk result (λ opened. (⟦<FileCabinet<O> as Cabinet>⟧).state opened.files
+        ≡ new_cabinet opened.files.images.items (O.told opened.files.opener)) }
+    ensures random { IfOk result (λ opened. (⟦<RandomFile<O::File> as Entropy>⟧).state opened.entropy
+        ≡ new_entropy (left_in O.File.left opened.entropy.device)) }
     ensures asked_part { IfErr result (λ refused.
         AsksFirst O.asked (changes_said said.now) (image_names_of said.now) opener refused.0) }
 {

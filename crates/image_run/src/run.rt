@@ -2,36 +2,55 @@
 ghost use Rattle.std.specs.Prelude.{◌≡◌, ◌⊎◌, IfErr, IfOk, None, OnErr, OnOk, map, string_bytes};
 ghost use Rattle.block_traits.specs.Causes.{Rose};
 ghost use Rattle.command_words.specs.Images.{script_images};
+ghost use Rattle.geli_core.specs.Images.{outside_of};
 ghost use Rattle.geli_core.specs.Script.{Ends};
-ghost use Rattle.image_run.specs.Program.{AsksFirstFiles, HasOpened, RunsOverFiles, RunsToAnEnd};
+ghost use Rattle.image_run.specs.Program.{AsksFirstFiles, HasOpened, RunsOverFiles};
 ghost use Rattle.shelf.specs.Shelved.{drawers_of};
 
 use crate::opening::{Opened, open_all};
-use block_traits::{Cabinet, Disk, NoMemory, Sink, Source};
-use file_edge::{FileCabinet, FileDisk, ImageFile, Opener};
+use block_traits::{Cabinet, Disk, Entropy, NoMemory, Sink, Source};
+use file_edge::{FileCabinet, FileDisk, ImageFile, Opener, RandomFile};
 use geli_core::{AddFault, Drawers, Outside, Status, read_words, run_over};
 use image_layers::ImageDisk;
 use std::alloc::Global;
 
-/// Reads the words once, runs what they ask for over the images that they name, and hands back the shelf with their
-/// disks, and the files, as the run left them. Each image is opened, in order, to be changed but where the command only
-/// reads, and then the random bytes, and nothing else. Or there was no memory for that: then neither was anything read
-/// nor printed, and the opener comes back. Words that aren't those of a script read nothing of the input.
+/// Reads the words once, runs what they ask for over the images that they name, and hands back the status, and the
+/// shelf with their disks, the files and the random bytes, as the run left them. Each image is opened, in order, to be
+/// changed but where the command only reads, and then the random bytes, and nothing else. Where the opener tells what
+/// its names have, the files and random bytes of the run are those. Or there was no memory for that: then neither was
+/// anything read nor printed, and the opener comes back. Words that aren't those of a script read nothing of the input.
+/// The status is by the words: `ReadFault` only where the input failed, `WriteFault` only where the output did.
 pub fn run_files<O: Opener + Drop, S: Source, K: Sink>(
     alloc: Global,
     words: &[String],
     opener: O,
     input: &mut S,
     output: &mut K,
-) -> Result<(Status, Drawers<ImageDisk<O::File>>, FileCabinet<O>), (O, NoMemory)>
-    ensures runs { IfOk result (λ ran. RunsOverFiles (⟦<FileDisk<O::File> as Disk>⟧) O.leads O.answers O.File.tells O.File.locks O.File.ends O.asked O.File.told
+) -> Result<
+    (
+        Status,
+        Drawers<ImageDisk<O::File>>,
+        FileCabinet<O>,
+        RandomFile<O::File>,
+    ),
+    (O, NoMemory),
+>
+    ensures runs { IfOk result (λ ran. RunsOverFiles
+        (⟦<FileDisk<O::File> as Disk>⟧) (⟦<O as Opener>⟧) (⟦<O::File as ImageFile>⟧)
         (map string_bytes words.now) opener (S.state input.old) (K.state output.old) ran.0
-        (drawers_of (⟦<ImageDisk<O::File> as Disk>⟧).state ran.1.drawers) ((⟦<FileCabinet<O> as Cabinet>⟧).state ran.2)
-        (S.state input.new) (K.state output.new)) }
+        (drawers_of (⟦<ImageDisk<O::File> as Disk>⟧).state ran.1.drawers)
+        (outside_of ((⟦<FileCabinet<O> as Cabinet>⟧).state ran.2) ((⟦<RandomFile<O::File> as Entropy>⟧).state ran.3)
+        (S.state input.new) (K.state output.new))) }
+    ensures ends { IfOk result (λ ran. Ends (map string_bytes words.now) ran.0) }
+    ensures read { IfOk result (λ ran. ran.0 ≡ Status.ReadFault →
+        Rose (S.state input.old).faults (S.state input.new).faults) }
+    ensures write { IfOk result (λ ran. ran.0 ≡ Status.WriteFault →
+        Rose (K.state output.old).faults (K.state output.new).faults) }
     ensures unread { OnOk result (script_images (map string_bytes words.now) ≡ None → input.new ≡ input.old) }
     ensures nothing { OnErr result ((input.new ≡ input.old) × (output.new ≡ output.old)) }
     ensures asked { IfErr result (λ refused. AsksFirstFiles O.asked (map string_bytes words.now) opener refused.0
-        ⊎ HasOpened (⟦<FileDisk<O::File> as Disk>⟧) O.leads O.answers O.File.tells O.File.locks O.File.ends O.asked (map string_bytes words.now) opener refused.0) }
+        ⊎ HasOpened (⟦<FileDisk<O::File> as Disk>⟧) (⟦<O as Opener>⟧) (⟦<O::File as ImageFile>⟧)
+        (map string_bytes words.now) opener refused.0) }
 {
     let Ok(said) = read_words(alloc, words) else {
         return Err((opener, NoMemory));
@@ -44,7 +63,7 @@ pub fn run_files<O: Opener + Drop, S: Source, K: Sink>(
     } = open_all(alloc, opener, &said)?;
     let mut outside = Outside::new(input, output, &mut files, &mut entropy);
     match run_over(alloc, &said, names.as_slice(), disks, &mut outside) {
-        Ok((status, shelf)) => Ok((status, shelf, files)),
+        Ok((status, shelf)) => Ok((status, shelf, files, entropy)),
         Err(refused) => Err((files.into_opener(), memory_fault(refused.fault))),
     }
 }
@@ -57,28 +76,5 @@ fn memory_fault(fault: AddFault) -> NoMemory
         AddFault::NoMemory => NoMemory,
         AddFault::Full => unreachable!(),
         AddFault::Taken => unreachable!(),
-    }
-}
-
-/// The same, and of what the run left the status alone. The status is by the words: `ReadFault` only where the input
-/// failed, `WriteFault` only where the output did; or `NoMemory`.
-pub fn run_words<O: Opener + Drop, S: Source, K: Sink>(
-    alloc: Global,
-    words: &[String],
-    opener: O,
-    input: &mut S,
-    output: &mut K,
-) -> Status
-    ensures runs { RunsToAnEnd (⟦<FileDisk<O::File> as Disk>⟧) O.leads O.answers O.File.tells O.File.locks O.File.ends O.asked O.File.told
-        (map string_bytes words.now) opener (S.state input.old) (K.state output.old) result (S.state input.new) (K.state output.new)
-        ⊎ ((result ≡ Status.NoMemory) × (input.new ≡ input.old) × (output.new ≡ output.old)) }
-    ensures unread { script_images (map string_bytes words.now) ≡ None → input.new ≡ input.old }
-    ensures ends { Ends (map string_bytes words.now) result }
-    ensures read { result ≡ Status.ReadFault → Rose (S.state input.old).faults (S.state input.new).faults }
-    ensures write { result ≡ Status.WriteFault → Rose (K.state output.old).faults (K.state output.new).faults }
-{
-    match run_files(alloc, words, opener, input, output) {
-        Ok((status, _shelf, _files)) => status,
-        Err(_) => Status::NoMemory,
     }
 }

@@ -10,6 +10,8 @@ mod codes;
 #[cfg(test)]
 mod common;
 #[cfg(test)]
+mod geometries;
+#[cfg(test)]
 mod hashes;
 #[cfg(test)]
 mod pieces;

@@ -425,7 +425,7 @@ impl<D: Disk> MetaPlace for Provider<D> {
         self.disk.sectors()
     }
 
-    fn load(&mut self, n: u64, into: &mut Sector) -> Result<(), DiskFailed> {
+    fn load_sector(&mut self, n: u64, into: &mut Sector) -> Result<(), DiskFailed> {
         self.disk.read(n, into)
     }
 

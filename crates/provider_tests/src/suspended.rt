@@ -25,6 +25,12 @@ fn resumed(
     Ok(on.resume(alloc, meta, &params, &key, None))
 }
 
+// The SHA-256 of a master key of 128 bytes 0x5a, by Python's hashlib.
+const MARK: [u8; 32] = [
+    0x34, 0x9d, 0x65, 0xe9, 0xba, 0x1d, 0xe7, 0xb0, 0xa1, 0x3f, 0x9a, 0x3e, 0xad, 0xcc, 0x5b, 0x02,
+    0x02, 0xf1, 0x5d, 0x60, 0x08, 0xfe, 0x94, 0x77, 0xf2, 0xa7, 0xb8, 0x0f, 0x61, 0x94, 0xb2, 0x0f,
+];
+
 // The key opens the other provider, but to another master key. With its own metadata it is resumed.
 #[test]
 fn a_key_of_another_master_key(rt: HostRuntime) -> Result<(), Fail> {
@@ -37,6 +43,7 @@ fn a_key_of_another_master_key(rt: HostRuntime) -> Result<(), Fail> {
     let provider = attached(alloc, disk, &own, false)?;
     let (mut on, flushed) = Suspended::suspend(provider);
     assert!(rt; flushed.is_ok());
+    assert!(rt; on.mark() == MARK);
     let mut sector: Sector = [0; 512];
     encode(&other, &mut sector);
     if MetaPlace::sectors(&on) < 1 {

@@ -1,6 +1,6 @@
 -- What the name is cut into decides.
 use Rattle.std.proofs.Common.{inl, inr, refl, subst, Bor, List, ℕ, MatchOption, Option}
-use Rattle.file_edge.specs.Storing.{HasNoSlash}
+use Rattle.file_edge.specs.Folder.{HasNoSlash}
 use Rattle.file_edge.proofs.Folder.{IsCut, cut_once, of_front, of_root}
 use Rattle.file_edge.proofs.opener.folder_of.Goals as goal
 

@@ -15,7 +15,7 @@ returns-in-Err-open_named-clause-asked_part g c =
 
 pub returns-in-Ok-open_both-clause-opens : goal.returns-in-Ok-open_both-clause-opens
 returns-in-Ok-open_both-clause-opens g c =
-    joined g.O.Opener.leads g.O.Opener.answers g.O.File.ImageFile.tells g.O.File.ImageFile.locks g.O.File.ImageFile.ends g.O.Opener.asked c.args.changes c.args.name.now c.in-Join.first.now c.in-Join.second.now c.in-Ok-open_both.first c.in-Ok-open_both.second c.join.result
+    joined g.O.Opener g.O.File.ImageFile c.args.changes c.args.name.now c.in-Join.first.now c.in-Join.second.now c.in-Ok-open_both.first c.in-Ok-open_both.second c.join.result
     (opening c.args.opener.now c.args.files.now.items) (opening c.open_both.new.opener c.open_both.new.files.items) c.in-Join.ensures c.join.ensures c.in-Ok-open_both.ensures.opens
 
 pub returns-in-Err-open_both-clause-asked_part : goal.returns-in-Err-open_both-clause-asked_part

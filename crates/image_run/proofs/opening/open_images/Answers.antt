@@ -14,10 +14,10 @@ loop-name-preserved g c =
     let disk = c.in_ok-open_image.field-0 in
     let middle = opening c.loop-name.opener c.loop-name.files.items in
     let new = opening c.open_image.new.opener c.open_image.new.files.items in
-    let P : List ℕ → Type 0 = λ name. OpensImageDisk g.O.Opener.leads g.O.Opener.answers g.O.File.ImageFile.tells g.O.File.ImageFile.locks g.O.File.ImageFile.ends g.O.Opener.asked c.args.changes name disk middle new in
+    let P : List ℕ → Type 0 = λ name. OpensImageDisk g.O.Opener g.O.File.ImageFile c.args.changes name disk middle new in
     record {
       opens = rw (more, here, c.in_ok-push.ensures.items)
-          (one_more g.O.Opener.leads g.O.Opener.answers g.O.File.ImageFile.tells g.O.File.ImageFile.locks g.O.File.ImageFile.ends g.O.Opener.asked c.args.changes _ _ _ disk (opening c.args.opener.now []) middle new
+          (one_more g.O.Opener g.O.File.ImageFile c.args.changes _ _ _ disk (opening c.args.opener.now []) middle new
           c.loop-name.invariant.opens (subst P c.as_str.ensures.value c.in_ok-open_image.ensures.opens));
       tells = rw c.in_ok-push.ensures.items (All-push (TellsImage g.O.File.ImageFile.told) c.loop-name.disks.items disk c.loop-name.invariant.tells c.in_ok-open_image.ensures.tells);
     }
@@ -28,7 +28,7 @@ returns-in_err-open_image-clause-asked_part g c =
     let names = names_at string_bytes c.args.names.now c.loop-name.name-index c.name-item.result c.loop-name-test.true here in
     let P : List ℕ → Type 0 = λ name. AsksPart g.O.Opener.asked c.args.changes name c.loop-name.opener c.open_image.new.opener in
     let Q : List (List ℕ) → Type 0 = λ names. AsksFirst g.O.Opener.asked c.args.changes names c.args.opener.now c.open_image.new.opener in
-    let asked = subst Q (sym names) (first_asked g.O.Opener.leads g.O.Opener.answers g.O.File.ImageFile.tells g.O.File.ImageFile.locks g.O.File.ImageFile.ends g.O.Opener.asked c.args.changes
+    let asked = subst Q (sym names) (first_asked g.O.Opener g.O.File.ImageFile c.args.changes
     (map string_bytes (take c.loop-name.name-index c.args.names.now)) (string_bytes c.name-item.result) (map string_bytes (drop (c.loop-name.name-index + 1) c.args.names.now)) c.loop-name.disks.items
     (opening c.args.opener.now []) (opening c.loop-name.opener c.loop-name.files.items) c.open_image.new.opener c.loop-name.invariant.opens (subst P c.as_str.ensures.value c.in_err-open_image.ensures.asked_part)) in
     search (rules, asked)
@@ -41,9 +41,9 @@ returns-in_err-push-clause-asked_part g c =
     let middle = opening c.loop-name.opener c.loop-name.files.items in
     let new = opening c.open_image.new.opener c.open_image.new.files.items in
     let P : List ℕ → Type 0 = λ name. AsksPart g.O.Opener.asked c.args.changes name c.loop-name.opener c.open_image.new.opener in
-    let part = image_part g.O.Opener.leads g.O.Opener.answers g.O.File.ImageFile.tells g.O.File.ImageFile.locks g.O.File.ImageFile.ends g.O.Opener.asked c.args.changes _ disk middle new c.in_ok-open_image.ensures.opens in
+    let part = image_part g.O.Opener g.O.File.ImageFile c.args.changes _ disk middle new c.in_ok-open_image.ensures.opens in
     let Q : List (List ℕ) → Type 0 = λ names. AsksFirst g.O.Opener.asked c.args.changes names c.args.opener.now c.open_image.new.opener in
-    let asked = subst Q (sym names) (first_asked g.O.Opener.leads g.O.Opener.answers g.O.File.ImageFile.tells g.O.File.ImageFile.locks g.O.File.ImageFile.ends g.O.Opener.asked c.args.changes
+    let asked = subst Q (sym names) (first_asked g.O.Opener g.O.File.ImageFile c.args.changes
     (map string_bytes (take c.loop-name.name-index c.args.names.now)) (string_bytes c.name-item.result) (map string_bytes (drop (c.loop-name.name-index + 1) c.args.names.now)) c.loop-name.disks.items
     (opening c.args.opener.now []) middle c.open_image.new.opener c.loop-name.invariant.opens (subst P c.as_str.ensures.value part)) in
     search (rules, asked)

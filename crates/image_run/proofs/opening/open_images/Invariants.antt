@@ -8,7 +8,7 @@ use Rattle.image_run.proofs.opening.open_images.Given as goal
 abbrev pub invariant-loop-name : goal.invariant-loop-name
 invariant-loop-name g l =
     record {
-      opens : OpensImages g.O.Opener.leads g.O.Opener.answers g.O.File.ImageFile.tells g.O.File.ImageFile.locks g.O.File.ImageFile.ends g.O.Opener.asked l.changes
+      opens : OpensImages g.O.Opener g.O.File.ImageFile l.changes
           (map string_bytes (take l.name-index l.names)) l.disks.items (opening l.fn.opener []) (opening l.opener l.files.items);
       tells : All (TellsImage g.O.File.ImageFile.told) l.disks.items;
     }

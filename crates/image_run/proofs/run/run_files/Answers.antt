@@ -1,12 +1,16 @@
 -- What was opened is what the run is over.
-use Rattle.std.proofs.Common.{◌≡◌, ◌∙◌, ap, inl, inr, length, map, refl, rules, string_bytes, sym}
+use Rattle.std.proofs.Common.{◌≡◌, ◌∙◌, Option, ap, inl, inr, length, map, refl, rules, string_bytes, sym}
 use Rattle.std.proofs.lemmas.List.{length-map}
 use Rattle.geli_core.proofs.ImageNames.{images_fit}
+use Rattle.geli_core.proofs.Lawful.{run_ends}
 use Rattle.geli_core.proofs.Said.{names_said}
 use Rattle.image_layers.proofs.Opened.{as_many, nothing_asked}
-use Rattle.image_run.proofs.Images.{over_new}
+use Rattle.file_edge.specs.Names.{Names}
+use Rattle.image_run.specs.Program.{new_cabinet}
+use Rattle.image_run.proofs.Ended.{read_failed, write_failed}
+use Rattle.image_run.proofs.Images.{opened_told, over_new, same_outside}
 use Rattle.image_run.proofs.Saying.{same_changes}
-use Rattle.image_run.proofs.Surviving.{survives_in_file}
+use Rattle.image_run.proofs.Surviving.{survive_in_files}
 use Rattle.image_run.proofs.run.run_files.Goals as goal
 
 pub returns-in_default-clause-asked : goal.returns-in_default-clause-asked
@@ -22,7 +26,7 @@ returns-in_err-names-clause-asked g c =
 pub run_over-requires-clause-named : goal.run_over-requires-clause-named
 run_over-requires-clause-named g c =
     let opened = c.in_ok-names.field-0 in
-    as_many g.O.Opener.leads g.O.Opener.answers _ _ _ g.O.Opener.asked _ _ opened.disks.items _ _ c.in_ok-names.ensures.opens.images
+    as_many g.O.Opener g.O.File.ImageFile _ _ opened.disks.items _ _ c.in_ok-names.ensures.opens.images
     ∙ ap length (sym c.in_ok-names.ensures.names) ∙ length-map opened.names.items string_bytes ∙ ap length (sym c.as_slice.ensures.value)
 
 pub returns-in-Ok-run_over-clause-runs : goal.returns-in-Ok-run_over-clause-runs
@@ -33,21 +37,47 @@ returns-in-Ok-run_over-clause-runs g c =
     let named = ap (map string_bytes) c.as_slice.ensures.value ∙ c.in_ok-names.ensures.names ∙ names_said words _ says in
     let now = c.new-outside.ensures.now in
     let ran = rw (now.0, now.1, now.2, now.3) at (c.in-Ok-run_over.ensures.runs words says) in
-    let over = over_new words _ _ _ _ _ _ _ _ _ named c.in_ok-names.ensures.files c.in_ok-names.ensures.random ran in
+    let opens = rw (same_changes words _ says, names_said words _ says) at c.in_ok-names.ensures.opens in
+    let told = opened_told g.O.Opener g.O.File.ImageFile _ _ opened.disks.items opened.files.images.items opened.entropy c.args.opener opened.files.opener opens in
+    let files_told = c.in_ok-names.ensures.files ∙ ap (λ (t : Option Names). new_cabinet opened.files.images.items t) told.0 in
+    let begun = same_outside _ _ _ _ _ _ files_told c.in_ok-names.ensures.random in
+    let over = over_new words _ _ _ _ _ _ _ named begun ran in
     let files : c.files-2-1.given.0 ≡ c.run_over.new.outside.files.now = search rules in
+    let entropy : c.entropy-2-1.given.0 ≡ c.run_over.new.outside.entropy.now = search rules in
     let input : c.input-1.given.0 ≡ c.run_over.new.outside.input.now = search rules in
     let output : c.output-1.given.0 ≡ c.run_over.new.outside.output.now = search rules in
-    rw (files, input, output) (record {
+    rw (files, entropy, input, output) (record {
       disks = opened.disks.items;
       files = opened.files.images.items;
       random = opened.entropy;
       opened = opened.files.opener;
-      opens = rw (same_changes words _ says, names_said words _ says) at c.in_ok-names.ensures.opens;
+      opens = opens;
       telling = c.in_ok-names.ensures.tells;
-      entropy = _;
+      device = told.1;
       runs = over;
-      survives = survives_in_file g.O.File.ImageFile.told (λ d. refl) _ _ opened.disks.items _ _ _ _ over c.in_ok-names.ensures.tells;
+      survives = survive_in_files g.O.File.ImageFile.told (λ d. refl) _ opened.disks.items c.in_ok-names.ensures.tells words _ _ _ _ over;
     })
+
+pub returns-in-Ok-run_over-clause-ends : goal.returns-in-Ok-run_over-clause-ends
+returns-in-Ok-run_over-clause-ends g c =
+    let words = map string_bytes c.args.words.now in
+    run_ends words _ _ c.in-Ok-run_over.status (c.in-Ok-run_over.ensures.runs words c.in-Ok.ensures.says).lawful
+
+pub returns-in-Ok-run_over-clause-read : goal.returns-in-Ok-run_over-clause-read
+returns-in-Ok-run_over-clause-read g c =
+    let words = map string_bytes c.args.words.now in
+    let now = c.new-outside.ensures.now in
+    let ran = rw (now.0, now.1, now.2, now.3) at (c.in-Ok-run_over.ensures.runs words c.in-Ok.ensures.says) in
+    let input : c.input-1.given.0 ≡ c.run_over.new.outside.input.now = search rules in
+    rw input (read_failed words _ _ c.in-Ok-run_over.status ran.lawful)
+
+pub returns-in-Ok-run_over-clause-write : goal.returns-in-Ok-run_over-clause-write
+returns-in-Ok-run_over-clause-write g c =
+    let words = map string_bytes c.args.words.now in
+    let now = c.new-outside.ensures.now in
+    let ran = rw (now.0, now.1, now.2, now.3) at (c.in-Ok-run_over.ensures.runs words c.in-Ok.ensures.says) in
+    let output : c.output-1.given.0 ≡ c.run_over.new.outside.output.now = search rules in
+    rw output (write_failed words _ _ c.in-Ok-run_over.status ran.lawful)
 
 pub memory_fault-requires : goal.memory_fault-requires
 memory_fault-requires g c =

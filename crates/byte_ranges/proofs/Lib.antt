@@ -1,0 +1,4 @@
+pub mod Reading
+pub mod Covering
+pub mod Splicing
+pub mod Writing

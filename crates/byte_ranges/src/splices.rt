@@ -1,0 +1,182 @@
+//! Writes of bytes that may cover sectors in part.
+ghost use Rattle.std.specs.Prelude.{◌≡◌, ◌+◌, ◌*◌, ◌<◌, ◌≤◌, drop, false, length, take};
+ghost use Rattle.aes_core.specs.Schedule.{AreBytes};
+ghost use Rattle.provider.specs.Attached.{IsKept, media};
+ghost use Rattle.provider.specs.Writing.{data_writes};
+ghost use Rattle.byte_ranges.specs.Edges.{PutsBack, PutsFront, ReadsSector};
+ghost use Rattle.byte_ranges.specs.Ranges.{IsCoverOf, IsInside};
+ghost use Rattle.byte_ranges.specs.Writes.{LogsOrFails, SplicesInto, WritesRange, flush_events};
+
+use crate::cover::Cover;
+use crate::ranges::{ByteRange, read_sectors};
+use block_traits::Disk;
+use provider::Provider;
+
+// Reads a sector that a write covers in part.
+fn read_edge<D: Disk>(provider: &mut Provider<D>, sector: u64, into: &mut [u8]) -> bool
+    requires size { length into.old ≡ provider.old.keying.sectorsize }
+    requires wide { 512 ≤ provider.old.keying.sectorsize }
+    requires inside { sector + 1 ≤ media provider.old.keying (D.state provider.old.disk) }
+    ensures reads { ReadsSector provider.old.keying sector into.new result (D.state provider.old.disk) (D.state provider.new.disk) }
+    ensures kept { IsKept provider.old provider.new }
+{
+    read_sectors(provider, sector, 1, into)
+}
+
+// Puts the first bytes of a sector before the bytes of a write.
+fn put_front<D: Disk>(
+    provider: &mut Provider<D>,
+    sectors: &mut [u8],
+    edge: &mut [u8],
+    sector: u64,
+    skip: usize,
+) -> bool
+    requires edge { length edge.old ≡ 65536 }
+    requires wide { 512 ≤ provider.old.keying.sectorsize }
+    requires skip { skip < provider.old.keying.sectorsize }
+    requires within { skip ≤ length sectors.old }
+    requires inside { sector + 1 ≤ media provider.old.keying (D.state provider.old.disk) }
+    ensures puts { PutsFront provider.old.keying sector skip sectors.old sectors.new result (D.state provider.old.disk) (D.state provider.new.disk) }
+    ensures kept { IsKept provider.old provider.new }
+{
+    if skip == 0 {
+        return true;
+    }
+    let size = provider.sector_size() as usize;
+    let edge = &mut edge[..size];
+    if !read_edge(provider, sector, edge) {
+        return false;
+    }
+    sectors[..skip].copy_from_slice(&edge[..skip]);
+    true
+}
+
+// Puts the last bytes of a sector behind the bytes of a write.
+fn put_back<D: Disk>(
+    provider: &mut Provider<D>,
+    sectors: &mut [u8],
+    edge: &mut [u8],
+    sector: u64,
+    end: usize,
+) -> bool
+    requires edge { length edge.old ≡ 65536 }
+    requires wide { 512 ≤ provider.old.keying.sectorsize }
+    requires within { end ≤ length sectors.old }
+    requires least { length sectors.old < end + provider.old.keying.sectorsize }
+    requires inside { sector + 1 ≤ media provider.old.keying (D.state provider.old.disk) }
+    ensures puts { PutsBack provider.old.keying sector end sectors.old sectors.new result (D.state provider.old.disk) (D.state provider.new.disk) }
+    ensures kept { IsKept provider.old provider.new }
+{
+    let left = sectors.len() - end;
+    if left == 0 {
+        return true;
+    }
+    let size = provider.sector_size() as usize;
+    let edge = &mut edge[..size];
+    if !read_edge(provider, sector, edge) {
+        return false;
+    }
+    sectors[end..].copy_from_slice(&edge[size - left..]);
+    true
+}
+
+// Puts beside the bytes of a write, which stand at their places among the bytes of its sectors, what the first and the
+// last sector have there. `edge` is room for one sector. `false`: the disk failed, or a unit of such a sector has another
+// tag than its ciphertext.
+fn splice<D: Disk>(
+    provider: &mut Provider<D>,
+    sectors: &mut [u8],
+    edge: &mut [u8],
+    range: &ByteRange,
+    cover: &Cover,
+) -> bool
+    requires edge { length edge.old ≡ 65536 }
+    requires wide { 512 ≤ provider.old.keying.sectorsize }
+    requires small { provider.old.keying.sectorsize ≤ 65536 }
+    requires some { 0 < range.now.count }
+    requires few { range.now.count ≤ 33554432 }
+    requires inside { IsInside provider.old.keying (D.state provider.old.disk) range.now }
+    requires covers { IsCoverOf provider.old.keying range.now cover.now }
+    requires size { length sectors.old ≡ cover.now.whole }
+    ensures splices { SplicesInto provider.old.keying range.now cover.now.skip sectors.old sectors.new result (D.state provider.old.disk) (D.state provider.new.disk) }
+    ensures kept { IsKept provider.old provider.new }
+{
+    let last = cover.first + (cover.count as u64 - 1);
+    let end = cover.skip + range.count as usize;
+    if !put_front(provider, sectors, edge, cover.first, cover.skip) {
+        return false;
+    }
+    put_back(provider, sectors, edge, last, end)
+}
+
+// Each byte is a number below 256.
+fn are_bytes(bytes: &[u8])
+    ensures { AreBytes bytes.now }
+{
+    let _ = bytes;
+}
+
+// Writes whole sectors. `false`: the disk failed.
+fn write_sectors<D: Disk>(provider: &mut Provider<D>, first: u64, count: usize, from: &[u8]) -> bool
+    requires size { length from.now ≡ count * provider.old.keying.sectorsize }
+    requires some { 1 ≤ count }
+    requires wide { 512 ≤ provider.old.keying.sectorsize }
+    requires inside { first + count ≤ media provider.old.keying (D.state provider.old.disk) }
+    requires writable { provider.old.readonly ≡ false }
+    ensures writes { LogsOrFails (data_writes provider.old.keying first count from.now) result (D.state provider.old.disk) (D.state provider.new.disk) }
+    ensures kept { IsKept provider.old provider.new }
+{
+    let _ = count;
+    match provider.write(first, from) {
+        Ok(()) => true,
+        Err(_) => false,
+    }
+}
+
+// Flushes where that is asked for.
+fn flush_where<D: Disk>(provider: &mut Provider<D>, wanted: bool) -> bool
+    ensures flushes { LogsOrFails (flush_events wanted) result (D.state provider.old.disk) (D.state provider.new.disk) }
+    ensures kept { IsKept provider.old provider.new }
+{
+    if !wanted {
+        return true;
+    }
+    match provider.flush() {
+        Ok(()) => true,
+        Err(_) => false,
+    }
+}
+
+/// Writes a range, whose bytes stand in `sectors` from `cover.skip` on, and flushes the disk where `flush` asks for it.
+/// What the first and the last sector have beside the range is read first. `edge` is room for one sector. `false`: the
+/// disk failed, or a unit that had to be read has another tag than its ciphertext; then nothing was written.
+pub fn write_range<D: Disk>(
+    provider: &mut Provider<D>,
+    sectors: &mut [u8],
+    edge: &mut [u8],
+    range: &ByteRange,
+    cover: &Cover,
+    flush: bool,
+) -> bool
+    requires edge { length edge.old ≡ 65536 }
+    requires wide { 512 ≤ provider.old.keying.sectorsize }
+    requires small { provider.old.keying.sectorsize ≤ 65536 }
+    requires writable { provider.old.readonly ≡ false }
+    requires some { 0 < range.now.count }
+    requires few { range.now.count ≤ 33554432 }
+    requires inside { IsInside provider.old.keying (D.state provider.old.disk) range.now }
+    requires covers { IsCoverOf provider.old.keying range.now cover.now }
+    requires size { length sectors.old ≡ cover.now.whole }
+    ensures writes { WritesRange provider.old.keying range.now flush (take range.now.count (drop cover.now.skip sectors.old)) result
+        (D.state provider.old.disk) (D.state provider.new.disk) }
+    ensures kept { IsKept provider.old provider.new }
+{
+    if !splice(provider, sectors, edge, range, cover) {
+        return false;
+    }
+    are_bytes(sectors);
+    if !write_sectors(provider, cover.first, cover.count, sectors) {
+        return false;
+    }
+    flush_where(provider, flush)
+}

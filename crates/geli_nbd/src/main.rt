@@ -1,0 +1,43 @@
+//! The program `geli-nbd`: the streams, files and random bytes of the system are handed to the run.
+#![tactic(auto)]
+
+ghost use Rattle.std.specs.Prelude.{◌≡◌, MatchResult};
+
+use file_edge::{InputSource, OutputSink, SystemFiles};
+use image_run::words_of;
+use nbd_run::{Status, exit_code, serve_words};
+use std::fs::File;
+use std::process::ExitCode;
+use std::{env, io};
+
+// The status of a run; what was opened is let go.
+fn status_of<D: Drop, C: Drop, E: Drop, O: Drop>(
+    ran: Result<(Status, D, C, E), (Status, O)>,
+) -> Status
+    ensures { MatchResult ran (λ left. result ≡ left.0) (λ left. result ≡ left.0) }
+{
+    match ran {
+        Ok((status, _, _, _)) => status,
+        Err((status, _)) => status,
+    }
+}
+
+fn main(rt: HostRuntime) -> ExitCode {
+    let alloc = rt.alloc();
+    // Where standard streams are closed, these take their numbers, and no file of the run does.
+    let _first = File::open(&rt, "/dev/null");
+    let _second = File::open(&rt, "/dev/null");
+    let _third = File::open(&rt, "/dev/null");
+    let files: Result<_, _> = rt.clone();
+    let status = match (words_of(alloc, env::args(&rt)), files) {
+        (Ok(words), Ok(files)) => {
+            let opener = SystemFiles::new(files);
+            let mut input = InputSource::new(rt.stdin());
+            let mut output = OutputSink::new(io::writer(&rt));
+            let mut log = OutputSink::new(rt.stderr());
+            status_of(serve_words(alloc, words, opener, &mut input, &mut output, &mut log))
+        }
+        _ => Status::NoMemory,
+    };
+    exit_code(status)
+}

@@ -1,0 +1,4 @@
+pub mod Attaching
+pub mod Program
+pub mod Status
+pub mod Words

@@ -1,0 +1,77 @@
+//! The image is opened, and then the random bytes.
+ghost use Rattle.std.specs.Prelude.{◌≡◌, ◌∷◌, [], IfErr, IfOk, not, string_bytes};
+ghost use Rattle.file_edge.specs.Names.{IsRandom};
+ghost use Rattle.file_edge.specs.RandomFile.{left_in};
+ghost use Rattle.image_layers.specs.Images.{AsksPart, TellsImage};
+ghost use Rattle.nbd_run.specs.Words.{attaches_readonly};
+ghost use Rattle.image_run.specs.Program.{OpensNamed, new_cabinet, new_entropy};
+
+use crate::words::{Asked, is_read_only};
+use block_traits::{Cabinet, Disk, Entropy, NoMemory};
+use file_edge::{FileCabinet, FileDisk, FileId, ImageFile, Opener, RandomFile};
+use image_layers::{ImageDisk, open_image};
+use std::alloc::Global;
+
+/// What is opened: the disk of the image, the files beside it, and the random bytes.
+#[derive(Drop)]
+pub(crate) struct Opened<O: Opener + Drop>
+where
+    FileDisk<O::File>: Disk,
+{
+    pub(crate) disk: ImageDisk<O::File>,
+    pub(crate) files: FileCabinet<O>,
+    pub(crate) entropy: RandomFile<O::File>,
+}
+
+// Opens the image of a name, to be changed or not, and then the random bytes; no call was made of what is handed out.
+// Where memory gave out the opener comes back.
+fn open_named<O: Opener + Drop>(
+    alloc: Global,
+    opener: O,
+    changes: bool,
+    name: &str,
+) -> Result<Opened<O>, (O, NoMemory)>
+    ensures opens { IfOk result (λ opened. OpensNamed (⟦<O as Opener>⟧) (⟦<O::File as ImageFile>⟧)
+        changes (name.now ∷ []) (opened.disk ∷ []) opened.files.images.items opened.entropy opener opened.files.opener) }
+    ensures tells { IfOk result (λ opened. TellsImage O.File.told opened.disk) }
+    ensures files { IfOk result (λ opened. (⟦<FileCabinet<O> as Cabinet>⟧).state opened.files
+        ≡ new_cabinet opened.files.images.items (O.told opened.files.opener)) }
+    ensures random { IfOk result (λ opened. (⟦<RandomFile<O::File> as Entropy>⟧).state opened.entropy
+        ≡ new_entropy (left_in O.File.left opened.entropy.device)) }
+    ensures asked_part { IfErr result (λ refused. AsksPart O.asked changes name.now opener refused.0) }
+{
+    let mut opener = opener;
+    let mut images: Vec<FileId> = Vec::new(alloc);
+    match open_image(alloc, &mut opener, &mut images, changes, name) {
+        Ok(disk) => {
+            let entropy = RandomFile::open(&mut opener);
+            Ok(Opened {
+                disk,
+                files: FileCabinet::new(opener, images),
+                entropy,
+            })
+        }
+        Err(fault) => Err((opener, fault)),
+    }
+}
+
+/// The same of the image that is asked for, to be changed but where it is attached to be read alone.
+pub(crate) fn open_asked<O: Opener + Drop>(
+    alloc: Global,
+    opener: O,
+    asked: &Asked,
+) -> Result<Opened<O>, (O, NoMemory)>
+    ensures opens { IfOk result (λ opened. OpensNamed (⟦<O as Opener>⟧) (⟦<O::File as ImageFile>⟧)
+        (not (attaches_readonly asked.now.command)) (string_bytes asked.now.name ∷ []) (opened.disk ∷ [])
+        opened.files.images.items opened.entropy opener opened.files.opener) }
+    ensures tells { IfOk result (λ opened. TellsImage O.File.told opened.disk) }
+    ensures files { IfOk result (λ opened. (⟦<FileCabinet<O> as Cabinet>⟧).state opened.files
+        ≡ new_cabinet opened.files.images.items (O.told opened.files.opener)) }
+    ensures random { IfOk result (λ opened. (⟦<RandomFile<O::File> as Entropy>⟧).state opened.entropy
+        ≡ new_entropy (left_in O.File.left opened.entropy.device)) }
+    ensures asked_part { IfErr result (λ refused. AsksPart O.asked (not (attaches_readonly asked.now.command))
+        (string_bytes asked.now.name) opener refused.0) }
+{
+    let changes = !is_read_only(&asked.command);
+    open_named(alloc, opener, changes, asked.name.as_str())
+}

@@ -1,0 +1,69 @@
+//! How a run ended.
+ghost use Rattle.std.specs.Prelude.{◌≡◌};
+ghost use Rattle.std.specs.Process.{exit_status};
+ghost use Rattle.nbd_run.specs.Status.{run_number, session_status};
+
+use nbd_session::End;
+use std::process::ExitCode;
+
+/// How a run ended, with which number the program exits.
+#[derive(Clone, Copy, Debug, PartialEq, Eq)]
+pub enum Status {
+    /// The client ended, each of its writes and flushes was done, and so was the last flush. Or a text was printed.
+    Done,
+    /// The provider wasn't attached; or a write, a request for zeros or a flush was refused, or the last flush failed.
+    SomeRefused,
+    /// The words ask for nothing that the program does.
+    BadWords,
+    /// The source failed.
+    ReadFault,
+    /// The sink failed.
+    WriteFault,
+    /// There was no memory, and nothing was served.
+    NoMemory,
+    /// The client said what no client says.
+    Malformed,
+}
+
+impl Status {
+    /// The number of the status, from 0 to 6.
+    pub fn number(&self) -> u8
+        ensures { result ≡ run_number self.now }
+    {
+        match self {
+            Status::Done => 0,
+            Status::SomeRefused => 1,
+            Status::BadWords => 2,
+            Status::ReadFault => 3,
+            Status::WriteFault => 4,
+            Status::NoMemory => 5,
+            Status::Malformed => 6,
+        }
+    }
+}
+
+/// The exit code of a status.
+pub fn exit_code(status: Status) -> ExitCode
+    ensures { exit_status result ≡ run_number status }
+{
+    ExitCode::from(status.number())
+}
+
+/// The status of a session, by why it ended, whether something was answered with an error that was to change or to
+/// flush the disk, and whether the last flush was made.
+pub(crate) fn status_of(end: End, denied: bool, flushed: bool) -> Status
+    ensures { result ≡ session_status end denied flushed }
+{
+    match end {
+        End::ReadFault => Status::ReadFault,
+        End::WriteFault => Status::WriteFault,
+        End::Malformed => Status::Malformed,
+        End::Closed => {
+            if denied || !flushed {
+                Status::SomeRefused
+            } else {
+                Status::Done
+            }
+        }
+    }
+}

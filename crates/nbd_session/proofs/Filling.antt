@@ -1,0 +1,37 @@
+-- Bytes that a source gave, one piece behind another.
+use Rattle.std.proofs.Common.{◌≡◌, ◌∙◌, ℕ, ◌+◌, ◌≤◌, List, [], ◌++◌, length, take, refl, ap, sym, subst, arith, append_assoc, append-nil, length-take-le, Option, None, Some}
+use Rattle.std.proofs.Math.Seq.{take-append-add}
+use Rattle.std.proofs.lemmas.List.{take-append-le}
+use Rattle.std.specs.Io.KnownBytes.{prepend_known}
+use Rattle.block_traits.specs.Streams.{SourceState}
+use Rattle.nbd_session.specs.Streams.{Gave}
+use borrow.Rule.Slice.PartMut.{put_mid, post_of}
+
+prepend_known-more : (first second : List ℕ) (known : Option (List ℕ)) → prepend_known first (prepend_known second known) ≡ prepend_known (first ++ second) known
+prepend_known-more first second None = refl
+prepend_known-more first second (Some bytes) = ap Some (sym (append_assoc first second bytes))
+
+-- the first bytes of a list in which a part was filled from the place a on
+pub take-filled : (a k n : ℕ) (xs ys : List ℕ) → a ≤ length xs → n ≤ length ys → take (a + n) (put_mid a k xs ys) ≡ take a xs ++ take n ys
+take-filled a k n xs ys inside few =
+    ap (λ (m : ℕ). take (m + n) (put_mid a k xs ys)) (sym (length-take-le a xs inside))
+    ∙ take-append-add (take a xs) (ys ++ post_of a k xs) n
+    ∙ ap (λ (l : List ℕ). take a xs ++ l) (take-append-le n ys (post_of a k xs) few)
+
+pub Gave-then : {xs ys : List ℕ} {old middle new : SourceState} → Gave xs old middle → Gave ys middle new → Gave (xs ++ ys) old new
+Gave-then {xs} {ys} {old} {middle} {new} first second = record {
+  left = first.left ∙ ap (prepend_known xs) second.left ∙ prepend_known-more xs ys new.left;
+  later = omega (arith, first.later, second.later);
+}
+
+prepend_known-none : (known : Option (List ℕ)) → known ≡ prepend_known [] known
+prepend_known-none None = refl
+prepend_known-none (Some bytes) = refl
+
+-- nothing
+pub Gave-none : (s : SourceState) → Gave [] s s
+Gave-none s = record { left = prepend_known-none s.left; later = omega arith }
+
+-- and nothing more
+pub Gave-bare : {xs : List ℕ} {source rest : SourceState} → Gave xs source rest → Gave (xs ++ []) source rest
+Gave-bare {xs} {source} {rest} h = subst (λ (l : List ℕ). Gave l source rest) (sym (append-nil xs)) h

@@ -1,0 +1,10 @@
+pub mod Filling
+pub mod Giving
+pub mod Negotiating
+pub mod Preferred
+pub mod Serving
+pub mod Running
+pub mod Talking
+pub mod Durable
+pub mod Settling
+pub mod Lasting

@@ -1,0 +1,149 @@
+-- Requests that are served one after another.
+use Rattle.std.proofs.Common.{◌≡◌, ◌∙◌, inl, inr, Bool, true, false, ◌||◌, ℕ, ◌+◌, ◌-◌, ◌^◌, ◌≤◌, List, [], ◌∷◌, ◌++◌, map, Result, Ok, Err, refl, ap, sym, subst, arith, append-nil, length-append}
+use Rattle.std.proofs.lemmas.Grind.{flat_map-append}
+use Rattle.std.proofs.lemmas.List.Folds.{list_any-append}
+use Rattle.std.specs.List.{concat, flat_map, list_any}
+use Rattle.block_traits.specs.Disk.{DiskState}
+use Rattle.block_traits.specs.Streams.{SinkState, SourceState, TookAll}
+use Rattle.provider.specs.Attached.{Attached, IsKept}
+use Rattle.reply_text.proofs.Printing.{TookAll-nothing}
+use Rattle.nbd_session.specs.Requests.{Exchange, ServesAll, ServesExchange, Side, is_denied, reply_of, side_of}
+use Rattle.nbd_session.specs.Runs.{ServedSoFar, ServesRun}
+use Rattle.nbd_session.specs.Served.{ServesNone, ServesOne, ServesRequest}
+use Rattle.nbd_session.specs.Stops.{exchange_bytes}
+use Rattle.nbd_session.specs.Streams.{Gave}
+use Rattle.nbd_session.specs.declared.streams.End.{End}
+use Rattle.nbd_session.specs.declared.streams.End.TheVariants.{Closed, ReadFault, WriteFault, Malformed}
+use Rattle.nbd_session.proofs.Filling.{Gave-bare, Gave-none, Gave-then}
+use Rattle.nbd_session.proofs.Giving.{gave-more, gave-part}
+
+flat_more : (xs : List Exchange) (x : Exchange) → flat_map exchange_bytes (xs ++ x ∷ []) ≡ flat_map exchange_bytes xs ++ exchange_bytes x
+flat_more xs x = flat_map-append exchange_bytes xs (x ∷ []) ∙ ap (λ (l : List ℕ). flat_map exchange_bytes xs ++ l) (append-nil (exchange_bytes x))
+
+ServesAll-more : (xs : List Exchange) (x : Exchange) (side : Side) (old middle : DiskState) → ServesAll side xs old middle → ServesExchange side x middle → ServesAll side (xs ++ x ∷ []) old x.next
+ServesAll-more [] x side old middle h one = (subst (ServesExchange side x) h one, refl)
+ServesAll-more (y ∷ ys) x side old middle h one = (h.0, ServesAll-more ys x side y.next middle h.1 one)
+
+-- with one more, all were served
+all-served : (side : Side) (xs : List Exchange) (x : Exchange) (old middle new : DiskState) → ServesAll side xs old middle → ServesExchange side x middle → x.next ≡ new → ServesAll side (xs ++ x ∷ []) old new
+all-served side xs x old middle new all one next = subst (ServesAll side (xs ++ x ∷ []) old) next (ServesAll-more xs x side old middle all one)
+
+took-more : (xs : List Exchange) (x : Exchange) {source middle rest : SourceState} → Gave (flat_map exchange_bytes xs) source middle → Gave (exchange_bytes x) middle rest → Gave (flat_map exchange_bytes (xs ++ x ∷ [])) source rest
+took-more xs x {source} {middle} {rest} a b = subst (λ (l : List ℕ). Gave l source rest) (sym (flat_more xs x)) (Gave-then a b)
+
+or-false : (b : Bool) → (b || false) ≡ b
+or-false true = refl
+or-false false = refl
+
+-- with one more, one is denied if one of the others is or this one
+noted-more : (xs : List Exchange) (x : Exchange) (before denied : Bool) → before ≡ list_any is_denied xs → denied ≡ is_denied x → (before || denied) ≡ list_any is_denied (xs ++ x ∷ [])
+noted-more xs x before denied so one =
+    ap (λ (b : Bool). b || denied) so ∙ ap (λ (b : Bool). list_any is_denied xs || b) (one ∙ sym (or-false (is_denied x))) ∙ sym (list_any-append is_denied xs (x ∷ []))
+
+more-served : (done : Unit {0}) (side : Side) (n : ℕ) (old middle new : DiskState) (source between rest : SourceState) (sink halfway after : SinkState) (before denied : Bool) → ServedSoFar side n old middle source between sink halfway before
+    → ServesOne side middle new between rest halfway (Ok done) after denied → ServedSoFar side (n + 1) old new source rest sink after (before || denied)
+more-served done side n old middle new source between rest sink halfway after before denied so one = record {
+  exchanges = so.exchanges ++ one.exchange ∷ [];
+  count = omega (arith, so.count, length-append so.exchanges (one.exchange ∷ []));
+  served = all-served side so.exchanges one.exchange old middle new so.served one.serves one.next;
+  took = took-more so.exchanges one.exchange so.took one.took;
+  gave = gave-more reply_of so.exchanges one.exchange so.gave one.gives;
+  noted = noted-more so.exchanges one.exchange before denied so.noted one.noted;
+}
+
+served-next : (done : Unit {0}) (side : Side) (n : ℕ) (old middle new : DiskState) (source between rest : SourceState) (sink halfway after : SinkState) (before denied : Bool) → ServedSoFar side n old middle source between sink halfway before
+    → ServesRequest side middle new between rest halfway (Ok done) after denied → ServedSoFar side (n + 1) old new source rest sink after (before || denied)
+served-next done side n old middle new source between rest sink halfway after before denied so h =
+    elim h [ inl one ↦ more-served done side n old middle new source between rest sink halfway after before denied so one | inr none ↦ absurd none.stops ]
+
+noted-on : (xs : List Exchange) (before denied : Bool) → before ≡ list_any is_denied xs → denied ≡ false → (before || denied) ≡ list_any is_denied xs
+noted-on xs before denied so none = ap (λ (b : Bool). before || b) none ∙ or-false before ∙ so
+
+-- none was served, and the session ends
+stops-run : (end : End) (side : Side) (n : ℕ) (old middle new : DiskState) (source between rest : SourceState) (sink halfway after : SinkState) (before denied : Bool) → ServedSoFar side n old middle source between sink halfway before
+    → ServesNone middle new between rest halfway (Err end) after denied → ServesRun side old new source rest sink end after (before || denied)
+stops-run Closed side n old middle new source between rest sink halfway after before denied so none = record {
+  exchanges = so.exchanges;
+  bytes = none.bytes;
+  served = subst (ServesAll side so.exchanges old) (sym none.disk) so.served;
+  took = Gave-then so.took none.took;
+  gave = subst (λ (s : SinkState). TookAll (concat (map reply_of so.exchanges)) sink s) (sym none.silent) so.gave;
+  why = inl none.stops;
+  noted = noted-on so.exchanges before denied so.noted none.noted;
+}
+stops-run ReadFault side n old middle new source between rest sink halfway after before denied so none = record {
+  exchanges = so.exchanges;
+  bytes = none.bytes;
+  served = subst (ServesAll side so.exchanges old) (sym none.disk) so.served;
+  took = Gave-then so.took none.took;
+  gave = subst (λ (s : SinkState). TookAll (concat (map reply_of so.exchanges)) sink s) (sym none.silent) so.gave;
+  why = (none.stops.0, omega (arith, so.took.later, none.stops.1));
+  noted = noted-on so.exchanges before denied so.noted none.noted;
+}
+stops-run WriteFault side n old middle new source between rest sink halfway after before denied so none = absurd none.stops
+stops-run Malformed side n old middle new source between rest sink halfway after before denied so none = record {
+  exchanges = so.exchanges;
+  bytes = none.bytes;
+  served = subst (ServesAll side so.exchanges old) (sym none.disk) so.served;
+  took = Gave-then so.took none.took;
+  gave = subst (λ (s : SinkState). TookAll (concat (map reply_of so.exchanges)) sink s) (sym none.silent) so.gave;
+  why = none.stops;
+  noted = noted-on so.exchanges before denied so.noted none.noted;
+}
+
+-- the last was served, and its answer couldn't be given
+fails-run : (end : End) (side : Side) (n : ℕ) (old middle new : DiskState) (source between rest : SourceState) (sink halfway after : SinkState) (before denied : Bool) → ServedSoFar side n old middle source between sink halfway before
+    → ServesOne side middle new between rest halfway (Err end) after denied → ServesRun side old new source rest sink end after (before || denied)
+fails-run Closed side n old middle new source between rest sink halfway after before denied so one = absurd one.gives
+fails-run ReadFault side n old middle new source between rest sink halfway after before denied so one = absurd one.gives
+fails-run WriteFault side n old middle new source between rest sink halfway after before denied so one =
+    let all : List Exchange = so.exchanges ++ one.exchange ∷ [] in
+    record {
+      exchanges = all;
+      bytes = [];
+      served = all-served side so.exchanges one.exchange old middle new so.served one.serves one.next;
+      took = Gave-bare (took-more so.exchanges one.exchange so.took one.took);
+      gave = gave-part reply_of so.exchanges one.exchange so.gave one.gives;
+      why = (omega (arith, length-append so.exchanges (one.exchange ∷ [])), refl);
+      noted = noted-more so.exchanges one.exchange before denied so.noted one.noted;
+    }
+fails-run Malformed side n old middle new source between rest sink halfway after before denied so one = absurd one.gives
+
+side_same : {D : Type 0} (p q : Attached D) → IsKept p q → side_of q ≡ side_of p
+side_same p q kept = λ i. record { keying = kept.keying i; readonly = kept.readonly i }
+
+pub next_by : {D : Type 0} (done : Unit {0}) (p q : Attached D) (n : ℕ) (old middle new : DiskState) (source between rest : SourceState) (sink halfway after : SinkState) (before denied : Bool) (result : Result (Unit {0}) End) → IsKept p q
+    → ServedSoFar (side_of p) n old middle source between sink halfway before → result ≡ Ok done
+    → ServesRequest (side_of q) middle new between rest halfway result after denied → ServedSoFar (side_of p) (n + 1) old new source rest sink after (before || denied)
+next_by done p q n old middle new source between rest sink halfway after before denied result kept so is h =
+    served-next done (side_of p) n old middle new source between rest sink halfway after before denied so (subst (λ (r : Result (Unit {0}) End). ServesRequest (side_of p) middle new between rest halfway r after denied) is
+    (subst (λ (s : Side). ServesRequest s middle new between rest halfway result after denied) (side_same p q kept) h))
+
+pub ends_by : {D : Type 0} (p q : Attached D) (end : End) (n : ℕ) (old middle new : DiskState) (source between rest : SourceState) (sink halfway after : SinkState) (before denied : Bool) (result : Result (Unit {0}) End) → IsKept p q
+    → ServedSoFar (side_of p) n old middle source between sink halfway before → result ≡ Err end
+    → ServesRequest (side_of q) middle new between rest halfway result after denied → ServesRun (side_of p) old new source rest sink end after (before || denied)
+ends_by p q end n old middle new source between rest sink halfway after before denied result kept so is h =
+    elim (subst (λ (r : Result (Unit {0}) End). ServesRequest (side_of p) middle new between rest halfway r after denied) is
+    (subst (λ (s : Side). ServesRequest s middle new between rest halfway result after denied) (side_same p q kept) h)) [
+      | inl one ↦ fails-run end (side_of p) n old middle new source between rest sink halfway after before denied so one
+      | inr none ↦ stops-run end (side_of p) n old middle new source between rest sink halfway after before denied so none
+    ]
+
+pub kept_on : {D : Type 0} {p q r : Attached D} → IsKept p q → IsKept q r → IsKept p r
+kept_on a b = record { keying = b.keying ∙ a.keying; slot = b.slot ∙ a.slot; readonly = b.readonly ∙ a.readonly }
+
+-- as many as are counted
+pub full : (side : Side) (n : ℕ) (old new : DiskState) (source rest : SourceState) (sink after : SinkState) (denied : Bool) → 2 ^ 64 - 1 ≤ n → ServedSoFar side n old new source rest sink after denied
+    → ServesRun side old new source rest sink Closed after denied
+full side n old new source rest sink after denied many so = record {
+  exchanges = so.exchanges;
+  bytes = [];
+  served = so.served;
+  took = Gave-bare so.took;
+  gave = so.gave;
+  why = inr (omega (arith, many, so.count), refl);
+  noted = so.noted;
+}
+
+pub none-yet : (side : Side) (d : DiskState) (source : SourceState) (sink : SinkState) → ServedSoFar side 0 d d source source sink sink false
+none-yet side d source sink = record { exchanges = []; count = refl; served = refl; took = Gave-none source; gave = TookAll-nothing sink; noted = refl }

@@ -1,0 +1,235 @@
+-- Requests that are taken, served and answered.
+use Rattle.std.proofs.Common.{◌≡◌, ◌∙◌, inl, inr, ℕ, ◌+◌, ◌-◌, ◌%◌, ◌<◌, ◌≤◌, Bool, false, List, [], ◌++◌, length, take, drop, None, Some, Result, Err, refl, ap, sym, subst, arith, append-nil, length-drop, length-take-le}
+use Rattle.std.proofs.Math.Seq.{drop-append-add, take-append-add, take-append_seam}
+use Rattle.std.proofs.lemmas.List.{drop-drop, drop-take, take-append-le, take-take}
+use Rattle.std.proofs.lemmas.Option.{none-some, same_Some}
+use Rattle.block_traits.specs.Disk.{DiskState}
+use Rattle.block_traits.specs.Streams.{SinkState, SourceState}
+use Rattle.byte_ranges.specs.Reads.{CannotRead, IsReadAs}
+use Rattle.byte_ranges.specs.Writes.{WritesRange}
+use Rattle.byte_ranges.specs.declared.ranges.ByteRange.{ByteRange}
+use Rattle.nbd_words.specs.Transmission.{has_fua, reply_head, request_in, request_kind}
+use Rattle.nbd_words.specs.declared.transmission.Request.{Request}
+use Rattle.nbd_words.specs.declared.transmission.RequestKind.{RequestKind}
+use Rattle.nbd_words.specs.declared.transmission.RequestKind.TheVariants as kinds
+use Rattle.nbd_words.specs.declared.transmission.ReplyError.{ReplyError}
+use Rattle.nbd_words.specs.declared.transmission.ReplyError.TheVariants.{Done, Failed, Invalid}
+use Rattle.nbd_session.specs.Requests.{MayRead, Reads, ServesKind, Side, Writes, denied_by, most, range_of}
+use Rattle.nbd_session.specs.Served.{KindIsServed, ServesNone, ServesRequest}
+use Rattle.nbd_session.specs.Stops.{Stops}
+use Rattle.nbd_session.specs.Streams.{Fills, Gave, Gives}
+use Rattle.nbd_session.specs.declared.streams.End.{End}
+use Rattle.nbd_session.specs.declared.streams.End.TheVariants.{Closed, ReadFault, WriteFault, Malformed}
+use Rattle.nbd_session.proofs.Filling.{Gave-bare, Gave-then}
+use borrow.Rule.Slice.PartMut.{mid_of, put_mid, post_of}
+
+-- ---- the room
+
+-- what lies from the part that was put in on
+pub from_part : (s k : ℕ) (room ys : List ℕ) → s ≤ length room → drop s (put_mid s k room ys) ≡ ys ++ post_of s k room
+from_part s k room ys inside =
+    let place : s ≡ length (take s room) + 0 = omega (arith, length-take-le s room inside) in
+    ap (λ (m : ℕ). drop m (put_mid s k room ys)) place ∙ drop-append-add (take s room) (ys ++ post_of s k room) 0
+
+-- a head that was put before bytes, and they
+pub head_and_bytes : (s n k : ℕ) (room head : List ℕ) → k ≡ 16 → length head ≡ 16 → s ≤ length room → take (16 + n) (drop s (put_mid s k room head)) ≡ head ++ take n (drop (s + 16) room)
+head_and_bytes s n k room head same long inside =
+    ap (take (16 + n)) (from_part s k room head inside)
+    ∙ ap (λ (m : ℕ). take (m + n) (head ++ post_of s k room)) (sym long)
+    ∙ take-append-add head (post_of s k room) n
+    ∙ ap (λ (l : List ℕ). head ++ take n l) (ap (λ (m : ℕ). drop m (drop s room)) same ∙ drop-drop 16 s room)
+
+-- what is given of the room, once the head is there
+pub given_of : (s n : ℕ) (room piece head : List ℕ) → piece ≡ head → length head ≡ 16 → s ≤ length room → take (s + 16 + n - s) (drop s (put_mid s (s + 16 - s) room piece)) ≡ head ++ take n (drop (s + 16) room)
+given_of s n room piece head same long inside =
+    let many : s + 16 + n - s ≡ 16 + n = omega arith in
+    ap (λ (m : ℕ). take m (drop s (put_mid s (s + 16 - s) room piece))) many
+    ∙ ap (λ (l : List ℕ). take (16 + n) (drop s (put_mid s (s + 16 - s) room l))) same
+    ∙ head_and_bytes s n (s + 16 - s) room head (omega arith) long inside
+
+pub many_of : (a n most : ℕ) (room : List ℕ) → length room ≡ most → a + n ≤ most → length (mid_of a (a + n - a) room) ≡ n
+many_of a n most room are inside = length-take-le (a + n - a) (drop a room) (omega (arith, length-drop a room, are, inside)) ∙ omega arith
+
+-- bytes of a part that was put in at 16
+pub read_bytes : (s n k : ℕ) (room into : List ℕ) → 16 ≤ length room → s + n ≤ length into → take n (drop (s + 16) (put_mid 16 k room into)) ≡ take n (drop s into)
+read_bytes s n k room into large inside =
+    let place : s + 16 ≡ length (take 16 room) + s = omega (arith, length-take-le 16 room large) in
+    ap (λ (m : ℕ). take n (drop m (put_mid 16 k room into))) place
+    ∙ ap (take n) (drop-append-add (take 16 room) (into ++ post_of 16 k room) s)
+    ∙ sym (drop-take s n (into ++ post_of 16 k room))
+    ∙ ap (drop s) (take-append-le (s + n) into (post_of 16 k room) inside)
+    ∙ drop-take s n into
+
+-- bytes of the first bytes
+pub of_first : (s n w : ℕ) (room : List ℕ) → s + n ≤ w → take n (drop s (take w room)) ≡ take n (drop s room)
+of_first s n w room inside = sym (drop-take s n (take w room)) ∙ ap (drop s) (take-take (s + n) w room inside) ∙ drop-take s n room
+
+-- the part that was put in
+pub part_there : (s n k : ℕ) (room ys : List ℕ) → length ys ≡ n → s ≤ length room → take n (drop s (put_mid s k room ys)) ≡ ys
+part_there s n k room ys long inside =
+    ap (take n) (from_part s k room ys inside) ∙ ap (λ (m : ℕ). take m (ys ++ post_of s k room)) (sym long) ∙ take-append_seam ys (post_of s k room)
+
+-- the bytes that were filled in where they belong
+pub payload_there : (offset size there n k : ℕ) (room ys : List ℕ) → size ≡ there → length ys ≡ n → offset % size ≤ length room → take n (drop (offset % there) (put_mid (offset % size) k room ys)) ≡ ys
+payload_there offset size there n k room ys same long inside =
+    ap (λ (m : ℕ). take n (drop (offset % m) (put_mid (offset % size) k room ys))) (sym same) ∙ part_there (offset % size) n k room ys long inside
+
+pub written_there : (side : Side) (q : Request) (payload other : List ℕ) (error : ReplyError) (old new : DiskState) → other ≡ payload → Writes side q other error old new → Writes side q payload error old new
+written_there side q payload other error old new same h = subst (λ (l : List ℕ). Writes side q l error old new) same h
+
+-- ---- reads and writes of a request's range
+
+pub read_done : (side : Side) (q : Request) (r : ByteRange) (skip : ℕ) (bytes : List ℕ) (old new : DiskState) → r ≡ range_of q → MayRead side.keying old q
+    → IsReadAs side.keying r (take r.count (drop skip bytes)) old new → Reads side q Done (take q.length (drop skip bytes)) old new
+read_done side q r skip bytes old new same may h =
+    (may, subst (λ (range : ByteRange). IsReadAs side.keying range (take range.count (drop skip bytes)) old new) same h)
+
+pub read_failed : (side : Side) (q : Request) (r : ByteRange) (old new : DiskState) → r ≡ range_of q → MayRead side.keying old q
+    → CannotRead side.keying r old new → Reads side q Failed [] old new
+read_failed side q r old new same may h = (may, refl, subst (λ (range : ByteRange). CannotRead side.keying range old new) same h)
+
+-- the bytes stood among those of the sectors
+pub write_by : (answer : Bool) (side : Side) (q : Request) (payload whole : List ℕ) (r : ByteRange) (flush : Bool) (skip : ℕ) (old new : DiskState) → r ≡ range_of q → flush ≡ has_fua q.flags
+    → take q.length (drop skip whole) ≡ payload → WritesRange side.keying r flush (take r.count (drop skip whole)) answer old new
+    → WritesRange side.keying (range_of q) (has_fua q.flags) payload answer old new
+write_by answer side q payload whole r flush skip old new same flag bytes h =
+    subst (λ (l : List ℕ). WritesRange side.keying (range_of q) (has_fua q.flags) l answer old new) bytes
+    (subst (λ (b : Bool). WritesRange side.keying (range_of q) b (take q.length (drop skip whole)) answer old new) flag
+    (subst (λ (range : ByteRange). WritesRange side.keying range flush (take range.count (drop skip whole)) answer old new) same h))
+
+-- ---- one request
+
+Gave-nothing : (xs : List ℕ) {source middle rest : SourceState} → Gave xs source middle → rest ≡ middle → Gave xs source rest
+Gave-nothing xs {source} h same = subst (λ (s : SourceState). Gave xs source s) (sym same) h
+
+bare : {xs : List ℕ} {source middle rest : SourceState} → Gave xs source middle → rest ≡ middle → Gave (xs ++ []) source rest
+bare {xs} h same = Gave-bare (Gave-nothing xs h same)
+
+pub gives-bare : (xs : List ℕ) (result : Result (Unit {0}) End) (sink after : SinkState) → Gives xs sink result after → Gives (xs ++ []) sink result after
+gives-bare xs result sink after h = subst (λ (l : List ℕ). Gives l sink result after) (sym (append-nil xs)) h
+
+-- an exchange of a request of this kind
+one : (kind : RequestKind) (side : Side) (head : List ℕ) (q : Request) (payload : List ℕ) (error : ReplyError) (bytes : List ℕ) (old new : DiskState) (source rest : SourceState) (sink : SinkState)
+    (result : Result (Unit {0}) End) (after : SinkState) (denied : Bool) → length head ≡ 28 → request_in head ≡ Some q → request_kind q.code ≡ kind
+    → denied ≡ denied_by kind error
+    → ServesKind kind side (record { head = head; request = q; payload = payload; error = error; bytes = bytes; next = new }) old
+    → Gave (head ++ payload) source rest → Gives (reply_head error q.cookie ++ bytes) sink result after → ServesRequest side old new source rest sink result after denied
+one kind side head q payload error bytes old new source rest sink result after denied long reads is noted serves took gives =
+    inl (record {
+      exchange = record { head = head; request = q; payload = payload; error = error; bytes = bytes; next = new };
+      serves = (
+        record { size = long; reads = reads },
+        subst (λ (j : RequestKind). ServesKind j side (record { head = head; request = q; payload = payload; error = error; bytes = bytes; next = new }) old) (sym is) serves,
+      );
+      next = refl;
+      took = took;
+      gives = gives;
+      noted = subst (λ (j : RequestKind). denied ≡ denied_by j error) (sym is) noted;
+    })
+
+cut_stops : (end : End) (q : Request) (head bytes : List ℕ) (source middle rest : SourceState) → length head ≡ 28 → request_in head ≡ Some q → request_kind q.code ≡ kinds.Write → length bytes ≡ q.length → q.length ≤ most
+    → Gave head source middle → Fills bytes middle (Err end) rest → (taken : List ℕ) × Gave taken source rest × Stops (Err end) taken source rest
+cut_stops Closed q head bytes source middle rest long reads is size few took h =
+    let part : List ℕ = take h.0.count bytes in (
+      head ++ part,
+      Gave-then took h.0.gave,
+      inr (
+        inr (record {
+          head = head;
+          part = part;
+          are = refl;
+          size = long;
+          request = q;
+          reads = reads;
+          kind = is;
+          few = few;
+          lacks = let within = h.0.within in omega (arith, length-take-le h.0.count bytes (omega (arith, within)), within, size);
+        }),
+        h.1,
+      ),
+    )
+cut_stops ReadFault q head bytes source middle rest long reads is size few took h =
+    let part : List ℕ = take h.0.count bytes in (
+      head ++ part,
+      Gave-then took h.0.gave,
+      (
+        inr (record {
+          head = head;
+          part = part;
+          are = refl;
+          size = long;
+          request = q;
+          reads = reads;
+          kind = is;
+          few = few;
+          lacks = let within = h.0.within in omega (arith, length-take-le h.0.count bytes (omega (arith, within)), within, size);
+        }),
+        omega (arith, took.later, h.1),
+      ),
+    )
+cut_stops WriteFault q head bytes source middle rest long reads is size few took h = absurd h
+cut_stops Malformed q head bytes source middle rest long reads is size few took h = absurd h
+
+none : (end : End) (taken : List ℕ) (old new : DiskState) (source rest : SourceState) (sink : SinkState) (result : Result (Unit {0}) End) (after : SinkState) (denied : Bool) → result ≡ Err end
+    → Gave taken source rest → Stops (Err end) taken source rest → new ≡ old → after ≡ sink → denied ≡ false → ServesNone old new source rest sink result after denied
+none end taken old new source rest sink result after denied why took stops disk silent noted =
+    record { bytes = taken; took = took; stops = subst (λ (r : Result (Unit {0}) End). Stops r taken source rest) (sym why) stops; disk = disk; silent = silent; noted = noted }
+
+by-kind : (kind : RequestKind) (side : Side) (head : List ℕ) (q : Request) (old new : DiskState) (source middle rest : SourceState) (sink : SinkState) (result : Result (Unit {0}) End) (after : SinkState) (denied : Bool)
+    → length head ≡ 28 → request_in head ≡ Some q → request_kind q.code ≡ kind → Gave head source middle → KindIsServed kind side q old new middle rest sink result after denied
+    → ServesRequest side old new source rest sink result after denied
+by-kind kinds.Read side head q old new source middle rest sink result after denied long reads is took h =
+    one kinds.Read side head q [] h.1.error h.1.bytes old new source rest sink result after denied long reads is h.2 (refl, h.1.reads) (bare took h.0) h.1.gives
+by-kind kinds.Write side head q old new source middle rest sink result after denied long reads is took h = elim h [
+  | inl more ↦ inr (none Malformed head old new source rest sink result after denied more.why (Gave-nothing head took more.untaken)
+      (record {
+        size = long;
+        none = λ request same. let this : q ≡ request = same_Some q request (sym reads ∙ same) in
+            subst (λ (r : Request). (request_kind r.code ≡ kinds.Write) × (most < r.length)) this (is, more.more);
+      })
+      more.disk more.silent more.noted)
+  | inr served ↦ elim served [
+    | inl w ↦ one kinds.Write side head q w.payload w.error [] old new source rest sink result after denied long reads is w.noted (w.size, w.few, refl, w.writes)
+        (Gave-then took w.took) (gives-bare (reply_head w.error q.cookie) result sink after w.gives)
+    | inr cut ↦ let stop = cut_stops cut.end q head cut.bytes source middle rest long reads is cut.size cut.few took cut.fills in
+        inr (none cut.end stop.0 old new source rest sink result after denied cut.why stop.1 stop.2 cut.disk cut.silent cut.noted)
+  ]
+]
+by-kind kinds.WriteZeroes side head q old new source middle rest sink result after denied long reads is took h =
+    one kinds.WriteZeroes side head q [] h.1.error [] old new source rest sink result after denied long reads is h.1.noted (refl, refl, h.1.writes) (bare took h.0) (gives-bare (reply_head h.1.error q.cookie) result sink after h.1.gives)
+by-kind kinds.Flush side head q old new source middle rest sink result after denied long reads is took h =
+    one kinds.Flush side head q [] h.1.error [] old new source rest sink result after denied long reads is h.1.noted (refl, refl, h.1.flushes) (bare took h.0) (gives-bare (reply_head h.1.error q.cookie) result sink after h.1.gives)
+by-kind kinds.Unknown side head q old new source middle rest sink result after denied long reads is took h =
+    one kinds.Unknown side head q [] Invalid [] old new source rest sink result after denied long reads is h.3 (refl, refl, refl, h.1) (bare took h.0) (gives-bare (reply_head Invalid q.cookie) result sink after h.2)
+by-kind kinds.Disconnect side head q old new source middle rest sink result after denied long reads is took h =
+    inr (none Closed head old new source rest sink result after denied h.0 (Gave-nothing head took h.1) (inl (record { size = long; request = q; reads = reads; kind = is })) h.2 h.3 h.4)
+
+pub request_served : (side : Side) (head : List ℕ) (q : Request) (old new : DiskState) (source middle rest : SourceState) (sink : SinkState) (result : Result (Unit {0}) End) (after : SinkState) (denied : Bool)
+    → length head ≡ 28 → request_in head ≡ Some q → Gave head source middle → KindIsServed (request_kind q.code) side q old new middle rest sink result after denied
+    → ServesRequest side old new source rest sink result after denied
+request_served side head q old new source middle rest sink result after denied long reads took h =
+    by-kind (request_kind q.code) side head q old new source middle rest sink result after denied long reads refl took h
+
+-- 28 bytes that aren't a request
+pub no_request : (head : List ℕ) (d : DiskState) (source rest : SourceState) (sink : SinkState) → length head ≡ 28 → request_in head ≡ None → Gave head source rest
+    → ServesNone d d source rest sink (Err Malformed) sink false
+no_request head d source rest sink long reads took =
+    none Malformed head d d source rest sink (Err Malformed) sink false refl took
+    (record { size = long; none = λ request same. absurd (none-some request (sym reads ∙ same)) }) refl refl refl
+
+-- the head didn't come
+head_stops : (end : End) (head : List ℕ) (source rest : SourceState) → length head ≡ 28 → Fills head source (Err end) rest → (taken : List ℕ) × Gave taken source rest × Stops (Err end) taken source rest
+head_stops Closed head source rest long h =
+    let within = h.0.within in
+    (take h.0.count head, h.0.gave, inr (inl (omega (arith, length-take-le h.0.count head (omega (arith, within)), within, long)), h.1))
+head_stops ReadFault head source rest long h =
+    let within = h.0.within in
+    (take h.0.count head, h.0.gave, (inl (omega (arith, length-take-le h.0.count head (omega (arith, within)), within, long)), h.1))
+head_stops WriteFault head source rest long h = absurd h
+head_stops Malformed head source rest long h = absurd h
+
+pub no_head : (end : End) (head : List ℕ) (d : DiskState) (source rest : SourceState) (sink : SinkState) → length head ≡ 28 → Fills head source (Err end) rest
+    → ServesNone d d source rest sink (Err end) sink false
+no_head end head d source rest sink long h =
+    let stop = head_stops end head source rest long h in
+    none end stop.0 d d source rest sink (Err end) sink false refl stop.1 stop.2 refl refl refl

@@ -1,0 +1,34 @@
+use Rattle.std.proofs.Common.{◌≡◌, ◌∙◌, inl, ℕ, ◌+◌, ◌-◌, ◌%◌, ◌<◌, ◌≤◌, List, length, take, drop, arith, length-drop, length-take-le}
+use Rattle.std.proofs.lemmas.Nat.{mod_below}
+use Rattle.nbd_session.specs.Requests.{side_of}
+use Rattle.nbd_session.proofs.Serving.{payload_there, written_there}
+use borrow.Rule.Slice.PartMut.{mid_of, put_mid}
+use Rattle.nbd_session.proofs.served.serve_write.Goals as goal
+
+many_of : (a n most : ℕ) (room : List ℕ) → length room ≡ most → a + n ≤ most → length (mid_of a (a + n - a) room) ≡ n
+many_of a n most room are inside = length-take-le (a + n - a) (drop a room) (omega (arith, length-drop a room, are, inside)) ∙ omega arith
+
+pub returns-clause-serves : goal.returns-clause-serves
+returns-clause-serves g c =
+    let p = c.args.provider.now in
+    let q = c.args.request.now in
+    let size : ℕ = c.sector_size-size.result in
+    let start : ℕ = q.offset % size in
+    let room = c.args.room.now in
+    let ys = c.fill.new.into in
+    let most = c.sector_size-size.ensures.at_most in
+    let low : start < size = mod_below q.offset size (omega (arith, c.sector_size-size.ensures.at_least)) in
+    let all : length ys ≡ q.length = c.fill.auto.into ∙ many_of start q.length 33685520 room c.requires.room (omega (arith, low, most, c.requires.few)) in
+    let there : take q.length (drop (q.offset % p.keying.sectorsize) (put_mid start (start + q.length - start) room ys)) ≡ ys =
+    payload_there q.offset size p.keying.sectorsize q.length (start + q.length - start) room ys c.sector_size-size.ensures.size all (omega (arith, low, most, c.requires.room)) in
+    inl (record {
+      payload = ys;
+      size = all;
+      few = c.requires.few;
+      took = c.in_default.ensures;
+      error = c.write-error.result;
+      writes = written_there (side_of p) q ys (take q.length (drop (q.offset % p.keying.sectorsize) (put_mid start (start + q.length - start) room ys))) c.write-error.result
+          (g.D.Disk.state p.disk) (g.D.Disk.state c.write-error.new.provider.disk) there c.write-error.ensures.writes;
+      gives = c.answer.ensures.gives;
+      noted = c.is_error.ensures;
+    })

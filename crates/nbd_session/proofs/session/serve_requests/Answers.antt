@@ -1,0 +1,35 @@
+use Rattle.std.proofs.Common.{◌∙◌}
+use Rattle.nbd_session.specs.Requests.{side_of}
+use Rattle.nbd_session.proofs.Running.{ends_by, full, kept_on, next_by}
+use Rattle.nbd_session.proofs.session.serve_requests.Goals as goal
+
+pub returns-in-Err-clause-serves : goal.returns-in-Err-clause-serves
+returns-in-Err-clause-serves g c =
+    let disk = g.D.Disk.state in
+    let source = g.S.Source.state in
+    let sink = g.K.Sink.state in
+    ends_by c.args.provider.now c.many.provider c.in-Err.end c.many.many (disk c.args.provider.now.disk) (disk c.many.provider.disk) (disk c.serve_request-answered.new.provider.disk)
+    (source c.args.input.now) (source c.many.input) (source c.serve_request-answered.new.input) (sink c.args.output.now) (sink c.many.output) (sink c.serve_request-answered.new.output) c.many.denied c.serve_request-answered.result.1 c.serve_request-answered.result.0
+    c.many.invariant.kept c.many.invariant.served c.in-Err.is c.serve_request-answered.ensures.serves
+
+pub many-preserved : goal.many-preserved
+many-preserved g c =
+    let disk = g.D.Disk.state in
+    let source = g.S.Source.state in
+    let sink = g.K.Sink.state in
+    record {
+      room = c.serve_request-answered.auto.room ∙ c.many.invariant.room;
+      edge = c.serve_request-answered.auto.edge ∙ c.many.invariant.edge;
+      kept = kept_on c.many.invariant.kept c.serve_request-answered.ensures.kept;
+      served = next_by c.in_default.field-0 c.args.provider.now c.many.provider c.many.many (disk c.args.provider.now.disk) (disk c.many.provider.disk) (disk c.serve_request-answered.new.provider.disk)
+          (source c.args.input.now) (source c.many.input) (source c.serve_request-answered.new.input) (sink c.args.output.now) (sink c.many.output) (sink c.serve_request-answered.new.output) c.many.denied c.serve_request-answered.result.1 c.serve_request-answered.result.0
+          c.many.invariant.kept c.many.invariant.served c.in_default.is c.serve_request-answered.ensures.serves;
+    }
+
+pub returns-clause-serves : goal.returns-clause-serves
+returns-clause-serves g c =
+    let disk = g.D.Disk.state in
+    let source = g.S.Source.state in
+    let sink = g.K.Sink.state in
+    full (side_of c.args.provider.now) c.many.many (disk c.args.provider.now.disk) (disk c.many.provider.disk) (source c.args.input.now) (source c.many.input) (sink c.args.output.now) (sink c.many.output) c.many.denied
+    c.many-test.false c.many.invariant.served

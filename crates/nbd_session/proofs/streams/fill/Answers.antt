@@ -1,0 +1,18 @@
+use Rattle.std.proofs.Common.{◌≡◌, ℕ, ◌-◌, length, arith}
+use Rattle.nbd_session.proofs.Filling.{Gave-then, take-filled}
+use borrow.Rule.Slice.PartMut.{mid_of, same_len_mid}
+use Rattle.nbd_session.proofs.streams.fill.Goals as goal
+
+pub taken-preserved : goal.taken-preserved
+taken-preserved g c =
+    let xs = c.taken.into in
+    let ys = c.take.new.into in
+    let a : ℕ = c.taken.taken in
+    let many : length ys ≡ length (mid_of a (length xs - a) xs) = c.take.auto.into in
+    let same = same_len_mid a (length xs - a) xs ys many in
+    let bound = c.in-Ok.ensures.bound in
+    record {
+      inside = omega (arith, c.taken.invariant.inside, same, bound, many);
+      gave = rw (take-filled a (length xs - a) c.in-Ok.count xs ys c.taken.invariant.inside bound)
+          (Gave-then c.taken.invariant.gave (record { left = c.in-Ok.ensures.bytes; later = c.in-Ok.ensures.cause.later }));
+    }

@@ -1,0 +1,11 @@
+pub mod Streams
+pub mod Requests
+pub mod Stops
+pub mod Options
+pub mod Negotiation
+pub mod Export
+pub mod Served
+pub mod Runs
+pub mod Session
+pub mod Durable
+pub mod Lasting

@@ -1,0 +1,167 @@
+-- What a request of a client does to the provider, and what is answered (the NBD project's doc/proto.md, "Request types"
+-- and "Error values").
+use Rattle.std.specs.Prelude.{◌≡◌, ◌⊎◌, ℕ, ◌<◌, ◌≤◌, Bool, true, false, List, [], ◌∷◌, ◌++◌, length, replicate, Some}
+use Rattle.block_traits.specs.Disk.{DiskState, FailsIn, Logs}
+use Rattle.block_traits.specs.declared.disk.Event.TheVariants.{Flush}
+use Rattle.byte_ranges.specs.Ranges.{IsInside}
+use Rattle.byte_ranges.specs.Reads.{CannotRead, IsReadAs}
+use Rattle.byte_ranges.specs.Writes.{CannotSplice, IsWrittenInPart, IsWrittenWhole}
+use Rattle.byte_ranges.specs.declared.ranges.ByteRange.{ByteRange}
+use Rattle.eli_base.specs.Keying.{Keying}
+use Rattle.nbd_words.specs.Transmission.{flags_limit, has_fua, reply_head, request_in, request_kind}
+use Rattle.nbd_words.specs.declared.transmission.Request.{Request}
+use Rattle.nbd_words.specs.declared.transmission.RequestKind.{RequestKind}
+use Rattle.nbd_words.specs.declared.transmission.RequestKind.TheVariants as kinds
+use Rattle.nbd_words.specs.declared.transmission.ReplyError.{ReplyError}
+use Rattle.nbd_words.specs.declared.transmission.ReplyError.TheVariants.{Done, ReadOnly, Failed, Invalid, PassesEnd}
+use Rattle.provider.specs.Attached.{Attached}
+
+-- the most bytes of a request
+abbrev pub most : ℕ
+most = 33554432
+
+abbrev pub range_of : Request → ByteRange
+range_of q = record { offset = q.offset; count = q.length }
+
+-- an attached provider as a client sees it: its keying, and whether it is read-only
+pub record Side : Type 0 where
+  pub keying : Keying
+  pub readonly : Bool
+
+-- the flags are such as a request of its kind may have
+abbrev pub HasKnownFlags : Request → Type 0
+HasKnownFlags q = q.flags ≤ flags_limit (request_kind q.code)
+
+abbrev pub HasUnknownFlags : Request → Type 0
+HasUnknownFlags q = flags_limit (request_kind q.code) < q.flags
+
+-- a request of some bytes, and not of too many
+pub record IsWellFormed (q : Request) : Type 0 where
+  pub flags : HasKnownFlags q
+  pub some : 0 < q.length
+  pub few : q.length ≤ most
+
+abbrev pub IsIllFormed : Request → Type 0
+IsIllFormed q = HasUnknownFlags q ⊎ (q.length ≡ 0) ⊎ (most < q.length)
+
+-- the provider has all of its bytes
+abbrev pub FitsIn : Keying → DiskState → Request → Type 0
+FitsIn k d q = IsInside k d (range_of q)
+
+-- ---- reads
+
+-- a read is served
+pub record MayRead (k : Keying) (d : DiskState) (q : Request) : Type 0 where
+  pub formed : IsWellFormed q
+  pub inside : FitsIn k d q
+
+-- it is refused
+abbrev pub RefusesRead : Keying → DiskState → Request → Type 0
+RefusesRead k d q = IsIllFormed q ⊎ (FitsIn k d q → ⊥)
+
+-- what a read answers, and with which bytes
+abbrev pub Reads : Side → Request → ReplyError → List ℕ → DiskState → DiskState → Type 0
+Reads side q Done bytes old new = MayRead side.keying old q × IsReadAs side.keying (range_of q) bytes old new
+Reads side q Failed bytes old new = MayRead side.keying old q × (bytes ≡ []) × CannotRead side.keying (range_of q) old new
+Reads side q Invalid bytes old new = RefusesRead side.keying old q × (bytes ≡ []) × (new ≡ old)
+Reads side q ReadOnly bytes old new = ⊥
+Reads side q PassesEnd bytes old new = ⊥
+
+-- ---- writes, of bytes or of zeros
+
+-- a write is served
+pub record MayWrite (side : Side) (d : DiskState) (q : Request) : Type 0 where
+  pub writable : side.readonly ≡ false
+  pub formed : IsWellFormed q
+  pub inside : FitsIn side.keying d q
+
+-- it is refused
+abbrev pub RefusesWrite : Side → DiskState → Request → ReplyError → Type 0
+RefusesWrite side d q ReadOnly = side.readonly ≡ true
+RefusesWrite side d q Invalid = (side.readonly ≡ false) × IsIllFormed q
+RefusesWrite side d q PassesEnd = (side.readonly ≡ false) × IsWellFormed q × (FitsIn side.keying d q → ⊥)
+RefusesWrite side d q Done = ⊥
+RefusesWrite side d q Failed = ⊥
+
+-- what a write of these bytes answers
+abbrev pub Writes : Side → Request → List ℕ → ReplyError → DiskState → DiskState → Type 0
+Writes side q payload Done old new =
+    MayWrite side old q × IsWrittenWhole side.keying (range_of q) (has_fua q.flags) payload old new
+Writes side q payload Failed old new =
+    MayWrite side old q
+    × (CannotSplice side.keying (range_of q) old new ⊎ IsWrittenInPart side.keying (range_of q) (has_fua q.flags) payload old new)
+Writes side q payload ReadOnly old new = RefusesWrite side old q ReadOnly × (new ≡ old)
+Writes side q payload Invalid old new = RefusesWrite side old q Invalid × (new ≡ old)
+Writes side q payload PassesEnd old new = RefusesWrite side old q PassesEnd × (new ≡ old)
+
+-- the bytes of a request for zeros
+abbrev pub zeros_of : Request → List ℕ
+zeros_of q = replicate q.length 0
+
+-- ---- flushes
+
+-- what a flush answers
+abbrev pub Flushes : Request → ReplyError → DiskState → DiskState → Type 0
+Flushes q Done old new = HasKnownFlags q × Logs (Flush ∷ []) old new
+Flushes q Failed old new = HasKnownFlags q × FailsIn (Flush ∷ []) old new
+Flushes q Invalid old new = HasUnknownFlags q × (new ≡ old)
+Flushes q ReadOnly old new = ⊥
+Flushes q PassesEnd old new = ⊥
+
+-- ---- one exchange
+
+-- a request, as its head says, with the bytes of a write, and what was answered: the error and the bytes that were read
+pub record Exchange : Type 0 where
+  pub head : List ℕ
+  pub request : Request
+  pub payload : List ℕ
+  pub error : ReplyError
+  pub bytes : List ℕ
+  pub next : DiskState
+
+-- what is done for each kind of request. A disconnection isn't answered, and so is no exchange.
+abbrev pub ServesKind : RequestKind → Side → Exchange → DiskState → Type 0
+ServesKind kinds.Read side x old = (x.payload ≡ []) × Reads side x.request x.error x.bytes old x.next
+ServesKind kinds.Write side x old =
+    (length x.payload ≡ x.request.length) × (x.request.length ≤ most) × (x.bytes ≡ []) × Writes side x.request x.payload x.error old x.next
+ServesKind kinds.WriteZeroes side x old = (x.payload ≡ []) × (x.bytes ≡ []) × Writes side x.request (zeros_of x.request) x.error old x.next
+ServesKind kinds.Flush side x old = (x.payload ≡ []) × (x.bytes ≡ []) × Flushes x.request x.error old x.next
+ServesKind kinds.Unknown side x old = (x.payload ≡ []) × (x.bytes ≡ []) × (x.error ≡ Invalid) × (x.next ≡ old)
+ServesKind kinds.Disconnect side x old = ⊥
+
+-- a request that is served: its 28 bytes are read as it
+pub record IsRequest (x : Exchange) : Type 0 where
+  pub size : length x.head ≡ 28
+  pub reads : request_in x.head ≡ Some x.request
+
+abbrev pub ServesExchange : Side → Exchange → DiskState → Type 0
+ServesExchange side x old = IsRequest x × ServesKind (request_kind x.request.code) side x old
+
+-- an answer by which a client knows that not all was done
+abbrev pub is_error : ReplyError → Bool
+is_error Done = false
+is_error error = true
+
+-- whether it was to change or to flush the disk, and was answered with an error
+abbrev pub denied_by : RequestKind → ReplyError → Bool
+denied_by kinds.Write error = is_error error
+denied_by kinds.WriteZeroes error = is_error error
+denied_by kinds.Flush error = is_error error
+denied_by kind error = false
+
+abbrev pub is_denied : Exchange → Bool
+is_denied x = denied_by (request_kind x.request.code) x.error
+
+-- the bytes of its reply
+abbrev pub reply_of : Exchange → List ℕ
+reply_of x = reply_head x.error x.request.cookie ++ x.bytes
+
+-- exchanges one after the other, each from the disk that the one before left
+abbrev pub ServesAll : Side → List Exchange → DiskState → DiskState → Type 0
+ServesAll side [] old new = new ≡ old
+ServesAll side (x ∷ xs) old new = ServesExchange side x old × ServesAll side xs x.next new
+
+-- ---- what a call over an attached provider says
+
+abbrev pub side_of : {D : Type 0} → Attached D → Side
+side_of p = record { keying = p.keying; readonly = p.readonly }

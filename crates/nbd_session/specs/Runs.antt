@@ -1,0 +1,38 @@
+-- Requests of a client, one after another, until no more are taken.
+use Rattle.std.specs.Prelude.{◌≡◌, ◌⊎◌, ℕ, ◌<◌, ◌≤◌, List, [], ◌++◌, length, map, Bool, Err}
+use Rattle.std.specs.List.{concat, flat_map, list_any}
+use Rattle.block_traits.specs.Disk.{DiskState}
+use Rattle.block_traits.specs.Streams.{SinkState, SourceState, TookAll}
+use Rattle.nbd_session.specs.Requests.{Exchange, ServesAll, Side, is_denied, reply_of}
+use Rattle.nbd_session.specs.Stops.{Stops, exchange_bytes}
+use Rattle.nbd_session.specs.Streams.{Gave, GivesEach, limit}
+use Rattle.nbd_session.specs.declared.streams.End.{End}
+use Rattle.nbd_session.specs.declared.streams.End.TheVariants.{Closed, ReadFault, WriteFault, Malformed}
+
+-- so many requests were taken, served and answered; whether one was denied
+pub record ServedSoFar (side : Side) (many : ℕ) (old new : DiskState) (source rest : SourceState) (sink after : SinkState) (denied : Bool) : Type 0 where
+  pub exchanges : List Exchange
+  pub count : length exchanges ≡ many
+  pub served : ServesAll side exchanges old new
+  pub took : Gave (flat_map exchange_bytes exchanges) source rest
+  pub gave : TookAll (concat (map reply_of exchanges)) sink after
+  pub noted : denied ≡ list_any is_denied exchanges
+
+-- why no more are served behind these, and which bytes were taken behind them
+abbrev pub EndsRun : End → List Exchange → List ℕ → SourceState → SourceState → Type 0
+EndsRun Closed xs bytes source rest = Stops (Err Closed) bytes source rest ⊎ ((limit ≤ length xs) × (bytes ≡ []))
+EndsRun ReadFault xs bytes source rest = Stops (Err ReadFault) bytes source rest
+EndsRun WriteFault xs bytes source rest = (0 < length xs) × (bytes ≡ [])
+EndsRun Malformed xs bytes source rest = Stops (Err Malformed) bytes source rest
+
+-- Just these requests were taken, and the bytes of none that could be served stand behind them. Each was served on the
+-- disk that the one before it left, and answered; where the sink failed, it was in the answer to the last.
+-- Whether one of them was denied.
+pub record ServesRun (side : Side) (old new : DiskState) (source rest : SourceState) (sink : SinkState) (end : End) (after : SinkState) (denied : Bool) : Type 0 where
+  pub exchanges : List Exchange
+  pub bytes : List ℕ
+  pub served : ServesAll side exchanges old new
+  pub took : Gave (flat_map exchange_bytes exchanges ++ bytes) source rest
+  pub gave : GivesEach end (map reply_of exchanges) sink after
+  pub why : EndsRun end exchanges bytes source rest
+  pub noted : denied ≡ list_any is_denied exchanges

@@ -1,0 +1,82 @@
+-- A whole session: what was taken of the client and given to it, and what became of the provider.
+use Rattle.std.specs.Prelude.{◌≡◌, ◌⊎◌, ℕ, List, [], ◌∷◌, ◌++◌, map, Bool, Result, Ok, Err}
+use Rattle.std.specs.List.{flat_map, list_any}
+use Rattle.block_traits.specs.Disk.{DiskState, FailsIn, Logs}
+use Rattle.block_traits.specs.Streams.{SinkState, SourceState}
+use Rattle.block_traits.specs.declared.disk.Event.TheVariants.{Flush}
+use Rattle.nbd_words.specs.Negotiation.{greeting}
+use Rattle.nbd_words.specs.declared.negotiation.ClientFlags.{ClientFlags}
+use Rattle.nbd_words.specs.declared.negotiation.Export.{Export}
+use Rattle.nbd_session.specs.Options.{ClientOption, IsClient, LeadTo, answers, option_bytes}
+use Rattle.nbd_session.specs.Export.{export_for}
+use Rattle.nbd_session.specs.Requests.{Exchange, ServesAll, Side, is_denied, most, reply_of}
+use Rattle.nbd_session.specs.Negotiation.{EndsGreeting, EndsOptions}
+use Rattle.nbd_session.specs.Runs.{EndsRun}
+use Rattle.nbd_session.specs.Stops.{exchange_bytes}
+use Rattle.nbd_session.specs.Streams.{Gave, GivesEach}
+use Rattle.nbd_session.specs.declared.negotiation.Outcome.TheVariants.{Serving}
+use Rattle.nbd_session.specs.declared.streams.End.{End}
+
+-- What was taken of a client: the bytes of its flags and what they say of it, its options, its requests that were
+-- served, and the bytes of nothing that could be served.
+pub record Talk : Type 0 where
+  pub flags : List ℕ
+  pub client : ClientFlags
+  pub options : List ClientOption
+  pub exchanges : List Exchange
+  pub rest : List ℕ
+
+-- its bytes
+abbrev pub said : Talk → List ℕ
+said t = t.flags ++ (flat_map option_bytes t.options ++ (flat_map exchange_bytes t.exchanges ++ t.rest))
+
+-- what the client is given: the greeting, and an answer to each option and each request
+abbrev pub given : Export → Talk → List (List ℕ)
+given export t = greeting ∷ (answers export t.client t.options ++ map reply_of t.exchanges)
+
+-- ---- why a session ended
+
+-- before any option: the greeting couldn't be given, the client's flags didn't come, or no client has them
+pub record EndsUnknown (end : End) (t : Talk) (source rest : SourceState) : Type 0 where
+  pub ends : EndsGreeting end t.flags source rest
+  pub options : t.options ≡ []
+  pub exchanges : t.exchanges ≡ []
+  pub bare : t.rest ≡ []
+
+-- at one of its options, or behind the last
+pub record EndsAtOptions (end : End) (t : Talk) (source rest : SourceState) : Type 0 where
+  pub client : IsClient t.flags t.client
+  pub ends : EndsOptions end t.client t.options t.rest source rest
+  pub exchanges : t.exchanges ≡ []
+
+-- at one of its requests, or behind the last
+pub record EndsAtRequests (end : End) (t : Talk) (source rest : SourceState) : Type 0 where
+  pub client : IsClient t.flags t.client
+  pub options : LeadTo t.client Serving t.options
+  pub ends : EndsRun end t.exchanges t.rest source rest
+
+abbrev pub EndsBy : End → Talk → SourceState → SourceState → Type 0
+EndsBy end t source rest = EndsUnknown end t source rest ⊎ (EndsAtOptions end t source rest ⊎ EndsAtRequests end t source rest)
+
+-- the flush at the end was made, or failed
+abbrev pub FlushesLast : {E : Type 0} → Result (Unit {0}) E → DiskState → DiskState → Type 0
+FlushesLast (Ok done) old new = Logs (Flush ∷ []) old new
+FlushesLast (Err failed) old new = FailsIn (Flush ∷ []) old new
+
+-- What became of a client and a provider on a disk, before the last flush. Just what the client said was taken, and just
+-- the answers were given, one for each option and request, in order; where the sink failed, all but the last whole, and
+-- nothing was taken after that. The export that was told is the provider. Each request was served on the disk that the
+-- one before it left. Whether a write, a request for zeros or a flush was answered with an error.
+pub record Talks (side : Side) (end : End) (denied : Bool) (source rest : SourceState) (sink after : SinkState) (old new : DiskState) : Type 0 where
+  pub talk : Talk
+  pub took : Gave (said talk) source rest
+  pub gave : GivesEach end (given (export_for side old most) talk) sink after
+  pub why : EndsBy end talk source rest
+  pub served : ServesAll side talk.exchanges old new
+  pub noted : denied ≡ list_any is_denied talk.exchanges
+
+-- the whole session: last the disk was flushed, however it ended
+pub record HasSession {E : Type 0} (side : Side) (end : End) (denied : Bool) (source rest : SourceState) (sink after : SinkState) (flushed : Result (Unit {0}) E) (old new : DiskState) : Type 0 where
+  pub last : DiskState
+  pub talks : Talks side end denied source rest sink after old last
+  pub closed : FlushesLast flushed last new

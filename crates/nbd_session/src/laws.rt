@@ -1,0 +1,44 @@
+//! What holds of sessions, whatever the disk.
+ghost use Rattle.std.specs.Prelude.{◌≡◌, Bool, List, Ok, Some};
+ghost use Rattle.block_traits.specs.Content.{Content};
+ghost use Rattle.block_traits.specs.Disk.{DiskState};
+ghost use Rattle.block_traits.specs.Streams.{SinkState, SourceState};
+ghost use Rattle.block_traits.specs.declared.disk.DiskFailed.{DiskFailed};
+ghost use Rattle.eli_base.specs.Keying.{Keying};
+ghost use Rattle.range_keys.specs.Ring.{IsKeying};
+ghost use Rattle.nbd_session.specs.Durable.{Survives};
+ghost use Rattle.nbd_session.specs.Lasting.{AttachesLasting, KeepsIn, LastsIn, ReadsLasting, SurvivesClosed};
+ghost use Rattle.nbd_session.specs.Requests.{Exchange, ServesAll, Side};
+ghost use Rattle.nbd_session.specs.Session.{HasSession};
+ghost use Rattle.nbd_session.specs.declared.streams.End.{End};
+
+use block_traits::Disk;
+
+/// What requests did to a disk are steps, which endure crashes.
+pub fn sessions_endure_crashes()
+    ensures { (side : Side) (xs : List Exchange) (old new : DiskState) (c : Content) → IsKeying side.keying → old.content ≡ Some c →
+        ServesAll side xs old new → Survives side.keying xs c new }
+{}
+
+/// A write that was answered, and that a flush which was answered too followed, lasts: if power fails when the flush was
+/// answered, or at any moment later, its range reads as its bytes in every torn image that is left, for as long as its
+/// sectors weren't written again. Clause `read` says it of a read that a client is answered on a disk with the image,
+/// and clause `attach` of whoever attaches a disk with it.
+pub fn acknowledged_writes_last<D: Disk>()
+    ensures last { (k : Keying) (xs : List Exchange) (c : Content) (new : DiskState) → IsKeying k → (s : Survives k xs c new) → LastsIn k xs c s.deeds }
+    ensures read { (k : Keying) (xs : List Exchange) (c : Content) (new : DiskState) → IsKeying k → (s : Survives k xs c new) → ReadsLasting k xs c s.deeds }
+    ensures attach { (k : Keying) (xs : List Exchange) (c : Content) (new : DiskState) → IsKeying k → (s : Survives k xs c new) → AttachesLasting D.state k xs c s.deeds }
+{}
+
+/// What a flush found stands: if power fails when the flush was answered, or at any moment later, each range whose sectors
+/// weren't written since reads in every torn image that is left as it read then. The content then is what the flush's
+/// exchange left (`DidIts`, which `Survives` has of each), of which the reads before and behind it were answered.
+pub fn flushed_ranges_keep()
+    ensures { (k : Keying) (xs : List Exchange) (c : Content) (new : DiskState) → IsKeying k → (s : Survives k xs c new) → KeepsIn k xs c s.deeds }
+{}
+
+/// After a session whose last flush was made the same holds of each write that was answered, flushed or not.
+pub fn closed_sessions_last()
+    ensures { (side : Side) (end : End) (denied : Bool) (source rest : SourceState) (sink given : SinkState) (old new : DiskState) (c : Content) → IsKeying side.keying → old.content ≡ Some c →
+        (h : HasSession {E = DiskFailed} side end denied source rest sink given (Ok tt) old new) → SurvivesClosed side.keying h.talks.talk.exchanges c h.last new }
+{}

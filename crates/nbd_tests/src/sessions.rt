@@ -1,0 +1,166 @@
+//! Whole sessions, against those of libnbd with nbdkit, and cut or failing anywhere.
+use crate::common::{Outcome, Place, attached, bytes_of, made, piece};
+use crate::vectors::{
+    ASKING, BY_NAME, BY_NAME_WITHOUT_ZEROES, GOING, LEAVING, ONLY_READING, REPLIES, REQUESTS,
+};
+use block_traits::Event;
+use crash_disk::{MemDisk, MemSink, MemSource};
+use eli_base::Auth;
+use nbd_session::End;
+use provider::Provider;
+use std::alloc::Global;
+use std::test::Fail;
+
+// A provider with 262,144 bytes, as the export of nbdkit.
+fn provider_of(alloc: Global, sectorsize: u32, readonly: bool) -> Result<Provider<MemDisk>, Fail> {
+    let mut disk = MemDisk::new(alloc, 513, 2048)?;
+    let meta = made(alloc, &mut disk, Auth::Off, sectorsize)?;
+    attached(alloc, disk, &meta, readonly)
+}
+
+// What a client said, and what it was answered.
+#[derive(Drop)]
+struct Talk {
+    said: Vec<u8>,
+    answered: Vec<u8>,
+}
+
+fn talk_of(alloc: Global, session: [&str; 2]) -> Result<Talk, Fail> {
+    let [said, answered] = session;
+    Ok(Talk {
+        said: bytes_of(alloc, said)?,
+        answered: bytes_of(alloc, answered)?,
+    })
+}
+
+// Whether a session ended well: the client left, and the disk's last event is a flush.
+fn ended_well(outcome: &Outcome) -> bool {
+    outcome.end == End::Closed
+        && outcome.flushed.is_ok()
+        && matches!(outcome.disk.history().last(), Some(Event::Flush))
+}
+
+// Whether a client that says this gets this answer.
+fn is_answered(
+    alloc: Global,
+    place: &mut Place,
+    provider: Provider<MemDisk>,
+    said: &[u8],
+    answered: &[u8],
+) -> Result<bool, Fail> {
+    let mut input = MemSource::new(alloc, said, &[], &[])?;
+    let mut output = MemSink::new(alloc, &[], &[], 8192)?;
+    let outcome = place.serves(provider, &mut input, &mut output)?;
+    Ok(ended_well(&outcome) && output.bytes() == answered)
+}
+
+#[test]
+fn sessions_are_answered_as_by_nbdkit(rt: HostRuntime) -> Result<(), Fail> {
+    let alloc = rt.alloc();
+    let mut place = Place::new(alloc)?;
+    for sectorsize in [512, 4096] {
+        for (session, readonly) in [
+            (GOING, false),
+            (BY_NAME, false),
+            (BY_NAME_WITHOUT_ZEROES, false),
+            (ASKING, false),
+            (LEAVING, false),
+            (ONLY_READING, true),
+        ] {
+            let talk = talk_of(alloc, session)?;
+            let provider = provider_of(alloc, sectorsize, readonly)?;
+            let good = is_answered(alloc, &mut place, provider, &talk.said, &talk.answered)?;
+            assert!(&rt; good, "{sectorsize}");
+        }
+    }
+    Ok(())
+}
+
+// Where nbdkit tells the preferred size of requests: the greeting, NBD_INFO_EXPORT, and the head and eight bytes of
+// NBD_INFO_BLOCK_SIZE stand before it.
+const PREFERRED: usize = 76;
+
+// With the largest sectors another preferred size is told, and nothing else differs.
+#[test]
+fn the_largest_sectors(rt: HostRuntime) -> Result<(), Fail> {
+    let alloc = rt.alloc();
+    let mut place = Place::new(alloc)?;
+    let Talk { said, mut answered } = talk_of(alloc, GOING)?;
+    assert_eq!(&rt; piece(answered.as_slice(), PREFERRED), [0, 0, 0x10, 0]);
+    for (byte, other) in answered.iter_mut().skip(PREFERRED).zip([0, 1, 0, 0]) {
+        *byte = other;
+    }
+    let provider = provider_of(alloc, 65_536, false)?;
+    assert!(rt; is_answered(alloc, &mut place, provider, &said, &answered)?);
+    Ok(())
+}
+
+// How many bytes are answered to the first `taken` bytes of the client that reads and writes. A message is answered when
+// it came whole: what it says of itself and its one option, then each request with the bytes of a write.
+fn answered_to(taken: usize) -> usize {
+    if taken < 28 {
+        return 18;
+    }
+    let mut left = taken - 28;
+    let mut answered: usize = 104;
+    for ((_, code, _, _, _, length), (_, error, _)) in REQUESTS.iter().zip(REPLIES.iter()) {
+        let sent = if *code == 1 { *length } else { 0 };
+        let read = if *code == 0 && *error == 0 {
+            *length
+        } else {
+            0
+        };
+        match left
+            .checked_sub(28)
+            .and_then(|rest| rest.checked_sub(sent as usize))
+        {
+            Some(rest) => left = rest,
+            None => return answered,
+        }
+        answered = answered.saturating_add(16).saturating_add(read as usize);
+    }
+    answered
+}
+
+// Whether a client that says only the first bytes is answered what came whole.
+fn is_cut_well(alloc: Global, place: &mut Place, talk: &Talk, taken: usize) -> Result<bool, Fail> {
+    let provider = provider_of(alloc, 512, false)?;
+    let Some(first) = talk.said.get(..taken) else {
+        return Err(Fail::from("no such piece"));
+    };
+    let Some(expected) = talk.answered.get(..answered_to(taken)) else {
+        return Err(Fail::from("no such answer"));
+    };
+    is_answered(alloc, place, provider, first, expected)
+}
+
+// Where the client goes away: at each byte of its negotiation and of its first request, a write, and then at each eleventh.
+#[test]
+fn what_came_whole_is_answered(rt: HostRuntime) -> Result<(), Fail> {
+    let alloc = rt.alloc();
+    let mut place = Place::new(alloc)?;
+    let talk = talk_of(alloc, GOING)?;
+    for taken in 0..72 {
+        assert!(&rt; is_cut_well(alloc, &mut place, &talk, taken)?, "{taken}");
+    }
+    for taken in (0..talk.said.len()).step_by(11) {
+        assert!(&rt; is_cut_well(alloc, &mut place, &talk, taken)?, "{taken}");
+    }
+    Ok(())
+}
+
+// A byte at a time in and out.
+#[test]
+fn bytes_come_one_by_one(rt: HostRuntime) -> Result<(), Fail> {
+    let alloc = rt.alloc();
+    let mut place = Place::new(alloc)?;
+    let talk = talk_of(alloc, GOING)?;
+    let cuts = vec![in alloc; 1; 8192]?;
+    let mut input = MemSource::new(alloc, &talk.said, &cuts, &[])?;
+    let mut output = MemSink::new(alloc, &cuts, &[], 8192)?;
+    let provider = provider_of(alloc, 4096, false)?;
+    let outcome = place.serves(provider, &mut input, &mut output)?;
+    assert!(&rt; ended_well(&outcome));
+    assert_eq!(rt; output.bytes(), talk.answered.as_slice());
+    Ok(())
+}

@@ -1,0 +1,3 @@
+pub mod Negotiation
+pub mod Transmission
+pub mod Client

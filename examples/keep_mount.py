@@ -1,0 +1,723 @@
+"""keep_mount.py: keeps what stands behind one mount, from its server to its end. mount-provider.sh runs it.
+
+    python3 keep_mount.py CALLED mount WORD=VALUE...
+    python3 keep_mount.py CALLED unmount WORD=VALUE...
+
+`mount` starts the keeper in a session of its own, shows what that says, and ends once the filesystem is mounted. The
+keeper starts nbdfuse with the server on its standard streams, checks the filesystem in the device, runs the
+filesystem's program, and waits for that to end, however it ends: by `unmount`, by hand, or because it died. Then it
+takes down the device, waits for the server, which ends by its connection, and writes down how it went.
+
+SIGTERM, SIGINT and SIGHUP to the keeper, at any moment, are an orderly unmount. They are blocked in all programs that
+it starts, so that a signal to all leaves the writing to those who write.
+
+A mount has a folder (STATE). Its files are `result`, which the one who keeps the mount holds a lock of, and where in
+the end a status and words stand; `device` and `files`, of which the programs behind the device and those over it hold
+locks while they run; `up`, once it is mounted; `ended`, where the server says how it ended; `keeper`, the number of a
+process; `private`, the folder of the passphrase; and the folder `disk`, where the device is.
+"""
+import collections
+import contextlib
+import fcntl
+import os
+import re
+import select
+import shlex
+import shutil
+import signal
+import struct
+import subprocess
+import sys
+import threading
+import time
+from pathlib import Path
+
+from lib import Failed, files_of, name_of, note
+
+SIGNALS = {signal.SIGTERM, signal.SIGINT, signal.SIGHUP}
+BLOCKED = SIGNALS | {signal.SIGCHLD}
+EXT = ("ext2", "ext3", "ext4")
+# fuse2fs 1.47 loses blocks of a file with extents whose space was allocated ahead. mke2fs takes a refused discard of a
+# regular file for zeros. Blocks are as large as the sectors that make-provider.sh makes.
+MAKE = ("mke2fs", "-q", "-F", "-t", "ext4", "-b", "4096", "-E", "nodiscard")
+FOR_FUSE2FS = ("-O", "^extent,^64bit,^metadata_csum")
+PACKAGES = {"fuse2fs": "fuse2fs", "grub-mount": "grub-common"}
+JOURNAL = "Writing to the journal is not supported."  # fuse2fs says it of each ext4 that has one
+NEW = 1 << 20  # bytes that are zeros at the beginning of a provider, or a file, where nobody wrote to it yet
+AT_REST = 3.0  # seconds after which what was written is synced, though nobody asks
+PATIENCE = 5.0  # seconds in which a mount that is in use is waited for, once its end is asked for
+GRACE = 2.0  # seconds in which a device that nobody needs any more may end by itself
+CONNECTIONS = "/sys/fs/fuse/connections"
+
+
+def server(words, ended):
+    """The server of the image: it speaks NBD on its standard streams, ends with its connection, and says in the file
+    `ended` how that went."""
+    here = os.path.dirname(os.path.abspath(__file__))
+    parts = [f"partition={words['partition']}"] if words["partition"] else []
+    return ["env", "-C", words["here"], "python3", "-B", f"{here}/nbd_server.py", f"ended={ended}", *parts, "--",
+            words["geli-nbd"], *["-r"] * ("r" in words["options"]), *words["key"].split(" "), words["image"]]
+
+
+# What is mounted, and who uses it.
+
+
+def mount_of(folder):
+    """The number of what is mounted on a folder, as 0:52; None where nothing is."""
+    found = None
+    with open("/proc/self/mountinfo", encoding="utf-8", errors="surrogateescape") as rows:
+        for row in rows:
+            fields = row.split(" ")
+            if re.sub(r"\\([0-7]{3})", lambda code: chr(int(code[1], 8)), fields[4]) == str(folder):
+                found = fields[2]
+    return found
+
+
+def processes():
+    """The numbers of all processes but this one."""
+    return [int(name) for name in os.listdir("/proc") if name.isdigit() and int(name) != os.getpid()]
+
+
+def uses(process, folder):
+    """Whether a process is in a folder, or has a file in it open."""
+    names = [f"/proc/{process}/cwd", f"/proc/{process}/root"]
+    with contextlib.suppress(OSError):
+        names += [f"/proc/{process}/fd/{number}" for number in os.listdir(f"/proc/{process}/fd")]
+    for name in names:
+        with contextlib.suppress(OSError):
+            if f"{os.readlink(name)}/".startswith(f"{folder}/"):
+                return True
+    return False
+
+
+def has_elsewhere(process, number):
+    """Whether a process of another mount namespace has this mount too."""
+    with contextlib.suppress(OSError):
+        if os.readlink(f"/proc/{process}/ns/mnt") != os.readlink("/proc/self/ns/mnt"):
+            with open(f"/proc/{process}/mountinfo", encoding="utf-8", errors="surrogateescape") as rows:
+                return any(row.split(" ")[2] == number for row in rows)
+    return False
+
+
+def named(numbers):
+    """Some processes, by their numbers and words."""
+    some = [f"process {number} ({name_of(number)[:60]})" for number in numbers[:3]]
+    return ", ".join(some) + ", and others" * (len(numbers) > len(some))
+
+
+def unmount_by(*words):
+    """Unmounts by a program; what it said where it couldn't, else nothing."""
+    ran = subprocess.run(words, stdin=subprocess.DEVNULL, stdout=subprocess.PIPE, stderr=subprocess.STDOUT, check=False)
+    return "" if ran.returncode == 0 else ran.stdout.decode(errors="replace").strip() or f"{words[0]} failed"
+
+
+def abort(number):
+    """Ends a mount of FUSE in all mount namespaces: its program then ends as it does by an unmount."""
+    with contextlib.suppress(OSError):
+        Path(f"{CONNECTIONS}/{number.split(':')[1]}/abort").write_text("1")
+
+
+def has_loop(file):
+    """Whether a loop device stands over a file."""
+    return any(path.read_text().strip() == str(file) for path in Path("/sys/block").glob("loop*/loop/backing_file"))
+
+
+def is_zeros(path):
+    with open(path, "rb") as file:
+        return not file.read(NEW).strip(b"\0")
+
+
+class Superblock:
+    """What is asked of the superblock of an ext2, ext3 or ext4 (fields of struct ext2_super_block)."""
+
+    def __init__(self, device):
+        with open(device, "rb") as file:
+            file.seek(1024)
+            self.bytes = file.read(1024)
+
+    def is_clean(self):
+        return bool(struct.unpack_from("<H", self.bytes, 0x3A)[0] & 1)
+
+    def has_extents(self):
+        return bool(struct.unpack_from("<I", self.bytes, 0x60)[0] & 0x40)
+
+
+class State:
+    """The folder of a mount, and its files."""
+
+    def __init__(self, path):
+        self.path = Path(path)
+        self.disk = self.path / "disk"
+        self.nbd = self.disk / "nbd"
+        self.result, self.up, self.ended = self.path / "result", self.path / "up", self.path / "ended"
+        self.device, self.files = self.path / "device", self.path / "files"
+        self.keeper, self.private = self.path / "keeper", self.path / "private"
+
+    def text(self, file):
+        """What a file of it has; nothing where it isn't there."""
+        with contextlib.suppress(OSError):
+            return file.read_text(errors="surrogateescape").strip()
+        return ""
+
+    def put(self, file, text):
+        """Writes a file as a whole: who sees it sees all of it."""
+        new = file.with_suffix(".new")
+        new.write_text(text + "\n", errors="surrogateescape")
+        new.replace(file)
+
+    def remove_private(self):
+        """Removes the folder of the passphrase, and of links, that mount-provider.sh made."""
+        name = self.text(self.private)
+        if name:
+            shutil.rmtree(name, ignore_errors=True)
+
+    def remove(self):
+        """Removes it, with what is in it; nobody claims it meanwhile. A device that is mounted stays."""
+        top = os.open(self.path.parent, os.O_RDONLY)
+        fcntl.flock(top, fcntl.LOCK_EX)
+        self.remove_private()
+        with contextlib.suppress(OSError):
+            self.disk.rmdir()
+        for file in self.device, self.files, self.up, self.ended, self.keeper, self.private, self.result:
+            file.unlink(missing_ok=True)
+        with contextlib.suppress(OSError):
+            self.path.rmdir()
+        os.close(top)
+
+
+def is_held(file):
+    """Whether another process holds the lock of a file; where none does, this one does."""
+    try:
+        fcntl.flock(file, fcntl.LOCK_EX | fcntl.LOCK_NB)
+    except BlockingIOError:
+        return True
+    return False
+
+
+def is_used(path):
+    """Whether a process holds the lock of a file, where it is there."""
+    with contextlib.suppress(FileNotFoundError), open(path, "rb") as file:
+        return is_held(file)
+    return False
+
+
+# The keeper.
+
+
+def in_child():
+    """In a program that is started: what ends a mount doesn't end it."""
+    signal.pthread_sigmask(signal.SIG_SETMASK, SIGNALS)
+
+
+def need(program):
+    """The programs of a filesystem are looked for once it is known which it is."""
+    if not shutil.which(program):
+        raise Failed(f"the program '{program}' isn't there (Debian: {PACKAGES.get(program, 'e2fsprogs')})")
+
+
+class Program:
+    """A program that runs until something ends it, and holds a lock meanwhile. Its last lines are kept."""
+
+    def __init__(self, command, lock, **how):
+        self.lines = collections.deque(maxlen=20)
+        with open(lock, "ab") as held:
+            fcntl.flock(held, fcntl.LOCK_SH)
+            # A keeper that is killed doesn't end those who write to its pipe: SIGPIPE stays ignored.
+            self.process = subprocess.Popen(
+                list(map(str, command)), stdin=subprocess.DEVNULL, stdout=subprocess.PIPE, stderr=subprocess.STDOUT,
+                errors="replace", cwd="/", preexec_fn=in_child, restore_signals=False, pass_fds=[held.fileno()], **how)
+        self.reader = threading.Thread(target=self.lines.extend, args=(self.process.stdout,), daemon=True)
+        self.reader.start()
+
+    def runs(self):
+        return self.process.poll() is None
+
+    def said(self):
+        """Its last lines; all of them, where it has ended."""
+        self.reader.join(0 if self.runs() else 2)
+        return "".join(self.lines).strip()
+
+
+class Keeper:
+    """One mount. `say` tells the one who asked for it, until it is mounted."""
+
+    def __init__(self, words, say):
+        self.words, self.say = words, say
+        self.state, self.folder = State(words["state"]), words["folder"]
+        self.options = words["options"]
+        self.reads_only = "r" in self.options
+        self.kind, self.number = "", None
+        self.device = self.program = None
+        self.files = []  # that the image lies in
+        self.ends = self.problem = ""
+
+    def run(self):
+        """Mounts it, waits for its end, and takes all down; nothing, or what went wrong."""
+        try:
+            self.start_device()
+            self.prepare()
+            self.start_filesystem()
+            self.tell_mounted()
+            self.wait()
+        except (Failed, OSError, struct.error) as failed:
+            self.problem = str(failed)
+        if self.device:
+            self.state.remove_private()
+            self.take_down()
+        return self.problem
+
+    def pause(self, seconds=None):
+        """Waits for a signal, for so many seconds at most."""
+        got = signal.sigwaitinfo(BLOCKED) if seconds is None else signal.sigtimedwait(BLOCKED, seconds)
+        if got and got.si_signo in SIGNALS:
+            self.ends = self.ends or signal.Signals(got.si_signo).name
+        return got
+
+    def go_on(self):
+        """Whether a signal asked for the end."""
+        while self.pause(0):
+            pass
+        if self.ends:
+            raise Failed(f"ended by {self.ends}")
+
+    def work(self, step, *command):
+        """Runs a program to its end, whatever is asked meanwhile; its status, and what it said."""
+        self.go_on()
+        need(command[0])
+        self.say("step", step)
+        program = Program(command, self.state.files)
+        status = program.process.wait()
+        return status, program.said().replace(str(self.state.nbd), self.words["name"])
+
+    def start_device(self):
+        """Starts nbdfuse over the server, and waits for the file that is the device."""
+        names = files_of(self.words["image"])
+        self.files = [os.path.realpath(os.path.join(self.words["here"], name)) for name in names]
+        self.state.disk.mkdir()
+        self.say("step", "opening the provider: its key is derived")
+        command = ["nbdfuse", *["-r"] * self.reads_only, self.state.disk, "--command",
+                   *server(self.words, self.state.ended)]
+        self.device = Program(command, self.state.device, start_new_session=True)
+        while not os.path.exists(self.state.nbd):
+            self.pause(0.05)
+            if self.ends:
+                os.killpg(self.device.process.pid, signal.SIGKILL)  # nobody has asked it to write yet
+                raise Failed(f"ended by {self.ends}")
+            if not self.device.runs():
+                said = self.state.text(self.state.ended)
+                raise Failed(said if said not in ("", "ok") else f"nbdfuse: {self.device.said()}")
+        self.state.remove_private()  # no key file is needed any more
+
+    def prepare(self):
+        """Finds, makes, checks and grows the filesystem."""
+        self.kind = "" if "M" in self.options else self.found("TYPE")
+        if not self.kind and set("mM") & set(self.options):
+            self.make()
+        if not self.kind:
+            raise Failed("no filesystem is known in it (-m makes one, where the provider is new)")
+        if self.kind in EXT and not self.reads_only:
+            self.check()
+        elif set("cg") & set(self.options):
+            raise Failed(f"-c and -g are for ext2, ext3 and ext4, and this is {self.kind}")
+
+    def found(self, what):
+        """What blkid(8) finds in the device: its TYPE, or its table of partitions (PTTYPE)."""
+        status, said = self.work("looking at the filesystem", "blkid", "-p", "-o", "value", "-s", what, self.state.nbd)
+        if status and said:
+            raise Failed(said)
+        return said
+
+    def make(self):
+        """Makes an ext4: by -m only where nobody wrote to the provider yet."""
+        if "M" not in self.options:
+            table = self.found("PTTYPE")
+            if table:
+                raise Failed(f"it has partitions ({table}), and no new filesystem was made: -n names one of them")
+            is_new = not self.words["partition"] and is_zeros(os.path.join(self.words["here"], self.words["file"]))
+            if not is_new and not is_zeros(self.state.nbd):
+                raise Failed("no filesystem is known in it, but it isn't new: nothing was made (-M makes one over it)")
+        features = () if "K" in self.options else FOR_FUSE2FS
+        status, said = self.work("making the ext4", *MAKE, *features, self.state.nbd)
+        if status:
+            raise Failed(f"no ext4 could be made: {said}")
+        self.kind = "ext4"
+
+    def check(self):
+        """Checks an ext: fuse2fs mounts what a crash has left as it is, and fails where a journal must be played."""
+        status, said = self.e2fsck()
+        if not 0 <= status < 4:
+            raise Failed(f"the filesystem in it is damaged, and wasn't mounted: {said}\n"
+                         f"copy '{self.words['name']}' to another disk, and then give -c, which repairs it")
+        if status:
+            self.say("note", f"the filesystem was mended: {said}")
+        if "g" in self.options:
+            status, said = self.work("growing the filesystem", "resize2fs", self.state.nbd)
+            if status:
+                raise Failed(f"the filesystem couldn't be grown: {said}")
+
+    def e2fsck(self):
+        """Runs e2fsck(8) as the options ask; its status, and the last lines that it said."""
+        forced = "-fy" if "c" in self.options else "-fp" if "g" in self.options else "-p"
+        status, said = self.work("checking the filesystem", "e2fsck", forced, self.state.nbd)
+        if status >= 8 and "c" in self.options:
+            # Where the superblock's checksum alone is wrong, and there is no second superblock, this writes it anew.
+            now = time.strftime("set_super_value mtime %Y%m%d%H%M%S")
+            self.work("mending the superblock", "debugfs", "-w", "-n", "-R", now, self.state.nbd)
+            status, said = self.work("checking the filesystem", "e2fsck", forced, self.state.nbd)
+        return status, "\n".join(said.splitlines()[-4:])
+
+    def start_filesystem(self):
+        """Mounts the filesystem on the folder."""
+        if self.kind in EXT and not self.reads_only and "K" not in self.options:
+            if Superblock(self.state.nbd).has_extents():
+                self.say("note", f"note: this {self.kind} has extents: fuse2fs loses blocks of files there whose space"
+                                 " was allocated ahead (as root, -K mounts it by the kernel)")
+        self.go_on()
+        self.say("step", "mounting it")
+        if "K" in self.options:
+            self.mount_by_kernel()
+        else:
+            self.mount_by_program()
+        self.number = mount_of(self.folder)
+
+    def mount_by_kernel(self):
+        how = "loop,ro" if self.reads_only else "loop"
+        status, said = self.work("mounting it", "mount", "-t", self.kind, "-o", how, self.state.nbd, self.folder)
+        if status:
+            raise Failed(f"mount: {said}")
+
+    def mount_by_program(self):
+        """Runs the filesystem's program in the foreground, and waits until it has mounted it."""
+        if self.kind in EXT:
+            reads_only = ",ro" if self.reads_only else ""
+            command = ["fuse2fs", "-f", self.state.nbd, self.folder, "-o", f"fakeroot{reads_only}"]
+        else:
+            command = ["grub-mount", self.state.nbd, self.folder, "--", "-f"]
+            self.reads_only = True
+        need(command[0])
+        self.program = Program(command, self.state.files)
+        while not mount_of(self.folder):
+            self.pause(0.05)
+            if not self.program.runs():
+                said = self.program.said().replace(str(self.state.nbd), self.words["name"])
+                raise Failed(f"{command[0]}: {said}")
+
+    def tell_mounted(self):
+        """Says what the filesystem's program warned of, and that it is mounted."""
+        for line in list(self.program.lines) if self.program else []:
+            if JOURNAL not in line:
+                self.say("note", line.strip().replace(str(self.state.nbd), self.words["name"]))
+        ending = "to be read alone" if self.reads_only else ""
+        options = ("r" if self.reads_only else "w") + "K" * ("K" in self.options)
+        self.state.put(self.state.up, f"{self.kind} {self.number} {options}")
+        self.say("up", f"its {self.kind} is mounted on {self.folder}{', ' * bool(ending)}{ending}")
+
+    def sync_at_rest(self):
+        """Syncs the image again and again, where it was written to: fuse2fs asks for that by fsync(2) alone."""
+        synced = None
+        while True:
+            time.sleep(AT_REST)
+            with contextlib.suppress(OSError):
+                written = [os.stat(file).st_mtime_ns for file in self.files]
+                if written != synced:
+                    with open(self.state.nbd, "rb") as device:
+                        os.fsync(device)
+                    synced = written
+
+    def is_up(self):
+        return self.program.runs() if self.program else has_loop(self.state.nbd)
+
+    def wait(self):
+        """Waits until the filesystem's program has ended; a signal unmounts it."""
+        asked_at = None
+        if not self.reads_only:
+            threading.Thread(target=self.sync_at_rest, daemon=True).start()
+        while self.is_up():
+            asks = self.ends and mount_of(self.folder) == self.number
+            self.pause(0.1 if asks else None if self.program else 1)
+            if not self.ends and not self.device.runs():
+                self.problem = "nbdfuse has died: what was written since the last flush may be lost"
+                self.ends = "the end of nbdfuse"
+            if self.ends and mount_of(self.folder) == self.number:
+                asked_at = asked_at or time.monotonic()
+                # In use for long, it goes from the folder at once, and ends with the last who is in it.
+                self.unmount("-z" if time.monotonic() - asked_at > PATIENCE else "")
+
+    def unmount(self, lazily=""):
+        if "K" in self.options:
+            return unmount_by("umount", *["-l"] * bool(lazily), self.folder)
+        return unmount_by("fusermount3", f"-u{lazily[1:]}", self.folder)
+
+    def take_down(self):
+        """Takes down the filesystem, the device and the server, waits for each, and looks at how it went."""
+        self.unmount_filesystem()
+        is_clean = self.is_clean()
+        self.unmount_device()
+        if not self.number:
+            return
+        said = self.state.text(self.state.ended)
+        if not said:
+            tail = self.device.said() if isinstance(self.device, Program) else ""
+            self.problem = self.problem or (
+                f"a program behind it has died: what was written since the last flush may be lost {tail}".strip())
+        elif said != "ok":
+            self.problem = f"what was written may be lost: {said}" + f"; {self.problem}" * bool(self.problem)
+        elif not is_clean:
+            self.problem = self.problem or "the filesystem's program has died: what was written last may be lost"
+
+    def is_clean(self):
+        """Whether the filesystem says of itself that it was unmounted in order."""
+        if self.kind not in EXT or self.reads_only:
+            return True
+        try:
+            return Superblock(self.state.nbd).is_clean()
+        except (OSError, struct.error):
+            return False
+
+    def unmount_filesystem(self):
+        """Waits for the end of all programs over the device. One that mounts only now, since the keeper was killed, is
+        unmounted, and so is what a program has left that was killed."""
+        while is_used(self.state.files) or (self.number and mount_of(self.folder) == self.number):
+            self.number = self.number or mount_of(self.folder)
+            if self.number and mount_of(self.folder) == self.number:
+                self.unmount("-z")
+            time.sleep(0.1)
+
+    def unmount_device(self):
+        """Unmounts the device, also one that comes only now, and waits for its server. Where another mount namespace
+        still has it, it is ended there too."""
+        number, since = None, time.monotonic()
+        while mount_of(self.state.disk) or is_used(self.state.device):
+            if mount_of(self.state.disk):
+                number, since = mount_of(self.state.disk), time.monotonic()
+                self.problem = unmount_by("fusermount3", "-uz", self.state.disk) or self.problem
+            elif number and "K" not in self.options and time.monotonic() - since > GRACE:
+                abort(number)
+            time.sleep(0.1)
+
+
+def leave_caller(claim, pipe):
+    """Leaves the caller's terminal, folder and open files, but for the claim. What is said goes to the pipe."""
+    os.setsid()
+    os.chdir("/")
+    null = os.open(os.devnull, os.O_RDWR)
+    os.dup2(null, 0)
+    os.dup2(null, 1)
+    os.dup2(pipe, 2)
+    for number in map(int, os.listdir("/proc/self/fd")):
+        if number not in (0, 1, 2, claim):
+            with contextlib.suppress(OSError):
+                os.close(number)
+
+
+def keep(words, pipe):
+    """The keeper, which tells the caller until it is mounted, and writes down in the end how it went."""
+    claim, state = int(words["claim"]), State(words["state"])
+    leave_caller(claim, pipe)
+    held = os.open(state.path, os.O_RDONLY)  # what cleans /tmp leaves a folder alone that is locked
+    fcntl.flock(held, fcntl.LOCK_SH)
+    state.put(state.keeper, str(os.getpid()))
+    is_told = True
+
+    def say(kind, text):
+        nonlocal is_told
+        try:
+            os.write(2, "".join(f"{kind}\t{line}\n" for line in text.splitlines()).encode(errors="surrogateescape"))
+        except OSError:
+            is_told = False
+        if kind == "up":
+            os.dup2(0, 2)
+
+    problem = Keeper(words, say).run()
+    was_up = os.path.exists(state.up)
+    os.write(claim, f"1\n{problem}\n".encode(errors="surrogateescape") if problem else b"0\n")
+    if problem and not was_up:
+        say("failed", problem)
+    # What nobody has heard of yet is told to whom asks.
+    if not problem or (not was_up and is_told):
+        state.remove()
+
+
+# Who asks the keeper.
+
+
+class Front:
+    """The one who asked for a mount: shows what the keeper says. A signal to it is one to the keeper."""
+
+    def __init__(self, words, keeper):
+        self.words, self.keeper = words, keeper
+        self.is_interrupted = self.is_up = self.has_failed = False
+        for number in SIGNALS:
+            signal.signal(number, self.interrupt)
+        signal.pthread_sigmask(signal.SIG_UNBLOCK, BLOCKED)
+
+    def interrupt(self, *_):
+        self.is_interrupted = True
+        with contextlib.suppress(OSError):
+            os.kill(self.keeper, signal.SIGTERM)
+
+    def relay(self, pipe):
+        """Shows what the keeper says until it has no more to say. A step is told at a terminal once it lasts."""
+        step, rest = "", b""
+        while True:
+            if not select.select([pipe], [], [], 1 if step else None)[0]:
+                note(f"{step} ...")
+                step = ""
+                continue
+            got = os.read(pipe, 65536)
+            if not got:
+                return
+            *lines, rest = (rest + got).split(b"\n")
+            for line in lines:
+                step = self.show(*line.decode(errors="surrogateescape").partition("\t"))
+
+    def show(self, kind, _, text):
+        """Shows a line; gives the step that has begun, where a terminal is looked at."""
+        name, quoted = self.words["called"], shlex.quote(self.words["folder"])
+        if kind == "step":
+            return text if sys.stderr.isatty() else ""
+        if kind == "up":
+            self.is_up = True
+            note(f"{self.words['name']}: {text}, until {name} -u {quoted}")
+        elif kind == "failed" and self.is_interrupted and text.startswith("ended by "):
+            note(f"{name}: broken off")
+        elif kind == "failed":
+            note(text if self.has_failed else f"{name}: {text}")
+            self.has_failed = True
+        else:
+            note(text or kind)
+        return ""
+
+    def end(self):
+        """Waits for the keeper where it ends; the status, which no signal changes any more."""
+        signal.pthread_sigmask(signal.SIG_BLOCK, SIGNALS)
+        if self.is_up and not self.is_interrupted:
+            return 0
+        os.waitpid(self.keeper, 0)
+        if not self.has_failed and not self.is_interrupted:
+            note(f"{self.words['called']}: its keeper has died: give {self.words['called']} -u"
+                 f" {shlex.quote(self.words['folder'])}")
+        return 130 if self.is_interrupted else 1
+
+
+def mount(words):
+    """Starts the keeper, and waits until it has mounted the filesystem."""
+    signal.pthread_sigmask(signal.SIG_BLOCK, BLOCKED)
+    reads, writes = os.pipe()
+    keeper = os.fork()
+    if keeper == 0:
+        keep(words, writes)
+        return 0
+    os.close(writes)
+    os.close(int(words["claim"]))
+    front = Front(words, keeper)
+    front.relay(reads)
+    return front.end()
+
+
+def ask(state, folder, forced):
+    """Asks the keeper of a mount for its end."""
+    kind = state.text(state.up)
+    if not kind:
+        with contextlib.suppress(OSError, ValueError):
+            os.kill(int(state.text(state.keeper)), signal.SIGTERM)
+        return
+    until = time.monotonic() + PATIENCE  # somebody may just look at it, and be in no list of users
+    while (said := unmount_folder(folder)) and mount_of(folder):
+        users = [number for number in processes() if uses(number, folder)]
+        if users or time.monotonic() > until:
+            raise Failed(f"'{folder}' stays mounted: {said}" + f"\nit is in use by {named(users)}" * bool(users) +
+                         "\nleave it, and give this again")
+        time.sleep(0.1)
+    if forced and not os.path.ismount(CONNECTIONS):
+        note(f"-f needs the kernel's list of mounts: mount -t fusectl fusectl {CONNECTIONS}")
+    if forced:
+        abort(kind.split(" ")[1])
+
+
+def unmount_folder(folder):
+    """Unmounts what is on a folder; what was said where that couldn't be done, else nothing."""
+    if not mount_of(folder):
+        return ""
+    is_fuse = any(f" - fuse" in row for row in rows_of(folder))
+    return unmount_by("fusermount3", "-u", folder) if is_fuse else unmount_by("umount", folder)
+
+
+def rows_of(folder):
+    number = mount_of(folder)
+    with open("/proc/self/mountinfo", encoding="utf-8", errors="surrogateescape") as rows:
+        return [row for row in rows if row.split(" ")[2] == number]
+
+
+def wait_for_result(state, result, folder):
+    """Waits until nobody keeps the mount; says what it waits for."""
+    number, began, is_told = state.text(state.up).split(" ")[1:2], time.monotonic(), False
+    while is_held(result):
+        if not is_told and time.monotonic() - began > 3:
+            is_told = True
+            others = [it for it in processes() if number and has_elsewhere(it, number[0])]
+            note(f"{folder}: waiting for {named(others)}, of another mount namespace, which has the mount too"
+                 " (-u -f ends it)" if others else f"{folder}: waiting for the disk")
+        time.sleep(0.05)
+
+
+def number_over(device, folder):
+    """The number of what is mounted on a folder from a device, where nobody has noted it yet; None where nothing is."""
+    return next((row.split(" ")[2] for row in rows_of(folder) if f" {device} " in row), None)
+
+
+def recover(state, folder):
+    """Takes down what a keeper left that was killed; nothing, or what went wrong."""
+    kind, number, options = (state.text(state.up) or " None ").split(" ")
+    keeper = Keeper({"state": state.path, "folder": folder, "options": options}, lambda *_: None)
+    keeper.kind, keeper.number = kind, number if kind else number_over(state.nbd, folder)
+    if mount_of(folder) and mount_of(folder) == keeper.number:
+        said = unmount_folder(folder)
+        if said and mount_of(folder) and "not connected" not in said:
+            raise Failed(f"'{folder}' stays mounted: {said}\nleave it, and give this again")
+    state.remove_private()
+    keeper.take_down()
+    return keeper.problem if kind else "its keeper had died before it was mounted"
+
+
+def unmount(words):
+    """Asks the keeper for the end of a mount, and waits for its result, which is the status."""
+    for number in SIGNALS:
+        signal.signal(number, signal.default_int_handler)  # it is broken off, and the keeper isn't
+    signal.pthread_sigmask(signal.SIG_UNBLOCK, BLOCKED)
+    state, folder = State(words["state"]), words["folder"]
+    try:
+        result = open(state.result, "r+", errors="surrogateescape")
+    except FileNotFoundError:
+        raise Failed(f"nothing was mounted on '{folder}' by this script") from None
+    with result:
+        if is_held(result):
+            ask(state, folder, "f" in words["options"])
+            wait_for_result(state, result, folder)
+        status, _, text = result.read().strip().partition("\n")
+        if not status and os.path.exists(state.device):
+            text = recover(state, folder)
+            status = "1" if text else "0"
+        if os.fstat(result.fileno()).st_nlink:
+            state.remove()
+    if status not in ("", "0"):
+        raise Failed(f"{folder}: {text}")
+    note(f"{folder}: unmounted, all is flushed" if status else f"{folder}: nothing was mounted yet")
+    return 0
+
+
+def main(called, what, *pairs):
+    words = dict(pair.split("=", 1) for pair in pairs)
+    words["called"] = called
+    sys.stderr.reconfigure(errors="surrogateescape")  # a name need be no UTF-8
+    try:
+        return {"mount": mount, "unmount": unmount}[what](words)
+    except (Failed, OSError) as failed:
+        note(f"{called}: {failed}")
+        return 1
+    except KeyboardInterrupt:
+        return 130
+
+
+if __name__ == "__main__":
+    sys.exit(main(*sys.argv[1:]))

@@ -1,0 +1,209 @@
+"""nbd_server.py: runs geli-nbd(8) for one client, or for those of a socket, and writes down how it ended.
+
+    python3 nbd_server.py ended=FILE [partition=NUMBER] -- GELI-NBD WORD... IMAGE
+    python3 nbd_server.py ended=FILE [partition=NUMBER] socket=SOCKET clients=FILE pid=FILE -- GELI-NBD WORD... IMAGE
+
+No byte of a client goes through it. In the first form the client is on the standard streams, which geli-nbd gets. For a
+partition nbdkit(1) stands between, with its filter and its plugin nbd, and has a socket to geli-nbd.
+
+In the second form nbdkit stands between for the clients of a socket, so that the key is derived once. It answers once
+the provider is attached and the socket is there, and runs on in the background; `pid` has its number. SIGTERM, SIGINT
+or SIGHUP to it let nobody new in, and end the server once nobody is connected: `clients` has the numbers of the
+processes that are, a line for each, 0 where that isn't known. Where it is killed nbdkit and geli-nbd end too.
+
+`ended` gets `ok` in the end, or what went wrong. geli-nbd flushes the provider however its client ends, and its status
+tells whether any write or flush was refused.
+"""
+import contextlib
+import os
+import signal
+import socket
+import subprocess
+import sys
+import time
+from pathlib import Path
+
+from lib import Failed, files_of, note, seen, told
+
+SIGNALS = {signal.SIGTERM, signal.SIGINT, signal.SIGHUP}
+CONNECTED = "03"  # of a row of /proc/net/unix
+STATUSES = {
+    3: "its client couldn't be read",
+    4: "its client went away before it was answered",
+    5: "there was no memory to begin",
+    6: "its client said what the protocol doesn't have",
+}
+
+
+def how_it_ended(status, said, files):
+    """What the status of geli-nbd and its standard error say: `ok`, or what went wrong."""
+    if status == 0:
+        return "ok"
+    if status < 0:
+        return f"geli-nbd was ended by {signal.Signals(-status).name}"
+    if said.startswith("error "):
+        return f"attach: {told(said, files)}"
+    if status == 1:
+        why = next(filter(None, map(seen, files)), "")
+        return "a write or a flush was refused" + f" ({why})" * bool(why)
+    return STATUSES.get(status, said or f"geli-nbd ended with status {status}")
+
+
+def put(file, text):
+    """Writes a file as a whole: who sees it sees all of it."""
+    new = Path(f"{file}.new")
+    new.write_text(text + "\n", errors="surrogateescape")
+    new.replace(file)
+
+
+def in_child():
+    """In a program that is started: what ends this one doesn't end it."""
+    signal.pthread_sigmask(signal.SIG_BLOCK, SIGNALS)
+
+
+def in_nbdkit():
+    """In nbdkit for a socket: SIGTERM ends it, also where this process is killed."""
+    signal.pthread_sigmask(signal.SIG_BLOCK, SIGNALS - {signal.SIGTERM})
+    signal.pthread_sigmask(signal.SIG_UNBLOCK, {signal.SIGTERM})
+
+
+class Server:
+    """A geli-nbd, and nbdkit in front of it where that is needed."""
+
+    def __init__(self, words, command):
+        self.words, self.command = words, command
+        self.files = list(map(os.path.realpath, files_of(command[-1])))  # the folder is another later
+        self.geli = self.nbdkit = None
+
+    def filters(self):
+        return ["--filter=partition"] if "partition" in self.words else []
+
+    def start_geli(self, **streams):
+        # Who waits for the end of all behind a mount, by a lock that they inherit, waits for geli-nbd too.
+        self.geli = subprocess.Popen(self.command, stderr=subprocess.PIPE, preexec_fn=in_child,
+                                     close_fds="socket" in self.words, **streams)
+
+    def start_behind_nbdkit(self, in_nbdkit, *how):
+        """Starts geli-nbd on a socket, waits until it has attached the provider, and starts nbdkit over it."""
+        front, back = socket.socketpair()
+        with front:
+            with back:
+                self.start_geli(stdin=back, stdout=back)
+            if not front.recv(1, socket.MSG_PEEK):
+                return
+            parts = [f"partition={self.words['partition']}"] if "partition" in self.words else []
+            self.nbdkit = subprocess.Popen(
+                ["nbdkit", *how, *self.filters(), "nbd", f"socket-fd={front.fileno()}", *parts],
+                preexec_fn=in_nbdkit, pass_fds=[front.fileno()])
+
+    def wait(self):
+        """Waits for the end of both, and writes down how it went; what it wrote down."""
+        if self.nbdkit:
+            self.nbdkit.wait()
+        said = self.geli.stderr.read().decode(errors="replace").strip()
+        text = how_it_ended(self.geli.wait(), said, self.files)
+        put(self.words["ended"], text)
+        return text
+
+
+def serve_streams(server):
+    """Serves the client on the standard streams."""
+    if "partition" in server.words:
+        server.start_behind_nbdkit(in_child, "-s")
+    else:
+        server.start_geli()
+    # The client is the other end's alone, so that its end is seen.
+    null = os.open(os.devnull, os.O_RDWR)
+    os.dup2(null, 0)
+    os.dup2(null, 1)
+    return 0 if server.wait() == "ok" else 1
+
+
+class Socket:
+    """Who is connected at a socket."""
+
+    def __init__(self, path):
+        self.path = path
+
+    def rows(self):
+        """The rows of the connections that were let in, by /proc/net/unix."""
+        with open("/proc/net/unix", encoding="utf-8", errors="surrogateescape") as rows:
+            fields = [row.rstrip("\n").split(None, 7) for row in rows]
+        return [row for row in fields if len(row) == 8 and row[7] == self.path and row[5] == CONNECTED]
+
+    def processes(self):
+        """The numbers of the processes that are connected, as far as ss(8) is there and says them; else 0."""
+        by_socket = {}
+        with contextlib.suppress(OSError):
+            ran = subprocess.run(["ss", "-xpH"], stdout=subprocess.PIPE, stderr=subprocess.DEVNULL, check=False)
+            for row in ran.stdout.decode(errors="replace").splitlines():
+                fields, _, users = row.partition(" users:")
+                number = users.partition("pid=")[2].partition(",")[0]
+                if len(fields.split()) >= 4 and number:
+                    by_socket[fields.split()[-3], fields.split()[-1]] = number
+        ends = {row[6] for row in self.rows()}
+        return [by_socket.get((peer, end), "0") for end in ends
+                for peer in [other for other, back in by_socket if back == end] or ["0"]]
+
+
+def serve_socket(server):
+    """Serves the clients of a socket in the background; answers once it is there."""
+    reads, writes = os.pipe()
+    if os.fork():
+        os.close(writes)
+        with open(reads, encoding="utf-8", errors="replace") as pipe:
+            said = pipe.read().strip()
+        if said != "up":
+            raise Failed(said or "the server has died")
+        return 0
+    signal.pthread_sigmask(signal.SIG_BLOCK, SIGNALS | {signal.SIGCHLD})
+    words, path = server.words, server.words["socket"]
+    server.start_behind_nbdkit(in_nbdkit, "-f", "--exit-with-parent", "-U", path)
+    while server.nbdkit and server.nbdkit.poll() is None and not os.path.exists(path):
+        time.sleep(0.02)
+    if not server.nbdkit or server.nbdkit.poll() is not None:
+        text = server.wait()
+        os.unlink(words["ended"])
+        os.write(writes, (text if text != "ok" else "nbdkit couldn't serve it").encode(errors="replace"))
+        return 1
+    put(words["pid"], str(os.getpid()))
+    os.write(writes, b"up")
+    os.close(writes)
+    null = os.open(os.devnull, os.O_RDWR)
+    for number in 0, 1, 2:
+        os.dup2(null, number)
+    os.chdir("/")
+    wait_for_end(server, Socket(path))
+    server.wait()
+    return 0
+
+
+def wait_for_end(server, place):
+    """Waits for a signal, and then for the end of the clients; or until nbdkit or geli-nbd ended by themselves."""
+    ends = False
+    while server.nbdkit.poll() is None and server.geli.poll() is None:
+        got = signal.sigtimedwait(SIGNALS | {signal.SIGCHLD}, 0.1 if ends else 3600)
+        if got and got.si_signo in SIGNALS and not ends:
+            ends = True
+            with contextlib.suppress(OSError):
+                os.unlink(place.path)
+        if ends and not place.rows():
+            break
+        if ends:
+            put(server.words["clients"], "\n".join(place.processes()))
+    Path(server.words["clients"]).unlink(missing_ok=True)
+    server.nbdkit.terminate()
+
+
+def main(*words):
+    at = words.index("--")
+    server = Server(dict(word.split("=", 1) for word in words[:at]), list(words[at + 1:]))
+    try:
+        return serve_socket(server) if "socket" in server.words else serve_streams(server)
+    except (Failed, OSError) as failed:
+        note(f"nbd_server.py: {failed}" if not isinstance(failed, Failed) else str(failed))
+        return 1
+
+
+if __name__ == "__main__":
+    sys.exit(main(*sys.argv[1:]))

@@ -95,7 +95,7 @@ fn an_image_is_held_by_one_disk(rt: HostRuntime) -> Result<(), Fail> {
 }
 
 // Whether the last sector of a disk takes bytes that are flushed.
-fn ends<D: Disk>(disk: &mut D) -> bool {
+fn ends<D: Disk>(mut disk: D) -> bool {
     match disk.sectors().checked_sub(1) {
         Some(last) => disk.write(last, &[9; 512]).is_ok() && disk.flush().is_ok(),
         None => false,
@@ -106,8 +106,13 @@ fn ends<D: Disk>(disk: &mut D) -> bool {
 fn ends_image(rt: &HostRuntime, name: &str) -> Result<bool, Fail> {
     let mut opener = SystemFiles::new(rt.clone()?);
     let mut files = Vec::new(rt.alloc());
-    let mut image = open_image(rt.alloc(), &mut opener, &mut files, true, name)?;
-    Ok(ends(&mut image))
+    Ok(ends(open_image(
+        rt.alloc(),
+        &mut opener,
+        &mut files,
+        true,
+        name,
+    )?))
 }
 
 // Whether a file of three sectors is left with zeros, and these bytes in its last sector. It goes.
@@ -156,9 +161,9 @@ fn is_blank<D: Disk>(disk: &mut D, n: u64) -> bool {
 }
 
 // Whether a disk takes a run from sector 1 on that is flushed, after its first and third sector were read.
-fn takes_run<D: Disk>(disk: &mut D, run: &[u8]) -> bool {
-    is_blank(disk, 0)
-        && is_blank(disk, 2)
+fn takes_run<D: Disk>(mut disk: D, run: &[u8]) -> bool {
+    is_blank(&mut disk, 0)
+        && is_blank(&mut disk, 2)
         && run.len() % 512 == 0
         && 1 + run.len() as u64 / 512 <= disk.sectors()
         && disk.write_sectors(1, run).is_ok()
@@ -169,8 +174,8 @@ fn takes_run<D: Disk>(disk: &mut D, run: &[u8]) -> bool {
 fn takes_run_as(rt: &HostRuntime, name: &str, run: &[u8]) -> Result<bool, Fail> {
     let mut opener = SystemFiles::new(rt.clone()?);
     let mut files = Vec::new(rt.alloc());
-    let mut image = open_image(rt.alloc(), &mut opener, &mut files, true, name)?;
-    Ok(takes_run(&mut image, run))
+    let image = open_image(rt.alloc(), &mut opener, &mut files, true, name)?;
+    Ok(takes_run(image, run))
 }
 
 // A run over the seam of a join, and one of more sectors than may wait, are left in order, and nothing else changes.

@@ -374,8 +374,8 @@ fn a_run_that_ends_early_changes_no_name(rt: HostRuntime) -> Result<(), Fail> {
 // The 128 digits of the 64 random bytes from a place on; the device's bytes count up from 0 to 250, over and over.
 fn random_digits(alloc: Global, from: u64) -> Result<Vec<u8>, AllocError> {
     let mut digits = Vec::new(alloc);
-    for i in from..from + 64 {
-        let byte = (i % 251) as u8;
+    for i in 0..64 {
+        let byte = (from.saturating_add(i) % 251) as u8;
         digits.push(b"0123456789abcdef"[(byte / 16) as usize])?;
         digits.push(b"0123456789abcdef"[(byte % 16) as usize])?;
     }
@@ -384,7 +384,12 @@ fn random_digits(alloc: Global, from: u64) -> Result<Vec<u8>, AllocError> {
 
 // Whether some of the bytes are these.
 fn has(bytes: &[u8], part: &[u8]) -> bool {
-    bytes.windows(part.len()).any(|window| window == part)
+    for at in 0..bytes.len() {
+        if bytes[at..].starts_with(part) {
+            return true;
+        }
+    }
+    false
 }
 
 // A run over both images, and what it printed.

@@ -39,7 +39,8 @@ use Rattle.nbd_session.specs.Lasting.{AttachesAndAnswers, AttachesLasting, Lasts
 use Rattle.nbd_session.specs.Requests.{Exchange, Reads, ServesAll, ServesExchange, ServesKind, Side, range_of, side_of}
 use Rattle.nbd_session.proofs.Durable.{after-then, nothing_after, session-survives, told_on}
 use Rattle.nbd_session.proofs.Serving.{of_first}
-use Rattle.nbd_session.proofs.Settling.{HaveFlush, HaveFlush-left, HaveFlush-right, IsQuiet, cell_after-append, data-lasts, data-same, data_steps-split, quiet-both, quiet-data, quiet-take, stands-as-flushed, write-holds}
+use Rattle.readings.proofs.Settled.{cell_after-append}
+use Rattle.nbd_session.proofs.Settling.{HaveFlush, HaveFlush-left, HaveFlush-right, IsQuiet, data-lasts, data-same, data_steps-split, quiet-both, quiet-data, quiet-take, stands-as-flushed, write-holds}
 
 -- ---- a session in two parts
 

@@ -1,5 +1,5 @@
 -- A write that was flushed stands in every torn image, until its sectors are written again.
-use Rattle.std.proofs.Common.{◌≡◌, ◌∙◌, ◌⊎◌, inl, inr, ℕ, zero, suc, ◌+◌, ◌*◌, ◌<◌, ◌≤◌, ◌==◌, cond, Bool, false, true, List, [], ◌∷◌, ◌++◌, length, map, get_or, take, drop, Result, Ok, refl, sym, ap, arith, append_assoc, length-take-le, length-drop}
+use Rattle.std.proofs.Common.{◌≡◌, ◌∙◌, ◌⊎◌, inl, inr, ℕ, zero, suc, ◌+◌, ◌*◌, ◌<◌, ◌≤◌, ◌==◌, cond, true, List, [], ◌∷◌, ◌++◌, length, map, get_or, take, drop, Result, Ok, refl, sym, ap, arith, append_assoc, length-take-le, length-drop}
 use Rattle.std.proofs.lemmas.Bool.{cond-false, cond-true, eq-eqb, ne_eqb}
 use Rattle.std.proofs.Math.Seq.{take-add}
 use Rattle.std.proofs.lemmas.List.{drop-drop, ext_get_or, get_or-drop, get_or-take}
@@ -20,40 +20,12 @@ use Rattle.readings.specs.Survivors.{content_media, sectors_in}
 use Rattle.readings.specs.Writes.{data_steps, places_from, puts_of, sector_steps}
 use Rattle.readings.specs.Writings.{Writing, Put, Raw, all_device_bytes, device_bytes}
 use Rattle.readings.proofs.Cells.{kept_values-cell}
-use Rattle.readings.proofs.Settled.{present-cell}
+use Rattle.readings.proofs.Settled.{cell_after-append, last-quiet, last_writing-push, one-quiet, present-cell, quiet_step}
 use Rattle.readings.proofs.Survivors.{room, some-units}
 use Rattle.sealing.specs.Sectors.{before, joined, reading, seal, unit_place, unit_readings, units}
 use Rattle.sealing.proofs.Sectors.{length-seal, reading-seal}
 
 -- ---- steps that place nothing in a device sector
-
-pub cell_after-append : (steps more : List Step) (n : ℕ) (ws : List Writing) → cell_after (steps ++ more) n ws ≡ cell_after more n (cell_after steps n ws)
-cell_after-append [] more n ws = refl
-cell_after-append (Place m w ∷ steps) more n ws = cell_after-append steps more n (cond (m == n) (ws ++ w ∷ []) ws)
-cell_after-append (Flush ∷ steps) more n ws = cell_after-append steps more n (last_writing ws ∷ [])
-
-last_writing-push : (ws : List Writing) (w : Writing) → last_writing (ws ++ w ∷ []) ≡ w
-last_writing-push [] w = refl
-last_writing-push (first ∷ []) w = refl
-last_writing-push (first ∷ second ∷ ws) w = last_writing-push (second ∷ ws) w
-
-quiet_step : (here : Bool) (w : Writing) (later : List Writing) → cond here (w ∷ later) later ≡ [] → (here ≡ false) × (later ≡ [])
-quiet_step true w later none = absurd (let no : ⊥ = cc none in no)
-quiet_step false w later none = (refl, none)
-
-last-quiet : (steps : List Step) (n : ℕ) (ws : List Writing) → placed_at steps n ≡ [] → last_writing (cell_after steps n ws) ≡ last_writing ws
-last-quiet [] n ws none = refl
-last-quiet (Place m w ∷ steps) n ws none =
-    let quiet = quiet_step (m == n) w (placed_at steps n) none in
-    ap (λ (l : List Writing). last_writing (cell_after steps n l)) (cond-false (m == n) (ws ++ w ∷ []) ws quiet.0) ∙ last-quiet steps n ws quiet.1
-last-quiet (Flush ∷ steps) n ws none = last-quiet steps n (last_writing ws ∷ []) none
-
-one-quiet : (steps : List Step) (n : ℕ) (v : Writing) → placed_at steps n ≡ [] → cell_after steps n (v ∷ []) ≡ v ∷ []
-one-quiet [] n v none = refl
-one-quiet (Place m w ∷ steps) n v none =
-    let quiet = quiet_step (m == n) w (placed_at steps n) none in
-    ap (cell_after steps n) (cond-false (m == n) (v ∷ w ∷ []) (v ∷ []) quiet.0) ∙ one-quiet steps n v quiet.1
-one-quiet (Flush ∷ steps) n v none = one-quiet steps n v none
 
 pub quiet-both : (a b : List Step) (n : ℕ) → placed_at a n ≡ [] → placed_at b n ≡ [] → placed_at (a ++ b) n ≡ []
 quiet-both [] b n first second = second

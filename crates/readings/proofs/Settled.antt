@@ -87,29 +87,29 @@ now-reads c steps k sector content are is below =
 
 -- ---- what was flushed
 
-cell_after-append : (steps more : List Step) (n : ℕ) (ws : List Writing) → cell_after (steps ++ more) n ws ≡ cell_after more n (cell_after steps n ws)
+pub cell_after-append : (steps more : List Step) (n : ℕ) (ws : List Writing) → cell_after (steps ++ more) n ws ≡ cell_after more n (cell_after steps n ws)
 cell_after-append [] more n ws = refl
 cell_after-append (Place m w ∷ steps) more n ws = cell_after-append steps more n (cond (m == n) (ws ++ w ∷ []) ws)
 cell_after-append (Flush ∷ steps) more n ws = cell_after-append steps more n (last_writing ws ∷ [])
 
-last_writing-push : (ws : List Writing) (w : Writing) → last_writing (ws ++ w ∷ []) ≡ w
+pub last_writing-push : (ws : List Writing) (w : Writing) → last_writing (ws ++ w ∷ []) ≡ w
 last_writing-push [] w = refl
 last_writing-push (first ∷ []) w = refl
 last_writing-push (first ∷ second ∷ ws) w = last_writing-push (second ∷ ws) w
 
 -- a step that places nothing here
-quiet_step : (here : Bool) (w : Writing) (later : List Writing) → cond here (w ∷ later) later ≡ [] → (here ≡ false) × (later ≡ [])
+pub quiet_step : (here : Bool) (w : Writing) (later : List Writing) → cond here (w ∷ later) later ≡ [] → (here ≡ false) × (later ≡ [])
 quiet_step true w later none = absurd cc
 quiet_step false w later none = (refl, none)
 
-last-quiet : (steps : List Step) (n : ℕ) (ws : List Writing) → placed_at steps n ≡ [] → last_writing (cell_after steps n ws) ≡ last_writing ws
+pub last-quiet : (steps : List Step) (n : ℕ) (ws : List Writing) → placed_at steps n ≡ [] → last_writing (cell_after steps n ws) ≡ last_writing ws
 last-quiet [] n ws none = refl
 last-quiet (Place m w ∷ steps) n ws none =
     let quiet = quiet_step (m == n) w (placed_at steps n) none in
     ap (λ (l : List Writing). last_writing (cell_after steps n l)) (cond-false (m == n) (ws ++ w ∷ []) ws quiet.0) ∙ last-quiet steps n ws quiet.1
 last-quiet (Flush ∷ steps) n ws none = last-quiet steps n (last_writing ws ∷ []) none
 
-one-quiet : (steps : List Step) (n : ℕ) (v : Writing) → placed_at steps n ≡ [] → cell_after steps n (v ∷ []) ≡ v ∷ []
+pub one-quiet : (steps : List Step) (n : ℕ) (v : Writing) → placed_at steps n ≡ [] → cell_after steps n (v ∷ []) ≡ v ∷ []
 one-quiet [] n v none = refl
 one-quiet (Place m w ∷ steps) n v none =
     let quiet = quiet_step (m == n) w (placed_at steps n) none in

@@ -10,7 +10,7 @@ use Rattle.command_rows.specs.Vocabulary.{Attached, IsKeying, Refusal}
 use Rattle.command_rows.specs.World.{Idle, IsAttached, Reach, reach_of}
 use Rattle.command_words.specs.declared.commands.Command.{Command}
 use Rattle.file_edge.specs.FileDisk as file
-use Rattle.file_edge.specs.Names.{IsRandom, Names}
+use Rattle.file_edge.specs.Names.{IsRandom, NamedFiles}
 use Rattle.file_edge.specs.RandomFile.{left_in}
 use Rattle.file_edge.specs.declared.file_disk.FileDisk.{FileDisk}
 use Rattle.file_edge.specs.declared.found.FileId.{FileId}
@@ -65,7 +65,7 @@ module _ {O F : Type 0} {g : Ghosts (FileDisk F)} (o : opener.Ghosts O F) (f : i
   -- a row from what was opened is one from what was told
   from_told : (answer : answers.Answer) (new : Reach) → Serves line command (reach_of (image_disk_state disk) Idle cabinet entropy) answer new → Serves line command (begins g o f asked) answer new
   from_told answer new row =
-      let same : cabinet ≡ new_cabinet files (o.told before) = cabinet_is ∙ ap (λ (t : Option Names). new_cabinet files t) told.0 in
+      let same : cabinet ≡ new_cabinet files (o.told before) = cabinet_is ∙ ap (λ (t : Option NamedFiles). new_cabinet files t) told.0 in
       subst (λ (c : CabinetState). Serves line command (reach_of (image_disk_state disk) Idle c (new_entropy (left_in f.left random.device))) answer new) same
       (subst (λ (e : EntropyState). Serves line command (reach_of (image_disk_state disk) Idle cabinet e) answer new) entropy_is row)
 

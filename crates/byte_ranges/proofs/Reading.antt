@@ -8,7 +8,7 @@ use Rattle.provider.specs.Attached.{Attached}
 use Rattle.provider.specs.Reading.{ReadsFrom, data_reading}
 use Rattle.provider.specs.declared.faults.ReadFault.{ReadFault}
 use Rattle.provider.specs.declared.faults.ReadFault.TheVariants as read
-use Rattle.byte_ranges.specs.Reads.{ReadsSectors}
+use Rattle.byte_ranges.specs.Reads.{ReadsWholeSectors}
 
 -- the bytes of so many sectors, where that is told
 pub reads_so : (told : Option Content) (k : Keying) (sector n m : ℕ) (bytes : List ℕ) → m ≡ n → ReadsFrom told k sector m (Ok bytes) → IfSome told (λ c. data_reading k c sector n ≡ Ok bytes)
@@ -22,7 +22,7 @@ fault_so (Some c) k sector n m offset same h = (offset, subst (λ (j : ℕ). dat
 
 -- a read of sectors that are there is refused only where the disk failed or a unit is a fault
 pub cannot_read : {D : Type 0} (state : D → DiskState) (error : ReadFault) (r : SectorRequest) (n : ℕ) (bytes : List ℕ) (old new : Attached D) → r.count ≡ n → r.sector + n ≤ r.media
-    → ReadAnswers state r bytes old new (Err error) → ReadsSectors old.keying r.sector n bytes false (state old.disk) (state new.disk)
+    → ReadAnswers state r bytes old new (Err error) → ReadsWholeSectors old.keying r.sector n bytes false (state old.disk) (state new.disk)
 cannot_read state (read.OutOfRange sector count media) r n bytes old new same inside h = absurd (omega (arith, same, inside, h.0.passes))
 cannot_read state read.DeviceFault r n bytes old new same inside h = inl h.fails.fails
 cannot_read state (read.Integrity offset) r n bytes old new same inside h =

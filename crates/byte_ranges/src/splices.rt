@@ -3,7 +3,7 @@ ghost use Rattle.std.specs.Prelude.{◌≡◌, ◌+◌, ◌*◌, ◌<◌, ◌≤
 ghost use Rattle.aes_core.specs.Schedule.{AreBytes};
 ghost use Rattle.provider.specs.Attached.{IsKept, media};
 ghost use Rattle.provider.specs.Writing.{data_writes};
-ghost use Rattle.byte_ranges.specs.Edges.{PutsBack, PutsFront, ReadsSector};
+ghost use Rattle.byte_ranges.specs.Edges.{PutsBackEdge, PutsFrontEdge, ReadsEdge};
 ghost use Rattle.byte_ranges.specs.Ranges.{IsCoverOf, IsInside};
 ghost use Rattle.byte_ranges.specs.Writes.{LogsOrFails, SplicesInto, WritesRange, flush_events};
 
@@ -17,7 +17,7 @@ fn read_edge<D: Disk>(provider: &mut Provider<D>, sector: u64, into: &mut [u8]) 
     requires size { length into.old ≡ provider.old.keying.sectorsize }
     requires wide { 512 ≤ provider.old.keying.sectorsize }
     requires inside { sector + 1 ≤ media provider.old.keying (D.state provider.old.disk) }
-    ensures reads { ReadsSector provider.old.keying sector into.new result (D.state provider.old.disk) (D.state provider.new.disk) }
+    ensures reads { ReadsEdge provider.old.keying sector into.new result (D.state provider.old.disk) (D.state provider.new.disk) }
     ensures kept { IsKept provider.old provider.new }
 {
     read_sectors(provider, sector, 1, into)
@@ -36,7 +36,7 @@ fn put_front<D: Disk>(
     requires skip { skip < provider.old.keying.sectorsize }
     requires within { skip ≤ length sectors.old }
     requires inside { sector + 1 ≤ media provider.old.keying (D.state provider.old.disk) }
-    ensures puts { PutsFront provider.old.keying sector skip sectors.old sectors.new result (D.state provider.old.disk) (D.state provider.new.disk) }
+    ensures puts { PutsFrontEdge provider.old.keying sector skip sectors.old sectors.new result (D.state provider.old.disk) (D.state provider.new.disk) }
     ensures kept { IsKept provider.old provider.new }
 {
     if skip == 0 {
@@ -64,7 +64,7 @@ fn put_back<D: Disk>(
     requires within { end ≤ length sectors.old }
     requires least { length sectors.old < end + provider.old.keying.sectorsize }
     requires inside { sector + 1 ≤ media provider.old.keying (D.state provider.old.disk) }
-    ensures puts { PutsBack provider.old.keying sector end sectors.old sectors.new result (D.state provider.old.disk) (D.state provider.new.disk) }
+    ensures puts { PutsBackEdge provider.old.keying sector end sectors.old sectors.new result (D.state provider.old.disk) (D.state provider.new.disk) }
     ensures kept { IsKept provider.old provider.new }
 {
     let left = sectors.len() - end;

@@ -17,13 +17,13 @@ use Rattle.image_layers.specs.declared.image_disks.ImageDisk.TheVariants.{Plain,
 use Rattle.image_run.specs.Surviving.{IfFileTells}
 use Rattle.nbd_session.proofs.Durable.{session-survives}
 use Rattle.nbd_session.proofs.Lasting.{closed_survives}
-use Rattle.nbd_session.specs.Requests.{Exchange, Side, ServesAll}
+use Rattle.nbd_session.specs.Requests.{Exchange, Side, ServesExchanges}
 use Rattle.nbd_session.specs.Session.{FlushesLast}
 use Rattle.nbd_run.specs.Program.{EndsWith, EnduresBy, EnduresSession}
 use Rattle.nbd_run.specs.declared.status.Status.{Status}
 
 by_flush : (flushed : Result (Unit {0}) DiskFailed) (side : Side) (xs : List Exchange) (old last new : DiskState) (c : Content) → IsKeying side.keying → old.content ≡ Some c
-    → ServesAll side xs old last → FlushesLast flushed last new → EnduresBy flushed side.keying xs c last new
+    → ServesExchanges side xs old last → FlushesLast flushed last new → EnduresBy flushed side.keying xs c last new
 by_flush (Ok done) side xs old last new c is told served closed = closed_survives side xs old last new c is told served closed
 by_flush (Err failed) side xs old last new c is told served closed = session-survives side xs old last c is told served
 

@@ -153,8 +153,8 @@ module _ (line : List ℕ) (command : Command) (start : Reach) where
 -- ---- the run
 
 module _ {O F : Type 0} (g : Ghosts (FileDisk F)) (o : opener.Ghosts O F) (f : image_file.Ghosts F) where
-  -- The words are those of `geli attach` for one image. That was opened, to be changed but where it attaches to be read
-  -- alone, and then the random bytes; nothing else was asked. The disk of a file alone tells what its file tells.
+  -- The words are those of `geli attach` for one image. That was opened, to be changed unless it attaches
+  -- read-only, and then the random bytes; nothing else was asked. The disk of a file alone tells what its file tells.
   pub record OpensAsked (words : List (List ℕ)) (opener : O) : Type 0 where
     pub name : List ℕ
     pub line : List ℕ

@@ -55,7 +55,7 @@ fn open_named<O: Opener + Drop>(
     }
 }
 
-/// The same of the image that is asked for, to be changed but where it is attached to be read alone.
+/// The same of the image that is asked for, to be changed unless it is attached read-only.
 pub(crate) fn open_asked<O: Opener + Drop>(
     alloc: Global,
     opener: O,

@@ -127,6 +127,7 @@ impl Disk for LookingDisk {
 }
 
 // A provider of logical sectors of 4,096 bytes, attached upon such a disk, and the calls of the disk.
+#[derive(Drop)]
 struct Watched {
     provider: Provider<LookingDisk>,
     calls: Rc<Cell<Calls>>,

@@ -5,8 +5,8 @@ use Rattle.std.proofs.lemmas.List.{drop-drop, drop-take, take-append-le, take-ta
 use Rattle.std.proofs.lemmas.Option.{none-some, same_Some}
 use Rattle.block_traits.specs.Disk.{DiskState}
 use Rattle.block_traits.specs.Streams.{SinkState, SourceState}
-use Rattle.byte_ranges.specs.AnswersRead.{CannotReadRange, IsRangeReadAs}
-use Rattle.byte_ranges.specs.AnswersWrite.{WritesRange}
+use Rattle.byte_ranges.specs.Reads.{CannotReadRange, IsRangeReadAs}
+use Rattle.byte_ranges.specs.Writes.{WritesRange}
 use Rattle.byte_ranges.specs.declared.ranges.ByteRange.{ByteRange}
 use Rattle.nbd_words.specs.Transmission.{has_fua, reply_head, request_in, request_kind}
 use Rattle.nbd_words.specs.declared.transmission.Request.{Request}

@@ -17,9 +17,9 @@ use Rattle.file_edge.specs.declared.found.FileId.{FileId}
 use Rattle.file_edge.specs.declared.image_file.ImageFile as image_file
 use Rattle.file_edge.specs.declared.opener.Opener as opener
 use Rattle.file_edge.specs.declared.random_file.RandomFile.{RandomFile}
+use Rattle.image_layers.proofs.Opened.{images_stay}
 use Rattle.image_layers.specs.Images.{TellsImage, image_disk_state}
 use Rattle.image_layers.specs.declared.image_disks.ImageDisk.{ImageDisk}
-use Rattle.image_run.proofs.Images.{opened_told}
 use Rattle.image_run.specs.Program.{OpensNamed, new_cabinet, new_entropy}
 use Rattle.nbd_session.specs.Requests.{side_of}
 use Rattle.reply_text.specs.Text.{refusal_text}
@@ -34,38 +34,45 @@ use Rattle.nbd_run.specs.declared.status.Status.TheVariants.{SomeRefused}
 use Rattle.nbd_run.specs.declared.words.Wish.TheVariants.{Other}
 
 -- what attaching left, refused or served
-pub served_disk : {D : Type 0} (state : D → DiskState) (line : List ℕ) (command : Command) (start : Reach) (attached : Result (Attached D) (D × Refusal)) (disk : D) (c : CabinetState) (e : EntropyState)
-    (source rest : SourceState) (sink after log logged : SinkState) (status : Status)
+pub served_disk : {D S K L : Type 0} (state : D → DiskState) (source : S → SourceState) (sink : K → SinkState) (log : L → SinkState) (line : List ℕ) (command : Command) (start : Reach)
+    (attached : Result (Attached D) (D × Refusal)) (disk : D) (c : CabinetState) (e : EntropyState) (input rest : S) (output after : K) (silent logged : L) (status : Status)
     → IfOk attached (λ p. AttachesProvider state line command start p c e)
     → IfOk attached (λ p. IsKeying p.keying)
     → IfErr attached (λ refused. Serves line command start (answers.Refused refused.1) (reach_of (state refused.0) Idle c e))
-    → IfOk attached (λ p. EndsWith (side_of p) source rest sink after status (state p.disk) (state disk))
-    → OnOk attached (logged ≡ log)
-    → IfErr attached (λ refused. TookAll (refusal_text refused.1) log logged ⊎ TookPart (refusal_text refused.1) log logged)
+    → IfOk attached (λ p. EndsWith (side_of p) (source input) (source rest) (sink output) (sink after) status (state p.disk) (state disk))
+    → OnOk attached (logged ≡ silent)
+    → IfErr attached (λ refused. TookAll (refusal_text refused.1) (log silent) (log logged) ⊎ TookPart (refusal_text refused.1) (log silent) (log logged))
     → IfErr attached (λ refused. disk ≡ refused.0)
     → OnErr attached (status ≡ SomeRefused)
-    → OnErr attached ((rest ≡ source) × (after ≡ sink))
-    → ServesDisk line command start (streams source sink log) status (remains (state disk) c e) (streams rest after logged)
-served_disk state line command start (Ok p) disk c e source rest sink after log logged status attaches keying refuses ends silent logs same is untaken =
-    inr (record { attachment = attachment_of attaches.queue p; middle = state p.disk; row = attaches.row; keying = keying; ends = ends; log = silent })
-served_disk {D} state line command start (Err refused) disk c e source rest sink after log logged status attaches keying refuses ends silent logs same is untaken =
+    → OnErr attached ((rest ≡ input) × (after ≡ output))
+    → ServesDisk line command start (streams (source input) (sink output) (log silent)) status (remains (state disk) c e) (streams (source rest) (sink after) (log logged))
+served_disk state source sink log line command start (Ok p) disk c e input rest output after silent logged status attaches keying refuses ends same logs gone is untaken =
+    inr (record { attachment = attachment_of attaches.queue p; middle = state p.disk; row = attaches.row; keying = keying; ends = ends; log = ap log same })
+served_disk {D} state source sink log line command start (Err refused) disk c e input rest output after silent logged status attaches keying refuses ends same logs gone is untaken =
     let left : D → Type 0 = λ d. Serves line command start (answers.Refused refused.1) (reach_of (state d) Idle c e) in
-    inl (record { refusal = refused.1; row = subst left (sym same) refuses; logged = record { log = logs; source = untaken.0; sink = untaken.1 }; status_is = is })
+    inl (record {
+      refusal = refused.1;
+      row = subst left (sym gone) refuses;
+      logged = record { log = logs; source = ap source untaken.0; sink = ap sink untaken.1 };
+      status_is = is;
+    })
 
 module _ {O F : Type 0} {g : Ghosts (FileDisk F)} (o : opener.Ghosts O F) (f : image_file.Ghosts F) (words : List (List ℕ)) (before opened : O) (name line : List ℕ) (command : Command)
     (disk : ImageDisk F g) (files : List FileId) (random : RandomFile F) (cabinet : CabinetState) (entropy : EntropyState) (wish : wish_of words ≡ Other) (asks : AsksToAttach words name line command)
     (opens : OpensNamed o f (not (attaches_readonly command)) (name ∷ []) (disk ∷ []) files random before opened) (tells : TellsImage f.told disk)
     (cabinet_is : cabinet ≡ new_cabinet files (o.told opened)) (entropy_is : entropy ≡ new_entropy (left_in f.left random.device)) where
-  told : (o.told opened ≡ o.told before) × IsRandom (o.told before) (left_in f.left random.device)
-  told = opened_told o f (not (attaches_readonly command)) (name ∷ []) (disk ∷ []) files random before opened opens
+  -- names have what they had
+  stays : o.told opens.between ≡ o.told before
+  stays = images_stay o f (not (attaches_readonly command)) (name ∷ []) (disk ∷ []) _ _ opens.images
 
   asked : OpensAsked g o f words before
-  asked = record { name = name; line = line; command = command; asks = asks; disk = disk; files = files; random = random; opened = opened; opens = opens; telling = tells; device = told.1 }
+  asked = record { name = name; line = line; command = command; asks = asks; disk = disk; files = files; random = random; opened = opened; opens = opens; telling = tells; device = subst (λ (told : Option NamedFiles). IsRandom told (left_in f.left random.device)) stays opens.left }
 
   -- a row from what was opened is one from what was told
   from_told : (answer : answers.Answer) (new : Reach) → Serves line command (reach_of (image_disk_state disk) Idle cabinet entropy) answer new → Serves line command (begins g o f asked) answer new
+  unfolding asked
   from_told answer new row =
-      let same : cabinet ≡ new_cabinet files (o.told before) = cabinet_is ∙ ap (λ (t : Option NamedFiles). new_cabinet files t) told.0 in
+      let same : cabinet ≡ new_cabinet files (o.told before) = cabinet_is ∙ ap (λ (t : Option NamedFiles). new_cabinet files t) (opens.told ∙ stays) in
       subst (λ (c : CabinetState). Serves line command (reach_of (image_disk_state disk) Idle c (new_entropy (left_in f.left random.device))) answer new) same
       (subst (λ (e : EntropyState). Serves line command (reach_of (image_disk_state disk) Idle cabinet e) answer new) entropy_is row)
 
@@ -73,6 +80,7 @@ module _ {O F : Type 0} {g : Ghosts (FileDisk F)} (o : opener.Ghosts O F) (f : i
       (source rest : SourceState) (sink after log logged : SinkState) (status : Status)
       → ServesDisk line command (reach_of (image_disk_state disk) Idle cabinet entropy) (streams source sink log) status (remains d c e) (streams rest after logged)
       → ServesImage g o f words before (streams source sink log) status (remains d c e) (streams rest after logged)
+  unfolding asked
   served_image same d c e source rest sink after log logged status (inl h) = record {
     wish = wish;
     opens = asked;

@@ -1,5 +1,5 @@
 -- What a session leaves in the file of the image that was opened.
-use Rattle.std.proofs.Common.{◌≡◌, ◌∙◌, Result, Ok, Err, Option, Some, None, List, [], is_ok, sym, refl, subst}
+use Rattle.std.proofs.Common.{◌≡◌, ◌∙◌, Result, Ok, Err, Option, Some, None, List, []}
 use Rattle.std.specs.Prelude.{IfSome}
 use Rattle.block_traits.proofs.Logs.{logged-none}
 use Rattle.block_traits.specs.Content.{Content}

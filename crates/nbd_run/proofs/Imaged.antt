@@ -1,5 +1,5 @@
 -- What was opened, attached and served, as one.
-use Rattle.std.proofs.Common.{◌≡◌, ◌∙◌, ◌⊎◌, inl, inr, Option, not, List, [], ◌∷◌, ℕ, Result, Ok, Err, IfOk, IfErr, OnOk, OnErr, ap, refl, subst, sym}
+use Rattle.std.proofs.Common.{◌≡◌, ◌∙◌, ◌⊎◌, inl, inr, Option, not, List, [], ◌∷◌, ℕ, Result, Ok, Err, IfOk, IfErr, OnOk, OnErr, ap, subst, sym}
 use Rattle.block_traits.specs.Cabinet.{CabinetState}
 use Rattle.block_traits.specs.Disk.{DiskState}
 use Rattle.block_traits.specs.Streams.{EntropyState, SinkState, SourceState, TookAll, TookPart}

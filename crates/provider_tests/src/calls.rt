@@ -55,11 +55,12 @@ impl LookingDisk {
             None => [0; 512],
         }
     }
+}
 
-    fn put(&mut self, n: u64, from: &Sector) {
-        if let Some(sector) = self.sectors.get_mut(n as usize) {
-            *sector = *from;
-        }
+// Puts a sector among others.
+fn put(sectors: &mut Vec<Sector>, n: u64, from: &Sector) {
+    if let Some(sector) = sectors.get_mut(n as usize) {
+        *sector = *from;
     }
 }
 
@@ -100,7 +101,7 @@ impl Disk for LookingDisk {
         let calls = self.calls.get();
         let writes = calls.writes.saturating_add(1);
         self.calls.set(Calls { writes, ..calls });
-        self.put(n, from);
+        put(&mut self.sectors, n, from);
         Ok(())
     }
 
@@ -109,7 +110,11 @@ impl Disk for LookingDisk {
         let runs = calls.runs.saturating_add(1);
         self.calls.set(Calls { runs, ..calls });
         for j in 0..from.len() / 512 {
-            self.put(first.saturating_add(j as u64), &sector_of(from, j));
+            put(
+                &mut self.sectors,
+                first.saturating_add(j as u64),
+                &sector_of(from, j),
+            );
         }
         Ok(())
     }

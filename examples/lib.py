@@ -101,8 +101,9 @@ def told(reply, files=(), own=None):
     return f"{reply}: {found or CAUSES.get(number, 'see DIAGNOSTICS in geli(8)')}"
 
 
-def seen(path, own=None):
-    """Why an image can't be opened, locked or written, if that can be seen. The process `own` may hold it."""
+def seen(path, own=None, is_ours=False):
+    """Why an image can't be opened, locked or written, if that can be seen. The process `own` may hold it; where it is
+    ours, so may any."""
     try:
         state = os.stat(path)
         disk = os.statvfs(path)
@@ -110,7 +111,7 @@ def seen(path, own=None):
         return failed.strerror
     if stat.S_ISDIR(state.st_mode):
         return "it is a folder"
-    holder = holder_of(state, own)
+    holder = None if is_ours else holder_of(state, own)
     if holder:
         return f"process {holder} holds it ({name_of(holder)})"
     if not os.access(path, os.R_OK):

@@ -609,9 +609,9 @@ os.fsync(disk)
 assert refused
 EOS
         says "a write that a mount refuses" python3 refused.py "$(echo "$GELI_MOUNTS"/*/disk/nbd)"
-        says "  is told when it is unmounted" test "$("$mount" -u "$files" 2>&1 | sed 's/ (.*)$//'
+        says "  is told when it is unmounted" test "$("$mount" -u "$files" 2>&1 | sed 's/ [0-9][0-9:]\{7\}\( (.*)\)*$//'
             echo "${PIPESTATUS[0]}")" = "mount-provider.sh: $(realpath "$files"): what was written may be lost: \
-a write or a flush was refused"$'\n1'
+a write or a flush was refused once, at"$'\n1'
         says "  and nothing is left" test -z "$(ls "$GELI_MOUNTS")"
         umount full.d
     else

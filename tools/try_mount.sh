@@ -64,6 +64,7 @@ left_behind() {
     ls -d "$folder"/mounts/* 2>/dev/null
     grep -o " $folder/\(files\|mounts\)[^ ]* " /proc/self/mountinfo
     flock -n "${1:-m.img}" true || echo "a lock of ${1:-m.img}"
+    losetup -n -O NAME,BACK-FILE 2>/dev/null | grep -F " $folder/"
     ls -d "$XDG_RUNTIME_DIR"/* 2>/dev/null # passphrases
 }
 # nothing_left [IMAGE [SECONDS]]: no process, folder, mount, lock, or passphrase, within two seconds.
@@ -268,7 +269,6 @@ case_kernel() { # -K: the kernel's ext4
     says "  with the file" has kernel kernel
     says "  and it ends by -u" down
     says "  with nothing left" nothing_left k.img
-    says "  and no loop device" test -z "$(losetup -n -O BACK-FILE | grep "$folder")"
     says "  and is clean" is_clean k.img
     up -K k.img
     says "  and by hand" umount files
@@ -284,6 +284,21 @@ case_kernel() { # -K: the kernel's ext4
     says "  with what was synced" cmp kernel files/again
     says "  and ends" down
     says "  and is clean" is_clean k.img
+    local who noted
+    for who in keeper all; do
+        for noted in before after; do
+            up -K k.img && cp kernel "files/$who-$noted" && sync -f files
+            [ $noted = after ] || rm "$folder"/mounts/*/up
+            kill -KILL $(if [ $who = all ]; then behind; else process_of keeper; fi)
+            says "SIGKILL to $who, $noted it was noted that -K has mounted it" \
+                test "$(down; echo $?)" = "$([ $who$noted = keeperafter ]; echo $?)"
+            says "  leaves nothing" nothing_left k.img
+            says "  and it mounts again" up -K k.img
+            says "  with what was synced" cmp kernel "files/$who-$noted"
+            says "  and ends" down
+            says "  and is clean" is_clean k.img
+        done
+    done
 }
 
 case_full() { # a full disk, that gets room again or not
@@ -299,7 +314,8 @@ case_full() { # a full disk, that gets room again or not
     for at in 1 2 3; do timeout 200 cp six "files/q$at"; done 2>copies
     down
     says "where writes were refused the unmounting answers 1" test $? = 1
-    says "  and tells it" told 'what was written may be lost: a write or a flush was refused'
+    says "  and tells it, how often, since when and why" told \
+        'what was written may be lost: a write or a flush was refused [0-9]* times, the first at [0-9:]* (.* is full)$'
     says "  and nothing is left" nothing_left small/s.img
     says "  and it is told once" test "$(down; grep -c 'nothing was mounted' notes)" = 1
     rm small/s.img && command mount -o remount,size=20M small 2>notes
@@ -314,7 +330,7 @@ case_full() { # a full disk, that gets room again or not
         test "$(GELI_MOUNTS=$folder/mounts "$mount" -k key -j pass small/s.img files 2>&1 | grep -c 'went wrong')" = 1
     down
     says "  and by -u, with 1" test $? = 1
-    says "  and tells why" told 'a write or a flush was refused (.*full)'
+    says "  and tells why" told 'a write or a flush was refused [0-9]* times, .* (.* is full)$'
     says "  and nothing is left" nothing_left small/s.img
     umount small
 }
@@ -835,7 +851,7 @@ for name in "${names[@]}"; do
     folder=$work/$name SECONDS=0
     echo "case $name"
     mkdir -p "$folder/files" "$folder/run" && cp pass key "$folder" && cp --sparse=always ../made.img "$folder/"
-    timeout -k 30 "${BOUND:-3000}" "${BASH_SOURCE[0]}" --case "$name" "$folder"
+    timeout -k 30 "${BOUND:-3000}" "$top/tools/try_mount.sh" --case "$name" "$folder"
     status=$?
     [ $status != 124 ] || echo "FAILS: it took too long"
     [ -z "$(behind)" ] || { status=1 && echo "FAILS: processes were left" && left_behind made.img; }

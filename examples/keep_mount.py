@@ -13,9 +13,9 @@ it starts, so that a signal to all leaves the writing to those who write.
 
 A mount has a folder (STATE). Its files are `result`, which the one who keeps the mount holds a lock of, and where in
 the end a status and words stand; `device` and `files`, of which the programs behind the device and those over it hold
-locks while they run; `begun`, with what is mounted, from before that; `up`, once it is; `ended`, where the server says
-how it ended; `keeper`, the number of a process; `private`, the folder of the passphrase; and the folder `disk`, where
-the device is.
+locks while they run; `begun`, with what is mounted, from before that; `up`, once it is; `waits`, with what hinders its
+end; `ended`, where the server says how it ended; `keeper`, the number of a process; `private`, the folder of the
+passphrase; and the folder `disk`, where the device is.
 """
 import collections
 import contextlib
@@ -176,7 +176,7 @@ class State:
         self.disk = self.path / "disk"
         self.nbd = self.disk / "nbd"
         self.result, self.ended = self.path / "result", self.path / "ended"
-        self.begun, self.up = self.path / "begun", self.path / "up"
+        self.begun, self.up, self.waits = self.path / "begun", self.path / "up", self.path / "waits"
         self.device, self.files = self.path / "device", self.path / "files"
         self.keeper, self.private = self.path / "keeper", self.path / "private"
 
@@ -205,7 +205,8 @@ class State:
         self.remove_private()
         with contextlib.suppress(OSError):
             self.disk.rmdir()
-        for file in (self.device, self.files, self.begun, self.up, self.ended, self.keeper, self.private, self.result):
+        for file in (self.device, self.files, self.begun, self.up, self.waits, self.ended, self.keeper, self.private,
+                     self.result):
             file.unlink(missing_ok=True)
         with contextlib.suppress(OSError):
             self.path.rmdir()
@@ -538,8 +539,13 @@ class Keeper:
                or ("K" in self.options and loops_over(self.state.nbd))):
             self.number = self.number or mount_of(self.folder)
             if self.number and mount_of(self.folder) == self.number:
-                self.unmount("-z")
+                self.hindered(self.unmount("-z"))
             time.sleep(0.1)
+
+    def hindered(self, said):
+        """Notes what a program said that couldn't unmount, for whom waits meanwhile."""
+        if said:
+            self.state.put(self.state.waits, said)
 
     def unmount_device(self):
         """Unmounts the device, also one that comes only now, and waits for its server. Where another mount namespace
@@ -548,7 +554,7 @@ class Keeper:
         while mount_of(self.state.disk) or is_used(self.state.device):
             if mount_of(self.state.disk):
                 number, since = mount_of(self.state.disk), time.monotonic()
-                self.problem = unmount_by("fusermount3", "-uz", self.state.disk) or self.problem
+                self.hindered(unmount_by("fusermount3", "-uz", self.state.disk))
             elif number and "K" not in self.options and time.monotonic() - since > GRACE:
                 abort(number)
             time.sleep(0.1)
@@ -708,8 +714,9 @@ def wait_for_result(state, result, folder):
         if not is_told and time.monotonic() - began > 3:
             is_told = True
             others = [it for it in processes() if number and has_elsewhere(it, number)]
+            said = state.text(state.waits)
             note(f"{folder}: waiting for {named(others)}, of another mount namespace, which has the mount too"
-                 " (-u -f ends it)" if others else f"{folder}: waiting for the disk")
+                 " (-u -f ends it)" if others else f"{folder}: waiting for the disk" + f": {said}" * bool(said))
         time.sleep(0.05)
 
 

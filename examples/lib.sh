@@ -39,14 +39,17 @@ at_end() {
 trap at_end EXIT
 trap 'exit 130' INT TERM HUP
 
-# A folder for passphrases, in memory where the system has such a place. It goes away when the script ends.
+# private_folder [FILE]: a folder for passphrases, in memory where the system has such a place. It goes away when the
+# script ends. FILE gets its name before it is there, so that who comes after a kill can remove it.
 private_folder() {
     local top
     [ -z "$private" ] || return 0
     for top in "${XDG_RUNTIME_DIR:-}" /dev/shm "${TMPDIR:-/tmp}"; do
         # Its name is part of words of a script.
         if [ -n "$top" ] && [ -d "$top" ] && [ -w "$top" ] && [[ $top != *[[:space:]:]* ]]; then
-            private=$(mktemp -d "$top/geli.XXXXXXXX") || fail "no private folder in $top"
+            private=$(mktemp -u "$top/geli.XXXXXXXXXX")
+            [ -z "${1:-}" ] || printf '%s\n' "$private" >"$1"
+            mkdir -- "$private" || { private='' && fail "no private folder in $top"; }
             return
         fi
     done

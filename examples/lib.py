@@ -173,6 +173,19 @@ def is_tagged(fields):
     return bool(int(fields["flags"], 16) & 0x10)
 
 
+def sizes_of(fields):
+    """The bytes of a logical sector of a provider with these metadata, and how many sectors there are."""
+    width = int(fields["sectorsize"])
+    units = (width - 1) // TAGGED.get(fields["aalgo"], 480) + 1 if is_tagged(fields) else width // 512
+    return width, (int(fields["provsize"]) - 512) // (512 * units)
+
+
+def sizes_by_dump(geli, image):
+    """The same of an image, without a key; zeros where its metadata can't be read."""
+    dump = subprocess.run([geli, "dump", image], stdout=subprocess.PIPE, check=False).stdout.decode()
+    return sizes_of(fields_of(row for row in dump.split("\n") if ": " in row)) if "sectorsize: " in dump else (0, 0)
+
+
 def ranges(numbers):
     """Ascending numbers as ranges: of each the first, and the one behind the last."""
     found = []

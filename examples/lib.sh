@@ -189,6 +189,14 @@ need() {
     done
 }
 
+# nbdcopy_over: prints the program that serves nbdcopy, where both are there.
+nbdcopy_over() {
+    if command -v nbdcopy >/dev/null && command -v "$GELI_NBD" >/dev/null; then
+        # Where it is the launcher of a clone it is built now, where that can be told.
+        if "$GELI_NBD" --version </dev/null >/dev/null; then command -v "$GELI_NBD"; fi
+    fi
+}
+
 # The refusal in `reply`, and its cause as far as it can be seen at the image.
 reply=''
 told() { python3 -B "$library/lib.py" "${reply##*$'\n'}" "$image"; }

@@ -41,6 +41,7 @@ trap 'exit 130' INT TERM HUP
 
 # private_folder [FILE]: a folder for passphrases, in memory where the system has such a place. It goes away when the
 # script ends. FILE gets its name before it is there, so that who comes after a kill can remove it.
+# shellcheck disable=SC2120 # one script gives it
 private_folder() {
     local top
     [ -z "$private" ] || return 0

@@ -102,3 +102,14 @@ returns-clause-asked g c =
       random = opened.entropy;
       opens = rw handed opens;
     })
+
+pub returns-clause-told : goal.returns-clause-told
+returns-clause-told g c =
+    let opened = c.in_ok-names.field-0 in
+    let told = opened_told g.O.Opener g.O.File.ImageFile _ _ opened.disks.items opened.files.images.items opened.entropy c.args.opener opened.files.opener c.in_ok-names.ensures.opens in
+    let now = c.new-outside.ensures.now in
+    let nothing = c.in-Err.ensures.nothing in
+    let left : c.run_over.new.outside.files.now ≡ opened.files = nothing.2 ∙ now.2 in
+    let files : c.files-2-1.given.0 ≡ c.run_over.new.outside.files.now = search rules in
+    let handed : c.into_opener.result ≡ opened.files.opener = rw (files, left) at c.into_opener.ensures in
+    ap g.O.Opener.told handed ∙ told.0

@@ -91,10 +91,10 @@ no_data export client end head bytes option source middle rest sink result why l
     })
 
 -- an option and its answer
-pub one_answered : (export : Export) (client : ClientFlags) (head bytes : List ℕ) (option : OptionHead) (source middle rest : SourceState) (sink : SinkState) (result : Result Outcome End) (after : SinkState) → length head ≡ 16
+pub one_answered : {export : Export} {client : ClientFlags} {head bytes : List ℕ} {option : OptionHead} {source middle rest : SourceState} {sink : SinkState} {result : Result Outcome End} {after : SinkState} → length head ≡ 16
     → option_head_in head ≡ Some option → is_taken client option ≡ true → length bytes ≡ option.length → SourceGave head source middle → SourceGave bytes middle rest
     → GivesAnswer export client (record { head = head; code = option.code; bytes = bytes }) sink result after → AnswersOption export client source rest sink result after
-one_answered export client head bytes option source middle rest sink result after long reads is size took more gives =
+one_answered {export} {client} {head} {bytes} {option} long reads is size took more gives =
     inl (record {
       option = record { head = head; code = option.code; bytes = bytes };
       is = record {
@@ -139,13 +139,13 @@ took-more os o {source} {middle} {rest} a b = subst (λ (l : List ℕ). SourceGa
 pub none-answered : (export : Export) (client : ClientFlags) (source : SourceState) (sink : SinkState) → AnsweredSoFar export client 0 source source sink sink
 none-answered export client source sink = record { options = []; count = refl; lead = refl; took = SourceGave-none source; gave = TookAll-nothing sink }
 
-pub next_answered : (export : Export) (client : ClientFlags) (n : ℕ) (source between rest : SourceState) (sink halfway after : SinkState) → AnsweredSoFar export client n source between sink halfway
-    → AnswersOption export client between rest halfway (Ok More) after → AnsweredSoFar export client (n + 1) source rest sink after
-next_answered export client n source between rest sink halfway after so h = elim h [
+pub next_answered : {export : Export} {client : ClientFlags} {n : ℕ} {source between rest : SourceState} {sink halfway after : SinkState} {next : Outcome} → AnsweredSoFar export client n source between sink halfway
+    → next ≡ More → AnswersOption export client between rest halfway (Ok next) after → AnsweredSoFar export client (n + 1) source rest sink after
+next_answered {export} {client} so is h = elim h [
   | inl one ↦ record {
     options = so.options ++ one.option ∷ [];
     count = omega (arith, so.count, length-append so.options (one.option ∷ []));
-    lead = LeadTo-more client so.options one.option More so.lead one.is (sym one.gives.0);
+    lead = LeadTo-more client so.options one.option More so.lead one.is (sym one.gives.0 ∙ is);
     took = took-more so.options one.option so.took one.took;
     gave = gave-more (answer export client) so.options one.option so.gave one.gives.1;
   }
@@ -153,33 +153,30 @@ next_answered export client n source between rest sink halfway after so h = elim
 ]
 
 -- the last of the options
-last_answered : (export : Export) (client : ClientFlags) (next : Outcome) (n : ℕ) (source between rest : SourceState) (sink halfway after : SinkState) (result : Result (Unit {0}) End) → AnsweredSoFar export client n source between sink halfway
-    → ((os : List ClientOption) → LeadTo client next os → LeadOn result client os [] source rest)
+last_answered : (last : Outcome) (result : Result (Unit {0}) End) {export : Export} {client : ClientFlags} {n : ℕ} {source between rest : SourceState} {sink halfway after : SinkState} {next : Outcome} → AnsweredSoFar export client n source between sink halfway
+    → next ≡ last → ((os : List ClientOption) → LeadTo client last os → LeadOn result client os [] source rest)
     → ((os : List ClientOption) → TookAll (concat (answers export client os)) sink after → GivesOn result (answers export client os) sink after)
-    → AnswersOne export client between rest halfway (Ok next) after → AnswersRun export client source rest sink result after
-last_answered export client next n source between rest sink halfway after result so leads gives one =
-    let os : List ClientOption = so.options ++ one.option ∷ [] in
-    record {
-      options = os;
-      bytes = [];
-      took = SourceGave-bare (took-more so.options one.option so.took one.took);
-      gave = gives os (gave-more (answer export client) so.options one.option so.gave one.gives.1);
-      why = leads os (LeadTo-more client so.options one.option next so.lead one.is (sym one.gives.0));
-    }
-
-pub wants_service : (done : Unit {0}) (export : Export) (client : ClientFlags) (n : ℕ) (source between rest : SourceState) (sink halfway after : SinkState) → AnsweredSoFar export client n source between sink halfway
-    → AnswersOption export client between rest halfway (Ok Serving) after → AnswersRun export client source rest sink (Ok done) after
-wants_service done export client n source between rest sink halfway after so h = elim h [
-  | inl one ↦ last_answered export client Serving n source between rest sink halfway after (Ok done) so (λ os lead. (lead, refl)) (λ os all. all) one
+    → AnswersOption export client between rest halfway (Ok next) after → AnswersRun export client source rest sink result after
+last_answered last result {export} {client} so is leads gives h = elim h [
+  | inl one ↦
+      let os : List ClientOption = so.options ++ one.option ∷ [] in
+      record {
+        options = os;
+        bytes = [];
+        took = SourceGave-bare (took-more so.options one.option so.took one.took);
+        gave = gives os (gave-more (answer export client) so.options one.option so.gave one.gives.1);
+        why = leads os (LeadTo-more client so.options one.option last so.lead one.is (sym one.gives.0 ∙ is));
+      }
   | inr none ↦ absurd (let no : ⊥ = cc (none.why) in no)
 ]
 
-pub wants_end : (export : Export) (client : ClientFlags) (n : ℕ) (source between rest : SourceState) (sink halfway after : SinkState) → AnsweredSoFar export client n source between sink halfway
-    → AnswersOption export client between rest halfway (Ok Ending) after → AnswersRun export client source rest sink (Err Closed) after
-wants_end export client n source between rest sink halfway after so h = elim h [
-  | inl one ↦ last_answered export client Ending n source between rest sink halfway after (Err Closed) so (λ os lead. inl (lead, refl)) (λ os all. all) one
-  | inr none ↦ absurd (let no : ⊥ = cc (none.why) in no)
-]
+pub wants_service : (done : Unit {0}) {export : Export} {client : ClientFlags} {n : ℕ} {source between rest : SourceState} {sink halfway after : SinkState} {next : Outcome} → AnsweredSoFar export client n source between sink halfway
+    → next ≡ Serving → AnswersOption export client between rest halfway (Ok next) after → AnswersRun export client source rest sink (Ok done) after
+wants_service done so is h = last_answered Serving (Ok done) so is (λ os lead. (lead, refl)) (λ os all. all) h
+
+pub wants_end : {export : Export} {client : ClientFlags} {n : ℕ} {source between rest : SourceState} {sink halfway after : SinkState} {next : Outcome} → AnsweredSoFar export client n source between sink halfway
+    → next ≡ Ending → AnswersOption export client between rest halfway (Ok next) after → AnswersRun export client source rest sink (Err Closed) after
+wants_end so is h = last_answered Ending (Err Closed) so is (λ os lead. inl (lead, refl)) (λ os all. all) h
 
 -- no more were answered
 stops_by : (end : End) (export : Export) (client : ClientFlags) (n : ℕ) (source between rest : SourceState) (sink halfway after : SinkState) (so : AnsweredSoFar export client n source between sink halfway)
@@ -226,9 +223,9 @@ fails_so Closed export client n source between rest sink halfway after so one = 
 fails_so ReadFault export client n source between rest sink halfway after so one = absurd one.gives
 fails_so Malformed export client n source between rest sink halfway after so one = absurd one.gives
 
-pub options_end : (end : End) (export : Export) (client : ClientFlags) (n : ℕ) (source between rest : SourceState) (sink halfway after : SinkState) → AnsweredSoFar export client n source between sink halfway
+pub options_end : (end : End) {export : Export} {client : ClientFlags} {n : ℕ} {source between rest : SourceState} {sink halfway after : SinkState} → AnsweredSoFar export client n source between sink halfway
     → AnswersOption export client between rest halfway (Err end) after → AnswersRun export client source rest sink (Err end) after
-options_end end export client n source between rest sink halfway after so h = elim h [
+options_end end {export} {client} {n} {source} {between} {rest} {sink} {halfway} {after} so h = elim h [
   | inl one ↦ fails_so end export client n source between rest sink halfway after so one
   | inr none ↦
       let same : none.end ≡ end = cc (none.why) in

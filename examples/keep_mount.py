@@ -44,6 +44,7 @@ MAKE = ("mke2fs", "-q", "-F", "-t", "ext4", "-b", "4096", "-E", "nodiscard")
 FOR_FUSE2FS = ("-O", "^extent,^64bit,^metadata_csum")
 PACKAGES = {"fuse2fs": "fuse2fs", "grub-mount": "grub-common"}
 REFUSED = re.compile(": (write|write-zeroes|flush): command failed: ")  # libnbd says it of what a server refused
+NEEDS_JOURNAL = "Journal needs recovery"  # fuse2fs says it where it may not write
 JOURNAL = "Writing to the journal is not supported."  # fuse2fs says it of each ext4 that has one
 NEW = 1 << 20  # bytes that are zeros at the beginning of a provider, or a file, where nobody wrote to it yet
 AT_REST = 3.0  # seconds after which what was written is synced, though nobody asks
@@ -458,7 +459,8 @@ class Keeper:
             self.pause(0.05)
             if not self.program.runs():
                 said = self.program.said().replace(str(self.state.nbd), self.words["name"])
-                raise Failed(f"{command[0]}: {said}")
+                plays = NEEDS_JOURNAL in said
+                raise Failed(f"{command[0]}: {said}" + "\nwithout -r it is mounted, and the journal played" * plays)
 
     def tell_mounted(self):
         """Says what the filesystem's program warned of, and that it is mounted."""

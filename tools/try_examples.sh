@@ -597,6 +597,7 @@ EOS
         says "  and is served out of it" "$serve" -k key -j pass "$loop" sock 2>notes
         says "  of its size" test "$(nbdinfo --size "$uri")" = 4193792
         says "  and it ends" "$serve" -e sock 2>notes
+        says "  but it is no key file" test "$("$in" -k "$loop" -j pass pass a.img 2>&1 | grep -c 'is a disk, and no key')" = 1
         losetup -d "$loop"
     else
         echo "not tried: a partition of a disk image (no loop device)"

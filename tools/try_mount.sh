@@ -474,6 +474,8 @@ case_damaged() { # a filesystem that is damaged, or was mounted by a kernel that
         "$make" -i 100 -J pass 90M j.img key j.backup 2>notes
         "$in" -k key -j pass crashed.raw j.img 2>notes
         says "  (a journal must be played)" grep -q needs_recovery <(dumpe2fs -h crashed.raw 2>&1)
+        says "a kernel's journal isn't played by -r" test "$(up -r j.img; echo $?)" = 1
+        says "  which tells what to give" told '^without -r it is mounted'
         says "a kernel's journal is played" up j.img
         says "  and the file is there" grep -q kernel files/kernel
         says "  and it ends" down

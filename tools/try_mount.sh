@@ -299,6 +299,21 @@ case_kernel() { # -K: the kernel's ext4
             says "  and is clean" is_clean k.img
         done
     done
+    local began took at wrong=0
+    began=$(date +%s%N)
+    up -K k.img
+    took=$(share "($(date +%s%N) - $began) / 10**9")
+    down
+    for ((at = 0; at < rounds; at++)); do
+        up -K k.img 2>/dev/null &
+        sleep "$(share "$at / $rounds * $took")"
+        kill -KILL $(process_of keeper) 2>/dev/null
+        wait
+        down
+        nothing_left k.img 5 || { wrong=$((wrong + 1)) && sweep && rm -rf run/*; }
+        is_clean k.img || { wrong=$((wrong + 1)) && echo "  at $at: $(tail -n 1 checked.out)"; }
+    done
+    says "SIGKILL to the keeper at $rounds moments of mounting by -K leaves nothing, and it is clean" test $wrong = 0
 }
 
 case_full() { # a full disk, that gets room again or not
@@ -737,7 +752,7 @@ round() {
     local targets
     cp --sparse=always i.made i.img
     head -c 50000 /dev/urandom >new
-    used &
+    used 2>/dev/null &
     sleep "$3"
     if [ "$2" = all ]; then targets=$(behind); else targets=$(process_of "$2"); fi
     # shellcheck disable=SC2086

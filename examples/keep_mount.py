@@ -201,17 +201,34 @@ class State:
 
     def remove(self):
         """Removes it, with what is in it; nobody claims it meanwhile. A device that is mounted stays."""
+        with self.unclaimed():
+            self.remove_files()
+
+    def remove_rest(self):
+        """Removes what somebody left of it who was killed while he made or removed it: no result is there."""
+        with contextlib.suppress(FileNotFoundError), self.unclaimed():
+            if self.path.exists() and not self.result.exists():
+                self.remove_files()
+
+    @contextlib.contextmanager
+    def unclaimed(self):
+        """Nobody claims a folder of a mount meanwhile."""
         top = os.open(self.path.parent, os.O_RDONLY)
-        fcntl.flock(top, fcntl.LOCK_EX)
+        try:
+            fcntl.flock(top, fcntl.LOCK_EX)
+            yield
+        finally:
+            os.close(top)
+
+    def remove_files(self):
         self.remove_private()
         with contextlib.suppress(OSError):
             self.disk.rmdir()
-        for file in (self.device, self.files, self.begun, self.up, self.waits, self.ended, self.keeper, self.private,
-                     self.result):
-            file.unlink(missing_ok=True)
         with contextlib.suppress(OSError):
+            for file in sorted(self.path.iterdir(), key=lambda file: file == self.result):  # the claim goes last
+                if file != self.disk:
+                    file.unlink(missing_ok=True)
             self.path.rmdir()
-        os.close(top)
 
 
 def is_held(file):
@@ -752,6 +769,7 @@ def unmount(words):
     try:
         result = open(state.result, "r+", errors="surrogateescape")
     except FileNotFoundError:
+        state.remove_rest()
         raise Failed(f"nothing was mounted on '{folder}' by this script") from None
     with result:
         if is_held(result):

@@ -575,8 +575,8 @@ EOS
     says "a mount whose asking was killed doesn't keep the next one off" up i.img
     says "  which ends" down
     says "  and nothing is left" nothing_left i.img
-    mkdir "$folder/mounts/$(printf %s "$folder/files" | sha256sum | cut -c1-16)"
-    touch "$folder"/mounts/*/keeper.new
+    state=$folder/mounts/$(printf %s "$folder/files" | sha256sum | cut -c1-16)
+    mkdir "$state" && : >"$state/keeper.new"
     says "one that was killed once its folder was made" test "$(down; echo $?)" = 1
     says "  leaves nothing behind -u" nothing_left i.img
 }

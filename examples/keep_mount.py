@@ -44,6 +44,7 @@ MAKE = ("mke2fs", "-q", "-F", "-t", "ext4", "-b", "4096", "-E", "nodiscard")
 FOR_FUSE2FS = ("-O", "^extent,^64bit,^metadata_csum")
 PACKAGES = {"fuse2fs": "fuse2fs", "grub-mount": "grub-common"}
 REFUSED = re.compile(": (write|write-zeroes|flush): command failed: ")  # libnbd says it of what a server refused
+NEEDS_JOURNAL = "Journal needs recovery"  # fuse2fs says it where it may not write
 JOURNAL = "Writing to the journal is not supported."  # fuse2fs says it of each ext4 that has one
 NEW = 1 << 20  # bytes that are zeros at the beginning of a provider, or a file, where nobody wrote to it yet
 AT_REST = 3.0  # seconds after which what was written is synced, though nobody asks
@@ -200,17 +201,34 @@ class State:
 
     def remove(self):
         """Removes it, with what is in it; nobody claims it meanwhile. A device that is mounted stays."""
+        with self.unclaimed():
+            self.remove_files()
+
+    def remove_rest(self):
+        """Removes what somebody left of it who was killed while he made or removed it: no result is there."""
+        with contextlib.suppress(FileNotFoundError), self.unclaimed():
+            if self.path.exists() and not self.result.exists():
+                self.remove_files()
+
+    @contextlib.contextmanager
+    def unclaimed(self):
+        """Nobody claims a folder of a mount meanwhile."""
         top = os.open(self.path.parent, os.O_RDONLY)
-        fcntl.flock(top, fcntl.LOCK_EX)
+        try:
+            fcntl.flock(top, fcntl.LOCK_EX)
+            yield
+        finally:
+            os.close(top)
+
+    def remove_files(self):
         self.remove_private()
         with contextlib.suppress(OSError):
             self.disk.rmdir()
-        for file in (self.device, self.files, self.begun, self.up, self.waits, self.ended, self.keeper, self.private,
-                     self.result):
-            file.unlink(missing_ok=True)
         with contextlib.suppress(OSError):
+            for file in sorted(self.path.iterdir(), key=lambda file: file == self.result):  # the claim goes last
+                if file != self.disk:
+                    file.unlink(missing_ok=True)
             self.path.rmdir()
-        os.close(top)
 
 
 def is_held(file):
@@ -458,7 +476,8 @@ class Keeper:
             self.pause(0.05)
             if not self.program.runs():
                 said = self.program.said().replace(str(self.state.nbd), self.words["name"])
-                raise Failed(f"{command[0]}: {said}")
+                plays = NEEDS_JOURNAL in said
+                raise Failed(f"{command[0]}: {said}" + "\nwithout -r it is mounted, and the journal played" * plays)
 
     def tell_mounted(self):
         """Says what the filesystem's program warned of, and that it is mounted."""
@@ -750,6 +769,7 @@ def unmount(words):
     try:
         result = open(state.result, "r+", errors="surrogateescape")
     except FileNotFoundError:
+        state.remove_rest()
         raise Failed(f"nothing was mounted on '{folder}' by this script") from None
     with result:
         if is_held(result):

@@ -81,19 +81,19 @@ says "  nor of more than an image can have" test "$("$make" -i 100 -J pass 8192T
 "$make" -a -i 100 -J pass 524288 c.img key c.backup 2>notes
 in=$top/examples/copy-in.sh out=$top/examples/copy-out.sh look=$top/examples/after-a-power-failure.sh
 head -c 462849 /dev/zero >long # a byte more than c.img takes
-# An nbdcopy that notes its words, and one that fails.
-mkdir noted failing
+# An nbdcopy that notes its words, and one that ends at once.
+mkdir noted dead
 printf '#!/bin/sh\necho "$*" >>"%s/words"\nexec "%s" "$@"\n' "$folder" "$(command -v nbdcopy)" >noted/nbdcopy
-printf '#!/bin/sh\nexit 1\n' >failing/nbdcopy
-chmod +x noted/nbdcopy failing/nbdcopy
-by() { # WAY COMMAND...: copies by nbdcopy, or by lines since there is no geli-nbd, or since nbdcopy fails
+printf '#!/bin/sh\nexit 1\n' >dead/nbdcopy
+chmod +x noted/nbdcopy dead/nbdcopy
+by() { # WAY COMMAND...: copies by nbdcopy, or by lines since there is no geli-nbd, or since nbdcopy ends
     case $1 in
         nbdcopy) PATH=$folder/noted:$PATH "${@:2}" ;;
         lines) GELI_NBD=none "${@:2}" ;;
-        failing) PATH=$folder/failing:$PATH "${@:2}" ;;
+        dead) PATH=$folder/dead:$PATH "${@:2}" ;;
     esac
 }
-ways='lines failing'
+ways='lines dead'
 if command -v nbdcopy >commands; then ways+=' nbdcopy'; else echo "not tried: copies by nbdcopy (not there)"; fi
 for way in $ways; do for image in a.img c.img; do
     head -c 400123 /dev/urandom >plain
@@ -121,7 +121,7 @@ for kind in '-s 512' '-s 4096 -e AES-CBC' '-s 65536' '-s 512 -a HMAC/SHA256' '-s
     bytes=$("$top/examples/geli-info.sh" --json odd.img | python3 -c \
         'import json, sys; facts = json.load(sys.stdin); print(facts["data_bytes"], facts["sector_bytes"])')
     width=${bytes#* } bytes=${bytes% *}
-    for way in ${ways/failing/}; do for short in 1 0 $((width - 1)) $((bytes / 2 + 77)); do
+    for way in ${ways/dead/}; do for short in 1 0 $((width - 1)) $((bytes / 2 + 77)); do
         size=$((bytes - short)) filled=$((bytes - short + (width - (bytes - short) % width) % width))
         head -c "$size" /dev/urandom >odd
         rm -f odd.before odd.after odd.out
@@ -597,6 +597,7 @@ EOS
         says "  and is served out of it" "$serve" -k key -j pass "$loop" sock 2>notes
         says "  of its size" test "$(nbdinfo --size "$uri")" = 4193792
         says "  and it ends" "$serve" -e sock 2>notes
+        says "  but it is no key file" test "$("$in" -k "$loop" -j pass pass a.img 2>&1 | grep -c 'is a disk, and no key')" = 1
         losetup -d "$loop"
     else
         echo "not tried: a partition of a disk image (no loop device)"

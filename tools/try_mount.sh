@@ -299,6 +299,21 @@ case_kernel() { # -K: the kernel's ext4
             says "  and is clean" is_clean k.img
         done
     done
+    local began took at wrong=0
+    began=$(date +%s%N)
+    up -K k.img
+    took=$(share "($(date +%s%N) - $began) / 10**9")
+    down
+    for ((at = 0; at < rounds; at++)); do
+        up -K k.img 2>/dev/null &
+        sleep "$(share "$at / $rounds * $took")"
+        kill -KILL $(process_of keeper) 2>/dev/null
+        wait
+        down
+        nothing_left k.img 5 || { wrong=$((wrong + 1)) && sweep && rm -rf run/*; }
+        is_clean k.img || { wrong=$((wrong + 1)) && echo "  at $at: $(tail -n 1 checked.out)"; }
+    done
+    says "SIGKILL to the keeper at $rounds moments of mounting by -K leaves nothing, and it is clean" test $wrong = 0
 }
 
 case_full() { # a full disk, that gets room again or not
@@ -474,6 +489,8 @@ case_damaged() { # a filesystem that is damaged, or was mounted by a kernel that
         "$make" -i 100 -J pass 90M j.img key j.backup 2>notes
         "$in" -k key -j pass crashed.raw j.img 2>notes
         says "  (a journal must be played)" grep -q needs_recovery <(dumpe2fs -h crashed.raw 2>&1)
+        says "a kernel's journal isn't played by -r" test "$(up -r j.img; echo $?)" = 1
+        says "  which tells what to give" told '^without -r it is mounted'
         says "a kernel's journal is played" up j.img
         says "  and the file is there" grep -q kernel files/kernel
         says "  and it ends" down
@@ -558,6 +575,10 @@ EOS
     says "a mount whose asking was killed doesn't keep the next one off" up i.img
     says "  which ends" down
     says "  and nothing is left" nothing_left i.img
+    state=$folder/mounts/$(printf %s "$folder/files" | sha256sum | cut -c1-16)
+    mkdir "$state" && : >"$state/keeper.new"
+    says "one that was killed once its folder was made" test "$(down; echo $?)" = 1
+    says "  leaves nothing behind -u" nothing_left i.img
 }
 
 case_by_hand() {
@@ -735,7 +756,7 @@ round() {
     local targets
     cp --sparse=always i.made i.img
     head -c 50000 /dev/urandom >new
-    used &
+    used 2>/dev/null &
     sleep "$3"
     if [ "$2" = all ]; then targets=$(behind); else targets=$(process_of "$2"); fi
     # shellcheck disable=SC2086

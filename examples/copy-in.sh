@@ -7,9 +7,9 @@
 # -p says that there is none. With -c the sectors are read again afterwards and compared.
 # Where SOURCE ends within a sector, the rest of that sector becomes zeros.
 #
-# It works in pieces of up to 131,072 bytes over one `geli script`, some lines ahead of the replies, and says how far
-# it is on standard error. It answers 0 only where all was written and flushed. If it is broken off, some sectors
-# are new and some old: give it again.
+# It works by nbdcopy(1) over geli-nbd(8) where both are there, and else, or where they fail, in pieces of up to 131,072
+# bytes over one `geli script`, some lines ahead of the replies. It says how far it is on standard error. It answers 0
+# only where all was written and flushed. If it is broken off, some sectors are new and some old: give it again.
 set -euo pipefail
 # shellcheck source=lib.sh
 . "$(dirname -- "$(readlink -f -- "${BASH_SOURCE[0]}")")/lib.sh"
@@ -33,55 +33,126 @@ image_is_there written
 for file in "${files[@]}"; do [ ! "$source" -ef "$file" ] || fail "'$source' and '$file' are one file"; done
 key_ready
 
-python_part "$source" "$image" "$check" "${key[*]}" "$2" <<'PY'
+python_part "$source" "$image" "$check" "${key[*]}" "$2" "$(nbdcopy_over)" <<'PY'
+import contextlib
 import hashlib
-from lib import REQUEST, Failed, Progress, Session, called, length_of, note, run
+import sys
+from lib import REQUEST, Failed, Progress, Session, called, length_of, note, run, sizes_by_dump
+from nbd_copy import copied_in, pieces_out
+
+DIFFERS = "what is read differs from what was written"
 
 
-def copy_in(geli, source, image, check, key, name):
-    size = length_of(source)
-    session = Session(geli, image)
-    session.attach(key)
-    width = session.width
-    count = -(-size // width)
-    if count > session.sectors:
-        room = session.sectors * width
-        raise Failed(f"{source} has {size} bytes, the provider has room for {room}: nothing was written")
-    progress = Progress(2 * size if check else size)
-    whole = hashlib.sha256()
+class CopyIn:
+    """A plain file that goes into a provider."""
 
-    def pieces(file):
+    def __init__(self, geli, source, image, check, key, name):
+        self.geli, self.source, self.image, self.check, self.key, self.name = geli, source, image, check, key, name
+        self.size = length_of(source)
+        self.progress = Progress(2 * self.size if check else self.size)
+
+    @contextlib.contextmanager
+    def halfway(self):
+        """What is broken off in it leaves some sectors written, which is told."""
+        try:
+            yield
+        except (Failed, OSError, KeyboardInterrupt):
+            note(f"{self.name}: some sectors are as before and some as in {self.source}: give this again")
+            raise
+
+    def by_nbdcopy(self, program, width):
+        """Copies by nbdcopy; whether that went well, and None where nothing can have been written."""
+        if sys.stderr.isatty():
+            note("deriving the key ...")
+        with self.halfway():
+            done = self.fill_up(width) if self.size % width else True
+            if done:
+                done = copied_in(program, self.key.split(" "), self.source, self.image,
+                                 lambda percent: self.progress.at(self.size * percent // 100))
+        if done and self.check:
+            self.compare(pieces_out(program, self.key.split(" "), self.image, self.size))
+        return done
+
+    def fill_up(self, width):
+        """Writes the last sector, with zeros behind the end of the file: nbdcopy leaves what stands there."""
+        session = Session(self.geli, self.image)
+        is_attached = False
+        try:
+            session.must("attach", self.key, self.image)
+            is_attached = True
+            session.look()
+            with open(self.source, "rb") as file:
+                file.seek(self.size // width * width)
+                session.write(self.size // width, file.read(self.size % width) + bytes(-self.size % width))
+            session.must("detach", self.image)
+            return session.end() == 0
+        except Failed:
+            session.end()
+            return False if is_attached else None
+
+    def compare(self, pieces):
+        """Compares the file with what is read again."""
+        got = 0
+        with open(self.source, "rb") as file:
+            for piece in pieces:
+                if piece != file.read(len(piece)):
+                    raise Failed(DIFFERS)
+                got += len(piece)
+                self.progress.at(self.size + got)
+        if got < self.size:
+            raise Failed(f"after {got} bytes nothing more could be read again")
+
+    def by_lines(self, is_begun):
+        """Copies by lines of `geli script`; the bytes of a sector."""
+        session = Session(self.geli, self.image)
+        with self.halfway() if is_begun else contextlib.nullcontext():
+            session.attach(self.key)
+        width, room = session.width, session.sectors * session.width
+        if self.size > room:
+            raise Failed(f"{self.source} has {self.size} bytes, the provider has room for {room}: nothing was written")
+        whole = hashlib.sha256()
+        with self.halfway():
+            with open(self.source, "rb") as file:
+                session.write_pieces(self.pieces(file, width, whole))
+            session.must("flush", self.image)
+        if self.check:
+            back, got = hashlib.sha256(), self.size
+            for piece in session.read_pieces(0, -(-self.size // width)):
+                back.update(piece)
+                got += len(piece)
+                self.progress.at(got)
+            if back.digest() != whole.digest():
+                raise Failed(DIFFERS)
+        session.must("detach", self.image)
+        if session.end() != 0:
+            raise Failed("geli ended with another status than 0")
+        return width
+
+    def pieces(self, file, width, whole):
+        """Gives the first sector and the bytes of each line, the last ones with zeros behind the end of the file."""
+        count = -(-self.size // width)
         for at in range(0, count, REQUEST // width):
             some = min(REQUEST // width, count - at)
-            wanted = min(some * width, size - at * width)
+            wanted = min(some * width, self.size - at * width)
             piece = file.read(wanted)
             if len(piece) < wanted:
-                raise Failed(f"{source} became shorter meanwhile")
+                raise Failed(f"{self.source} became shorter meanwhile")
             piece += bytes(-len(piece) % width)
             whole.update(piece)
             yield at, piece
-            progress.at((at + some) * width)
+            self.progress.at((at + some) * width)
 
-    try:
-        with open(source, "rb") as file:
-            session.write_pieces(pieces(file))
-        session.must("flush", image)
-    except (Failed, OSError, KeyboardInterrupt):
-        note(f"{name}: some sectors are as before and some as in {source}: give this again")
-        raise
-    if check:
-        back, got = hashlib.sha256(), size
-        for piece in session.read_pieces(0, count):
-            back.update(piece)
-            got += len(piece)
-            progress.at(got)
-        if back.digest() != whole.digest():
-            raise Failed("what is read differs from what was written")
-    session.must("detach", image)
-    if session.end() != 0:
-        raise Failed("geli ended with another status than 0")
-    progress.end(f"{size} bytes in {count} sectors of {width} bytes" + (", read again" if check else ""))
-    note(f"{called('copy-out')} -b {size} gives them back")
+    def end(self, width):
+        self.progress.end(f"{self.size} bytes in {-(-self.size // width)} sectors of {width} bytes"
+                          + (", read again" if self.check else ""))
+        note(f"{called('copy-out')} -b {self.size} gives them back")
+
+
+def copy_in(geli, source, image, check, key, name, program):
+    copy = CopyIn(geli, source, image, check, key, name)
+    width, sectors = sizes_by_dump(geli, image) if program else (0, 0)
+    done = copy.by_nbdcopy(program, width) if 0 < copy.size <= width * sectors else None
+    copy.end(width if done else copy.by_lines(done is False))
 
 
 run(copy_in)

@@ -7,9 +7,10 @@
 # length of the file that was copied in; without it the whole provider is copied. The passphrase is asked for; -j names
 # a file whose first line it is, -p says that there is none. The image isn't changed.
 #
-# It works in pieces of up to 131,072 bytes over one `geli script`, some lines ahead of the replies, and says how far
-# it is on standard error. Until all is read and synced the file is called TARGET.part, and it stays so where a
-# sector can't be read, or the copy is broken off.
+# It works by nbdcopy(1) over geli-nbd(8) where both are there, and else, or where they fail, in pieces of up to 131,072
+# bytes over one `geli script`, some lines ahead of the replies. It says how far it is on standard error. Until all is
+# read and synced the file is called TARGET.part, and it stays so where a sector can't be read, or the copy is broken
+# off.
 set -euo pipefail
 # shellcheck source=lib.sh
 . "$(dirname -- "$(readlink -f -- "${BASH_SOURCE[0]}")")/lib.sh"
@@ -33,30 +34,29 @@ image_is_there
 absent "$target" "$target.part"
 key_ready
 
-python_part "$image" "$target" "$bytes" "${key[*]}" <<'PY'
+python_part "$image" "$target" "$bytes" "${key[*]}" "$(nbdcopy_over)" <<'PY'
 import os
-from lib import Failed, Progress, Session, note, run
+from lib import Failed, Progress, note, run
+from nbd_copy import Reader
 
 
-def copy_out(geli, image, target, size, key):
-    session = Session(geli, image)
-    session.attach("-r", key)
-    room = session.sectors * session.width
+def copy_out(geli, image, target, size, key, program):
+    reader = Reader(geli, program, image, key)
     if not size:
-        note(f"all {room} bytes of the provider are copied (-b: only the first ones)")
-    size = int(size) if size else room
-    if size > room:
-        raise Failed(f"the provider has {room} bytes, fewer than {size}")
+        note(f"all {reader.room} bytes of the provider are copied (-b: only the first ones)")
+    size = int(size) if size else reader.room
+    if size > reader.room:
+        raise Failed(f"the provider has {reader.room} bytes, fewer than {size}")
     disk = os.statvfs(os.path.dirname(target) or ".")
     if size > disk.f_bavail * disk.f_frsize:
         raise Failed(f"{size} bytes are to be copied, and the disk of {target} has room for"
                      f" {disk.f_bavail * disk.f_frsize} (-b: only the first ones)")
     progress = Progress(size)
+    pieces = reader.pieces(size)
     got = 0
     with open(target + ".part", "xb") as file:
         try:
-            for piece in session.read_pieces(0, -(-size // session.width)):
-                piece = piece[:size - got]
+            for piece in pieces:
                 file.write(piece)
                 got += len(piece)
                 progress.at(got)
@@ -65,9 +65,7 @@ def copy_out(geli, image, target, size, key):
         except (Failed, OSError, KeyboardInterrupt):
             note(f"{target}.part has the {got} bytes before, in the clear: remove it, and give this again")
             raise
-    session.must("detach", image)
-    if session.end() != 0:
-        raise Failed("geli ended with another status than 0")
+    reader.end()
     os.rename(target + ".part", target)
     progress.end(f"{size} bytes")
 

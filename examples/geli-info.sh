@@ -42,7 +42,7 @@ fi
 python_part "$rows" "$1" "$opens" "$json" "$has_passphrase" <<'PY'
 import json
 import sys
-from lib import TAGGED, fields_of, is_tagged, run
+from lib import fields_of, is_tagged, run, sizes_of
 
 CIPHERS = {"11": "AES-CBC", "22": "AES-XTS"}
 CODES = {"18": "HMAC/SHA256", "19": "HMAC/SHA384", "20": "HMAC/SHA512"}
@@ -54,8 +54,7 @@ FLAGS = {0: "onetime", 1: "boot", 2: "wo-detach", 3: "rw-detach", 4: "auth", 5: 
 def facts_of(fields, name, opens):
     flags = int(fields["flags"], 16)
     tagged = is_tagged(fields)
-    size, width = int(fields["provsize"]), int(fields["sectorsize"])
-    units = (width - 1) // TAGGED.get(fields["aalgo"], 480) + 1 if tagged else width // 512
+    width, sectors = sizes_of(fields)
     iterations, keys = int(fields["iterations"]), int(fields["keys"], 16)
     facts = {
         "image": name,
@@ -63,10 +62,10 @@ def facts_of(fields, name, opens):
         "cipher": CIPHERS.get(fields["ealgo"], f"number {fields['ealgo']}"),
         "key_bits": int(fields["keylen"]),
         "authentication": CODES.get(fields["aalgo"], f"number {fields['aalgo']}") if tagged else None,
-        "provider_bytes": size,
+        "provider_bytes": int(fields["provsize"]),
         "sector_bytes": width,
-        "sectors": (size - 512) // (512 * units),
-        "data_bytes": (size - 512) // (512 * units) * width,
+        "sectors": sectors,
+        "data_bytes": sectors * width,
         "slots_with_keys": [slot for slot in (0, 1) if keys >> slot & 1],
         "iterations": iterations if iterations >= 0 else None,
         "flags": [FLAGS.get(bit, f"bit {bit}") for bit in range(32) if flags >> bit & 1],

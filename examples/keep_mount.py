@@ -13,8 +13,9 @@ it starts, so that a signal to all leaves the writing to those who write.
 
 A mount has a folder (STATE). Its files are `result`, which the one who keeps the mount holds a lock of, and where in
 the end a status and words stand; `device` and `files`, of which the programs behind the device and those over it hold
-locks while they run; `up`, once it is mounted; `ended`, where the server says how it ended; `keeper`, the number of a
-process; `private`, the folder of the passphrase; and the folder `disk`, where the device is.
+locks while they run; `begun`, with what is mounted, from before that; `up`, once it is; `waits`, with what hinders its
+end; `ended`, where the server says how it ended; `keeper`, the number of a process; `private`, the folder of the
+passphrase; and the folder `disk`, where the device is.
 """
 import collections
 import contextlib
@@ -32,7 +33,7 @@ import threading
 import time
 from pathlib import Path
 
-from lib import Failed, files_of, name_of, note
+from lib import Failed, files_of, name_of, note, seen
 
 SIGNALS = {signal.SIGTERM, signal.SIGINT, signal.SIGHUP}
 BLOCKED = SIGNALS | {signal.SIGCHLD}
@@ -42,6 +43,8 @@ EXT = ("ext2", "ext3", "ext4")
 MAKE = ("mke2fs", "-q", "-F", "-t", "ext4", "-b", "4096", "-E", "nodiscard")
 FOR_FUSE2FS = ("-O", "^extent,^64bit,^metadata_csum")
 PACKAGES = {"fuse2fs": "fuse2fs", "grub-mount": "grub-common"}
+REFUSED = re.compile(": (write|write-zeroes|flush): command failed: ")  # libnbd says it of what a server refused
+NEEDS_JOURNAL = "Journal needs recovery"  # fuse2fs says it where it may not write
 JOURNAL = "Writing to the journal is not supported."  # fuse2fs says it of each ext4 that has one
 NEW = 1 << 20  # bytes that are zeros at the beginning of a provider, or a file, where nobody wrote to it yet
 AT_REST = 3.0  # seconds after which what was written is synced, though nobody asks
@@ -62,15 +65,33 @@ def server(words, ended):
 # What is mounted, and who uses it.
 
 
+class Mounted:
+    """A row of mountinfo (proc(5)): the number of the mount, as 0:52, its folder, its type, and what it is of."""
+
+    def __init__(self, row):
+        fields, _, rest = row.partition(" - ")
+        self.number, self.folder = fields.split(" ")[2], self.plain(fields.split(" ")[4])
+        self.kind, self.source = map(self.plain, rest.split(" ")[:2])
+
+    @staticmethod
+    def plain(field):
+        return re.sub(r"\\([0-7]{3})", lambda code: chr(int(code[1], 8)), field)
+
+
+def mounts(process="self"):
+    with open(f"/proc/{process}/mountinfo", encoding="utf-8", errors="surrogateescape") as rows:
+        return [Mounted(row) for row in rows]
+
+
+def top_of(folder):
+    """What is mounted on a folder, above all else there; None where nothing is."""
+    return next((it for it in reversed(mounts()) if it.folder == str(folder)), None)
+
+
 def mount_of(folder):
-    """The number of what is mounted on a folder, as 0:52; None where nothing is."""
-    found = None
-    with open("/proc/self/mountinfo", encoding="utf-8", errors="surrogateescape") as rows:
-        for row in rows:
-            fields = row.split(" ")
-            if re.sub(r"\\([0-7]{3})", lambda code: chr(int(code[1], 8)), fields[4]) == str(folder):
-                found = fields[2]
-    return found
+    """The number of what is mounted on a folder; None where nothing is."""
+    top = top_of(folder)
+    return top and top.number
 
 
 def processes():
@@ -94,8 +115,7 @@ def has_elsewhere(process, number):
     """Whether a process of another mount namespace has this mount too."""
     with contextlib.suppress(OSError):
         if os.readlink(f"/proc/{process}/ns/mnt") != os.readlink("/proc/self/ns/mnt"):
-            with open(f"/proc/{process}/mountinfo", encoding="utf-8", errors="surrogateescape") as rows:
-                return any(row.split(" ")[2] == number for row in rows)
+            return any(it.number == number for it in mounts(process))
     return False
 
 
@@ -113,13 +133,20 @@ def unmount_by(*words):
 
 def abort(number):
     """Ends a mount of FUSE in all mount namespaces: its program then ends as it does by an unmount."""
+    major, minor = number.split(":")
     with contextlib.suppress(OSError):
-        Path(f"{CONNECTIONS}/{number.split(':')[1]}/abort").write_text("1")
+        if major == "0":  # that of a disk has no connection, or another's
+            Path(f"{CONNECTIONS}/{minor}/abort").write_text("1")
 
 
-def has_loop(file):
-    """Whether a loop device stands over a file."""
-    return any(path.read_text().strip() == str(file) for path in Path("/sys/block").glob("loop*/loop/backing_file"))
+def loops_over(file):
+    """The loop devices over a file."""
+    found = []
+    for path in Path("/sys/block").glob("loop*/loop/backing_file"):
+        with contextlib.suppress(OSError):  # it may go meanwhile
+            if path.read_text(errors="surrogateescape").strip() == str(file):
+                found.append(f"/dev/{path.parts[3]}")
+    return found
 
 
 def is_zeros(path):
@@ -149,7 +176,8 @@ class State:
         self.path = Path(path)
         self.disk = self.path / "disk"
         self.nbd = self.disk / "nbd"
-        self.result, self.up, self.ended = self.path / "result", self.path / "up", self.path / "ended"
+        self.result, self.ended = self.path / "result", self.path / "ended"
+        self.begun, self.up, self.waits = self.path / "begun", self.path / "up", self.path / "waits"
         self.device, self.files = self.path / "device", self.path / "files"
         self.keeper, self.private = self.path / "keeper", self.path / "private"
 
@@ -173,16 +201,34 @@ class State:
 
     def remove(self):
         """Removes it, with what is in it; nobody claims it meanwhile. A device that is mounted stays."""
+        with self.unclaimed():
+            self.remove_files()
+
+    def remove_rest(self):
+        """Removes what somebody left of it who was killed while he made or removed it: no result is there."""
+        with contextlib.suppress(FileNotFoundError), self.unclaimed():
+            if self.path.exists() and not self.result.exists():
+                self.remove_files()
+
+    @contextlib.contextmanager
+    def unclaimed(self):
+        """Nobody claims a folder of a mount meanwhile."""
         top = os.open(self.path.parent, os.O_RDONLY)
-        fcntl.flock(top, fcntl.LOCK_EX)
+        try:
+            fcntl.flock(top, fcntl.LOCK_EX)
+            yield
+        finally:
+            os.close(top)
+
+    def remove_files(self):
         self.remove_private()
         with contextlib.suppress(OSError):
             self.disk.rmdir()
-        for file in self.device, self.files, self.up, self.ended, self.keeper, self.private, self.result:
-            file.unlink(missing_ok=True)
         with contextlib.suppress(OSError):
+            for file in sorted(self.path.iterdir(), key=lambda file: file == self.result):  # the claim goes last
+                if file != self.disk:
+                    file.unlink(missing_ok=True)
             self.path.rmdir()
-        os.close(top)
 
 
 def is_held(file):
@@ -226,8 +272,11 @@ class Program:
             self.process = subprocess.Popen(
                 list(map(str, command)), stdin=subprocess.DEVNULL, stdout=subprocess.PIPE, stderr=subprocess.STDOUT,
                 errors="replace", cwd="/", preexec_fn=in_child, restore_signals=False, pass_fds=[held.fileno()], **how)
-        self.reader = threading.Thread(target=self.lines.extend, args=(self.process.stdout,), daemon=True)
+        self.reader = threading.Thread(target=self.read, daemon=True)
         self.reader.start()
+
+    def read(self):
+        self.lines.extend(self.process.stdout)
 
     def runs(self):
         return self.process.poll() is None
@@ -236,6 +285,32 @@ class Program:
         """Its last lines; all of them, where it has ended."""
         self.reader.join(0 if self.runs() else 2)
         return "".join(self.lines).strip()
+
+
+class Device(Program):
+    """nbdfuse, which says a line of each request that the server refused: who uses a filesystem need not hear of it."""
+
+    def __init__(self, command, lock, files):
+        self.files = files  # of the image
+        self.refused, self.first = 0, ""
+        super().__init__(command, lock, start_new_session=True)
+
+    def read(self):
+        for line in self.process.stdout:
+            self.lines.append(line)
+            if REFUSED.search(line):
+                self.refused += 1
+                self.first = self.first or self.moment()
+
+    def moment(self):
+        """When the first was refused, and why, as far as that can be seen."""
+        why = next(filter(None, (seen(file, is_ours=True) for file in self.files)), "")
+        return time.strftime("%H:%M:%S") + f" ({why})" * bool(why)
+
+    def tells(self):
+        """What it heard, where a write or a flush was refused."""
+        how_many = "once, at" if self.refused == 1 else f"{self.refused} times, the first at"
+        return f"a write or a flush was refused {how_many} {self.first}" if self.refused else ""
 
 
 class Keeper:
@@ -297,7 +372,7 @@ class Keeper:
         self.say("step", "opening the provider: its key is derived")
         command = ["nbdfuse", *["-r"] * self.reads_only, self.state.disk, "--command",
                    *server(self.words, self.state.ended)]
-        self.device = Program(command, self.state.device, start_new_session=True)
+        self.device = Device(command, self.state.device, self.files)
         while not os.path.exists(self.state.nbd):
             self.pause(0.05)
             if self.ends:
@@ -374,6 +449,8 @@ class Keeper:
                                  " was allocated ahead (as root, -K mounts it by the kernel)")
         self.go_on()
         self.say("step", "mounting it")
+        self.reads_only = self.reads_only or (self.kind not in EXT and "K" not in self.options)
+        self.state.put(self.state.begun, f"{self.kind} {'r' if self.reads_only else 'w'}{'K' * ('K' in self.options)}")
         if "K" in self.options:
             self.mount_by_kernel()
         else:
@@ -393,24 +470,22 @@ class Keeper:
             command = ["fuse2fs", "-f", self.state.nbd, self.folder, "-o", f"fakeroot{reads_only}"]
         else:
             command = ["grub-mount", self.state.nbd, self.folder, "--", "-f"]
-            self.reads_only = True
         need(command[0])
         self.program = Program(command, self.state.files)
         while not mount_of(self.folder):
             self.pause(0.05)
             if not self.program.runs():
                 said = self.program.said().replace(str(self.state.nbd), self.words["name"])
-                raise Failed(f"{command[0]}: {said}")
+                plays = NEEDS_JOURNAL in said
+                raise Failed(f"{command[0]}: {said}" + "\nwithout -r it is mounted, and the journal played" * plays)
 
     def tell_mounted(self):
         """Says what the filesystem's program warned of, and that it is mounted."""
         for line in list(self.program.lines) if self.program else []:
             if JOURNAL not in line:
                 self.say("note", line.strip().replace(str(self.state.nbd), self.words["name"]))
-        ending = "to be read alone" if self.reads_only else ""
-        options = ("r" if self.reads_only else "w") + "K" * ("K" in self.options)
-        self.state.put(self.state.up, f"{self.kind} {self.number} {options}")
-        self.say("up", f"its {self.kind} is mounted on {self.folder}{', ' * bool(ending)}{ending}")
+        self.state.put(self.state.up, self.number)
+        self.say("up", f"its {self.kind} is mounted on {self.folder}" + ", to be read alone" * self.reads_only)
 
     def sync_at_rest(self):
         """Syncs the image again and again, where it was written to: fuse2fs asks for that by fsync(2) alone."""
@@ -425,7 +500,7 @@ class Keeper:
                     synced = written
 
     def is_up(self):
-        return self.program.runs() if self.program else has_loop(self.state.nbd)
+        return self.program.runs() if self.program else bool(loops_over(self.state.nbd))
 
     def wait(self):
         """Waits until the filesystem's program has ended; a signal unmounts it."""
@@ -456,8 +531,10 @@ class Keeper:
         if not self.number:
             return
         said = self.state.text(self.state.ended)
+        if said.startswith("a write or a flush was refused"):
+            said = self.device and self.device.tells() or said
         if not said:
-            tail = self.device.said() if isinstance(self.device, Program) else ""
+            tail = self.device.said() if self.device else ""
             self.problem = self.problem or (
                 f"a program behind it has died: what was written since the last flush may be lost {tail}".strip())
         elif said != "ok":
@@ -475,13 +552,19 @@ class Keeper:
             return False
 
     def unmount_filesystem(self):
-        """Waits for the end of all programs over the device. One that mounts only now, since the keeper was killed, is
-        unmounted, and so is what a program has left that was killed."""
-        while is_used(self.state.files) or (self.number and mount_of(self.folder) == self.number):
+        """Waits for the end of all programs over the device, and of the kernel's loop. One that mounts only now, since
+        the keeper was killed, is unmounted, and so is what a program has left that was killed."""
+        while (is_used(self.state.files) or (self.number and mount_of(self.folder) == self.number)
+               or ("K" in self.options and loops_over(self.state.nbd))):
             self.number = self.number or mount_of(self.folder)
             if self.number and mount_of(self.folder) == self.number:
-                self.unmount("-z")
+                self.hindered(self.unmount("-z"))
             time.sleep(0.1)
+
+    def hindered(self, said):
+        """Notes what a program said that couldn't unmount, for whom waits meanwhile."""
+        if said:
+            self.state.put(self.state.waits, said)
 
     def unmount_device(self):
         """Unmounts the device, also one that comes only now, and waits for its server. Where another mount namespace
@@ -490,7 +573,7 @@ class Keeper:
         while mount_of(self.state.disk) or is_used(self.state.device):
             if mount_of(self.state.disk):
                 number, since = mount_of(self.state.disk), time.monotonic()
-                self.problem = unmount_by("fusermount3", "-uz", self.state.disk) or self.problem
+                self.hindered(unmount_by("fusermount3", "-uz", self.state.disk))
             elif number and "K" not in self.options and time.monotonic() - since > GRACE:
                 abort(number)
             time.sleep(0.1)
@@ -617,8 +700,8 @@ def mount(words):
 
 def ask(state, folder, forced):
     """Asks the keeper of a mount for its end."""
-    kind = state.text(state.up)
-    if not kind:
+    number = state.text(state.up)
+    if not number:
         with contextlib.suppress(OSError, ValueError):
             os.kill(int(state.text(state.keeper)), signal.SIGTERM)
         return
@@ -632,52 +715,49 @@ def ask(state, folder, forced):
     if forced and not os.path.ismount(CONNECTIONS):
         note(f"-f needs the kernel's list of mounts: mount -t fusectl fusectl {CONNECTIONS}")
     if forced:
-        abort(kind.split(" ")[1])
+        abort(number)
 
 
 def unmount_folder(folder):
     """Unmounts what is on a folder; what was said where that couldn't be done, else nothing."""
-    if not mount_of(folder):
+    top = top_of(folder)
+    if not top:
         return ""
-    is_fuse = any(f" - fuse" in row for row in rows_of(folder))
-    return unmount_by("fusermount3", "-u", folder) if is_fuse else unmount_by("umount", folder)
-
-
-def rows_of(folder):
-    number = mount_of(folder)
-    with open("/proc/self/mountinfo", encoding="utf-8", errors="surrogateescape") as rows:
-        return [row for row in rows if row.split(" ")[2] == number]
+    return unmount_by("fusermount3", "-u", folder) if top.kind.startswith("fuse") else unmount_by("umount", folder)
 
 
 def wait_for_result(state, result, folder):
     """Waits until nobody keeps the mount; says what it waits for."""
-    number, began, is_told = state.text(state.up).split(" ")[1:2], time.monotonic(), False
+    number, began, is_told = state.text(state.up), time.monotonic(), False
     while is_held(result):
         if not is_told and time.monotonic() - began > 3:
             is_told = True
-            others = [it for it in processes() if number and has_elsewhere(it, number[0])]
+            others = [it for it in processes() if number and has_elsewhere(it, number)]
+            said = state.text(state.waits)
             note(f"{folder}: waiting for {named(others)}, of another mount namespace, which has the mount too"
-                 " (-u -f ends it)" if others else f"{folder}: waiting for the disk")
+                 " (-u -f ends it)" if others else f"{folder}: waiting for the disk" + f": {said}" * bool(said))
         time.sleep(0.05)
 
 
 def number_over(device, folder):
     """The number of what is mounted on a folder from a device, where nobody has noted it yet; None where nothing is."""
-    return next((row.split(" ")[2] for row in rows_of(folder) if f" {device} " in row), None)
+    top = top_of(folder)
+    return top.number if top and top.source in (str(device), *loops_over(device), "grub-mount") else None
 
 
 def recover(state, folder):
     """Takes down what a keeper left that was killed; nothing, or what went wrong."""
-    kind, number, options = (state.text(state.up) or " None ").split(" ")
+    kind, _, options = state.text(state.begun).partition(" ")
+    was_up = state.text(state.up)
     keeper = Keeper({"state": state.path, "folder": folder, "options": options}, lambda *_: None)
-    keeper.kind, keeper.number = kind, number if kind else number_over(state.nbd, folder)
+    keeper.kind, keeper.number = kind, was_up or number_over(state.nbd, folder)
     if mount_of(folder) and mount_of(folder) == keeper.number:
         said = unmount_folder(folder)
         if said and mount_of(folder) and "not connected" not in said:
             raise Failed(f"'{folder}' stays mounted: {said}\nleave it, and give this again")
     state.remove_private()
     keeper.take_down()
-    return keeper.problem if kind else "its keeper had died before it was mounted"
+    return keeper.problem if was_up else "its keeper had died before it was mounted"
 
 
 def unmount(words):
@@ -689,6 +769,7 @@ def unmount(words):
     try:
         result = open(state.result, "r+", errors="surrogateescape")
     except FileNotFoundError:
+        state.remove_rest()
         raise Failed(f"nothing was mounted on '{folder}' by this script") from None
     with result:
         if is_held(result):

@@ -101,8 +101,9 @@ def told(reply, files=(), own=None):
     return f"{reply}: {found or CAUSES.get(number, 'see DIAGNOSTICS in geli(8)')}"
 
 
-def seen(path, own=None):
-    """Why an image can't be opened, locked or written, if that can be seen. The process `own` may hold it."""
+def seen(path, own=None, is_ours=False):
+    """Why an image can't be opened, locked or written, if that can be seen. The process `own` may hold it; where it is
+    ours, so may any."""
     try:
         state = os.stat(path)
         disk = os.statvfs(path)
@@ -110,7 +111,7 @@ def seen(path, own=None):
         return failed.strerror
     if stat.S_ISDIR(state.st_mode):
         return "it is a folder"
-    holder = holder_of(state, own)
+    holder = None if is_ours else holder_of(state, own)
     if holder:
         return f"process {holder} holds it ({name_of(holder)})"
     if not os.access(path, os.R_OK):
@@ -170,6 +171,19 @@ def fields_of(rows):
 def is_tagged(fields):
     """Whether the metadata are of an authenticated provider."""
     return bool(int(fields["flags"], 16) & 0x10)
+
+
+def sizes_of(fields):
+    """The bytes of a logical sector of a provider with these metadata, and how many sectors there are."""
+    width = int(fields["sectorsize"])
+    units = (width - 1) // TAGGED.get(fields["aalgo"], 480) + 1 if is_tagged(fields) else width // 512
+    return width, (int(fields["provsize"]) - 512) // (512 * units)
+
+
+def sizes_by_dump(geli, image):
+    """The same of an image, without a key; zeros where its metadata can't be read."""
+    dump = subprocess.run([geli, "dump", image], stdout=subprocess.PIPE, check=False).stdout.decode()
+    return sizes_of(fields_of(row for row in dump.split("\n") if ": " in row)) if "sectorsize: " in dump else (0, 0)
 
 
 def ranges(numbers):

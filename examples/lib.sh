@@ -39,14 +39,18 @@ at_end() {
 trap at_end EXIT
 trap 'exit 130' INT TERM HUP
 
-# A folder for passphrases, in memory where the system has such a place. It goes away when the script ends.
+# private_folder [FILE]: a folder for passphrases, in memory where the system has such a place. It goes away when the
+# script ends. FILE gets its name before it is there, so that who comes after a kill can remove it.
+# shellcheck disable=SC2120 # one script gives it
 private_folder() {
     local top
     [ -z "$private" ] || return 0
     for top in "${XDG_RUNTIME_DIR:-}" /dev/shm "${TMPDIR:-/tmp}"; do
         # Its name is part of words of a script.
         if [ -n "$top" ] && [ -d "$top" ] && [ -w "$top" ] && [[ $top != *[[:space:]:]* ]]; then
-            private=$(mktemp -d "$top/geli.XXXXXXXX") || fail "no private folder in $top"
+            private=$(mktemp -u "$top/geli.XXXXXXXXXX")
+            [ -z "${1:-}" ] || printf '%s\n' "$private" >"$1"
+            mkdir -- "$private" || { private='' && fail "no private folder in $top"; }
             return
         fi
     done
@@ -184,6 +188,14 @@ need() {
         esac
         fail "the program '$name' isn't there${package:+ ($package)}"
     done
+}
+
+# nbdcopy_over: prints the program that serves nbdcopy, where both are there.
+nbdcopy_over() {
+    if command -v nbdcopy >/dev/null && command -v "$GELI_NBD" >/dev/null; then
+        # Where it is the launcher of a clone it is built now, where that can be told.
+        if "$GELI_NBD" --version </dev/null >/dev/null; then command -v "$GELI_NBD"; fi
+    fi
 }
 
 # The refusal in `reply`, and its cause as far as it can be seen at the image.

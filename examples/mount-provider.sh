@@ -147,8 +147,7 @@ if [[ $options = *M* ]]; then
     note "$1: the files in it will be lost"
     sure_of "$1" 'make an ext4 over them'
 fi
-private_folder
-printf '%s\n' "$private" >"$state/private"
+if [ -n "$private" ]; then printf '%s\n' "$private" >"$state/private"; else private_folder "$state/private"; fi
 key_ready
 [[ $options = *r* ]] || tell_shortage "$1"
 # From here on the keeper removes what there is.

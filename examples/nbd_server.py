@@ -9,12 +9,14 @@ partition nbdkit(1) stands between, with its filter and its plugin nbd, and has 
 In the second form nbdkit stands between for the clients of a socket, so that the key is derived once. It answers once
 the provider is attached and the socket is there, and runs on in the background; `pid` has its number. SIGTERM, SIGINT
 or SIGHUP to it let nobody new in, and end the server once nobody is connected: `clients` has the numbers of the
-processes that are, a line for each, 0 where that isn't known. Where it is killed nbdkit and geli-nbd end too.
+processes that are, a line for each, 0 where that isn't known. Those signals to nbdkit and geli-nbd do nothing. Where it
+is killed they end too.
 
 `ended` gets `ok` in the end, or what went wrong. geli-nbd flushes the provider however its client ends, and its status
 tells whether any write or flush was refused.
 """
 import contextlib
+import ctypes
 import os
 import signal
 import socket
@@ -25,6 +27,7 @@ from pathlib import Path
 
 from lib import Failed, files_of, note, seen, told
 
+LIBC, PR_SET_PDEATHSIG = ctypes.CDLL(None), 1
 SIGNALS = {signal.SIGTERM, signal.SIGINT, signal.SIGHUP}
 CONNECTED = "03"  # of a row of /proc/net/unix
 STATUSES = {
@@ -62,9 +65,9 @@ def in_child():
 
 
 def in_nbdkit():
-    """In nbdkit for a socket: SIGTERM ends it, also where this process is killed."""
-    signal.pthread_sigmask(signal.SIG_BLOCK, SIGNALS - {signal.SIGTERM})
-    signal.pthread_sigmask(signal.SIG_UNBLOCK, {signal.SIGTERM})
+    """In nbdkit for a socket: it would refuse its clients after a SIGTERM. It ends with this process."""
+    in_child()
+    LIBC.prctl(PR_SET_PDEATHSIG, signal.SIGKILL)
 
 
 class Server:
@@ -158,7 +161,7 @@ def serve_socket(server):
         return 0
     signal.pthread_sigmask(signal.SIG_BLOCK, SIGNALS | {signal.SIGCHLD})
     words, path = server.words, server.words["socket"]
-    server.start_behind_nbdkit(in_nbdkit, "-f", "--exit-with-parent", "-U", path)
+    server.start_behind_nbdkit(in_nbdkit, "-f", "-U", path)
     while server.nbdkit and server.nbdkit.poll() is None and not os.path.exists(path):
         time.sleep(0.02)
     if not server.nbdkit or server.nbdkit.poll() is not None:
@@ -191,8 +194,9 @@ def wait_for_end(server, place):
             break
         if ends:
             put(server.words["clients"], "\n".join(place.processes()))
-    Path(server.words["clients"]).unlink(missing_ok=True)
-    server.nbdkit.terminate()
+    for name in server.words["clients"], place.path:
+        Path(name).unlink(missing_ok=True)
+    server.nbdkit.kill()  # nobody is connected; the server flushes the provider
 
 
 def main(*words):

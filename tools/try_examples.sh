@@ -80,19 +80,63 @@ says "  nor of more than an image can have" test "$("$make" -i 100 -J pass 8192T
 "$make" -i 100 -J pass 524288 a.img key a.backup 2>notes
 "$make" -a -i 100 -J pass 524288 c.img key c.backup 2>notes
 in=$top/examples/copy-in.sh out=$top/examples/copy-out.sh look=$top/examples/after-a-power-failure.sh
-head -c 400123 /dev/urandom >plain
 head -c 462849 /dev/zero >long # a byte more than c.img takes
-for image in a.img c.img; do
-    says "copy-in.sh copies into $image" "$in" -c -k key -j pass plain $image 2>notes
+# An nbdcopy that notes its words, and one that ends at once.
+mkdir noted dead
+printf '#!/bin/sh\necho "$*" >>"%s/words"\nexec "%s" "$@"\n' "$folder" "$(command -v nbdcopy)" >noted/nbdcopy
+printf '#!/bin/sh\nexit 1\n' >dead/nbdcopy
+chmod +x noted/nbdcopy dead/nbdcopy
+by() { # WAY COMMAND...: copies by nbdcopy, or by lines since there is no geli-nbd, or since nbdcopy ends
+    case $1 in
+        nbdcopy) PATH=$folder/noted:$PATH "${@:2}" ;;
+        lines) GELI_NBD=none "${@:2}" ;;
+        dead) PATH=$folder/dead:$PATH "${@:2}" ;;
+    esac
+}
+ways='lines dead'
+if command -v nbdcopy >commands; then ways+=' nbdcopy'; else echo "not tried: copies by nbdcopy (not there)"; fi
+for way in $ways; do for image in a.img c.img; do
+    head -c 400123 /dev/urandom >plain
+    rm -f $image.plain
+    says "copy-in.sh copies into $image, by $way" by "$way" "$in" -c -k key -j pass plain $image 2>notes
     says "  and says how far it is" grep -q '^400123 bytes in 98 sectors of 4096 bytes, read again' notes
-    says "copy-out.sh copies out of it" "$out" -b 400123 -k key -j pass $image $image.plain 2>notes
+    says "copy-out.sh copies out of it" by "$way" "$out" -b 400123 -k key -j pass $image $image.plain 2>notes
     says "  the same bytes" cmp plain $image.plain
     says "  which its owner alone may read" test "$(stat -c %a $image.plain)" = 600
     says "copy-out.sh overwrites nothing" test "$("$out" -k key -j pass $image plain 2>&1 | grep -c 'left alone')" = 1
-    says "copy-out.sh copies all of it" "$out" -k key -j pass $image $image.all 2>notes
+    says "copy-out.sh copies all of it" by "$way" "$out" -k key -j pass $image $image.all 2>notes
     says "  the same bytes, and zeros to the end of the sector" cmp <(cat plain <(head -c 1285 /dev/zero)) <(head -c 401408 $image.all)
     rm $image.all
     says "after-a-power-failure.sh finds no fault" "$look" -k key -j pass $image >report 2>notes
+done; done
+if [[ $ways = *nbdcopy ]]; then
+    says "  by nbdcopy indeed" test "$(grep -c '^--flush .*/plain nbd' words) $(grep -c '^nbd.* -$' words)" = '2 6'
+fi
+
+# Every byte goes in, and no other: sizes that are no multiple of a sector, or of what nbdcopy asks for.
+for kind in '-s 512' '-s 4096 -e AES-CBC' '-s 65536' '-s 512 -a HMAC/SHA256' '-s 65536 -a HMAC/SHA512'; do
+    rm -f odd.img && truncate -s 1000448 odd.img
+    # shellcheck disable=SC2086 # it is words
+    "$GELI" init -P -K key $kind odd.img >reply
+    bytes=$("$top/examples/geli-info.sh" --json odd.img | python3 -c \
+        'import json, sys; facts = json.load(sys.stdin); print(facts["data_bytes"], facts["sector_bytes"])')
+    width=${bytes#* } bytes=${bytes% *}
+    for way in ${ways/dead/}; do for short in 1 0 $((width - 1)) $((bytes / 2 + 77)); do
+        size=$((bytes - short)) filled=$((bytes - short + (width - (bytes - short) % width) % width))
+        head -c "$size" /dev/urandom >odd
+        rm -f odd.before odd.after odd.out
+        [[ $kind = *-a* ]] || "$out" -p -k key odd.img odd.before 2>notes
+        says "$size of $bytes bytes go in by $way, sectors $kind" by "$way" "$in" -c -p -k key odd odd.img 2>notes
+        says "  and come out" by "$way" "$out" -b "$size" -p -k key odd.img odd.out 2>notes
+        says "  the same" cmp odd odd.out
+        rm odd.out
+        GELI_NBD=none "$out" -b "$filled" -p -k key odd.img odd.out 2>notes
+        says "  with zeros to the end of the sector" cmp <(cat odd; head -c $((filled - size)) /dev/zero) odd.out
+        if [ -e odd.before ]; then
+            "$out" -p -k key odd.img odd.after 2>notes
+            says "  and what is behind stays" cmp <(tail -c +$((filled + 1)) odd.before) <(tail -c +$((filled + 1)) odd.after)
+        fi
+    done; done
 done
 "$GELI" init -P -a HMAC/SHA512 -K key b.img >out # no sector of it can be read
 says "copy-out.sh says where it stops" test "$("$out" -p -k key b.img b.plain 2>&1 | grep -c '^b.plain.part has the 0 bytes before\|error 25 Integrity 0')" = 2
@@ -335,7 +379,23 @@ says "a folder that isn't there is told" test "$("$out" -b 13 -k key -j pass a.i
 # Broken off in the middle: by a geli that is slow, and the signal that a terminal sends.
 printf '#!/bin/sh\ncase $1 in script) while read -r line; do sleep 0.5; echo "$line"; done | "%s" "$@" ;; *) exec "%s" "$@" ;; esac\n' "$GELI" "$GELI" >slow
 chmod +x slow
-broken() { GELI=$here/slow timeout -s INT 3 "$@"; }
+broken() { GELI=$here/slow GELI_NBD=none timeout -s INT 3 "$@"; }
+# A geli-nbd that is slow.
+cat >slow-nbd <<EOF
+#!/usr/bin/env python3
+import os, subprocess, sys, threading, time
+if sys.argv[1] == "--version":
+    os.execv("$GELI_NBD", ["$GELI_NBD", "--version"])
+geli = subprocess.Popen(["$GELI_NBD", *sys.argv[1:]], stdin=subprocess.PIPE)
+threading.Thread(target=lambda: os._exit(geli.wait() % 256), daemon=True).start()
+while piece := os.read(0, 65536):
+    geli.stdin.write(piece)
+    geli.stdin.flush()
+    time.sleep(0.5)
+geli.stdin.close()
+time.sleep(60)
+EOF
+chmod +x slow-nbd
 says "what make-provider.sh leaves halfway is told" test "$(broken "$make" -a -i 100 -J pass 4M half.img key half.backup 2>&1 | grep -c 'half.img. is only half made. Remove it')" = 1
 rm half.img half.backup
 says "  and it can be given again" "$make" -a -i 100 -J pass 256K half.img key half.backup 2>notes
@@ -343,6 +403,16 @@ head -c 1500K /dev/urandom >many
 says "what copy-in.sh leaves" test "$(broken "$in" -k key -j pass many full.img 2>&1 | grep -c 'full.img: some sectors are as before.*give this again')" = 1
 says "what copy-out.sh leaves" test "$(broken "$out" -k key -j pass full.img full.out 2>&1 | grep -c 'full.out.part has the [0-9]* bytes before, in the clear: remove it')" = 1
 says "  indeed" test -e full.out.part -a ! -e full.out
+if command -v nbdcopy >commands; then
+    rm full.out.part
+    broken_nbdcopy() { GELI_NBD=$here/slow-nbd timeout -s INT 3 "$@"; }
+    says "  and by nbdcopy" test "$(broken_nbdcopy "$in" -k key -j pass many full.img 2>&1 |
+        grep -c 'full.img: some sectors are as before.*give this again')" = 1
+    says "  and out" test "$(broken_nbdcopy "$out" -k key -j pass full.img full.out 2>&1 |
+        grep -c 'full.out.part has the [0-9]* bytes before, in the clear: remove it')" = 1
+    says "  indeed" test -e full.out.part -a ! -e full.out
+    says "  and no process is left" test -z "$(pgrep -f "$here/slow-nbd")"
+fi
 says "what grow-provider.sh leaves" test "$(broken "$grow" -k key -j pass 512K half.img half2.backup 2>&1 | grep -c 'Give this again, with -s 262144')" = 1
 says "  and it goes on" "$grow" -s 262144 -k key -j pass 512K half.img half2.backup 2>notes
 says "  to the end" grep -q ', 0 of them unreadable' <("$look" -k key -j pass half.img 2>notes)
@@ -527,6 +597,7 @@ EOS
         says "  and is served out of it" "$serve" -k key -j pass "$loop" sock 2>notes
         says "  of its size" test "$(nbdinfo --size "$uri")" = 4193792
         says "  and it ends" "$serve" -e sock 2>notes
+        says "  but it is no key file" test "$("$in" -k "$loop" -j pass pass a.img 2>&1 | grep -c 'is a disk, and no key')" = 1
         losetup -d "$loop"
     else
         echo "not tried: a partition of a disk image (no loop device)"
@@ -609,9 +680,9 @@ os.fsync(disk)
 assert refused
 EOS
         says "a write that a mount refuses" python3 refused.py "$(echo "$GELI_MOUNTS"/*/disk/nbd)"
-        says "  is told when it is unmounted" test "$("$mount" -u "$files" 2>&1 | sed 's/ (.*)$//'
+        says "  is told when it is unmounted" test "$("$mount" -u "$files" 2>&1 | sed 's/ [0-9][0-9:]\{7\}\( (.*)\)*$//'
             echo "${PIPESTATUS[0]}")" = "mount-provider.sh: $(realpath "$files"): what was written may be lost: \
-a write or a flush was refused"$'\n1'
+a write or a flush was refused once, at"$'\n1'
         says "  and nothing is left" test -z "$(ls "$GELI_MOUNTS")"
         umount full.d
     else

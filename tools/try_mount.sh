@@ -9,8 +9,8 @@
 #
 # It needs what mount-provider.sh needs, and a program that is proved (a trial is too slow). What else it lacks it tells
 # by `not tried`: fio, nbdsh, git, root. It is no part of the gate: it takes about an hour. ROUNDS is how many moments
-# are tried (20), BOUND how many seconds a case may take (3000). Each case has a folder and mounts of its own
-# (GELI_MOUNTS), and what a case leaves is ended before the next.
+# are tried (20), BOUND how many seconds a case may take (3000). SIGNALS and ROLES pick some of the case `moments`. Each
+# case has a folder and mounts of its own (GELI_MOUNTS), and what a case leaves is ended before the next.
 # shellcheck disable=SC2046 # numbers of processes are words
 set -u
 top=$(cd "$(dirname "$(readlink -f "${BASH_SOURCE[0]}")")/.." && pwd)
@@ -64,6 +64,7 @@ left_behind() {
     ls -d "$folder"/mounts/* 2>/dev/null
     grep -o " $folder/\(files\|mounts\)[^ ]* " /proc/self/mountinfo
     flock -n "${1:-m.img}" true || echo "a lock of ${1:-m.img}"
+    losetup -n -O NAME,BACK-FILE 2>/dev/null | grep -F " $folder/"
     ls -d "$XDG_RUNTIME_DIR"/* 2>/dev/null # passphrases
 }
 # nothing_left [IMAGE [SECONDS]]: no process, folder, mount, lock, or passphrase, within two seconds.
@@ -268,7 +269,6 @@ case_kernel() { # -K: the kernel's ext4
     says "  with the file" has kernel kernel
     says "  and it ends by -u" down
     says "  with nothing left" nothing_left k.img
-    says "  and no loop device" test -z "$(losetup -n -O BACK-FILE | grep "$folder")"
     says "  and is clean" is_clean k.img
     up -K k.img
     says "  and by hand" umount files
@@ -284,6 +284,36 @@ case_kernel() { # -K: the kernel's ext4
     says "  with what was synced" cmp kernel files/again
     says "  and ends" down
     says "  and is clean" is_clean k.img
+    local who noted
+    for who in keeper all; do
+        for noted in before after; do
+            up -K k.img && cp kernel "files/$who-$noted" && sync -f files
+            [ $noted = after ] || rm "$folder"/mounts/*/up
+            kill -KILL $(if [ $who = all ]; then behind; else process_of keeper; fi)
+            says "SIGKILL to $who, $noted it was noted that -K has mounted it" \
+                test "$(down; echo $?)" = "$([ $who$noted = keeperafter ]; echo $?)"
+            says "  leaves nothing" nothing_left k.img
+            says "  and it mounts again" up -K k.img
+            says "  with what was synced" cmp kernel "files/$who-$noted"
+            says "  and ends" down
+            says "  and is clean" is_clean k.img
+        done
+    done
+    local began took at wrong=0
+    began=$(date +%s%N)
+    up -K k.img
+    took=$(share "($(date +%s%N) - $began) / 10**9")
+    down
+    for ((at = 0; at < rounds; at++)); do
+        up -K k.img 2>/dev/null &
+        sleep "$(share "$at / $rounds * $took")"
+        kill -KILL $(process_of keeper) 2>/dev/null
+        wait
+        down
+        nothing_left k.img 5 || { wrong=$((wrong + 1)) && sweep && rm -rf run/*; }
+        is_clean k.img || { wrong=$((wrong + 1)) && echo "  at $at: $(tail -n 1 checked.out)"; }
+    done
+    says "SIGKILL to the keeper at $rounds moments of mounting by -K leaves nothing, and it is clean" test $wrong = 0
 }
 
 case_full() { # a full disk, that gets room again or not
@@ -299,7 +329,8 @@ case_full() { # a full disk, that gets room again or not
     for at in 1 2 3; do timeout 200 cp six "files/q$at"; done 2>copies
     down
     says "where writes were refused the unmounting answers 1" test $? = 1
-    says "  and tells it" told 'what was written may be lost: a write or a flush was refused'
+    says "  and tells it, how often, since when and why" told \
+        'what was written may be lost: a write or a flush was refused [0-9]* times, the first at [0-9:]* (.* is full)$'
     says "  and nothing is left" nothing_left small/s.img
     says "  and it is told once" test "$(down; grep -c 'nothing was mounted' notes)" = 1
     rm small/s.img && command mount -o remount,size=20M small 2>notes
@@ -314,7 +345,7 @@ case_full() { # a full disk, that gets room again or not
         test "$(GELI_MOUNTS=$folder/mounts "$mount" -k key -j pass small/s.img files 2>&1 | grep -c 'went wrong')" = 1
     down
     says "  and by -u, with 1" test $? = 1
-    says "  and tells why" told 'a write or a flush was refused (.*full)'
+    says "  and tells why" told 'a write or a flush was refused [0-9]* times, .* (.* is full)$'
     says "  and nothing is left" nothing_left small/s.img
     umount small
 }
@@ -335,23 +366,27 @@ while not os.path.exists("gone"):
 for at in range(1, 4):
     h.pwrite(b"b" * 4096, (20 << 20) + at * 4096)
 EOS
-    for how in 'serve-nbd.sh -e' SIGTERM; do
+    for how in 'serve-nbd.sh -e' SIGTERM 'SIGTERM to all'; do
         rm -f go gone
         server -k key -j pass m.img sock
         process=$(cat sock.pid)
         timeout 60 nbdsh -u "$uri" -c - <client.py 2>client.out &
         client=$!
         for _ in {1..200}; do [ ! -e go ] || break; sleep 0.1; done
-        if [ "$how" = SIGTERM ]; then kill "$process"; else server -e sock & fi
+        case $how in
+            SIGTERM) kill "$process" ;;
+            *all) kill $(behind) ;;
+            *) server -e sock & ;;
+        esac
         sleep 2
-        [ "$how" = SIGTERM ] || says "serve-nbd.sh -e says who is connected" told 'process [0-9]*: .*nbd'
+        [[ $how = SIGTERM* ]] || says "serve-nbd.sh -e says who is connected" told 'process [0-9]*: .*nbd'
         says "after $how nobody else is let in" test ! "$(timeout 20 nbdinfo --size "$uri" 2>/dev/null)"
         : >gone
         says "  and the last writes of who is connected are served" wait "$client"
         wait
         for _ in {1..100}; do is_gone "$process" && break; sleep 0.1; done
         says "  and it ends" is_gone "$process"
-        [ "$how" = SIGTERM ] && server -e sock
+        [[ $how != SIGTERM* ]] || server -e sock
         says "  with all flushed" told 'all is flushed'
         says "  and nothing is left" nothing_left
         "$out" -k key -j pass m.img raw 2>out.notes
@@ -454,6 +489,8 @@ case_damaged() { # a filesystem that is damaged, or was mounted by a kernel that
         "$make" -i 100 -J pass 90M j.img key j.backup 2>notes
         "$in" -k key -j pass crashed.raw j.img 2>notes
         says "  (a journal must be played)" grep -q needs_recovery <(dumpe2fs -h crashed.raw 2>&1)
+        says "a kernel's journal isn't played by -r" test "$(up -r j.img; echo $?)" = 1
+        says "  which tells what to give" told '^without -r it is mounted'
         says "a kernel's journal is played" up j.img
         says "  and the file is there" grep -q kernel files/kernel
         says "  and it ends" down
@@ -538,6 +575,10 @@ EOS
     says "a mount whose asking was killed doesn't keep the next one off" up i.img
     says "  which ends" down
     says "  and nothing is left" nothing_left i.img
+    state=$folder/mounts/$(printf %s "$folder/files" | sha256sum | cut -c1-16)
+    mkdir "$state" && : >"$state/keeper.new"
+    says "one that was killed once its folder was made" test "$(down; echo $?)" = 1
+    says "  leaves nothing behind -u" nothing_left i.img
 }
 
 case_by_hand() {
@@ -561,6 +602,51 @@ case_by_hand() {
     exec 9>&-
     says "  and ends" down
     says "  with nothing left" nothing_left
+    up m.img
+    cp hand files/hand2
+    kill -KILL "$(process_of keeper)"
+    says "where the keeper was killed, and it is unmounted by hand" fusermount3 -u files
+    says "  the next mount says what to give" test "$(up m.img; told "give .* -u .*files' first"; echo $?)" = 0
+    says "  which takes down the rest" down
+    says "  with nothing left" nothing_left
+    says "  and clean" is_clean
+    says "  with its file" has hand2 hand
+}
+
+case_programs() { # what the programs behind it say is shown
+    fresh
+    if unshare -m mount --bind /dev/null /dev/fuse 2>notes; then
+        SECONDS=0
+        says "a nbdfuse that can't begin" test "$(unshare -m --propagation private sh -c \
+            'mount --bind /dev/null /dev/fuse && GELI_MOUNTS=$1/mounts exec "$2" -k key -j pass m.img files 2>notes' \
+            - "$folder" "$mount"; echo $?)" = 1
+        says "  tells why" told 'nbdfuse: .*mount failed'
+        says "  at once" test $SECONDS -lt 10
+        says "  and nothing is left" nothing_left
+    else
+        echo "not tried: a nbdfuse that can't begin (no unshare)"
+    fi
+    mkdir -p bin
+    cat >bin/fusermount3 <<EOS
+#!/bin/sh
+case "\$*" in *"\$(cat "$folder/refuses" 2>/dev/null || echo none)") echo "fusermount3: no, not now" >&2; exit 1 ;; esac
+exec $(command -v fusermount3) "\$@"
+EOS
+    chmod +x bin/fusermount3
+    (
+        PATH=$folder/bin:$PATH
+        up m.img
+        echo /files >refuses
+        says "a fusermount3 that fails" test "$(down; echo $?)" = 1
+        says "  is quoted" told 'stays mounted: fusermount3: no, not now'
+        echo /disk >refuses
+        (sleep 6 && rm refuses) &
+        says "one that fails at the device is waited for" down
+        says "  which is told" told 'waiting for the disk: fusermount3: no, not now'
+        says "  and nothing is left" nothing_left
+        says "  and it is clean" is_clean
+        exit $((failures > 0))
+    ) || failures=$((failures + 1))
 }
 
 case_namespace() { # another mount namespace, which has the mount too
@@ -670,12 +756,12 @@ round() {
     local targets
     cp --sparse=always i.made i.img
     head -c 50000 /dev/urandom >new
-    used &
+    used 2>/dev/null &
     sleep "$3"
     if [ "$2" = all ]; then targets=$(behind); else targets=$(process_of "$2"); fi
     # shellcheck disable=SC2086
     if [ -n "$targets" ] && kill "-$1" $targets 2>/dev/null; then echo >>reached; fi
-    wait
+    wait 2>/dev/null
     # Who was signalled may have left the mount to its keeper, or been that.
     down
     nothing_left i.img 8 || echo "something is left"
@@ -696,13 +782,13 @@ case_moments() { # signals to each process and to all, from the passphrase to th
     began=$(date +%s%N)
     used
     took=$(share "($(date +%s%N) - $began) / 10**9")
-    for signal in TERM INT KILL; do
-        for who in all front keeper device server files geli; do
+    for signal in ${SIGNALS:-TERM INT KILL}; do
+        for who in ${ROLES:-all front keeper device server files geli}; do
             wrong=0
             : >reached
             for ((at = 0; at < rounds; at++)); do
                 said=$(round $signal $who "$(share "0.05 + $at / $rounds * $took")" 3>&1)
-                [ -z "$said" ] || { wrong=$((wrong + 1)) && echo "  at $at: $said"; }
+                [ -z "$said" ] || { wrong=$((wrong + 1)) && echo "  at $at: $said" && sweep && rm -rf run/*; }
             done
             says "SIG$signal to $who at $rounds moments leaves nothing, and -u tells the truth" test $wrong = 0
             says "  of which $(wc -l <reached) found somebody" test -s reached
@@ -723,7 +809,8 @@ EOS
     up m.img && query 'create table t (round, number)' && commit 0
     down || wrong=1
     for ((at = 0; at < rounds; at++)); do
-        up m.img || wrong=$((wrong + 1))
+        # In every other round the disk's sync is slow.
+        SYNC=$(share "$at % 2 / 5") GELI_NBD=$folder/slow up m.img || wrong=$((wrong + 1))
         : >acknowledged
         (set -- "$at" && . ./commits.sh >acknowledged 2>commits.notes) &
         writer=$!
@@ -780,6 +867,7 @@ EOS
             repaired=$((repaired + 1))
             told 'give -c' && up -c m.img || { wrong=$((wrong + 1)) && cat notes && fresh && up m.img && continue; }
         fi
+        at_rest || { wrong=$((wrong + 1)) && echo "  at $at, mounted: $(tail -n 3 checked.out)"; }
         while read -r name sum; do
             [ "$(sha256sum <"$name" | cut -d' ' -f1)" = "$sum" ] || { lost=$((lost + 1)) && echo "  at $at: $name"; }
         done <acknowledged
@@ -810,8 +898,8 @@ GELI_NBD=$(readlink -f "${GELI_NBD:-$top/geli-nbd}")
 export GELI GELI_NBD
 [ $# = 0 ] || shift
 names=("$@")
-[ ${#names[@]} -gt 0 ] || names=(rest sync fio large kernel full serve slow stalled damaged interrupt by_hand namespace
-    signals shutdown moments kill)
+[ ${#names[@]} -gt 0 ] || names=(rest sync fio large kernel full serve slow stalled damaged interrupt by_hand programs
+    namespace signals shutdown moments kill)
 work=$(mktemp -d)
 folder=$work/none failures=0
 at_end() {
@@ -835,7 +923,7 @@ for name in "${names[@]}"; do
     folder=$work/$name SECONDS=0
     echo "case $name"
     mkdir -p "$folder/files" "$folder/run" && cp pass key "$folder" && cp --sparse=always ../made.img "$folder/"
-    timeout -k 30 "${BOUND:-3000}" "${BASH_SOURCE[0]}" --case "$name" "$folder"
+    timeout -k 30 "${BOUND:-3000}" "$top/tools/try_mount.sh" --case "$name" "$folder"
     status=$?
     [ $status != 124 ] || echo "FAILS: it took too long"
     [ -z "$(behind)" ] || { status=1 && echo "FAILS: processes were left" && left_behind made.img; }

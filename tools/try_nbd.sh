@@ -113,6 +113,17 @@ case_copies() { # nbdinfo, nbdcopy
     waits -p -k key a.img
     says "  and nbdcopy out" cmp data <(nbdcopy "$uri" -)
     ended_with 0
+    # A size that is no multiple of 4096: 1953 sectors of 512.
+    provider o.img 1000448 -s 512
+    head -c 999936 data >odd
+    waits -p -k key o.img
+    says "nbdcopy into a provider of 999936 bytes" nbdcopy --flush odd "$uri"
+    says "  ends well" ended_with 0
+    says "  and geli has the same bytes" test "$(sum o.img)" = "$(sha256sum <odd | cut -d' ' -f1)"
+    waits -p -k key o.img
+    says "  and nbdcopy out" nbdcopy "$uri" odd.out
+    says "  the same bytes" cmp odd odd.out
+    ended_with 0
     truncate -s 6M l.img && truncate -s 6M r.img && "$GELI" init -P -K key join:l.img:r.img >init.out
     head -c 12582400 data >data2
     waits -p -k key join:l.img:r.img
@@ -160,6 +171,17 @@ case_qemu() {
     waits -r -p -k key a.img
     says "  and out of it" qemu-img convert -f raw -O raw "$uri" out.raw
     says "  the same bytes" cmp data out.raw
+    ended_with 0
+    # A size that is no multiple of 4096: 1953 sectors of 512.
+    provider o.img 1000448 -s 512
+    head -c 999936 /dev/urandom >odd
+    waits -p -k key o.img
+    says "qemu-img converts into a provider of 999936 bytes" qemu-img convert -n -f raw -O raw odd "$uri"
+    says "  and ends well" ended_with 0
+    says "  and geli has the same bytes" test "$(sum o.img)" = "$(sha256sum <odd | cut -d' ' -f1)"
+    waits -r -p -k key o.img
+    says "  and out of it" qemu-img convert -f raw -O raw "$uri" odd.raw
+    says "  the same bytes" cmp odd odd.raw
     ended_with 0
 }
 

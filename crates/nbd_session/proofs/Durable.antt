@@ -13,10 +13,10 @@ use Rattle.eli_base.specs.Keying.{Keying}
 use Rattle.range_keys.specs.Ring.{IsKeying}
 use Rattle.provider_readings.proofs.Data.{events_of-data}
 use Rattle.readings.proofs.Crashes.{endures}
-use Rattle.readings.proofs.AnswersWrite.{AreStepsBelow-none, AreStepsBelow-raw, AreStepsBelow-take, AreStepsBelow-write, events_of-raw}
+use Rattle.readings.proofs.Writes.{AreStepsBelow-none, AreStepsBelow-raw, AreStepsBelow-take, AreStepsBelow-write, events_of-raw}
 use Rattle.readings.specs.Steps.{Step, Flush, after, event_of, events_of}
 use Rattle.readings.specs.Survivors.{content_media, placed}
-use Rattle.readings.specs.AnswersWrite.{AreStepsBelow, IsNumberedBelow, data_steps, raw_steps}
+use Rattle.readings.specs.Writes.{AreStepsBelow, IsNumberedBelow, data_steps, raw_steps}
 use Rattle.readings.specs.Writings.{Writing, Put, Raw}
 use Rattle.nbd_words.specs.Transmission.{has_fua, request_kind}
 use Rattle.nbd_words.specs.declared.transmission.RequestKind.{RequestKind}
@@ -24,7 +24,7 @@ use Rattle.nbd_words.specs.declared.transmission.RequestKind.TheVariants as kind
 use Rattle.nbd_words.specs.declared.transmission.ReplyError.{ReplyError}
 use Rattle.nbd_words.specs.declared.transmission.ReplyError.TheVariants.{Done, ReadOnly, Failed, Invalid, PassesEnd}
 use Rattle.byte_ranges.specs.Ranges.{IsSpliced, first_sector, sectors_covered}
-use Rattle.byte_ranges.specs.AnswersWrite.{Splices, flush_events, range_writes}
+use Rattle.byte_ranges.specs.Writes.{Splices, flush_events, range_writes}
 use Rattle.byte_ranges.proofs.Covering.{covered_inside}
 use Rattle.eli_base.specs.Units.{media_sectors}
 use Rattle.nbd_words.specs.declared.transmission.Request.{Request}

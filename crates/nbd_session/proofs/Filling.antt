@@ -1,10 +1,12 @@
 -- Bytes that a source gave, one piece behind another.
-use Rattle.std.proofs.Common.{◌≡◌, ◌∙◌, ℕ, ◌+◌, ◌≤◌, List, [], ◌++◌, length, take, refl, ap, sym, subst, arith, append_assoc, append-nil, length-take-le, Option, None, Some}
+use Rattle.std.proofs.Common.{◌≡◌, ◌∙◌, ℕ, ◌+◌, ◌<◌, ◌≤◌, List, [], ◌++◌, length, take, Err, refl, ap, sym, subst, arith, append_assoc, append-nil, length-take-le, Option, None, Some}
 use Rattle.std.proofs.Math.Seq.{take-append-add}
 use Rattle.std.proofs.lemmas.List.{take-append-le}
 use Rattle.std.specs.Io.KnownBytes.{prepend_known}
 use Rattle.block_traits.specs.Streams.{SourceState}
-use Rattle.nbd_session.specs.Streams.{SourceGave}
+use Rattle.nbd_session.specs.Streams.{Fills, GavePart, SourceGave}
+use Rattle.nbd_session.specs.declared.streams.End.{End}
+use Rattle.nbd_session.specs.declared.streams.End.TheVariants.{Closed, ReadFault, WriteFault, Malformed}
 use borrow.Rule.Slice.PartMut.{put_mid, post_of}
 
 prepend_known-more : (first second : List ℕ) (known : Option (List ℕ)) → prepend_known first (prepend_known second known) ≡ prepend_known (first ++ second) known
@@ -35,3 +37,14 @@ SourceGave-none s = record { left = prepend_known-none s.left; later = omega ari
 -- and nothing more
 pub SourceGave-bare : {xs : List ℕ} {source rest : SourceState} → SourceGave xs source rest → SourceGave (xs ++ []) source rest
 SourceGave-bare {xs} {source} {rest} h = subst (λ (l : List ℕ). SourceGave l source rest) (sym (append-nil xs)) h
+
+-- what came of bytes that didn't all come
+pub part_filled : (end : End) (bytes : List ℕ) (old new : SourceState) → Fills bytes old (Err end) new → GavePart bytes old new
+part_filled Closed bytes old new h = h.0
+part_filled ReadFault bytes old new h = h.0
+part_filled WriteFault bytes old new h = absurd h
+part_filled Malformed bytes old new h = absurd h
+
+-- the first of so many bytes, and not all, are fewer
+pub fewer : (n count : ℕ) (bytes : List ℕ) → length bytes ≡ n → count < length bytes → length (take count bytes) < n
+fewer n count bytes size within = omega (arith, length-take-le count bytes (omega (arith, within)), within, size)

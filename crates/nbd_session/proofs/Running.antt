@@ -8,10 +8,10 @@ use Rattle.block_traits.specs.Streams.{SinkState, SourceState, TookAll}
 use Rattle.provider.specs.Attached.{Attached, IsKept}
 use Rattle.reply_text.proofs.Printing.{TookAll-nothing}
 use Rattle.nbd_session.specs.Requests.{Exchange, ServesExchange, ServesExchanges, Side, is_denied, reply_of, side_of}
-use Rattle.nbd_session.specs.Runs.{ServedSoFar, ServesRun}
+use Rattle.nbd_session.specs.Runs.{EndsRun, ServedSoFar, ServesRun}
 use Rattle.nbd_session.specs.Served.{ServesNone, ServesOne, ServesRequest}
 use Rattle.nbd_session.specs.Stops.{exchange_bytes}
-use Rattle.nbd_session.specs.Streams.{SourceGave}
+use Rattle.nbd_session.specs.Streams.{GivesTexts, SourceGave}
 use Rattle.nbd_session.specs.declared.streams.End.{End}
 use Rattle.nbd_session.specs.declared.streams.End.TheVariants.{Closed, ReadFault, WriteFault, Malformed}
 use Rattle.nbd_session.proofs.Filling.{SourceGave-bare, SourceGave-none, SourceGave-then}
@@ -60,36 +60,28 @@ noted-on : (xs : List Exchange) (before denied : Bool) → before ≡ list_any i
 noted-on xs before denied so none = ap (λ (b : Bool). before || b) none ∙ or-false before ∙ so
 
 -- none was served, and the session ends
+stops-by : (end : End) (side : Side) (n : ℕ) (old middle new : DiskState) (source between rest : SourceState) (sink halfway after : SinkState) (before denied : Bool) (so : ServedSoFar side n old middle source between sink halfway before)
+    → (none : ServesNone middle new between rest halfway (Err end) after denied) → ((texts : List (List ℕ)) → TookAll (concat texts) sink after → GivesTexts end texts sink after)
+    → EndsRun end so.exchanges none.bytes source rest → ServesRun side old new source rest sink end after (before || denied)
+stops-by end side n old middle new source between rest sink halfway after before denied so none gives why = record {
+  exchanges = so.exchanges;
+  bytes = none.bytes;
+  served = subst (ServesExchanges side so.exchanges old) (sym none.disk) so.served;
+  took = SourceGave-then so.took none.took;
+  gave = gives (map reply_of so.exchanges) (subst (λ (s : SinkState). TookAll (concat (map reply_of so.exchanges)) sink s) (sym none.silent) so.gave);
+  why = why;
+  noted = noted-on so.exchanges before denied so.noted none.noted;
+}
+
 stops-run : (end : End) (side : Side) (n : ℕ) (old middle new : DiskState) (source between rest : SourceState) (sink halfway after : SinkState) (before denied : Bool) → ServedSoFar side n old middle source between sink halfway before
     → ServesNone middle new between rest halfway (Err end) after denied → ServesRun side old new source rest sink end after (before || denied)
-stops-run Closed side n old middle new source between rest sink halfway after before denied so none = record {
-  exchanges = so.exchanges;
-  bytes = none.bytes;
-  served = subst (ServesExchanges side so.exchanges old) (sym none.disk) so.served;
-  took = SourceGave-then so.took none.took;
-  gave = subst (λ (s : SinkState). TookAll (concat (map reply_of so.exchanges)) sink s) (sym none.silent) so.gave;
-  why = inl none.stops;
-  noted = noted-on so.exchanges before denied so.noted none.noted;
-}
-stops-run ReadFault side n old middle new source between rest sink halfway after before denied so none = record {
-  exchanges = so.exchanges;
-  bytes = none.bytes;
-  served = subst (ServesExchanges side so.exchanges old) (sym none.disk) so.served;
-  took = SourceGave-then so.took none.took;
-  gave = subst (λ (s : SinkState). TookAll (concat (map reply_of so.exchanges)) sink s) (sym none.silent) so.gave;
-  why = (none.stops.0, omega (arith, so.took.later, none.stops.1));
-  noted = noted-on so.exchanges before denied so.noted none.noted;
-}
+stops-run Closed side n old middle new source between rest sink halfway after before denied so none =
+    stops-by Closed side n old middle new source between rest sink halfway after before denied so none (λ texts all. all) (inl none.stops)
+stops-run ReadFault side n old middle new source between rest sink halfway after before denied so none =
+    stops-by ReadFault side n old middle new source between rest sink halfway after before denied so none (λ texts all. all) (none.stops.0, omega (arith, so.took.later, none.stops.1))
 stops-run WriteFault side n old middle new source between rest sink halfway after before denied so none = absurd none.stops
-stops-run Malformed side n old middle new source between rest sink halfway after before denied so none = record {
-  exchanges = so.exchanges;
-  bytes = none.bytes;
-  served = subst (ServesExchanges side so.exchanges old) (sym none.disk) so.served;
-  took = SourceGave-then so.took none.took;
-  gave = subst (λ (s : SinkState). TookAll (concat (map reply_of so.exchanges)) sink s) (sym none.silent) so.gave;
-  why = none.stops;
-  noted = noted-on so.exchanges before denied so.noted none.noted;
-}
+stops-run Malformed side n old middle new source between rest sink halfway after before denied so none =
+    stops-by Malformed side n old middle new source between rest sink halfway after before denied so none (λ texts all. all) none.stops
 
 -- the last was served, and its answer couldn't be given
 fails-run : (end : End) (side : Side) (n : ℕ) (old middle new : DiskState) (source between rest : SourceState) (sink halfway after : SinkState) (before denied : Bool) → ServedSoFar side n old middle source between sink halfway before

@@ -4,8 +4,8 @@ use Rattle.std.specs.Prelude.{◌≡◌, ◌⊎◌, ℕ, ◌<◌, ◌≤◌, Boo
 use Rattle.block_traits.specs.Disk.{DiskState, FailsIn, Logs}
 use Rattle.block_traits.specs.declared.disk.Event.TheVariants.{Flush}
 use Rattle.byte_ranges.specs.Ranges.{IsInside}
-use Rattle.byte_ranges.specs.AnswersRead.{CannotReadRange, IsRangeReadAs}
-use Rattle.byte_ranges.specs.AnswersWrite.{CannotSplice, IsWrittenInPart, IsWrittenWhole}
+use Rattle.byte_ranges.specs.Reads.{CannotReadRange, IsRangeReadAs}
+use Rattle.byte_ranges.specs.Writes.{CannotSplice, IsWrittenInPart, IsWrittenWhole}
 use Rattle.byte_ranges.specs.declared.ranges.ByteRange.{ByteRange}
 use Rattle.eli_base.specs.Keying.{Keying}
 use Rattle.nbd_words.specs.Transmission.{flags_limit, has_fua, reply_head, request_in, request_kind}

@@ -150,14 +150,14 @@ fn takes_run_as(rt: &HostRuntime, name: &str, run: &[u8]) -> Result<bool, Fail> 
     let mut opener = SystemFiles::new(rt.clone()?);
     let mut files = Vec::new(rt.alloc());
     let mut image = open_image(rt.alloc(), &mut opener, &mut files, true, name)?;
-    if run.len() % 512 != 0 || 1 + run.len() as u64 / 512 > image.sectors() || image.sectors() < 3 {
-        return Ok(false);
-    }
     for n in [0, 2] {
         let mut bytes = [7; 512];
-        if image.read(n, &mut bytes).is_err() || bytes != [0; 512] {
+        if n >= image.sectors() || image.read(n, &mut bytes).is_err() || bytes != [0; 512] {
             return Ok(false);
         }
+    }
+    if run.len() % 512 != 0 || 1 + run.len() as u64 / 512 > image.sectors() {
+        return Ok(false);
     }
     Ok(image.write_sectors(1, run).is_ok() && image.flush().is_ok())
 }

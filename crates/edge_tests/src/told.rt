@@ -314,9 +314,11 @@ fn asks<R: Abort + Drop>(
     let changes: Changes = Rc::new(alloc, RefCell::new(Vec::new(alloc)))?;
     let (status, folder) = end_of(rt, alloc, given, &changes)?;
     let asked = changes.try_borrow()?;
-    Ok(status == wanted.status
-        && asked.as_slice() == wanted.asked
-        && folder.is_left_but_for(before, wanted.stored))
+    Ok(
+        status == wanted.status
+            && asked.as_slice() == wanted.asked
+            && folder.is_left_but_for(before, wanted.stored),
+    )
 }
 
 // The words of a script over the image, with this input.

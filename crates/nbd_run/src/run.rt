@@ -47,7 +47,7 @@ pub fn status_of<O: Opener + Drop>(ran: Result<Ran<O>, (Status, O)>) -> Status
 /// Attaches the provider that the words name, as `geli attach` does, and serves it to one client; or prints to the log
 /// why not. Just the files of the image are opened, and then the random bytes. Where nothing was opened the opener comes
 /// back with the status: a text was asked for, which the client is given, or the words ask for nothing, or there was no
-/// memory. Then nothing was taken of the client.
+/// memory. Then nothing was taken of the client, and names have what they had.
 pub fn serve_words<O: Opener + Drop, S: Source, K: Sink, L: Sink>(
     alloc: Global,
     words: Vec<String>,
@@ -61,6 +61,7 @@ pub fn serve_words<O: Opener + Drop, S: Source, K: Sink, L: Sink>(
         (map string_bytes words.items) opener (streams (S.state input.old) (K.state output.old) (L.state log.old)) ran.status
         (remains ((⟦<ImageDisk<O::File> as Disk>⟧).state ran.disk) ((⟦<FileCabinet<O> as Cabinet>⟧).state ran.files)
         ((⟦<RandomFile<O::File> as Entropy>⟧).state ran.entropy)) (streams (S.state input.new) (K.state output.new) (L.state log.new))) }
+    ensures told { IfErr result (λ left. O.told left.1 ≡ O.told opener) }
     ensures nothing { IfErr result (λ left. ServesNothing O.asked (map string_bytes words.items)
         (wish_of (map string_bytes words.items)) opener (streams (S.state input.old) (K.state output.old) (L.state log.old))
         left.0 left.1 (streams (S.state input.new) (K.state output.new) (L.state log.new))) }
@@ -98,6 +99,7 @@ fn serve_asked<O: Opener + Drop, S: Source, K: Sink, L: Sink>(
         words opener (streams (S.state input.old) (K.state output.old) (L.state log.old)) ran.status
         (remains ((⟦<ImageDisk<O::File> as Disk>⟧).state ran.disk) ((⟦<FileCabinet<O> as Cabinet>⟧).state ran.files)
         ((⟦<RandomFile<O::File> as Entropy>⟧).state ran.entropy)) (streams (S.state input.new) (K.state output.new) (L.state log.new))) }
+    ensures told { IfErr result (λ left. O.told left.1 ≡ O.told opener) }
     ensures nothing { IfErr result (λ left. (words : List (List ℕ))
         → AsksToAttach words (string_bytes asked.name) asked.line.items asked.command
         → LacksMemory O.asked words opener (streams (S.state input.old) (K.state output.old) (L.state log.old))

@@ -5,7 +5,7 @@ use block_traits::{Disk, DiskFailed, Event, Sector, sector_of};
 use crash_disk::MemDisk;
 use eli_base::{Auth, Cipher, REQUEST_LIMIT};
 use provider::Provider;
-use std::alloc::Global;
+use std::alloc::{AllocError, Global};
 use std::cell::Cell;
 use std::rc::Rc;
 use std::test::Fail;
@@ -154,14 +154,19 @@ impl Watched {
     }
 }
 
+// So many bytes of one value.
+fn bytes_of(alloc: Global, byte: u8, count: usize) -> Result<Vec<u8>, AllocError> {
+    Ok(vec![in alloc; byte; count]?)
+}
+
 // A run of sectors that the buffer of a provider has room for is written at once, and any run is read by one look.
 #[test]
 fn plain_runs(rt: HostRuntime) -> Result<(), Fail> {
     let mut watched = Watched::new(rt.alloc(), Auth::Off)?;
-    let run = vec![in rt.alloc(); 7; 32_768]?;
+    let run = bytes_of(rt.alloc(), 7, 32_768)?;
     assert!(&rt; write(&mut watched.provider, 1, &run)?.is_ok());
     assert_eq!(&rt; watched.since(), Calls { runs: 1, ..NONE });
-    let mut into = vec![in rt.alloc(); 0; 65_536]?;
+    let mut into = bytes_of(rt.alloc(), 0, 65_536)?;
     assert!(&rt; read(&mut watched.provider, 0, &mut into)?.is_ok());
     assert_eq!(&rt; watched.since(), Calls { looks: 1, ..NONE });
     assert!(&rt; into.get(4096..36_864) == Some(run.as_slice()));
@@ -174,10 +179,10 @@ fn plain_runs(rt: HostRuntime) -> Result<(), Fail> {
 #[test]
 fn tagged_runs(rt: HostRuntime) -> Result<(), Fail> {
     let mut watched = Watched::new(rt.alloc(), Auth::Sha256)?;
-    let run = vec![in rt.alloc(); 7; 65_536]?;
+    let run = bytes_of(rt.alloc(), 7, 65_536)?;
     assert!(&rt; write(&mut watched.provider, 0, &run)?.is_ok());
     assert_eq!(&rt; watched.since(), Calls { runs: 3, ..NONE });
-    let mut into = vec![in rt.alloc(); 0; 65_536]?;
+    let mut into = bytes_of(rt.alloc(), 0, 65_536)?;
     assert!(&rt; read(&mut watched.provider, 0, &mut into)?.is_ok());
     assert_eq!(&rt; watched.since(), Calls { looks: 3, ..NONE });
     assert!(&rt; into == run);
@@ -190,12 +195,12 @@ fn tagged_runs(rt: HostRuntime) -> Result<(), Fail> {
 #[test]
 fn a_sweep(rt: HostRuntime) -> Result<(), Fail> {
     let mut watched = Watched::new(rt.alloc(), Auth::Sha256)?;
-    let run = vec![in rt.alloc(); 7; 65_536]?;
+    let run = bytes_of(rt.alloc(), 7, 65_536)?;
     assert!(&rt; write(&mut watched.provider, 0, &run)?.is_ok());
     watched.calls.set(NONE);
-    let mut found = vec![in rt.alloc(); 0; REQUEST_LIMIT as usize]?;
-    if !watched.provider.authenticated() {
-        return Err(Fail::from("no tags"));
+    let mut found = bytes_of(rt.alloc(), 0, REQUEST_LIMIT as usize)?;
+    if !watched.provider.authenticated() || found.len() < REQUEST_LIMIT as usize {
+        return Err(Fail::from("no tags, or no room"));
     }
     match sweep(&mut watched.provider, 0, 16, &mut found) {
         Ok(swept) => assert!(&rt; swept.next == 16 && swept.bad == 0),

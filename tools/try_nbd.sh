@@ -16,7 +16,7 @@ GELI=$(readlink -f "${GELI:-$top/geli}")
 export GELI GELI_NBD=$program PYTHONPATH=$top/tools PYTHONDONTWRITEBYTECODE=1
 [ $# = 0 ] || shift
 names=("$@")
-[ ${#names[@]} -gt 0 ] || names=(words copies requests qemu files hostile kill full valgrind)
+[ ${#names[@]} -gt 0 ] || names=(words copies sockets requests qemu files hostile kill full valgrind)
 failures=0
 work=$(mktemp -d)
 folder=$work/none
@@ -31,11 +31,12 @@ at_end() {
 trap at_end EXIT
 trap 'exit 130' INT TERM
 
+exec 3>&1 # what is said of a command goes there, wherever the command prints
 says() {
     local name=$1
     shift
-    if "$@"; then echo "holds: $name"; else
-        echo "FAILS: $name"
+    if "$@"; then echo "holds: $name" >&3; else
+        echo "FAILS: $name" >&3
         failures=$((failures + 1))
     fi
 }
@@ -130,6 +131,41 @@ case_copies() { # nbdinfo, nbdcopy
     says "nbdcopy into a join" nbdcopy --flush data2 "$uri"
     says "  ends well" ended_with 0
     says "  and geli has the same bytes" test "$(sum join:l.img:r.img)" = "$(sha256sum <data2 | cut -d' ' -f1)"
+}
+
+case_sockets() { # the page's other ways to a socket
+    have systemd-socket-activate nbdcopy nbdinfo || return
+    local uri="nbd+unix:///?socket=$PWD/sock" activates front
+    provider a.img 4M -s 4096
+    head -c 4190208 /dev/urandom >data
+    ! command -v sfdisk >/dev/null || printf 'label: dos\nstart=2048, size=4096\n' | sfdisk -q data
+    NBD_TRY=$work systemd-socket-activate -l "$PWD/sock" -a --inetd "$program" -p -k "$PWD/key" "$PWD/a.img" \
+        2>activated &
+    activates=$!
+    ended() { # COUNT: so many sessions have ended, each with status 0
+        for _ in {1..100}; do [ "$(grep -c 'died with code' activated)" -lt "$1" ] || break; sleep 0.05; done
+        test "$(grep -c 'died with code 0' activated)" = "$1"
+    }
+    ended 0
+    for _ in {1..100}; do [ ! -S sock ] || break; sleep 0.05; done
+    says "nbdcopy in, by systemd-socket-activate" nbdcopy --flush data "$uri"
+    says "  ends well" ended 1
+    says "  and out, by the next one" cmp data <(nbdcopy "$uri" -)
+    says "  ends well" ended 2
+    if have sfdisk nbdkit; then
+        NBD_TRY=$work nbdkit -f -U "$PWD/clients" --filter=partition nbd socket="$PWD/sock" shared=true partition=1 &
+        front=$!
+        uri="nbd+unix:///?socket=$PWD/clients"
+        for _ in {1..100}; do [ ! -S clients ] || break; sleep 0.05; done
+        says "a partition, by nbdkit in front" test "$(nbdinfo --size "$uri")" = 2097152
+        nbdcopy "$uri" first & nbdcopy "$uri" second
+        wait $!
+        says "  for two clients at once" cmp first second
+        says "  with its bytes" cmp first <(tail -c +1048577 data | head -c 2097152)
+        kill $front && wait $front
+        says "  ends well" ended 3
+    fi
+    kill $activates
 }
 
 case_requests() { # libnbd against a model

@@ -170,12 +170,7 @@ fn requests_are_refused(rt: HostRuntime) -> Result<(), Fail> {
         client.asks((code, flags), 7, offset, length)?;
         client.asks((FLUSH, 0), 9, 0, 0)?;
         client.asks((DISCONNECT, 0), 11, 0, 0)?;
-        let answer = answered_to(
-            alloc,
-            &mut place,
-            &client,
-            provider_of(alloc, readonly)?,
-        )?;
+        let answer = answered_to(alloc, &mut place, &client, provider_of(alloc, readonly)?)?;
         let mut expected = Vec::from_slice(alloc, &reply(error, 7))?;
         expected.extend_from_slice(&reply(0, 9))?;
         assert_eq!(&rt;
@@ -206,12 +201,7 @@ fn writes_are_refused_behind_their_bytes(rt: HostRuntime) -> Result<(), Fail> {
         let mut client = Client::new(alloc)?;
         client.writes(flags, offset, length, 0x25)?;
         client.asks((DISCONNECT, 0), 2, 0, 0)?;
-        let answer = answered_to(
-            alloc,
-            &mut place,
-            &client,
-            provider_of(alloc, readonly)?,
-        )?;
+        let answer = answered_to(alloc, &mut place, &client, provider_of(alloc, readonly)?)?;
         assert_eq!(&rt; answer.bytes.as_slice(), reply(error, 1).as_slice());
         assert_eq!(&rt; answer.end, End::Closed);
         assert_eq!(&rt; answer.events, MADE + 1);
@@ -229,12 +219,7 @@ fn what_no_client_says_ends_it(rt: HostRuntime) -> Result<(), Fail> {
         client.writes(0, 0, 4096, 0x25)?;
         client.said.extend_from_slice(&wrong)?;
         client.asks((FLUSH, 0), 9, 0, 0)?;
-        let answer = answered_to(
-            alloc,
-            &mut place,
-            &client,
-            provider_of(alloc, false)?,
-        )?;
+        let answer = answered_to(alloc, &mut place, &client, provider_of(alloc, false)?)?;
         assert_eq!(&rt; answer.bytes.as_slice(), reply(0, 1).as_slice());
         assert_eq!(&rt; answer.end, End::Malformed);
         assert_eq!(&rt; answer.events, MADE + 9);
@@ -243,7 +228,8 @@ fn what_no_client_says_ends_it(rt: HostRuntime) -> Result<(), Fail> {
     Ok(())
 }
 
-// What a client asks of the second sector, of so many bytes: to be read, to be written in part, then whole, and in part again.
+// What a client asks of the second sector, of so many bytes: to be read, to be written in part, then whole, and in part
+// again.
 fn of_the_second_sector(alloc: Global, size: u32) -> Result<Client, Fail> {
     let start = u64::from(size);
     let mut client = Client::new(alloc)?;

@@ -393,12 +393,25 @@ EOS
         says "  and they are there" test "$(tail -c +$(((20 << 20) + 4097)) raw | head -c 12288 | tr -d b | wc -c)" = 0
         rm -f raw
     done
+    server -k key -j pass m.img sock
+    timeout 60 nbdsh -u "$uri" -c 'import time; time.sleep(3); h.pwrite(b"c" * 4096, 20 << 20); h.flush()' 2>client.out &
+    client=$!
+    sleep 1
+    kill -KILL "$(cat sock.pid)"
+    says "after SIGKILL to who waits for a server its client is served" wait "$client"
+    says "  and it is told" test "$(server -e sock; echo $?)" = 1
+    says "  and nothing is left" nothing_left m.img 5
+    server -k key -j pass m.img sock
+    kill -KILL "$(cat sock.pid)"
+    says "  and without a client it ends at once" nothing_left m.img 5
+    server -e sock
     "$make" -i 300000 -J pass 20M i.img key i.backup 2>notes
     for ((at = 0; at < rounds; at++)); do
         GELI_MOUNTS=$folder/mounts timeout -s INT "$(share "0.05 + $at / $rounds * 3")" \
             "$serve" -k key -j pass i.img sock 2>notes
         [ ! -e sock.pid ] || server -e sock || wrong=$((wrong + 1))
-        nothing_left i.img && [ -z "$(ls sock* 2>/dev/null)" ] || { wrong=$((wrong + 1)) && ls sock*; rm -f sock*; }
+        nothing_left i.img && [ -z "$(ls sock* 2>/dev/null)" ] ||
+            { wrong=$((wrong + 1)) && ls sock*; sweep; rm -f sock*; }
     done
     says "an interrupt of serve-nbd.sh at $rounds moments leaves nothing" test $wrong = 0
 }

@@ -21,11 +21,3 @@ mixed_byte a b c d = bit_xor (bit_xor (bit_xor (times 2 a) (times 3 b)) (times 1
 -- MixColumns of a column, as a word
 abbrev pub mixed_word : ℕ → ℕ → ℕ → ℕ → ℕ
 mixed_word a b c d = word_of (mixed_byte a b c d) (mixed_byte b c d a) (mixed_byte c d a b) (mixed_byte d a b c)
-
--- a byte of InvMixColumns, in the same way
-abbrev pub unmixed_byte : ℕ → ℕ → ℕ → ℕ → ℕ
-unmixed_byte a b c d = bit_xor (bit_xor (bit_xor (times 14 a) (times 11 b)) (times 13 c)) (times 9 d)
-
--- InvMixColumns of a column, as a word
-abbrev pub unmixed_word : ℕ → ℕ → ℕ → ℕ → ℕ
-unmixed_word a b c d = word_of (unmixed_byte a b c d) (unmixed_byte b c d a) (unmixed_byte c d a b) (unmixed_byte d a b c)

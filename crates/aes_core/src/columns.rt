@@ -5,27 +5,16 @@
 
 ghost use Rattle.std.specs.Prelude.{◌≡◌, ℕ, ◌+◌, ◌*◌, ◌/◌, ◌%◌, ◌^◌, ◌<◌, ◌≤◌, List, length};
 ghost use Rattle.std.specs.Simd.Lanes.{chunk};
-ghost use Rattle.aes_core.specs.Aes.{xor, round_key, sbox, inverse_sbox, sub_bytes, shift_rows, mix_columns, inverse_sub_bytes, inverse_shift_rows, inverse_mix_columns};
-ghost use Rattle.aes_core.specs.Columns.{word_of, word_at, words_of, mixed_word, unmixed_word};
+ghost use Rattle.aes_core.specs.Aes.{xor, round_key, sbox, sub_bytes, shift_rows, mix_columns};
+ghost use Rattle.aes_core.specs.Columns.{word_of, words_of, mixed_word};
 ghost use Rattle.aes_core.specs.State.{IsState};
 
 use crate::blocks::Block;
 use crate::column_tables::ROWS;
-use crate::inverse_column_tables::{INVERSE_ROW_0, INVERSE_ROW_1, INVERSE_ROW_2, INVERSE_ROW_3};
-use crate::sboxes::inverse_sbox;
 use std::simd::prelude::*;
 
 /// The four columns of a state.
 pub type Columns = [u32; 4];
-
-// The column in the four bytes from this place on.
-#[inline(always)]
-fn column_at(bytes: &[u8], at: usize) -> u32
-    requires { at + 4 ≤ length bytes.now }
-    ensures { result ≡ word_at bytes.now at }
-{
-    u32::from_le_bytes([bytes[at], bytes[at + 1], bytes[at + 2], bytes[at + 3]])
-}
 
 // The columns of 16 bytes, by one load.
 #[inline(always)]
@@ -112,43 +101,5 @@ pub fn after_last_round(w: Columns, keys: &[u8; 240], r: usize) -> Columns
         substituted(w[1], w[2], w[3], w[0]) ^ key[1],
         substituted(w[2], w[3], w[0], w[1]) ^ key[2],
         substituted(w[3], w[0], w[1], w[2]) ^ key[3],
-    ]
-}
-
-// InvSubBytes of a column, each row of which stands in another word.
-#[inline(always)]
-fn unsubstituted(a: u32, b: u32, c: u32, d: u32) -> u32
-    ensures { result ≡ word_of (inverse_sbox (a % 256)) (inverse_sbox (b / 2 ^ 8 % 256)) (inverse_sbox (c / 2 ^ 16 % 256)) (inverse_sbox (d / 2 ^ 24)) }
-{
-    u32::from_le_bytes([
-        inverse_sbox((a % 256) as u8),
-        inverse_sbox(((b >> 8) % 256) as u8),
-        inverse_sbox(((c >> 16) % 256) as u8),
-        inverse_sbox((d >> 24) as u8),
-    ])
-}
-
-// InvMixColumns of a column.
-#[inline(always)]
-fn unmixed(x: u32) -> u32
-    ensures { result ≡ unmixed_word (x % 256) (x / 2 ^ 8 % 256) (x / 2 ^ 16 % 256) (x / 2 ^ 24) }
-{
-    INVERSE_ROW_0[(x % 256) as usize]
-        ^ INVERSE_ROW_1[((x >> 8) % 256) as usize]
-        ^ INVERSE_ROW_2[((x >> 16) % 256) as usize]
-        ^ INVERSE_ROW_3[(x >> 24) as usize]
-}
-
-/// InvShiftRows, InvSubBytes, the sum with round key r, and InvMixColumns.
-#[inline(always)]
-pub fn after_inverse_round(w: Columns, keys: &[u8; 240], r: usize) -> Columns
-    requires { r < 15 }
-    ensures { (s : List ℕ) → IsState s → w ≡ words_of s → result ≡ words_of (inverse_mix_columns (xor (inverse_sub_bytes (inverse_shift_rows s)) (round_key keys.now r))) }
-{
-    [
-        unmixed(unsubstituted(w[0], w[3], w[2], w[1]) ^ column_at(keys, 16 * r)),
-        unmixed(unsubstituted(w[1], w[0], w[3], w[2]) ^ column_at(keys, 16 * r + 4)),
-        unmixed(unsubstituted(w[2], w[1], w[0], w[3]) ^ column_at(keys, 16 * r + 8)),
-        unmixed(unsubstituted(w[3], w[2], w[1], w[0]) ^ column_at(keys, 16 * r + 12)),
     ]
 }

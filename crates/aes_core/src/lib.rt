@@ -14,7 +14,6 @@ pub mod blocks;
 mod column_tables;
 mod columns;
 mod expansion;
-mod inverse_column_tables;
 mod laws;
 mod rounds;
 mod sboxes;
@@ -80,7 +79,7 @@ impl Schedule {
     pub fn decrypt_block(&self, block: &mut [u8; 16])
         ensures { block.new ≡ decrypt self.now block.old }
     {
-        *block = rounds::decipher(&self.keys, self.words + 5, block);
+        *block = steps::decipher(&self.keys, self.words + 5, *block);
     }
 
     /// The number of rounds (FIPS 197, 5).

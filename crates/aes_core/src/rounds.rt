@@ -1,27 +1,13 @@
-//! The cipher and its inverse under the round keys (FIPS 197, 5.1 and 5.3), by tables.
+//! The cipher under the round keys (FIPS 197, 5.1), by tables.
 
 ghost use Rattle.std.specs.Prelude.{◌≡◌, ℕ, ◌+◌, ◌-◌, ◌%◌, ◌<◌, ◌≤◌, List};
-ghost use Rattle.aes_core.specs.Aes.{after_rounds, enciphered, deciphered, inverse_sub_bytes};
+ghost use Rattle.aes_core.specs.Aes.{after_rounds, enciphered};
 ghost use Rattle.aes_core.specs.Columns.{words_of};
 ghost use Rattle.aes_core.specs.State.{IsState};
 
 use crate::blocks::Block;
-use crate::columns::{
-    Columns, after_inverse_round, after_last_round, after_round, columns_of, state_of,
-};
-use crate::sboxes::inverse_sbox;
-use crate::steps::{add_round_key, inverse_shift_rows};
-
-// InvSubBytes (FIPS 197, 5.3.2).
-fn unsubstituted(s: Block) -> Block
-    ensures { result ≡ inverse_sub_bytes s }
-{
-    let mut out = [0u8; 16];
-    for i in 0..16 {
-        out[i] = inverse_sbox(s[i]);
-    }
-    out
-}
+use crate::columns::{Columns, after_last_round, after_round, columns_of, state_of};
+use crate::steps::add_round_key;
 
 // Two rounds on the columns behind round r.
 #[inline(always)]
@@ -71,17 +57,4 @@ pub fn encipher(keys: &[u8; 240], count: usize, block: &Block) -> Block
     let start = columns_of(&add_round_key(*block, keys, 0));
     let before = after_round(even_rounds(start, keys, count), keys, count);
     state_of(after_last_round(before, keys, count + 1))
-}
-
-/// The inverse cipher under the round keys, with `count` rounds before the last (FIPS 197, 5.3).
-pub fn decipher(keys: &[u8; 240], count: usize, block: &Block) -> Block
-    requires { count < 14 }
-    ensures { result ≡ deciphered keys.now count block.now }
-{
-    let mut w = columns_of(&add_round_key(*block, keys, count + 1));
-    for n in 0..count {
-        let next = after_inverse_round(w, keys, count - n);
-        w = next;
-    }
-    add_round_key(unsubstituted(inverse_shift_rows(state_of(w))), keys, 0)
 }

@@ -5,7 +5,7 @@
 //! memory.
 #![tactic(auto)]
 
-ghost use Rattle.std.specs.Prelude.{◌≡◌, ◌≢◌, ◌+◌, ◌*◌, ◌%◌, ◌^◌, ◌<◌, ◌≤◌, [], ◌∷◌, Ok, Err, MatchResult, is_ok, length, map, replicate, true};
+ghost use Rattle.std.specs.Prelude.{◌≡◌, ◌≢◌, ◌+◌, ◌*◌, ◌%◌, ◌^◌, ◌<◌, ◌≤◌, [], ◌∷◌, Ok, Err, MatchResult, OnErr, is_ok, length, map, replicate, true};
 ghost use Rattle.block_traits.specs.Parts.{parts};
 ghost use Rattle.eli_base.specs.Units.{unit_bytes_of};
 ghost use Rattle.sealing.specs.TaggedUnits.{opened_tagged, sealed_tagged};
@@ -38,7 +38,6 @@ pub struct Mismatch {
 /// Seals the plain bytes of a unit into its device sector, which stands at this byte offset of the device.
 pub fn seal_piece(ring: &mut KeyRing, offset: u64, plain: &[u8], out: &mut Sector)
     requires on { ring.old.keying.auth ≢ Auth.Off }
-    requires at_least { 16 ≤ length plain.now }
     requires at_most { length plain.now ≤ unit_bytes_of ring.old.keying.auth }
     requires blocks { length plain.now % 16 ≡ 0 }
     ensures sealed { out.new ≡ sealed_tagged ring.old.keying offset plain.now }
@@ -137,7 +136,6 @@ pub fn open_piece(
     out: &mut [u8],
 ) -> Result<(), Mismatch>
     requires on { ring.old.keying.auth ≢ Auth.Off }
-    requires at_least { 16 ≤ length out.old }
     requires at_most { length out.old ≤ unit_bytes_of ring.old.keying.auth }
     requires blocks { length out.old % 16 ≡ 0 }
     ensures opened { let answer = opened_tagged ring.old.keying offset (length out.old) from.now in
@@ -263,6 +261,7 @@ pub fn open_four(
     requires place { offset + 1536 < 2 ^ 64 }
     ensures opened { let answer = joined (opened_units ring.old.keying offset (parts 512 4 from.now)) in
         MatchResult result (λ _. answer ≡ Ok out.new) (λ bad. answer ≡ Err bad) }
+    ensures stays { OnErr result (out.new ≡ out.old) }
     ensures keying { ring.new.keying ≡ ring.old.keying }
 {
     let size = ring.auth().tag_bytes();

@@ -7,7 +7,7 @@ use Rattle.eli_base.specs.Keying.{Keying}
 use Rattle.provider.specs.Attached.{media}
 use Rattle.provider.specs.Reading.{data_reading}
 use Rattle.byte_ranges.specs.Ranges.{IsCoverOf, IsInside, first_sector, part_of, range_reading, sectors_covered, skipped}
-use Rattle.byte_ranges.specs.Reads.{CannotRead, ReadsRange, ReadsSectors}
+use Rattle.byte_ranges.specs.Reads.{CannotReadRange, ReadsRange, ReadsWholeSectors}
 use Rattle.byte_ranges.specs.declared.cover.Cover.{Cover}
 use Rattle.byte_ranges.specs.declared.ranges.ByteRange.{ByteRange}
 
@@ -58,13 +58,13 @@ fault_read (Some c) k r cover is h = (
 )
 
 cannot_range : (k : Keying) (r : ByteRange) (cover : Cover) (bytes : List ℕ) (old new : DiskState) → IsCoverOf k r cover
-    → ReadsSectors k cover.first cover.count bytes false old new → CannotRead k r old new
+    → ReadsWholeSectors k cover.first cover.count bytes false old new → CannotReadRange k r old new
 cannot_range k r cover bytes old new is h =
     elim h [ inl fails ↦ inl fails | inr read ↦ inr (read.0, fault_read old.content k r cover is read.1) ]
 
 -- what reading its sectors says of a range
 pub range_by : (answer : Bool) (k : Keying) (r : ByteRange) (cover : Cover) (bytes : List ℕ) (old new : DiskState) → IsCoverOf k r cover → length bytes ≡ cover.whole
-    → ReadsSectors k cover.first cover.count bytes answer old new → ReadsRange k r (take r.count (drop cover.skip bytes)) answer old new
+    → ReadsWholeSectors k cover.first cover.count bytes answer old new → ReadsRange k r (take r.count (drop cover.skip bytes)) answer old new
 range_by true k r cover bytes old new is all h =
     record { size = as_asked k r cover bytes is all; logs = h.0; reads = part_read old.content k r cover bytes is h.1 }
 range_by false k r cover bytes old new is all h = cannot_range k r cover bytes old new is h

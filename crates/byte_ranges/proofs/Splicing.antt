@@ -11,7 +11,7 @@ use Rattle.eli_base.specs.Units.{media_sectors}
 use Rattle.provider.specs.Attached.{media}
 use Rattle.byte_ranges.proofs.Covering.{sectors_inside}
 use Rattle.provider.specs.Reading.{sector_reading}
-use Rattle.byte_ranges.specs.Edges.{HasBack, HasFront, PutsBack, PutsFront, SectorFails}
+use Rattle.byte_ranges.specs.Edges.{EdgeFails, HasBack, HasFront, PutsBackEdge, PutsFrontEdge}
 use Rattle.byte_ranges.specs.Ranges.{IsCoverOf, IsEdge, IsInside, IsSpliced, SectorHas, first_sector, sectors_covered, skipped}
 use Rattle.byte_ranges.specs.Writes.{CannotSplice, SplicesInto}
 use Rattle.byte_ranges.specs.declared.cover.Cover.{Cover}
@@ -81,7 +81,7 @@ HasBack-before k sector end mids news old middle logs h = subst (λ (told : Opti
 
 -- both parts were put there
 pub spliced : (k : Keying) (r : ByteRange) (cover : Cover) (olds mids news : List ℕ) (old middle new : DiskState) → IsCoverOf k r cover → length olds ≡ cover.whole
-    → PutsFront k cover.first cover.skip olds mids true old middle → PutsBack k (cover.first + (cover.count - 1)) (cover.skip + r.count) mids news true middle new
+    → PutsFrontEdge k cover.first cover.skip olds mids true old middle → PutsBackEdge k (cover.first + (cover.count - 1)) (cover.skip + r.count) mids news true middle new
     → SplicesInto k r cover.skip olds news true old new
 spliced k r cover olds mids news old middle new is size front back = (
   Logs-then [] [] front.0 back.0,
@@ -97,14 +97,14 @@ fault_before : (told : Option Content) (k : Keying) (r : ByteRange) (sector : �
 fault_before None k r sector edge h = tt
 fault_before (Some c) k r sector edge h = (sector, h.0, edge, h.1)
 
-cannot : (k : Keying) (r : ByteRange) (sector : ℕ) (old new : DiskState) → IsEdge k r sector → SectorFails k sector old new → CannotSplice k r old new
+cannot : (k : Keying) (r : ByteRange) (sector : ℕ) (old new : DiskState) → IsEdge k r sector → EdgeFails k sector old new → CannotSplice k r old new
 cannot k r sector old new edge h = elim h [ inl fails ↦ inl fails | inr read ↦ inr (read.0, fault_before old.content k r sector edge read.1) ]
 
 FailsIn-before : (old middle new : DiskState) → Logs [] old middle → FailsIn [] middle new → FailsIn [] old new
 FailsIn-before old middle new logs fails = FailsIn-then [] [] logs fails
 
-SectorFails-before : (k : Keying) (sector : ℕ) (old middle new : DiskState) → Logs [] old middle → SectorFails k sector middle new → SectorFails k sector old new
-SectorFails-before k sector old middle new logs h = elim h [
+EdgeFails-before : (k : Keying) (sector : ℕ) (old middle new : DiskState) → Logs [] old middle → EdgeFails k sector middle new → EdgeFails k sector old new
+EdgeFails-before k sector old middle new logs h = elim h [
   | inl fails ↦ inl (FailsIn-before old middle new logs fails)
   | inr read ↦ inr (
     Logs-then [] [] logs read.0,
@@ -113,19 +113,19 @@ SectorFails-before k sector old middle new logs h = elim h [
 ]
 
 pub no_front : (k : Keying) (r : ByteRange) (cover : Cover) (olds mids : List ℕ) (old new : DiskState) → IsCoverOf k r cover
-    → PutsFront k cover.first cover.skip olds mids false old new → CannotSplice k r old new
+    → PutsFrontEdge k cover.first cover.skip olds mids false old new → CannotSplice k r old new
 no_front k r cover olds mids old new is h =
     cannot k r cover.first old new (inl (subst (λ (m : ℕ). 0 < m) is.skip h.0, is.first)) h.1
 
 pub no_back : (k : Keying) (r : ByteRange) (cover : Cover) (olds mids news : List ℕ) (old middle new : DiskState) → IsCoverOf k r cover → length olds ≡ cover.whole
-    → PutsFront k cover.first cover.skip olds mids true old middle → PutsBack k (cover.first + (cover.count - 1)) (cover.skip + r.count) mids news false middle new
+    → PutsFrontEdge k cover.first cover.skip olds mids true old middle → PutsBackEdge k (cover.first + (cover.count - 1)) (cover.skip + r.count) mids news false middle new
     → CannotSplice k r old new
 no_back k r cover olds mids news old middle new is size front back =
     let more : skipped k r + r.count < sectors_covered k r * k.sectorsize =
     omega (arith, back.0, front.1.size, size, is.whole, is.skip, ap (λ (m : ℕ). m * k.sectorsize) is.count) in
     cannot k r (cover.first + (cover.count - 1)) old new
     (inr (more, (λ i. is.first i + (is.count i - 1))))
-    (SectorFails-before k (cover.first + (cover.count - 1)) old middle new front.0 back.1)
+    (EdgeFails-before k (cover.first + (cover.count - 1)) old middle new front.0 back.1)
 
 pub has_cover : (k : Keying) (d : DiskState) (r : ByteRange) (cover : Cover) → IsCoverOf k r cover → IsInside k d r → (cover.first + 1 ≤ media k d) × (cover.first + (cover.count - 1) + 1 ≤ media k d)
 has_cover k d r cover is inside = let all = sectors_inside k d r cover is inside in (omega (arith, all, is.some), omega (arith, all, is.some))
@@ -146,11 +146,11 @@ all_there k other old new r cover same logs is inside = omega (arith, media_same
 
 -- what is answered once the first part is there
 pub splices_by : (answer : Bool) (k other : Keying) (r : ByteRange) (cover : Cover) (olds mids news : List ℕ) (old middle new : DiskState) → other ≡ k → IsCoverOf k r cover → length olds ≡ cover.whole
-    → PutsFront k cover.first cover.skip olds mids true old middle → PutsBack other (cover.first + (cover.count - 1)) (cover.skip + r.count) mids news answer middle new
+    → PutsFrontEdge k cover.first cover.skip olds mids true old middle → PutsBackEdge other (cover.first + (cover.count - 1)) (cover.skip + r.count) mids news answer middle new
     → SplicesInto k r cover.skip olds news answer old new
 splices_by true k other r cover olds mids news old middle new same is size front back =
     spliced k r cover olds mids news old middle new is size front
-    (subst (λ (key : Keying). PutsBack key (cover.first + (cover.count - 1)) (cover.skip + r.count) mids news true middle new) same back)
+    (subst (λ (key : Keying). PutsBackEdge key (cover.first + (cover.count - 1)) (cover.skip + r.count) mids news true middle new) same back)
 splices_by false k other r cover olds mids news old middle new same is size front back =
     no_back k r cover olds mids news old middle new is size front
-    (subst (λ (key : Keying). PutsBack key (cover.first + (cover.count - 1)) (cover.skip + r.count) mids news false middle new) same back)
+    (subst (λ (key : Keying). PutsBackEdge key (cover.first + (cover.count - 1)) (cover.skip + r.count) mids news false middle new) same back)

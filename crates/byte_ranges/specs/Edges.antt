@@ -7,13 +7,13 @@ use Rattle.provider.specs.Reading.{sector_reading}
 use Rattle.byte_ranges.specs.Ranges.{SectorHas}
 
 -- a sector can't be read: the disk failed, or a unit of it has another tag than its ciphertext
-abbrev pub SectorFails : Keying → ℕ → DiskState → DiskState → Type 0
-SectorFails k sector old new =
+abbrev pub EdgeFails : Keying → ℕ → DiskState → DiskState → Type 0
+EdgeFails k sector old new =
     FailsIn [] old new ⊎ (Logs [] old new × IfSome old.content (λ c. (offset : ℕ) × (sector_reading k c sector ≡ Err offset)))
 
-abbrev pub ReadsSector : Keying → ℕ → List ℕ → Bool → DiskState → DiskState → Type 0
-ReadsSector k sector bytes true old new = Logs [] old new × IfSome old.content (λ c. SectorHas k c sector bytes)
-ReadsSector k sector bytes false old new = SectorFails k sector old new
+abbrev pub ReadsEdge : Keying → ℕ → List ℕ → Bool → DiskState → DiskState → Type 0
+ReadsEdge k sector bytes true old new = Logs [] old new × IfSome old.content (λ c. SectorHas k c sector bytes)
+ReadsEdge k sector bytes false old new = EdgeFails k sector old new
 
 -- the first bytes of a list became those that a sector has there, and no other byte changed
 pub record HasFront (told : Option Content) (k : Keying) (sector skip : ℕ) (old new : List ℕ) : Type 0 where
@@ -21,9 +21,9 @@ pub record HasFront (told : Option Content) (k : Keying) (sector skip : ℕ) (ol
   pub rest : drop skip new ≡ drop skip old
   pub front : 0 < skip → IfSome told (λ c. (there : List ℕ) × SectorHas k c sector there × (take skip new ≡ take skip there))
 
-abbrev pub PutsFront : Keying → ℕ → ℕ → List ℕ → List ℕ → Bool → DiskState → DiskState → Type 0
-PutsFront k sector skip bytes more true old new = Logs [] old new × HasFront old.content k sector skip bytes more
-PutsFront k sector skip bytes more false old new = (0 < skip) × SectorFails k sector old new
+abbrev pub PutsFrontEdge : Keying → ℕ → ℕ → List ℕ → List ℕ → Bool → DiskState → DiskState → Type 0
+PutsFrontEdge k sector skip bytes more true old new = Logs [] old new × HasFront old.content k sector skip bytes more
+PutsFrontEdge k sector skip bytes more false old new = (0 < skip) × EdgeFails k sector old new
 
 -- the bytes of a list from a place on became the last that a sector has, and no other byte changed
 pub record HasBack (told : Option Content) (k : Keying) (sector end : ℕ) (old new : List ℕ) : Type 0 where
@@ -31,6 +31,6 @@ pub record HasBack (told : Option Content) (k : Keying) (sector end : ℕ) (old 
   pub rest : take end new ≡ take end old
   pub back : end < length old → IfSome told (λ c. (there : List ℕ) × SectorHas k c sector there × (drop end new ≡ drop (k.sectorsize - (length old - end)) there))
 
-abbrev pub PutsBack : Keying → ℕ → ℕ → List ℕ → List ℕ → Bool → DiskState → DiskState → Type 0
-PutsBack k sector end bytes more true old new = Logs [] old new × HasBack old.content k sector end bytes more
-PutsBack k sector end bytes more false old new = (end < length bytes) × SectorFails k sector old new
+abbrev pub PutsBackEdge : Keying → ℕ → ℕ → List ℕ → List ℕ → Bool → DiskState → DiskState → Type 0
+PutsBackEdge k sector end bytes more true old new = Logs [] old new × HasBack old.content k sector end bytes more
+PutsBackEdge k sector end bytes more false old new = (end < length bytes) × EdgeFails k sector old new

@@ -7,24 +7,24 @@ use Rattle.byte_ranges.specs.Ranges.{range_reading}
 use Rattle.byte_ranges.specs.declared.ranges.ByteRange.{ByteRange}
 
 -- some sectors: their bytes; or the disk failed, or a unit has another tag than its ciphertext
-abbrev pub ReadsSectors : Keying → ℕ → ℕ → List ℕ → Bool → DiskState → DiskState → Type 0
-ReadsSectors k first count bytes true old new = Logs [] old new × IfSome old.content (λ c. data_reading k c first count ≡ Ok bytes)
-ReadsSectors k first count bytes false old new =
+abbrev pub ReadsWholeSectors : Keying → ℕ → ℕ → List ℕ → Bool → DiskState → DiskState → Type 0
+ReadsWholeSectors k first count bytes true old new = Logs [] old new × IfSome old.content (λ c. data_reading k c first count ≡ Ok bytes)
+ReadsWholeSectors k first count bytes false old new =
     FailsIn [] old new ⊎ (Logs [] old new × IfSome old.content (λ c. (offset : ℕ) × (data_reading k c first count ≡ Err offset)))
 
 -- a range can't be read: the disk failed, or a unit of its sectors has another tag than its ciphertext
-abbrev pub CannotRead : Keying → ByteRange → DiskState → DiskState → Type 0
-CannotRead k r old new =
+abbrev pub CannotReadRange : Keying → ByteRange → DiskState → DiskState → Type 0
+CannotReadRange k r old new =
     FailsIn [] old new
     ⊎ (Logs [] old new × IfSome old.content (λ c. (offset : ℕ) × (range_reading k c r ≡ Err offset)))
 
 -- a range was read as these bytes
-pub record IsReadAs (k : Keying) (r : ByteRange) (bytes : List ℕ) (old new : DiskState) : Type 0 where
+pub record IsRangeReadAs (k : Keying) (r : ByteRange) (bytes : List ℕ) (old new : DiskState) : Type 0 where
   pub size : length bytes ≡ r.count
   pub logs : Logs [] old new
   pub reads : IfSome old.content (λ c. range_reading k c r ≡ Ok bytes)
 
 -- it was read, or it can't be
 abbrev pub ReadsRange : Keying → ByteRange → List ℕ → Bool → DiskState → DiskState → Type 0
-ReadsRange k r bytes true old new = IsReadAs k r bytes old new
-ReadsRange k r bytes false old new = CannotRead k r old new
+ReadsRange k r bytes true old new = IsRangeReadAs k r bytes old new
+ReadsRange k r bytes false old new = CannotReadRange k r old new

@@ -1,8 +1,9 @@
 //! Ranges of bytes of a provider, and reading them.
 ghost use Rattle.std.specs.Prelude.{◌≡◌, ◌+◌, ◌*◌, ◌<◌, ◌≤◌, drop, false, length, take, true};
 ghost use Rattle.provider.specs.Attached.{IsKept, media};
+ghost use Rattle.sealing.specs.Sectors.{units};
 ghost use Rattle.byte_ranges.specs.Ranges.{IsCoverOf, IsInside, data_size};
-ghost use Rattle.byte_ranges.specs.Reads.{ReadsRange, ReadsSectors};
+ghost use Rattle.byte_ranges.specs.Reads.{ReadsRange, ReadsWholeSectors};
 
 use crate::cover::Cover;
 use block_traits::Disk;
@@ -56,7 +57,8 @@ pub(crate) fn read_sectors<D: Disk>(
     requires some { 1 ≤ count }
     requires wide { 512 ≤ provider.old.keying.sectorsize }
     requires inside { first + count ≤ media provider.old.keying (D.state provider.old.disk) }
-    ensures reads { ReadsSectors provider.old.keying first count into.new result (D.state provider.old.disk) (D.state provider.new.disk) }
+    ensures reads { ReadsWholeSectors provider.old.keying first count into.new result (D.state provider.old.disk) (D.state provider.new.disk) }
+    ensures asked { (D.state provider.new.disk).reads ≤ (D.state provider.old.disk).reads + count * units provider.old.keying }
     ensures kept { IsKept provider.old provider.new }
 {
     let _ = count;

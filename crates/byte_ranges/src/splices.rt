@@ -3,7 +3,8 @@ ghost use Rattle.std.specs.Prelude.{◌≡◌, ◌+◌, ◌*◌, ◌<◌, ◌≤
 ghost use Rattle.aes_core.specs.Schedule.{AreBytes};
 ghost use Rattle.provider.specs.Attached.{IsKept, media};
 ghost use Rattle.provider.specs.Writing.{data_writes};
-ghost use Rattle.byte_ranges.specs.Edges.{PutsBack, PutsFront, ReadsSector};
+ghost use Rattle.sealing.specs.Sectors.{units};
+ghost use Rattle.byte_ranges.specs.Edges.{PutsBackEdge, PutsFrontEdge, ReadsEdge};
 ghost use Rattle.byte_ranges.specs.Ranges.{IsCoverOf, IsInside};
 ghost use Rattle.byte_ranges.specs.Writes.{LogsOrFails, SplicesInto, WritesRange, flush_events};
 
@@ -17,7 +18,8 @@ fn read_edge<D: Disk>(provider: &mut Provider<D>, sector: u64, into: &mut [u8]) 
     requires size { length into.old ≡ provider.old.keying.sectorsize }
     requires wide { 512 ≤ provider.old.keying.sectorsize }
     requires inside { sector + 1 ≤ media provider.old.keying (D.state provider.old.disk) }
-    ensures reads { ReadsSector provider.old.keying sector into.new result (D.state provider.old.disk) (D.state provider.new.disk) }
+    ensures reads { ReadsEdge provider.old.keying sector into.new result (D.state provider.old.disk) (D.state provider.new.disk) }
+    ensures asked { (D.state provider.new.disk).reads ≤ (D.state provider.old.disk).reads + units provider.old.keying }
     ensures kept { IsKept provider.old provider.new }
 {
     read_sectors(provider, sector, 1, into)
@@ -36,7 +38,9 @@ fn put_front<D: Disk>(
     requires skip { skip < provider.old.keying.sectorsize }
     requires within { skip ≤ length sectors.old }
     requires inside { sector + 1 ≤ media provider.old.keying (D.state provider.old.disk) }
-    ensures puts { PutsFront provider.old.keying sector skip sectors.old sectors.new result (D.state provider.old.disk) (D.state provider.new.disk) }
+    ensures puts { PutsFrontEdge provider.old.keying sector skip sectors.old sectors.new result (D.state provider.old.disk) (D.state provider.new.disk) }
+    ensures asked { (D.state provider.new.disk).reads ≤ (D.state provider.old.disk).reads + units provider.old.keying }
+    ensures unasked { skip ≡ 0 → (D.state provider.new.disk).reads ≡ (D.state provider.old.disk).reads }
     ensures kept { IsKept provider.old provider.new }
 {
     if skip == 0 {
@@ -64,7 +68,9 @@ fn put_back<D: Disk>(
     requires within { end ≤ length sectors.old }
     requires least { length sectors.old < end + provider.old.keying.sectorsize }
     requires inside { sector + 1 ≤ media provider.old.keying (D.state provider.old.disk) }
-    ensures puts { PutsBack provider.old.keying sector end sectors.old sectors.new result (D.state provider.old.disk) (D.state provider.new.disk) }
+    ensures puts { PutsBackEdge provider.old.keying sector end sectors.old sectors.new result (D.state provider.old.disk) (D.state provider.new.disk) }
+    ensures asked { (D.state provider.new.disk).reads ≤ (D.state provider.old.disk).reads + units provider.old.keying }
+    ensures unasked { end ≡ length sectors.old → (D.state provider.new.disk).reads ≡ (D.state provider.old.disk).reads }
     ensures kept { IsKept provider.old provider.new }
 {
     let left = sectors.len() - end;
@@ -99,6 +105,8 @@ fn splice<D: Disk>(
     requires covers { IsCoverOf provider.old.keying range.now cover.now }
     requires size { length sectors.old ≡ cover.now.whole }
     ensures splices { SplicesInto provider.old.keying range.now cover.now.skip sectors.old sectors.new result (D.state provider.old.disk) (D.state provider.new.disk) }
+    ensures asked { (D.state provider.new.disk).reads ≤ (D.state provider.old.disk).reads + 2 * units provider.old.keying }
+    ensures unasked { cover.now.skip ≡ 0 → range.now.count ≡ cover.now.whole → (D.state provider.new.disk).reads ≡ (D.state provider.old.disk).reads }
     ensures kept { IsKept provider.old provider.new }
 {
     let last = cover.first + (cover.count as u64 - 1);
@@ -124,6 +132,7 @@ fn write_sectors<D: Disk>(provider: &mut Provider<D>, first: u64, count: usize, 
     requires inside { first + count ≤ media provider.old.keying (D.state provider.old.disk) }
     requires writable { provider.old.readonly ≡ false }
     ensures writes { LogsOrFails (data_writes provider.old.keying first count from.now) result (D.state provider.old.disk) (D.state provider.new.disk) }
+    ensures unasked { (D.state provider.new.disk).reads ≡ (D.state provider.old.disk).reads }
     ensures kept { IsKept provider.old provider.new }
 {
     let _ = count;
@@ -136,6 +145,7 @@ fn write_sectors<D: Disk>(provider: &mut Provider<D>, first: u64, count: usize, 
 // Flushes where that is asked for.
 fn flush_where<D: Disk>(provider: &mut Provider<D>, wanted: bool) -> bool
     ensures flushes { LogsOrFails (flush_events wanted) result (D.state provider.old.disk) (D.state provider.new.disk) }
+    ensures unasked { (D.state provider.new.disk).reads ≡ (D.state provider.old.disk).reads }
     ensures kept { IsKept provider.old provider.new }
 {
     if !wanted {
@@ -148,8 +158,9 @@ fn flush_where<D: Disk>(provider: &mut Provider<D>, wanted: bool) -> bool
 }
 
 /// Writes a range, whose bytes stand in `sectors` from `cover.skip` on, and flushes the disk where `flush` asks for it.
-/// What the first and the last sector have beside the range is read first. `edge` is room for one sector. `false`: the
-/// disk failed, or a unit that had to be read has another tag than its ciphertext; then nothing was written.
+/// What the first and the last sector have beside the range is read first: at most two sectors, and none where the range
+/// is whole sectors. `edge` is room for one sector. `false`: the disk failed; or a unit that had to be read has another
+/// tag than its ciphertext, and nothing was written.
 pub fn write_range<D: Disk>(
     provider: &mut Provider<D>,
     sectors: &mut [u8],
@@ -169,6 +180,8 @@ pub fn write_range<D: Disk>(
     requires size { length sectors.old ≡ cover.now.whole }
     ensures writes { WritesRange provider.old.keying range.now flush (take range.now.count (drop cover.now.skip sectors.old)) result
         (D.state provider.old.disk) (D.state provider.new.disk) }
+    ensures asked { (D.state provider.new.disk).reads ≤ (D.state provider.old.disk).reads + 2 * units provider.old.keying }
+    ensures unasked { cover.now.skip ≡ 0 → range.now.count ≡ cover.now.whole → (D.state provider.new.disk).reads ≡ (D.state provider.old.disk).reads }
     ensures kept { IsKept provider.old provider.new }
 {
     if !splice(provider, sectors, edge, range, cover) {

@@ -7,7 +7,7 @@ use Rattle.std.specs.declared.vec.Vec.{Vec}
 use Rattle.std.proofs.lemmas.List.{take_more}
 use Rattle.std.proofs.lemmas.Option.{slice_get_read}
 use Rattle.std.proofs.lemmas.Slice.Eq.{bytes_eq-Decides}
-use Rattle.file_edge.specs.Names.{Absent, Failing, Holds, MakesName, Named, NameMap, Names, RenamesName, WritesNew, appended, made, renamed, with_name, with_new, without, written}
+use Rattle.file_edge.specs.Names.{Absent, Failing, Holds, MakesName, Named, NameMap, NamedFiles, RenamesName, WritesNew, appended, made_empty, renamed, with_name, with_new, without_name, written_behind}
 use Rattle.file_edge.specs.declared.found.FileId.{FileId}
 use Rattle.edge_tests.specs.Change.{HasFile, after_changes, changed, given_named, named_at, named_in, nothing}
 use Rattle.edge_tests.specs.declared.change.Change.{Change}

@@ -94,25 +94,15 @@ fn an_image_is_held_by_one_disk(rt: HostRuntime) -> Result<(), Fail> {
     Ok(())
 }
 
-// Whether the last sector of a disk takes bytes that are flushed.
-fn ends<D: Disk>(mut disk: D) -> bool {
-    match disk.sectors().checked_sub(1) {
-        Some(last) => disk.write(last, &[9; 512]).is_ok() && disk.flush().is_ok(),
-        None => false,
-    }
-}
-
-// Whether the image of a name takes a last sector.
+// Whether the image of a name takes a last sector that is flushed.
 fn ends_image(rt: &HostRuntime, name: &str) -> Result<bool, Fail> {
     let mut opener = SystemFiles::new(rt.clone()?);
     let mut files = Vec::new(rt.alloc());
-    Ok(ends(open_image(
-        rt.alloc(),
-        &mut opener,
-        &mut files,
-        true,
-        name,
-    )?))
+    let mut image = open_image(rt.alloc(), &mut opener, &mut files, true, name)?;
+    let Some(last) = image.sectors().checked_sub(1) else {
+        return Ok(false);
+    };
+    Ok(image.write(last, &[9; 512]).is_ok() && image.flush().is_ok())
 }
 
 // Whether a file of three sectors is left with zeros, and these bytes in its last sector. It goes.
@@ -154,28 +144,22 @@ fn run_of(alloc: Global, sectors: u8) -> Result<Vec<u8>, AllocError> {
     Ok(bytes)
 }
 
-// Whether a sector has zeros.
-fn is_blank<D: Disk>(disk: &mut D, n: u64) -> bool {
-    let mut bytes = [7; 512];
-    n < disk.sectors() && disk.read(n, &mut bytes).is_ok() && bytes == [0; 512]
-}
-
-// Whether a disk takes a run from sector 1 on that is flushed, after its first and third sector were read.
-fn takes_run<D: Disk>(mut disk: D, run: &[u8]) -> bool {
-    is_blank(&mut disk, 0)
-        && is_blank(&mut disk, 2)
-        && run.len() % 512 == 0
-        && 1 + run.len() as u64 / 512 <= disk.sectors()
-        && disk.write_sectors(1, run).is_ok()
-        && disk.flush().is_ok()
-}
-
-// Whether the image of a name takes a run.
+// Whether the image of a name takes a run from sector 1 on that is flushed, after its first and third sector, which have
+// zeros, were read.
 fn takes_run_as(rt: &HostRuntime, name: &str, run: &[u8]) -> Result<bool, Fail> {
     let mut opener = SystemFiles::new(rt.clone()?);
     let mut files = Vec::new(rt.alloc());
-    let image = open_image(rt.alloc(), &mut opener, &mut files, true, name)?;
-    Ok(takes_run(image, run))
+    let mut image = open_image(rt.alloc(), &mut opener, &mut files, true, name)?;
+    for n in [0, 2] {
+        let mut bytes = [7; 512];
+        if n >= image.sectors() || image.read(n, &mut bytes).is_err() || bytes != [0; 512] {
+            return Ok(false);
+        }
+    }
+    if run.len() % 512 != 0 || 1 + run.len() as u64 / 512 > image.sectors() {
+        return Ok(false);
+    }
+    Ok(image.write_sectors(1, run).is_ok() && image.flush().is_ok())
 }
 
 // A run over the seam of a join, and one of more sectors than may wait, are left in order, and nothing else changes.

@@ -52,4 +52,24 @@ impl<R: Abort + Drop> MemFolder<R> {
             None => None,
         }
     }
+
+    /// Whether each name has the bytes that it had in another folder, but for this one.
+    pub(crate) fn is_left_but_for(&self, before: &MemFolder<R>, name: &str) -> bool {
+        for change in &self.changes {
+            let other = change.name.as_str();
+            if other != name && !self.agrees(before, other) {
+                return false;
+            }
+        }
+        true
+    }
+
+    // Whether a name has the same bytes in another folder, or nothing in both.
+    fn agrees(&self, other: &MemFolder<R>, name: &str) -> bool {
+        match (self.file(name), other.file(name)) {
+            (Some((_, here)), Some((_, there))) => here.as_slice() == there.as_slice(),
+            (None, None) => true,
+            _ => false,
+        }
+    }
 }

@@ -1,5 +1,6 @@
 //! Runs of words over files in memory that tell what they hold.
 use crate::mem_files::{Changes, MemFiles, counted, none_seen};
+use crate::mem_folder::MemFolder;
 use crate::seen_disk::Seen;
 use block_traits::{Disk, Event};
 use crash_disk::{CallKind, FailAt, MemSink, MemSource};
@@ -249,13 +250,20 @@ struct Given<'a> {
     room: u64,
 }
 
-// How such a run ends, and what it asked of names.
+// The folder before a run.
+fn folder<R: Abort + Drop>(rt: R, alloc: Global) -> Result<MemFolder<R>, Fail> {
+    let changes: Changes = Rc::new(alloc, RefCell::new(Vec::new(alloc)))?;
+    let files = MemFiles::new(rt, alloc, Vec::new(alloc), 1, none_seen(alloc)?, changes)?;
+    Ok(files.folder)
+}
+
+// How such a run ends, and the folder that it leaves.
 fn end_of<R: Abort + Drop>(
     rt: R,
     alloc: Global,
     given: Given<'_>,
     changes: &Changes,
-) -> Result<Status, Fail> {
+) -> Result<(Status, MemFolder<R>), Fail> {
     let opener = MemFiles::new(
         rt,
         alloc,
@@ -270,21 +278,47 @@ fn end_of<R: Abort + Drop>(
     }
     let mut input = MemSource::new(alloc, given.input, &[], given.fails)?;
     let mut output = MemSink::new(alloc, &[], &[], given.room)?;
-    Ok(status_of(alloc, &words, opener, &mut input, &mut output))
+    Ok(
+        match run_files(alloc, &words, opener, &mut input, &mut output) {
+            Ok((status, _shelf, files, _entropy)) => (status, files.into_opener().folder),
+            Err((opener, _)) => (Status::NoMemory, opener.folder),
+        },
+    )
 }
 
-// Whether it ends so, and asked this of names.
+// How a run is to end: its status, what it asks of names, and the name that it stores; none has no bytes.
+#[derive(Clone, Copy)]
+struct Wanted<'a> {
+    status: Status,
+    asked: &'a [u8],
+    stored: &'a str,
+}
+
+// An end with which nothing is stored.
+fn end<'a>(status: Status, asked: &'a [u8]) -> Wanted<'a> {
+    Wanted {
+        status,
+        asked,
+        stored: "",
+    }
+}
+
+// Whether it ends so, and each name has the bytes that it had before, but for the one that is stored.
 fn asks<R: Abort + Drop>(
     rt: R,
     alloc: Global,
+    before: &MemFolder<R>,
     given: Given<'_>,
-    status: Status,
-    wanted: &[u8],
+    wanted: Wanted<'_>,
 ) -> Result<bool, Fail> {
     let changes: Changes = Rc::new(alloc, RefCell::new(Vec::new(alloc)))?;
-    let ended = end_of(rt, alloc, given, &changes)?;
+    let (status, folder) = end_of(rt, alloc, given, &changes)?;
     let asked = changes.try_borrow()?;
-    Ok(ended == status && asked.as_slice() == wanted)
+    Ok(
+        status == wanted.status
+            && asked.as_slice() == wanted.asked
+            && folder.is_left_but_for(before, wanted.stored),
+    )
 }
 
 // The words of a script over the image, with this input.
@@ -308,22 +342,22 @@ fn alone<'a>(words: &'a [&'a str], room: u64) -> Given<'a> {
 }
 
 // Just the images, the random bytes and the files that lines load are opened, an image to be changed but where the
-// command only reads; no file is made, replaced or removed but the one that a line names to be stored, and three words
-// are served.
+// command only reads; no file is made, replaced or removed but the one that a line names to be stored, each other has its
+// bytes, and three words are served.
 #[test]
 fn a_run_changes_no_name_but_those_it_stores(rt: HostRuntime) -> Result<(), Fail> {
     let alloc = rt.alloc();
-    let stores = over(b"init -P -K k a.img\nbackup a.img b\n", &[]);
-    assert!(rt; asks(rt.clone()?, alloc, stores, Status::Done, b"Ooomwsrf")?);
-    assert!(rt;
-        asks(
-            rt.clone()?,
-            alloc,
-            alone(&["backup", "a.img", "b"], 99),
-            Status::SomeRefused,
-            b"oo"
-        )?
-    );
+    let before = folder(rt.clone()?, alloc)?;
+    let script = over(b"init -P -K k a.img\nbackup a.img b\n", &[]);
+    let stores = Wanted {
+        status: Status::Done,
+        asked: b"Ooomwsrf",
+        stored: "b",
+    };
+    assert!(rt; asks(rt.clone()?, alloc, &before, script, stores)?);
+    let backup = alone(&["backup", "a.img", "b"], 99);
+    let refused = end(Status::SomeRefused, b"oo");
+    assert!(rt; asks(rt.clone()?, alloc, &before, backup, refused)?);
     Ok(())
 }
 
@@ -331,43 +365,18 @@ fn a_run_changes_no_name_but_those_it_stores(rt: HostRuntime) -> Result<(), Fail
 #[test]
 fn a_run_that_ends_early_changes_no_name(rt: HostRuntime) -> Result<(), Fail> {
     let alloc = rt.alloc();
+    let before = folder(rt.clone()?, alloc)?;
     let long = vec![in alloc; b'x'; 300_001]?;
-    assert!(rt;
-        asks(
-            rt.clone()?,
-            alloc,
-            alone(&["destroy", "a.img"], 999),
-            Status::BadWords,
-            b"o"
-        )?
-    );
-    assert!(rt;
-        asks(
-            rt.clone()?,
-            alloc,
-            over(b"list\n", &[1]),
-            Status::ReadFault,
-            b"Oo"
-        )?
-    );
-    assert!(rt;
-        asks(
-            rt.clone()?,
-            alloc,
-            alone(&["dump", "a.img"], 0),
-            Status::WriteFault,
-            b"oo"
-        )?
-    );
-    assert!(rt;
-        asks(
-            rt.clone()?,
-            alloc,
-            over(&long, &[]),
-            Status::LineTooLong,
-            b"Oo"
-        )?
-    );
+    let usage = end(Status::BadWords, b"o");
+    let destroy = alone(&["destroy", "a.img"], 999);
+    assert!(rt; asks(rt.clone()?, alloc, &before, destroy, usage)?);
+    let unread = end(Status::ReadFault, b"Oo");
+    assert!(rt; asks(rt.clone()?, alloc, &before, over(b"list\n", &[1]), unread)?);
+    let unprinted = end(Status::WriteFault, b"oo");
+    let dump = alone(&["dump", "a.img"], 0);
+    assert!(rt; asks(rt.clone()?, alloc, &before, dump, unprinted)?);
+    let too_long = end(Status::LineTooLong, b"Oo");
+    assert!(rt; asks(rt.clone()?, alloc, &before, over(&long, &[]), too_long)?);
     Ok(())
 }
 

@@ -13,7 +13,7 @@ pub const VERSION: u32 = 7;
 /// The flag `G_ELI_FLAG_AUTH`: the data is authenticated.
 pub const FLAG_AUTH: u32 = 0x10;
 
-/// The flag `G_ELI_FLAG_RO`: the provider is to be read alone.
+/// The flag `G_ELI_FLAG_RO`: the provider is read-only.
 pub const FLAG_RO: u32 = 0x20;
 
 /// The flag `G_ELI_FLAG_AUTORESIZE`: the provider is to grow with its image.

@@ -16,7 +16,7 @@ use Rattle.block_traits.specs.declared.cabinet.LoadFault.{LoadFault}
 use Rattle.block_traits.specs.declared.cabinet.LoadFault.TheVariants as load
 use Rattle.file_edge.specs.FileCabinet.{LoadAnswers, LoadsNamed, LoadsOpened, fault_of, loaded_answer, read_fault}
 use Rattle.file_edge.specs.Found.{IsOneOfImages}
-use Rattle.file_edge.specs.Names.{Absent, Failing, Holds, IsThatFile, Named, NameMap, Names, OpensTold, OpensWhat, bytes_beside, files_beside, is_among, named_of, same_file, told_files, with_name}
+use Rattle.file_edge.specs.Names.{Absent, Failing, Holds, IsThatFile, Named, NameMap, NamedFiles, OpensTold, OpensWhat, bytes_beside, files_beside, is_among, named_of, same_file, told_files, with_name}
 use Rattle.file_edge.specs.declared.found.FileId.{FileId}
 use Rattle.file_edge.specs.declared.found.Found.{Found}
 use Rattle.file_edge.specs.declared.image_file.ImageFile as image_file
@@ -61,7 +61,7 @@ stored_map images name bytes (Some named) text =
     ap Some (λ i other. stored_here images bytes (bytes_eq other name) (is_utf8 other) (named other) (λ here. ap is_utf8 ((bytes_eq-Decides other name).0 here) ∙ text) i)
 
 -- a file under a name is one more file of the cabinet
-pub stored_files : (images : List FileId) (name bytes : List ℕ) (old new : Option Names) → IsUtf8 name
+pub stored_files : (images : List FileId) (name bytes : List ℕ) (old new : Option NamedFiles) → IsUtf8 name
     → named_of new ≡ option_map (with_name name (Holds None bytes)) (named_of old) → told_files images new ≡ stored name bytes (told_files images old)
 stored_files images name bytes old new text is = ap (option_map (files_beside images)) is ∙ stored_map images name bytes (named_of old) (is_utf8-from_IsUtf8 name text)
 
@@ -133,14 +133,14 @@ module _ {O F : Type 0} (o : opener.Ghosts O F) (f : image_file.Ghosts F) (image
   of_opened Failing (Err error) has loads = let P : Result (List ℕ) LoadFault → Type 0 = λ r. Answers (Err load.Absent) r in subst P (sym loads) (refused_absent (error_kind error))
 
   module _ (name : List ℕ) (opened : Result F Error) where
-    text_gives : (told : Option Names) → OpensTold f told name opened → LoadsOpened o f images opened limit result → IsUtf8 name → LoadGives (told_files images told) name limit result
+    text_gives : (told : Option NamedFiles) → OpensTold f told name opened → LoadsOpened o f images opened limit result → IsUtf8 name → LoadGives (told_files images told) name limit result
     text_gives None opens loads text = tt
     text_gives (Some names) opens loads text =
         let P : Bool → Type 0 = λ b. Answers (load_answer (cond b (bytes_beside images (names.named name)) None) limit) result in
         subst P (sym (is_utf8-from_IsUtf8 name text)) (of_opened (names.named name) opened opens loads)
 
 -- a name that is no text has no file
-none_gives : (images : List FileId) (name : List ℕ) (limit : ℕ) (result : Result (List ℕ) LoadFault) (told : Option Names) (is : Bool) → is_utf8 name ≡ is → (IsUtf8 name → ⊥) → result ≡ Err load.Absent
+none_gives : (images : List FileId) (name : List ℕ) (limit : ℕ) (result : Result (List ℕ) LoadFault) (told : Option NamedFiles) (is : Bool) → is_utf8 name ≡ is → (IsUtf8 name → ⊥) → result ≡ Err load.Absent
     → LoadGives (told_files images told) name limit result
 none_gives images name limit result None is same none answered = tt
 none_gives images name limit result (Some names) true same none answered = absurd (none (IsUtf8-from_is_utf8 name same))

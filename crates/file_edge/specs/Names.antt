@@ -22,11 +22,11 @@ abbrev pub NameMap : Type 0
 NameMap = List ℕ → Named
 
 -- what an opener tells: what each name has, and under which of them the new file stands
-pub record Names : Type 0 where
+pub record NamedFiles : Type 0 where
   pub named : NameMap
   pub fresh : List ℕ
 
-abbrev pub named_of : Option Names → Option NameMap
+abbrev pub named_of : Option NamedFiles → Option NameMap
 named_of told = option_map (λ names. names.named) told
 
 -- ---- what calls leave
@@ -36,12 +36,12 @@ abbrev pub with_name : List ℕ → Named → NameMap → NameMap
 with_name name has named other = if bytes_eq other name then has else named other
 
 -- under the name of the new file stands this
-abbrev pub with_new : Named → Names → Names
+abbrev pub with_new : Named → NamedFiles → NamedFiles
 with_new has names = record { named = with_name names.fresh has names.named; fresh = names.fresh }
 
 -- a new file of no bytes was made under this name
-abbrev pub made : List ℕ → Names → Names
-made name names = record { named = with_name name (Holds None []) names.named; fresh = name }
+abbrev pub made_empty : List ℕ → NamedFiles → NamedFiles
+made_empty name names = record { named = with_name name (Holds None []) names.named; fresh = name }
 
 -- bytes behind those of a file
 abbrev pub appended : Named → List ℕ → Named
@@ -49,39 +49,39 @@ appended (Holds id bytes) more = Holds id (bytes ++ more)
 appended has more = has
 
 -- bytes were written behind those of the new file
-abbrev pub written : List ℕ → Names → Names
-written bytes names = with_new (appended (names.named names.fresh) bytes) names
+abbrev pub written_behind : List ℕ → NamedFiles → NamedFiles
+written_behind bytes names = with_new (appended (names.named names.fresh) bytes) names
 
 -- what one name had is what the other has now, in place of what that had
-abbrev pub renamed : (from to : List ℕ) → Names → Names
+abbrev pub renamed : (from to : List ℕ) → NamedFiles → NamedFiles
 renamed from to names = record { named = with_name to (names.named from) (with_name from Absent names.named); fresh = names.fresh }
 
 -- a name was removed
-abbrev pub without : List ℕ → Names → Names
-without name names = record { named = with_name name Absent names.named; fresh = names.fresh }
+abbrev pub without_name : List ℕ → NamedFiles → NamedFiles
+without_name name names = record { named = with_name name Absent names.named; fresh = names.fresh }
 
 -- a new file is made where the name has nothing, or nothing changes
-abbrev pub MakesName : List ℕ → Bool → Option Names → Option Names → Type 0
-MakesName name true old new = IfSome old (λ names. names.named name ≡ Absent) × (new ≡ option_map (made name) old)
+abbrev pub MakesName : List ℕ → Bool → Option NamedFiles → Option NamedFiles → Type 0
+MakesName name true old new = IfSome old (λ names. names.named name ≡ Absent) × (new ≡ option_map (made_empty name) old)
 MakesName name false old new = new ≡ old
 
 -- all bytes are written, or under the name of the new file something stands
-abbrev pub WritesNew : List ℕ → Bool → Option Names → Option Names → Type 0
-WritesNew bytes true old new = new ≡ option_map (written bytes) old
+abbrev pub WritesNew : List ℕ → Bool → Option NamedFiles → Option NamedFiles → Type 0
+WritesNew bytes true old new = new ≡ option_map (written_behind bytes) old
 WritesNew bytes false old new = (has : Named) × (new ≡ option_map (with_new has) old)
 
 -- the name is given, or nothing changes
-abbrev pub RenamesName : (from to : List ℕ) → Bool → Option Names → Option Names → Type 0
+abbrev pub RenamesName : (from to : List ℕ) → Bool → Option NamedFiles → Option NamedFiles → Type 0
 RenamesName from to true old new = new ≡ option_map (renamed from to) old
 RenamesName from to false old new = new ≡ old
 
 -- a folder is brought to the disk, which doesn't fail where names are told
-pub record SyncsNames (done : Bool) (old new : Option Names) : Type 0 where
+pub record SyncsNames (done : Bool) (old new : Option NamedFiles) : Type 0 where
   pub stays : new ≡ old
   pub never_fails : IfSome old (λ names. done ≡ true)
 
 -- what a store leaves: a file of these bytes under the name, or what the names had before
-abbrev pub StoresName : {E : Type 0} → List ℕ → List ℕ → Result (Unit {0}) E → Option Names → Option Names → Type 0
+abbrev pub StoresName : {E : Type 0} → List ℕ → List ℕ → Result (Unit {0}) E → Option NamedFiles → Option NamedFiles → Type 0
 StoresName name bytes (Ok done) old new = named_of new ≡ option_map (with_name name (Holds None bytes)) (named_of old)
 StoresName name bytes (Err fault) old new = named_of new ≡ named_of old
 
@@ -111,7 +111,7 @@ module _ {F : Type 0} (f : image_file.Ghosts F) where
   OpensWhat Failing (Err error) = error_kind error ≢ NotFound
 
   -- the same of a name, where that is told
-  abbrev pub OpensTold : Option Names → List ℕ → Result F Error → Type 0
+  abbrev pub OpensTold : Option NamedFiles → List ℕ → Result F Error → Type 0
   OpensTold told name opened = IfSome told (λ names. OpensWhat (names.named name) opened)
 
 -- ---- cabinet and random bytes
@@ -134,7 +134,7 @@ abbrev pub files_beside : List FileId → NameMap → Files
 files_beside images named name = if is_utf8 name then bytes_beside images (named name) else None
 
 -- the same, where that is told
-abbrev pub told_files : List FileId → Option Names → Option Files
+abbrev pub told_files : List FileId → Option NamedFiles → Option Files
 told_files images told = option_map (files_beside images) (named_of told)
 
 -- the bytes that a name gives
@@ -144,5 +144,5 @@ given_bytes has = []
 
 -- what is left of the random bytes before the first of them is drawn: all that the device gives, or none where it isn't
 -- opened
-abbrev pub IsRandom : Option Names → Option (List ℕ) → Type 0
+abbrev pub IsRandom : Option NamedFiles → Option (List ℕ) → Type 0
 IsRandom told left = IfSome told (λ names. (left ≡ Some []) ⊎ (left ≡ Some (given_bytes (names.named (codes "/dev/urandom")))))

@@ -6,7 +6,7 @@ ghost use Rattle.std.specs.declared.io.Error.{Error};
 ghost use Rattle.block_traits.specs.Causes.{HasCause};
 ghost use Rattle.file_edge.specs.Asked.{Asked, Find, Look, Open, Remove, Rename, Sync, SyncFolder, Write, asking, making, more};
 ghost use Rattle.file_edge.specs.Folder.{IsFolderOf};
-ghost use Rattle.file_edge.specs.Names.{IsUsual, MakesName, Names, OpensTold, RenamesName, SyncsNames, WritesNew, without};
+ghost use Rattle.file_edge.specs.Names.{IsUsual, MakesName, NamedFiles, OpensTold, RenamesName, SyncsNames, WritesNew, without_name};
 ghost use Rattle.file_edge.specs.Opening.{to_read};
 ghost use Rattle.file_edge.specs.declared.found.Found.{Found};
 
@@ -44,7 +44,7 @@ pub trait Opener {
     ghost refusals: { Self → ℕ };
 
     /// What its names have, and which of them the new file has, where that is told.
-    ghost told: { Self → Option Names };
+    ghost told: { Self → Option NamedFiles };
 
     /// Opens the file of this name.
     fn open(&mut self, how: &OpenOptions, name: &str) -> io::Result<Self::File>
@@ -94,7 +94,7 @@ pub trait Opener {
 
     /// Removes a name, if it can.
     fn remove(&mut self, name: &str)
-        ensures told { told self.new ≡ option_map (without name.now) (told self.old) }
+        ensures told { told self.new ≡ option_map (without_name name.now) (told self.old) }
         ensures asked { asked self.new ≡ more (asking (Remove name.now) true) (asked self.old) };
 }
 

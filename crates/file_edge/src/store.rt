@@ -2,7 +2,7 @@
 ghost use Rattle.std.specs.Prelude.{◌≡◌, ◌↔◌, IfOk, IsTrue, MatchResult, OnOk, Option, string_bytes, true};
 ghost use Rattle.std.specs.IoError.{error_kind};
 ghost use Rattle.std.specs.Str.{IsUtf8};
-ghost use Rattle.file_edge.specs.Names.{MakesName, Names, StoresName};
+ghost use Rattle.file_edge.specs.Names.{MakesName, NamedFiles, StoresName};
 ghost use Rattle.file_edge.specs.Storing.{Brings, MakesBeside, MakesNone, BringsToName, Stores, beside_name};
 
 use crate::found::{FileId, is_replaceable};
@@ -116,7 +116,7 @@ fn beside_of(alloc: Global, name: &str, number: u64) -> Result<String, AllocErro
 // Brings the new file, which was made beside, to the name.
 fn replace<O: Opener>(opener: &mut O, name: &str, beside: &str, bytes: &[u8]) -> Result<(), Stop>
     ensures brings { BringsToName O.asked name.now bytes.now opener.old beside.now result opener.new }
-    ensures told { (first : Option Names) → MakesName beside.now true first (O.told opener.old)
+    ensures told { (first : Option NamedFiles) → MakesName beside.now true first (O.told opener.old)
         → StoresName name.now bytes.now result first (O.told opener.new) }
 {
     if opener.write(bytes).is_err() {

@@ -1,26 +1,12 @@
 //! The program `geli-nbd`: the streams, files and random bytes of the system are handed to the run.
 #![tactic(auto)]
 
-ghost use Rattle.std.specs.Prelude.{◌≡◌, MatchResult};
-
 use file_edge::{InputSource, OutputSink, SystemFiles};
 use image_run::words_of;
-use nbd_run::{Status, exit_code, serve_words};
+use nbd_run::{Status, exit_code, serve_words, status_of};
 use std::fs::File;
 use std::process::ExitCode;
 use std::{env, io};
-
-// The status of a run; what was opened is let go.
-fn status_of<D: Drop, C: Drop, E: Drop, O: Drop>(
-    ran: Result<(Status, D, C, E), (Status, O)>,
-) -> Status
-    ensures { MatchResult ran (λ left. result ≡ left.0) (λ left. result ≡ left.0) }
-{
-    match ran {
-        Ok((status, _, _, _)) => status,
-        Err((status, _)) => status,
-    }
-}
 
 fn main(rt: HostRuntime) -> ExitCode {
     let alloc = rt.alloc();
@@ -35,7 +21,8 @@ fn main(rt: HostRuntime) -> ExitCode {
             let mut input = InputSource::new(rt.stdin());
             let mut output = OutputSink::new(io::writer(&rt));
             let mut log = OutputSink::new(rt.stderr());
-            status_of(serve_words(alloc, words, opener, &mut input, &mut output, &mut log))
+            let ran = serve_words(alloc, words, opener, &mut input, &mut output, &mut log);
+            status_of(ran)
         }
         _ => Status::NoMemory,
     };

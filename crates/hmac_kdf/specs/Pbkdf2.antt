@@ -17,7 +17,7 @@ unfoldable pub iterate : List ℕ → List ℕ → ℕ → List ℕ
 iterate password salt zero = hmac512 password (salt ++ block_number)
 iterate password salt (suc n) = hmac512 password (iterate password salt n)
 
--- U_1 xor_lists U_2 xor_lists .. up to the iterate at n
+-- U_1 xor U_2 xor .. up to the iterate at n
 unfoldable pub sum_of_iterates : List ℕ → List ℕ → ℕ → List ℕ
 sum_of_iterates password salt zero = iterate password salt 0
 sum_of_iterates password salt (suc n) = xor_lists (sum_of_iterates password salt n) (iterate password salt (suc n))

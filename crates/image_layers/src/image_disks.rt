@@ -1,5 +1,5 @@
 //! The disks of images, each by what its name asks for.
-ghost use Rattle.std.specs.Prelude.{◌⊎◌, ◌∷◌, [], IfOk, OnErr};
+ghost use Rattle.std.specs.Prelude.{◌≡◌, ◌⊎◌, ◌∷◌, [], IfOk, OnErr};
 ghost use Rattle.file_edge.specs.FileDisk.{AsksDisk, TellsFile};
 ghost use Rattle.image_layers.specs.Images.{AsksFiles, AsksPart, JoinsOrIsNone, OpensBoth, OpensImageDisk, OpensOne, TellsImage, WaitsFor, opening};
 
@@ -26,8 +26,8 @@ where
 }
 
 /// The disk of the image of a name, on the files that the name names, which are put among the others. They are opened
-/// in their order, to be changed or not, beside the files that are there, and nothing else is asked of the opener. Two
-/// files that are too large for one disk are a disk of two sectors whose every call fails.
+/// in their order, to be changed or not, beside the files that are there, and nothing else is asked of the opener; names
+/// have what they had. Two files that are too large for one disk are a disk of two sectors whose every call fails.
 pub fn open_image<O: Opener>(
     alloc: Global,
     opener: &mut O,
@@ -40,6 +40,7 @@ where
     ensures opens { IfOk result (λ disk. OpensImageDisk (⟦<O as Opener>⟧) (⟦<O::File as ImageFile>⟧)
         changes name.now disk (opening opener.old files.old.items) (opening opener.new files.new.items)) }
     ensures tells { IfOk result (TellsImage O.File.told) }
+    ensures told { O.told opener.new ≡ O.told opener.old }
     ensures asked_part { OnErr result (AsksPart O.asked changes name.now opener.old opener.new) }
 {
     match parts_of(name) {
@@ -94,6 +95,7 @@ fn open_both<O: Opener>(
     ensures opens { IfOk result (λ both. OpensBoth (⟦<O as Opener>⟧) (⟦<O::File as ImageFile>⟧)
         changes first.now second.now both.0 both.1
         (opening opener.old files.old.items) (opening opener.new files.new.items)) }
+    ensures told { O.told opener.new ≡ O.told opener.old }
     ensures asked_part { OnErr result (AsksFiles O.asked changes (first.now ∷ []) opener.old opener.new
         ⊎ AsksFiles O.asked changes (first.now ∷ second.now ∷ []) opener.old opener.new) }
 {
@@ -112,6 +114,7 @@ fn open_named<O: Opener>(
     ensures opens { IfOk result (λ disk. OpensOne (⟦<O as Opener>⟧) (⟦<O::File as ImageFile>⟧) changes name.now disk
         (opening opener.old files.old.items) (opening opener.new files.new.items)) }
     ensures tells { IfOk result (TellsFile O.File.told) }
+    ensures told { O.told opener.new ≡ O.told opener.old }
     ensures asked { AsksDisk O.asked opener.old changes name.now opener.new }
 {
     let disk = FileDisk::open(opener, files.as_slice(), changes, name);

@@ -7,7 +7,7 @@ use Rattle.block_traits.specs.Streams.{EntropyState, SinkState, SourceState}
 use Rattle.command_rows.specs.World.{DrawerState}
 use Rattle.block_traits.specs.declared.disk.Disk.{Ghosts}
 use Rattle.command_words.specs.Images.{image_names}
-use Rattle.file_edge.specs.Names.{IsRandom, Names}
+use Rattle.file_edge.specs.Names.{IsRandom, NamedFiles}
 use Rattle.file_edge.specs.RandomFile.{left_in}
 use Rattle.file_edge.specs.declared.file_disk.FileDisk.{FileDisk}
 use Rattle.file_edge.specs.declared.found.FileId.{FileId}
@@ -46,5 +46,5 @@ module _ {O F : Type 0} {g : Ghosts (FileDisk F)} (o : opener.Ghosts O F) (f : i
       → OpensNamed o f changes names disks files random old new → (o.told new ≡ o.told old) × IsRandom (o.told old) (left_in f.left random.device)
   opened_told changes names disks files random old new opens =
       let stays = images_stay o f changes names disks _ _ opens.images in
-      let P : Option Names → Type 0 = λ told. IsRandom told (left_in f.left random.device) in
+      let P : Option NamedFiles → Type 0 = λ told. IsRandom told (left_in f.left random.device) in
       (opens.told ∙ stays, subst P stays opens.left)

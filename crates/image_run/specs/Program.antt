@@ -14,7 +14,7 @@ use Rattle.command_words.specs.Reading.{command_in}
 use Rattle.command_words.specs.Traits.{traits_of}
 use Rattle.command_words.specs.declared.commands.Command.{Command}
 use Rattle.file_edge.specs.Asked.{Asked}
-use Rattle.file_edge.specs.Names.{IsRandom, Names, told_files}
+use Rattle.file_edge.specs.Names.{IsRandom, NamedFiles, told_files}
 use Rattle.file_edge.specs.RandomFile.{AsksDevice, OpensDevice, left_in}
 use Rattle.file_edge.specs.declared.file_disk.FileDisk.{FileDisk}
 use Rattle.file_edge.specs.declared.found.FileId.{FileId}
@@ -61,7 +61,7 @@ AsksFirstFiles log_of words old new = AsksFirst log_of (changes_images words) (i
 
 -- a cabinet beside these images over an opener that tells this, and entropy of which this is left, before anything was
 -- asked of them
-abbrev pub new_cabinet : List FileId → Option Names → CabinetState
+abbrev pub new_cabinet : List FileId → Option NamedFiles → CabinetState
 new_cabinet images told = record { files = told_files images told; faults = 0; misses = 0; loads = 0; stores = 0 }
 
 abbrev pub new_entropy : Option (List ℕ) → EntropyState

@@ -34,6 +34,7 @@ where
         changes (map string_bytes names.now) images.disks.items
         (opening opener.old []) (opening opener.new images.files.items)) }
     ensures tells { IfOk result (λ images. All (TellsImage O.File.told) images.disks.items) }
+    ensures told { O.told opener.new ≡ O.told opener.old }
     ensures asked_part { OnErr result (AsksFirst O.asked changes (map string_bytes names.now) opener.old opener.new) }
 {
     let mut disks = Vec::new(alloc);
@@ -81,6 +82,7 @@ fn make_ready<O: Opener>(
     ensures tells { IfOk result (λ ready. All (TellsImage O.File.told) ready.disks.items) }
     ensures faults { IfOk result (λ ready. ready.entropy.faults ≡ 0) }
     ensures calls { IfOk result (λ ready. ready.entropy.calls ≡ 0) }
+    ensures told { O.told opener.new ≡ O.told opener.old }
     ensures asked_part { OnErr result
         (AsksFirst O.asked (changes_said said.now) (image_names_of said.now) opener.old opener.new) }
 {
@@ -107,7 +109,7 @@ where
 }
 
 /// Opens the images that the words name, by what they say, and then the random bytes; no call was made of what is
-/// handed out. Where memory gave out the opener comes back.
+/// handed out. Where memory gave out the opener comes back, and names have what they had.
 pub(crate) fn open_all<O: Opener + Drop>(
     alloc: Global,
     opener: O,
@@ -123,6 +125,7 @@ pub(crate) fn open_all<O: Opener + Drop>(
         ≡ new_cabinet opened.files.images.items (O.told opened.files.opener)) }
     ensures random { IfOk result (λ opened. (⟦<RandomFile<O::File> as Entropy>⟧).state opened.entropy
         ≡ new_entropy (left_in O.File.left opened.entropy.device)) }
+    ensures told { IfErr result (λ refused. O.told refused.0 ≡ O.told opener) }
     ensures asked_part { IfErr result (λ refused.
         AsksFirst O.asked (changes_said said.now) (image_names_of said.now) opener refused.0) }
 {

@@ -14,12 +14,13 @@ use geli_core::{AddFault, Drawers, Outside, Status, read_words, run_over};
 use image_layers::ImageDisk;
 use std::alloc::Global;
 
-/// Reads the words once, runs what they ask for over the images that they name, and hands back the status, and the
-/// shelf with their disks, the files and the random bytes, as the run left them. Each image is opened, in order, to be
+/// Reads the words, runs what they ask for over the images that they name, and hands back the status, and the shelf
+/// with their disks, the files and the random bytes, as the run left them. Each image is opened, in order, to be
 /// changed but where the command only reads, and then the random bytes, and nothing else. Where the opener tells what
 /// its names have, the files and random bytes of the run are those. Or there was no memory for that: then neither was
-/// anything read nor printed, and the opener comes back. Words that aren't those of a script read nothing of the input.
-/// The status is by the words: `ReadFault` only where the input failed, `WriteFault` only where the output did.
+/// anything read nor printed, names have what they had, and the opener comes back. Words that aren't those of a script
+/// read nothing of the input. The status is by the words: `ReadFault` only where the input failed, `WriteFault` only
+/// where the output did.
 pub fn run_files<O: Opener + Drop, S: Source, K: Sink>(
     alloc: Global,
     words: &[String],
@@ -48,6 +49,7 @@ pub fn run_files<O: Opener + Drop, S: Source, K: Sink>(
         Rose (K.state output.old).faults (K.state output.new).faults) }
     ensures unread { OnOk result (script_images (map string_bytes words.now) ≡ None → input.new ≡ input.old) }
     ensures nothing { OnErr result ((input.new ≡ input.old) × (output.new ≡ output.old)) }
+    ensures told { IfErr result (λ refused. O.told refused.0 ≡ O.told opener) }
     ensures asked { IfErr result (λ refused. AsksFirstFiles O.asked (map string_bytes words.now) opener refused.0
         ⊎ HasOpened (⟦<FileDisk<O::File> as Disk>⟧) (⟦<O as Opener>⟧) (⟦<O::File as ImageFile>⟧)
         (map string_bytes words.now) opener refused.0) }

@@ -1,1 +1,3 @@
 pub mod Attached
+pub mod Ended
+pub mod Imaged

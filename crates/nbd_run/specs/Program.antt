@@ -8,6 +8,7 @@ use Rattle.block_traits.specs.declared.disk.Disk.{Ghosts}
 use Rattle.block_traits.specs.declared.disk.DiskFailed.{DiskFailed}
 use Rattle.command_rows.specs.Answer as answers
 use Rattle.command_rows.specs.Turn.{Serves}
+use Rattle.command_rows.specs.Vocabulary.{IsKeying}
 use Rattle.command_rows.specs.World.{Attachment, Idle, IsAttached, Reach, reach_of}
 use Rattle.command_words.specs.declared.commands.Command.{Command}
 use Rattle.eli_base.specs.Keying.{Keying}
@@ -128,11 +129,32 @@ pub record Remains : Type 0 where
 abbrev pub remains : DiskState → CabinetState → EntropyState → Remains
 remains disk cabinet entropy = record { disk = disk; cabinet = cabinet; entropy = entropy }
 
+module _ (line : List ℕ) (command : Command) (start : Reach) where
+  -- geli's row of `attach` refused it: the refusal is in the log, nothing was taken of the client or given to it
+  pub record RefusesToAttach (old : Streams) (status : Status) (left : Remains) (new : Streams) : Type 0 where
+    pub refusal : Refusal
+    pub row : Serves line command start (answers.Refused refusal) (reach_of left.disk Idle left.cabinet left.entropy)
+    pub logged : IsLogged (refusal_text refusal) old new
+    pub status_is : status ≡ SomeRefused
+
+  -- the row attached it, and a client was served by what is attached
+  pub record ServesAttached (old : Streams) (status : Status) (left : Remains) (new : Streams) : Type 0 where
+    pub attachment : Attachment
+    pub middle : DiskState
+    pub row : Serves line command start answers.Done (reach_of middle (IsAttached attachment) left.cabinet left.entropy)
+    pub keying : IsKeying attachment.keying
+    pub ends : EndsWith (side_in attachment) old.source new.source old.sink new.sink status middle left.disk
+    pub log : new.log ≡ old.log
+
+  -- what became of an idle disk
+  abbrev pub ServesDisk : Streams → Status → Remains → Streams → Type 0
+  ServesDisk old status left new = RefusesToAttach old status left new ⊎ ServesAttached old status left new
+
 -- ---- the run
 
 module _ {O F : Type 0} (g : Ghosts (FileDisk F)) (o : opener.Ghosts O F) (f : image_file.Ghosts F) where
-  -- The words are those of `geli attach` for one image. That was opened, to be changed but where it attaches to be read
-  -- alone, and then the random bytes; nothing else was asked. The disk of a file alone tells what its file tells.
+  -- The words are those of `geli attach` for one image. That was opened, to be changed unless it attaches
+  -- read-only, and then the random bytes; nothing else was asked. The disk of a file alone tells what its file tells.
   pub record OpensAsked (words : List (List ℕ)) (opener : O) : Type 0 where
     pub name : List ℕ
     pub line : List ℕ
@@ -148,29 +170,17 @@ module _ {O F : Type 0} (g : Ghosts (FileDisk F)) (o : opener.Ghosts O F) (f : i
 
   -- what attaching begins with: the disk, idle, the files that were told beside it, and the random bytes that were
   -- told, before anything was asked of them
-  abbrev pub begins : (words : List (List ℕ)) (opener : O) → OpensAsked words opener → Reach
-  begins words opener h = reach_of (image_disk_state h.disk) Idle (new_cabinet h.files (o.told opener)) (new_entropy (left_in f.left h.random.device))
+  abbrev pub begins : {words : List (List ℕ)} {opener : O} → OpensAsked words opener → Reach
+  begins {words} {opener} h = reach_of (image_disk_state h.disk) Idle (new_cabinet h.files (o.told opener)) (new_entropy (left_in f.left h.random.device))
 
-  module _ (words : List (List ℕ)) (opener : O) (h : OpensAsked words opener) where
-    -- geli's row of `attach` refused it: the refusal is in the log, nothing was taken of the client or given to it
-    pub record RefusesToAttach (old : Streams) (status : Status) (left : Remains) (new : Streams) : Type 0 where
-      pub refusal : Refusal
-      pub row : Serves h.line h.command (begins words opener h) (answers.Refused refusal) (reach_of left.disk Idle left.cabinet left.entropy)
-      pub logged : IsLogged (refusal_text refusal) old new
-      pub status_is : status ≡ SomeRefused
+  -- A client was served. Where the disk was opened on a file alone that told its content then, that grew by just the
+  -- events of what the client asked for, and endures crashes.
+  pub record ServesInFile {words : List (List ℕ)} {opener : O} (h : OpensAsked words opener) (old : Streams) (status : Status) (left : Remains) (new : Streams) : Type 0 where
+    pub served : ServesAttached h.line h.command (begins h) old status left new
+    pub endures : IfFileTells f.told h.disk (EnduresSession (side_in served.attachment) old.source new.source old.sink new.sink status served.middle left.disk served.ends)
 
-    -- The row attached it, and a client was served by what is attached. Where the disk was opened on a file alone that
-    -- told its content then, its content grew by just the events of what the client asked for, and endures crashes.
-    pub record ServesAttached (old : Streams) (status : Status) (left : Remains) (new : Streams) : Type 0 where
-      pub attachment : Attachment
-      pub middle : DiskState
-      pub row : Serves h.line h.command (begins words opener h) answers.Done (reach_of middle (IsAttached attachment) left.cabinet left.entropy)
-      pub ends : EndsWith (side_in attachment) old.source new.source old.sink new.sink status middle left.disk
-      pub log : new.log ≡ old.log
-      pub endures : IfFileTells f.told h.disk (EnduresSession (side_in attachment) old.source new.source old.sink new.sink status middle left.disk ends)
-
-  -- an image was opened, and its provider wasn't attached, or was and was served
+  -- An image was opened, and its provider wasn't attached, or was and was served.
   pub record ServesImage (words : List (List ℕ)) (opener : O) (old : Streams) (status : Status) (left : Remains) (new : Streams) : Type 0 where
     pub wish : wish_of words ≡ Other
     pub opens : OpensAsked words opener
-    pub outcome : RefusesToAttach words opener opens old status left new ⊎ ServesAttached words opener opens old status left new
+    pub outcome : RefusesToAttach opens.line opens.command (begins opens) old status left new ⊎ ServesInFile opens old status left new

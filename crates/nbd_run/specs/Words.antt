@@ -41,7 +41,7 @@ abbrev pub attaches : Command → Bool
 attaches (commands.Attach prov only_check readonly slot old) = not only_check
 attaches command = false
 
--- one that attaches to be read alone
+-- one that attaches the provider read-only
 abbrev pub attaches_readonly : Command → Bool
 attaches_readonly (commands.Attach prov only_check readonly slot old) = readonly
 attaches_readonly command = false

@@ -8,6 +8,6 @@ mod serving;
 mod status;
 mod words;
 
-pub use run::serve_words;
+pub use run::{Ran, serve_words, status_of};
 pub use status::{Status, exit_code};
 pub use words::VERSION;

@@ -24,7 +24,7 @@ where
 }
 
 // Opens the image of a name, to be changed or not, and then the random bytes; no call was made of what is handed out.
-// Where memory gave out the opener comes back.
+// Where memory gave out the opener comes back, and names have what they had.
 fn open_named<O: Opener + Drop>(
     alloc: Global,
     opener: O,
@@ -38,6 +38,7 @@ fn open_named<O: Opener + Drop>(
         ≡ new_cabinet opened.files.images.items (O.told opened.files.opener)) }
     ensures random { IfOk result (λ opened. (⟦<RandomFile<O::File> as Entropy>⟧).state opened.entropy
         ≡ new_entropy (left_in O.File.left opened.entropy.device)) }
+    ensures told { IfErr result (λ refused. O.told refused.0 ≡ O.told opener) }
     ensures asked_part { IfErr result (λ refused. AsksPart O.asked changes name.now opener refused.0) }
 {
     let mut opener = opener;
@@ -55,7 +56,7 @@ fn open_named<O: Opener + Drop>(
     }
 }
 
-/// The same of the image that is asked for, to be changed but where it is attached to be read alone.
+/// The same of the image that is asked for, to be changed unless it is attached read-only.
 pub(crate) fn open_asked<O: Opener + Drop>(
     alloc: Global,
     opener: O,
@@ -69,6 +70,7 @@ pub(crate) fn open_asked<O: Opener + Drop>(
         ≡ new_cabinet opened.files.images.items (O.told opened.files.opener)) }
     ensures random { IfOk result (λ opened. (⟦<RandomFile<O::File> as Entropy>⟧).state opened.entropy
         ≡ new_entropy (left_in O.File.left opened.entropy.device)) }
+    ensures told { IfErr result (λ refused. O.told refused.0 ≡ O.told opener) }
     ensures asked_part { IfErr result (λ refused. AsksPart O.asked (not (attaches_readonly asked.now.command))
         (string_bytes asked.now.name) opener refused.0) }
 {

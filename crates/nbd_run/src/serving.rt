@@ -1,14 +1,15 @@
 //! An attached provider is served, or its refusal told.
 ghost use Rattle.std.specs.Prelude.{◌≡◌, ◌⊎◌, IfErr, IfOk, OnErr, OnOk, length};
 ghost use Rattle.block_traits.specs.Streams.{TookAll, TookPart};
+ghost use Rattle.eli_base.specs.Requests.{request_limit};
 ghost use Rattle.nbd_session.specs.Requests.{side_of};
 ghost use Rattle.nbd_run.specs.Program.{EndsWith, PrintsText};
 ghost use Rattle.nbd_run.specs.declared.status.Status.TheVariants as statuses;
 ghost use Rattle.reply_text.specs.Text.{refusal_text};
 
-use crate::status::{Status, status_of};
+use crate::status::{Status, session_status};
 use block_traits::{Disk, Sink, Source};
-use eli_base::Refusal;
+use eli_base::{REQUEST_LIMIT, Refusal};
 use nbd_session::{EDGE, ROOM, serve};
 use provider::Provider;
 use reply_text::{Reply, write_reply, write_text};
@@ -28,24 +29,27 @@ fn serve_provider<D: Disk, S: Source, K: Sink>(
         result.0 (D.state provider.disk) (D.state result.1) }
 {
     let (end, disk, flushed, denied) = serve(provider, room, edge, input, output);
-    (status_of(end, denied, flushed.is_ok()), disk)
+    (session_status(end, denied, flushed.is_ok()), disk)
 }
 
-/// The rooms of a session.
+/// The rooms that are taken before anything is opened: the buffer of a command, and the two of a session.
 #[derive(Drop)]
 pub(crate) struct Rooms {
+    pub(crate) buffer: Vec<u8>,
     pub(crate) room: Vec<u8>,
     pub(crate) edge: Vec<u8>,
 }
 
-/// Takes the rooms of a session.
+/// Takes the rooms.
 pub(crate) fn take_rooms(alloc: Global) -> Result<Rooms, AllocError>
+    ensures buffer { IfOk result (λ rooms. length rooms.buffer.items ≡ request_limit) }
     ensures room { IfOk result (λ rooms. length rooms.room.items ≡ 33685520) }
     ensures edge { IfOk result (λ rooms. length rooms.edge.items ≡ 65536) }
 {
+    let buffer = vec![in alloc; 0; REQUEST_LIMIT as usize]?;
     let room = vec![in alloc; 0; ROOM]?;
     let edge = vec![in alloc; 0; EDGE]?;
-    Ok(Rooms { room, edge })
+    Ok(Rooms { buffer, room, edge })
 }
 
 /// Serves a provider that was attached, or prints to the log why it wasn't. The disk comes back.
@@ -69,7 +73,7 @@ pub(crate) fn serve_or_log<D: Disk, S: Source, K: Sink, L: Sink>(
 {
     match attached {
         Ok(provider) => {
-            let Rooms { room, edge } = rooms;
+            let Rooms { room, edge, .. } = rooms;
             serve_provider(provider, room, edge, input, output)
         }
         Err((disk, refusal)) => {

@@ -51,7 +51,7 @@ pub fn exit_code(status: Status) -> ExitCode
 
 /// The status of a session, by why it ended, whether something was answered with an error that was to change or to
 /// flush the disk, and whether the last flush was made.
-pub(crate) fn status_of(end: End, denied: bool, flushed: bool) -> Status
+pub(crate) fn session_status(end: End, denied: bool, flushed: bool) -> Status
     ensures { result ≡ session_status end denied flushed }
 {
     match end {

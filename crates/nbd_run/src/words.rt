@@ -107,7 +107,7 @@ fn attaches(command: &Command) -> bool
     }
 }
 
-/// Whether it attaches the provider to be read alone.
+/// Whether it attaches the provider read-only.
 pub(crate) fn is_read_only(command: &Command) -> bool
     ensures { result ≡ attaches_readonly command.now }
 {

@@ -28,8 +28,8 @@ use Rattle.byte_ranges.specs.Writes.{Splices, flush_events, range_writes}
 use Rattle.byte_ranges.proofs.Covering.{covered_inside}
 use Rattle.eli_base.specs.Units.{media_sectors}
 use Rattle.nbd_words.specs.declared.transmission.Request.{Request}
-use Rattle.nbd_session.specs.Requests.{Exchange, FitsIn, Flushes, Reads, ServesAll, ServesKind, Side, Writes, range_of, zeros_of}
-use Rattle.nbd_session.specs.Durable.{Deed, DidBy, DidEach, IsOfKind, IsOfWrite, Survives, exchange_steps, flush_steps, session_steps, steps_of_kind, write_steps}
+use Rattle.nbd_session.specs.Requests.{AnswersFlush, AnswersRead, AnswersWrite, Exchange, FitsIn, ServesExchanges, ServesKind, Side, range_of, zeros_of}
+use Rattle.nbd_session.specs.Durable.{Deed, DidBy, DidEach, IsOfKind, IsOfWrite, Survives, exchange_steps, flush_steps, session_steps, steps_of_kind, steps_of_write}
 
 -- ---- steps
 
@@ -127,7 +127,7 @@ fails-none {d} {new} fails = let none : take fails.count [] ≡ [] = take-none f
 
 -- the steps of a write fit behind others
 write-fits : (n : ℕ) (k : Keying) (x : Exchange) (steps : List Step) (whole : List ℕ) → AreStepsBelow n steps → IsKeying k
-    → sectors_covered k (range_of x.request) * k.sectorsize ≡ length whole → AreBytes whole → AreStepsBelow (n + 1) (steps ++ write_steps n k x.request whole)
+    → sectors_covered k (range_of x.request) * k.sectorsize ≡ length whole → AreBytes whole → AreStepsBelow (n + 1) (steps ++ steps_of_write n k x.request whole)
 write-fits n k x steps whole below is size are =
     let r = range_of x.request in
     let flush : Bool = has_fua x.request.flags in
@@ -138,7 +138,7 @@ write-fits n k x steps whole below is size are =
 
 -- their events
 write-logs : (n : ℕ) (k : Keying) (x : Exchange) (whole : List ℕ)
-    → events_of (write_steps n k x.request whole) ≡ range_writes k (range_of x.request) whole ++ flush_events (has_fua x.request.flags)
+    → events_of (steps_of_write n k x.request whole) ≡ range_writes k (range_of x.request) whole ++ flush_events (has_fua x.request.flags)
 write-logs n k x whole =
     let r = range_of x.request in
     map-append event_of (data_steps n k (first_sector k r) (sectors_covered k r) whole) (flush_steps (has_fua x.request.flags))
@@ -146,7 +146,7 @@ write-logs n k x whole =
     ∙ ap (λ (l : List Event). range_writes k (range_of x.request) whole ++ l) (ap events_of (flush-raw (has_fua x.request.flags)) ∙ events_of-raw (flush_events (has_fua x.request.flags)))
 
 did-read : (error : ReplyError) (side : Side) (n : ℕ) (x : Exchange) (steps : List Step) (c : Content) (d : DiskState)
-    → d.content ≡ Some (after steps c) → AreStepsBelow n steps → Reads side x.request error x.bytes d x.next → Did error kinds.Read n side.keying x steps c
+    → d.content ≡ Some (after steps c) → AreStepsBelow n steps → AnswersRead side x.request error x.bytes d x.next → Did error kinds.Read n side.keying x steps c
 did-read Done side n x steps c d told below h = did-none Done kinds.Read n side.keying x steps c d (tt, refl) told below h.1.logs
 did-read Failed side n x steps c d told below h =
     elim h.2 [
@@ -173,9 +173,9 @@ written k q bytes whole c d is told inside are splices = record {
 }
 
 did-write : (error : ReplyError) (kind : RequestKind) (side : Side) (n : ℕ) (x : Exchange) (payload : List ℕ) (steps : List Step) (c : Content) (d : DiskState) → IsKeying side.keying
-    → ((whole : List ℕ) → steps_of_kind kind n side.keying x whole ≡ write_steps n side.keying x.request whole)
+    → ((whole : List ℕ) → steps_of_kind kind n side.keying x whole ≡ steps_of_write n side.keying x.request whole)
     → ((whole : List ℕ) → IsOfWrite side.keying (after steps c) x.request payload whole → IsOfKind kind side.keying (after steps c) x whole)
-    → d.content ≡ Some (after steps c) → AreStepsBelow n steps → Writes side x.request payload error d x.next → Did error kind n side.keying x steps c
+    → d.content ≡ Some (after steps c) → AreStepsBelow n steps → AnswersWrite side x.request payload error d x.next → Did error kind n side.keying x steps c
 did-write Done kind side n x payload steps c d is same of told below h =
     let w = h.1 in
     did-all kind n side.keying x steps c d w.whole (of w.whole (written side.keying x.request payload w.whole (after steps c) d is told h.0.inside w.are w.splices)) told
@@ -200,7 +200,7 @@ flush-fits n steps below =
     AreStepsBelow-raw (n + 1) 0 steps (event.Flush ∷ []) (AreStepsBelow-more n steps below) (All-cons (IsEventOf 0) event.Flush [] tt (All-nil (IsEventOf 0)))
 
 did-flush : (error : ReplyError) (n : ℕ) (k : Keying) (x : Exchange) (steps : List Step) (c : Content) (d : DiskState)
-    → d.content ≡ Some (after steps c) → AreStepsBelow n steps → Flushes x.request error d x.next → Did error kinds.Flush n k x steps c
+    → d.content ≡ Some (after steps c) → AreStepsBelow n steps → AnswersFlush x.request error d x.next → Did error kinds.Flush n k x steps c
 did-flush Done n k x steps c d told below h = did-all kinds.Flush n k x steps c d [] tt told (flush-fits n steps below) h.1
 did-flush Failed n k x steps c d told below h = did-part kinds.Flush n k x steps c d [] tt told (flush-fits n steps below) h.1
 did-flush ReadOnly n k x steps c d told below h = absurd h
@@ -229,7 +229,7 @@ record DidAll (n : ℕ) (k : Keying) (xs : List Exchange) (steps : List Step) (c
   pub below : AreStepsBelow (n + length xs) (steps ++ session_steps n k xs deeds)
 
 did-exchanges : (xs : List Exchange) (side : Side) (n : ℕ) (steps : List Step) (c : Content) (d new : DiskState) → IsKeying side.keying
-    → d.content ≡ Some (after steps c) → AreStepsBelow n steps → ServesAll side xs d new → DidAll n side.keying xs steps c new
+    → d.content ≡ Some (after steps c) → AreStepsBelow n steps → ServesExchanges side xs d new → DidAll n side.keying xs steps c new
 did-exchanges [] side n steps c d new is told below h = record {
   deeds = [];
   did = tt;
@@ -263,7 +263,7 @@ pub nothing_after : (c : Content) → after [] c ≡ c
 nothing_after c = ap (λ (h : List Event). record { base = c.base; history = h }) (append-nil c.history)
 
 pub session-survives : (side : Side) (xs : List Exchange) (old new : DiskState) (c : Content) → IsKeying side.keying → old.content ≡ Some c
-    → ServesAll side xs old new → Survives side.keying xs c new
+    → ServesExchanges side xs old new → Survives side.keying xs c new
 session-survives side xs old new c is told h =
     let all = did-exchanges xs side 0 [] c old new is (told ∙ ap Some (sym (nothing_after c))) AreStepsBelow-none h in
     record {

@@ -1,10 +1,12 @@
 -- Bytes that a source gave, one piece behind another.
-use Rattle.std.proofs.Common.{◌≡◌, ◌∙◌, ℕ, ◌+◌, ◌≤◌, List, [], ◌++◌, length, take, refl, ap, sym, subst, arith, append_assoc, append-nil, length-take-le, Option, None, Some}
+use Rattle.std.proofs.Common.{◌≡◌, ◌∙◌, ℕ, ◌+◌, ◌<◌, ◌≤◌, List, [], ◌++◌, length, take, Err, refl, ap, sym, subst, arith, append_assoc, append-nil, length-take-le, Option, None, Some}
 use Rattle.std.proofs.Math.Seq.{take-append-add}
 use Rattle.std.proofs.lemmas.List.{take-append-le}
 use Rattle.std.specs.Io.KnownBytes.{prepend_known}
 use Rattle.block_traits.specs.Streams.{SourceState}
-use Rattle.nbd_session.specs.Streams.{Gave}
+use Rattle.nbd_session.specs.Streams.{Fills, GavePart, SourceGave}
+use Rattle.nbd_session.specs.declared.streams.End.{End}
+use Rattle.nbd_session.specs.declared.streams.End.TheVariants.{Closed, ReadFault, WriteFault, Malformed}
 use borrow.Rule.Slice.PartMut.{put_mid, post_of}
 
 prepend_known-more : (first second : List ℕ) (known : Option (List ℕ)) → prepend_known first (prepend_known second known) ≡ prepend_known (first ++ second) known
@@ -18,8 +20,8 @@ take-filled a k n xs ys inside few =
     ∙ take-append-add (take a xs) (ys ++ post_of a k xs) n
     ∙ ap (λ (l : List ℕ). take a xs ++ l) (take-append-le n ys (post_of a k xs) few)
 
-pub Gave-then : {xs ys : List ℕ} {old middle new : SourceState} → Gave xs old middle → Gave ys middle new → Gave (xs ++ ys) old new
-Gave-then {xs} {ys} {old} {middle} {new} first second = record {
+pub SourceGave-then : {xs ys : List ℕ} {old middle new : SourceState} → SourceGave xs old middle → SourceGave ys middle new → SourceGave (xs ++ ys) old new
+SourceGave-then {xs} {ys} {old} {middle} {new} first second = record {
   left = first.left ∙ ap (prepend_known xs) second.left ∙ prepend_known-more xs ys new.left;
   later = omega (arith, first.later, second.later);
 }
@@ -29,9 +31,20 @@ prepend_known-none None = refl
 prepend_known-none (Some bytes) = refl
 
 -- nothing
-pub Gave-none : (s : SourceState) → Gave [] s s
-Gave-none s = record { left = prepend_known-none s.left; later = omega arith }
+pub SourceGave-none : (s : SourceState) → SourceGave [] s s
+SourceGave-none s = record { left = prepend_known-none s.left; later = omega arith }
 
 -- and nothing more
-pub Gave-bare : {xs : List ℕ} {source rest : SourceState} → Gave xs source rest → Gave (xs ++ []) source rest
-Gave-bare {xs} {source} {rest} h = subst (λ (l : List ℕ). Gave l source rest) (sym (append-nil xs)) h
+pub SourceGave-bare : {xs : List ℕ} {source rest : SourceState} → SourceGave xs source rest → SourceGave (xs ++ []) source rest
+SourceGave-bare {xs} {source} {rest} h = subst (λ (l : List ℕ). SourceGave l source rest) (sym (append-nil xs)) h
+
+-- what came of bytes that didn't all come
+pub part_filled : (end : End) (bytes : List ℕ) (old new : SourceState) → Fills bytes old (Err end) new → GavePart bytes old new
+part_filled Closed bytes old new h = h.0
+part_filled ReadFault bytes old new h = h.0
+part_filled WriteFault bytes old new h = absurd h
+part_filled Malformed bytes old new h = absurd h
+
+-- the first of so many bytes, and not all, are fewer
+pub fewer : (n count : ℕ) (bytes : List ℕ) → length bytes ≡ n → count < length bytes → length (take count bytes) < n
+fewer n count bytes size within = omega (arith, length-take-le count bytes (omega (arith, within)), within, size)

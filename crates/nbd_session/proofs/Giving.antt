@@ -5,7 +5,7 @@ use Rattle.std.proofs.lemmas.List.Folds.{concat-append}
 use Rattle.std.specs.List.{concat}
 use Rattle.block_traits.specs.Streams.{SinkState, TookAll, TookPart}
 use Rattle.reply_text.proofs.Printing.{TookAll-nothing, TookAll-then}
-use Rattle.nbd_session.specs.Streams.{GaveButLast, GivesEach, GivesOn}
+use Rattle.nbd_session.specs.Streams.{GaveButLast, GivesOn, GivesTexts}
 use Rattle.nbd_session.specs.declared.streams.End.{End}
 use Rattle.nbd_session.specs.declared.streams.End.TheVariants.{Closed, ReadFault, WriteFault, Malformed}
 
@@ -35,7 +35,7 @@ gave-both : (first second : List (List ℕ)) {sink middle after : SinkState} →
 gave-both first second {sink} {middle} {after} a b = subst (λ (l : List ℕ). TookAll l sink after) (sym (concat-append first second)) (TookAll-then (concat first) (concat second) a b)
 
 -- some texts, and then others
-pub gave-then : (end : End) (first second : List (List ℕ)) (sink middle after : SinkState) → TookAll (concat first) sink middle → GivesEach end second middle after → GivesEach end (first ++ second) sink after
+pub gave-then : (end : End) (first second : List (List ℕ)) (sink middle after : SinkState) → TookAll (concat first) sink middle → GivesTexts end second middle after → GivesTexts end (first ++ second) sink after
 gave-then WriteFault first second sink middle after a b = record {
   before = first ++ b.before;
   last = b.last;

@@ -34,9 +34,9 @@ use Rattle.readings.specs.Writings.{Writing, Raw, all_device_bytes}
 use Rattle.readings.proofs.Cells.{kept_values-cell}
 use Rattle.readings.proofs.Survivors.{moment-after, room, some-units}
 use Rattle.sealing.specs.Sectors.{units}
-use Rattle.nbd_session.specs.Durable.{Deed, DidBy, DidEach, IsOfWrite, Survives, exchange_steps, flush_steps, session_steps, steps_of_kind, write_steps}
-use Rattle.nbd_session.specs.Lasting.{AttachesAndAnswers, AttachesLasting, LastsClosed, SurvivesClosed, AnswersWith, AreApart, FlushesBy, HasFlushed, IsPartOf, KeepsIn, IsRefusal, LastsIn, LeavesAlone, LeavesAloneBy, OneHasFlushed, ReadsLasting, WroteBy, part_bytes}
-use Rattle.nbd_session.specs.Requests.{Exchange, Reads, ServesAll, ServesExchange, ServesKind, Side, range_of, side_of}
+use Rattle.nbd_session.specs.Durable.{Deed, DidBy, DidEach, IsOfWrite, Survives, exchange_steps, flush_steps, session_steps, steps_of_kind, steps_of_write}
+use Rattle.nbd_session.specs.Lasting.{AnswersWith, AreApart, AttachesAndAnswers, AttachesLasting, FlushesBy, HasFlushed, IsPartOf, IsRefusingReply, KeepsIn, LastsClosed, LastsIn, LeavesAlone, LeavesAloneBy, OneHasFlushed, ReadsLasting, SurvivesClosed, WroteBy, part_bytes}
+use Rattle.nbd_session.specs.Requests.{AnswersRead, Exchange, ServesExchange, ServesExchanges, ServesKind, Side, range_of, side_of}
 use Rattle.nbd_session.proofs.Durable.{after-then, nothing_after, session-survives, told_on}
 use Rattle.nbd_session.proofs.Serving.{of_first}
 use Rattle.readings.proofs.Settled.{cell_after-append}
@@ -95,7 +95,7 @@ steps-more (x ∷ xs) (d ∷ ds) more n k c h = ap (λ (l : List Step). exchange
 
 -- ---- exchanges that leave a range alone
 
-refused-none : (error : ReplyError) (kind : RequestKind) (m : ℕ) (k : Keying) (c : Content) (x : Exchange) (d : Deed) → IsRefusal error → DidBy error kind m k c x d → d.count ≡ 0
+refused-none : (error : ReplyError) (kind : RequestKind) (m : ℕ) (k : Keying) (c : Content) (x : Exchange) (d : Deed) → IsRefusingReply error → DidBy error kind m k c x d → d.count ≡ 0
 refused-none Done kind m k c x d refused by = absurd refused
 refused-none Failed kind m k c x d refused by = absurd refused
 refused-none ReadOnly kind m k c x d refused by = by
@@ -107,7 +107,7 @@ quiet-flush true n = refl
 quiet-flush false n = refl
 
 quiet-write : (m : ℕ) (k : Keying) (q : Request) (whole : List ℕ) (r : ByteRange) (n : ℕ) → AreApart k r (range_of q) → first_sector k r * units k ≤ n → n < (first_sector k r + sectors_covered k r) * units k
-    → placed_at (write_steps m k q whole) n ≡ []
+    → placed_at (steps_of_write m k q whole) n ≡ []
 quiet-write m k q whole r n apart low high =
     let first : ℕ = first_sector k (range_of q) in
     let count : ℕ = sectors_covered k (range_of q) in
@@ -119,10 +119,10 @@ quiet-write m k q whole r n apart low high =
 
 -- a write that was refused, or of other sectors
 quiet-other : (kind : RequestKind) (m : ℕ) (k : Keying) (c : Content) (r : ByteRange) (n : ℕ) (x : Exchange) (d : Deed) → first_sector k r * units k ≤ n → n < (first_sector k r + sectors_covered k r) * units k
-    → IsRefusal x.error ⊎ AreApart k r (range_of x.request) → DidBy x.error kind m k c x d → placed_at (take d.count (write_steps m k x.request d.whole)) n ≡ []
+    → IsRefusingReply x.error ⊎ AreApart k r (range_of x.request) → DidBy x.error kind m k c x d → placed_at (take d.count (steps_of_write m k x.request d.whole)) n ≡ []
 quiet-other kind m k c r n x d low high alone by = elim alone [
-  | inl refused ↦ ap (λ (count : ℕ). placed_at (take count (write_steps m k x.request d.whole)) n) (refused-none x.error kind m k c x d refused by)
-  | inr apart ↦ quiet-take d.count (write_steps m k x.request d.whole) n (quiet-write m k x.request d.whole r n apart low high)
+  | inl refused ↦ ap (λ (count : ℕ). placed_at (take count (steps_of_write m k x.request d.whole)) n) (refused-none x.error kind m k c x d refused by)
+  | inr apart ↦ quiet-take d.count (steps_of_write m k x.request d.whole) n (quiet-write m k x.request d.whole r n apart low high)
 ]
 
 quiet-by : (kind : RequestKind) (m : ℕ) (k : Keying) (c : Content) (r : ByteRange) (n : ℕ) (x : Exchange) (d : Deed) → first_sector k r * units k ≤ n → n < (first_sector k r + sectors_covered k r) * units k
@@ -159,11 +159,11 @@ all-done steps count h = ap (λ (n : ℕ). take n steps) h ∙ take-length steps
 have-own : (m : ℕ) (k : Keying) (q : Request) (whole : List ℕ) → has_fua q.flags ≡ true → HaveFlush (flush_steps (has_fua q.flags))
 have-own m k q whole h = subst (λ (b : Bool). HaveFlush (flush_steps b)) (sym h) tt
 
-flushed-write : (kind : RequestKind) (m : ℕ) (k : Keying) (c : Content) (x : Exchange) (d : Deed) → has_fua x.request.flags ≡ true → d.count ≡ length (write_steps m k x.request d.whole)
-    → HaveFlush (take d.count (write_steps m k x.request d.whole))
+flushed-write : (kind : RequestKind) (m : ℕ) (k : Keying) (c : Content) (x : Exchange) (d : Deed) → has_fua x.request.flags ≡ true → d.count ≡ length (steps_of_write m k x.request d.whole)
+    → HaveFlush (take d.count (steps_of_write m k x.request d.whole))
 flushed-write kind m k c x d fua count =
     let r = range_of x.request in
-    subst HaveFlush (sym (all-done (write_steps m k x.request d.whole) d.count count))
+    subst HaveFlush (sym (all-done (steps_of_write m k x.request d.whole) d.count count))
     (HaveFlush-right (data_steps m k (first_sector k r) (sectors_covered k r) d.whole) (flush_steps (has_fua x.request.flags)) (have-own m k x.request d.whole fua))
 
 flushed-by : (kind : RequestKind) (m : ℕ) (k : Keying) (c : Content) (x : Exchange) (d : Deed) → FlushesBy kind x → DidBy x.error kind m k c x d → HaveFlush (take d.count (steps_of_kind kind m k x d.whole))
@@ -192,11 +192,11 @@ one-flushed (x ∷ xs) (d ∷ ds) m k c h did =
 -- ---- the write
 
 wrote-by : (kind : RequestKind) (n : ℕ) (k : Keying) (c : Content) (x : Exchange) (bytes : List ℕ) (d : Deed) → WroteBy kind x bytes → DidBy Done kind n k c x d
-    → IsOfWrite k c x.request bytes d.whole × (take d.count (steps_of_kind kind n k x d.whole) ≡ write_steps n k x.request d.whole)
+    → IsOfWrite k c x.request bytes d.whole × (take d.count (steps_of_kind kind n k x d.whole) ≡ steps_of_write n k x.request d.whole)
 wrote-by kinds.Write n k c x bytes d h by =
-    (subst (λ (l : List ℕ). IsOfWrite k c x.request l d.whole) (sym h) by.0, all-done (write_steps n k x.request d.whole) d.count by.1)
+    (subst (λ (l : List ℕ). IsOfWrite k c x.request l d.whole) (sym h) by.0, all-done (steps_of_write n k x.request d.whole) d.count by.1)
 wrote-by kinds.WriteZeroes n k c x bytes d h by =
-    (subst (λ (l : List ℕ). IsOfWrite k c x.request l d.whole) (sym h) by.0, all-done (write_steps n k x.request d.whole) d.count by.1)
+    (subst (λ (l : List ℕ). IsOfWrite k c x.request l d.whole) (sym h) by.0, all-done (steps_of_write n k x.request d.whole) d.count by.1)
 wrote-by kinds.Read n k c x bytes d h by = absurd h
 wrote-by kinds.Flush n k c x bytes d h by = absurd h
 wrote-by kinds.Unknown n k c x bytes d h by = absurd h
@@ -405,10 +405,10 @@ pub record EndsInFlush (steps : List Step) : Type 0 where
   earlier : List Step
   are : steps ≡ earlier ++ Flush ∷ []
 
-write-ends : (m : ℕ) (k : Keying) (q : Request) (whole : List ℕ) (count : ℕ) → has_fua q.flags ≡ true → count ≡ length (write_steps m k q whole) → EndsInFlush (take count (write_steps m k q whole))
+write-ends : (m : ℕ) (k : Keying) (q : Request) (whole : List ℕ) (count : ℕ) → has_fua q.flags ≡ true → count ≡ length (steps_of_write m k q whole) → EndsInFlush (take count (steps_of_write m k q whole))
 write-ends m k q whole count fua all =
     let places : List Step = data_steps m k (first_sector k (range_of q)) (sectors_covered k (range_of q)) whole in
-    record { earlier = places; are = all-done (write_steps m k q whole) count all ∙ ap (λ (b : Bool). places ++ flush_steps b) fua }
+    record { earlier = places; are = all-done (steps_of_write m k q whole) count all ∙ ap (λ (b : Bool). places ++ flush_steps b) fua }
 
 ends-in-flush : (kind : RequestKind) (m : ℕ) (k : Keying) (c : Content) (x : Exchange) (d : Deed) → FlushesBy kind x → DidBy x.error kind m k c x d → EndsInFlush (take d.count (steps_of_kind kind m k x d.whole))
 ends-in-flush kinds.Flush m k c x d h by =
@@ -489,7 +489,7 @@ no_fault told k r image bytes is reads h =
     let no : ⊥ = cc both in no
 
 read_by : (error : ReplyError) (side : Side) (y : Exchange) (bytes : List ℕ) (image : List (List ℕ)) (old : DiskState) → HasImage image old → range_reading side.keying (survivor image) (range_of y.request) ≡ Ok bytes
-    → Reads side y.request error y.bytes old y.next → AnswersWith error y bytes old
+    → AnswersRead side y.request error y.bytes old y.next → AnswersWith error y bytes old
 read_by Done side y bytes image old has reads h =
     let mine : Ok y.bytes ≡ Ok bytes = sym (told_range old.content side.keying (range_of y.request) image (Ok y.bytes) has h.1.reads) ∙ reads in
     let same : y.bytes ≡ bytes = cc mine in same
@@ -536,7 +536,7 @@ closed_lasts k xs c deeds is did x bytes part a image torn =
     lasting-by cut.second (0 + length a.before) k c x a.later bytes part early (Flush ∷ []) image is cut.did_second a.wrote a.done (inr (inr tt)) a.part_is a.alone (λ n low high. refl)
     (subst (λ (s : List Step). IsTorn (after (s ++ Flush ∷ []) c) image) all torn)
 
-pub closed_survives : (side : Side) (xs : List Exchange) (old last new : DiskState) (c : Content) → IsKeying side.keying → old.content ≡ Some c → ServesAll side xs old last → Logs (event.Flush ∷ []) last new
+pub closed_survives : (side : Side) (xs : List Exchange) (old last new : DiskState) (c : Content) → IsKeying side.keying → old.content ≡ Some c → ServesExchanges side xs old last → Logs (event.Flush ∷ []) last new
     → SurvivesClosed side.keying xs c last new
 closed_survives side xs old last new c is told served closed =
     let s = session-survives side xs old last c is told served in

@@ -13,14 +13,14 @@ use Rattle.nbd_words.specs.declared.negotiation.Export.{Export}
 use Rattle.nbd_words.specs.declared.negotiation.OptionHead.{OptionHead}
 use Rattle.nbd_words.specs.declared.negotiation.OptionKind.{OptionKind}
 use Rattle.nbd_words.specs.declared.negotiation.OptionReply.TheVariants as replies
-use Rattle.nbd_session.specs.Negotiation.{AnsweredSoFar, AnswersOne, AnswersOption, AnswersRun, GivesAnswer, LeadOn, Negotiates, StaysUnknown, StopsOptions, TakesClient}
+use Rattle.nbd_session.specs.Negotiation.{AnsweredSoFar, AnswersOne, AnswersOption, AnswersRun, EndsGreeting, EndsOptions, GivesAnswer, IsOptionCut, LacksData, LeadOn, Negotiates, StaysUnknown, StopsOptions, TakesClient}
 use Rattle.nbd_session.specs.Options.{ClientOption, IsOption, LeadTo, answer, answer_by, answers, bare_reply, info_answer, is_taken, option_bytes, outcome, outcome_by, told}
-use Rattle.nbd_session.specs.Streams.{Fills, Gave, GivesOn, Gives}
+use Rattle.nbd_session.specs.Streams.{Fills, GivesBytes, GivesOn, GivesTexts, SourceGave}
 use Rattle.nbd_session.specs.declared.negotiation.Outcome.{Outcome}
 use Rattle.nbd_session.specs.declared.negotiation.Outcome.TheVariants.{More, Serving, Ending}
 use Rattle.nbd_session.specs.declared.streams.End.{End}
 use Rattle.nbd_session.specs.declared.streams.End.TheVariants.{Closed, ReadFault, WriteFault, Malformed}
-use Rattle.nbd_session.proofs.Filling.{Gave-bare, Gave-none, Gave-then}
+use Rattle.nbd_session.proofs.Filling.{SourceGave-bare, SourceGave-none, SourceGave-then, fewer, part_filled}
 use Rattle.nbd_session.proofs.Giving.{gave-alone, gave-first, gave-more, gave-on, gave-part}
 
 -- ---- one option
@@ -41,79 +41,60 @@ many_data client option room bytes taken wide h =
     let few : option.length ≤ 16384 = few_data client option taken in
     h ∙ length-take-le option.length room (omega (arith, few, wide))
 
--- the head didn't come
-head_stops : (end : End) (client : ClientFlags) (head : List ℕ) (source rest : SourceState) → length head ≡ 16 → Fills head source (Err end) rest → (taken : List ℕ) × Gave taken source rest × StopsOptions end client taken source rest
-head_stops Closed client head source rest long h =
-    let within = h.0.within in
-    (take h.0.count head, h.0.gave, (inl (omega (arith, length-take-le h.0.count head (omega (arith, within)), within, long)), h.1))
-head_stops ReadFault client head source rest long h =
-    let within = h.0.within in
-    (take h.0.count head, h.0.gave, (inl (omega (arith, length-take-le h.0.count head (omega (arith, within)), within, long)), h.1))
-head_stops WriteFault client head source rest long h = absurd h
-head_stops Malformed client head source rest long h = absurd h
+-- where an option is cut, the source ended or failed
+cut_stops : (end : End) (client : ClientFlags) (taken bytes : List ℕ) (source middle rest : SourceState) → source.faults ≤ middle.faults → IsOptionCut client taken → Fills bytes middle (Err end) rest
+    → StopsOptions end client taken source rest
+cut_stops Closed client taken bytes source middle rest later cut h = (cut, h.1)
+cut_stops ReadFault client taken bytes source middle rest later cut h = (cut, omega (arith, later, h.1))
+cut_stops WriteFault client taken bytes source middle rest later cut h = absurd h
+cut_stops Malformed client taken bytes source middle rest later cut h = absurd h
 
--- its data didn't all come
-data_stop : (end : End) (client : ClientFlags) (head bytes : List ℕ) (option : OptionHead) (source middle rest : SourceState) → length head ≡ 16 → option_head_in head ≡ Some option → is_taken client option ≡ true
-    → length bytes ≡ option.length → Gave head source middle → Fills bytes middle (Err end) rest → (taken : List ℕ) × Gave taken source rest × StopsOptions end client taken source rest
-data_stop Closed client head bytes option source middle rest long reads is size took h =
-    let part : List ℕ = take h.0.count bytes in
-    let within = h.0.within in (
-      head ++ part,
-      Gave-then took h.0.gave,
-      (
-        inr (record {
-          head = head;
-          part = part;
-          are = refl;
-          size = long;
-          option = option;
-          reads = reads;
-          taken = is;
-          lacks = omega (arith, length-take-le h.0.count bytes (omega (arith, within)), within, size);
-        }),
-        h.1,
-      ),
-    )
-data_stop ReadFault client head bytes option source middle rest long reads is size took h =
-    let part : List ℕ = take h.0.count bytes in
-    let within = h.0.within in (
-      head ++ part,
-      Gave-then took h.0.gave,
-      (
-        inr (record {
-          head = head;
-          part = part;
-          are = refl;
-          size = long;
-          option = option;
-          reads = reads;
-          taken = is;
-          lacks = omega (arith, length-take-le h.0.count bytes (omega (arith, within)), within, size);
-        }),
-        omega (arith, took.later, h.1),
-      ),
-    )
-data_stop WriteFault client head bytes option source middle rest long reads is size took h = absurd h
-data_stop Malformed client head bytes option source middle rest long reads is size took h = absurd h
-
+-- its head didn't come
 pub no_head : (export : Export) (client : ClientFlags) (end : End) (head : List ℕ) (source rest : SourceState) (sink : SinkState) (result : Result Outcome End) → result ≡ Err end → length head ≡ 16
     → Fills head source (Err end) rest → AnswersOption export client source rest sink result sink
 no_head export client end head source rest sink result why long h =
-    let stop = head_stops end client head source rest long h in
-    inr (record { bytes = stop.0; end = end; why = why; took = stop.1; stops = stop.2; silent = refl })
+    let part = part_filled end head source rest h in
+    let bytes : List ℕ = take part.count head in
+    inr (record {
+      bytes = bytes;
+      end = end;
+      why = why;
+      took = part.gave;
+      stops = cut_stops end client bytes head source source rest (omega arith) (inl (fewer 16 part.count head long part.within)) h;
+      silent = refl;
+    })
 
+-- its data didn't all come
 pub no_data : (export : Export) (client : ClientFlags) (end : End) (head bytes : List ℕ) (option : OptionHead) (source middle rest : SourceState) (sink : SinkState) (result : Result Outcome End) → result ≡ Err end
-    → length head ≡ 16 → option_head_in head ≡ Some option → is_taken client option ≡ true → length bytes ≡ option.length → Gave head source middle → Fills bytes middle (Err end) rest
+    → length head ≡ 16 → option_head_in head ≡ Some option → is_taken client option ≡ true → length bytes ≡ option.length → SourceGave head source middle → Fills bytes middle (Err end) rest
     → AnswersOption export client source rest sink result sink
 no_data export client end head bytes option source middle rest sink result why long reads is size took h =
-    let stop = data_stop end client head bytes option source middle rest long reads is size took h in
-    inr (record { bytes = stop.0; end = end; why = why; took = stop.1; stops = stop.2; silent = refl })
+    let part = part_filled end bytes middle rest h in
+    let piece : List ℕ = take part.count bytes in
+    let lacks : LacksData client (head ++ piece) = record {
+      head = head;
+      part = piece;
+      are = refl;
+      size = long;
+      option = option;
+      reads = reads;
+      taken = is;
+      lacks = fewer option.length part.count bytes size part.within;
+    } in
+    inr (record {
+      bytes = head ++ piece;
+      end = end;
+      why = why;
+      took = SourceGave-then took part.gave;
+      stops = cut_stops end client (head ++ piece) bytes source middle rest took.later (inr lacks) h;
+      silent = refl;
+    })
 
 -- an option and its answer
-pub one_answered : (export : Export) (client : ClientFlags) (head bytes : List ℕ) (option : OptionHead) (source middle rest : SourceState) (sink : SinkState) (result : Result Outcome End) (after : SinkState) → length head ≡ 16
-    → option_head_in head ≡ Some option → is_taken client option ≡ true → length bytes ≡ option.length → Gave head source middle → Gave bytes middle rest
+pub one_answered : {export : Export} {client : ClientFlags} {head bytes : List ℕ} {option : OptionHead} {source middle rest : SourceState} {sink : SinkState} {result : Result Outcome End} {after : SinkState} → length head ≡ 16
+    → option_head_in head ≡ Some option → is_taken client option ≡ true → length bytes ≡ option.length → SourceGave head source middle → SourceGave bytes middle rest
     → GivesAnswer export client (record { head = head; code = option.code; bytes = bytes }) sink result after → AnswersOption export client source rest sink result after
-one_answered export client head bytes option source middle rest sink result after long reads is size took more gives =
+one_answered {export} {client} {head} {bytes} {option} long reads is size took more gives =
     inl (record {
       option = record { head = head; code = option.code; bytes = bytes };
       is = record {
@@ -121,7 +102,7 @@ one_answered export client head bytes option source middle rest sink result afte
         reads = reads ∙ ap (λ (n : ℕ). Some (record { code = option.code; length = n })) (sym size);
         taken = subst (λ (n : ℕ). is_taken client (record { code = option.code; length = n }) ≡ true) (sym size) is;
       };
-      took = Gave-then took more;
+      took = SourceGave-then took more;
       gives = gives;
     })
 
@@ -130,17 +111,17 @@ pub answer_given : (export : Export) (client : ClientFlags) (o : ClientOption) (
 answer_given export client o kind next sink after is leads h =
     (leads ∙ ap (λ (k : OptionKind). outcome_by k o.bytes) is, subst (λ (k : OptionKind). TookAll (answer_by k o.code o.bytes export client) sink after) is h)
 
-answer_fails : (export : Export) (client : ClientFlags) (o : ClientOption) (end : End) (sink after : SinkState) → Gives (answer export client o) sink (Err end) after → GivesAnswer export client o sink (Err end) after
+answer_fails : (export : Export) (client : ClientFlags) (o : ClientOption) (end : End) (sink after : SinkState) → GivesBytes (answer export client o) sink (Err end) after → GivesAnswer export client o sink (Err end) after
 answer_fails export client o WriteFault sink after h = h
 answer_fails export client o Closed sink after h = absurd h
 answer_fails export client o ReadFault sink after h = absurd h
 answer_fails export client o Malformed sink after h = absurd h
 
 pub answer_cut : (export : Export) (client : ClientFlags) (o : ClientOption) (kind : OptionKind) (end : End) (result : Result Outcome End) (sink after : SinkState) → result ≡ Err end → kind ≡ option_kind o.code
-    → Gives (answer_by kind o.code o.bytes export client) sink (Err end) after → GivesAnswer export client o sink result after
+    → GivesBytes (answer_by kind o.code o.bytes export client) sink (Err end) after → GivesAnswer export client o sink result after
 answer_cut export client o kind end result sink after why is h =
     subst (λ (r : Result Outcome End). GivesAnswer export client o sink r after) (sym why)
-    (answer_fails export client o end sink after (subst (λ (k : OptionKind). Gives (answer_by k o.code o.bytes export client) sink (Err end) after) is h))
+    (answer_fails export client o end sink after (subst (λ (k : OptionKind). GivesBytes (answer_by k o.code o.bytes export client) sink (Err end) after) is h))
 
 -- ---- the options
 
@@ -152,19 +133,19 @@ LeadTo-more client (x ∷ next ∷ xs) o last h is leads = (h.0, h.1, LeadTo-mor
 flat_more : (os : List ClientOption) (o : ClientOption) → flat_map option_bytes (os ++ o ∷ []) ≡ flat_map option_bytes os ++ option_bytes o
 flat_more os o = flat_map-append option_bytes os (o ∷ []) ∙ ap (λ (l : List ℕ). flat_map option_bytes os ++ l) (append-nil (option_bytes o))
 
-took-more : (os : List ClientOption) (o : ClientOption) {source middle rest : SourceState} → Gave (flat_map option_bytes os) source middle → Gave (option_bytes o) middle rest → Gave (flat_map option_bytes (os ++ o ∷ [])) source rest
-took-more os o {source} {middle} {rest} a b = subst (λ (l : List ℕ). Gave l source rest) (sym (flat_more os o)) (Gave-then a b)
+took-more : (os : List ClientOption) (o : ClientOption) {source middle rest : SourceState} → SourceGave (flat_map option_bytes os) source middle → SourceGave (option_bytes o) middle rest → SourceGave (flat_map option_bytes (os ++ o ∷ [])) source rest
+took-more os o {source} {middle} {rest} a b = subst (λ (l : List ℕ). SourceGave l source rest) (sym (flat_more os o)) (SourceGave-then a b)
 
 pub none-answered : (export : Export) (client : ClientFlags) (source : SourceState) (sink : SinkState) → AnsweredSoFar export client 0 source source sink sink
-none-answered export client source sink = record { options = []; count = refl; lead = refl; took = Gave-none source; gave = TookAll-nothing sink }
+none-answered export client source sink = record { options = []; count = refl; lead = refl; took = SourceGave-none source; gave = TookAll-nothing sink }
 
-pub next_answered : (export : Export) (client : ClientFlags) (n : ℕ) (source between rest : SourceState) (sink halfway after : SinkState) → AnsweredSoFar export client n source between sink halfway
-    → AnswersOption export client between rest halfway (Ok More) after → AnsweredSoFar export client (n + 1) source rest sink after
-next_answered export client n source between rest sink halfway after so h = elim h [
+pub next_answered : {export : Export} {client : ClientFlags} {n : ℕ} {source between rest : SourceState} {sink halfway after : SinkState} {next : Outcome} → AnsweredSoFar export client n source between sink halfway
+    → next ≡ More → AnswersOption export client between rest halfway (Ok next) after → AnsweredSoFar export client (n + 1) source rest sink after
+next_answered {export} {client} so is h = elim h [
   | inl one ↦ record {
     options = so.options ++ one.option ∷ [];
     count = omega (arith, so.count, length-append so.options (one.option ∷ []));
-    lead = LeadTo-more client so.options one.option More so.lead one.is (sym one.gives.0);
+    lead = LeadTo-more client so.options one.option More so.lead one.is (sym one.gives.0 ∙ is);
     took = took-more so.options one.option so.took one.took;
     gave = gave-more (answer export client) so.options one.option so.gave one.gives.1;
   }
@@ -172,59 +153,52 @@ next_answered export client n source between rest sink halfway after so h = elim
 ]
 
 -- the last of the options
-last_answered : (export : Export) (client : ClientFlags) (next : Outcome) (n : ℕ) (source between rest : SourceState) (sink halfway after : SinkState) (result : Result (Unit {0}) End) → AnsweredSoFar export client n source between sink halfway
-    → ((os : List ClientOption) → LeadTo client next os → LeadOn result client os [] source rest)
+last_answered : (last : Outcome) (result : Result (Unit {0}) End) {export : Export} {client : ClientFlags} {n : ℕ} {source between rest : SourceState} {sink halfway after : SinkState} {next : Outcome} → AnsweredSoFar export client n source between sink halfway
+    → next ≡ last → ((os : List ClientOption) → LeadTo client last os → LeadOn result client os [] source rest)
     → ((os : List ClientOption) → TookAll (concat (answers export client os)) sink after → GivesOn result (answers export client os) sink after)
-    → AnswersOne export client between rest halfway (Ok next) after → AnswersRun export client source rest sink result after
-last_answered export client next n source between rest sink halfway after result so leads gives one =
-    let os : List ClientOption = so.options ++ one.option ∷ [] in
-    record {
-      options = os;
-      bytes = [];
-      took = Gave-bare (took-more so.options one.option so.took one.took);
-      gave = gives os (gave-more (answer export client) so.options one.option so.gave one.gives.1);
-      why = leads os (LeadTo-more client so.options one.option next so.lead one.is (sym one.gives.0));
-    }
-
-pub wants_service : (done : Unit {0}) (export : Export) (client : ClientFlags) (n : ℕ) (source between rest : SourceState) (sink halfway after : SinkState) → AnsweredSoFar export client n source between sink halfway
-    → AnswersOption export client between rest halfway (Ok Serving) after → AnswersRun export client source rest sink (Ok done) after
-wants_service done export client n source between rest sink halfway after so h = elim h [
-  | inl one ↦ last_answered export client Serving n source between rest sink halfway after (Ok done) so (λ os lead. (lead, refl)) (λ os all. all) one
+    → AnswersOption export client between rest halfway (Ok next) after → AnswersRun export client source rest sink result after
+last_answered last result {export} {client} so is leads gives h = elim h [
+  | inl one ↦
+      let os : List ClientOption = so.options ++ one.option ∷ [] in
+      record {
+        options = os;
+        bytes = [];
+        took = SourceGave-bare (took-more so.options one.option so.took one.took);
+        gave = gives os (gave-more (answer export client) so.options one.option so.gave one.gives.1);
+        why = leads os (LeadTo-more client so.options one.option last so.lead one.is (sym one.gives.0 ∙ is));
+      }
   | inr none ↦ absurd (let no : ⊥ = cc (none.why) in no)
 ]
 
-pub wants_end : (export : Export) (client : ClientFlags) (n : ℕ) (source between rest : SourceState) (sink halfway after : SinkState) → AnsweredSoFar export client n source between sink halfway
-    → AnswersOption export client between rest halfway (Ok Ending) after → AnswersRun export client source rest sink (Err Closed) after
-wants_end export client n source between rest sink halfway after so h = elim h [
-  | inl one ↦ last_answered export client Ending n source between rest sink halfway after (Err Closed) so (λ os lead. inl (lead, refl)) (λ os all. all) one
-  | inr none ↦ absurd (let no : ⊥ = cc (none.why) in no)
-]
+pub wants_service : (done : Unit {0}) {export : Export} {client : ClientFlags} {n : ℕ} {source between rest : SourceState} {sink halfway after : SinkState} {next : Outcome} → AnsweredSoFar export client n source between sink halfway
+    → next ≡ Serving → AnswersOption export client between rest halfway (Ok next) after → AnswersRun export client source rest sink (Ok done) after
+wants_service done so is h = last_answered Serving (Ok done) so is (λ os lead. (lead, refl)) (λ os all. all) h
+
+pub wants_end : {export : Export} {client : ClientFlags} {n : ℕ} {source between rest : SourceState} {sink halfway after : SinkState} {next : Outcome} → AnsweredSoFar export client n source between sink halfway
+    → next ≡ Ending → AnswersOption export client between rest halfway (Ok next) after → AnswersRun export client source rest sink (Err Closed) after
+wants_end so is h = last_answered Ending (Err Closed) so is (λ os lead. inl (lead, refl)) (λ os all. all) h
 
 -- no more were answered
+stops_by : (end : End) (export : Export) (client : ClientFlags) (n : ℕ) (source between rest : SourceState) (sink halfway after : SinkState) (so : AnsweredSoFar export client n source between sink halfway)
+    → (bytes : List ℕ) → SourceGave bytes between rest → after ≡ halfway → ((texts : List (List ℕ)) → TookAll (concat texts) sink after → GivesTexts end texts sink after)
+    → EndsOptions end client so.options bytes source rest → AnswersRun export client source rest sink (Err end) after
+stops_by end export client n source between rest sink halfway after so bytes took silent gives why = record {
+  options = so.options;
+  bytes = bytes;
+  took = SourceGave-then so.took took;
+  gave = gives (answers export client so.options) (subst (λ (s : SinkState). TookAll (concat (answers export client so.options)) sink s) (sym silent) so.gave);
+  why = why;
+}
+
 stops_so : (end : End) (export : Export) (client : ClientFlags) (n : ℕ) (source between rest : SourceState) (sink halfway after : SinkState) → AnsweredSoFar export client n source between sink halfway
-    → (bytes : List ℕ) → Gave bytes between rest → StopsOptions end client bytes between rest → after ≡ halfway → AnswersRun export client source rest sink (Err end) after
-stops_so Closed export client n source between rest sink halfway after so bytes took stops silent = record {
-  options = so.options;
-  bytes = bytes;
-  took = Gave-then so.took took;
-  gave = subst (λ (s : SinkState). TookAll (concat (answers export client so.options)) sink s) (sym silent) so.gave;
-  why = inr (so.lead, stops);
-}
-stops_so ReadFault export client n source between rest sink halfway after so bytes took stops silent = record {
-  options = so.options;
-  bytes = bytes;
-  took = Gave-then so.took took;
-  gave = subst (λ (s : SinkState). TookAll (concat (answers export client so.options)) sink s) (sym silent) so.gave;
-  why = (so.lead, (stops.0, omega (arith, so.took.later, stops.1)));
-}
+    → (bytes : List ℕ) → SourceGave bytes between rest → StopsOptions end client bytes between rest → after ≡ halfway → AnswersRun export client source rest sink (Err end) after
+stops_so Closed export client n source between rest sink halfway after so bytes took stops silent =
+    stops_by Closed export client n source between rest sink halfway after so bytes took silent (λ texts all. all) (inr (so.lead, stops))
+stops_so ReadFault export client n source between rest sink halfway after so bytes took stops silent =
+    stops_by ReadFault export client n source between rest sink halfway after so bytes took silent (λ texts all. all) (so.lead, (stops.0, omega (arith, so.took.later, stops.1)))
 stops_so WriteFault export client n source between rest sink halfway after so bytes took stops silent = absurd stops
-stops_so Malformed export client n source between rest sink halfway after so bytes took stops silent = record {
-  options = so.options;
-  bytes = bytes;
-  took = Gave-then so.took took;
-  gave = subst (λ (s : SinkState). TookAll (concat (answers export client so.options)) sink s) (sym silent) so.gave;
-  why = (so.lead, inl stops);
-}
+stops_so Malformed export client n source between rest sink halfway after so bytes took stops silent =
+    stops_by Malformed export client n source between rest sink halfway after so bytes took silent (λ texts all. all) (so.lead, inl stops)
 
 -- the last answer couldn't be given
 fails_so : (end : End) (export : Export) (client : ClientFlags) (n : ℕ) (source between rest : SourceState) (sink halfway after : SinkState) → AnsweredSoFar export client n source between sink halfway
@@ -234,7 +208,7 @@ fails_so WriteFault export client n source between rest sink halfway after so on
     record {
       options = os;
       bytes = [];
-      took = Gave-bare (took-more so.options one.option so.took one.took);
+      took = SourceGave-bare (took-more so.options one.option so.took one.took);
       gave = gave-part (answer export client) so.options one.option so.gave one.gives;
       why = (
         record {
@@ -249,9 +223,9 @@ fails_so Closed export client n source between rest sink halfway after so one = 
 fails_so ReadFault export client n source between rest sink halfway after so one = absurd one.gives
 fails_so Malformed export client n source between rest sink halfway after so one = absurd one.gives
 
-pub options_end : (end : End) (export : Export) (client : ClientFlags) (n : ℕ) (source between rest : SourceState) (sink halfway after : SinkState) → AnsweredSoFar export client n source between sink halfway
+pub options_end : (end : End) {export : Export} {client : ClientFlags} {n : ℕ} {source between rest : SourceState} {sink halfway after : SinkState} → AnsweredSoFar export client n source between sink halfway
     → AnswersOption export client between rest halfway (Err end) after → AnswersRun export client source rest sink (Err end) after
-options_end end export client n source between rest sink halfway after so h = elim h [
+options_end end {export} {client} {n} {source} {between} {rest} {sink} {halfway} {after} so h = elim h [
   | inl one ↦ fails_so end export client n source between rest sink halfway after so one
   | inr none ↦
       let same : none.end ≡ end = cc (none.why) in
@@ -264,7 +238,7 @@ pub full_of_options : (export : Export) (client : ClientFlags) (n : ℕ) (source
 full_of_options export client n source rest sink after many so = record {
   options = so.options;
   bytes = [];
-  took = Gave-bare so.took;
+  took = SourceGave-bare so.took;
   gave = so.gave;
   why = (so.lead, inr (omega (arith, many, so.count), refl));
 }
@@ -284,13 +258,13 @@ no_client : ClientFlags
 no_client = record { fixed_newstyle = false; no_zeroes = false }
 
 -- the greeting couldn't be given
-greets_not : (export : Export) (end : End) (source : SourceState) (sink after : SinkState) → Gives greeting sink (Err end) after → Negotiates export source source sink (Err end) after
+greets_not : (export : Export) (end : End) (source : SourceState) (sink after : SinkState) → GivesBytes greeting sink (Err end) after → Negotiates export source source sink (Err end) after
 greets_not export WriteFault source sink after h = record {
   flags = [];
   client = no_client;
   options = [];
   bytes = [];
-  took = Gave-none source;
+  took = SourceGave-none source;
   gave = gave-first greeting h;
   why = inl (record { end = WriteFault; why = refl; ends = refl; none = refl; bare = refl });
 }
@@ -298,41 +272,29 @@ greets_not export Closed source sink after h = absurd h
 greets_not export ReadFault source sink after h = absurd h
 greets_not export Malformed source sink after h = absurd h
 
-pub no_greeting : (export : Export) (end : End) (result : Result (Unit {0}) End) (source : SourceState) (sink after : SinkState) → result ≡ Err end → Gives greeting sink (Err end) after → Negotiates export source source sink result after
+pub no_greeting : (export : Export) (end : End) (result : Result (Unit {0}) End) (source : SourceState) (sink after : SinkState) → result ≡ Err end → GivesBytes greeting sink (Err end) after → Negotiates export source source sink result after
 no_greeting export end result source sink after why h =
     subst (λ (r : Result (Unit {0}) End). Negotiates export source source sink r after) (sym why) (greets_not export end source sink after h)
 
 -- the client isn't known
-knows_not : (export : Export) (end : End) (flags : List ℕ) (source rest : SourceState) (sink after : SinkState) → TookAll greeting sink after → Gave flags source rest → StaysUnknown end flags source rest
+knows_by : (export : Export) (end : End) (flags : List ℕ) (source rest : SourceState) (sink after : SinkState) → TookAll greeting sink after → SourceGave flags source rest
+    → ((texts : List (List ℕ)) → TookAll (concat texts) sink after → GivesTexts end texts sink after) → EndsGreeting end flags source rest → Negotiates export source rest sink (Err end) after
+knows_by export end flags source rest sink after gave took gives ends = record {
+  flags = flags;
+  client = no_client;
+  options = [];
+  bytes = [];
+  took = SourceGave-bare took;
+  gave = gives (greeting ∷ []) (gave-alone greeting gave);
+  why = inl (record { end = end; why = refl; ends = ends; none = refl; bare = refl });
+}
+
+knows_not : (export : Export) (end : End) (flags : List ℕ) (source rest : SourceState) (sink after : SinkState) → TookAll greeting sink after → SourceGave flags source rest → StaysUnknown end flags source rest
     → Negotiates export source rest sink (Err end) after
-knows_not export Closed flags source rest sink after gave took is = record {
-  flags = flags;
-  client = no_client;
-  options = [];
-  bytes = [];
-  took = Gave-bare took;
-  gave = gave-alone greeting gave;
-  why = inl (record { end = Closed; why = refl; ends = is; none = refl; bare = refl });
-}
-knows_not export ReadFault flags source rest sink after gave took is = record {
-  flags = flags;
-  client = no_client;
-  options = [];
-  bytes = [];
-  took = Gave-bare took;
-  gave = gave-alone greeting gave;
-  why = inl (record { end = ReadFault; why = refl; ends = is; none = refl; bare = refl });
-}
+knows_not export Closed flags source rest sink after gave took is = knows_by export Closed flags source rest sink after gave took (λ texts all. all) is
+knows_not export ReadFault flags source rest sink after gave took is = knows_by export ReadFault flags source rest sink after gave took (λ texts all. all) is
 knows_not export WriteFault flags source rest sink after gave took is = absurd is
-knows_not export Malformed flags source rest sink after gave took is = record {
-  flags = flags;
-  client = no_client;
-  options = [];
-  bytes = [];
-  took = Gave-bare took;
-  gave = gave-alone greeting gave;
-  why = inl (record { end = Malformed; why = refl; ends = is; none = refl; bare = refl });
-}
+knows_not export Malformed flags source rest sink after gave took is = knows_by export Malformed flags source rest sink after gave took (λ texts all. all) is
 
 pub no_client_known : (export : Export) (end : End) (result : Result (Unit {0}) End) (source rest : SourceState) (sink after : SinkState) → result ≡ Err end → TookAll greeting sink after → TakesClient source (Err end) rest
     → Negotiates export source rest sink result after
@@ -346,7 +308,7 @@ negotiated export client result source middle rest sink between after gave knows
   client = client;
   options = run.options;
   bytes = run.bytes;
-  took = Gave-then knows.took run.took;
+  took = SourceGave-then knows.took run.took;
   gave = gave-on result greeting (answers export client run.options) sink between after gave run.gave;
   why = inr (record { is = knows.is; lead = LeadOn-earlier result client run.options run.bytes source middle rest knows.took.later run.why });
 }

@@ -7,29 +7,29 @@ use Rattle.block_traits.specs.Disk.{DiskState}
 use Rattle.block_traits.specs.Streams.{SinkState, SourceState, TookAll}
 use Rattle.provider.specs.Attached.{Attached, IsKept}
 use Rattle.reply_text.proofs.Printing.{TookAll-nothing}
-use Rattle.nbd_session.specs.Requests.{Exchange, ServesAll, ServesExchange, Side, is_denied, reply_of, side_of}
-use Rattle.nbd_session.specs.Runs.{ServedSoFar, ServesRun}
+use Rattle.nbd_session.specs.Requests.{Exchange, ServesExchange, ServesExchanges, Side, is_denied, reply_of, side_of}
+use Rattle.nbd_session.specs.Runs.{EndsRun, ServedSoFar, ServesRun}
 use Rattle.nbd_session.specs.Served.{ServesNone, ServesOne, ServesRequest}
 use Rattle.nbd_session.specs.Stops.{exchange_bytes}
-use Rattle.nbd_session.specs.Streams.{Gave}
+use Rattle.nbd_session.specs.Streams.{GivesTexts, SourceGave}
 use Rattle.nbd_session.specs.declared.streams.End.{End}
 use Rattle.nbd_session.specs.declared.streams.End.TheVariants.{Closed, ReadFault, WriteFault, Malformed}
-use Rattle.nbd_session.proofs.Filling.{Gave-bare, Gave-none, Gave-then}
+use Rattle.nbd_session.proofs.Filling.{SourceGave-bare, SourceGave-none, SourceGave-then}
 use Rattle.nbd_session.proofs.Giving.{gave-more, gave-part}
 
 flat_more : (xs : List Exchange) (x : Exchange) → flat_map exchange_bytes (xs ++ x ∷ []) ≡ flat_map exchange_bytes xs ++ exchange_bytes x
 flat_more xs x = flat_map-append exchange_bytes xs (x ∷ []) ∙ ap (λ (l : List ℕ). flat_map exchange_bytes xs ++ l) (append-nil (exchange_bytes x))
 
-ServesAll-more : (xs : List Exchange) (x : Exchange) (side : Side) (old middle : DiskState) → ServesAll side xs old middle → ServesExchange side x middle → ServesAll side (xs ++ x ∷ []) old x.next
-ServesAll-more [] x side old middle h one = (subst (ServesExchange side x) h one, refl)
-ServesAll-more (y ∷ ys) x side old middle h one = (h.0, ServesAll-more ys x side y.next middle h.1 one)
+ServesExchanges-more : (xs : List Exchange) (x : Exchange) (side : Side) (old middle : DiskState) → ServesExchanges side xs old middle → ServesExchange side x middle → ServesExchanges side (xs ++ x ∷ []) old x.next
+ServesExchanges-more [] x side old middle h one = (subst (ServesExchange side x) h one, refl)
+ServesExchanges-more (y ∷ ys) x side old middle h one = (h.0, ServesExchanges-more ys x side y.next middle h.1 one)
 
 -- with one more, all were served
-all-served : (side : Side) (xs : List Exchange) (x : Exchange) (old middle new : DiskState) → ServesAll side xs old middle → ServesExchange side x middle → x.next ≡ new → ServesAll side (xs ++ x ∷ []) old new
-all-served side xs x old middle new all one next = subst (ServesAll side (xs ++ x ∷ []) old) next (ServesAll-more xs x side old middle all one)
+all-served : (side : Side) (xs : List Exchange) (x : Exchange) (old middle new : DiskState) → ServesExchanges side xs old middle → ServesExchange side x middle → x.next ≡ new → ServesExchanges side (xs ++ x ∷ []) old new
+all-served side xs x old middle new all one next = subst (ServesExchanges side (xs ++ x ∷ []) old) next (ServesExchanges-more xs x side old middle all one)
 
-took-more : (xs : List Exchange) (x : Exchange) {source middle rest : SourceState} → Gave (flat_map exchange_bytes xs) source middle → Gave (exchange_bytes x) middle rest → Gave (flat_map exchange_bytes (xs ++ x ∷ [])) source rest
-took-more xs x {source} {middle} {rest} a b = subst (λ (l : List ℕ). Gave l source rest) (sym (flat_more xs x)) (Gave-then a b)
+took-more : (xs : List Exchange) (x : Exchange) {source middle rest : SourceState} → SourceGave (flat_map exchange_bytes xs) source middle → SourceGave (exchange_bytes x) middle rest → SourceGave (flat_map exchange_bytes (xs ++ x ∷ [])) source rest
+took-more xs x {source} {middle} {rest} a b = subst (λ (l : List ℕ). SourceGave l source rest) (sym (flat_more xs x)) (SourceGave-then a b)
 
 or-false : (b : Bool) → (b || false) ≡ b
 or-false true = refl
@@ -60,36 +60,28 @@ noted-on : (xs : List Exchange) (before denied : Bool) → before ≡ list_any i
 noted-on xs before denied so none = ap (λ (b : Bool). before || b) none ∙ or-false before ∙ so
 
 -- none was served, and the session ends
+stops-by : (end : End) (side : Side) (n : ℕ) (old middle new : DiskState) (source between rest : SourceState) (sink halfway after : SinkState) (before denied : Bool) (so : ServedSoFar side n old middle source between sink halfway before)
+    → (none : ServesNone middle new between rest halfway (Err end) after denied) → ((texts : List (List ℕ)) → TookAll (concat texts) sink after → GivesTexts end texts sink after)
+    → EndsRun end so.exchanges none.bytes source rest → ServesRun side old new source rest sink end after (before || denied)
+stops-by end side n old middle new source between rest sink halfway after before denied so none gives why = record {
+  exchanges = so.exchanges;
+  bytes = none.bytes;
+  served = subst (ServesExchanges side so.exchanges old) (sym none.disk) so.served;
+  took = SourceGave-then so.took none.took;
+  gave = gives (map reply_of so.exchanges) (subst (λ (s : SinkState). TookAll (concat (map reply_of so.exchanges)) sink s) (sym none.silent) so.gave);
+  why = why;
+  noted = noted-on so.exchanges before denied so.noted none.noted;
+}
+
 stops-run : (end : End) (side : Side) (n : ℕ) (old middle new : DiskState) (source between rest : SourceState) (sink halfway after : SinkState) (before denied : Bool) → ServedSoFar side n old middle source between sink halfway before
     → ServesNone middle new between rest halfway (Err end) after denied → ServesRun side old new source rest sink end after (before || denied)
-stops-run Closed side n old middle new source between rest sink halfway after before denied so none = record {
-  exchanges = so.exchanges;
-  bytes = none.bytes;
-  served = subst (ServesAll side so.exchanges old) (sym none.disk) so.served;
-  took = Gave-then so.took none.took;
-  gave = subst (λ (s : SinkState). TookAll (concat (map reply_of so.exchanges)) sink s) (sym none.silent) so.gave;
-  why = inl none.stops;
-  noted = noted-on so.exchanges before denied so.noted none.noted;
-}
-stops-run ReadFault side n old middle new source between rest sink halfway after before denied so none = record {
-  exchanges = so.exchanges;
-  bytes = none.bytes;
-  served = subst (ServesAll side so.exchanges old) (sym none.disk) so.served;
-  took = Gave-then so.took none.took;
-  gave = subst (λ (s : SinkState). TookAll (concat (map reply_of so.exchanges)) sink s) (sym none.silent) so.gave;
-  why = (none.stops.0, omega (arith, so.took.later, none.stops.1));
-  noted = noted-on so.exchanges before denied so.noted none.noted;
-}
+stops-run Closed side n old middle new source between rest sink halfway after before denied so none =
+    stops-by Closed side n old middle new source between rest sink halfway after before denied so none (λ texts all. all) (inl none.stops)
+stops-run ReadFault side n old middle new source between rest sink halfway after before denied so none =
+    stops-by ReadFault side n old middle new source between rest sink halfway after before denied so none (λ texts all. all) (none.stops.0, omega (arith, so.took.later, none.stops.1))
 stops-run WriteFault side n old middle new source between rest sink halfway after before denied so none = absurd none.stops
-stops-run Malformed side n old middle new source between rest sink halfway after before denied so none = record {
-  exchanges = so.exchanges;
-  bytes = none.bytes;
-  served = subst (ServesAll side so.exchanges old) (sym none.disk) so.served;
-  took = Gave-then so.took none.took;
-  gave = subst (λ (s : SinkState). TookAll (concat (map reply_of so.exchanges)) sink s) (sym none.silent) so.gave;
-  why = none.stops;
-  noted = noted-on so.exchanges before denied so.noted none.noted;
-}
+stops-run Malformed side n old middle new source between rest sink halfway after before denied so none =
+    stops-by Malformed side n old middle new source between rest sink halfway after before denied so none (λ texts all. all) none.stops
 
 -- the last was served, and its answer couldn't be given
 fails-run : (end : End) (side : Side) (n : ℕ) (old middle new : DiskState) (source between rest : SourceState) (sink halfway after : SinkState) (before denied : Bool) → ServedSoFar side n old middle source between sink halfway before
@@ -102,7 +94,7 @@ fails-run WriteFault side n old middle new source between rest sink halfway afte
       exchanges = all;
       bytes = [];
       served = all-served side so.exchanges one.exchange old middle new so.served one.serves one.next;
-      took = Gave-bare (took-more so.exchanges one.exchange so.took one.took);
+      took = SourceGave-bare (took-more so.exchanges one.exchange so.took one.took);
       gave = gave-part reply_of so.exchanges one.exchange so.gave one.gives;
       why = (omega (arith, length-append so.exchanges (one.exchange ∷ [])), refl);
       noted = noted-more so.exchanges one.exchange before denied so.noted one.noted;
@@ -139,11 +131,11 @@ full side n old new source rest sink after denied many so = record {
   exchanges = so.exchanges;
   bytes = [];
   served = so.served;
-  took = Gave-bare so.took;
+  took = SourceGave-bare so.took;
   gave = so.gave;
   why = inr (omega (arith, many, so.count), refl);
   noted = so.noted;
 }
 
 pub none-yet : (side : Side) (d : DiskState) (source : SourceState) (sink : SinkState) → ServedSoFar side 0 d d source source sink sink false
-none-yet side d source sink = record { exchanges = []; count = refl; served = refl; took = Gave-none source; gave = TookAll-nothing sink; noted = refl }
+none-yet side d source sink = record { exchanges = []; count = refl; served = refl; took = SourceGave-none source; gave = TookAll-nothing sink; noted = refl }

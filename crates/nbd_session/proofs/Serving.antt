@@ -5,7 +5,8 @@ use Rattle.std.proofs.lemmas.List.{drop-drop, drop-take, take-append-le, take-ta
 use Rattle.std.proofs.lemmas.Option.{none-some, same_Some}
 use Rattle.block_traits.specs.Disk.{DiskState}
 use Rattle.block_traits.specs.Streams.{SinkState, SourceState}
-use Rattle.byte_ranges.specs.Reads.{CannotRead, IsReadAs}
+use Rattle.byte_ranges.specs.Ranges.{skipped}
+use Rattle.byte_ranges.specs.Reads.{CannotReadRange, IsRangeReadAs}
 use Rattle.byte_ranges.specs.Writes.{WritesRange}
 use Rattle.byte_ranges.specs.declared.ranges.ByteRange.{ByteRange}
 use Rattle.nbd_words.specs.Transmission.{has_fua, reply_head, request_in, request_kind}
@@ -14,13 +15,13 @@ use Rattle.nbd_words.specs.declared.transmission.RequestKind.{RequestKind}
 use Rattle.nbd_words.specs.declared.transmission.RequestKind.TheVariants as kinds
 use Rattle.nbd_words.specs.declared.transmission.ReplyError.{ReplyError}
 use Rattle.nbd_words.specs.declared.transmission.ReplyError.TheVariants.{Done, Failed, Invalid}
-use Rattle.nbd_session.specs.Requests.{MayRead, Reads, ServesKind, Side, Writes, denied_by, most, range_of}
-use Rattle.nbd_session.specs.Served.{KindIsServed, ServesNone, ServesRequest}
-use Rattle.nbd_session.specs.Stops.{Stops}
-use Rattle.nbd_session.specs.Streams.{Fills, Gave, Gives}
+use Rattle.nbd_session.specs.Requests.{AnswersRead, AnswersWrite, MayRead, ServesKind, Side, denied_by, most, range_of}
+use Rattle.nbd_session.specs.Served.{KindIsServed, ServesNone, ServesRequest, WriteIsCut}
+use Rattle.nbd_session.specs.Stops.{IsCut, LacksBytes, Stops}
+use Rattle.nbd_session.specs.Streams.{Fills, GivesBytes, SourceGave}
 use Rattle.nbd_session.specs.declared.streams.End.{End}
 use Rattle.nbd_session.specs.declared.streams.End.TheVariants.{Closed, ReadFault, WriteFault, Malformed}
-use Rattle.nbd_session.proofs.Filling.{Gave-bare, Gave-then}
+use Rattle.nbd_session.proofs.Filling.{SourceGave-bare, SourceGave-then, fewer, part_filled}
 use borrow.Rule.Slice.PartMut.{mid_of, put_mid, post_of}
 
 -- ---- the room
@@ -74,46 +75,47 @@ pub payload_there : (offset size there n k : ℕ) (room ys : List ℕ) → size 
 payload_there offset size there n k room ys same long inside =
     ap (λ (m : ℕ). take n (drop (offset % m) (put_mid (offset % size) k room ys))) (sym same) ∙ part_there (offset % size) n k room ys long inside
 
-pub written_there : (side : Side) (q : Request) (payload other : List ℕ) (error : ReplyError) (old new : DiskState) → other ≡ payload → Writes side q other error old new → Writes side q payload error old new
-written_there side q payload other error old new same h = subst (λ (l : List ℕ). Writes side q l error old new) same h
+pub written_there : (side : Side) (q : Request) (payload other : List ℕ) (error : ReplyError) (old new : DiskState) → other ≡ payload → AnswersWrite side q other error old new → AnswersWrite side q payload error old new
+written_there side q payload other error old new same h = subst (λ (l : List ℕ). AnswersWrite side q l error old new) same h
 
 -- ---- reads and writes of a request's range
 
 pub read_done : (side : Side) (q : Request) (r : ByteRange) (skip : ℕ) (bytes : List ℕ) (old new : DiskState) → r ≡ range_of q → MayRead side.keying old q
-    → IsReadAs side.keying r (take r.count (drop skip bytes)) old new → Reads side q Done (take q.length (drop skip bytes)) old new
+    → IsRangeReadAs side.keying r (take r.count (drop skip bytes)) old new → AnswersRead side q Done (take q.length (drop skip bytes)) old new
 read_done side q r skip bytes old new same may h =
-    (may, subst (λ (range : ByteRange). IsReadAs side.keying range (take range.count (drop skip bytes)) old new) same h)
+    (may, subst (λ (range : ByteRange). IsRangeReadAs side.keying range (take range.count (drop skip bytes)) old new) same h)
 
 pub read_failed : (side : Side) (q : Request) (r : ByteRange) (old new : DiskState) → r ≡ range_of q → MayRead side.keying old q
-    → CannotRead side.keying r old new → Reads side q Failed [] old new
-read_failed side q r old new same may h = (may, refl, subst (λ (range : ByteRange). CannotRead side.keying range old new) same h)
+    → CannotReadRange side.keying r old new → AnswersRead side q Failed [] old new
+read_failed side q r old new same may h = (may, refl, subst (λ (range : ByteRange). CannotReadRange side.keying range old new) same h)
 
--- the bytes stood among those of the sectors
-pub write_by : (answer : Bool) (side : Side) (q : Request) (payload whole : List ℕ) (r : ByteRange) (flush : Bool) (skip : ℕ) (old new : DiskState) → r ≡ range_of q → flush ≡ has_fua q.flags
-    → take q.length (drop skip whole) ≡ payload → WritesRange side.keying r flush (take r.count (drop skip whole)) answer old new
-    → WritesRange side.keying (range_of q) (has_fua q.flags) payload answer old new
-write_by answer side q payload whole r flush skip old new same flag bytes h =
+-- a write from the room, in which the bytes stood among those of the sectors
+pub write_by : (answer : Bool) (side : Side) (q : Request) (room : List ℕ) (r : ByteRange) (flush : Bool) (size skip whole : ℕ) (old new : DiskState) → r ≡ range_of q → flush ≡ has_fua q.flags
+    → size ≡ side.keying.sectorsize → skip ≡ q.offset % size → skip + q.length ≤ whole → WritesRange side.keying r flush (take r.count (drop skip (take whole room))) answer old new
+    → WritesRange side.keying (range_of q) (has_fua q.flags) (take q.length (drop (skipped side.keying (range_of q)) room)) answer old new
+write_by answer side q room r flush size skip whole old new same flag is place inside h =
+    let bytes = of_first skip q.length whole room inside ∙ ap (λ (m : ℕ). take q.length (drop m room)) (place ∙ ap (λ (m : ℕ). q.offset % m) is) in
     subst (λ (l : List ℕ). WritesRange side.keying (range_of q) (has_fua q.flags) l answer old new) bytes
-    (subst (λ (b : Bool). WritesRange side.keying (range_of q) b (take q.length (drop skip whole)) answer old new) flag
-    (subst (λ (range : ByteRange). WritesRange side.keying range flush (take range.count (drop skip whole)) answer old new) same h))
+    (subst (λ (b : Bool). WritesRange side.keying (range_of q) b (take q.length (drop skip (take whole room))) answer old new) flag
+    (subst (λ (range : ByteRange). WritesRange side.keying range flush (take range.count (drop skip (take whole room))) answer old new) same h))
 
 -- ---- one request
 
-Gave-nothing : (xs : List ℕ) {source middle rest : SourceState} → Gave xs source middle → rest ≡ middle → Gave xs source rest
-Gave-nothing xs {source} h same = subst (λ (s : SourceState). Gave xs source s) (sym same) h
+SourceGave-nothing : (xs : List ℕ) {source middle rest : SourceState} → SourceGave xs source middle → rest ≡ middle → SourceGave xs source rest
+SourceGave-nothing xs {source} h same = subst (λ (s : SourceState). SourceGave xs source s) (sym same) h
 
-bare : {xs : List ℕ} {source middle rest : SourceState} → Gave xs source middle → rest ≡ middle → Gave (xs ++ []) source rest
-bare {xs} h same = Gave-bare (Gave-nothing xs h same)
+bare : {xs : List ℕ} {source middle rest : SourceState} → SourceGave xs source middle → rest ≡ middle → SourceGave (xs ++ []) source rest
+bare {xs} h same = SourceGave-bare (SourceGave-nothing xs h same)
 
-pub gives-bare : (xs : List ℕ) (result : Result (Unit {0}) End) (sink after : SinkState) → Gives xs sink result after → Gives (xs ++ []) sink result after
-gives-bare xs result sink after h = subst (λ (l : List ℕ). Gives l sink result after) (sym (append-nil xs)) h
+pub gives-bare : (xs : List ℕ) (result : Result (Unit {0}) End) (sink after : SinkState) → GivesBytes xs sink result after → GivesBytes (xs ++ []) sink result after
+gives-bare xs result sink after h = subst (λ (l : List ℕ). GivesBytes l sink result after) (sym (append-nil xs)) h
 
 -- an exchange of a request of this kind
 one : (kind : RequestKind) (side : Side) (head : List ℕ) (q : Request) (payload : List ℕ) (error : ReplyError) (bytes : List ℕ) (old new : DiskState) (source rest : SourceState) (sink : SinkState)
     (result : Result (Unit {0}) End) (after : SinkState) (denied : Bool) → length head ≡ 28 → request_in head ≡ Some q → request_kind q.code ≡ kind
     → denied ≡ denied_by kind error
     → ServesKind kind side (record { head = head; request = q; payload = payload; error = error; bytes = bytes; next = new }) old
-    → Gave (head ++ payload) source rest → Gives (reply_head error q.cookie ++ bytes) sink result after → ServesRequest side old new source rest sink result after denied
+    → SourceGave (head ++ payload) source rest → GivesBytes (reply_head error q.cookie ++ bytes) sink result after → ServesRequest side old new source rest sink result after denied
 one kind side head q payload error bytes old new source rest sink result after denied long reads is noted serves took gives =
     inl (record {
       exchange = record { head = head; request = q; payload = payload; error = error; bytes = bytes; next = new };
@@ -127,61 +129,46 @@ one kind side head q payload error bytes old new source rest sink result after d
       noted = subst (λ (j : RequestKind). denied ≡ denied_by j error) (sym is) noted;
     })
 
-cut_stops : (end : End) (q : Request) (head bytes : List ℕ) (source middle rest : SourceState) → length head ≡ 28 → request_in head ≡ Some q → request_kind q.code ≡ kinds.Write → length bytes ≡ q.length → q.length ≤ most
-    → Gave head source middle → Fills bytes middle (Err end) rest → (taken : List ℕ) × Gave taken source rest × Stops (Err end) taken source rest
-cut_stops Closed q head bytes source middle rest long reads is size few took h =
-    let part : List ℕ = take h.0.count bytes in (
-      head ++ part,
-      Gave-then took h.0.gave,
-      inr (
-        inr (record {
-          head = head;
-          part = part;
-          are = refl;
-          size = long;
-          request = q;
-          reads = reads;
-          kind = is;
-          few = few;
-          lacks = let within = h.0.within in omega (arith, length-take-le h.0.count bytes (omega (arith, within)), within, size);
-        }),
-        h.1,
-      ),
-    )
-cut_stops ReadFault q head bytes source middle rest long reads is size few took h =
-    let part : List ℕ = take h.0.count bytes in (
-      head ++ part,
-      Gave-then took h.0.gave,
-      (
-        inr (record {
-          head = head;
-          part = part;
-          are = refl;
-          size = long;
-          request = q;
-          reads = reads;
-          kind = is;
-          few = few;
-          lacks = let within = h.0.within in omega (arith, length-take-le h.0.count bytes (omega (arith, within)), within, size);
-        }),
-        omega (arith, took.later, h.1),
-      ),
-    )
-cut_stops WriteFault q head bytes source middle rest long reads is size few took h = absurd h
-cut_stops Malformed q head bytes source middle rest long reads is size few took h = absurd h
+-- where a request is cut, the source ended or failed
+cut_stops : (end : End) (taken bytes : List ℕ) (source middle rest : SourceState) → source.faults ≤ middle.faults → IsCut taken → Fills bytes middle (Err end) rest → Stops (Err end) taken source rest
+cut_stops Closed taken bytes source middle rest later cut h = inr (cut, h.1)
+cut_stops ReadFault taken bytes source middle rest later cut h = (cut, omega (arith, later, h.1))
+cut_stops WriteFault taken bytes source middle rest later cut h = absurd h
+cut_stops Malformed taken bytes source middle rest later cut h = absurd h
 
 none : (end : End) (taken : List ℕ) (old new : DiskState) (source rest : SourceState) (sink : SinkState) (result : Result (Unit {0}) End) (after : SinkState) (denied : Bool) → result ≡ Err end
-    → Gave taken source rest → Stops (Err end) taken source rest → new ≡ old → after ≡ sink → denied ≡ false → ServesNone old new source rest sink result after denied
+    → SourceGave taken source rest → Stops (Err end) taken source rest → new ≡ old → after ≡ sink → denied ≡ false → ServesNone old new source rest sink result after denied
 none end taken old new source rest sink result after denied why took stops disk silent noted =
     record { bytes = taken; took = took; stops = subst (λ (r : Result (Unit {0}) End). Stops r taken source rest) (sym why) stops; disk = disk; silent = silent; noted = noted }
 
+-- the bytes of a write didn't all come
+no_bytes : (side : Side) (head : List ℕ) (q : Request) (old new : DiskState) (source middle rest : SourceState) (sink : SinkState) (result : Result (Unit {0}) End) (after : SinkState) (denied : Bool)
+    → length head ≡ 28 → request_in head ≡ Some q → request_kind q.code ≡ kinds.Write → SourceGave head source middle → WriteIsCut q old new middle rest sink result after denied
+    → ServesRequest side old new source rest sink result after denied
+no_bytes side head q old new source middle rest sink result after denied long reads is took cut =
+    let part = part_filled cut.end cut.bytes middle rest cut.fills in
+    let bytes : List ℕ = take part.count cut.bytes in
+    let lacks : LacksBytes (head ++ bytes) = record {
+      head = head;
+      part = bytes;
+      are = refl;
+      size = long;
+      request = q;
+      reads = reads;
+      kind = is;
+      few = cut.few;
+      lacks = fewer q.length part.count cut.bytes cut.size part.within;
+    } in
+    inr (none cut.end (head ++ bytes) old new source rest sink result after denied cut.why (SourceGave-then took part.gave)
+    (cut_stops cut.end (head ++ bytes) cut.bytes source middle rest took.later (inr lacks) cut.fills) cut.disk cut.silent cut.noted)
+
 by-kind : (kind : RequestKind) (side : Side) (head : List ℕ) (q : Request) (old new : DiskState) (source middle rest : SourceState) (sink : SinkState) (result : Result (Unit {0}) End) (after : SinkState) (denied : Bool)
-    → length head ≡ 28 → request_in head ≡ Some q → request_kind q.code ≡ kind → Gave head source middle → KindIsServed kind side q old new middle rest sink result after denied
+    → length head ≡ 28 → request_in head ≡ Some q → request_kind q.code ≡ kind → SourceGave head source middle → KindIsServed kind side q old new middle rest sink result after denied
     → ServesRequest side old new source rest sink result after denied
 by-kind kinds.Read side head q old new source middle rest sink result after denied long reads is took h =
     one kinds.Read side head q [] h.1.error h.1.bytes old new source rest sink result after denied long reads is h.2 (refl, h.1.reads) (bare took h.0) h.1.gives
 by-kind kinds.Write side head q old new source middle rest sink result after denied long reads is took h = elim h [
-  | inl more ↦ inr (none Malformed head old new source rest sink result after denied more.why (Gave-nothing head took more.untaken)
+  | inl more ↦ inr (none Malformed head old new source rest sink result after denied more.why (SourceGave-nothing head took more.untaken)
       (record {
         size = long;
         none = λ request same. let this : q ≡ request = same_Some q request (sym reads ∙ same) in
@@ -190,9 +177,8 @@ by-kind kinds.Write side head q old new source middle rest sink result after den
       more.disk more.silent more.noted)
   | inr served ↦ elim served [
     | inl w ↦ one kinds.Write side head q w.payload w.error [] old new source rest sink result after denied long reads is w.noted (w.size, w.few, refl, w.writes)
-        (Gave-then took w.took) (gives-bare (reply_head w.error q.cookie) result sink after w.gives)
-    | inr cut ↦ let stop = cut_stops cut.end q head cut.bytes source middle rest long reads is cut.size cut.few took cut.fills in
-        inr (none cut.end stop.0 old new source rest sink result after denied cut.why stop.1 stop.2 cut.disk cut.silent cut.noted)
+        (SourceGave-then took w.took) (gives-bare (reply_head w.error q.cookie) result sink after w.gives)
+    | inr cut ↦ no_bytes side head q old new source middle rest sink result after denied long reads is took cut
   ]
 ]
 by-kind kinds.WriteZeroes side head q old new source middle rest sink result after denied long reads is took h =
@@ -202,34 +188,26 @@ by-kind kinds.Flush side head q old new source middle rest sink result after den
 by-kind kinds.Unknown side head q old new source middle rest sink result after denied long reads is took h =
     one kinds.Unknown side head q [] Invalid [] old new source rest sink result after denied long reads is h.3 (refl, refl, refl, h.1) (bare took h.0) (gives-bare (reply_head Invalid q.cookie) result sink after h.2)
 by-kind kinds.Disconnect side head q old new source middle rest sink result after denied long reads is took h =
-    inr (none Closed head old new source rest sink result after denied h.0 (Gave-nothing head took h.1) (inl (record { size = long; request = q; reads = reads; kind = is })) h.2 h.3 h.4)
+    inr (none Closed head old new source rest sink result after denied h.0 (SourceGave-nothing head took h.1) (inl (record { size = long; request = q; reads = reads; kind = is })) h.2 h.3 h.4)
 
 pub request_served : (side : Side) (head : List ℕ) (q : Request) (old new : DiskState) (source middle rest : SourceState) (sink : SinkState) (result : Result (Unit {0}) End) (after : SinkState) (denied : Bool)
-    → length head ≡ 28 → request_in head ≡ Some q → Gave head source middle → KindIsServed (request_kind q.code) side q old new middle rest sink result after denied
+    → length head ≡ 28 → request_in head ≡ Some q → SourceGave head source middle → KindIsServed (request_kind q.code) side q old new middle rest sink result after denied
     → ServesRequest side old new source rest sink result after denied
 request_served side head q old new source middle rest sink result after denied long reads took h =
     by-kind (request_kind q.code) side head q old new source middle rest sink result after denied long reads refl took h
 
 -- 28 bytes that aren't a request
-pub no_request : (head : List ℕ) (d : DiskState) (source rest : SourceState) (sink : SinkState) → length head ≡ 28 → request_in head ≡ None → Gave head source rest
+pub no_request : (head : List ℕ) (d : DiskState) (source rest : SourceState) (sink : SinkState) → length head ≡ 28 → request_in head ≡ None → SourceGave head source rest
     → ServesNone d d source rest sink (Err Malformed) sink false
 no_request head d source rest sink long reads took =
     none Malformed head d d source rest sink (Err Malformed) sink false refl took
     (record { size = long; none = λ request same. absurd (none-some request (sym reads ∙ same)) }) refl refl refl
 
 -- the head didn't come
-head_stops : (end : End) (head : List ℕ) (source rest : SourceState) → length head ≡ 28 → Fills head source (Err end) rest → (taken : List ℕ) × Gave taken source rest × Stops (Err end) taken source rest
-head_stops Closed head source rest long h =
-    let within = h.0.within in
-    (take h.0.count head, h.0.gave, inr (inl (omega (arith, length-take-le h.0.count head (omega (arith, within)), within, long)), h.1))
-head_stops ReadFault head source rest long h =
-    let within = h.0.within in
-    (take h.0.count head, h.0.gave, (inl (omega (arith, length-take-le h.0.count head (omega (arith, within)), within, long)), h.1))
-head_stops WriteFault head source rest long h = absurd h
-head_stops Malformed head source rest long h = absurd h
-
 pub no_head : (end : End) (head : List ℕ) (d : DiskState) (source rest : SourceState) (sink : SinkState) → length head ≡ 28 → Fills head source (Err end) rest
     → ServesNone d d source rest sink (Err end) sink false
 no_head end head d source rest sink long h =
-    let stop = head_stops end head source rest long h in
-    none end stop.0 d d source rest sink (Err end) sink false refl stop.1 stop.2 refl refl refl
+    let part = part_filled end head source rest h in
+    let bytes : List ℕ = take part.count head in
+    none end bytes d d source rest sink (Err end) sink false refl part.gave
+    (cut_stops end bytes head source source rest (omega arith) (inl (fewer 28 part.count head long part.within)) h) refl refl refl

@@ -13,10 +13,10 @@ use Rattle.nbd_session.specs.Requests.{Exchange, Side, most, reply_of}
 use Rattle.nbd_session.specs.Runs.{EndsRun, ServesRun}
 use Rattle.nbd_session.specs.Session.{FlushesLast, HasSession, Talks}
 use Rattle.nbd_session.specs.Stops.{exchange_bytes}
-use Rattle.nbd_session.specs.Streams.{Gave, GivesEach}
+use Rattle.nbd_session.specs.Streams.{GivesTexts, SourceGave}
 use Rattle.nbd_session.specs.declared.streams.End.{End}
 use Rattle.nbd_session.specs.declared.streams.End.TheVariants.{Closed, ReadFault, WriteFault, Malformed}
-use Rattle.nbd_session.proofs.Filling.{Gave-then}
+use Rattle.nbd_session.proofs.Filling.{SourceGave-then}
 use Rattle.nbd_session.proofs.Giving.{gave-then}
 
 -- it came to no requests
@@ -27,8 +27,8 @@ ended_before export side end d source rest sink after told h = record {
   took = h.took;
   gave =
       let texts : List (List ℕ) = answers export h.client h.options in
-      subst (λ (e : Export). GivesEach end (greeting ∷ (answers e h.client h.options ++ [])) sink after) told
-      (subst (λ (l : List (List ℕ)). GivesEach end (greeting ∷ l) sink after) (sym (append-nil texts)) h.gave);
+      subst (λ (e : Export). GivesTexts end (greeting ∷ (answers e h.client h.options ++ [])) sink after) told
+      (subst (λ (l : List (List ℕ)). GivesTexts end (greeting ∷ l) sink after) (sym (append-nil texts)) h.gave);
   why = elim h.why [
     | inl unknown ↦
         let same : unknown.end ≡ end = cc (unknown.why) in
@@ -63,8 +63,8 @@ talked_on export side end old new source middle rest sink between after denied f
   | inl unknown ↦ absurd (let no : ⊥ = cc (unknown.why) in no)
   | inr led ↦ record {
     talk = record { flags = h.flags; client = h.client; options = h.options; exchanges = run.exchanges; rest = run.bytes };
-    took = subst (λ (l : List ℕ). Gave l source rest) (said_all h.flags (flat_map option_bytes h.options) h.bytes (flat_map exchange_bytes run.exchanges ++ run.bytes) led.lead.1) (Gave-then h.took run.took);
-    gave = subst (λ (e : Export). GivesEach end (greeting ∷ (answers e h.client h.options ++ map reply_of run.exchanges)) sink after) told
+    took = subst (λ (l : List ℕ). SourceGave l source rest) (said_all h.flags (flat_map option_bytes h.options) h.bytes (flat_map exchange_bytes run.exchanges ++ run.bytes) led.lead.1) (SourceGave-then h.took run.took);
+    gave = subst (λ (e : Export). GivesTexts end (greeting ∷ (answers e h.client h.options ++ map reply_of run.exchanges)) sink after) told
         (gave-then end (greeting ∷ answers export h.client h.options) (map reply_of run.exchanges) sink between after h.gave run.gave);
     why = inr (inr (record {
       client = led.is;

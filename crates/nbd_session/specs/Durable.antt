@@ -30,14 +30,14 @@ flush_steps true = Flush ∷ []
 flush_steps false = []
 
 -- the steps of a write of these bytes to all sectors of a request's range
-abbrev pub write_steps : ℕ → Keying → Request → List ℕ → List Step
-write_steps number k q whole =
+abbrev pub steps_of_write : ℕ → Keying → Request → List ℕ → List Step
+steps_of_write number k q whole =
     data_steps number k (first_sector k (range_of q)) (sectors_covered k (range_of q)) whole ++ flush_steps (has_fua q.flags)
 
 -- the steps of a request of this kind, of which each write has a number of its own
 abbrev pub steps_of_kind : RequestKind → ℕ → Keying → Exchange → List ℕ → List Step
-steps_of_kind kinds.Write number k x whole = write_steps number k x.request whole
-steps_of_kind kinds.WriteZeroes number k x whole = write_steps number k x.request whole
+steps_of_kind kinds.Write number k x whole = steps_of_write number k x.request whole
+steps_of_kind kinds.WriteZeroes number k x whole = steps_of_write number k x.request whole
 steps_of_kind kinds.Flush number k x whole = Flush ∷ []
 steps_of_kind kind number k x whole = []
 

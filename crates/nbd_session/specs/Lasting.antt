@@ -40,17 +40,17 @@ AreApart k r q =
     (first_sector k r + sectors_covered k r ≤ first_sector k q) ⊎ (first_sector k q + sectors_covered k q ≤ first_sector k r)
 
 -- an answer by which a client knows that nothing was done
-abbrev pub IsRefusal : ReplyError → Type 0
-IsRefusal Done = ⊥
-IsRefusal Failed = ⊥
-IsRefusal ReadOnly = Unit {0}
-IsRefusal Invalid = Unit {0}
-IsRefusal PassesEnd = Unit {0}
+abbrev pub IsRefusingReply : ReplyError → Type 0
+IsRefusingReply Done = ⊥
+IsRefusingReply Failed = ⊥
+IsRefusingReply ReadOnly = Unit {0}
+IsRefusingReply Invalid = Unit {0}
+IsRefusingReply PassesEnd = Unit {0}
 
 -- an exchange writes no sector of this range: it is no write, or one of other sectors, or was refused
 abbrev pub LeavesAloneBy : RequestKind → Keying → ByteRange → Exchange → Type 0
-LeavesAloneBy kinds.Write k r x = IsRefusal x.error ⊎ AreApart k r (range_of x.request)
-LeavesAloneBy kinds.WriteZeroes k r x = IsRefusal x.error ⊎ AreApart k r (range_of x.request)
+LeavesAloneBy kinds.Write k r x = IsRefusingReply x.error ⊎ AreApart k r (range_of x.request)
+LeavesAloneBy kinds.WriteZeroes k r x = IsRefusingReply x.error ⊎ AreApart k r (range_of x.request)
 LeavesAloneBy kind k r x = Unit {0}
 
 abbrev pub LeavesAlone : Keying → ByteRange → Exchange → Type 0

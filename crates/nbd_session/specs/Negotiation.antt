@@ -9,7 +9,7 @@ use Rattle.nbd_words.specs.declared.negotiation.ClientFlags.{ClientFlags}
 use Rattle.nbd_words.specs.declared.negotiation.Export.{Export}
 use Rattle.nbd_words.specs.declared.negotiation.OptionHead.{OptionHead}
 use Rattle.nbd_session.specs.Options.{ClientOption, IsClient, IsOption, LeadTo, answer, answers, is_taken, option_bytes, outcome}
-use Rattle.nbd_session.specs.Streams.{Gave, GivesOn, limit}
+use Rattle.nbd_session.specs.Streams.{GivesOn, SourceGave, limit}
 use Rattle.nbd_session.specs.declared.negotiation.Outcome.{Outcome}
 use Rattle.nbd_session.specs.declared.negotiation.Outcome.TheVariants.{More, Serving, Ending}
 use Rattle.nbd_session.specs.declared.streams.End.{End}
@@ -31,7 +31,7 @@ IsKnownBy (Err end) flags source rest = StaysUnknown end flags source rest
 -- its flags were taken, or no more than these bytes of them
 pub record TakesClient (source : SourceState) (result : Result ClientFlags End) (rest : SourceState) : Type 0 where
   pub flags : List ℕ
-  pub took : Gave flags source rest
+  pub took : SourceGave flags source rest
   pub is : IsKnownBy result flags source rest
 
 -- ---- one option
@@ -75,7 +75,7 @@ GivesAnswer export client o sink (Err Malformed) after = ⊥
 pub record AnswersOne (export : Export) (client : ClientFlags) (source rest : SourceState) (sink : SinkState) (result : Result Outcome End) (after : SinkState) : Type 0 where
   pub option : ClientOption
   pub is : IsOption client option
-  pub took : Gave (option_bytes option) source rest
+  pub took : SourceGave (option_bytes option) source rest
   pub gives : GivesAnswer export client option sink result after
 
 -- none was, and the session ends
@@ -83,7 +83,7 @@ pub record AnswersNone (client : ClientFlags) (source rest : SourceState) (sink 
   pub bytes : List ℕ
   pub end : End
   pub why : result ≡ Err end
-  pub took : Gave bytes source rest
+  pub took : SourceGave bytes source rest
   pub stops : StopsOptions end client bytes source rest
   pub silent : after ≡ sink
 
@@ -98,7 +98,7 @@ pub record AnsweredSoFar (export : Export) (client : ClientFlags) (many : ℕ) (
   pub options : List ClientOption
   pub count : length options ≡ many
   pub lead : LeadTo client More options
-  pub took : Gave (flat_map option_bytes options) source rest
+  pub took : SourceGave (flat_map option_bytes options) source rest
   pub gave : TookAll (concat (answers export client options)) sink after
 
 -- the last of some options, of which each before it led to more, was taken, and is the last that was answered
@@ -125,7 +125,7 @@ LeadOn (Err end) client os bytes source rest = EndsOptions end client os bytes s
 pub record AnswersRun (export : Export) (client : ClientFlags) (source rest : SourceState) (sink : SinkState) (result : Result (Unit {0}) End) (after : SinkState) : Type 0 where
   pub options : List ClientOption
   pub bytes : List ℕ
-  pub took : Gave (flat_map option_bytes options ++ bytes) source rest
+  pub took : SourceGave (flat_map option_bytes options ++ bytes) source rest
   pub gave : GivesOn result (answers export client options) sink after
   pub why : LeadOn result client options bytes source rest
 
@@ -139,7 +139,7 @@ EndsGreeting ReadFault flags source rest = StaysUnknown ReadFault flags source r
 EndsGreeting Malformed flags source rest = StaysUnknown Malformed flags source rest
 
 -- no option was taken
-pub record IsUnknown (result : Result (Unit {0}) End) (flags : List ℕ) (options : List ClientOption) (bytes : List ℕ) (source rest : SourceState) : Type 0 where
+pub record TakesNoOption (result : Result (Unit {0}) End) (flags : List ℕ) (options : List ClientOption) (bytes : List ℕ) (source rest : SourceState) : Type 0 where
   pub end : End
   pub why : result ≡ Err end
   pub ends : EndsGreeting end flags source rest
@@ -157,6 +157,6 @@ pub record Negotiates (export : Export) (source rest : SourceState) (sink : Sink
   pub client : ClientFlags
   pub options : List ClientOption
   pub bytes : List ℕ
-  pub took : Gave (flags ++ (flat_map option_bytes options ++ bytes)) source rest
+  pub took : SourceGave (flags ++ (flat_map option_bytes options ++ bytes)) source rest
   pub gave : GivesOn result (greeting ∷ answers export client options) sink after
-  pub why : IsUnknown result flags options bytes source rest ⊎ IsLed result flags client options bytes source rest
+  pub why : TakesNoOption result flags options bytes source rest ⊎ IsLed result flags client options bytes source rest

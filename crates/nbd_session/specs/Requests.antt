@@ -4,7 +4,7 @@ use Rattle.std.specs.Prelude.{◌≡◌, ◌⊎◌, ℕ, ◌<◌, ◌≤◌, Boo
 use Rattle.block_traits.specs.Disk.{DiskState, FailsIn, Logs}
 use Rattle.block_traits.specs.declared.disk.Event.TheVariants.{Flush}
 use Rattle.byte_ranges.specs.Ranges.{IsInside}
-use Rattle.byte_ranges.specs.Reads.{CannotRead, IsReadAs}
+use Rattle.byte_ranges.specs.Reads.{CannotReadRange, IsRangeReadAs}
 use Rattle.byte_ranges.specs.Writes.{CannotSplice, IsWrittenInPart, IsWrittenWhole}
 use Rattle.byte_ranges.specs.declared.ranges.ByteRange.{ByteRange}
 use Rattle.eli_base.specs.Keying.{Keying}
@@ -36,13 +36,13 @@ abbrev pub HasUnknownFlags : Request → Type 0
 HasUnknownFlags q = flags_limit (request_kind q.code) < q.flags
 
 -- a request of some bytes, and not of too many
-pub record IsWellFormed (q : Request) : Type 0 where
+pub record IsWellFormedRequest (q : Request) : Type 0 where
   pub flags : HasKnownFlags q
   pub some : 0 < q.length
   pub few : q.length ≤ most
 
-abbrev pub IsIllFormed : Request → Type 0
-IsIllFormed q = HasUnknownFlags q ⊎ (q.length ≡ 0) ⊎ (most < q.length)
+abbrev pub IsIllFormedRequest : Request → Type 0
+IsIllFormedRequest q = HasUnknownFlags q ⊎ (q.length ≡ 0) ⊎ (most < q.length)
 
 -- the provider has all of its bytes
 abbrev pub FitsIn : Keying → DiskState → Request → Type 0
@@ -52,47 +52,47 @@ FitsIn k d q = IsInside k d (range_of q)
 
 -- a read is served
 pub record MayRead (k : Keying) (d : DiskState) (q : Request) : Type 0 where
-  pub formed : IsWellFormed q
+  pub formed : IsWellFormedRequest q
   pub inside : FitsIn k d q
 
 -- it is refused
-abbrev pub RefusesRead : Keying → DiskState → Request → Type 0
-RefusesRead k d q = IsIllFormed q ⊎ (FitsIn k d q → ⊥)
+abbrev pub IsRefusedRead : Keying → DiskState → Request → Type 0
+IsRefusedRead k d q = IsIllFormedRequest q ⊎ (FitsIn k d q → ⊥)
 
 -- what a read answers, and with which bytes
-abbrev pub Reads : Side → Request → ReplyError → List ℕ → DiskState → DiskState → Type 0
-Reads side q Done bytes old new = MayRead side.keying old q × IsReadAs side.keying (range_of q) bytes old new
-Reads side q Failed bytes old new = MayRead side.keying old q × (bytes ≡ []) × CannotRead side.keying (range_of q) old new
-Reads side q Invalid bytes old new = RefusesRead side.keying old q × (bytes ≡ []) × (new ≡ old)
-Reads side q ReadOnly bytes old new = ⊥
-Reads side q PassesEnd bytes old new = ⊥
+abbrev pub AnswersRead : Side → Request → ReplyError → List ℕ → DiskState → DiskState → Type 0
+AnswersRead side q Done bytes old new = MayRead side.keying old q × IsRangeReadAs side.keying (range_of q) bytes old new
+AnswersRead side q Failed bytes old new = MayRead side.keying old q × (bytes ≡ []) × CannotReadRange side.keying (range_of q) old new
+AnswersRead side q Invalid bytes old new = IsRefusedRead side.keying old q × (bytes ≡ []) × (new ≡ old)
+AnswersRead side q ReadOnly bytes old new = ⊥
+AnswersRead side q PassesEnd bytes old new = ⊥
 
 -- ---- writes, of bytes or of zeros
 
 -- a write is served
 pub record MayWrite (side : Side) (d : DiskState) (q : Request) : Type 0 where
   pub writable : side.readonly ≡ false
-  pub formed : IsWellFormed q
+  pub formed : IsWellFormedRequest q
   pub inside : FitsIn side.keying d q
 
 -- it is refused
-abbrev pub RefusesWrite : Side → DiskState → Request → ReplyError → Type 0
-RefusesWrite side d q ReadOnly = side.readonly ≡ true
-RefusesWrite side d q Invalid = (side.readonly ≡ false) × IsIllFormed q
-RefusesWrite side d q PassesEnd = (side.readonly ≡ false) × IsWellFormed q × (FitsIn side.keying d q → ⊥)
-RefusesWrite side d q Done = ⊥
-RefusesWrite side d q Failed = ⊥
+abbrev pub IsRefusedWrite : Side → DiskState → Request → ReplyError → Type 0
+IsRefusedWrite side d q ReadOnly = side.readonly ≡ true
+IsRefusedWrite side d q Invalid = (side.readonly ≡ false) × IsIllFormedRequest q
+IsRefusedWrite side d q PassesEnd = (side.readonly ≡ false) × IsWellFormedRequest q × (FitsIn side.keying d q → ⊥)
+IsRefusedWrite side d q Done = ⊥
+IsRefusedWrite side d q Failed = ⊥
 
 -- what a write of these bytes answers
-abbrev pub Writes : Side → Request → List ℕ → ReplyError → DiskState → DiskState → Type 0
-Writes side q payload Done old new =
+abbrev pub AnswersWrite : Side → Request → List ℕ → ReplyError → DiskState → DiskState → Type 0
+AnswersWrite side q payload Done old new =
     MayWrite side old q × IsWrittenWhole side.keying (range_of q) (has_fua q.flags) payload old new
-Writes side q payload Failed old new =
+AnswersWrite side q payload Failed old new =
     MayWrite side old q
     × (CannotSplice side.keying (range_of q) old new ⊎ IsWrittenInPart side.keying (range_of q) (has_fua q.flags) payload old new)
-Writes side q payload ReadOnly old new = RefusesWrite side old q ReadOnly × (new ≡ old)
-Writes side q payload Invalid old new = RefusesWrite side old q Invalid × (new ≡ old)
-Writes side q payload PassesEnd old new = RefusesWrite side old q PassesEnd × (new ≡ old)
+AnswersWrite side q payload ReadOnly old new = IsRefusedWrite side old q ReadOnly × (new ≡ old)
+AnswersWrite side q payload Invalid old new = IsRefusedWrite side old q Invalid × (new ≡ old)
+AnswersWrite side q payload PassesEnd old new = IsRefusedWrite side old q PassesEnd × (new ≡ old)
 
 -- the bytes of a request for zeros
 abbrev pub zeros_of : Request → List ℕ
@@ -101,12 +101,12 @@ zeros_of q = replicate q.length 0
 -- ---- flushes
 
 -- what a flush answers
-abbrev pub Flushes : Request → ReplyError → DiskState → DiskState → Type 0
-Flushes q Done old new = HasKnownFlags q × Logs (Flush ∷ []) old new
-Flushes q Failed old new = HasKnownFlags q × FailsIn (Flush ∷ []) old new
-Flushes q Invalid old new = HasUnknownFlags q × (new ≡ old)
-Flushes q ReadOnly old new = ⊥
-Flushes q PassesEnd old new = ⊥
+abbrev pub AnswersFlush : Request → ReplyError → DiskState → DiskState → Type 0
+AnswersFlush q Done old new = HasKnownFlags q × Logs (Flush ∷ []) old new
+AnswersFlush q Failed old new = HasKnownFlags q × FailsIn (Flush ∷ []) old new
+AnswersFlush q Invalid old new = HasUnknownFlags q × (new ≡ old)
+AnswersFlush q ReadOnly old new = ⊥
+AnswersFlush q PassesEnd old new = ⊥
 
 -- ---- one exchange
 
@@ -121,11 +121,11 @@ pub record Exchange : Type 0 where
 
 -- what is done for each kind of request. A disconnection isn't answered, and so is no exchange.
 abbrev pub ServesKind : RequestKind → Side → Exchange → DiskState → Type 0
-ServesKind kinds.Read side x old = (x.payload ≡ []) × Reads side x.request x.error x.bytes old x.next
+ServesKind kinds.Read side x old = (x.payload ≡ []) × AnswersRead side x.request x.error x.bytes old x.next
 ServesKind kinds.Write side x old =
-    (length x.payload ≡ x.request.length) × (x.request.length ≤ most) × (x.bytes ≡ []) × Writes side x.request x.payload x.error old x.next
-ServesKind kinds.WriteZeroes side x old = (x.payload ≡ []) × (x.bytes ≡ []) × Writes side x.request (zeros_of x.request) x.error old x.next
-ServesKind kinds.Flush side x old = (x.payload ≡ []) × (x.bytes ≡ []) × Flushes x.request x.error old x.next
+    (length x.payload ≡ x.request.length) × (x.request.length ≤ most) × (x.bytes ≡ []) × AnswersWrite side x.request x.payload x.error old x.next
+ServesKind kinds.WriteZeroes side x old = (x.payload ≡ []) × (x.bytes ≡ []) × AnswersWrite side x.request (zeros_of x.request) x.error old x.next
+ServesKind kinds.Flush side x old = (x.payload ≡ []) × (x.bytes ≡ []) × AnswersFlush x.request x.error old x.next
 ServesKind kinds.Unknown side x old = (x.payload ≡ []) × (x.bytes ≡ []) × (x.error ≡ Invalid) × (x.next ≡ old)
 ServesKind kinds.Disconnect side x old = ⊥
 
@@ -157,9 +157,9 @@ abbrev pub reply_of : Exchange → List ℕ
 reply_of x = reply_head x.error x.request.cookie ++ x.bytes
 
 -- exchanges one after the other, each from the disk that the one before left
-abbrev pub ServesAll : Side → List Exchange → DiskState → DiskState → Type 0
-ServesAll side [] old new = new ≡ old
-ServesAll side (x ∷ xs) old new = ServesExchange side x old × ServesAll side xs x.next new
+abbrev pub ServesExchanges : Side → List Exchange → DiskState → DiskState → Type 0
+ServesExchanges side [] old new = new ≡ old
+ServesExchanges side (x ∷ xs) old new = ServesExchange side x old × ServesExchanges side xs x.next new
 
 -- ---- what a call over an attached provider says
 

@@ -3,9 +3,9 @@ use Rattle.std.specs.Prelude.{◌≡◌, ◌⊎◌, ℕ, ◌<◌, ◌≤◌, Lis
 use Rattle.std.specs.List.{concat, flat_map, list_any}
 use Rattle.block_traits.specs.Disk.{DiskState}
 use Rattle.block_traits.specs.Streams.{SinkState, SourceState, TookAll}
-use Rattle.nbd_session.specs.Requests.{Exchange, ServesAll, Side, is_denied, reply_of}
+use Rattle.nbd_session.specs.Requests.{Exchange, ServesExchanges, Side, is_denied, reply_of}
 use Rattle.nbd_session.specs.Stops.{Stops, exchange_bytes}
-use Rattle.nbd_session.specs.Streams.{Gave, GivesEach, limit}
+use Rattle.nbd_session.specs.Streams.{GivesTexts, SourceGave, limit}
 use Rattle.nbd_session.specs.declared.streams.End.{End}
 use Rattle.nbd_session.specs.declared.streams.End.TheVariants.{Closed, ReadFault, WriteFault, Malformed}
 
@@ -13,8 +13,8 @@ use Rattle.nbd_session.specs.declared.streams.End.TheVariants.{Closed, ReadFault
 pub record ServedSoFar (side : Side) (many : ℕ) (old new : DiskState) (source rest : SourceState) (sink after : SinkState) (denied : Bool) : Type 0 where
   pub exchanges : List Exchange
   pub count : length exchanges ≡ many
-  pub served : ServesAll side exchanges old new
-  pub took : Gave (flat_map exchange_bytes exchanges) source rest
+  pub served : ServesExchanges side exchanges old new
+  pub took : SourceGave (flat_map exchange_bytes exchanges) source rest
   pub gave : TookAll (concat (map reply_of exchanges)) sink after
   pub noted : denied ≡ list_any is_denied exchanges
 
@@ -31,8 +31,8 @@ EndsRun Malformed xs bytes source rest = Stops (Err Malformed) bytes source rest
 pub record ServesRun (side : Side) (old new : DiskState) (source rest : SourceState) (sink : SinkState) (end : End) (after : SinkState) (denied : Bool) : Type 0 where
   pub exchanges : List Exchange
   pub bytes : List ℕ
-  pub served : ServesAll side exchanges old new
-  pub took : Gave (flat_map exchange_bytes exchanges ++ bytes) source rest
-  pub gave : GivesEach end (map reply_of exchanges) sink after
+  pub served : ServesExchanges side exchanges old new
+  pub took : SourceGave (flat_map exchange_bytes exchanges ++ bytes) source rest
+  pub gave : GivesTexts end (map reply_of exchanges) sink after
   pub why : EndsRun end exchanges bytes source rest
   pub noted : denied ≡ list_any is_denied exchanges

@@ -9,9 +9,9 @@ use Rattle.nbd_words.specs.declared.transmission.ReplyError.TheVariants.{Invalid
 use Rattle.nbd_words.specs.declared.transmission.Request.{Request}
 use Rattle.nbd_words.specs.declared.transmission.RequestKind.{RequestKind}
 use Rattle.nbd_words.specs.declared.transmission.RequestKind.TheVariants as kinds
-use Rattle.nbd_session.specs.Requests.{Exchange, Flushes, Reads, ServesExchange, Side, Writes, is_denied, is_error, most, reply_of, zeros_of}
+use Rattle.nbd_session.specs.Requests.{AnswersFlush, AnswersRead, AnswersWrite, Exchange, ServesExchange, Side, is_denied, is_error, most, reply_of, zeros_of}
 use Rattle.nbd_session.specs.Stops.{Stops, exchange_bytes}
-use Rattle.nbd_session.specs.Streams.{Fills, Gave, Gives}
+use Rattle.nbd_session.specs.Streams.{Fills, GivesBytes, SourceGave}
 use Rattle.nbd_session.specs.declared.streams.End.{End}
 use Rattle.nbd_session.specs.declared.streams.End.TheVariants.{Closed, Malformed}
 
@@ -20,19 +20,19 @@ use Rattle.nbd_session.specs.declared.streams.End.TheVariants.{Closed, Malformed
 pub record ReadIsAnswered (side : Side) (q : Request) (old new : DiskState) (sink : SinkState) (result : Result (Unit {0}) End) (after : SinkState) : Type 0 where
   pub error : ReplyError
   pub bytes : List ℕ
-  pub reads : Reads side q error bytes old new
-  pub gives : Gives (reply_head error q.cookie ++ bytes) sink result after
+  pub reads : AnswersRead side q error bytes old new
+  pub gives : GivesBytes (reply_head error q.cookie ++ bytes) sink result after
 
 pub record FlushIsAnswered (q : Request) (old new : DiskState) (sink : SinkState) (result : Result (Unit {0}) End) (after : SinkState) (denied : Bool) : Type 0 where
   pub error : ReplyError
-  pub flushes : Flushes q error old new
-  pub gives : Gives (reply_head error q.cookie) sink result after
+  pub flushes : AnswersFlush q error old new
+  pub gives : GivesBytes (reply_head error q.cookie) sink result after
   pub noted : denied ≡ is_error error
 
 pub record ZerosAreAnswered (side : Side) (q : Request) (old new : DiskState) (sink : SinkState) (result : Result (Unit {0}) End) (after : SinkState) (denied : Bool) : Type 0 where
   pub error : ReplyError
-  pub writes : Writes side q (zeros_of q) error old new
-  pub gives : Gives (reply_head error q.cookie) sink result after
+  pub writes : AnswersWrite side q (zeros_of q) error old new
+  pub gives : GivesBytes (reply_head error q.cookie) sink result after
   pub noted : denied ≡ is_error error
 
 -- its bytes were all taken, and it was served
@@ -40,10 +40,10 @@ pub record WriteIsAnswered (side : Side) (q : Request) (old new : DiskState) (so
   pub payload : List ℕ
   pub size : length payload ≡ q.length
   pub few : q.length ≤ most
-  pub took : Gave payload source rest
+  pub took : SourceGave payload source rest
   pub error : ReplyError
-  pub writes : Writes side q payload error old new
-  pub gives : Gives (reply_head error q.cookie) sink result after
+  pub writes : AnswersWrite side q payload error old new
+  pub gives : GivesBytes (reply_head error q.cookie) sink result after
   pub noted : denied ≡ is_error error
 
 -- its bytes didn't all come, and nothing was done
@@ -62,7 +62,7 @@ abbrev pub WriteIsServed : Side → Request → DiskState → DiskState → Sour
 WriteIsServed side q old new source rest sink result after denied = WriteIsAnswered side q old new source rest sink result after denied ⊎ WriteIsCut q old new source rest sink result after denied
 
 -- a write that has too many bytes, and nothing was done
-pub record IsTooLong (q : Request) (old new : DiskState) (source rest : SourceState) (sink : SinkState) (result : Result (Unit {0}) End) (after : SinkState) (denied : Bool) : Type 0 where
+pub record IsTooLongWrite (q : Request) (old new : DiskState) (source rest : SourceState) (sink : SinkState) (result : Result (Unit {0}) End) (after : SinkState) (denied : Bool) : Type 0 where
   pub more : most < q.length
   pub why : result ≡ Err Malformed
   pub untaken : rest ≡ source
@@ -73,11 +73,11 @@ pub record IsTooLong (q : Request) (old new : DiskState) (source rest : SourceSt
 abbrev pub KindIsServed : RequestKind → Side → Request → DiskState → DiskState → SourceState → SourceState → SinkState → Result (Unit {0}) End → SinkState → Bool → Type 0
 KindIsServed kinds.Read side q old new source rest sink result after denied = (rest ≡ source) × ReadIsAnswered side q old new sink result after × (denied ≡ false)
 KindIsServed kinds.Write side q old new source rest sink result after denied =
-    IsTooLong q old new source rest sink result after denied ⊎ WriteIsServed side q old new source rest sink result after denied
+    IsTooLongWrite q old new source rest sink result after denied ⊎ WriteIsServed side q old new source rest sink result after denied
 KindIsServed kinds.WriteZeroes side q old new source rest sink result after denied = (rest ≡ source) × ZerosAreAnswered side q old new sink result after denied
 KindIsServed kinds.Flush side q old new source rest sink result after denied = (rest ≡ source) × FlushIsAnswered q old new sink result after denied
 KindIsServed kinds.Unknown side q old new source rest sink result after denied =
-    (rest ≡ source) × (new ≡ old) × Gives (reply_head Invalid q.cookie) sink result after × (denied ≡ false)
+    (rest ≡ source) × (new ≡ old) × GivesBytes (reply_head Invalid q.cookie) sink result after × (denied ≡ false)
 KindIsServed kinds.Disconnect side q old new source rest sink result after denied =
     (result ≡ Err Closed) × (rest ≡ source) × (new ≡ old) × (after ≡ sink) × (denied ≡ false)
 
@@ -88,14 +88,14 @@ pub record ServesOne (side : Side) (old new : DiskState) (source rest : SourceSt
   pub exchange : Exchange
   pub serves : ServesExchange side exchange old
   pub next : exchange.next ≡ new
-  pub took : Gave (exchange_bytes exchange) source rest
-  pub gives : Gives (reply_of exchange) sink result after
+  pub took : SourceGave (exchange_bytes exchange) source rest
+  pub gives : GivesBytes (reply_of exchange) sink result after
   pub noted : denied ≡ is_denied exchange
 
 -- none was, and the session ends
 pub record ServesNone (old new : DiskState) (source rest : SourceState) (sink : SinkState) (result : Result (Unit {0}) End) (after : SinkState) (denied : Bool) : Type 0 where
   pub bytes : List ℕ
-  pub took : Gave bytes source rest
+  pub took : SourceGave bytes source rest
   pub stops : Stops result bytes source rest
   pub disk : new ≡ old
   pub silent : after ≡ sink

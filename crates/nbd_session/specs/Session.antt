@@ -9,11 +9,11 @@ use Rattle.nbd_words.specs.declared.negotiation.ClientFlags.{ClientFlags}
 use Rattle.nbd_words.specs.declared.negotiation.Export.{Export}
 use Rattle.nbd_session.specs.Options.{ClientOption, IsClient, LeadTo, answers, option_bytes}
 use Rattle.nbd_session.specs.Export.{export_for}
-use Rattle.nbd_session.specs.Requests.{Exchange, ServesAll, Side, is_denied, most, reply_of}
+use Rattle.nbd_session.specs.Requests.{Exchange, ServesExchanges, Side, is_denied, most, reply_of}
 use Rattle.nbd_session.specs.Negotiation.{EndsGreeting, EndsOptions}
 use Rattle.nbd_session.specs.Runs.{EndsRun}
 use Rattle.nbd_session.specs.Stops.{exchange_bytes}
-use Rattle.nbd_session.specs.Streams.{Gave, GivesEach}
+use Rattle.nbd_session.specs.Streams.{GivesTexts, SourceGave}
 use Rattle.nbd_session.specs.declared.negotiation.Outcome.TheVariants.{Serving}
 use Rattle.nbd_session.specs.declared.streams.End.{End}
 
@@ -27,12 +27,12 @@ pub record Talk : Type 0 where
   pub rest : List ℕ
 
 -- its bytes
-abbrev pub said : Talk → List ℕ
-said t = t.flags ++ (flat_map option_bytes t.options ++ (flat_map exchange_bytes t.exchanges ++ t.rest))
+abbrev pub bytes_said : Talk → List ℕ
+bytes_said t = t.flags ++ (flat_map option_bytes t.options ++ (flat_map exchange_bytes t.exchanges ++ t.rest))
 
 -- what the client is given: the greeting, and an answer to each option and each request
-abbrev pub given : Export → Talk → List (List ℕ)
-given export t = greeting ∷ (answers export t.client t.options ++ map reply_of t.exchanges)
+abbrev pub texts_given : Export → Talk → List (List ℕ)
+texts_given export t = greeting ∷ (answers export t.client t.options ++ map reply_of t.exchanges)
 
 -- ---- why a session ended
 
@@ -55,8 +55,8 @@ pub record EndsAtRequests (end : End) (t : Talk) (source rest : SourceState) : T
   pub options : LeadTo t.client Serving t.options
   pub ends : EndsRun end t.exchanges t.rest source rest
 
-abbrev pub EndsBy : End → Talk → SourceState → SourceState → Type 0
-EndsBy end t source rest = EndsUnknown end t source rest ⊎ (EndsAtOptions end t source rest ⊎ EndsAtRequests end t source rest)
+abbrev pub SessionEndsBy : End → Talk → SourceState → SourceState → Type 0
+SessionEndsBy end t source rest = EndsUnknown end t source rest ⊎ (EndsAtOptions end t source rest ⊎ EndsAtRequests end t source rest)
 
 -- the flush at the end was made, or failed
 abbrev pub FlushesLast : {E : Type 0} → Result (Unit {0}) E → DiskState → DiskState → Type 0
@@ -69,10 +69,10 @@ FlushesLast (Err failed) old new = FailsIn (Flush ∷ []) old new
 -- one before it left. Whether a write, a request for zeros or a flush was answered with an error.
 pub record Talks (side : Side) (end : End) (denied : Bool) (source rest : SourceState) (sink after : SinkState) (old new : DiskState) : Type 0 where
   pub talk : Talk
-  pub took : Gave (said talk) source rest
-  pub gave : GivesEach end (given (export_for side old most) talk) sink after
-  pub why : EndsBy end talk source rest
-  pub served : ServesAll side talk.exchanges old new
+  pub took : SourceGave (bytes_said talk) source rest
+  pub gave : GivesTexts end (texts_given (export_for side old most) talk) sink after
+  pub why : SessionEndsBy end talk source rest
+  pub served : ServesExchanges side talk.exchanges old new
   pub noted : denied ≡ list_any is_denied talk.exchanges
 
 -- the whole session: last the disk was flushed, however it ended

@@ -12,7 +12,7 @@ abbrev pub limit : ℕ
 limit = 2 ^ 64 - 1
 
 -- the source gave these bytes
-pub record Gave (bytes : List ℕ) (old new : SourceState) : Type 0 where
+pub record SourceGave (bytes : List ℕ) (old new : SourceState) : Type 0 where
   pub left : old.left ≡ prepend_known bytes new.left
   pub later : old.faults ≤ new.faults
 
@@ -20,23 +20,23 @@ pub record Gave (bytes : List ℕ) (old new : SourceState) : Type 0 where
 pub record GavePart (bytes : List ℕ) (old new : SourceState) : Type 0 where
   pub count : ℕ
   pub within : count < length bytes
-  pub gave : Gave (take count bytes) old new
+  pub gave : SourceGave (take count bytes) old new
 
 -- all bytes were filled; or the source ended or failed before
 abbrev pub Fills : List ℕ → SourceState → Result (Unit {0}) End → SourceState → Type 0
-Fills bytes old (Ok done) new = Gave bytes old new
+Fills bytes old (Ok done) new = SourceGave bytes old new
 Fills bytes old (Err Closed) new = GavePart bytes old new × IsAtEnd new.left
 Fills bytes old (Err ReadFault) new = GavePart bytes old new × Rose old.faults new.faults
 Fills bytes old (Err WriteFault) new = ⊥
 Fills bytes old (Err Malformed) new = ⊥
 
 -- all bytes were given, or the sink failed
-abbrev pub Gives : List ℕ → SinkState → Result (Unit {0}) End → SinkState → Type 0
-Gives bytes old (Ok done) new = TookAll bytes old new
-Gives bytes old (Err WriteFault) new = TookPart bytes old new
-Gives bytes old (Err Closed) new = ⊥
-Gives bytes old (Err ReadFault) new = ⊥
-Gives bytes old (Err Malformed) new = ⊥
+abbrev pub GivesBytes : List ℕ → SinkState → Result (Unit {0}) End → SinkState → Type 0
+GivesBytes bytes old (Ok done) new = TookAll bytes old new
+GivesBytes bytes old (Err WriteFault) new = TookPart bytes old new
+GivesBytes bytes old (Err Closed) new = ⊥
+GivesBytes bytes old (Err ReadFault) new = ⊥
+GivesBytes bytes old (Err Malformed) new = ⊥
 
 -- of these texts all but the last were given whole; there the sink failed, and took the first bytes of the last alone
 pub record GaveButLast (texts : List (List ℕ)) (old new : SinkState) : Type 0 where
@@ -48,13 +48,13 @@ pub record GaveButLast (texts : List (List ℕ)) (old new : SinkState) : Type 0 
   pub part : TookPart last middle new
 
 -- these texts were given, one after another; or the sink failed in the last
-abbrev pub GivesEach : End → List (List ℕ) → SinkState → SinkState → Type 0
-GivesEach WriteFault texts old new = GaveButLast texts old new
-GivesEach Closed texts old new = TookAll (concat texts) old new
-GivesEach ReadFault texts old new = TookAll (concat texts) old new
-GivesEach Malformed texts old new = TookAll (concat texts) old new
+abbrev pub GivesTexts : End → List (List ℕ) → SinkState → SinkState → Type 0
+GivesTexts WriteFault texts old new = GaveButLast texts old new
+GivesTexts Closed texts old new = TookAll (concat texts) old new
+GivesTexts ReadFault texts old new = TookAll (concat texts) old new
+GivesTexts Malformed texts old new = TookAll (concat texts) old new
 
 -- the same where the session may go on
 abbrev pub GivesOn : Result (Unit {0}) End → List (List ℕ) → SinkState → SinkState → Type 0
 GivesOn (Ok done) texts old new = TookAll (concat texts) old new
-GivesOn (Err end) texts old new = GivesEach end texts old new
+GivesOn (Err end) texts old new = GivesTexts end texts old new

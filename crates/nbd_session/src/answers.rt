@@ -1,7 +1,7 @@
 //! What is answered to an option.
 ghost use Rattle.std.specs.Prelude.{◌≡◌};
 ghost use Rattle.nbd_session.specs.Options.{answer_by, bare_reply, info_answer, list_answer, listed, plain_answer, told};
-ghost use Rattle.nbd_session.specs.Streams.{Gives};
+ghost use Rattle.nbd_session.specs.Streams.{GivesBytes};
 
 use crate::streams::{End, give_all};
 use block_traits::Sink;
@@ -35,14 +35,14 @@ fn telling(code: u32, export: &Export) -> [u8; 86]
 
 // A reply without data.
 fn give_bare<K: Sink>(code: u32, reply: OptionReply, output: &mut K) -> Result<(), End>
-    ensures { Gives (bare_reply code reply) (K.state output.old) result (K.state output.new) }
+    ensures { GivesBytes (bare_reply code reply) (K.state output.old) result (K.state output.new) }
 {
     give_all(&option_reply_head(code, reply, 0), output)
 }
 
 // The export, without a reply's head; the zeros behind it are for a client that wants them.
 fn give_export<K: Sink>(export: &Export, client: &ClientFlags, output: &mut K) -> Result<(), End>
-    ensures { Gives (plain_answer export.now client.now) (K.state output.old) result (K.state output.new) }
+    ensures { GivesBytes (plain_answer export.now client.now) (K.state output.old) result (K.state output.new) }
 {
     let info = plain_export(export);
     let shown = if client.no_zeroes { 10 } else { 134 };
@@ -50,7 +50,7 @@ fn give_export<K: Sink>(export: &Export, client: &ClientFlags, output: &mut K) -
 }
 
 fn give_list<K: Sink>(code: u32, bytes: &[u8], output: &mut K) -> Result<(), End>
-    ensures { Gives (list_answer code bytes.now) (K.state output.old) result (K.state output.new) }
+    ensures { GivesBytes (list_answer code bytes.now) (K.state output.old) result (K.state output.new) }
 {
     if !bytes.is_empty() {
         return give_bare(code, OptionReply::Invalid, output);
@@ -59,7 +59,7 @@ fn give_list<K: Sink>(code: u32, bytes: &[u8], output: &mut K) -> Result<(), End
 }
 
 fn give_info<K: Sink>(code: u32, bytes: &[u8], export: &Export, output: &mut K) -> Result<(), End>
-    ensures { Gives (info_answer code bytes.now export.now) (K.state output.old) result (K.state output.new) }
+    ensures { GivesBytes (info_answer code bytes.now export.now) (K.state output.old) result (K.state output.new) }
 {
     if !info_request_fits(bytes) {
         return give_bare(code, OptionReply::Invalid, output);
@@ -76,7 +76,7 @@ pub fn give_answer<K: Sink>(
     client: &ClientFlags,
     output: &mut K,
 ) -> Result<(), End>
-    ensures { Gives (answer_by kind code bytes.now export.now client.now) (K.state output.old) result (K.state output.new) }
+    ensures { GivesBytes (answer_by kind code bytes.now export.now client.now) (K.state output.old) result (K.state output.new) }
 {
     match kind {
         OptionKind::ExportName => give_export(export, client, output),

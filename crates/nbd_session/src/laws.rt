@@ -8,7 +8,7 @@ ghost use Rattle.eli_base.specs.Keying.{Keying};
 ghost use Rattle.range_keys.specs.Ring.{IsKeying};
 ghost use Rattle.nbd_session.specs.Durable.{Survives};
 ghost use Rattle.nbd_session.specs.Lasting.{AttachesLasting, KeepsIn, LastsIn, ReadsLasting, SurvivesClosed};
-ghost use Rattle.nbd_session.specs.Requests.{Exchange, ServesAll, Side};
+ghost use Rattle.nbd_session.specs.Requests.{Exchange, ServesExchanges, Side};
 ghost use Rattle.nbd_session.specs.Session.{HasSession};
 ghost use Rattle.nbd_session.specs.declared.streams.End.{End};
 
@@ -17,7 +17,7 @@ use block_traits::Disk;
 /// What requests did to a disk are steps, which endure crashes.
 pub fn sessions_endure_crashes()
     ensures { (side : Side) (xs : List Exchange) (old new : DiskState) (c : Content) → IsKeying side.keying → old.content ≡ Some c →
-        ServesAll side xs old new → Survives side.keying xs c new }
+        ServesExchanges side xs old new → Survives side.keying xs c new }
 {}
 
 /// A write that was answered, and that a flush which was answered too followed, lasts: if power fails when the flush was

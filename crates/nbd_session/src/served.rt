@@ -3,9 +3,9 @@ ghost use Rattle.std.specs.Prelude.{◌≡◌, ◌+◌, ◌++◌, ◌≤◌, IfS
 ghost use Rattle.provider.specs.Attached.{IsKept};
 ghost use Rattle.byte_ranges.specs.Ranges.{skipped};
 ghost use Rattle.nbd_words.specs.Transmission.{reply_head, request_kind};
-ghost use Rattle.nbd_session.specs.Requests.{Flushes, HasKnownFlags, HasUnknownFlags, IsIllFormed, IsWellFormed, MayRead, MayWrite, RefusesRead, RefusesWrite, Writes, is_error, range_of, side_of, zeros_of};
+ghost use Rattle.nbd_session.specs.Requests.{AnswersFlush, AnswersWrite, HasKnownFlags, HasUnknownFlags, IsIllFormedRequest, IsRefusedRead, IsRefusedWrite, IsWellFormedRequest, MayRead, MayWrite, is_error, range_of, side_of, zeros_of};
 ghost use Rattle.nbd_session.specs.Served.{FlushIsAnswered, KindIsServed, ReadIsAnswered, ServesRequest, WriteIsServed, ZerosAreAnswered};
-ghost use Rattle.nbd_session.specs.Streams.{Gives};
+ghost use Rattle.nbd_session.specs.Streams.{GivesBytes};
 
 use crate::streams::{End, fill, give_all};
 use block_traits::{Disk, Sink, Source};
@@ -95,14 +95,14 @@ fn is_error(error: ReplyError) -> bool
 
 // A reply without bytes.
 fn answer<K: Sink>(error: ReplyError, request: &Request, output: &mut K) -> Result<(), End>
-    ensures gives { Gives (reply_head error request.now.cookie) (K.state output.old) result (K.state output.new) }
+    ensures gives { GivesBytes (reply_head error request.now.cookie) (K.state output.old) result (K.state output.new) }
 {
     give_all(&reply_head(error, request.cookie), output)
 }
 
 // Flushes the disk.
 fn flush<D: Disk>(provider: &mut Provider<D>, request: &Request) -> ReplyError
-    ensures answers { Flushes request.now result (D.state provider.old.disk) (D.state provider.new.disk) }
+    ensures answers { AnswersFlush request.now result (D.state provider.old.disk) (D.state provider.new.disk) }
     ensures kept { IsKept provider.old provider.new }
 {
     if !has_known_flags(request) {
@@ -134,8 +134,8 @@ fn has_known_flags(request: &Request) -> bool
 
 // Whether the flags and the length of a request are such as are served.
 fn is_well_formed(request: &Request) -> bool
-    ensures well { result ≡ true → IsWellFormed request.now }
-    ensures ill { result ≡ false → IsIllFormed request.now }
+    ensures well { result ≡ true → IsWellFormedRequest request.now }
+    ensures ill { result ≡ false → IsIllFormedRequest request.now }
 {
     if !has_known_flags(request) {
         return false;
@@ -149,7 +149,7 @@ fn is_well_formed(request: &Request) -> bool
 // Whether a read is one that is served.
 fn may_read<D: Disk>(provider: &Provider<D>, request: &Request) -> bool
     ensures may { result ≡ true → MayRead provider.now.keying (D.state provider.now.disk) request.now }
-    ensures refuses { result ≡ false → RefusesRead provider.now.keying (D.state provider.now.disk) request.now }
+    ensures refuses { result ≡ false → IsRefusedRead provider.now.keying (D.state provider.now.disk) request.now }
 {
     if !is_well_formed(request) {
         return false;
@@ -167,7 +167,7 @@ fn give_bytes<K: Sink>(
 ) -> Result<(), End>
     requires room { length room.old ≡ 33685520 }
     requires within { start + 16 + many ≤ 33685520 }
-    ensures gives { Gives (reply_head ReplyError.Done request.now.cookie ++ take many (drop (start + 16) room.old)) (K.state output.old) result (K.state output.new) }
+    ensures gives { GivesBytes (reply_head ReplyError.Done request.now.cookie ++ take many (drop (start + 16) room.old)) (K.state output.old) result (K.state output.new) }
 {
     // The head stands just before the bytes that were asked for.
     room[start..start + REPLY_HEAD].copy_from_slice(&reply_head(ReplyError::Done, request.cookie));
@@ -240,7 +240,7 @@ fn serve_write<D: Disk, S: Source, K: Sink>(
 
 // Why a write isn't served, if it isn't.
 fn write_refusal<D: Disk>(provider: &Provider<D>, request: &Request) -> Option<ReplyError>
-    ensures refuses { IfSome result (λ error. RefusesWrite (side_of provider.now) (D.state provider.now.disk) request.now error) }
+    ensures refuses { IfSome result (λ error. IsRefusedWrite (side_of provider.now) (D.state provider.now.disk) request.now error) }
     ensures may { result ≡ None → MayWrite (side_of provider.now) (D.state provider.now.disk) request.now }
 {
     if provider.read_only() {
@@ -264,7 +264,7 @@ fn write<D: Disk>(
 ) -> ReplyError
     requires room { length room.old ≡ 33685520 }
     requires edge { length edge.old ≡ 65536 }
-    ensures writes { Writes (side_of provider.old) request.now (take request.now.length (drop (skipped provider.old.keying (range_of request.now)) room.old)) result
+    ensures writes { AnswersWrite (side_of provider.old) request.now (take request.now.length (drop (skipped provider.old.keying (range_of request.now)) room.old)) result
         (D.state provider.old.disk) (D.state provider.new.disk) }
     ensures kept { IsKept provider.old provider.new }
 {
@@ -284,7 +284,7 @@ fn write_room<D: Disk>(
     requires room { length room.old ≡ 33685520 }
     requires edge { length edge.old ≡ 65536 }
     requires may { MayWrite (side_of provider.old) (D.state provider.old.disk) request.now }
-    ensures writes { Writes (side_of provider.old) request.now (take request.now.length (drop (skipped provider.old.keying (range_of request.now)) room.old)) result
+    ensures writes { AnswersWrite (side_of provider.old) request.now (take request.now.length (drop (skipped provider.old.keying (range_of request.now)) room.old)) result
         (D.state provider.old.disk) (D.state provider.new.disk) }
     ensures kept { IsKept provider.old provider.new }
 {
@@ -324,7 +324,7 @@ fn write_zeros<D: Disk>(
 ) -> ReplyError
     requires room { length room.old ≡ 33685520 }
     requires edge { length edge.old ≡ 65536 }
-    ensures writes { Writes (side_of provider.old) request.now (zeros_of request.now) result (D.state provider.old.disk) (D.state provider.new.disk) }
+    ensures writes { AnswersWrite (side_of provider.old) request.now (zeros_of request.now) result (D.state provider.old.disk) (D.state provider.new.disk) }
     ensures kept { IsKept provider.old provider.new }
 {
     if let Some(error) = write_refusal(provider, request) {

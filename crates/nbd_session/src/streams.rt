@@ -1,5 +1,5 @@
 //! Bytes of a known number from a source, and all bytes to a sink.
-ghost use Rattle.nbd_session.specs.Streams.{Fills, Gives};
+ghost use Rattle.nbd_session.specs.Streams.{Fills, GivesBytes};
 
 use block_traits::{Sink, Source};
 use reply_text::write_text;
@@ -34,7 +34,7 @@ pub fn fill<S: Source>(input: &mut S, into: &mut [u8]) -> Result<(), End>
 
 /// Gives all bytes to a sink.
 pub fn give_all<K: Sink>(bytes: &[u8], output: &mut K) -> Result<(), End>
-    ensures { Gives bytes.now (K.state output.old) result (K.state output.new) }
+    ensures { GivesBytes bytes.now (K.state output.old) result (K.state output.new) }
 {
     match write_text(bytes, output) {
         Ok(()) => Ok(()),

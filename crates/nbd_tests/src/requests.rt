@@ -30,11 +30,18 @@ const TRIM: u16 = 4;
 
 const ZEROES: u16 = 6;
 
-// A provider with sectors of 4,096 bytes, 64 of them without a code for integrity.
-fn provider_of(alloc: Global, auth: Auth, readonly: bool) -> Result<Provider<MemDisk>, Fail> {
+// A provider with 64 sectors of 4,096 bytes.
+fn provider_of(alloc: Global, readonly: bool) -> Result<Provider<MemDisk>, Fail> {
     let mut disk = MemDisk::new(alloc, 513, 256)?;
-    let meta = made(alloc, &mut disk, auth, 4096)?;
+    let meta = made(alloc, &mut disk, Auth::Off, 4096)?;
     attached(alloc, disk, &meta, readonly)
+}
+
+// One with a code for integrity, of which no sector was written.
+fn unwritten(alloc: Global, sectorsize: u32) -> Result<Provider<MemDisk>, Fail> {
+    let mut disk = MemDisk::new(alloc, 513, 512)?;
+    let meta = made(alloc, &mut disk, Auth::Sha256, sectorsize)?;
+    attached(alloc, disk, &meta, false)
 }
 
 // Bytes that a client says.
@@ -167,7 +174,7 @@ fn requests_are_refused(rt: HostRuntime) -> Result<(), Fail> {
             alloc,
             &mut place,
             &client,
-            provider_of(alloc, Auth::Off, readonly)?,
+            provider_of(alloc, readonly)?,
         )?;
         let mut expected = Vec::from_slice(alloc, &reply(error, 7))?;
         expected.extend_from_slice(&reply(0, 9))?;
@@ -203,7 +210,7 @@ fn writes_are_refused_behind_their_bytes(rt: HostRuntime) -> Result<(), Fail> {
             alloc,
             &mut place,
             &client,
-            provider_of(alloc, Auth::Off, readonly)?,
+            provider_of(alloc, readonly)?,
         )?;
         assert_eq!(&rt; answer.bytes.as_slice(), reply(error, 1).as_slice());
         assert_eq!(&rt; answer.end, End::Closed);
@@ -226,7 +233,7 @@ fn what_no_client_says_ends_it(rt: HostRuntime) -> Result<(), Fail> {
             alloc,
             &mut place,
             &client,
-            provider_of(alloc, Auth::Off, false)?,
+            provider_of(alloc, false)?,
         )?;
         assert_eq!(&rt; answer.bytes.as_slice(), reply(0, 1).as_slice());
         assert_eq!(&rt; answer.end, End::Malformed);
@@ -236,36 +243,40 @@ fn what_no_client_says_ends_it(rt: HostRuntime) -> Result<(), Fail> {
     Ok(())
 }
 
+// What a client asks of the second sector, of so many bytes: to be read, to be written in part, then whole, and in part again.
+fn of_the_second_sector(alloc: Global, size: u32) -> Result<Client, Fail> {
+    let start = u64::from(size);
+    let mut client = Client::new(alloc)?;
+    client.asks((READ, 0), 1, start, 1)?;
+    client.writes(0, start + 1, 3, 0x25)?;
+    client.asks((ZEROES, 0), 1, start, size.saturating_sub(1))?;
+    client.writes(0, start, size, 0x33)?;
+    client.writes(1, start + 1, 2, 0x25)?;
+    client.asks((ZEROES, 3), 1, start + 3, 1)?;
+    client.asks((READ, 0), 1, start, 5)?;
+    client.asks((READ, 0), 1, (start + start).saturating_sub(1), 2)?;
+    client.asks((DISCONNECT, 0), 2, 0, 0)?;
+    Ok(client)
+}
+
 // Under a code for integrity a sector that was never written has no tag: it can't be read, and so not written in part.
-// Once it was written whole it can.
+// Once it was written whole it can; the one behind it still can't.
 #[test]
 fn sectors_that_were_never_written(rt: HostRuntime) -> Result<(), Fail> {
     let alloc = rt.alloc();
     let mut place = Place::new(alloc)?;
-    let mut client = Client::new(alloc)?;
-    client.asks((READ, 0), 1, 4096, 1)?;
-    client.writes(0, 4097, 3, 0x25)?;
-    client.asks((ZEROES, 0), 1, 4096, 4095)?;
-    client.writes(0, 4096, 4096, 0x33)?;
-    client.writes(1, 4097, 2, 0x25)?;
-    client.asks((ZEROES, 3), 1, 4099, 1)?;
-    client.asks((READ, 0), 1, 4096, 5)?;
-    client.asks((READ, 0), 1, 8191, 2)?;
-    client.asks((DISCONNECT, 0), 2, 0, 0)?;
-    let answer = answered_to(
-        alloc,
-        &mut place,
-        &client,
-        provider_of(alloc, Auth::Sha256, false)?,
-    )?;
     let mut expected = Vec::new(alloc);
     for error in [5, 5, 5, 0, 0, 0, 0] {
         expected.extend_from_slice(&reply(error, 1))?;
     }
     expected.extend_from_slice(&[0x33, 0x25, 0x25, 0, 0x33])?;
     expected.extend_from_slice(&reply(5, 1))?;
-    assert_eq!(&rt; answer.bytes.as_slice(), expected.as_slice());
-    assert_eq!(rt; answer.end, End::Closed);
+    for size in [512, 4096, 65_536] {
+        let client = of_the_second_sector(alloc, size)?;
+        let answer = answered_to(alloc, &mut place, &client, unwritten(alloc, size)?)?;
+        assert_eq!(&rt; answer.bytes.as_slice(), expected.as_slice(), "{size}");
+        assert_eq!(&rt; answer.end, End::Closed);
+    }
     Ok(())
 }
 
@@ -293,7 +304,7 @@ fn asked(
     }
     let mut input = MemSource::new(alloc, said.as_slice(), &[], &[])?;
     let mut output = MemSink::new(alloc, &[], &[], 65_536)?;
-    let provider = provider_of(alloc, Auth::Off, false)?;
+    let provider = provider_of(alloc, false)?;
     let outcome = place.serves(provider, &mut input, &mut output)?;
     Ok((outcome.end, output.bytes().len()))
 }

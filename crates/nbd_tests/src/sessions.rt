@@ -122,29 +122,63 @@ fn answered_to(taken: usize) -> usize {
     answered
 }
 
-// Whether a client that says only the first bytes is answered what came whole.
-fn is_cut_well(alloc: Global, place: &mut Place, talk: &Talk, taken: usize) -> Result<bool, Fail> {
+// The same of the client without fixed newstyle that wants no zeros: what it says of itself and its one option, a write of
+// 16 bytes, and a read of as many.
+fn answered_by_name(taken: usize) -> usize {
+    if taken < 20 {
+        return 18;
+    }
+    if taken < 64 {
+        return 28;
+    }
+    if taken < 92 { 44 } else { 76 }
+}
+
+// Whether a client that says only the first bytes is answered so many.
+fn is_cut_well(
+    alloc: Global,
+    place: &mut Place,
+    talk: &Talk,
+    taken: usize,
+    answered: usize,
+) -> Result<bool, Fail> {
     let provider = provider_of(alloc, 512, false)?;
     let Some(first) = talk.said.get(..taken) else {
         return Err(Fail::from("no such piece"));
     };
-    let Some(expected) = talk.answered.get(..answered_to(taken)) else {
+    let Some(expected) = talk.answered.get(..answered) else {
         return Err(Fail::from("no such answer"));
     };
     is_answered(alloc, place, provider, first, expected)
 }
 
-// Where the client goes away: at each byte of its negotiation and of its first request, a write, and then at each eleventh.
+// The client goes away at each byte of a session.
 #[test]
 fn what_came_whole_is_answered(rt: HostRuntime) -> Result<(), Fail> {
     let alloc = rt.alloc();
     let mut place = Place::new(alloc)?;
+    let talk = talk_of(alloc, BY_NAME_WITHOUT_ZEROES)?;
+    for taken in 0..=talk.said.len() {
+        let answered = answered_by_name(taken);
+        let good = is_cut_well(alloc, &mut place, &talk, taken, answered)?;
+        assert!(&rt; good, "{taken}");
+    }
+    Ok(())
+}
+
+// And of a longer one at each byte of its negotiation and of its first request, a write, and then at each eleventh.
+#[test]
+fn what_came_whole_of_many_requests_is_answered(rt: HostRuntime) -> Result<(), Fail> {
+    let alloc = rt.alloc();
+    let mut place = Place::new(alloc)?;
     let talk = talk_of(alloc, GOING)?;
     for taken in 0..72 {
-        assert!(&rt; is_cut_well(alloc, &mut place, &talk, taken)?, "{taken}");
+        let good = is_cut_well(alloc, &mut place, &talk, taken, answered_to(taken))?;
+        assert!(&rt; good, "{taken}");
     }
     for taken in (0..talk.said.len()).step_by(11) {
-        assert!(&rt; is_cut_well(alloc, &mut place, &talk, taken)?, "{taken}");
+        let good = is_cut_well(alloc, &mut place, &talk, taken, answered_to(taken))?;
+        assert!(&rt; good, "{taken}");
     }
     Ok(())
 }

@@ -2,7 +2,7 @@
 -- doc/proto.md). The laws say by these that each message is read back from its bytes.
 use Rattle.std.specs.Prelude.{ℕ, ◌+◌, ◌^◌, ◌<◌, ◌==◌, ◌&&◌, Bool, true, false, List, ◌++◌, length, Option, Some, None, if◌then◌else◌}
 use Rattle.byteorder.specs.Endian.{big_bytes}
-use Rattle.nbd_words.specs.Negotiation.{number_at}
+use Rattle.nbd_words.specs.Negotiation.{big_number_at}
 use Rattle.nbd_words.specs.declared.negotiation.ClientFlags.{ClientFlags}
 use Rattle.nbd_words.specs.declared.negotiation.Export.{Export}
 use Rattle.nbd_words.specs.declared.negotiation.OptionReply.{OptionReply}
@@ -15,7 +15,7 @@ use Rattle.nbd_words.specs.declared.transmission.ReplyError.TheVariants as error
 -- the server's handshake flags, where it begins as one does
 abbrev pub greeting_in : List ℕ → Option ℕ
 greeting_in bytes =
-    if number_at bytes 0 8 == 0x4e42444d41474943 && number_at bytes 8 8 == 0x49484156454f5054 then Some (number_at bytes 16 2) else None
+    if big_number_at bytes 0 8 == 0x4e42444d41474943 && big_number_at bytes 8 8 == 0x49484156454f5054 then Some (big_number_at bytes 16 2) else None
 
 -- what a client says of itself
 abbrev pub flag : Bool → ℕ → ℕ
@@ -46,7 +46,7 @@ option_reply_with code None size = None
 
 abbrev pub option_reply_in : List ℕ → Option OptionReplyHead
 option_reply_in bytes =
-    if number_at bytes 0 8 == 0x3e889045565a9 then option_reply_with (number_at bytes 8 4) (option_reply_of (number_at bytes 12 4)) (number_at bytes 16 4) else None
+    if big_number_at bytes 0 8 == 0x3e889045565a9 then option_reply_with (big_number_at bytes 8 4) (option_reply_of (big_number_at bytes 12 4)) (big_number_at bytes 16 4) else None
 
 -- what is told of an export: its size and its transmission flags
 pub record ToldExport : Type 0 where
@@ -54,10 +54,10 @@ pub record ToldExport : Type 0 where
   pub flags : ℕ
 
 abbrev pub export_info_in : List ℕ → Option ToldExport
-export_info_in bytes = if number_at bytes 0 2 == 0 then Some (record { size = number_at bytes 2 8; flags = number_at bytes 10 2 }) else None
+export_info_in bytes = if big_number_at bytes 0 2 == 0 then Some (record { size = big_number_at bytes 2 8; flags = big_number_at bytes 10 2 }) else None
 
 abbrev pub plain_export_in : List ℕ → ToldExport
-plain_export_in bytes = record { size = number_at bytes 0 8; flags = number_at bytes 8 2 }
+plain_export_in bytes = record { size = big_number_at bytes 0 8; flags = big_number_at bytes 8 2 }
 
 -- and how many bytes its requests have: the least, the preferred and the most
 pub record BlockSizes : Type 0 where
@@ -67,7 +67,7 @@ pub record BlockSizes : Type 0 where
 
 abbrev pub block_sizes_in : List ℕ → Option BlockSizes
 block_sizes_in bytes =
-    if number_at bytes 0 2 == 3 then Some (record { least = number_at bytes 2 4; preferred = number_at bytes 6 4; most = number_at bytes 10 4 }) else None
+    if big_number_at bytes 0 2 == 3 then Some (record { least = big_number_at bytes 2 4; preferred = big_number_at bytes 6 4; most = big_number_at bytes 10 4 }) else None
 
 -- each field of an export is a number of its type
 pub record HasExportInRange (export : Export) : Type 0 where
@@ -93,4 +93,4 @@ reply_with (Some error) cookie = Some (record { error = error; cookie = cookie }
 reply_with None cookie = None
 
 abbrev pub reply_in : List ℕ → Option ReplyHead
-reply_in bytes = if number_at bytes 0 4 == 0x67446698 then reply_with (error_of (number_at bytes 4 4)) (number_at bytes 8 8) else None
+reply_in bytes = if big_number_at bytes 0 4 == 0x67446698 then reply_with (error_of (big_number_at bytes 4 4)) (big_number_at bytes 8 8) else None

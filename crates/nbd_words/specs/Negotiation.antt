@@ -11,8 +11,8 @@ use Rattle.nbd_words.specs.declared.negotiation.OptionReply.{OptionReply}
 use Rattle.nbd_words.specs.declared.negotiation.OptionReply.TheVariants as replies
 
 -- the number of n bytes at a place
-abbrev pub number_at : List ℕ → ℕ → ℕ → ℕ
-number_at bytes place n = big_number n (take n (drop place bytes))
+abbrev pub big_number_at : List ℕ → ℕ → ℕ → ℕ
+big_number_at bytes place n = big_number n (take n (drop place bytes))
 
 -- `NBDMAGIC`, `IHAVEOPT`, and the flags NBD_FLAG_FIXED_NEWSTYLE and NBD_FLAG_NO_ZEROES
 abbrev pub greeting : List ℕ
@@ -27,12 +27,12 @@ client_flags_of flags =
     if flags == 3 then Some (record { fixed_newstyle = true; no_zeroes = true }) else None
 
 abbrev pub client_flags_in : List ℕ → Option ClientFlags
-client_flags_in bytes = client_flags_of (number_at bytes 0 4)
+client_flags_in bytes = client_flags_of (big_number_at bytes 0 4)
 
 -- `IHAVEOPT`, the code, the length of the data
 abbrev pub option_head_in : List ℕ → Option OptionHead
 option_head_in bytes =
-    if number_at bytes 0 8 == 0x49484156454f5054 then Some (record { code = number_at bytes 8 4; length = number_at bytes 12 4 }) else None
+    if big_number_at bytes 0 8 == 0x49484156454f5054 then Some (record { code = big_number_at bytes 8 4; length = big_number_at bytes 12 4 }) else None
 
 -- the bytes of an option before its data
 abbrev pub option_head : OptionHead → List ℕ
@@ -65,8 +65,8 @@ option_reply_head code reply size =
 -- the data of NBD_OPT_INFO and NBD_OPT_GO: the name's length and the name, the number of wishes and two bytes for each
 abbrev pub has_info_shape : List ℕ → Bool
 has_info_shape bytes =
-    let name = number_at bytes 0 4 in
-    nat_le (6 + name) (length bytes) && length bytes == 6 + name + 2 * number_at bytes (4 + name) 2
+    let name = big_number_at bytes 0 4 in
+    nat_le (6 + name) (length bytes) && length bytes == 6 + name + 2 * big_number_at bytes (4 + name) 2
 
 -- the transmission flags NBD_FLAG_HAS_FLAGS (bit 0), NBD_FLAG_SEND_FLUSH (bit 2), NBD_FLAG_SEND_FUA (bit 3) and
 -- NBD_FLAG_SEND_WRITE_ZEROES (bit 6), and for a read-only export NBD_FLAG_READ_ONLY (bit 1)

@@ -2,7 +2,7 @@
 -- flags", "Simple reply message" and "Error values".
 use Rattle.std.specs.Prelude.{ℕ, ◌^◌, ◌<◌, ◌==◌, ◌%◌, Bool, List, ◌++◌, Option, Some, None, if◌then◌else◌}
 use Rattle.byteorder.specs.Endian.{big_bytes}
-use Rattle.nbd_words.specs.Negotiation.{number_at}
+use Rattle.nbd_words.specs.Negotiation.{big_number_at}
 use Rattle.nbd_words.specs.declared.transmission.Request.{Request}
 use Rattle.nbd_words.specs.declared.transmission.RequestKind.{RequestKind}
 use Rattle.nbd_words.specs.declared.transmission.RequestKind.TheVariants.{Read, Write, Disconnect, Flush, WriteZeroes, Unknown}
@@ -12,8 +12,8 @@ use Rattle.nbd_words.specs.declared.transmission.ReplyError.TheVariants.{Done, R
 -- the request in 28 bytes that begin with its magic number
 abbrev pub request_in : List ℕ → Option Request
 request_in bytes =
-    if number_at bytes 0 4 == 0x25609513
-    then Some (record { flags = number_at bytes 4 2; code = number_at bytes 6 2; cookie = number_at bytes 8 8; offset = number_at bytes 16 8; length = number_at bytes 24 4 })
+    if big_number_at bytes 0 4 == 0x25609513
+    then Some (record { flags = big_number_at bytes 4 2; code = big_number_at bytes 6 2; cookie = big_number_at bytes 8 8; offset = big_number_at bytes 16 8; length = big_number_at bytes 24 4 })
     else None
 
 -- NBD_CMD_READ, NBD_CMD_WRITE, NBD_CMD_DISC, NBD_CMD_FLUSH and NBD_CMD_WRITE_ZEROES
@@ -51,7 +51,7 @@ abbrev pub request_bytes : Request → List ℕ
 request_bytes q = big_bytes 4 0x25609513 ++ (big_bytes 2 q.flags ++ (big_bytes 2 q.code ++ (big_bytes 8 q.cookie ++ (big_bytes 8 q.offset ++ big_bytes 4 q.length))))
 
 -- each field is a number of its type
-pub record HasFieldsInRange (q : Request) : Type 0 where
+pub record HasRequestInRange (q : Request) : Type 0 where
   pub flags : q.flags < 256 ^ 2
   pub code : q.code < 256 ^ 2
   pub cookie : q.cookie < 256 ^ 8

@@ -2,7 +2,7 @@
 ghost use Rattle.std.specs.Prelude.{◌≡◌, ◌*◌, ◌^◌, ◌<◌, List, Some, length, true, ℕ};
 ghost use Rattle.nbd_words.specs.Client.{HasExportInRange, block_sizes_in, client_flags, export_info_in, greeting_in, info_request, option_reply_in, plain_export_in, reply_in};
 ghost use Rattle.nbd_words.specs.Negotiation.{HasHeadInRange, block_size_info, client_flags_in, export_info, greeting, has_info_shape, option_head, option_head_in, option_reply_head, plain_export};
-ghost use Rattle.nbd_words.specs.Transmission.{HasFieldsInRange, reply_head, request_bytes, request_in};
+ghost use Rattle.nbd_words.specs.Transmission.{HasRequestInRange, reply_head, request_bytes, request_in};
 ghost use Rattle.nbd_words.specs.declared.negotiation.ClientFlags.{ClientFlags};
 ghost use Rattle.nbd_words.specs.declared.negotiation.Export.{Export};
 ghost use Rattle.nbd_words.specs.declared.negotiation.OptionHead.{OptionHead};
@@ -12,7 +12,7 @@ ghost use Rattle.nbd_words.specs.declared.transmission.Request.{Request};
 
 /// A request is read back from its bytes.
 pub fn requests_read_back()
-    ensures { (q : Request) → HasFieldsInRange q → request_in (request_bytes q) ≡ Some q }
+    ensures { (q : Request) → HasRequestInRange q → request_in (request_bytes q) ≡ Some q }
 {}
 
 /// The head of a simple reply is read back from its bytes.

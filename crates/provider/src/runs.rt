@@ -2,7 +2,7 @@
 ghost use Rattle.std.specs.Prelude.{◌≡◌, ℕ, ◌+◌, ◌*◌, ◌/◌, ◌%◌, ◌^◌, ◌<◌, ◌≤◌, [], Ok, OnOk, OnErr, IfSome, Option, false, length, take, true};
 ghost use Rattle.block_traits.specs.Causes.{Counted};
 ghost use Rattle.block_traits.specs.Content.{Content};
-ghost use Rattle.block_traits.specs.Disk.{DiskState, FailsIn, GivesEachFrom, Logs, write_events};
+ghost use Rattle.block_traits.specs.Disk.{DiskState, FailsIn, GivesEach, GivesEachFrom, Logs, write_events};
 ghost use Rattle.eli_base.specs.declared.algorithms.Auth.TheVariants.{Off};
 ghost use Rattle.sealing.specs.Sectors.{units};
 ghost use Rattle.provider.specs.Reading.{ReadsAs, ReadsFrom, sector_reading};
@@ -134,8 +134,8 @@ fn read_each<D: Disk>(
 }
 
 // Looks at the device sectors of logical sectors of `size` bytes all at once, the first of number `sector`, and opens
-// them. Where the look says nothing or a tag differs, `into` and `device` may hold any bytes, and nothing else has
-// changed.
+// them; `device` has those sectors then. Where the look says nothing or a tag differs, `into` and `device` may hold any
+// bytes, and nothing else has changed.
 fn look_batch<D: Disk>(
     ring: &mut KeyRing,
     disk: &mut D,
@@ -151,6 +151,7 @@ fn look_batch<D: Disk>(
     ensures asked { result ≡ true → Counted (length into.old / size * units ring.old.keying) (D.state disk.old).reads (D.state disk.new).reads }
     ensures logs { result ≡ true → Logs [] (D.state disk.old) (D.state disk.new) }
     ensures reads { result ≡ true → ReadsAs (D.state disk.old) ring.old.keying sector (length into.old / size) (Ok into.new) }
+    ensures left { result ≡ true → GivesEach (D.state disk.old) (sector * units ring.old.keying) device.new }
     ensures missed { result ≡ false → D.state disk.new ≡ D.state disk.old }
     ensures keying { ring.new.keying ≡ ring.old.keying }
 {

@@ -30,7 +30,7 @@ opened_events-append k count (Write n bytes ∷ events) more =
     ∙ cond-append (nat_lt n count) (Write n (opened_single k n bytes)) (opened_events k count events) (opened_events k count more)
 opened_events-append k count (Flush ∷ events) more = ap (λ (l : List Event). Flush ∷ l) (opened_events-append k count events more)
 
--- what is logged below is logged here, opened_single
+-- what is logged below is logged here, opened
 logged-opened : (k : Keying) (size : ℕ) (events : List Event) (told : Option Content) → FitsSize size told
     → option_map (opened_content k) (logged events told) ≡ logged (opened_events k (size - 1) events) (option_map (opened_content k) told)
 logged-opened k size events None fits = refl
@@ -57,7 +57,7 @@ Logs-opened k events {below} {later} {old} {new} is will logs = record {
   faults = let a = will.faults in let b = is.faults in let c = logs.faults in omega arith;
 }
 
--- the first of some events, opened_single, are the first of the opened_single ones
+-- the first of some events, opened, are the first of the opened ones
 pub take-opened : (k : Keying) (size count : ℕ) (events : List Event)
     → take (length (opened_events k size (take count events))) (opened_events k size events) ≡ opened_events k size (take count events)
 take-opened k size count events =
@@ -95,7 +95,7 @@ one_of [] one = absurd (omega arith)
 one_of (bytes ∷ []) one = refl
 one_of (bytes ∷ next ∷ sectors) one = absurd (omega arith)
 
--- the write of a logical sector, opened_single, is the write of its bytes
+-- the write of a logical sector, opened, is the write of its bytes
 pub opened-writes : (k : Keying) (size n count : ℕ) (bytes : List ℕ) → IsKeying k → IsSingle k → AreBytes bytes → IsSector bytes → n < size → count ≡ 1
     → opened_events k size (data_writes k n count bytes) ≡ Write n bytes ∷ []
 unfolding opened_single
@@ -121,7 +121,7 @@ joined-one : (r : Result (List ℕ) ℕ) (bytes : List ℕ) → joined (r ∷ []
 joined-one (Ok found) bytes is = let e : Ok (found ++ []) ≡ Ok bytes = is in let same : found ++ [] ≡ bytes = cc e in sym same ∙ append-nil found
 joined-one (Err offset) bytes is = absurd (cc is)
 
--- what stands here is what stands below, opened_single
+-- what stands here is what stands below, opened
 present_of : (k : Keying) (c : Content) (n : ℕ) → IsSingle k → sector_reading k c n ≡ reading k n (present c n ∷ [])
 present_of k c n single =
     let place : n * units k ≡ n = ap (λ (u : ℕ). n * u) (units_of k single) ∙ omega arith in

@@ -1,4 +1,4 @@
--- What a disk upon a provider tells: what the disk below tells, each device sector but the last opened_single by itself. The
+-- What a disk upon a provider tells: what the disk below tells, each device sector but the last opened by itself. The
 -- last has the metadata. Logical sectors are single device sectors here (`IsSingle` of sealing).
 use Rattle.std.specs.Prelude.{◌≡◌, ℕ, ◌+◌, ◌-◌, ◌≤◌, nat_lt, Bool, false, List, [], ◌∷◌, length, take, if◌then◌else◌, Result, Ok, Err}
 use Rattle.block_traits.specs.declared.disk.Event.{Event}
@@ -22,7 +22,7 @@ abbrev pub opened_from : Keying → ℕ → List (List ℕ) → List (List ℕ)
 opened_from k n [] = []
 opened_from k n (bytes ∷ sectors) = opened_single k n bytes ∷ opened_from k (n + 1) sectors
 
--- all sectors but the last, opened_single
+-- all sectors but the last, opened
 abbrev pub opened_data_sectors : Keying → List (List ℕ) → List (List ℕ)
 opened_data_sectors k sectors = opened_from k 0 (take (length sectors - 1) sectors)
 
@@ -34,7 +34,7 @@ opened_events k count (Write n bytes ∷ events) =
     (if nat_lt n count then Write n (opened_single k n bytes) ∷ opened_events k count events else opened_events k count events)
 opened_events k count (Flush ∷ events) = Flush ∷ opened_events k count events
 
--- the base is what the base below reads as; the history is that below, each write of a data sector opened_single, and those of
+-- the base is what the base below reads as; the history is that below, each write of a data sector opened, and those of
 -- the last sector left out
 abbrev pub opened_content : Keying → Content → Content
 opened_content k c = record { base = opened_data_sectors k c.base; history = opened_events k (length c.base - 1) c.history }
@@ -49,7 +49,7 @@ pub record CanBeDisk (k : Keying) (readonly : Bool) : Type 0 where
 abbrev pub KeepsLastData : Content → List (List ℕ) → Type 0
 KeepsLastData c image = HoldsKept c image (length c.base - 2)
 
--- what was logged below until this moment, opened_single, is what was logged here until some moment
+-- what was logged below until this moment, opened, is what was logged here until some moment
 pub record MomentAbove (k : Keying) (c : Content) (t : ℕ) : Type 0 where
   pub moment : ℕ
   pub within : moment ≤ length (opened_content k c).history

@@ -19,14 +19,14 @@ ghost use Rattle.provider_disk.specs.ProviderDisk.{provider_disk_of};
 
 use block_traits::Disk;
 
-/// Under a keying of single device sectors a logical sector reads as its device sector opened_single, which depends on its
+/// Under a keying of single device sectors a logical sector reads as its device sector opened, which depends on its
 /// number and its bytes alone.
 pub fn device_sectors_open_by_themselves()
     ensures { (k : Keying) (n : ℕ) (bytes : List ℕ) → IsKeying k → IsSingle k → IsSector bytes →
         reading k n (bytes ∷ []) ≡ Ok (opened_single k n bytes) }
 {}
 
-/// Each sector of a disk upon a provider holds what its sector below holds, opened_single; so do the values that it may hold
+/// Each sector of a disk upon a provider holds what its sector below holds, opened; so do the values that it may hold
 /// if power fails, place by place.
 pub fn kept_values_are_opened()
     ensures now { (k : Keying) (c : Content) (n : ℕ) → n + 1 < length c.base → present (opened_content k c) n ≡ opened_single k n (present c n) }
@@ -53,13 +53,13 @@ pub fn crash_images_are_opened()
 
 /// A provider that stands on a disk upon a provider keeps, if power fails below, all that is promised of one on any
 /// disk: where these events were logged below while these steps were done above, each logical sector of an image that
-/// is left after the first t events reads, opened_single by both, as the writings of its cells say.
+/// is left after the first t events reads, opened by both, as the writings of its cells say.
 pub fn crashes_below_are_read_above()
     ensures { (k j : Keying) (c : Content) (events : List Event) (steps : List Step) (t sector : ℕ) →
         AreStepsOver k c events steps → IsKeying j → sector < content_media j (opened_content k c) → EnduresBelow k j c events steps t sector }
 {}
 
-/// A disk upon a provider on an image that survived has the opened_single image. A provider attached upon it then reads, again
+/// A disk upon a provider on an image that survived has the opened image. A provider attached upon it then reads, again
 /// and again, as the writings say that the image below chose from the cells: those of the steps done above before the
 /// crash.
 pub fn survivors_below_are_read_above<D: Disk>()

@@ -167,7 +167,6 @@ pub fn sweep<D: Disk>(
 ) -> Result<Swept, DiskFailed>
     requires on { on.old.keying.auth ≢ Off }
     requires place { start ≤ media on.old.keying (D.state on.old.disk) }
-    requires some { 1 ≤ count }
     requires room { request_limit ≤ length found.old }
     ensures answer { let s : Sweep = record { keying = on.old.keying; media = media on.old.keying (D.state on.old.disk); start = start; count = count } in
         SweepAnswers s found.old found.new result (D.state on.old.disk) (D.state on.new.disk) }

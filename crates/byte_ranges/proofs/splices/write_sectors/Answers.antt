@@ -1,12 +1,9 @@
-use Rattle.std.proofs.Common.{◌≡◌, ◌∙◌, ℕ, ◌*◌, ◌/◌, ◌%◌, ◌≤◌, length, ap, arith}
-use Rattle.std.proofs.Math.Nat.{mul-div_cancel, mul-mod_left}
+use Rattle.std.proofs.Common.{◌∙◌, ℕ, ◌%◌, length, ap}
+use Rattle.std.proofs.Math.Nat.{mul-mod_left}
 use Rattle.provider.specs.Answers.{request}
+use Rattle.byte_ranges.proofs.Reading.{as_many}
 use Rattle.byte_ranges.proofs.Writing.{cannot_write}
 use Rattle.byte_ranges.proofs.splices.write_sectors.Goals as goal
-
--- so many sectors have so many bytes
-as_many : (n size all : ℕ) → all ≡ n * size → 512 ≤ size → all / size ≡ n
-as_many n size all are wide = ap (λ (m : ℕ). m / size) are ∙ mul-div_cancel n {n = size} (omega (arith, wide))
 
 pub write-requires-clause-whole : goal.write-requires-clause-whole
 write-requires-clause-whole g c =

@@ -1,4 +1,4 @@
-use Rattle.std.proofs.Common.{◌≡◌, ℕ, List, [], get_or, map, drop, rules, subst, sym, take, ◌+◌}
+use Rattle.std.proofs.Common.{◌≡◌, ◌∙◌, ℕ, List, [], get_or, map, drop, rules, subst, sym, take, ◌+◌}
 use Rattle.std.specs.Prelude.{string_bytes}
 use Rattle.std.proofs.lemmas.List.{map_more}
 use Rattle.std.proofs.lemmas.List.Elements.{All-push}
@@ -20,6 +20,7 @@ loop-name-preserved g c =
           (one_more g.O.Opener g.O.File.ImageFile c.args.changes _ _ _ disk (opening c.args.opener.now []) middle new
           c.loop-name.invariant.opens (subst P c.as_str.ensures.value c.in_ok-open_image.ensures.opens));
       tells = rw c.in_ok-push.ensures.items (All-push (TellsImage g.O.File.ImageFile.told) c.loop-name.disks.items disk c.loop-name.invariant.tells c.in_ok-open_image.ensures.tells);
+      told = c.open_image.ensures.told ∙ c.loop-name.invariant.told;
     }
 
 pub returns-in_err-open_image-clause-asked_part : goal.returns-in_err-open_image-clause-asked_part

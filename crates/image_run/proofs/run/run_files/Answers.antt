@@ -5,7 +5,7 @@ use Rattle.geli_core.proofs.ImageNames.{images_fit}
 use Rattle.geli_core.proofs.Lawful.{run_ends}
 use Rattle.geli_core.proofs.Said.{names_said}
 use Rattle.image_layers.proofs.Opened.{as_many, nothing_asked}
-use Rattle.file_edge.specs.Names.{Names}
+use Rattle.file_edge.specs.Names.{NamedFiles}
 use Rattle.image_run.specs.Program.{new_cabinet}
 use Rattle.image_run.proofs.Ended.{read_failed, write_failed}
 use Rattle.image_run.proofs.Images.{opened_told, over_new, same_outside}
@@ -39,7 +39,7 @@ returns-in-Ok-run_over-clause-runs g c =
     let ran = rw (now.0, now.1, now.2, now.3) at (c.in-Ok-run_over.ensures.runs words says) in
     let opens = rw (same_changes words _ says, names_said words _ says) at c.in_ok-names.ensures.opens in
     let told = opened_told g.O.Opener g.O.File.ImageFile _ _ opened.disks.items opened.files.images.items opened.entropy c.args.opener opened.files.opener opens in
-    let files_told = c.in_ok-names.ensures.files ∙ ap (λ (t : Option Names). new_cabinet opened.files.images.items t) told.0 in
+    let files_told = c.in_ok-names.ensures.files ∙ ap (λ (t : Option NamedFiles). new_cabinet opened.files.images.items t) told.0 in
     let begun = same_outside _ _ _ _ _ _ files_told c.in_ok-names.ensures.random in
     let over = over_new words _ _ _ _ _ _ _ named begun ran in
     let files : c.files-2-1.given.0 ≡ c.run_over.new.outside.files.now = search rules in
@@ -102,3 +102,14 @@ returns-clause-asked g c =
       random = opened.entropy;
       opens = rw handed opens;
     })
+
+pub returns-clause-told : goal.returns-clause-told
+returns-clause-told g c =
+    let opened = c.in_ok-names.field-0 in
+    let told = opened_told g.O.Opener g.O.File.ImageFile _ _ opened.disks.items opened.files.images.items opened.entropy c.args.opener opened.files.opener c.in_ok-names.ensures.opens in
+    let now = c.new-outside.ensures.now in
+    let nothing = c.in-Err.ensures.nothing in
+    let left : c.run_over.new.outside.files.now ≡ opened.files = nothing.2 ∙ now.2 in
+    let files : c.files-2-1.given.0 ≡ c.run_over.new.outside.files.now = search rules in
+    let handed : c.into_opener.result ≡ opened.files.opener = rw (files, left) at c.into_opener.ensures in
+    ap g.O.Opener.told handed ∙ told.0

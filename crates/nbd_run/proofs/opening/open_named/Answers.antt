@@ -1,4 +1,4 @@
-use Rattle.std.proofs.Common.{◌≡◌, ◌∷◌, [], List, ap, refl, subst, sym}
+use Rattle.std.proofs.Common.{List, refl, subst}
 use Rattle.file_edge.specs.declared.found.FileId.{FileId}
 use Rattle.image_layers.specs.Images.{OpensImageDisk, opening}
 use Rattle.nbd_run.proofs.opening.open_named.Goals as goal

@@ -8,5 +8,5 @@ returns g c = record {
   denied = c.serve-end.result.3;
   flushed = c.serve-end.result.2;
   session = c.serve-end.ensures;
-  status_is = c.status_of.ensures ∙ ap (session_status c.serve-end.result.0 c.serve-end.result.3) c.is_ok.ensures.value;
+  status_is = c.session_status.ensures ∙ ap (session_status c.serve-end.result.0 c.serve-end.result.3) c.is_ok.ensures.value;
 }

@@ -1,5 +1,6 @@
-use Rattle.std.proofs.Common.{◌∙◌, Ok, Err, ap, sym}
+use Rattle.std.proofs.Common.{◌∙◌, Err, ap, sym}
 use Rattle.std.proofs.lemmas.Result.{err_from_is_err_and}
+use Rattle.nbd_session.specs.Options.{ClientOption}
 use Rattle.nbd_session.proofs.Negotiating.{answer_cut, answer_given, many_data, no_data, no_head, one_answered}
 use Rattle.nbd_session.proofs.negotiation.answer_option.Goals as goal
 
@@ -22,30 +23,16 @@ returns-in_err-fill-2 g c =
 pub returns-in_err-give_answer : goal.returns-in_err-give_answer
 returns-in_err-give_answer g c =
     let p = err_from_is_err_and c.from_residual-in_err-give_answer.result c.from_residual-in_err-give_answer.ensures.1 in
-    let export = c.args.export.now in
-    let client = c.args.client.now in
-    let option = c.in-Some.option in
+    let o : ClientOption = record { head = c.fill.new.into; code = c.in-Some.option.code; bytes = c.fill-2.new.into } in
     let taken = sym c.if-not-is_taken.ensures in
-    let sink = g.K.Sink.state c.args.output.now in
-    let after = g.K.Sink.state c.give_answer.new.output in
-    let bytes = c.fill-2.new.into in
-    one_answered export client c.fill.new.into bytes option (g.S.Source.state c.args.input.now) (g.S.Source.state c.fill.new.input) (g.S.Source.state c.fill-2.new.input) sink
-    c.from_residual-in_err-give_answer.result after c.fill.auto.into (sym c.option_head_in.ensures ∙ c.in-Some.is) taken (many_data client option c.args.room.now bytes taken c.requires c.fill-2.auto.into)
-    c.in_ok-fill.ensures c.in_ok-fill-2.ensures
-    (answer_cut export client (record { head = c.fill.new.into; code = option.code; bytes = bytes }) c.option_kind-kind.result c.in_err-give_answer.field-0.0 c.from_residual-in_err-give_answer.result sink after
-    (p.1 ∙ ap Err p.2) c.option_kind-kind.ensures c.in_err-give_answer.ensures)
+    one_answered c.fill.auto.into (sym c.option_head_in.ensures ∙ c.in-Some.is) taken (many_data c.args.client.now c.in-Some.option c.args.room.now c.fill-2.new.into taken c.requires c.fill-2.auto.into) c.in_ok-fill.ensures c.in_ok-fill-2.ensures
+    (answer_cut c.args.export.now c.args.client.now o c.option_kind-kind.result c.in_err-give_answer.field-0.0 c.from_residual-in_err-give_answer.result (g.K.Sink.state c.args.output.now)
+    (g.K.Sink.state c.give_answer.new.output) (p.1 ∙ ap Err p.2) c.option_kind-kind.ensures c.in_err-give_answer.ensures)
 
 pub returns : goal.returns
 returns g c =
-    let export = c.args.export.now in
-    let client = c.args.client.now in
-    let option = c.in-Some.option in
+    let o : ClientOption = record { head = c.fill.new.into; code = c.in-Some.option.code; bytes = c.fill-2.new.into } in
     let taken = sym c.if-not-is_taken.ensures in
-    let sink = g.K.Sink.state c.args.output.now in
-    let after = g.K.Sink.state c.give_answer.new.output in
-    let bytes = c.fill-2.new.into in
-    one_answered export client c.fill.new.into bytes option (g.S.Source.state c.args.input.now) (g.S.Source.state c.fill.new.input) (g.S.Source.state c.fill-2.new.input) sink
-    (Ok c.outcome_of.result) after c.fill.auto.into (sym c.option_head_in.ensures ∙ c.in-Some.is) taken (many_data client option c.args.room.now bytes taken c.requires c.fill-2.auto.into)
-    c.in_ok-fill.ensures c.in_ok-fill-2.ensures
-    (answer_given export client (record { head = c.fill.new.into; code = option.code; bytes = bytes }) c.option_kind-kind.result c.outcome_of.result sink after
+    one_answered c.fill.auto.into (sym c.option_head_in.ensures ∙ c.in-Some.is) taken (many_data c.args.client.now c.in-Some.option c.args.room.now c.fill-2.new.into taken c.requires c.fill-2.auto.into) c.in_ok-fill.ensures c.in_ok-fill-2.ensures
+    (answer_given c.args.export.now c.args.client.now o c.option_kind-kind.result c.outcome_of.result (g.K.Sink.state c.args.output.now) (g.K.Sink.state c.give_answer.new.output)
     c.option_kind-kind.ensures c.outcome_of.ensures c.in_ok-give_answer.ensures)

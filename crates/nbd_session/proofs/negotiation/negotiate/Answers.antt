@@ -1,7 +1,7 @@
 use Rattle.std.proofs.Common.{◌∙◌, ℕ, List, Err, ap, subst}
 use Rattle.std.proofs.lemmas.Result.{err_from_is_err_and}
 use Rattle.block_traits.specs.Streams.{TookAll}
-use Rattle.nbd_session.specs.Streams.{Gives}
+use Rattle.nbd_session.specs.Streams.{GivesBytes}
 use Rattle.nbd_session.proofs.Negotiating.{negotiated, no_client_known, no_greeting}
 use Rattle.nbd_session.proofs.negotiation.negotiate.Goals as goal
 
@@ -12,7 +12,7 @@ returns-in_err-give_all g c =
     let sink = g.K.Sink.state c.args.output.now in
     let after = g.K.Sink.state c.give_all.new.output in
     no_greeting c.args.export.now end c.from_residual.result (g.S.Source.state c.args.input.now) sink after (p.1 ∙ ap Err p.2)
-    (subst (λ (l : List ℕ). Gives l sink (Err end) after) c.greeting.ensures c.in_err-give_all.ensures)
+    (subst (λ (l : List ℕ). GivesBytes l sink (Err end) after) c.greeting.ensures c.in_err-give_all.ensures)
 
 pub returns-in_err-client : goal.returns-in_err-client
 returns-in_err-client g c =

@@ -2,7 +2,7 @@ use Rattle.std.proofs.Common.{◌≡◌, ℕ, ◌+◌, ◌-◌, ◌≤◌, ◌++
 use Rattle.nbd_words.specs.Transmission.{reply_head}
 use Rattle.nbd_words.specs.declared.transmission.ReplyError.TheVariants.{Done, Failed}
 use Rattle.nbd_session.specs.Requests.{side_of}
-use Rattle.nbd_session.specs.Streams.{Gives}
+use Rattle.nbd_session.specs.Streams.{GivesBytes}
 use Rattle.nbd_session.proofs.Serving.{gives-bare, many_of, read_bytes, read_done, read_failed}
 use Rattle.nbd_session.proofs.served.serve_good_read.Goals as goal
 
@@ -31,6 +31,6 @@ returns-clause-answers g c =
       error = Done;
       bytes = take q.length (drop cover.skip into);
       reads = read_done (side_of c.args.provider.now) q c.range_of.result cover.skip into (g.D.Disk.state c.args.provider.now.disk) (g.D.Disk.state c.read_range.new.provider.disk) c.range_of.ensures c.requires.may c.if-not-read_range.ensures.reads;
-      gives = subst (λ (l : List ℕ). Gives (reply_head Done q.cookie ++ l) (g.K.Sink.state c.args.output.now) c.give_bytes.result (g.K.Sink.state c.give_bytes.new.output))
+      gives = subst (λ (l : List ℕ). GivesBytes (reply_head Done q.cookie ++ l) (g.K.Sink.state c.args.output.now) c.give_bytes.result (g.K.Sink.state c.give_bytes.new.output))
           (read_bytes cover.skip q.length (16 + cover.whole - 16) room into large inside) c.give_bytes.ensures.gives;
     }

@@ -1,12 +1,9 @@
-use Rattle.std.proofs.Common.{◌≡◌, ◌∙◌, inl, ℕ, ◌+◌, ◌-◌, ◌%◌, ◌<◌, ◌≤◌, List, length, take, drop, arith, length-drop, length-take-le}
+use Rattle.std.proofs.Common.{◌≡◌, ◌∙◌, inl, ℕ, ◌+◌, ◌-◌, ◌%◌, ◌<◌, ◌≤◌, List, length, take, drop, arith}
 use Rattle.std.proofs.lemmas.Nat.{mod_below}
 use Rattle.nbd_session.specs.Requests.{side_of}
-use Rattle.nbd_session.proofs.Serving.{payload_there, written_there}
+use Rattle.nbd_session.proofs.Serving.{many_of, payload_there, written_there}
 use borrow.Rule.Slice.PartMut.{mid_of, put_mid}
 use Rattle.nbd_session.proofs.served.serve_write.Goals as goal
-
-many_of : (a n most : ℕ) (room : List ℕ) → length room ≡ most → a + n ≤ most → length (mid_of a (a + n - a) room) ≡ n
-many_of a n most room are inside = length-take-le (a + n - a) (drop a room) (omega (arith, length-drop a room, are, inside)) ∙ omega arith
 
 pub returns-clause-serves : goal.returns-clause-serves
 returns-clause-serves g c =

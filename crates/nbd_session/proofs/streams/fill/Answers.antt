@@ -1,5 +1,5 @@
 use Rattle.std.proofs.Common.{◌≡◌, ℕ, ◌-◌, length, arith}
-use Rattle.nbd_session.proofs.Filling.{Gave-then, take-filled}
+use Rattle.nbd_session.proofs.Filling.{SourceGave-then, take-filled}
 use borrow.Rule.Slice.PartMut.{mid_of, same_len_mid}
 use Rattle.nbd_session.proofs.streams.fill.Goals as goal
 
@@ -14,5 +14,5 @@ taken-preserved g c =
     record {
       inside = omega (arith, c.taken.invariant.inside, same, bound, many);
       gave = rw (take-filled a (length xs - a) c.in-Ok.count xs ys c.taken.invariant.inside bound)
-          (Gave-then c.taken.invariant.gave (record { left = c.in-Ok.ensures.bytes; later = c.in-Ok.ensures.cause.later }));
+          (SourceGave-then c.taken.invariant.gave (record { left = c.in-Ok.ensures.bytes; later = c.in-Ok.ensures.cause.later }));
     }

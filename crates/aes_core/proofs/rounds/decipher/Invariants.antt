@@ -1,7 +1,0 @@
-use Rattle.std.proofs.Common.{◌≡◌}
-use Rattle.aes_core.specs.Aes.{after_inverse_rounds}
-use Rattle.aes_core.specs.Columns.{words_of}
-use Rattle.aes_core.proofs.rounds.decipher.Given as goal
-
-abbrev pub invariant-loop-n : goal.invariant-loop-n
-invariant-loop-n l = l.w ≡ words_of (after_inverse_rounds l.keys l.count l.block l.n)

@@ -1,0 +1,11 @@
+use Rattle.std.proofs.Common.{refl, string_bytes}
+use Rattle.nbd_run.proofs.Imaged.{served_image}
+use Rattle.nbd_run.proofs.run.serve_asked.Goals as goal
+
+pub returns-in-Ok-open_asked-clause-serves : goal.returns-in-Ok-open_asked-clause-serves
+returns-in-Ok-open_asked-clause-serves g c = λ words wish asks.
+    let opened = c.in-Ok-open_asked.opened in
+    let opens = c.in-Ok-open_asked.ensures in
+    served_image g.O.Opener g.O.File.ImageFile words c.args.opener opened.files.opener (string_bytes c.args.asked.name) c.args.asked.line.items c.args.asked.command
+    opened.disk opened.files.images.items opened.entropy _ _ wish asks opens.opens opens.tells opens.files opens.random
+    (λ d. refl) _ _ _ _ _ _ _ _ _ _ c.serve_opened.ensures

@@ -10,13 +10,12 @@ In the second form nbdkit stands between for the clients of a socket, so that th
 the provider is attached and the socket is there, and runs on in the background; `pid` has its number. SIGTERM, SIGINT
 or SIGHUP to it let nobody new in, and end the server once nobody is connected: `clients` has the numbers of the
 processes that are, a line for each, 0 where that isn't known. Those signals to nbdkit and geli-nbd do nothing. Where it
-is killed they end too.
+is killed they end too, once nobody is connected.
 
 `ended` gets `ok` in the end, or what went wrong. geli-nbd flushes the provider however its client ends, and its status
 tells whether any write or flush was refused.
 """
 import contextlib
-import ctypes
 import os
 import signal
 import socket
@@ -27,7 +26,6 @@ from pathlib import Path
 
 from lib import Failed, files_of, note, seen, told
 
-LIBC, PR_SET_PDEATHSIG = ctypes.CDLL(None), 1
 SIGNALS = {signal.SIGTERM, signal.SIGINT, signal.SIGHUP}
 CONNECTED = "03"  # of a row of /proc/net/unix
 STATUSES = {
@@ -64,12 +62,6 @@ def in_child():
     signal.pthread_sigmask(signal.SIG_BLOCK, SIGNALS)
 
 
-def in_nbdkit():
-    """In nbdkit for a socket: it would refuse its clients after a SIGTERM. It ends with this process."""
-    in_child()
-    LIBC.prctl(PR_SET_PDEATHSIG, signal.SIGKILL)
-
-
 class Server:
     """A geli-nbd, and nbdkit in front of it where that is needed."""
 
@@ -78,26 +70,30 @@ class Server:
         self.files = list(map(os.path.realpath, files_of(command[-1])))  # the folder is another later
         self.geli = self.nbdkit = None
 
-    def filters(self):
-        return ["--filter=partition"] if "partition" in self.words else []
-
     def start_geli(self, **streams):
         # Who waits for the end of all behind a mount, by a lock that they inherit, waits for geli-nbd too.
         self.geli = subprocess.Popen(self.command, stderr=subprocess.PIPE, preexec_fn=in_child,
                                      close_fds="socket" in self.words, **streams)
 
-    def start_behind_nbdkit(self, in_nbdkit, *how):
-        """Starts geli-nbd on a socket, waits until it has attached the provider, and starts nbdkit over it."""
+    def start_behind_nbdkit(self, *options, ends_with=None):
+        """Starts geli-nbd on a socket, waits until it has attached the provider, and starts nbdkit over it. That ends
+        once nobody is connected and the pipe `ends_with` has ended."""
         front, back = socket.socketpair()
         with front:
             with back:
                 self.start_geli(stdin=back, stdout=back)
             if not front.recv(1, socket.MSG_PEEK):
                 return
-            parts = [f"partition={self.words['partition']}"] if "partition" in self.words else []
-            self.nbdkit = subprocess.Popen(
-                ["nbdkit", *how, *self.filters(), "nbd", f"socket-fd={front.fileno()}", *parts],
-                preexec_fn=in_nbdkit, pass_fds=[front.fileno()])
+            words, kept = [f"socket-fd={front.fileno()}"], [front.fileno()]
+            if ends_with:
+                options += ("--filter=exitwhen",)
+                words += [f"exit-when-pipe-closed={ends_with}", "exit-when-poll=1"]
+                kept.append(ends_with)
+            if "partition" in self.words:
+                options += ("--filter=partition",)
+                words.append(f"partition={self.words['partition']}")
+            # Its clients would be refused after a SIGTERM.
+            self.nbdkit = subprocess.Popen(["nbdkit", *options, "nbd", *words], preexec_fn=in_child, pass_fds=kept)
 
     def wait(self):
         """Waits for the end of both, and writes down how it went; what it wrote down."""
@@ -112,7 +108,7 @@ class Server:
 def serve_streams(server):
     """Serves the client on the standard streams."""
     if "partition" in server.words:
-        server.start_behind_nbdkit(in_child, "-s")
+        server.start_behind_nbdkit("-s")
     else:
         server.start_geli()
     # The client is the other end's alone, so that its end is seen.
@@ -161,7 +157,9 @@ def serve_socket(server):
         return 0
     signal.pthread_sigmask(signal.SIG_BLOCK, SIGNALS | {signal.SIGCHLD})
     words, path = server.words, server.words["socket"]
-    server.start_behind_nbdkit(in_nbdkit, "-f", "-U", path)
+    ends_with, _ = os.pipe()  # where this process is killed
+    server.start_behind_nbdkit("-f", "-U", path, ends_with=ends_with)
+    os.close(ends_with)
     while server.nbdkit and server.nbdkit.poll() is None and not os.path.exists(path):
         time.sleep(0.02)
     if not server.nbdkit or server.nbdkit.poll() is not None:

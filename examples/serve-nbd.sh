@@ -106,13 +106,12 @@ key_ready
 
 # It goes to the background once the provider is attached; no key file is needed any more then. A session of its own
 # keeps it running when the terminal is closed. Where this is broken off before, nobody has asked it to write yet.
-setsid python3 -B "$library/nbd_server.py" ended="$socket.ended" "${partition[@]}" socket="$socket" \
-    clients="$socket.clients" pid="$socket.pid" -- "$(command -v "$GELI_NBD")" "${readonly[@]}" "${key[@]}" "$image" &
-server=$!
 left() {
-    kill -KILL -- "-$server" 2>/dev/null || :
+    [ -z "${!:-}" ] || kill -KILL -- "-$!" "$!" 2>/dev/null || : # it may have no session yet
     rm -f -- "$socket" "$socket.pid" "$socket.ended" "$socket.clients"
 }
-wait "$server" || fail 'nothing is served'
+setsid python3 -B "$library/nbd_server.py" ended="$socket.ended" "${partition[@]}" socket="$socket" \
+    clients="$socket.clients" pid="$socket.pid" -- "$(command -v "$GELI_NBD")" "${readonly[@]}" "${key[@]}" "$image" &
+wait "$!" || fail 'nothing is served'
 path=$(python3 -c 'import sys, urllib.parse; print(urllib.parse.quote(sys.argv[1]))' "$socket")
 note "$1: served at nbd+unix:///?socket=$path until $program -e $(printf %q "$2")"

@@ -316,6 +316,33 @@ case_kernel() { # -K: the kernel's ext4
     says "SIGKILL to the keeper at $rounds moments of mounting by -K leaves nothing, and it is clean" test $wrong = 0
 }
 
+case_partition() { # a filesystem in a partition of the data: nbdkit stands between
+    have nbdkit sfdisk || { echo "not tried: a partition (no nbdkit and sfdisk)"; return; }
+    local who
+    "$make" -i 100 -J pass 40M p.img key p.backup 2>notes
+    truncate -s 36M table.raw && printf 'label: dos\nstart=2048\n' | sfdisk -q table.raw
+    "$in" -k key -j pass table.raw p.img 2>notes
+    says "-n mounts what is in a partition, in which -m makes an ext4" up -n 1 -m p.img
+    head -c 3M /dev/urandom >three && cp three files/by-u
+    says "  and it ends" down
+    says "  with nothing left" nothing_left p.img
+    says "  and mounts again" up -n 1 p.img
+    cp three files/by-signal
+    kill -TERM $(behind)
+    says "  and SIGTERM to all ends it in order" nothing_left p.img
+    for who in all server; do
+        says "  so that nothing is mended" test "$(up -n 1 p.img; grep -c 'was mended' notes)" = 0
+        cp three "files/by-$who" && sync "files/by-$who" && sleep 1
+        kill -KILL $(if [ $who = all ]; then behind; else process_of server; fi)
+        says "  and SIGKILL to $who is told" test "$(down; echo $?)" = 1
+        says "  with nothing left" nothing_left p.img 5
+        says "  and it mounts again" up -n 1 p.img
+        says "  with its files" eval 'for it in files/by-*; do cmp three "$it" || exit 1; done'
+        says "  and ends" down
+    done
+    says "  with the table as it was" cmp -n 512 table.raw <("$out" -b 512 -k key -j pass p.img first 2>notes; cat first)
+}
+
 case_full() { # a full disk, that gets room again or not
     mkdir -p small
     command mount -t tmpfs -o size=20M small small 2>notes || { echo "not tried: a full disk (no tmpfs)"; return; }
@@ -393,12 +420,25 @@ EOS
         says "  and they are there" test "$(tail -c +$(((20 << 20) + 4097)) raw | head -c 12288 | tr -d b | wc -c)" = 0
         rm -f raw
     done
+    server -k key -j pass m.img sock
+    timeout 60 nbdsh -u "$uri" -c 'import time; time.sleep(3); h.pwrite(b"c" * 4096, 20 << 20); h.flush()' 2>client.out &
+    client=$!
+    sleep 1
+    kill -KILL "$(cat sock.pid)"
+    says "after SIGKILL to who waits for a server its client is served" wait "$client"
+    says "  and it is told" test "$(server -e sock; echo $?)" = 1
+    says "  and nothing is left" nothing_left m.img 5
+    server -k key -j pass m.img sock
+    kill -KILL "$(cat sock.pid)"
+    says "  and without a client it ends at once" nothing_left m.img 5
+    server -e sock
     "$make" -i 300000 -J pass 20M i.img key i.backup 2>notes
     for ((at = 0; at < rounds; at++)); do
         GELI_MOUNTS=$folder/mounts timeout -s INT "$(share "0.05 + $at / $rounds * 3")" \
             "$serve" -k key -j pass i.img sock 2>notes
         [ ! -e sock.pid ] || server -e sock || wrong=$((wrong + 1))
-        nothing_left i.img && [ -z "$(ls sock* 2>/dev/null)" ] || { wrong=$((wrong + 1)) && ls sock*; rm -f sock*; }
+        nothing_left i.img && [ -z "$(ls sock* 2>/dev/null)" ] ||
+            { wrong=$((wrong + 1)) && ls sock*; sweep; rm -f sock*; }
     done
     says "an interrupt of serve-nbd.sh at $rounds moments leaves nothing" test $wrong = 0
 }
@@ -898,8 +938,8 @@ GELI_NBD=$(readlink -f "${GELI_NBD:-$top/geli-nbd}")
 export GELI GELI_NBD
 [ $# = 0 ] || shift
 names=("$@")
-[ ${#names[@]} -gt 0 ] || names=(rest sync fio large kernel full serve slow stalled damaged interrupt by_hand programs
-    namespace signals shutdown moments kill)
+[ ${#names[@]} -gt 0 ] || names=(rest sync fio large kernel partition full serve slow stalled damaged interrupt by_hand
+    programs namespace signals shutdown moments kill)
 work=$(mktemp -d)
 folder=$work/none failures=0
 at_end() {

@@ -1,3 +1,4 @@
 pub mod Xts
 pub mod Halves
 pub mod Examples
+pub mod Ways

@@ -1,20 +1,28 @@
 //! XTS on sixteen blocks at a time, by planes of either width, and on eight (IEEE 1619, 5.3 and 5.4).
 
-ghost use Rattle.std.specs.Prelude.{◌≡◌, ◌<◌, ◌≤◌, ◌+◌, ◌*◌, ℕ, length};
+ghost use Rattle.std.specs.Prelude.{◌≡◌, ◌<◌, ◌≤◌, ◌+◌, ◌*◌, ◌/◌, ◌%◌, ℕ, length};
 ghost use Rattle.std.specs.Int.{w128, to_le_bytes};
-ghost use Rattle.aes_core.specs.Aes.{encrypt, decrypt};
-ghost use Rattle.aes_core.specs.Blocks.{block};
-ghost use Rattle.aes_planes.specs.Blocks.{vector_at};
+ghost use Rattle.aes_core.specs.Blocks.{block, blocks};
+ghost use Rattle.aes_planes.specs.Blocks.{AreStates, vector_at};
 ghost use Rattle.aes_planes.specs.Wide.{AreWide, side};
 ghost use Rattle.xts_mode.specs.Halves.{of_halves};
-ghost use Rattle.xts_mode.specs.Xts.{tweak_at, tweaked_block};
+ghost use Rattle.xts_mode.specs.Ways.{aes_by};
+ghost use Rattle.xts_mode.specs.Xts.{first_tweak, tweak_at, tweaked_block};
 
-use crate::doubling::doubled;
+use crate::doubling::{doubled, first_tweak, halves};
+use aes_core::Schedule;
 use aes_planes::{
     Planes, SlicedSchedule, WIDE, WidePlanes, loaded, pair, store, summed, wide_loaded, wide_store,
     wide_summed,
 };
 use std::simd::prelude::*;
+
+/// Which of the two is done: AES is enciphered between the tweaks (5.3), or deciphered (5.4).
+#[derive(Clone, Copy)]
+pub enum Way {
+    Seal,
+    Open,
+}
 
 // The tweaks of eight blocks, and the tweak of the block after them.
 #[derive(Clone, Copy)]
@@ -53,33 +61,31 @@ fn tweaks_from(t: u64x2) -> Tweaks
     }
 }
 
-// Enciphers eight blocks in place, the first of which has this tweak. The answer is the tweak of the block after them.
-#[inline(never)]
-fn seal_group(k1: &SlicedSchedule, t: u64x2, group: &mut [u8]) -> u64x2
-    requires eight { length group.old ≡ 128 }
-    requires long { length t ≡ 2 }
-    ensures sealed { (j : ℕ) → j < 8 → block group.new j ≡ tweaked_block (encrypt k1.now) (of_halves t) group.old j }
-    ensures next { of_halves result ≡ tweak_at (of_halves t) 8 }
-    ensures long { length result ≡ 2 }
+// Eight blocks, one in each vector, enciphered or deciphered.
+#[inline(always)]
+fn ciphered(way: Way, k1: &SlicedSchedule, q: Planes) -> Planes
+    requires { AreStates q }
+    ensures { (j : ℕ) → j < 8 → vector_at result j ≡ aes_by way k1.now (vector_at q j) }
 {
-    let tweaks = tweaks_from(t);
-    let plain = summed(loaded(group), tweaks.masks);
-    store(summed(k1.encrypted(plain), tweaks.masks), group);
-    tweaks.next
+    match way {
+        Way::Seal => k1.encrypted(q),
+        Way::Open => k1.decrypted(q),
+    }
 }
 
-// Deciphers eight blocks in place, the first of which has this tweak. The answer is the tweak of the block after them.
+// Seals or opens eight blocks in place, the first of which has this tweak. The answer is the tweak of the block after
+// them.
 #[inline(never)]
-fn open_group(k1: &SlicedSchedule, t: u64x2, group: &mut [u8]) -> u64x2
+fn cipher_group(way: Way, k1: &SlicedSchedule, t: u64x2, group: &mut [u8]) -> u64x2
     requires eight { length group.old ≡ 128 }
     requires long { length t ≡ 2 }
-    ensures opened { (j : ℕ) → j < 8 → block group.new j ≡ tweaked_block (decrypt k1.now) (of_halves t) group.old j }
+    ensures done { (j : ℕ) → j < 8 → block group.new j ≡ tweaked_block (aes_by way k1.now) (of_halves t) group.old j }
     ensures next { of_halves result ≡ tweak_at (of_halves t) 8 }
     ensures long { length result ≡ 2 }
 {
     let tweaks = tweaks_from(t);
-    let cipher = summed(loaded(group), tweaks.masks);
-    store(summed(k1.decrypted(cipher), tweaks.masks), group);
+    let before = summed(loaded(group), tweaks.masks);
+    store(summed(ciphered(way, k1, before), tweaks.masks), group);
     tweaks.next
 }
 
@@ -145,168 +151,119 @@ fn wide_tweaks_from(t: u64x2) -> WideTweaks
     }
 }
 
-// Enciphers sixteen blocks in place by wide planes.
+// Sixteen blocks, two in each vector, enciphered or deciphered.
+#[inline(always)]
+fn wide_ciphered(way: Way, k1: &SlicedSchedule, q: WidePlanes) -> WidePlanes
+    requires { AreWide q }
+    ensures sides { (i : ℕ) → i < 2 → (j : ℕ) → j < 8 →
+        vector_at (side i result) j ≡ aes_by way k1.now (vector_at (side i q) j) }
+    ensures wide { AreWide result }
+{
+    match way {
+        Way::Seal => k1.wide_encrypted(q),
+        Way::Open => k1.wide_decrypted(q),
+    }
+}
+
+// Seals or opens sixteen blocks in place by wide planes.
 #[inline(never)]
-fn seal_wide(k1: &SlicedSchedule, t: u64x2, group: &mut [u8]) -> u64x2
+fn cipher_wide(way: Way, k1: &SlicedSchedule, t: u64x2, group: &mut [u8]) -> u64x2
     requires sixteen { length group.old ≡ 256 }
     requires long { length t ≡ 2 }
-    ensures sealed { (j : ℕ) → j < 16 → block group.new j ≡ tweaked_block (encrypt k1.now) (of_halves t) group.old j }
+    ensures done { (j : ℕ) → j < 16 → block group.new j ≡ tweaked_block (aes_by way k1.now) (of_halves t) group.old j }
     ensures next { of_halves result ≡ tweak_at (of_halves t) 16 }
     ensures long { length result ≡ 2 }
 {
     let tweaks = wide_tweaks_from(t);
     let before = wide_summed(wide_loaded(group), tweaks.masks);
-    wide_store(wide_summed(k1.wide_encrypted(before), tweaks.masks), group);
+    wide_store(
+        wide_summed(wide_ciphered(way, k1, before), tweaks.masks),
+        group,
+    );
     tweaks.next
 }
 
-// Enciphers sixteen blocks in place, eight after eight.
-fn seal_twice(k1: &SlicedSchedule, t: u64x2, group: &mut [u8]) -> u64x2
+// Seals or opens sixteen blocks in place, eight after eight.
+fn cipher_twice(way: Way, k1: &SlicedSchedule, t: u64x2, group: &mut [u8]) -> u64x2
     requires sixteen { length group.old ≡ 256 }
     requires long { length t ≡ 2 }
-    ensures sealed { (j : ℕ) → j < 16 → block group.new j ≡ tweaked_block (encrypt k1.now) (of_halves t) group.old j }
+    ensures done { (j : ℕ) → j < 16 → block group.new j ≡ tweaked_block (aes_by way k1.now) (of_halves t) group.old j }
     ensures next { of_halves result ≡ tweak_at (of_halves t) 16 }
     ensures long { length result ≡ 2 }
 {
     let mut now = t;
     for g in 0..2 {
-        now = seal_group(k1, now, &mut group[128 * g..128 * g + 128]);
+        now = cipher_group(way, k1, now, &mut group[128 * g..128 * g + 128]);
     }
     now
 }
 
-/// Enciphers sixteen blocks in place, the first of which has this tweak. The answer is the tweak of the block after
-/// them.
-pub fn seal_sixteen(k1: &SlicedSchedule, t: u64x2, group: &mut [u8]) -> u64x2
+// Seals or opens sixteen blocks in place, the first of which has this tweak. The answer is the tweak of the block
+// after them.
+fn cipher_sixteen(way: Way, k1: &SlicedSchedule, t: u64x2, group: &mut [u8]) -> u64x2
     requires sixteen { length group.old ≡ 256 }
     requires long { length t ≡ 2 }
-    ensures sealed { (j : ℕ) → j < 16 → block group.new j ≡ tweaked_block (encrypt k1.now) (of_halves t) group.old j }
+    ensures done { (j : ℕ) → j < 16 → block group.new j ≡ tweaked_block (aes_by way k1.now) (of_halves t) group.old j }
     ensures next { of_halves result ≡ tweak_at (of_halves t) 16 }
     ensures long { length result ≡ 2 }
 {
     if WIDE {
-        seal_wide(k1, t, group)
+        cipher_wide(way, k1, t, group)
     } else {
-        seal_twice(k1, t, group)
+        cipher_twice(way, k1, t, group)
     }
 }
 
-// Deciphers sixteen blocks in place by wide planes.
-#[inline(never)]
-fn open_wide(k1: &SlicedSchedule, t: u64x2, group: &mut [u8]) -> u64x2
-    requires sixteen { length group.old ≡ 256 }
-    requires long { length t ≡ 2 }
-    ensures opened { (j : ℕ) → j < 16 → block group.new j ≡ tweaked_block (decrypt k1.now) (of_halves t) group.old j }
-    ensures next { of_halves result ≡ tweak_at (of_halves t) 16 }
-    ensures long { length result ≡ 2 }
-{
-    let tweaks = wide_tweaks_from(t);
-    let before = wide_summed(wide_loaded(group), tweaks.masks);
-    wide_store(wide_summed(k1.wide_decrypted(before), tweaks.masks), group);
-    tweaks.next
-}
-
-// Deciphers sixteen blocks in place, eight after eight.
-fn open_twice(k1: &SlicedSchedule, t: u64x2, group: &mut [u8]) -> u64x2
-    requires sixteen { length group.old ≡ 256 }
-    requires long { length t ≡ 2 }
-    ensures opened { (j : ℕ) → j < 16 → block group.new j ≡ tweaked_block (decrypt k1.now) (of_halves t) group.old j }
-    ensures next { of_halves result ≡ tweak_at (of_halves t) 16 }
-    ensures long { length result ≡ 2 }
-{
-    let mut now = t;
-    for g in 0..2 {
-        now = open_group(k1, now, &mut group[128 * g..128 * g + 128]);
-    }
-    now
-}
-
-/// Deciphers sixteen blocks in place, the first of which has this tweak. The answer is the tweak of the block after
-/// them.
-pub fn open_sixteen(k1: &SlicedSchedule, t: u64x2, group: &mut [u8]) -> u64x2
-    requires sixteen { length group.old ≡ 256 }
-    requires long { length t ≡ 2 }
-    ensures opened { (j : ℕ) → j < 16 → block group.new j ≡ tweaked_block (decrypt k1.now) (of_halves t) group.old j }
-    ensures next { of_halves result ≡ tweak_at (of_halves t) 16 }
-    ensures long { length result ≡ 2 }
-{
-    if WIDE {
-        open_wide(k1, t, group)
-    } else {
-        open_twice(k1, t, group)
-    }
-}
-
-// Enciphers at most eight blocks in place.
-fn seal_few(k1: &SlicedSchedule, t: u64x2, rest: &mut [u8])
+// Seals or opens at most eight blocks in place.
+fn cipher_few(way: Way, k1: &SlicedSchedule, t: u64x2, rest: &mut [u8])
     requires few { length rest.old ≤ 128 }
     requires long { length t ≡ 2 }
-    ensures { (j : ℕ) → 16 * j + 16 ≤ length rest.old → block rest.new j ≡ tweaked_block (encrypt k1.now) (of_halves t) rest.old j }
+    ensures { (j : ℕ) → 16 * j + 16 ≤ length rest.old →
+        block rest.new j ≡ tweaked_block (aes_by way k1.now) (of_halves t) rest.old j }
 {
     let mut group = [0u8; 128];
     group[..rest.len()].copy_from_slice(rest);
-    seal_group(k1, t, &mut group);
+    cipher_group(way, k1, t, &mut group);
     rest.copy_from_slice(&group[..rest.len()]);
 }
 
-// Enciphers at most sixteen blocks in place.
-fn seal_many(k1: &SlicedSchedule, t: u64x2, rest: &mut [u8])
+// Seals or opens at most sixteen blocks in place.
+fn cipher_many(way: Way, k1: &SlicedSchedule, t: u64x2, rest: &mut [u8])
     requires few { length rest.old ≤ 256 }
     requires long { length t ≡ 2 }
-    ensures { (j : ℕ) → 16 * j + 16 ≤ length rest.old → block rest.new j ≡ tweaked_block (encrypt k1.now) (of_halves t) rest.old j }
+    ensures { (j : ℕ) → 16 * j + 16 ≤ length rest.old →
+        block rest.new j ≡ tweaked_block (aes_by way k1.now) (of_halves t) rest.old j }
 {
     let mut group = [0u8; 256];
     group[..rest.len()].copy_from_slice(rest);
-    seal_sixteen(k1, t, &mut group);
+    cipher_sixteen(way, k1, t, &mut group);
     rest.copy_from_slice(&group[..rest.len()]);
 }
 
-/// Enciphers fewer than sixteen blocks in place, the first of which has this tweak.
-pub fn seal_rest(k1: &SlicedSchedule, t: u64x2, rest: &mut [u8])
+// Seals or opens fewer than sixteen blocks in place, the first of which has this tweak.
+fn cipher_rest(way: Way, k1: &SlicedSchedule, t: u64x2, rest: &mut [u8])
     requires few { length rest.old < 256 }
     requires long { length t ≡ 2 }
-    ensures { (j : ℕ) → 16 * j + 16 ≤ length rest.old → block rest.new j ≡ tweaked_block (encrypt k1.now) (of_halves t) rest.old j }
+    ensures { (j : ℕ) → 16 * j + 16 ≤ length rest.old →
+        block rest.new j ≡ tweaked_block (aes_by way k1.now) (of_halves t) rest.old j }
 {
     if rest.len() > 128 {
-        seal_many(k1, t, rest);
+        cipher_many(way, k1, t, rest);
     } else if !rest.is_empty() {
-        seal_few(k1, t, rest);
+        cipher_few(way, k1, t, rest);
     }
 }
 
-// Deciphers at most eight blocks in place.
-fn open_few(k1: &SlicedSchedule, t: u64x2, rest: &mut [u8])
-    requires few { length rest.old ≤ 128 }
-    requires long { length t ≡ 2 }
-    ensures { (j : ℕ) → 16 * j + 16 ≤ length rest.old → block rest.new j ≡ tweaked_block (decrypt k1.now) (of_halves t) rest.old j }
+/// Seals or opens the whole blocks of the data unit of this number in place.
+pub fn cipher_unit(way: Way, k1: &SlicedSchedule, k2: &Schedule, unit: u64, block: &mut [u8])
+    requires { length block.old % 16 ≡ 0 }
+    ensures { block.new ≡
+        blocks (tweaked_block (aes_by way k1.now) (first_tweak k2.now unit) block.old) (length block.old / 16) }
 {
-    let mut group = [0u8; 128];
-    group[..rest.len()].copy_from_slice(rest);
-    open_group(k1, t, &mut group);
-    rest.copy_from_slice(&group[..rest.len()]);
-}
-
-// Deciphers at most sixteen blocks in place.
-fn open_many(k1: &SlicedSchedule, t: u64x2, rest: &mut [u8])
-    requires few { length rest.old ≤ 256 }
-    requires long { length t ≡ 2 }
-    ensures { (j : ℕ) → 16 * j + 16 ≤ length rest.old → block rest.new j ≡ tweaked_block (decrypt k1.now) (of_halves t) rest.old j }
-{
-    let mut group = [0u8; 256];
-    group[..rest.len()].copy_from_slice(rest);
-    open_sixteen(k1, t, &mut group);
-    rest.copy_from_slice(&group[..rest.len()]);
-}
-
-/// Deciphers fewer than sixteen blocks in place, the first of which has this tweak.
-pub fn open_rest(k1: &SlicedSchedule, t: u64x2, rest: &mut [u8])
-    requires few { length rest.old < 256 }
-    requires long { length t ≡ 2 }
-    ensures { (j : ℕ) → 16 * j + 16 ≤ length rest.old → block rest.new j ≡ tweaked_block (decrypt k1.now) (of_halves t) rest.old j }
-{
-    if rest.len() > 128 {
-        open_many(k1, t, rest);
-    } else if !rest.is_empty() {
-        open_few(k1, t, rest);
+    let mut t = halves(first_tweak(k2, unit));
+    let groups = block.len() / 256;
+    for g in 0..groups {
+        t = cipher_sixteen(way, k1, t, &mut block[256 * g..256 * g + 256]);
     }
+    cipher_rest(way, k1, t, &mut block[256 * groups..]);
 }

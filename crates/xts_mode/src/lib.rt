@@ -12,8 +12,7 @@ mod laws;
 
 use aes_core::Schedule;
 use aes_planes::SlicedSchedule;
-use doubling::{first_tweak, halves};
-use groups::{open_rest, open_sixteen, seal_rest, seal_sixteen};
+use groups::{Way, cipher_unit};
 pub use laws::{xts_goes_block_by_block, xts_keeps_lengths};
 
 /// Enciphers the whole blocks of one data unit in place (IEEE 1619, 5.3): `k1` is the key of the
@@ -28,20 +27,22 @@ pub fn xts_seal(k1: &Schedule, k2: &Schedule, tweak: u64, block: &mut [u8])
     xts_seal_sliced(&SlicedSchedule::new(k1), k2, tweak, block);
 }
 
+// A law: opening takes sealing back, since the schedule is that of a key.
+fn opening_takes_it_back(k1: &SlicedSchedule, k2: &Schedule, tweak: u64, plain: &[u8])
+    requires { length plain.now % 16 ≡ 0 }
+    ensures { xts_open k1.now k2.now tweak (xts_seal k1.now k2.now tweak plain.now) ≡ plain.now }
+{
+    k1.is_of_a_key();
+}
+
 /// As `xts_seal`, under planes of the data's key that were made before.
 pub fn xts_seal_sliced(k1: &SlicedSchedule, k2: &Schedule, tweak: u64, block: &mut [u8])
     requires { length block.old % 16 ≡ 0 }
     ensures sealed { block.new ≡ xts_seal k1.now k2.now tweak block.old }
     ensures taken_back { xts_open k1.now k2.now tweak block.new ≡ block.old }
 {
-    let mut t = halves(first_tweak(k2, tweak));
-    let groups = block.len() / 256;
-    for g in 0..groups {
-        t = seal_sixteen(k1, t, &mut block[256 * g..256 * g + 256]);
-    }
-    seal_rest(k1, t, &mut block[256 * groups..]);
-    // Opening takes it back since the schedule is that of a key.
-    k1.is_of_a_key();
+    opening_takes_it_back(k1, k2, tweak, block);
+    cipher_unit(Way::Seal, k1, k2, tweak, block);
 }
 
 /// Deciphers the whole blocks of one data unit in place (IEEE 1619, 5.4): `k1` is the key of the
@@ -60,12 +61,7 @@ pub fn xts_open_sliced(k1: &SlicedSchedule, k2: &Schedule, tweak: u64, block: &m
     requires { length block.old % 16 ≡ 0 }
     ensures { block.new ≡ xts_open k1.now k2.now tweak block.old }
 {
-    let mut t = halves(first_tweak(k2, tweak));
-    let groups = block.len() / 256;
-    for g in 0..groups {
-        t = open_sixteen(k1, t, &mut block[256 * g..256 * g + 256]);
-    }
-    open_rest(k1, t, &mut block[256 * groups..]);
+    cipher_unit(Way::Open, k1, k2, tweak, block);
 }
 
 /// A law: whatever is sealed opens to what it was, under every two keys and every tweak.

@@ -7,7 +7,7 @@ ghost use Rattle.aes_planes.specs.Blocks.{AreStates, block_at};
 ghost use Rattle.aes_planes.specs.Planes.{planes_of, rows, next_row, opposite_row, mixed_rows, other_rows, quadrupled_planes, with_next_row, AreLong};
 ghost use Rattle.aes_planes.specs.Wide.{AreWide, side};
 
-use crate::vectors::{Planes, WidePlanes, summed, wide_summed};
+use crate::vectors::{Planes, WidePlanes, planes, summed, wide_summed};
 use std::simd::prelude::*;
 
 const NEXT: [usize; 16] = [4, 5, 6, 7, 8, 9, 10, 11, 12, 13, 14, 15, 0, 1, 2, 3];
@@ -31,46 +31,56 @@ fn opposite(v: u8x16) -> u8x16
     v.swizzle(OPPOSITE)
 }
 
+// What MixColumns makes of a plane: the sum of each byte and the next of its column, and that of the other three.
+#[derive(Clone, Copy)]
+struct RowSums {
+    with_next: u8x16,
+    others: u8x16,
+}
+
+#[inline(always)]
+fn sums(v: u8x16) -> RowSums
+    requires { length v ≡ 16 }
+    ensures with_next { result.with_next ≡ with_next_row v }
+    ensures others { result.others ≡ other_rows v }
+{
+    let after = next(v);
+    let with_next = v ^ after;
+    let others = after ^ opposite(with_next);
+    RowSums { with_next, others }
+}
+
+// MixColumns on planes of either width.
+macro_rules! mixed {
+    ($planes:ident, $sums:ident($q:ident)) => {{
+        let s0 = $sums($q.b0);
+        let s1 = $sums($q.b1);
+        let s2 = $sums($q.b2);
+        let s3 = $sums($q.b3);
+        let s4 = $sums($q.b4);
+        let s5 = $sums($q.b5);
+        let s6 = $sums($q.b6);
+        let s7 = $sums($q.b7);
+        $planes {
+            b7: s7.others ^ s6.with_next,
+            b6: s6.others ^ s5.with_next,
+            b5: s5.others ^ s4.with_next,
+            b4: s4.others ^ s3.with_next ^ s7.with_next,
+            b3: s3.others ^ s2.with_next ^ s7.with_next,
+            b2: s2.others ^ s1.with_next,
+            b1: s1.others ^ s0.with_next ^ s7.with_next,
+            b0: s0.others ^ s7.with_next,
+        }
+    }};
+}
+
 /// MixColumns by rows.
 #[inline(always)]
 pub fn mix_columns(q: Planes) -> Planes
     requires { AreLong q }
     ensures { planes_of result ≡ mixed_rows q }
 {
-    let n0 = next(q.b0);
-    let s0 = q.b0 ^ n0;
-    let o0 = n0 ^ opposite(s0);
-    let n1 = next(q.b1);
-    let s1 = q.b1 ^ n1;
-    let o1 = n1 ^ opposite(s1);
-    let n2 = next(q.b2);
-    let s2 = q.b2 ^ n2;
-    let o2 = n2 ^ opposite(s2);
-    let n3 = next(q.b3);
-    let s3 = q.b3 ^ n3;
-    let o3 = n3 ^ opposite(s3);
-    let n4 = next(q.b4);
-    let s4 = q.b4 ^ n4;
-    let o4 = n4 ^ opposite(s4);
-    let n5 = next(q.b5);
-    let s5 = q.b5 ^ n5;
-    let o5 = n5 ^ opposite(s5);
-    let n6 = next(q.b6);
-    let s6 = q.b6 ^ n6;
-    let o6 = n6 ^ opposite(s6);
-    let n7 = next(q.b7);
-    let s7 = q.b7 ^ n7;
-    let o7 = n7 ^ opposite(s7);
-    Planes {
-        b7: o7 ^ s6,
-        b6: o6 ^ s5,
-        b5: o5 ^ s4,
-        b4: o4 ^ s3 ^ s7,
-        b3: o3 ^ s2 ^ s7,
-        b2: o2 ^ s1,
-        b1: o1 ^ s0 ^ s7,
-        b0: o0 ^ s7,
-    }
+    mixed!(Planes, sums(q))
 }
 
 // The bytes in the rows opposite.
@@ -79,16 +89,24 @@ fn opposites(q: Planes) -> Planes
     requires { AreLong q }
     ensures { planes_of result ≡ map opposite_row (planes_of q) }
 {
-    Planes {
-        b7: opposite(q.b7),
-        b6: opposite(q.b6),
-        b5: opposite(q.b5),
-        b4: opposite(q.b4),
-        b3: opposite(q.b3),
-        b2: opposite(q.b2),
-        b1: opposite(q.b1),
-        b0: opposite(q.b0),
-    }
+    planes!(Planes, opposite(q))
+}
+
+// Each byte times x squared, on planes of either width.
+macro_rules! times_four {
+    ($planes:ident, $q:ident) => {{
+        let both = $q.b6 ^ $q.b7;
+        $planes {
+            b7: $q.b5,
+            b6: $q.b4,
+            b5: $q.b3 ^ $q.b7,
+            b4: $q.b2 ^ both,
+            b3: $q.b1 ^ $q.b6,
+            b2: $q.b0 ^ $q.b7,
+            b1: both,
+            b0: $q.b6,
+        }
+    }};
 }
 
 // Each byte times x squared.
@@ -96,17 +114,7 @@ fn opposites(q: Planes) -> Planes
 fn quadrupled(q: Planes) -> Planes
     ensures { planes_of result ≡ quadrupled_planes q }
 {
-    let both = q.b6 ^ q.b7;
-    Planes {
-        b7: q.b5,
-        b6: q.b4,
-        b5: q.b3 ^ q.b7,
-        b4: q.b2 ^ both,
-        b3: q.b1 ^ q.b6,
-        b2: q.b0 ^ q.b7,
-        b1: both,
-        b0: q.b6,
-    }
+    times_four!(Planes, q)
 }
 
 /// InvMixColumns by rows.
@@ -148,15 +156,15 @@ fn wide_opposite(v: u8x32) -> u8x32
     v.swizzle(WIDE_OPPOSITE)
 }
 
-// What MixColumns makes of a plane: the sum of each byte and the next of its column, and that of the other three.
+// The same of both sides of a plane.
 #[derive(Clone, Copy)]
-struct RowSums {
+struct WideRowSums {
     with_next: u8x32,
     others: u8x32,
 }
 
 #[inline(always)]
-fn sums(v: u8x32) -> RowSums
+fn wide_sums(v: u8x32) -> WideRowSums
     requires { length v ≡ 32 }
     ensures with_next { (i : ℕ) → i < 2 → block result.with_next i ≡ with_next_row (block v i) }
     ensures others { (i : ℕ) → i < 2 → block result.others i ≡ other_rows (block v i) }
@@ -165,7 +173,7 @@ fn sums(v: u8x32) -> RowSums
     let next = wide_next(v);
     let with_next = v ^ next;
     let others = next ^ wide_opposite(with_next);
-    RowSums { with_next, others }
+    WideRowSums { with_next, others }
 }
 
 /// MixColumns of sixteen blocks, by rows.
@@ -175,24 +183,7 @@ pub fn wide_mix_columns(q: WidePlanes) -> WidePlanes
     ensures sides { (i : ℕ) → i < 2 → planes_of (side i result) ≡ mixed_rows (side i q) }
     ensures wide { AreWide result }
 {
-    let s0 = sums(q.b0);
-    let s1 = sums(q.b1);
-    let s2 = sums(q.b2);
-    let s3 = sums(q.b3);
-    let s4 = sums(q.b4);
-    let s5 = sums(q.b5);
-    let s6 = sums(q.b6);
-    let s7 = sums(q.b7);
-    WidePlanes {
-        b7: s7.others ^ s6.with_next,
-        b6: s6.others ^ s5.with_next,
-        b5: s5.others ^ s4.with_next,
-        b4: s4.others ^ s3.with_next ^ s7.with_next,
-        b3: s3.others ^ s2.with_next ^ s7.with_next,
-        b2: s2.others ^ s1.with_next,
-        b1: s1.others ^ s0.with_next ^ s7.with_next,
-        b0: s0.others ^ s7.with_next,
-    }
+    mixed!(WidePlanes, wide_sums(q))
 }
 
 // The bytes of sixteen blocks in the rows opposite.
@@ -202,16 +193,7 @@ fn wide_opposites(q: WidePlanes) -> WidePlanes
     ensures sides { (i : ℕ) → i < 2 → planes_of (side i result) ≡ map opposite_row (planes_of (side i q)) }
     ensures wide { AreWide result }
 {
-    WidePlanes {
-        b7: wide_opposite(q.b7),
-        b6: wide_opposite(q.b6),
-        b5: wide_opposite(q.b5),
-        b4: wide_opposite(q.b4),
-        b3: wide_opposite(q.b3),
-        b2: wide_opposite(q.b2),
-        b1: wide_opposite(q.b1),
-        b0: wide_opposite(q.b0),
-    }
+    planes!(WidePlanes, wide_opposite(q))
 }
 
 // Each byte of sixteen blocks times x squared.
@@ -221,17 +203,7 @@ fn wide_quadrupled(q: WidePlanes) -> WidePlanes
     ensures sides { (i : ℕ) → i < 2 → planes_of (side i result) ≡ quadrupled_planes (side i q) }
     ensures wide { AreWide result }
 {
-    let both = q.b6 ^ q.b7;
-    WidePlanes {
-        b7: q.b5,
-        b6: q.b4,
-        b5: q.b3 ^ q.b7,
-        b4: q.b2 ^ both,
-        b3: q.b1 ^ q.b6,
-        b2: q.b0 ^ q.b7,
-        b1: both,
-        b0: q.b6,
-    }
+    times_four!(WidePlanes, q)
 }
 
 /// InvMixColumns of sixteen blocks, by rows.

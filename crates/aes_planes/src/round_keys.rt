@@ -13,7 +13,7 @@ ghost use Rattle.aes_planes.specs.Wide.{AreWide, side};
 
 use crate::rows::in_rows;
 use crate::transposition::transposed;
-use crate::vectors::{Planes, WidePlanes};
+use crate::vectors::{Planes, WidePlanes, planes};
 use std::simd::prelude::*;
 
 /// The planes of a round key as numbers, which stand aligned in memory, so that they are added with no load.
@@ -42,16 +42,7 @@ fn plane(k: u128) -> u8x16
 pub fn add_round_key(q: Planes, k: &KeyPlanes) -> Planes
     ensures { planes_of result ≡ added q (key_at k.now) }
 {
-    Planes {
-        b7: q.b7 ^ plane(k.b7),
-        b6: q.b6 ^ plane(k.b6),
-        b5: q.b5 ^ plane(k.b5),
-        b4: q.b4 ^ plane(k.b4),
-        b3: q.b3 ^ plane(k.b3),
-        b2: q.b2 ^ plane(k.b2),
-        b1: q.b1 ^ plane(k.b1),
-        b0: q.b0 ^ plane(k.b0),
-    }
+    planes!(Planes, q ^ plane(k))
 }
 
 // Each lane of a vector of 16 twice.
@@ -76,16 +67,7 @@ pub fn wide_add_round_key(q: WidePlanes, k: &KeyPlanes) -> WidePlanes
     ensures sides { (i : ℕ) → i < 2 → planes_of (side i result) ≡ added (side i q) (key_at k.now) }
     ensures wide { AreWide result }
 {
-    WidePlanes {
-        b7: q.b7 ^ wide_plane(k.b7),
-        b6: q.b6 ^ wide_plane(k.b6),
-        b5: q.b5 ^ wide_plane(k.b5),
-        b4: q.b4 ^ wide_plane(k.b4),
-        b3: q.b3 ^ wide_plane(k.b3),
-        b2: q.b2 ^ wide_plane(k.b2),
-        b1: q.b1 ^ wide_plane(k.b1),
-        b0: q.b0 ^ wide_plane(k.b0),
-    }
+    planes!(WidePlanes, q ^ wide_plane(k))
 }
 
 // The number whose bytes a vector has, the lowest first.
@@ -103,26 +85,8 @@ fn key_planes(v: u8x16) -> KeyPlanes
     requires { IsState v }
     ensures { AreOf v (key_at result) }
 {
-    let q = transposed(Planes {
-        b7: v,
-        b6: v,
-        b5: v,
-        b4: v,
-        b3: v,
-        b2: v,
-        b1: v,
-        b0: v,
-    });
-    KeyPlanes {
-        b7: number(q.b7),
-        b6: number(q.b6),
-        b5: number(q.b5),
-        b4: number(q.b4),
-        b3: number(q.b3),
-        b2: number(q.b2),
-        b1: number(q.b1),
-        b0: number(q.b0),
-    }
+    let q = transposed(planes!(Planes, v));
+    planes!(KeyPlanes, number(q))
 }
 
 // A vector with the constant of the S-box added to each byte.
@@ -175,16 +139,7 @@ pub fn schedule_planes(round_keys: &[u8; 240], count: usize) -> [KeyPlanes; 15]
     requires { count < 14 }
     ensures { AreKeys round_keys.now count result }
 {
-    let none = KeyPlanes {
-        b7: 0,
-        b6: 0,
-        b5: 0,
-        b4: 0,
-        b3: 0,
-        b2: 0,
-        b1: 0,
-        b0: 0,
-    };
+    let none = planes!(KeyPlanes, 0);
     let mut keys = [none; 15];
     keys[0] = first_key(round_key_of(round_keys, 0));
     for r in 0..count {

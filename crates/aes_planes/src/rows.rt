@@ -8,7 +8,7 @@ ghost use Rattle.aes_core.specs.Blocks.{block};
 ghost use Rattle.aes_planes.specs.Planes.{planes_of, shift_in, shift_between, shift_out, unshift_in, unshift_between, rows, AreLong};
 ghost use Rattle.aes_planes.specs.Wide.{AreWide, side};
 
-use crate::vectors::{Planes, WidePlanes};
+use crate::vectors::{Planes, WidePlanes, planes};
 use std::simd::prelude::*;
 
 const SHIFT_IN: [usize; 16] = [0, 4, 8, 12, 5, 9, 13, 1, 10, 14, 2, 6, 15, 3, 7, 11];
@@ -53,6 +53,7 @@ const WIDE_ROWS: [usize; 32] = [
     26, 30, 19, 23, 27, 31,
 ];
 
+// ShiftRows (5.1.2) of a plane, from columns to rows.
 #[inline(always)]
 fn moved_in(v: u8x16) -> u8x16
     requires { length v ≡ 16 }
@@ -61,6 +62,7 @@ fn moved_in(v: u8x16) -> u8x16
     v.swizzle(SHIFT_IN)
 }
 
+// ShiftRows (5.1.2) of a plane by rows.
 #[inline(always)]
 fn moved_between(v: u8x16) -> u8x16
     requires { length v ≡ 16 }
@@ -69,6 +71,7 @@ fn moved_between(v: u8x16) -> u8x16
     v.swizzle(SHIFT_BETWEEN)
 }
 
+// ShiftRows (5.1.2) of a plane, from rows to columns.
 #[inline(always)]
 fn moved_out(v: u8x16) -> u8x16
     requires { length v ≡ 16 }
@@ -77,6 +80,7 @@ fn moved_out(v: u8x16) -> u8x16
     v.swizzle(SHIFT_OUT)
 }
 
+// InvShiftRows (5.3.1) of a plane, from columns to rows.
 #[inline(always)]
 fn unmoved_in(v: u8x16) -> u8x16
     requires { length v ≡ 16 }
@@ -85,6 +89,7 @@ fn unmoved_in(v: u8x16) -> u8x16
     v.swizzle(UNSHIFT_IN)
 }
 
+// InvShiftRows (5.3.1) of a plane by rows.
 #[inline(always)]
 fn unmoved_between(v: u8x16) -> u8x16
     requires { length v ≡ 16 }
@@ -108,16 +113,7 @@ pub fn first_shift(q: Planes) -> Planes
     requires { AreLong q }
     ensures { planes_of result ≡ map shift_in (planes_of q) }
 {
-    Planes {
-        b7: moved_in(q.b7),
-        b6: moved_in(q.b6),
-        b5: moved_in(q.b5),
-        b4: moved_in(q.b4),
-        b3: moved_in(q.b3),
-        b2: moved_in(q.b2),
-        b1: moved_in(q.b1),
-        b0: moved_in(q.b0),
-    }
+    planes!(Planes, moved_in(q))
 }
 
 // ShiftRows by rows.
@@ -126,16 +122,7 @@ pub fn middle_shift(q: Planes) -> Planes
     requires { AreLong q }
     ensures { planes_of result ≡ map shift_between (planes_of q) }
 {
-    Planes {
-        b7: moved_between(q.b7),
-        b6: moved_between(q.b6),
-        b5: moved_between(q.b5),
-        b4: moved_between(q.b4),
-        b3: moved_between(q.b3),
-        b2: moved_between(q.b2),
-        b1: moved_between(q.b1),
-        b0: moved_between(q.b0),
-    }
+    planes!(Planes, moved_between(q))
 }
 
 // ShiftRows, from rows to columns.
@@ -144,16 +131,7 @@ pub fn last_shift(q: Planes) -> Planes
     requires { AreLong q }
     ensures { planes_of result ≡ map shift_out (planes_of q) }
 {
-    Planes {
-        b7: moved_out(q.b7),
-        b6: moved_out(q.b6),
-        b5: moved_out(q.b5),
-        b4: moved_out(q.b4),
-        b3: moved_out(q.b3),
-        b2: moved_out(q.b2),
-        b1: moved_out(q.b1),
-        b0: moved_out(q.b0),
-    }
+    planes!(Planes, moved_out(q))
 }
 
 // InvShiftRows, from columns to rows.
@@ -162,16 +140,7 @@ pub fn first_unshift(q: Planes) -> Planes
     requires { AreLong q }
     ensures { planes_of result ≡ map unshift_in (planes_of q) }
 {
-    Planes {
-        b7: unmoved_in(q.b7),
-        b6: unmoved_in(q.b6),
-        b5: unmoved_in(q.b5),
-        b4: unmoved_in(q.b4),
-        b3: unmoved_in(q.b3),
-        b2: unmoved_in(q.b2),
-        b1: unmoved_in(q.b1),
-        b0: unmoved_in(q.b0),
-    }
+    planes!(Planes, unmoved_in(q))
 }
 
 // InvShiftRows by rows.
@@ -180,16 +149,7 @@ pub fn middle_unshift(q: Planes) -> Planes
     requires { AreLong q }
     ensures { planes_of result ≡ map unshift_between (planes_of q) }
 {
-    Planes {
-        b7: unmoved_between(q.b7),
-        b6: unmoved_between(q.b6),
-        b5: unmoved_between(q.b5),
-        b4: unmoved_between(q.b4),
-        b3: unmoved_between(q.b3),
-        b2: unmoved_between(q.b2),
-        b1: unmoved_between(q.b1),
-        b0: unmoved_between(q.b0),
-    }
+    planes!(Planes, unmoved_between(q))
 }
 
 // From rows to columns.
@@ -198,18 +158,10 @@ pub fn by_columns(q: Planes) -> Planes
     requires { AreLong q }
     ensures { planes_of result ≡ map rows (planes_of q) }
 {
-    Planes {
-        b7: in_rows(q.b7),
-        b6: in_rows(q.b6),
-        b5: in_rows(q.b5),
-        b4: in_rows(q.b4),
-        b3: in_rows(q.b3),
-        b2: in_rows(q.b2),
-        b1: in_rows(q.b1),
-        b0: in_rows(q.b0),
-    }
+    planes!(Planes, in_rows(q))
 }
 
+// ShiftRows (5.1.2) of both sides of a plane, from columns to rows.
 #[inline(always)]
 fn wide_moved_in(v: u8x32) -> u8x32
     requires { length v ≡ 32 }
@@ -219,6 +171,7 @@ fn wide_moved_in(v: u8x32) -> u8x32
     v.swizzle(WIDE_SHIFT_IN)
 }
 
+// ShiftRows (5.1.2) of both sides of a plane by rows.
 #[inline(always)]
 fn wide_moved_between(v: u8x32) -> u8x32
     requires { length v ≡ 32 }
@@ -228,6 +181,7 @@ fn wide_moved_between(v: u8x32) -> u8x32
     v.swizzle(WIDE_SHIFT_BETWEEN)
 }
 
+// ShiftRows (5.1.2) of both sides of a plane, from rows to columns.
 #[inline(always)]
 fn wide_moved_out(v: u8x32) -> u8x32
     requires { length v ≡ 32 }
@@ -237,6 +191,7 @@ fn wide_moved_out(v: u8x32) -> u8x32
     v.swizzle(WIDE_SHIFT_OUT)
 }
 
+// InvShiftRows (5.3.1) of both sides of a plane, from columns to rows.
 #[inline(always)]
 fn wide_unmoved_in(v: u8x32) -> u8x32
     requires { length v ≡ 32 }
@@ -246,6 +201,7 @@ fn wide_unmoved_in(v: u8x32) -> u8x32
     v.swizzle(WIDE_UNSHIFT_IN)
 }
 
+// InvShiftRows (5.3.1) of both sides of a plane by rows.
 #[inline(always)]
 fn wide_unmoved_between(v: u8x32) -> u8x32
     requires { length v ≡ 32 }
@@ -255,6 +211,7 @@ fn wide_unmoved_between(v: u8x32) -> u8x32
     v.swizzle(WIDE_UNSHIFT_BETWEEN)
 }
 
+// The bytes of both sides, row by row.
 #[inline(always)]
 fn wide_in_rows(v: u8x32) -> u8x32
     requires { length v ≡ 32 }
@@ -271,16 +228,7 @@ pub fn wide_first_shift(q: WidePlanes) -> WidePlanes
     ensures sides { (i : ℕ) → i < 2 → planes_of (side i result) ≡ map shift_in (planes_of (side i q)) }
     ensures wide { AreWide result }
 {
-    WidePlanes {
-        b7: wide_moved_in(q.b7),
-        b6: wide_moved_in(q.b6),
-        b5: wide_moved_in(q.b5),
-        b4: wide_moved_in(q.b4),
-        b3: wide_moved_in(q.b3),
-        b2: wide_moved_in(q.b2),
-        b1: wide_moved_in(q.b1),
-        b0: wide_moved_in(q.b0),
-    }
+    planes!(WidePlanes, wide_moved_in(q))
 }
 
 // ShiftRows of sixteen blocks, by rows.
@@ -290,16 +238,7 @@ pub fn wide_middle_shift(q: WidePlanes) -> WidePlanes
     ensures sides { (i : ℕ) → i < 2 → planes_of (side i result) ≡ map shift_between (planes_of (side i q)) }
     ensures wide { AreWide result }
 {
-    WidePlanes {
-        b7: wide_moved_between(q.b7),
-        b6: wide_moved_between(q.b6),
-        b5: wide_moved_between(q.b5),
-        b4: wide_moved_between(q.b4),
-        b3: wide_moved_between(q.b3),
-        b2: wide_moved_between(q.b2),
-        b1: wide_moved_between(q.b1),
-        b0: wide_moved_between(q.b0),
-    }
+    planes!(WidePlanes, wide_moved_between(q))
 }
 
 // ShiftRows of sixteen blocks, from rows to columns.
@@ -309,16 +248,7 @@ pub fn wide_last_shift(q: WidePlanes) -> WidePlanes
     ensures sides { (i : ℕ) → i < 2 → planes_of (side i result) ≡ map shift_out (planes_of (side i q)) }
     ensures wide { AreWide result }
 {
-    WidePlanes {
-        b7: wide_moved_out(q.b7),
-        b6: wide_moved_out(q.b6),
-        b5: wide_moved_out(q.b5),
-        b4: wide_moved_out(q.b4),
-        b3: wide_moved_out(q.b3),
-        b2: wide_moved_out(q.b2),
-        b1: wide_moved_out(q.b1),
-        b0: wide_moved_out(q.b0),
-    }
+    planes!(WidePlanes, wide_moved_out(q))
 }
 
 // InvShiftRows of sixteen blocks, from columns to rows.
@@ -328,16 +258,7 @@ pub fn wide_first_unshift(q: WidePlanes) -> WidePlanes
     ensures sides { (i : ℕ) → i < 2 → planes_of (side i result) ≡ map unshift_in (planes_of (side i q)) }
     ensures wide { AreWide result }
 {
-    WidePlanes {
-        b7: wide_unmoved_in(q.b7),
-        b6: wide_unmoved_in(q.b6),
-        b5: wide_unmoved_in(q.b5),
-        b4: wide_unmoved_in(q.b4),
-        b3: wide_unmoved_in(q.b3),
-        b2: wide_unmoved_in(q.b2),
-        b1: wide_unmoved_in(q.b1),
-        b0: wide_unmoved_in(q.b0),
-    }
+    planes!(WidePlanes, wide_unmoved_in(q))
 }
 
 // InvShiftRows of sixteen blocks, by rows.
@@ -347,16 +268,7 @@ pub fn wide_middle_unshift(q: WidePlanes) -> WidePlanes
     ensures sides { (i : ℕ) → i < 2 → planes_of (side i result) ≡ map unshift_between (planes_of (side i q)) }
     ensures wide { AreWide result }
 {
-    WidePlanes {
-        b7: wide_unmoved_between(q.b7),
-        b6: wide_unmoved_between(q.b6),
-        b5: wide_unmoved_between(q.b5),
-        b4: wide_unmoved_between(q.b4),
-        b3: wide_unmoved_between(q.b3),
-        b2: wide_unmoved_between(q.b2),
-        b1: wide_unmoved_between(q.b1),
-        b0: wide_unmoved_between(q.b0),
-    }
+    planes!(WidePlanes, wide_unmoved_between(q))
 }
 
 // Sixteen blocks from rows to columns.
@@ -366,14 +278,5 @@ pub fn wide_by_columns(q: WidePlanes) -> WidePlanes
     ensures sides { (i : ℕ) → i < 2 → planes_of (side i result) ≡ map rows (planes_of (side i q)) }
     ensures wide { AreWide result }
 {
-    WidePlanes {
-        b7: wide_in_rows(q.b7),
-        b6: wide_in_rows(q.b6),
-        b5: wide_in_rows(q.b5),
-        b4: wide_in_rows(q.b4),
-        b3: wide_in_rows(q.b3),
-        b2: wide_in_rows(q.b2),
-        b1: wide_in_rows(q.b1),
-        b0: wide_in_rows(q.b0),
-    }
+    planes!(WidePlanes, wide_in_rows(q))
 }

@@ -9,6 +9,48 @@ ghost use Rattle.aes_planes.specs.Wide.{AreWide, side};
 
 use std::simd::prelude::*;
 
+// The same for each of eight planes: a call on it, its sum with that of `k` or with a call on that, or one value.
+macro_rules! planes {
+    ($planes:ident, $of:ident($q:ident)) => {
+        $planes {
+            b7: $of($q.b7),
+            b6: $of($q.b6),
+            b5: $of($q.b5),
+            b4: $of($q.b4),
+            b3: $of($q.b3),
+            b2: $of($q.b2),
+            b1: $of($q.b1),
+            b0: $of($q.b0),
+        }
+    };
+    ($planes:ident, $q:ident ^ $($of:ident)?($k:ident)) => {
+        $planes {
+            b7: $q.b7 ^ $($of)?($k.b7),
+            b6: $q.b6 ^ $($of)?($k.b6),
+            b5: $q.b5 ^ $($of)?($k.b5),
+            b4: $q.b4 ^ $($of)?($k.b4),
+            b3: $q.b3 ^ $($of)?($k.b3),
+            b2: $q.b2 ^ $($of)?($k.b2),
+            b1: $q.b1 ^ $($of)?($k.b1),
+            b0: $q.b0 ^ $($of)?($k.b0),
+        }
+    };
+    ($planes:ident, $value:expr) => {
+        $planes {
+            b7: $value,
+            b6: $value,
+            b5: $value,
+            b4: $value,
+            b3: $value,
+            b2: $value,
+            b1: $value,
+            b0: $value,
+        }
+    };
+}
+
+pub(crate) use planes;
+
 /// The vector of bit 7 of each byte first.
 #[derive(Clone, Copy)]
 pub struct Planes {
@@ -27,16 +69,7 @@ pub struct Planes {
 pub fn summed(q: Planes, k: Planes) -> Planes
     ensures { planes_of result ≡ added q k }
 {
-    Planes {
-        b7: q.b7 ^ k.b7,
-        b6: q.b6 ^ k.b6,
-        b5: q.b5 ^ k.b5,
-        b4: q.b4 ^ k.b4,
-        b3: q.b3 ^ k.b3,
-        b2: q.b2 ^ k.b2,
-        b1: q.b1 ^ k.b1,
-        b0: q.b0 ^ k.b0,
-    }
+    planes!(Planes, q ^ (k))
 }
 
 /// Sixteen blocks, two in each vector: blocks 0 and 1 in `b0`, and 14 and 15 in `b7`. Or the planes of their bits, each
@@ -61,16 +94,7 @@ pub fn wide_summed(q: WidePlanes, k: WidePlanes) -> WidePlanes
     ensures wide { AreWide result }
     ensures sides { (i : ℕ) → i < 2 → planes_of (side i result) ≡ added (side i q) (side i k) }
 {
-    WidePlanes {
-        b7: q.b7 ^ k.b7,
-        b6: q.b6 ^ k.b6,
-        b5: q.b5 ^ k.b5,
-        b4: q.b4 ^ k.b4,
-        b3: q.b3 ^ k.b3,
-        b2: q.b2 ^ k.b2,
-        b1: q.b1 ^ k.b1,
-        b0: q.b0 ^ k.b0,
-    }
+    planes!(WidePlanes, q ^ (k))
 }
 
 // A law: either half of a vector has bytes.

@@ -255,6 +255,7 @@ fn cipher_rest(way: Way, k1: &SlicedSchedule, t: u64x2, rest: &mut [u8])
 }
 
 /// Seals or opens the whole blocks of the data unit of this number in place.
+#[inline(always)]
 pub fn cipher_unit(way: Way, k1: &SlicedSchedule, k2: &Schedule, unit: u64, block: &mut [u8])
     requires { length block.old % 16 ≡ 0 }
     ensures { block.new ≡

@@ -24,7 +24,8 @@ fn copy_of(hasher: &Hmac512) -> Hmac512
 
 // The first iterate, under a hasher that has a key and no message yet.
 fn first_iterate(keyed: &Hmac512, salt: &[u8]) -> [u8; 64]
-    ensures { (k : List ℕ) → HoldsUnder Holds512 sha512 keyed.now k [] → result ≡ hmac512 k (salt.now ++ block_number) }
+    ensures { (k : List ℕ) → HoldsUnder Holds512 sha512 keyed.now k []
+        → result ≡ hmac512 k (salt.now ++ block_number) }
 {
     let mut hasher = copy_of(keyed);
     hasher.update(salt);

@@ -15,7 +15,7 @@ key_block hash size key = filled_block size (if nat_le (length key) size then ke
 abbrev pub masked : ℕ → List ℕ → List ℕ
 masked pad block = map (bit_xor pad) block
 
--- h (K xor opad, H (K xor ipad, message)), over a hash with blocks of this size (section 2)
+-- H (K xor opad, H (K xor ipad, message)), over a hash H with blocks of this size (section 2)
 abbrev pub hmac : (List ℕ → List ℕ) → ℕ → List ℕ → List ℕ → List ℕ
 hmac hash size key message =
     let block = key_block hash size key in hash (masked 0x5C block ++ hash (masked 0x36 block ++ message))

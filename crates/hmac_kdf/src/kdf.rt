@@ -2,10 +2,12 @@
 
 ghost use Rattle.std.specs.Prelude.{◌≡◌, ℕ, List, [], ◌≤◌, ◌++◌};
 ghost use Rattle.hmac_kdf.specs.Hmac.{hmac512};
-ghost use Rattle.hmac_kdf.specs.Hashers.{HoldsUnder512};
+ghost use Rattle.sha2.specs.Hashers.{Holds512};
+ghost use Rattle.sha2.specs.Sha512.{sha512};
+ghost use Rattle.hmac_kdf.specs.Hashers.{HoldsUnder};
 ghost use Rattle.hmac_kdf.specs.Pbkdf2.{xor_lists, block_number, pbkdf2};
 
-use crate::mac512::Hmac512;
+use crate::mac::Hmac512;
 
 // INT (1): the number of the one block.
 const BLOCK_NUMBER: [u8; 4] = [0, 0, 0, 1];
@@ -22,7 +24,8 @@ fn copy_of(hasher: &Hmac512) -> Hmac512
 
 // The first iterate, under a hasher that has a key and no message yet.
 fn first_iterate(keyed: &Hmac512, salt: &[u8]) -> [u8; 64]
-    ensures { (k : List ℕ) → HoldsUnder512 keyed.now k [] → result ≡ hmac512 k (salt.now ++ block_number) }
+    ensures { (k : List ℕ) → HoldsUnder Holds512 sha512 keyed.now k []
+        → result ≡ hmac512 k (salt.now ++ block_number) }
 {
     let mut hasher = copy_of(keyed);
     hasher.update(salt);
@@ -32,7 +35,7 @@ fn first_iterate(keyed: &Hmac512, salt: &[u8]) -> [u8; 64]
 
 // The iterate that follows `iterate`, under a hasher that has a key and no message yet.
 fn next_iterate(keyed: &Hmac512, iterate: &[u8; 64]) -> [u8; 64]
-    ensures { (k : List ℕ) → HoldsUnder512 keyed.now k [] → result ≡ hmac512 k iterate.now }
+    ensures { (k : List ℕ) → HoldsUnder Holds512 sha512 keyed.now k [] → result ≡ hmac512 k iterate.now }
 {
     let mut hasher = copy_of(keyed);
     hasher.update(iterate);

@@ -6,12 +6,8 @@
 mod block;
 mod kdf;
 mod laws;
-mod mac256;
-mod mac384;
-mod mac512;
+mod mac;
 
 pub use kdf::pbkdf2_sha512;
 pub use laws::{codes_are_bytes, derived_keys_are_bytes, digests_are_bytes};
-pub use mac256::Hmac256;
-pub use mac384::Hmac384;
-pub use mac512::Hmac512;
+pub use mac::{BlockHash, Hmac, Hmac256, Hmac384, Hmac512};

@@ -1,5 +1,6 @@
 -- What is refused before anything is done.
-use Rattle.std.proofs.Common.{◌≡◌, ◌==◌, ℕ, ◌*◌, [], refl, cond, true, false, Bool, not, Option, Some, None, Result, Ok, Err, subst}
+use Rattle.std.proofs.Common.{◌≡◌, ◌==◌, ℕ, ◌*◌, [], arith, refl, cond, true, false, Bool, not, Option, Some, None, Result, Ok, Err, subst}
+use Rattle.std.specs.Result.{result_err}
 use Rattle.eli_base.specs.Algorithms.{allows_length}
 use Rattle.eli_base.specs.SectorSize.{is_sector_size}
 use Rattle.eli_base.specs.Units.{media_sectors}
@@ -8,6 +9,7 @@ use Rattle.eli_base.specs.declared.refusals.Refusal.TheVariants as refusals
 use Rattle.key_commands.specs.Options.{early_refusal, key_refusal}
 use Rattle.key_commands.specs.declared.options.InitOptions.{InitOptions}
 use Rattle.user_key.specs.Derivation.{user_key}
+use Rattle.user_key.specs.Refusals.{key_refusal_of}
 use Rattle.user_key.specs.declared.components.Components.{Components}
 use Rattle.user_key.specs.declared.components.KeyFault.{KeyFault}
 use Rattle.user_key.specs.declared.components.KeyFault.TheVariants.{PassphraseNotSet, PassphraseNeeded, NoKeyComponents}
@@ -25,6 +27,11 @@ early_refusal-key options parts sectors a b c =
     none_of_three (allows_length options.cipher options.keylen) (is_sector_size options.sectorsize) (media_sectors options.auth options.sectorsize (512 * sectors) == 0)
     (Some (refusals.BadKeyLength options.keylen)) (Some (refusals.BadSectorSize options.sectorsize)) (Some (refusals.TooSmall (512 * sectors)))
     (key_refusal (user_key parts [] options.iterations)) a b c
+
+-- a fault of the components is what they are refused for
+pub key_refusal-fault : (key : Result UserKey KeyFault) (fault : KeyFault) → result_err key ≡ Some fault → key_refusal key ≡ Some (key_refusal_of fault)
+key_refusal-fault (Ok key) fault is = grind arith
+key_refusal-fault (Err found) fault is = grind arith
 
 -- a failing device or failing entropy is no cause
 abbrev is_outside : Refusal → Bool

@@ -10,7 +10,7 @@ ghost use Rattle.key_commands.specs.Options.{early_refusal, key_refusal};
 
 use eli_base::{Auth, Cipher, Geometry, Params, Refusal, sector_size_ok};
 use eli_metadata::VERSION;
-use user_key::{Components, PassPart};
+use user_key::{Components, refusal};
 
 /// What a new provider is to be, by the options of `geli init` (geli(8)).
 #[derive(Clone, Copy, Debug, PartialEq, Eq)]
@@ -49,19 +49,6 @@ fn has_no_media(options: &InitOptions, sectors: u64) -> bool
     Geometry::of(&params).is_err()
 }
 
-// The refusal of a key's components, which is the same under every salt.
-fn key_refusal(parts: &Components, iterations: i32) -> Option<Refusal>
-    ensures { (salt : List ℕ) → result ≡ key_refusal (user_key parts.now salt iterations) }
-{
-    match &parts.passphrase {
-        PassPart::Without if parts.keyfile_count == 0 => Some(Refusal::NoKeyComponents),
-        PassPart::Without => None,
-        _ if iterations < 0 => Some(Refusal::PassphraseNotSet),
-        PassPart::Missing => Some(Refusal::PassphraseNeeded),
-        PassPart::Given(_) => None,
-    }
-}
-
 /// Refuses options, components of the key, or an image of so many device sectors, before anything is done.
 pub fn check(options: &InitOptions, parts: &Components, sectors: u64) -> Result<(), Refusal>
     requires { sectors < 2 ^ 44 }
@@ -86,8 +73,8 @@ pub fn check(options: &InitOptions, parts: &Components, sectors: u64) -> Result<
             size: 512 * sectors,
         });
     }
-    match key_refusal(parts, options.iterations) {
-        Some(refusal) => Err(refusal),
+    match refusal(parts, options.iterations) {
+        Some(fault) => Err(Refusal::from(fault)),
         None => Ok(()),
     }
 }

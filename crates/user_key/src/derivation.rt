@@ -1,5 +1,6 @@
 //! The user key that components make.
-ghost use Rattle.std.specs.Prelude.{◌≡◌, [], ◌++◌};
+ghost use Rattle.std.specs.Prelude.{◌≡◌, ℕ, List, [], ◌++◌};
+ghost use Rattle.std.specs.Result.{result_err};
 ghost use Rattle.hmac_kdf.specs.Hmac.{hmac512};
 ghost use Rattle.user_key.specs.Derivation.{user_key};
 
@@ -19,25 +20,36 @@ fn key_of(keyfiles: &[u8], front: &[u8], back: &[u8]) -> UserKey
     }
 }
 
-/// The user key that these components make under the salt and the iterations of a provider's metadata.
+/// Why these components make no user key under these iterations, whatever the salt is.
 ///
 /// Iterations below 0 say that no passphrase was set up, 0 that it is salted and not stretched. In this
-/// order it is refused as `PassphraseNotSet` where the iterations are below 0 and the passphrase isn't
-/// `Without`, as `PassphraseNeeded` where it is `Missing`, and as `NoKeyComponents` where it is `Without`
-/// and there is no key file.
+/// order components are refused as `PassphraseNotSet` where the iterations are below 0 and the passphrase
+/// isn't `Without`, as `PassphraseNeeded` where it is `Missing`, and as `NoKeyComponents` where it is
+/// `Without` and there is no key file.
+pub fn refusal(parts: &Components, iterations: i32) -> Option<KeyFault>
+    ensures { (salt : List ℕ) → result ≡ result_err (user_key parts.now salt iterations) }
+{
+    match &parts.passphrase {
+        PassPart::Without if parts.keyfile_count == 0 => Some(KeyFault::NoKeyComponents),
+        PassPart::Without => None,
+        _ if iterations < 0 => Some(KeyFault::PassphraseNotSet),
+        PassPart::Missing => Some(KeyFault::PassphraseNeeded),
+        PassPart::Given(_) => None,
+    }
+}
+
+/// The user key that these components make under the salt and the iterations of a provider's metadata, or
+/// what `refusal` says of them.
 pub fn derive(parts: &Components, salt: &[u8; 64], iterations: i32) -> Result<UserKey, KeyFault>
     ensures { result ≡ user_key parts.now salt.now iterations }
 {
     let keyfiles = parts.keyfiles.as_slice();
-    match &parts.passphrase {
-        PassPart::Without if parts.keyfile_count == 0 => Err(KeyFault::NoKeyComponents),
-        PassPart::Without => Ok(key_of(keyfiles, &[], &[])),
-        _ if iterations < 0 => Err(KeyFault::PassphraseNotSet),
-        PassPart::Missing => Err(KeyFault::PassphraseNeeded),
-        PassPart::Given(passphrase) if iterations == 0 => {
+    match (refusal(parts, iterations), &parts.passphrase) {
+        (Some(fault), _) => Err(fault),
+        (None, PassPart::Given(passphrase)) if iterations == 0 => {
             Ok(key_of(keyfiles, salt, passphrase.as_slice()))
         }
-        PassPart::Given(passphrase) => {
+        (None, PassPart::Given(passphrase)) => {
             let mut stretched = [0u8; 64];
             pbkdf2_sha512(
                 passphrase.as_slice(),
@@ -47,5 +59,6 @@ pub fn derive(parts: &Components, salt: &[u8; 64], iterations: i32) -> Result<Us
             );
             Ok(key_of(keyfiles, &stretched, &[]))
         }
+        (None, _) => Ok(key_of(keyfiles, &[], &[])),
     }
 }

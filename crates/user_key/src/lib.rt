@@ -8,5 +8,5 @@ mod derivation;
 mod passphrase;
 
 pub use components::{Components, KeyFault, PassPart, UserKey};
-pub use derivation::derive;
+pub use derivation::{derive, refusal};
 pub use passphrase::first_line;

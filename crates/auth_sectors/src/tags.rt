@@ -1,7 +1,8 @@
 //! Tags, in the first bytes of 64.
 
-ghost use Rattle.std.specs.Prelude.{◌≡◌, ◌≢◌, ◌↔◌, ◌+◌, ◌*◌, ◌-◌, ◌^◌, ◌<◌, ◌≤◌, [], ◌∷◌, ◌++◌, IsTrue, get_or, length, replicate};
+ghost use Rattle.std.specs.Prelude.{◌≡◌, ◌≢◌, ◌↔◌, ◌+◌, ◌*◌, ◌-◌, ◌^◌, ◌<◌, ◌≤◌, ◌++◌, ℕ, [], IsTrue, length, replicate, slice_index_or};
 ghost use Rattle.sealing.specs.TaggedUnits.{hmac_of, kept_tag, tag_of};
+ghost use Rattle.sha_lanes.specs.Lanes.{HaveOneLength, bytes_of};
 ghost use Rattle.auth_sectors.specs.Tags.{padded};
 
 use eli_base::Auth;
@@ -50,8 +51,7 @@ pub fn tag_of(ring: &KeyRing, offset: u64, cipher_text: &[u8]) -> [u8; 64]
 // Four codes, each with zeros behind it.
 fn all_padded<const N: usize>(codes: &[[u8; N]; 4]) -> [[u8; 64]; 4]
     requires { N ≤ 64 }
-    ensures { result ≡ padded (get_or codes.now 0 []) ∷ padded (get_or codes.now 1 [])
-        ∷ padded (get_or codes.now 2 []) ∷ padded (get_or codes.now 3 []) ∷ [] }
+    ensures { (j : ℕ) → j < 4 → slice_index_or result j [] ≡ padded (slice_index_or codes.now j []) }
 {
     [
         padded(&codes[0]),
@@ -62,23 +62,11 @@ fn all_padded<const N: usize>(codes: &[[u8; N]; 4]) -> [[u8; 64]; 4]
 }
 
 // The codes of four messages of one length, each under its own key, computed side by side.
-fn codes_of_four(
-    auth: Auth,
-    keys: &[[u8; 32]; 4],
-    first: &[u8],
-    second: &[u8],
-    third: &[u8],
-    fourth: &[u8],
-) -> [[u8; 64]; 4]
-    requires second { length second.now ≡ length first.now }
-    requires third { length third.now ≡ length first.now }
-    requires fourth { length fourth.now ≡ length first.now }
-    ensures { result ≡ padded (hmac_of auth (get_or keys.now 0 []) first.now)
-        ∷ padded (hmac_of auth (get_or keys.now 1 []) second.now)
-        ∷ padded (hmac_of auth (get_or keys.now 2 []) third.now)
-        ∷ padded (hmac_of auth (get_or keys.now 3 []) fourth.now) ∷ [] }
+fn codes_of_four(auth: Auth, keys: &[[u8; 32]; 4], messages: [&[u8]; 4]) -> [[u8; 64]; 4]
+    requires { HaveOneLength messages }
+    ensures { (j : ℕ) → j < 4 → slice_index_or result j []
+        ≡ padded (hmac_of auth (slice_index_or keys.now j []) (bytes_of j messages.entry)) }
 {
-    let messages = [first, second, third, fourth];
     match auth {
         Auth::Off => [[0; 64]; 4],
         Auth::Sha256 => all_padded(&sha_lanes::codes_of_four(keys, messages)),
@@ -89,27 +77,14 @@ fn codes_of_four(
 
 /// The tags of four cipher texts of one length. The first is that of this byte offset, and each other is that of the
 /// offset `step` bytes behind the one before it.
-pub fn tags_of_four(
-    ring: &KeyRing,
-    offset: u64,
-    step: u64,
-    first: &[u8],
-    second: &[u8],
-    third: &[u8],
-    fourth: &[u8],
-) -> [[u8; 64]; 4]
+pub fn tags_of_four(ring: &KeyRing, offset: u64, step: u64, texts: [&[u8]; 4]) -> [[u8; 64]; 4]
     requires on { ring.now.keying.auth ≢ Auth.Off }
     requires place { offset + 3 * step < 2 ^ 64 }
-    requires second { length second.now ≡ length first.now }
-    requires third { length third.now ≡ length first.now }
-    requires fourth { length fourth.now ≡ length first.now }
-    ensures { result ≡ padded (tag_of ring.now.keying offset first.now)
-        ∷ padded (tag_of ring.now.keying (offset + step) second.now)
-        ∷ padded (tag_of ring.now.keying (offset + 2 * step) third.now)
-        ∷ padded (tag_of ring.now.keying (offset + 3 * step) fourth.now) ∷ [] }
+    requires lengths { HaveOneLength texts }
+    ensures { (j : ℕ) → j < 4 → slice_index_or result j []
+        ≡ padded (tag_of ring.now.keying (offset + j * step) (bytes_of j texts.entry)) }
 {
-    let keys = ring.tag_keys_apart(offset, step);
-    codes_of_four(ring.auth(), &keys, first, second, third, fourth)
+    codes_of_four(ring.auth(), &ring.tag_keys_apart(offset, step), texts)
 }
 
 /// Whether two tags are the same. The body looks at each byte, whatever those before it are; no clause says so, since

@@ -19,7 +19,7 @@ use block_traits::Sector;
 use eli_base::Auth;
 use range_keys::KeyRing;
 use sealing::open_run;
-use tags::{has_tag, is_same, padded, tag_of, tags_of_four};
+use tags::{has_tag, padded, tag_of, tag_size, tags_of_four};
 use whole::{encipher, put_tag};
 
 /// That the tag in a device sector isn't that of its cipher text. Of both the first `length` bytes are the tag, and the
@@ -42,7 +42,7 @@ pub fn seal_piece(ring: &mut KeyRing, offset: u64, plain: &[u8], out: &mut Secto
     ensures sealed { out.new ≡ sealed_tagged ring.old.keying offset plain.now }
     ensures keying { ring.new.keying ≡ ring.old.keying }
 {
-    let size = ring.auth().tag_bytes();
+    let size = tag_size(ring);
     encipher(ring, offset, plain, out);
     let code = tag_of(ring, offset, &out[size..size + plain.len()]);
     put_tag(&code[..size], out);
@@ -65,7 +65,7 @@ pub fn seal_apart(ring: &mut KeyRing, offset: u64, step: u64, plain: [&[u8]; 4],
     ensures keying { ring.new.keying ≡ ring.old.keying }
 {
     let [a, b, c, d] = plain;
-    let size = ring.auth().tag_bytes();
+    let size = tag_size(ring);
     let end = size + a.len();
     let (first, rest) = out.split_at_mut(512);
     let (second, rest) = rest.split_at_mut(512);
@@ -106,15 +106,13 @@ pub fn open_piece(
         (λ mismatch. (out.new ≡ replicate (length out.old) 0) × ShowsMismatch ring.old.keying offset (length out.old) from.now mismatch) }
     ensures keying { ring.new.keying ≡ ring.old.keying }
 {
-    let size = ring.auth().tag_bytes();
-    let text = &from[size..size + out.len()];
-    let kept = padded(&from[..size]);
-    let computed = tag_of(ring, offset, text);
-    if !is_same(&kept, &computed) {
+    let size = tag_size(ring);
+    let computed = tag_of(ring, offset, &from[size..size + out.len()]);
+    if !has_tag(ring, from, &computed) {
         out.fill(0);
         return Err(Mismatch {
             length: size as u8,
-            kept,
+            kept: padded(&from[..size]),
             computed,
         });
     }
@@ -129,13 +127,14 @@ pub fn unit_accepted(ring: &KeyRing, offset: u64, size: usize, from: &Sector) ->
     requires at_most { size ≤ unit_bytes_of ring.now.keying.auth }
     ensures { result ≡ is_ok (opened_tagged ring.now.keying offset size from.now) }
 {
-    let tag = ring.auth().tag_bytes();
+    let tag = tag_size(ring);
     let computed = tag_of(ring, offset, &from[tag..tag + size]);
     has_tag(ring, from, &computed)
 }
 
 /// Which of four units of `size` plain bytes are accepted, each from its device sector. The first stands at this byte
 /// offset of the device, and each other `step` bytes behind the one before it. Nothing is deciphered.
+#[tactic(auto, using(crate::proofs::Openings::sector_long))]
 pub fn apart_accepted(
     ring: &KeyRing,
     offset: u64,
@@ -153,7 +152,7 @@ pub fn apart_accepted(
         ∷ is_ok (opened_tagged ring.now.keying (offset + 3 * step) size (bytes_of 3 from.entry)) ∷ [] }
 {
     let [a, b, c, d] = from;
-    let tag = ring.auth().tag_bytes();
+    let tag = tag_size(ring);
     let end = tag + size;
     let texts = [&a[tag..end], &b[tag..end], &c[tag..end], &d[tag..end]];
     let tags = tags_of_four(ring, offset, step, texts);
@@ -175,7 +174,7 @@ pub fn open_accepted(ring: &mut KeyRing, offset: u64, from: &[u8], out: &mut [u8
     ensures opened { opened_tagged ring.old.keying offset (length out.old) from.now ≡ Ok out.new }
     ensures keying { ring.new.keying ≡ ring.old.keying }
 {
-    let size = ring.auth().tag_bytes();
+    let size = tag_size(ring);
     out.copy_from_slice(&from[size..size + out.len()]);
     open_run(ring, offset, out);
 }

@@ -1,6 +1,7 @@
 //! Tags, in the first bytes of 64.
 
-ghost use Rattle.std.specs.Prelude.{◌≡◌, ◌≢◌, ◌↔◌, ◌+◌, ◌*◌, ◌-◌, ◌^◌, ◌<◌, ◌≤◌, ◌++◌, ℕ, [], IsTrue, length, replicate, slice_index_or};
+ghost use Rattle.std.specs.Prelude.{◌≡◌, ◌≢◌, ◌↔◌, ◌+◌, ◌*◌, ◌-◌, ◌^◌, ◌<◌, ◌≤◌, [], ◌∷◌, ◌++◌, IsTrue, get_or, length, replicate};
+ghost use Rattle.eli_base.specs.Units.{tag_bytes};
 ghost use Rattle.sealing.specs.TaggedUnits.{hmac_of, kept_tag, tag_of};
 ghost use Rattle.sha_lanes.specs.Lanes.{HaveOneLength, bytes_of};
 ghost use Rattle.auth_sectors.specs.Tags.{padded};
@@ -28,6 +29,13 @@ pub fn padded(bytes: &[u8]) -> [u8; 64]
     filled(bytes)
 }
 
+/// How many bytes a tag has.
+pub fn tag_size(ring: &KeyRing) -> usize
+    ensures { result ≡ tag_bytes ring.now.keying.auth }
+{
+    ring.auth().tag_bytes()
+}
+
 // The code of a message by which data is authenticated.
 fn code_of(auth: Auth, key: &[u8; 32], message: &[u8]) -> [u8; 64]
     ensures { result ≡ padded (hmac_of auth key.now message.now) }
@@ -51,7 +59,8 @@ pub fn tag_of(ring: &KeyRing, offset: u64, cipher_text: &[u8]) -> [u8; 64]
 // Four codes, each with zeros behind it.
 fn all_padded<const N: usize>(codes: &[[u8; N]; 4]) -> [[u8; 64]; 4]
     requires { N ≤ 64 }
-    ensures { (j : ℕ) → j < 4 → slice_index_or result j [] ≡ padded (slice_index_or codes.now j []) }
+    ensures { result ≡ padded (get_or codes.now 0 []) ∷ padded (get_or codes.now 1 [])
+        ∷ padded (get_or codes.now 2 []) ∷ padded (get_or codes.now 3 []) ∷ [] }
 {
     [
         padded(&codes[0]),
@@ -64,8 +73,10 @@ fn all_padded<const N: usize>(codes: &[[u8; N]; 4]) -> [[u8; 64]; 4]
 // The codes of four messages of one length, each under its own key, computed side by side.
 fn codes_of_four(auth: Auth, keys: &[[u8; 32]; 4], messages: [&[u8]; 4]) -> [[u8; 64]; 4]
     requires { HaveOneLength messages }
-    ensures { (j : ℕ) → j < 4 → slice_index_or result j []
-        ≡ padded (hmac_of auth (slice_index_or keys.now j []) (bytes_of j messages.entry)) }
+    ensures { result ≡ padded (hmac_of auth (get_or keys.now 0 []) (bytes_of 0 messages.entry))
+        ∷ padded (hmac_of auth (get_or keys.now 1 []) (bytes_of 1 messages.entry))
+        ∷ padded (hmac_of auth (get_or keys.now 2 []) (bytes_of 2 messages.entry))
+        ∷ padded (hmac_of auth (get_or keys.now 3 []) (bytes_of 3 messages.entry)) ∷ [] }
 {
     match auth {
         Auth::Off => [[0; 64]; 4],
@@ -81,8 +92,10 @@ pub fn tags_of_four(ring: &KeyRing, offset: u64, step: u64, texts: [&[u8]; 4]) -
     requires on { ring.now.keying.auth ≢ Auth.Off }
     requires place { offset + 3 * step < 2 ^ 64 }
     requires lengths { HaveOneLength texts }
-    ensures { (j : ℕ) → j < 4 → slice_index_or result j []
-        ≡ padded (tag_of ring.now.keying (offset + j * step) (bytes_of j texts.entry)) }
+    ensures { result ≡ padded (tag_of ring.now.keying offset (bytes_of 0 texts.entry))
+        ∷ padded (tag_of ring.now.keying (offset + step) (bytes_of 1 texts.entry))
+        ∷ padded (tag_of ring.now.keying (offset + 2 * step) (bytes_of 2 texts.entry))
+        ∷ padded (tag_of ring.now.keying (offset + 3 * step) (bytes_of 3 texts.entry)) ∷ [] }
 {
     codes_of_four(ring.auth(), &ring.tag_keys_apart(offset, step), texts)
 }
@@ -104,6 +117,6 @@ pub fn has_tag(ring: &KeyRing, sector: &[u8], tag: &[u8; 64]) -> bool
     requires { length sector.now ≡ 512 }
     ensures { IsTrue result ↔ (padded (kept_tag ring.now.keying sector.now) ≡ tag.now) }
 {
-    let size = ring.auth().tag_bytes();
+    let size = tag_size(ring);
     is_same(&padded(&sector[..size]), tag)
 }

@@ -4,6 +4,7 @@ ghost use Rattle.std.specs.Prelude.{◌≡◌, ◌-◌, ◌%◌, ◌≤◌, ◌+
 ghost use Rattle.eli_base.specs.Units.{tag_bytes, unit_bytes_of};
 ghost use Rattle.sealing.specs.Runs.{sealed_run};
 
+use crate::tags::tag_size;
 use range_keys::KeyRing;
 use sealing::seal_run;
 
@@ -18,7 +19,7 @@ pub fn encipher(ring: &mut KeyRing, offset: u64, plain: &[u8], sector: &mut [u8]
     ensures long { length (sealed_run ring.old.keying offset plain.now) ≡ length plain.now }
     ensures keying { ring.new.keying ≡ ring.old.keying }
 {
-    let size = ring.auth().tag_bytes();
+    let size = tag_size(ring);
     let (_, rest) = sector.split_at_mut(size);
     let (text, zeros) = rest.split_at_mut(plain.len());
     text.copy_from_slice(plain);

@@ -26,7 +26,7 @@ STEPS = [
     (2, "shelf", ["serve", "serve_request"], "finds the drawer, and decodes the digits into the buffer"),
     (3, "provider", ["write"], "refuses what is read-only or out of range, and goes by as many sectors as 32 KiB hold"),
     (4, "plain_sectors", ["seal_plain"], "without authentication: the logical sector is one run"),
-    (4, "auth_sectors", ["seal_piece", "seal_four"], "with authentication: units with their tags, one or four at once"),
+    (4, "auth_sectors", ["seal_piece", "seal_apart"], "with authentication: units with their tags, one or four at once"),
     (5, "range_keys", ["key_at", "iv_at", "tag_key_at"], "for both: the keys of a byte offset"),
     (5, "sealing", ["seal_run"], "for both: enciphers one run of blocks under these keys"),
     (6, "xts_mode", ["xts_seal_sliced"], "AES-XTS, eight blocks at a time (aes_planes); or cbc_mode, block by block"),

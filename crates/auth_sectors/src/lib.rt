@@ -5,13 +5,12 @@
 //! memory.
 #![tactic(auto)]
 
-ghost use Rattle.std.specs.Prelude.{◌≡◌, ◌≢◌, ◌+◌, ◌*◌, ◌%◌, ◌^◌, ◌<◌, ◌≤◌, [], ◌∷◌, Ok, Err, MatchResult, OnErr, is_ok, length, map, replicate, true};
+ghost use Rattle.std.specs.Prelude.{◌≡◌, ◌≢◌, ◌+◌, ◌*◌, ◌%◌, ◌^◌, ◌<◌, ◌≤◌, ℕ, [], ◌∷◌, Ok, Err, MatchResult, is_ok, length, replicate, true};
 ghost use Rattle.block_traits.specs.Parts.{parts};
 ghost use Rattle.eli_base.specs.Units.{unit_bytes_of};
 ghost use Rattle.sealing.specs.TaggedUnits.{opened_tagged, sealed_tagged};
-ghost use Rattle.sealing.specs.Sectors.{joined};
+ghost use Rattle.sha_lanes.specs.Lanes.{HaveOneLength, bytes_of};
 ghost use Rattle.auth_sectors.specs.Tags.{ShowsMismatch};
-ghost use Rattle.auth_sectors.specs.Wholes.{opened_units, sealed_units};
 
 mod tags;
 mod whole;
@@ -19,9 +18,9 @@ mod whole;
 use block_traits::Sector;
 use eli_base::Auth;
 use range_keys::KeyRing;
-use sealing::{open_run, seal_run};
-use tags::{has_tag, is_same, padded, tag_of, tags_of_four};
-use whole::{decipher_whole, encipher, put_tag};
+use sealing::open_run;
+use tags::{has_tag, padded, tag_of, tag_size, tags_of_four};
+use whole::{encipher, put_tag};
 
 /// That the tag in a device sector isn't that of its cipher text. Of both the first `length` bytes are the tag, and the
 /// rest is zeros.
@@ -43,43 +42,30 @@ pub fn seal_piece(ring: &mut KeyRing, offset: u64, plain: &[u8], out: &mut Secto
     ensures sealed { out.new ≡ sealed_tagged ring.old.keying offset plain.now }
     ensures keying { ring.new.keying ≡ ring.old.keying }
 {
-    let size = ring.auth().tag_bytes();
-    let (tag, rest) = out.split_at_mut(size);
-    let (text, zeros) = rest.split_at_mut(plain.len());
-    text.copy_from_slice(plain);
-    seal_run(ring, offset, text);
-    let code = tag_of(ring, offset, text);
-    tag.copy_from_slice(&code[..size]);
-    zeros.fill(0);
+    let size = tag_size(ring);
+    encipher(ring, offset, plain, out);
+    let code = tag_of(ring, offset, &out[size..size + plain.len()]);
+    put_tag(&code[..size], out);
 }
 
 /// Seals the plain bytes of four units of one length into their device sectors. The first stands at this byte offset
 /// of the device, and each other `step` bytes behind the one before it.
-pub fn seal_apart(
-    ring: &mut KeyRing,
-    offset: u64,
-    step: u64,
-    a: &[u8],
-    b: &[u8],
-    c: &[u8],
-    d: &[u8],
-    out: &mut [u8; 2048],
-)
+pub fn seal_apart(ring: &mut KeyRing, offset: u64, step: u64, plain: [&[u8]; 4], out: &mut [u8])
     requires on { ring.old.keying.auth ≢ Auth.Off }
-    requires at_most { length a.now ≤ unit_bytes_of ring.old.keying.auth }
-    requires blocks { length a.now % 16 ≡ 0 }
-    requires second { length b.now ≡ length a.now }
-    requires third { length c.now ≡ length a.now }
-    requires fourth { length d.now ≡ length a.now }
+    requires lengths { HaveOneLength plain }
+    requires at_most { length (bytes_of 0 plain) ≤ unit_bytes_of ring.old.keying.auth }
+    requires blocks { length (bytes_of 0 plain) % 16 ≡ 0 }
+    requires out { length out.old ≡ 2048 }
     requires place { offset + 3 * step < 2 ^ 64 }
     ensures sealed { parts 512 4 out.new
-        ≡ sealed_tagged ring.old.keying offset a.now
-        ∷ sealed_tagged ring.old.keying (offset + step) b.now
-        ∷ sealed_tagged ring.old.keying (offset + 2 * step) c.now
-        ∷ sealed_tagged ring.old.keying (offset + 3 * step) d.now ∷ [] }
+        ≡ sealed_tagged ring.old.keying offset (bytes_of 0 plain.entry)
+        ∷ sealed_tagged ring.old.keying (offset + step) (bytes_of 1 plain.entry)
+        ∷ sealed_tagged ring.old.keying (offset + 2 * step) (bytes_of 2 plain.entry)
+        ∷ sealed_tagged ring.old.keying (offset + 3 * step) (bytes_of 3 plain.entry) ∷ [] }
     ensures keying { ring.new.keying ≡ ring.old.keying }
 {
-    let size = ring.auth().tag_bytes();
+    let [a, b, c, d] = plain;
+    let size = tag_size(ring);
     let end = size + a.len();
     let (first, rest) = out.split_at_mut(512);
     let (second, rest) = rest.split_at_mut(512);
@@ -88,41 +74,17 @@ pub fn seal_apart(
     encipher(ring, offset + step, b, second);
     encipher(ring, offset + 2 * step, c, third);
     encipher(ring, offset + 3 * step, d, fourth);
-    let tags = tags_of_four(
-        ring,
-        offset,
-        step,
+    let texts = [
         &first[size..end],
         &second[size..end],
         &third[size..end],
         &fourth[size..end],
-    );
+    ];
+    let tags = tags_of_four(ring, offset, step, texts);
     put_tag(&tags[0][..size], first);
     put_tag(&tags[1][..size], second);
     put_tag(&tags[2][..size], third);
     put_tag(&tags[3][..size], fourth);
-}
-
-/// Seals the plain bytes of four whole units into their device sectors, each behind the one before it.
-/// The first stands at this byte offset of the device.
-pub fn seal_four(ring: &mut KeyRing, offset: u64, plain: &[u8], out: &mut [u8; 2048])
-    requires on { ring.old.keying.auth ≢ Auth.Off }
-    requires plain { length plain.now ≡ 4 * unit_bytes_of ring.old.keying.auth }
-    requires place { offset + 1536 < 2 ^ 64 }
-    ensures sealed { parts 512 4 out.new ≡ sealed_units ring.old.keying offset 4 plain.now }
-    ensures keying { ring.new.keying ≡ ring.old.keying }
-{
-    let width = ring.layout().unit_bytes;
-    seal_apart(
-        ring,
-        offset,
-        512,
-        &plain[..width],
-        &plain[width..2 * width],
-        &plain[2 * width..3 * width],
-        &plain[3 * width..],
-        out,
-    );
 }
 
 /// Opens a unit of as many plain bytes as `out` has, from its device sector, which stands at this byte offset of the
@@ -144,20 +106,17 @@ pub fn open_piece(
         (λ mismatch. (out.new ≡ replicate (length out.old) 0) × ShowsMismatch ring.old.keying offset (length out.old) from.now mismatch) }
     ensures keying { ring.new.keying ≡ ring.old.keying }
 {
-    let size = ring.auth().tag_bytes();
-    let text = &from[size..size + out.len()];
-    let kept = padded(&from[..size]);
-    let computed = tag_of(ring, offset, text);
-    if !is_same(&kept, &computed) {
+    let size = tag_size(ring);
+    let computed = tag_of(ring, offset, &from[size..size + out.len()]);
+    if !has_tag(ring, from, &computed) {
         out.fill(0);
         return Err(Mismatch {
             length: size as u8,
-            kept,
+            kept: padded(&from[..size]),
             computed,
         });
     }
-    out.copy_from_slice(text);
-    open_run(ring, offset, out);
+    open_accepted(ring, offset, from, out);
     Ok(())
 }
 
@@ -168,66 +127,41 @@ pub fn unit_accepted(ring: &KeyRing, offset: u64, size: usize, from: &Sector) ->
     requires at_most { size ≤ unit_bytes_of ring.now.keying.auth }
     ensures { result ≡ is_ok (opened_tagged ring.now.keying offset size from.now) }
 {
-    let tag = ring.auth().tag_bytes();
+    let tag = tag_size(ring);
     let computed = tag_of(ring, offset, &from[tag..tag + size]);
     has_tag(ring, from, &computed)
 }
 
 /// Which of four units of `size` plain bytes are accepted, each from its device sector. The first stands at this byte
 /// offset of the device, and each other `step` bytes behind the one before it. Nothing is deciphered.
+#[tactic(auto, using(crate::proofs::Openings::sector_long))]
 pub fn apart_accepted(
     ring: &KeyRing,
     offset: u64,
     step: u64,
     size: usize,
-    a: &[u8],
-    b: &[u8],
-    c: &[u8],
-    d: &[u8],
+    from: [&[u8]; 4],
 ) -> [bool; 4]
     requires on { ring.now.keying.auth ≢ Auth.Off }
     requires at_most { size ≤ unit_bytes_of ring.now.keying.auth }
-    requires first { length a.now ≡ 512 }
-    requires second { length b.now ≡ 512 }
-    requires third { length c.now ≡ 512 }
-    requires fourth { length d.now ≡ 512 }
+    requires sectors { (j : ℕ) → j < 4 → length (bytes_of j from) ≡ 512 }
     requires place { offset + 3 * step < 2 ^ 64 }
-    ensures { result ≡ is_ok (opened_tagged ring.now.keying offset size a.now)
-        ∷ is_ok (opened_tagged ring.now.keying (offset + step) size b.now)
-        ∷ is_ok (opened_tagged ring.now.keying (offset + 2 * step) size c.now)
-        ∷ is_ok (opened_tagged ring.now.keying (offset + 3 * step) size d.now) ∷ [] }
+    ensures { result ≡ is_ok (opened_tagged ring.now.keying offset size (bytes_of 0 from.entry))
+        ∷ is_ok (opened_tagged ring.now.keying (offset + step) size (bytes_of 1 from.entry))
+        ∷ is_ok (opened_tagged ring.now.keying (offset + 2 * step) size (bytes_of 2 from.entry))
+        ∷ is_ok (opened_tagged ring.now.keying (offset + 3 * step) size (bytes_of 3 from.entry)) ∷ [] }
 {
-    let tag = ring.auth().tag_bytes();
+    let [a, b, c, d] = from;
+    let tag = tag_size(ring);
     let end = tag + size;
-    let tags = tags_of_four(
-        ring,
-        offset,
-        step,
-        &a[tag..end],
-        &b[tag..end],
-        &c[tag..end],
-        &d[tag..end],
-    );
+    let texts = [&a[tag..end], &b[tag..end], &c[tag..end], &d[tag..end]];
+    let tags = tags_of_four(ring, offset, step, texts);
     [
         has_tag(ring, a, &tags[0]),
         has_tag(ring, b, &tags[1]),
         has_tag(ring, c, &tags[2]),
         has_tag(ring, d, &tags[3]),
     ]
-}
-
-/// Which of four whole units are accepted, each from the device sector behind that of the one before it. The first
-/// stands at this byte offset of the device. Nothing is deciphered.
-pub fn four_accepted(ring: &KeyRing, offset: u64, from: &[u8; 2048]) -> [bool; 4]
-    requires on { ring.now.keying.auth ≢ Auth.Off }
-    requires place { offset + 1536 < 2 ^ 64 }
-    ensures { result ≡ map is_ok (opened_units ring.now.keying offset (parts 512 4 from.now)) }
-{
-    let width = ring.layout().unit_bytes;
-    let (first, rest) = from.split_at(512);
-    let (second, rest) = rest.split_at(512);
-    let (third, fourth) = rest.split_at(512);
-    apart_accepted(ring, offset, 512, width, first, second, third, fourth)
 }
 
 /// Opens a unit that is accepted, of as many plain bytes as `out` has, from its device sector, which stands at this
@@ -240,62 +174,7 @@ pub fn open_accepted(ring: &mut KeyRing, offset: u64, from: &[u8], out: &mut [u8
     ensures opened { opened_tagged ring.old.keying offset (length out.old) from.now ≡ Ok out.new }
     ensures keying { ring.new.keying ≡ ring.old.keying }
 {
-    let size = ring.auth().tag_bytes();
+    let size = tag_size(ring);
     out.copy_from_slice(&from[size..size + out.len()]);
     open_run(ring, offset, out);
-}
-
-/// Opens four whole units from their device sectors, each behind the one before it. The first stands at this byte
-/// offset of the device.
-///
-/// A fault is answered exactly where a tag differs: the byte offset of the first unit whose tag does. `out` is then
-/// as it was.
-pub fn open_four(
-    ring: &mut KeyRing,
-    offset: u64,
-    from: &[u8; 2048],
-    out: &mut [u8],
-) -> Result<(), u64>
-    requires on { ring.old.keying.auth ≢ Auth.Off }
-    requires out { length out.old ≡ 4 * unit_bytes_of ring.old.keying.auth }
-    requires place { offset + 1536 < 2 ^ 64 }
-    ensures opened { let answer = joined (opened_units ring.old.keying offset (parts 512 4 from.now)) in
-        MatchResult result (λ _. answer ≡ Ok out.new) (λ bad. answer ≡ Err bad) }
-    ensures stays { OnErr result (out.new ≡ out.old) }
-    ensures keying { ring.new.keying ≡ ring.old.keying }
-{
-    let size = ring.auth().tag_bytes();
-    let width = ring.layout().unit_bytes;
-    let (first, rest) = from.split_at(512);
-    let (second, rest) = rest.split_at(512);
-    let (third, fourth) = rest.split_at(512);
-    let tags = tags_of_four(
-        ring,
-        offset,
-        512,
-        &first[size..],
-        &second[size..],
-        &third[size..],
-        &fourth[size..],
-    );
-    if !has_tag(ring, first, &tags[0]) {
-        return Err(offset);
-    }
-    if !has_tag(ring, second, &tags[1]) {
-        return Err(offset + 512);
-    }
-    if !has_tag(ring, third, &tags[2]) {
-        return Err(offset + 1024);
-    }
-    if !has_tag(ring, fourth, &tags[3]) {
-        return Err(offset + 1536);
-    }
-    let (a, rest) = out.split_at_mut(width);
-    let (b, rest) = rest.split_at_mut(width);
-    let (c, d) = rest.split_at_mut(width);
-    decipher_whole(ring, offset, first, a);
-    decipher_whole(ring, offset + 512, second, b);
-    decipher_whole(ring, offset + 1024, third, c);
-    decipher_whole(ring, offset + 1536, fourth, d);
-    Ok(())
 }

@@ -1,7 +1,9 @@
 //! Tags, in the first bytes of 64.
 
 ghost use Rattle.std.specs.Prelude.{◌≡◌, ◌≢◌, ◌↔◌, ◌+◌, ◌*◌, ◌-◌, ◌^◌, ◌<◌, ◌≤◌, [], ◌∷◌, ◌++◌, IsTrue, get_or, length, replicate};
+ghost use Rattle.eli_base.specs.Units.{tag_bytes};
 ghost use Rattle.sealing.specs.TaggedUnits.{hmac_of, kept_tag, tag_of};
+ghost use Rattle.sha_lanes.specs.Lanes.{HaveOneLength, bytes_of};
 ghost use Rattle.auth_sectors.specs.Tags.{padded};
 
 use eli_base::Auth;
@@ -25,6 +27,13 @@ pub fn padded(bytes: &[u8]) -> [u8; 64]
     ensures { result ≡ padded bytes.now }
 {
     filled(bytes)
+}
+
+/// How many bytes a tag has.
+pub fn tag_size(ring: &KeyRing) -> usize
+    ensures { result ≡ tag_bytes ring.now.keying.auth }
+{
+    ring.auth().tag_bytes()
 }
 
 // The code of a message by which data is authenticated.
@@ -62,23 +71,13 @@ fn all_padded<const N: usize>(codes: &[[u8; N]; 4]) -> [[u8; 64]; 4]
 }
 
 // The codes of four messages of one length, each under its own key, computed side by side.
-fn codes_of_four(
-    auth: Auth,
-    keys: &[[u8; 32]; 4],
-    first: &[u8],
-    second: &[u8],
-    third: &[u8],
-    fourth: &[u8],
-) -> [[u8; 64]; 4]
-    requires second { length second.now ≡ length first.now }
-    requires third { length third.now ≡ length first.now }
-    requires fourth { length fourth.now ≡ length first.now }
-    ensures { result ≡ padded (hmac_of auth (get_or keys.now 0 []) first.now)
-        ∷ padded (hmac_of auth (get_or keys.now 1 []) second.now)
-        ∷ padded (hmac_of auth (get_or keys.now 2 []) third.now)
-        ∷ padded (hmac_of auth (get_or keys.now 3 []) fourth.now) ∷ [] }
+fn codes_of_four(auth: Auth, keys: &[[u8; 32]; 4], messages: [&[u8]; 4]) -> [[u8; 64]; 4]
+    requires { HaveOneLength messages }
+    ensures { result ≡ padded (hmac_of auth (get_or keys.now 0 []) (bytes_of 0 messages.entry))
+        ∷ padded (hmac_of auth (get_or keys.now 1 []) (bytes_of 1 messages.entry))
+        ∷ padded (hmac_of auth (get_or keys.now 2 []) (bytes_of 2 messages.entry))
+        ∷ padded (hmac_of auth (get_or keys.now 3 []) (bytes_of 3 messages.entry)) ∷ [] }
 {
-    let messages = [first, second, third, fourth];
     match auth {
         Auth::Off => [[0; 64]; 4],
         Auth::Sha256 => all_padded(&sha_lanes::codes_of_four(keys, messages)),
@@ -89,27 +88,16 @@ fn codes_of_four(
 
 /// The tags of four cipher texts of one length. The first is that of this byte offset, and each other is that of the
 /// offset `step` bytes behind the one before it.
-pub fn tags_of_four(
-    ring: &KeyRing,
-    offset: u64,
-    step: u64,
-    first: &[u8],
-    second: &[u8],
-    third: &[u8],
-    fourth: &[u8],
-) -> [[u8; 64]; 4]
+pub fn tags_of_four(ring: &KeyRing, offset: u64, step: u64, texts: [&[u8]; 4]) -> [[u8; 64]; 4]
     requires on { ring.now.keying.auth ≢ Auth.Off }
     requires place { offset + 3 * step < 2 ^ 64 }
-    requires second { length second.now ≡ length first.now }
-    requires third { length third.now ≡ length first.now }
-    requires fourth { length fourth.now ≡ length first.now }
-    ensures { result ≡ padded (tag_of ring.now.keying offset first.now)
-        ∷ padded (tag_of ring.now.keying (offset + step) second.now)
-        ∷ padded (tag_of ring.now.keying (offset + 2 * step) third.now)
-        ∷ padded (tag_of ring.now.keying (offset + 3 * step) fourth.now) ∷ [] }
+    requires lengths { HaveOneLength texts }
+    ensures { result ≡ padded (tag_of ring.now.keying offset (bytes_of 0 texts.entry))
+        ∷ padded (tag_of ring.now.keying (offset + step) (bytes_of 1 texts.entry))
+        ∷ padded (tag_of ring.now.keying (offset + 2 * step) (bytes_of 2 texts.entry))
+        ∷ padded (tag_of ring.now.keying (offset + 3 * step) (bytes_of 3 texts.entry)) ∷ [] }
 {
-    let keys = ring.tag_keys_apart(offset, step);
-    codes_of_four(ring.auth(), &keys, first, second, third, fourth)
+    codes_of_four(ring.auth(), &ring.tag_keys_apart(offset, step), texts)
 }
 
 /// Whether two tags are the same. The body looks at each byte, whatever those before it are; no clause says so, since
@@ -129,6 +117,6 @@ pub fn has_tag(ring: &KeyRing, sector: &[u8], tag: &[u8; 64]) -> bool
     requires { length sector.now ≡ 512 }
     ensures { IsTrue result ↔ (padded (kept_tag ring.now.keying sector.now) ≡ tag.now) }
 {
-    let size = ring.auth().tag_bytes();
+    let size = tag_size(ring);
     is_same(&padded(&sector[..size]), tag)
 }

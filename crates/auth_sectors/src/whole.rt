@@ -2,10 +2,11 @@
 
 ghost use Rattle.std.specs.Prelude.{◌≡◌, ◌-◌, ◌%◌, ◌≤◌, ◌++◌, drop, length, replicate};
 ghost use Rattle.eli_base.specs.Units.{tag_bytes, unit_bytes_of};
-ghost use Rattle.sealing.specs.Runs.{opened_run, sealed_run};
+ghost use Rattle.sealing.specs.Runs.{sealed_run};
 
+use crate::tags::tag_size;
 use range_keys::KeyRing;
-use sealing::{open_run, seal_run};
+use sealing::seal_run;
 
 /// Enciphers the plain bytes of a unit into their place in its device sector, which is behind that of the tag, and
 /// puts zeros behind them.
@@ -18,7 +19,7 @@ pub fn encipher(ring: &mut KeyRing, offset: u64, plain: &[u8], sector: &mut [u8]
     ensures long { length (sealed_run ring.old.keying offset plain.now) ≡ length plain.now }
     ensures keying { ring.new.keying ≡ ring.old.keying }
 {
-    let size = ring.auth().tag_bytes();
+    let size = tag_size(ring);
     let (_, rest) = sector.split_at_mut(size);
     let (text, zeros) = rest.split_at_mut(plain.len());
     text.copy_from_slice(plain);
@@ -32,17 +33,4 @@ pub fn put_tag(tag: &[u8], sector: &mut [u8])
     ensures { sector.new ≡ tag.now ++ drop (length tag.now) sector.old }
 {
     sector[..tag.len()].copy_from_slice(tag);
-}
-
-/// Deciphers the cipher text of a whole unit, which stands behind the tag in its device sector.
-pub fn decipher_whole(ring: &mut KeyRing, offset: u64, sector: &[u8], plain: &mut [u8])
-    requires sector { length sector.now ≡ 512 }
-    requires plain { length plain.old ≡ unit_bytes_of ring.old.keying.auth }
-    ensures opened { plain.new ≡ opened_run ring.old.keying offset (drop (tag_bytes ring.old.keying.auth) sector.now) }
-    ensures long { length plain.new ≡ length plain.old }
-    ensures keying { ring.new.keying ≡ ring.old.keying }
-{
-    let size = ring.auth().tag_bytes();
-    plain.copy_from_slice(&sector[size..]);
-    open_run(ring, offset, plain);
 }

@@ -11,7 +11,7 @@ use Rattle.sealing.specs.Sectors.{joined, reading, seal, units}
 use Rattle.provider.proofs.Cuts.{parts-front}
 use Rattle.provider.proofs.Readings.{joined-push}
 use Rattle.provider.proofs.UnitLists.{joined-fault}
-use Rattle.bio_queue.specs.Sectors.{opened_data, opened_sectors, sealed_sectors}
+use Rattle.sealing.specs.Data.{opened_data, opened_sectors, sealed_sectors}
 
 -- ---- parts of 512 bytes
 

@@ -18,7 +18,7 @@ use Rattle.bio_queue.specs.declared.job.Reaped.TheVariants.{Bytes}
 use Rattle.bio_queue.specs.Answers.{Gave, IsGiven}
 use Rattle.bio_queue.specs.Kept.{IsHeld, shown}
 use Rattle.bio_queue.specs.Requests.{Request, first_of, step_events, stepped}
-use Rattle.bio_queue.specs.Sectors.{opened_data}
+use Rattle.sealing.specs.Data.{opened_data}
 
 -- what is seen of these fields
 abbrev pub seen : ℕ → Job → ℕ → ℕ → List ℕ → Request

@@ -17,7 +17,7 @@ use Rattle.bio_queue.specs.declared.job.Job.TheVariants.{Read, Write, Flush}
 use Rattle.bio_queue.specs.declared.job.Reaped.{Reaped}
 use Rattle.bio_queue.specs.declared.job.Reaped.TheVariants.{Bytes, Written, Flushed}
 use Rattle.bio_queue.specs.Requests.{IsBelow, IsLeastFree, Request, exchanged, left_of, next_of, put_in, request_with, step_events, stepped, without}
-use Rattle.bio_queue.specs.Sectors.{opened_data, sealed_sectors}
+use Rattle.sealing.specs.Data.{opened_data, sealed_sectors}
 
 -- ---- submitting
 

@@ -1,5 +1,4 @@
 pub mod Requests
-pub mod Sectors
 pub mod Answers
 pub mod Kept
 pub mod Owners

@@ -3,7 +3,7 @@ ghost use Rattle.std.specs.Prelude.{◌≡◌, ℕ, ◌+◌, ◌*◌, ◌≤◌,
 ghost use Rattle.block_traits.specs.Parts.{parts};
 ghost use Rattle.provider.specs.Attached.{media};
 ghost use Rattle.sealing.specs.Sectors.{units};
-ghost use Rattle.bio_queue.specs.Sectors.{opened_data, sealed_sectors};
+ghost use Rattle.sealing.specs.Data.{opened_data, sealed_sectors};
 
 use block_traits::Disk;
 use provider::{BadUnit, Provider};

@@ -1,7 +1,7 @@
 //! Sealed pieces by authentication, cipher and place.
 
 use crate::common::{is_hex, master};
-use auth_sectors::{open_piece, seal_four, seal_piece};
+use auth_sectors::{open_piece, seal_apart, seal_piece};
 use eli_base::{Auth, Cipher, Params, sector_size_ok};
 use range_keys::KeyRing;
 use sha2::{Digest, Sha256};
@@ -203,13 +203,11 @@ fn add_four(
     digest: &mut Sha256,
 ) {
     assert!(rt; 16 <= width && width <= 480);
-    let mut plain = [0u8; 1_920];
-    for (j, piece) in pieces.iter().enumerate() {
-        plain[width * j..width * j + width].copy_from_slice(&piece[..width]);
-    }
     assert!(rt; ring.auth() != Auth::Off && width == ring.auth().data_bytes());
     let mut sectors = [0xff; 2_048];
-    seal_four(ring, FIRST_OF_FOUR, &plain[..4 * width], &mut sectors);
+    let [a, b, c, d] = pieces;
+    let plain = [&a[..width], &b[..width], &c[..width], &d[..width]];
+    seal_apart(ring, FIRST_OF_FOUR, 512, plain, &mut sectors);
     digest.update(&sectors);
 }
 

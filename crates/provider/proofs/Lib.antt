@@ -11,7 +11,7 @@ pub mod Sealed
 pub mod Told
 pub mod Adjoining
 pub mod InMemory
-pub mod Looks
+pub mod Data
 pub mod OpenedSlots
 pub mod FourSectors
-pub mod FourLooks
+pub mod Judging

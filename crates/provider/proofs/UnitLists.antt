@@ -1,5 +1,5 @@
 -- Logical sectors with authentication, unit by unit.
-use Rattle.std.proofs.Common.{◌≡◌, ◌≢◌, ℕ, zero, suc, ◌+◌, ◌-◌, ◌*◌, ◌%◌, ◌<◌, ◌≤◌, min, List, [], ◌∷◌, ◌++◌, length, get_or, take, drop, Option, Some, None, IfSome, Result, Ok, Err, IsOk, OnErr, map, subst, refl, sym, ap, ◌∙◌, arith, add-one}
+use Rattle.std.proofs.Common.{◌≡◌, ◌≢◌, ℕ, zero, suc, ◌+◌, ◌-◌, ◌*◌, ◌%◌, ◌^◌, ◌<◌, ◌≤◌, min, List, [], ◌∷◌, ◌++◌, length, get_or, take, drop, Option, Some, None, IfSome, Result, Ok, Err, IsOk, OnErr, map, subst, refl, sym, ap, ◌∙◌, arith, add-one}
 use Rattle.std.specs.List.{concat}
 use Rattle.std.proofs.Math.Seq.{take-suc, drop-cons}
 use Rattle.std.proofs.lemmas.List.{take_all, length-take-le, length-drop, take-append-drop}
@@ -14,7 +14,8 @@ use Rattle.block_traits.specs.Parts.{parts}
 use Rattle.eli_base.specs.declared.algorithms.Auth.{Auth}
 use Rattle.eli_base.specs.declared.algorithms.Auth.TheVariants.{Off, Sha256, Sha384, Sha512}
 use Rattle.eli_base.specs.Keying.{Keying}
-use Rattle.eli_base.specs.Units.{unit_bytes_of, units_per_sector}
+use Rattle.eli_base.specs.Units.{unit_bytes_of}
+use Rattle.range_keys.specs.Unit.{IsUnit}
 use Rattle.eli_base.proofs.Units.{units_reach}
 use Rattle.sealing.specs.TaggedUnits.{opened_tagged}
 use Rattle.sealing.specs.Runs.{opened_run}
@@ -28,44 +29,36 @@ use Rattle.provider.proofs.Readings.{before-ok, joined-push}
 
 -- ---- where a unit stands among the bytes of its logical sector
 
--- unit j has the bytes from start to end
-pub record IsUnit (auth : Auth) (size j start end : ℕ) : Type 0 where
-  pub starts : start ≡ unit_bytes_of auth * j
-  pub at_least : 16 ≤ end - start
-  pub at_most : end - start ≤ unit_bytes_of auth
-  pub blocks : (end - start) % 16 ≡ 0
-  pub order : start ≤ end
-  pub within : end ≤ size
-  pub bytes : end - start ≡ min (unit_bytes_of auth) (size - unit_bytes_of auth * j)
-  pub next : end ≡ min (unit_bytes_of auth * (j + 1)) size
-
-pub is_unit : (auth : Auth) (size j start end : ℕ) → 512 ≤ size → size % 512 ≡ 0 → j < units_per_sector auth size → start ≡ min (unit_bytes_of auth * j) size
-    → end ≡ min size (start + unit_bytes_of auth) → IsUnit auth size j start end
-is_unit Off size j start end low whole lt s e =
-    record { starts = omega arith; at_least = omega arith; at_most = omega arith; blocks = omega arith; order = omega arith; within = omega arith; bytes = omega arith; next = omega arith }
-is_unit Sha256 size j start end low whole lt s e =
-    record { starts = omega arith; at_least = omega arith; at_most = omega arith; blocks = omega arith; order = omega arith; within = omega arith; bytes = omega arith; next = omega arith }
-is_unit Sha384 size j start end low whole lt s e =
-    record { starts = omega arith; at_least = omega arith; at_most = omega arith; blocks = omega arith; order = omega arith; within = omega arith; bytes = omega arith; next = omega arith }
-is_unit Sha512 size j start end low whole lt s e =
-    record { starts = omega arith; at_least = omega arith; at_most = omega arith; blocks = omega arith; order = omega arith; within = omega arith; bytes = omega arith; next = omega arith }
-
-unit_begins : (auth : Auth) (size j : ℕ) → 512 ≤ size → j < units_per_sector auth size → unit_bytes_of auth * j < size
-unit_begins Off size j low lt = omega arith
-unit_begins Sha256 size j low lt = omega arith
-unit_begins Sha384 size j low lt = omega arith
-unit_begins Sha512 size j low lt = omega arith
-
--- the same of the unit that begins at its number times the width of one
-pub is_unit_at : (auth : Auth) (size width j start end : ℕ) → 512 ≤ size → size % 512 ≡ 0 → j < units_per_sector auth size → width ≡ unit_bytes_of auth → start ≡ j * width
-    → end ≡ min size (start + width) → IsUnit auth size j start end
-is_unit_at auth size width j start end low whole lt wide s e =
-    let begins = unit_begins auth size j low lt in
-    let place : start ≡ unit_bytes_of auth * j = s ∙ ap (λ (w : ℕ). j * w) wide ∙ (let swapped : j * unit_bytes_of auth ≡ unit_bytes_of auth * j = omega arith in swapped) in
-    is_unit auth size j start end low whole lt (omega (arith, begins, place)) (e ∙ ap (λ (w : ℕ). min size (start + w)) wide)
-
 pub length-between : (start end : ℕ) (bytes : List ℕ) → start ≤ end → end ≤ length bytes → length (take (end - start) (drop start bytes)) ≡ end - start
 length-between start end bytes order within = length-take-le (end - start) (drop start bytes) (omega (arith, length-drop start bytes))
+
+-- the unit at which a loop over those of a logical sector stands
+pub record Stands (k : Keying) (sector j offset start end : ℕ) : Type 0 where
+  pub below : j < units k
+  pub place : offset ≡ 512 * (sector * units k + j)
+  pub unit : IsUnit k.auth k.sectorsize j start end
+  pub front : min (unit_bytes_of k.auth * j) k.sectorsize ≡ start
+
+pub stands : (k now : Keying) (sector j bound offset start end : ℕ) → now ≡ k → bound ≡ units k → j < bound → offset ≡ 512 * (sector * units now + j) → IsUnit now.auth now.sectorsize j start end
+    → Stands k sector j offset start end
+stands k now sector j bound offset start end same count lt at unit =
+    let here : IsUnit k.auth k.sectorsize j start end = subst (λ (h : Keying). IsUnit h.auth h.sectorsize j start end) same unit in
+    let starts = here.starts in
+    let order = here.order in
+    let within = here.within in
+    record {
+      below = subst (λ (n : ℕ). j < n) count lt;
+      place = at ∙ ap (λ (h : Keying). 512 * (sector * units h + j)) same;
+      unit = here;
+      front = omega (arith, starts, order, within);
+    }
+
+-- it may be asked for
+pub unit_there : (k now : Keying) (j bound : ℕ) → now ≡ k → bound ≡ units k → j < bound → j < units now
+unit_there k now j bound same count lt = subst (λ (h : Keying). j < units h) (sym same) (subst (λ (n : ℕ). j < n) count lt)
+
+pub unit_small : (k now : Keying) (sector j bound : ℕ) → now ≡ k → bound ≡ units k → j < bound → sector * units k + units k ≤ 2 ^ 44 → sector * units now + j < 2 ^ 55
+unit_small k now sector j bound same count lt small = subst (λ (h : Keying). sector * units h + j < 2 ^ 55) (sym same) (omega (arith, count, lt, small))
 
 -- ---- reading
 
@@ -74,7 +67,7 @@ get_or-standing c n zero j lt = absurd (omega arith)
 get_or-standing c n (suc count) zero lt = let at : n ≡ n + 0 = omega arith in ap (present c) at
 get_or-standing c n (suc count) (suc j) lt = let at : n + 1 + j ≡ n + suc j = omega arith in get_or-standing c (n + 1) count j (omega arith) ∙ ap (present c) at
 
-length-standing : (c : Content) (n count : ℕ) → length (standing c n count) ≡ count
+pub length-standing : (c : Content) (n count : ℕ) → length (standing c n count) ≡ count
 length-standing c n zero = refl
 length-standing c n (suc count) = ap suc (length-standing c (n + 1) count)
 

@@ -1,5 +1,6 @@
 pub mod Answers
 pub mod Attached
+pub mod Judging
 pub mod Opening
 pub mod Reading
 pub mod Reads

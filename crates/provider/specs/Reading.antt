@@ -41,20 +41,3 @@ ReadsFrom (Some c) k sector count answer = data_reading k c sector count ≡ ans
 
 abbrev pub ReadsAs : DiskState → Keying → ℕ → ℕ → Result (List ℕ) ℕ → Type 0
 ReadsAs d k sector count answer = ReadsFrom d.content k sector count answer
-
--- which of these device sectors are accepted, each as the unit that stands there; the first is the one of number n
-abbrev pub units_accepted : Keying → ℕ → List (List ℕ) → List Bool
-units_accepted k n [] = []
-units_accepted k n (sector ∷ sectors) = is_ok (unit_reading_at k n sector) ∷ units_accepted k (n + 1) sectors
-
--- four device sectors, the first of number n, have whole units of one logical sector
-abbrev pub HasWholeFour : Keying → ℕ → Type 0
-HasWholeFour k n = n % units k + 4 ≤ k.sectorsize / unit_bytes_of k.auth
-
--- so many device sectors from number n on are these bytes, as far as that is told, and each is accepted as the unit
--- that stands there
-pub record StandAccepted (k : Keying) (n count : ℕ) (state : DiskState) : Type 0 where
-  pub bytes : List ℕ
-  pub all : length bytes ≡ 512 * count
-  pub stand : GivesEach state n bytes
-  pub accepted : units_accepted k n (parts 512 count bytes) ≡ replicate count true

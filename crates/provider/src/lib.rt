@@ -7,6 +7,8 @@
 mod attaching;
 mod faults;
 mod four_sectors;
+mod judged;
+mod judging;
 mod laws;
 mod provider;
 mod runs;
@@ -17,5 +19,6 @@ mod units;
 
 pub use attaching::{OpenedSlot, open_slot, opened};
 pub use faults::{AttachFault, BadUnit, OutOfRange, ReadFault, WriteFault};
+pub use judged::Judged;
 pub use laws::rest_tells_all;
 pub use provider::Provider;

@@ -1,24 +1,23 @@
 //! A disk that is read and written under a keying.
 ghost use Rattle.std.specs.Prelude.{◌≡◌, ◌≢◌, ℕ, ◌+◌, ◌*◌, ◌/◌, ◌%◌, ◌^◌, ◌<◌, ◌≤◌, ◌↔◌, ◌∷◌, [], List, IsTrue, OnOk, OnErr, None, Ok, Err, IfErr, IfOk, IfSome, MatchResult, false, is_ok, length, replicate, true};
-ghost use Rattle.std.specs.List.{concat};
 ghost use Rattle.block_traits.specs.Causes.{Counted};
 ghost use Rattle.block_traits.specs.Disk.{DiskState, FailsIn, Gives, GivesEach, Logs};
 ghost use Rattle.block_traits.specs.Parts.{parts};
 ghost use Rattle.eli_metadata.specs.Checks.{settings_of, size_matches, slot_matches, supported};
 ghost use Rattle.provider.specs.Answers.{AttachAnswers, Means, ReadAnswers, Target, WriteAnswers, request};
 ghost use Rattle.provider.specs.Attached.{IsKept, attached_with, has_tags, media};
-ghost use Rattle.provider.specs.Reading.{StandAccepted, units_accepted};
+ghost use Rattle.provider.specs.Judging.{Judges};
 ghost use Rattle.provider.specs.Rest.{rest_of};
 ghost use Rattle.range_keys.specs.Ring.{IsKeying};
-ghost use Rattle.sealing.specs.Sectors.{device_sectors, unit_reading_at, reading, seal, units};
+ghost use Rattle.sealing.specs.Data.{opened_data, sealed_sectors};
+ghost use Rattle.sealing.specs.Sectors.{units};
 
 use crate::attaching::{OpenedSlot, open_slot, reserve};
-use crate::four_sectors::look_at_four_sectors;
+use crate::judged::Judged;
+use crate::judging::judge;
 use crate::runs::{read_run, write_run};
-use crate::sectors::{open_sector, seal_sector};
-use crate::tagged_units::{has_whole_four, tag_fits};
+use crate::sector_groups::{open_sectors, seal_sectors};
 use crate::{AttachFault, BadUnit, OutOfRange, ReadFault, WriteFault};
-use auth_sectors::four_accepted;
 use block_traits::{Disk, DiskFailed, Event, MetaPlace, NoMemory, Sector, store_last};
 use eli_base::{Auth, Cipher, MasterKey, Params};
 use eli_metadata::Metadata;
@@ -37,7 +36,7 @@ pub struct Provider<D: Drop> {
     ring: KeyRing,
     slot: u8,
     readonly: bool,
-    // Logical sectors are sealed here, before one write of the disk.
+    // Logical sectors are sealed here, before one write of the disk, and device sectors are looked at here.
     buffer: Vec<u8>,
 }
 
@@ -285,40 +284,35 @@ impl<D: Disk> Provider<D> {
         self.disk.flush()
     }
 
-    /// Seals the plain bytes of a logical sector into `out`, its device sectors one after the other. No call of the
-    /// disk is made.
+    /// Seals the plain bytes of logical sectors from number `sector` on into `out`, their device sectors one after the
+    /// other. No call of the disk is made.
     pub fn seal_into(&mut self, sector: u64, plain: &[u8], out: &mut [u8])
-        requires inside { sector < media self.old.keying (D.state self.old.disk) }
-        requires plain { length plain.now ≡ self.old.keying.sectorsize }
-        requires out { length out.old ≡ 512 * units self.old.keying }
-        ensures sealed { device_sectors self.old.keying out.new ≡ seal self.old.keying sector plain.now }
-        ensures joined { out.new ≡ concat (seal self.old.keying sector plain.now) }
+        requires whole { length plain.now % self.old.keying.sectorsize ≡ 0 }
+        requires inside { sector + length plain.now / self.old.keying.sectorsize ≤ media self.old.keying (D.state self.old.disk) }
+        requires out { length out.old ≡ length plain.now / self.old.keying.sectorsize * (512 * units self.old.keying) }
+        ensures sealed { let count = length plain.now / self.old.keying.sectorsize in
+            parts 512 (count * units self.old.keying) out.new ≡ sealed_sectors self.old.keying sector count plain.now }
         ensures stays { self.new ≡ self.old }
     {
-        seal_sector(&mut self.ring, sector, plain, out);
+        seal_sectors(&mut self.ring, sector, plain, out);
     }
 
-    /// Opens a logical sector into `out` from the bytes of its device sectors, one after the other. No call of the
-    /// disk is made.
+    /// Opens logical sectors from number `sector` on into `out`, from the bytes of their device sectors, one after the
+    /// other. No call of the disk is made.
     ///
     /// `BadUnit` comes exactly where the tag of a unit isn't that of its cipher text, with the byte offset of the
-    /// first one, and `out` is then all zeros.
+    /// first one, and `out` is then as it was.
     pub fn open_from(&mut self, sector: u64, device: &[u8], out: &mut [u8]) -> Result<(), BadUnit>
-        requires inside { sector < media self.old.keying (D.state self.old.disk) }
-        requires device { length device.now ≡ 512 * units self.old.keying }
-        requires out { length out.old ≡ self.old.keying.sectorsize }
-        ensures opened { let answer = reading self.old.keying sector (device_sectors self.old.keying device.now) in
+        requires whole { length out.old % self.old.keying.sectorsize ≡ 0 }
+        requires inside { sector + length out.old / self.old.keying.sectorsize ≤ media self.old.keying (D.state self.old.disk) }
+        requires device { length device.now ≡ length out.old / self.old.keying.sectorsize * (512 * units self.old.keying) }
+        ensures opened { let count = length out.old / self.old.keying.sectorsize in
+            let answer = opened_data self.old.keying sector count (parts 512 (count * units self.old.keying) device.now) in
             MatchResult result (λ _. answer ≡ Ok out.new) (λ bad. answer ≡ Err bad.offset) }
-        ensures cleared { OnErr result (out.new ≡ replicate (length out.old) 0) }
+        ensures untouched { OnErr result (out.new ≡ out.old) }
         ensures stays { self.new ≡ self.old }
     {
-        match open_sector(&mut self.ring, sector, device, out) {
-            Ok(()) => Ok(()),
-            Err(bad) => {
-                out.fill(0);
-                Err(bad)
-            }
-        }
+        open_sectors(&mut self.ring, sector, device, out)
     }
 
     /// Reads device sector `n`, which has a unit of a logical sector. It is refused only where the device failed.
@@ -333,54 +327,34 @@ impl<D: Disk> Provider<D> {
         self.disk.read(n, into)
     }
 
-    /// Whether these bytes are accepted as the unit in device sector `n`: whether the tag in them is that of their
-    /// cipher text. No call of the disk is made.
-    pub fn unit_ok(&mut self, n: u64, from: &Sector) -> bool
-        requires on { self.old.keying.auth ≢ Auth.Off }
-        requires inside { n < media self.old.keying (D.state self.old.disk) * units self.old.keying }
-        ensures answer { result ≡ is_ok (unit_reading_at self.old.keying n from.now) }
-        ensures stays { self.new ≡ self.old }
-    {
-        tag_fits(&self.ring, n, from)
-    }
-
-    /// Looks at four device sectors at once, the first of number `n`, where they have whole units of one logical
-    /// sector and the disk lets that be done: which of them are accepted, each as by `unit_ok`. Four reads are
-    /// counted. Else nothing has changed, and `into` may hold any bytes.
-    pub fn look_at_four(&mut self, n: u64, into: &mut [u8; 2048]) -> Option<[bool; 4]>
-        requires on { self.old.keying.auth ≢ Auth.Off }
-        requires inside { n + 4 ≤ media self.old.keying (D.state self.old.disk) * units self.old.keying }
-        ensures stand { IfSome result (λ _. GivesEach (D.state self.old.disk) n into.new) }
-        ensures accepted { IfSome result (λ accepted. accepted ≡ units_accepted self.old.keying n (parts 512 4 into.new)) }
-        ensures asked { IfSome result (λ _. Counted 4 (D.state self.old.disk).reads (D.state self.new.disk).reads) }
-        ensures logs { IfSome result (λ _. Logs [] (D.state self.old.disk) (D.state self.new.disk)) }
-        ensures missed { result ≡ None → D.state self.new.disk ≡ D.state self.old.disk }
-        ensures kept { IsKept self.old self.new }
-    {
-        if !has_whole_four(&self.ring, n) || !self.disk.peek(n, into) {
-            return None;
-        }
-        self.disk.count_reads(4);
-        Some(four_accepted(&self.ring, 512 * n, into))
-    }
-
-    /// Looks at the device sectors of four logical sectors at once, the first of number `sector`, where the disk lets
-    /// that be done and memory has room for them: whether all their units are accepted, each as by `unit_ok`. True: a
-    /// read of each unit is counted. False: nothing has changed.
-    ///
-    /// No clause says when it is false: that costs time alone.
-    pub fn look_at_four_sectors(&mut self, sector: u64) -> bool
-        requires on { self.old.keying.auth ≢ Auth.Off }
-        requires inside { sector + 4 ≤ media self.old.keying (D.state self.old.disk) }
-        ensures stand { let units = units self.old.keying in
-            result ≡ true → StandAccepted self.old.keying (sector * units) (4 * units) (D.state self.old.disk) }
-        ensures asked { result ≡ true → Counted (4 * units self.old.keying) (D.state self.old.disk).reads (D.state self.new.disk).reads }
+    /// Looks at as many device sectors as `into` has room for at once, the first of number `n`, where the disk lets that
+    /// be done. True: `into` has them, and a read of each is counted. False: nothing has changed, and `into` may hold
+    /// any bytes.
+    pub fn look(&mut self, n: u64, into: &mut [u8]) -> bool
+        requires whole { length into.old % 512 ≡ 0 }
+        requires inside { n + length into.old / 512 ≤ media self.old.keying (D.state self.old.disk) * units self.old.keying }
+        ensures stand { result ≡ true → GivesEach (D.state self.old.disk) n into.new }
+        ensures asked { result ≡ true → Counted (length into.old / 512) (D.state self.old.disk).reads (D.state self.new.disk).reads }
         ensures logs { result ≡ true → Logs [] (D.state self.old.disk) (D.state self.new.disk) }
         ensures missed { result ≡ false → D.state self.new.disk ≡ D.state self.old.disk }
         ensures kept { IsKept self.old self.new }
     {
-        let buffer = &mut self.buffer;
-        look_at_four_sectors(&self.ring, &mut self.disk, sector, buffer)
+        if !self.disk.peek(n, into) {
+            return false;
+        }
+        self.disk.count_reads((into.len() / 512) as u64);
+        true
+    }
+
+    /// Checks the next units of device sectors that stand one after the other, the first of number `n`: whether the tag
+    /// of each is that of its cipher text. No call of the disk is made.
+    pub fn judge(&self, n: u64, device: &[u8]) -> Judged
+        requires on { self.now.keying.auth ≢ Auth.Off }
+        requires some { 512 ≤ length device.now }
+        requires inside { n < media self.now.keying (D.state self.now.disk) * units self.now.keying }
+        ensures { Judges self.now.keying n device.now result }
+    {
+        judge(&self.ring, n, device)
     }
 
     /// Writes device sector `n`, which has a unit of a logical sector. It is refused only where the device failed; a

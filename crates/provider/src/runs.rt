@@ -10,7 +10,7 @@ ghost use Rattle.provider.specs.Reads.{FailsAmong, RunAnswers, SectorAnswers};
 ghost use Rattle.provider.specs.Writing.{data_writes};
 
 use crate::ReadFault;
-use crate::sector_groups::{open_sectors, seal_sectors};
+use crate::sector_groups::{open_in_place, open_sectors, seal_sectors};
 use crate::tagged_units::read_tagged_units;
 use crate::units::read_units;
 use block_traits::{Disk, DiskFailed};
@@ -62,23 +62,6 @@ fn read_sector<D: Disk>(
     }
 }
 
-// Opens logical sectors of `size` bytes in place, the first of number `sector`, where there is no authentication.
-fn open_each(ring: &mut KeyRing, sector: u64, size: usize, into: &mut [u8])
-    requires off { ring.old.keying.auth ≡ Off }
-    requires size { size ≡ ring.old.keying.sectorsize }
-    requires whole { length into.old % size ≡ 0 }
-    requires place { (sector + length into.old / size) * units ring.old.keying < 2 ^ 44 }
-    ensures opened { (told : Option Content) → GivesEachFrom told (sector * units ring.old.keying) into.old →
-        ReadsFrom told ring.old.keying sector (length into.old / size) (Ok into.new) }
-    ensures keying { ring.new.keying ≡ ring.old.keying }
-{
-    ring.is_of_a_keying();
-    for i in 0..into.len() / size {
-        let block = &mut into[i * size..i * size + size];
-        open_plain(ring, (sector + i as u64) * size as u64, block);
-    }
-}
-
 // Looks at logical sectors of `size` bytes all at once, the first of number `sector`, where there is no
 // authentication, and opens them. Where the look says nothing, `into` may hold any bytes, and nothing else has
 // changed.
@@ -104,7 +87,7 @@ fn look_run<D: Disk>(
         return false;
     }
     disk.count_reads((into.len() / 512) as u64);
-    open_each(ring, sector, size, into);
+    open_in_place(ring, sector, into);
     true
 }
 
@@ -160,7 +143,7 @@ fn look_batch<D: Disk>(
     if !disk.peek(sector * units as u64, device) {
         return false;
     }
-    if open_sectors(ring, sector, size, device, into).is_err() {
+    if open_sectors(ring, sector, device, into).is_err() {
         return false;
     }
     disk.count_reads((into.len() / size * units) as u64);
@@ -276,7 +259,7 @@ fn write_batch<D: Disk>(
     ring.is_of_a_keying();
     let units = ring.layout().units;
     let sealed = &mut buffer[..from.len() / size * (512 * units)];
-    seal_sectors(ring, sector, size, from, sealed);
+    seal_sectors(ring, sector, from, sealed);
     disk.write_sectors(sector * units as u64, sealed)
 }
 

@@ -3,25 +3,12 @@ ghost use Rattle.std.specs.Prelude.{◌≡◌, ◌≢◌, ◌+◌, ◌*◌, ◌^
 ghost use Rattle.eli_base.specs.declared.algorithms.Auth.TheVariants.{Off};
 ghost use Rattle.eli_base.specs.Units.{unit_bytes_of};
 ghost use Rattle.sealing.specs.Sectors.{unit_reading_at, units};
-ghost use Rattle.provider.specs.Reading.{HasWholeFour};
 ghost use Rattle.provider.specs.Reads.{UnitAnswers, SectorAnswers};
 
 use crate::ReadFault;
-use auth_sectors::{open_piece, unit_accepted};
+use auth_sectors::open_piece;
 use block_traits::{Disk, Sector};
 use range_keys::KeyRing;
-
-// Where the unit ends that begins at `start`, in a logical sector of so many bytes.
-pub fn unit_end(size: usize, start: usize, width: usize) -> usize
-    requires { start ≤ size }
-    ensures { result ≡ min size (start + width) }
-{
-    if size - start < width {
-        size
-    } else {
-        start + width
-    }
-}
 
 // Reads the unit in device sector `n`.
 fn read_tagged<D: Disk>(
@@ -49,28 +36,6 @@ fn read_tagged<D: Disk>(
     }
 }
 
-/// Whether these bytes are accepted as the unit in device sector `n`.
-pub fn tag_fits(ring: &KeyRing, n: u64, from: &Sector) -> bool
-    requires on { ring.now.keying.auth ≢ Off }
-    requires small { n < 2 ^ 44 }
-    ensures { result ≡ is_ok (unit_reading_at ring.now.keying n from.now) }
-{
-    ring.is_of_a_keying();
-    let layout = ring.layout();
-    let start = (n % layout.units as u64) as usize * layout.unit_bytes;
-    let end = unit_end(layout.size, start, layout.unit_bytes);
-    unit_accepted(ring, 512 * n, end - start, from)
-}
-
-/// Whether four device sectors, the first of number `n`, have whole units of one logical sector.
-pub fn has_whole_four(ring: &KeyRing, n: u64) -> bool
-    requires on { ring.now.keying.auth ≢ Off }
-    ensures { IsTrue result ↔ HasWholeFour ring.now.keying n }
-{
-    let layout = ring.layout();
-    (n % layout.units as u64) as usize + 4 <= layout.size / layout.unit_bytes
-}
-
 /// Reads one logical sector.
 pub fn read_tagged_units<D: Disk>(
     ring: &mut KeyRing,
@@ -84,14 +49,10 @@ pub fn read_tagged_units<D: Disk>(
     ensures answer { SectorAnswers ring.old.keying sector (D.state disk.old) (D.state disk.new) block.new result }
     ensures keying { ring.new.keying ≡ ring.old.keying }
 {
-    ring.is_of_a_keying();
-    let layout = ring.layout();
-    let first = sector * layout.units as u64;
-    let mut start = 0;
-    for j in 0..layout.units {
-        let end = unit_end(block.len(), start, layout.unit_bytes);
-        match read_tagged(ring, disk, first + j as u64, &mut block[start..end]) {
-            Ok(()) => start = end,
+    for j in 0..ring.layout().units {
+        let unit = ring.unit(sector, j);
+        match read_tagged(ring, disk, unit.offset / 512, &mut block[unit.start..unit.end]) {
+            Ok(()) => {}
             Err(fault) => return Err(fault),
         }
     }

@@ -18,7 +18,7 @@ use Rattle.sealing.specs.Sectors.{joined, reading, seal, units}
 use Rattle.sealing.proofs.Sectors.{length-seal}
 use Rattle.bio_queue.specs.Answers.{Gave, HasBadUnit, IsGiven, ReapAnswers, StepsOn, TakesOut, asked, units_of}
 use Rattle.bio_queue.specs.Requests.{Request, exchanged, first_of, next_of, put_in, request_with, step_events, stepped}
-use Rattle.bio_queue.specs.Sectors.{opened_data, opened_sectors, sealed_sectors}
+use Rattle.sealing.specs.Data.{opened_data, opened_sectors, sealed_sectors}
 use Rattle.bio_queue.specs.declared.faults.ReapFault.{ReapFault}
 use Rattle.bio_queue.specs.declared.faults.ReapFault.TheVariants as reap
 use Rattle.bio_queue.specs.declared.job.Job.{Job}

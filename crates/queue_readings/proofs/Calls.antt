@@ -28,7 +28,7 @@ use Rattle.readings.proofs.Survivors.{All-last, AreWritings-fit, Fits, Fits-cell
 use Rattle.bio_queue.specs.Answers.{FailsStep, Gave, HasBadUnit, IsAsked, IsGiven, JobIsInRange, IsSubmitted, StepsOn, TakesOut, asked, units_of}
 use Rattle.bio_queue.specs.Requests.{Request, first_of, next_of, request_with, step_events}
 use Rattle.bio_queue.specs.Requests as requests
-use Rattle.bio_queue.specs.Sectors.{opened_data, opened_sectors}
+use Rattle.sealing.specs.Data.{opened_data, opened_sectors}
 use Rattle.bio_queue.specs.declared.job.Job.{Job}
 use Rattle.bio_queue.specs.declared.job.Job.TheVariants as job
 use Rattle.bio_queue.specs.declared.job.Reaped.{Reaped}

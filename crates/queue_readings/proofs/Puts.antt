@@ -10,7 +10,7 @@ use Rattle.readings.specs.Survivors.{placed}
 use Rattle.readings.specs.Writes.{data_steps, places_from, puts_of, sector_steps}
 use Rattle.readings.proofs.Survivors.{placed-append}
 use Rattle.readings.proofs.Writes.{device_bytes-puts, placed-places_from}
-use Rattle.bio_queue.specs.Sectors.{sealed_sectors}
+use Rattle.sealing.specs.Data.{sealed_sectors}
 
 places-append : (n : ℕ) (xs ys : List Writing) → places_from n (xs ++ ys) ≡ places_from n xs ++ places_from (n + length xs) ys
 places-append n [] ys = let at : n ≡ n + 0 = omega arith in ap (λ (m : ℕ). places_from m ys) at

@@ -3,3 +3,4 @@ pub mod Kept
 pub mod Lending
 pub mod Numbers
 pub mod Ring
+pub mod Unit

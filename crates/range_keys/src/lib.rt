@@ -13,7 +13,7 @@ mod kept;
 mod ring;
 
 pub use expanded::RangeKey;
-pub use ring::KeyRing;
+pub use ring::{KeyRing, Unit};
 
 /// The definitions give these bytes: the byte offset 4608, least significant byte first, and the message whose code is
 /// range key 1.

@@ -8,6 +8,7 @@ ghost use Rattle.eli_base.specs.Units.{unit_bytes_of, units_per_sector};
 ghost use Rattle.range_keys.specs.Keys.{numbered_block, key_number, first_key, second_key, iv, tag_key};
 ghost use Rattle.range_keys.specs.Numbers.{room};
 ghost use Rattle.range_keys.specs.Ring.{IsKeying};
+ghost use Rattle.range_keys.specs.Unit.{IsUnit};
 
 use crate::derivation::{auth_key, digest_at, digests_apart, iv_key, range_base};
 use crate::expanded::RangeKey;
@@ -29,6 +30,17 @@ fn numbered_block(params: &Params) -> u64
         Auth::Off => u64::from(params.sectorsize),
         Auth::Sha256 | Auth::Sha384 | Auth::Sha512 => 512,
     }
+}
+
+/// Where a unit of a logical sector stands.
+#[derive(Clone, Copy, Debug, PartialEq, Eq)]
+pub struct Unit {
+    /// The byte offset of its device sector on the device.
+    pub offset: u64,
+    /// Where its plain bytes begin among those of the logical sector.
+    pub start: usize,
+    /// Where they end.
+    pub end: usize,
 }
 
 /// The keys of one provider, by byte offset on the device.
@@ -172,11 +184,27 @@ impl KeyRing {
 
     /// How the logical sectors of the provider are cut into units.
     pub fn layout(&self) -> SectorLayout
+        ensures keying { IsKeying self.now.keying }
         ensures size { result.size ≡ self.now.keying.sectorsize }
         ensures units { result.units ≡ units_per_sector self.now.keying.auth self.now.keying.sectorsize }
         ensures unit_bytes { result.unit_bytes ≡ unit_bytes_of self.now.keying.auth }
     {
         self.layout
+    }
+
+    /// Where unit `j` of this logical sector stands.
+    pub fn unit(&self, sector: u64, j: usize) -> Unit
+        requires there { j < units_per_sector self.now.keying.auth self.now.keying.sectorsize }
+        requires small { sector * units_per_sector self.now.keying.auth self.now.keying.sectorsize + j < 2 ^ 55 }
+        ensures offset { result.offset ≡ 512 * (sector * units_per_sector self.now.keying.auth self.now.keying.sectorsize + j) }
+        ensures bytes { IsUnit self.now.keying.auth self.now.keying.sectorsize j result.start result.end }
+    {
+        let start = j * self.layout.unit_bytes;
+        Unit {
+            offset: 512 * (sector * self.layout.units as u64 + j as u64),
+            start,
+            end: self.layout.size.min(start + self.layout.unit_bytes),
+        }
     }
 
     /// The master key.

@@ -1,3 +1,4 @@
 pub mod Runs
 pub mod TaggedUnits
 pub mod Sectors
+pub mod Data

@@ -1,7 +1,7 @@
 -- Steps on the requests that are open.
 use Rattle.std.proofs.Common.{◌≡◌, ◌≢◌, ◌∙◌, ◌⊎◌, inl, inr, ℕ, ◌*◌, ◌<◌, ◌≤◌, List, [], ◌∷◌, ◌++◌, length, take, drop, refl, ap, sym, subst, arith, Bool, true, false, Option, None, Some, Result, Ok, Err, IsSome}
 use Rattle.std.proofs.Math.Seq.{take-append_seam}
-use Rattle.bio_queue.specs.Sectors.{opened_data}
+use Rattle.sealing.specs.Data.{opened_data}
 use Rattle.bio_queue.specs.declared.faults.ReapFault.TheVariants as reap
 use Rattle.bio_queue.specs.declared.faults.StepFault.TheVariants as step
 use Rattle.bio_queue.specs.declared.faults.SubmitFault.TheVariants as submit

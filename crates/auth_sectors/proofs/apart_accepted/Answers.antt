@@ -1,24 +1,24 @@
-use Rattle.std.proofs.Common.{◌≡◌, ℕ, ◌+◌, ◌*◌, List, ◌∷◌, [], get_or, ap, ◌∙◌, sym}
-use Rattle.eli_base.specs.declared.algorithms.Auth.{Auth}
-use Rattle.eli_base.specs.Units.{tag_bytes}
-use Rattle.auth_sectors.proofs.Openings.{code_in, tag_tells}
+use Rattle.std.proofs.Common.{◌≡◌, ℕ, ◌+◌, ◌*◌, ◌<◌, List, ◌∷◌, [], get_or, length, slice_index_or, is_ok, ap, ◌∙◌, sym, arith}
+use Rattle.sealing.specs.TaggedUnits.{opened_tagged}
+use Rattle.sha_lanes.proofs.LaneLaws.{bytes_of_is, nothing}
+use Rattle.auth_sectors.proofs.Openings.{sector_long, tag_tells}
 use Rattle.auth_sectors.proofs.apart_accepted.Goals as goal
 
 pub returns : goal.returns
 returns c =
     let k = c.args.ring.now.keying in
-    let tag = c.tag_bytes-tag.result in
+    let tag = c.tag_size-tag.result in
     let size = c.args.size in
     let o = c.args.offset in
     let step = c.args.step in
-    let wide : tag ≡ tag_bytes k.auth = c.tag_bytes-tag.ensures ∙ ap (λ (a : Auth). tag_bytes a) c.auth.ensures in
+    let from = c.args.from in
     let is = c.tags_of_four-tags.ensures in
-    let code1 = code_in k o tag size c.args.a.now _ wide (ap (λ (l : List (List ℕ)). get_or l 0 []) is) in
-    let code2 = code_in k (o + step) tag size c.args.b.now _ wide (ap (λ (l : List (List ℕ)). get_or l 1 []) is) in
-    let code3 = code_in k (o + 2 * step) tag size c.args.c.now _ wide (ap (λ (l : List (List ℕ)). get_or l 2 []) is) in
-    let code4 = code_in k (o + 3 * step) tag size c.args.d.now _ wide (ap (λ (l : List (List ℕ)). get_or l 3 []) is) in
-    let one = tag_tells k o size c.args.a.now _ c.has_tag.result c.requires.first code1 c.has_tag.ensures in
-    let two = tag_tells k (o + step) size c.args.b.now _ c.has_tag-2.result c.requires.second code2 c.has_tag-2.ensures in
-    let three = tag_tells k (o + 2 * step) size c.args.c.now _ c.has_tag-3.result c.requires.third code3 c.has_tag-3.ensures in
-    let four = tag_tells k (o + 3 * step) size c.args.d.now _ c.has_tag-4.result c.requires.fourth code4 c.has_tag-4.ensures in
-    sym (λ i. one i ∷ two i ∷ three i ∷ four i ∷ [])
+    let sector = λ (j : ℕ). (slice_index_or from j nothing).now in
+    let long : (j : ℕ) → j < 4 → length (sector j) ≡ 512 = λ j below. sector_long from j c.requires.sectors below in
+    let code = λ (j : ℕ). ap (λ (l : List (List ℕ)). get_or l j []) is in
+    let one = tag_tells k o tag size (sector 0) _ c.has_tag.result (long 0 (omega arith)) c.tag_size-tag.ensures (code 0) c.has_tag.ensures in
+    let two = tag_tells k (o + step) tag size (sector 1) _ c.has_tag-2.result (long 1 (omega arith)) c.tag_size-tag.ensures (code 1) c.has_tag-2.ensures in
+    let three = tag_tells k (o + 2 * step) tag size (sector 2) _ c.has_tag-3.result (long 2 (omega arith)) c.tag_size-tag.ensures (code 2) c.has_tag-3.ensures in
+    let four = tag_tells k (o + 3 * step) tag size (sector 3) _ c.has_tag-4.result (long 3 (omega arith)) c.tag_size-tag.ensures (code 3) c.has_tag-4.ensures in
+    let read = λ (p : ℕ) (j : ℕ). ap (λ (b : List ℕ). is_ok (opened_tagged k p size b)) (bytes_of_is from j) in
+    sym (λ i. (read o 0 ∙ one) i ∷ (read (o + step) 1 ∙ two) i ∷ (read (o + 2 * step) 2 ∙ three) i ∷ (read (o + 3 * step) 3 ∙ four) i ∷ [])

@@ -1,6 +1,5 @@
 use Rattle.std.proofs.Common.{rules, ◌≡◌, ◌-◌, ◌++◌, ℕ, List, length, replicate, ap, ◌∙◌, sym, arith}
 use Rattle.std.proofs.lemmas.List.{drop_at}
-use Rattle.eli_base.specs.declared.algorithms.Auth.{Auth}
 use Rattle.eli_base.specs.Units.{tag_bytes, unit_bytes_of}
 use Rattle.eli_base.proofs.Units.{tag_and_unit}
 use Rattle.sealing.specs.Runs.{sealed_run}
@@ -10,9 +9,9 @@ pub returns-clause-sealed : goal.returns-clause-sealed
 returns-clause-sealed c =
     let k = c.args.ring.now.keying in
     let text = c.seal_run.new.block in
-    let size = c.tag_bytes-size.result in
+    let size = c.tag_size-size.result in
     let n : ℕ = length c.split_at_mut-text.result.1.now in
-    let wide : size ≡ tag_bytes k.auth = c.tag_bytes-size.ensures ∙ ap (λ (a : Auth). tag_bytes a) c.auth.ensures in
+    let wide : size ≡ tag_bytes k.auth = c.tag_size-size.ensures in
     let sealed : text ≡ sealed_run k c.args.offset c.args.plain.now =
     c.seal_run.ensures.sealed ∙ ap (λ (b : List ℕ). sealed_run k c.args.offset b) c.copy_from_slice.ensures.after in
     let filled : c.fill.new.self ≡ replicate n 0 = search rules in

@@ -1,7 +1,7 @@
 use Rattle.std.proofs.Common.{◌≡◌, ◌*◌, drop, take, Ok}
 use Rattle.block_traits.specs.Parts.{parts}
 use Rattle.sealing.specs.Sectors.{units}
-use Rattle.bio_queue.specs.Sectors.{opened_data}
+use Rattle.sealing.specs.Data.{opened_data}
 use Rattle.bio_queue.proofs.opening.open_all.Given as goal
 
 abbrev pub invariant-loop-i : goal.invariant-loop-i

@@ -1,7 +1,7 @@
 use Rattle.std.proofs.Common.{◌≡◌, ◌*◌}
 use Rattle.block_traits.specs.Parts.{parts}
 use Rattle.sealing.specs.Sectors.{units}
-use Rattle.bio_queue.specs.Sectors.{sealed_sectors}
+use Rattle.sealing.specs.Data.{sealed_sectors}
 use Rattle.bio_queue.proofs.opening.seal_all.Given as goal
 
 abbrev pub invariant-loop-i : goal.invariant-loop-i

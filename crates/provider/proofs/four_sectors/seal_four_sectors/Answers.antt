@@ -1,16 +1,12 @@
-use Rattle.std.proofs.Common.{◌*◌, ℕ, take, ap, ◌∙◌, arith}
-use Rattle.auth_sectors.proofs.Wholes.{second_part, third_part, fourth_part}
-use Rattle.provider.proofs.FourSectors.{four_writes}
+use Rattle.std.proofs.Common.{◌≡◌, ◌+◌, ◌*◌, ℕ, ◌∙◌, arith}
+use Rattle.sealing.specs.Sectors.{units}
+use Rattle.provider.proofs.UnitLists.{stands, unit_small, unit_there}
 use Rattle.provider.proofs.four_sectors.seal_four_sectors.Goals as goal
 
-pub returns-clause-sealed : goal.returns-clause-sealed
-returns-clause-sealed c =
-    let k = c.args.ring.now.keying in
-    let plain = c.args.plain.now in
-    let size = c.args.size in
-    let same = c.requires.size in
-    let call = c.seal_side_by_side in
-    four_writes k c.args.sector plain _ _ _ _ call.new.first call.new.second call.new.third call.new.fourth
-    (ap (λ (s : ℕ). take s plain) same) (second_part size k.sectorsize plain same) (third_part size k.sectorsize plain same) (fourth_part size k.sectorsize plain same (c.requires.plain ∙ ap (λ (s : ℕ). 4 * s) same))
-    (omega (arith, c.requires.out)) (omega (arith, c.requires.out)) (omega (arith, c.requires.out)) (omega (arith, c.requires.out))
-    call.ensures.first call.ensures.second call.ensures.third call.ensures.fourth
+pub unit-unit-requires-clause-there : goal.unit-unit-requires-clause-there
+unit-unit-requires-clause-there c = unit_there c.args.ring.now.keying c.loop-j.ring.keying c.loop-j.j _ c.loop-j.invariant.keying c.layout-layout.ensures.units c.loop-j-test.true
+
+pub unit-unit-requires-clause-small : goal.unit-unit-requires-clause-small
+unit-unit-requires-clause-small c =
+    unit_small c.args.ring.now.keying c.loop-j.ring.keying c.args.sector c.loop-j.j _ c.loop-j.invariant.keying c.layout-layout.ensures.units c.loop-j-test.true (omega (arith, c.requires.place))
+

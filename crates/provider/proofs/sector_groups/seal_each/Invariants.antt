@@ -1,8 +1,7 @@
 use Rattle.std.proofs.Common.{◌≡◌, ◌*◌}
-use Rattle.block_traits.specs.Disk.{writes_from}
 use Rattle.block_traits.specs.Parts.{parts}
+use Rattle.sealing.specs.Data.{sealed_sectors}
 use Rattle.sealing.specs.Sectors.{units}
-use Rattle.provider.specs.Writing.{data_writes}
 use Rattle.provider.proofs.sector_groups.seal_each.Given as goal
 
 abbrev pub invariant-loop-i : goal.invariant-loop-i
@@ -10,5 +9,5 @@ invariant-loop-i l =
     let k = l.initial.ring.keying in
     record {
       keying : l.ring.keying ≡ k;
-      sealed : writes_from (l.sector * units k) (parts 512 (l.i * units k) l.out) ≡ data_writes k l.sector l.i l.plain;
+      sealed : parts 512 (l.i * units k) l.out ≡ sealed_sectors k l.sector l.i l.plain;
     }

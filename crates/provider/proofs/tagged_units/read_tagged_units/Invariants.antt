@@ -1,4 +1,4 @@
-use Rattle.std.proofs.Common.{◌≡◌, ◌*◌, [], length, take, min, Ok, IfSome}
+use Rattle.std.proofs.Common.{◌≡◌, ◌*◌, [], take, min, Ok, IfSome}
 use Rattle.block_traits.specs.Causes.{Counted}
 use Rattle.block_traits.specs.Content.{Content}
 use Rattle.block_traits.specs.Disk.{Logs}
@@ -15,6 +15,5 @@ invariant-loop-j g l =
       keying : l.ring.keying ≡ k;
       asked : Counted l.j (state l.initial.disk).reads (state l.disk).reads;
       logs : Logs [] (state l.initial.disk) (state l.disk);
-      start : l.start ≡ min (unit_bytes_of k.auth * l.j) (length l.initial.block);
-      reads : IfSome (state l.initial.disk).content (λ (c : Content). joined (take l.j (units_read k c l.sector)) ≡ Ok (take l.start l.block));
+      reads : IfSome (state l.initial.disk).content (λ (c : Content). joined (take l.j (units_read k c l.sector)) ≡ Ok (take (min (unit_bytes_of k.auth * l.j) k.sectorsize) l.block));
     }

@@ -6,7 +6,7 @@ use Rattle.bio_queue.specs.declared.job.Job.{Job}
 use Rattle.bio_queue.specs.declared.job.Reaped.TheVariants.{Bytes}
 use Rattle.provider.specs.Attached.{Attached, media}
 use Rattle.sealing.specs.Sectors.{units}
-use Rattle.bio_queue.specs.Sectors.{opened_data}
+use Rattle.sealing.specs.Data.{opened_data}
 use Rattle.bio_queue.proofs.Held.{gave-read}
 use Rattle.bio_queue.proofs.request.OpenRequest.give.Goals as goal
 

@@ -13,7 +13,7 @@ use Rattle.sealing.specs.TaggedUnits.{sealed_tagged}
 use Rattle.sealing.specs.Sectors.{seal, unit_size, unit_size_at, units}
 use Rattle.sealing.proofs.TaggedUnitLaws.{sealed_unit-tagged}
 use Rattle.sealing.proofs.Sectors.{length-seal}
-use Rattle.provider.specs.Judging.{HasWholeFour}
+use Rattle.provider.specs.Verdicts.{HasWholeFour}
 use Rattle.provider.proofs.Cuts.{parts-put-some}
 
 -- there are as many units as whole ones, or more

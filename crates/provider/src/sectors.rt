@@ -4,7 +4,7 @@ ghost use Rattle.block_traits.specs.Parts.{parts};
 ghost use Rattle.eli_base.specs.declared.algorithms.Auth.TheVariants.{Off};
 ghost use Rattle.eli_base.specs.Units.{unit_bytes_of};
 ghost use Rattle.sealing.specs.Sectors.{device_sectors, reading, seal, units};
-ghost use Rattle.provider.specs.Judging.{accepted_among};
+ghost use Rattle.provider.specs.Verdicts.{accepted_among};
 
 use auth_sectors::{open_accepted, seal_apart, seal_piece};
 use block_traits::Sector;

@@ -1,7 +1,7 @@
 -- Logical sectors one after the other, as the device sectors that they are sealed to and opened from.
-use Rattle.std.proofs.Common.{◌≡◌, ◌≢◌, ℕ, zero, suc, ◌+◌, ◌-◌, ◌*◌, ◌/◌, ◌%◌, ◌^◌, ◌<◌, ◌≤◌, Bool, true, false, cond, is_err, is_ok, MatchResult, List, [], ◌∷◌, ◌++◌, length, get_or, take, drop, Option, Some, None, Result, Ok, Err, bytes_eq, refl, sym, ap, subst, ◌∙◌, arith, append_assoc, append-nil, add-one, add-zero}
+use Rattle.std.proofs.Common.{◌≡◌, ◌≢◌, ℕ, zero, suc, ◌+◌, ◌-◌, ◌*◌, ◌/◌, ◌%◌, ◌^◌, ◌<◌, ◌≤◌, Bool, true, false, cond, is_err, is_ok, MatchResult, List, [], ◌∷◌, ◌++◌, length, get_or, take, drop, Option, Some, None, Result, Ok, Err, refl, sym, ap, subst, ◌∙◌, arith, append_assoc, append-nil, add-one}
 use Rattle.std.proofs.Math.Nat.{div-add-mod, div-lt_iff_lt-mul}
-use Rattle.std.proofs.lemmas.List.{get_or-drop, get_or-take, drop-drop, take-take, drop-take, drop_at, take_at, take_all, length-append, length-take-le, length-drop}
+use Rattle.std.proofs.lemmas.List.{get_or-drop, get_or-take, drop-drop, take-take, drop-take, drop_at, take_at, take_all, length-take-le, length-drop}
 use Rattle.std.proofs.lemmas.Slice.{drop-put_mid, take-put_mid}
 use borrow.Rule.Slice.PartMut.{put_mid}
 use Rattle.block_traits.specs.declared.disk.Event.{Event}
@@ -13,12 +13,11 @@ use Rattle.eli_base.specs.declared.algorithms.Auth.TheVariants.{Off}
 use Rattle.eli_base.specs.Keying.{Keying}
 use Rattle.sealing.specs.Data.{opened_data, opened_sectors, sealed_sectors}
 use Rattle.sealing.specs.Sectors.{before, device_sectors, joined, reading, seal, unit_reading_at, unit_readings, units}
-use Rattle.sealing.specs.TaggedUnits.{opened_tagged}
 use Rattle.sealing.proofs.Sectors.{length-seal}
 use Rattle.sealing.proofs.TaggedUnitLaws.{length-unit_readings-tagged, unit_reading-alone}
 use Rattle.provider.specs.Verdicts.{accepted_among}
 use Rattle.provider.specs.declared.faults.BadUnit.{BadUnit}
-use Rattle.provider.specs.Reading.{standing, StandFrom, ReadsFrom, sector_reading, sector_readings}
+use Rattle.provider.specs.Reading.{standing, StandFrom, ReadsFrom, sector_readings}
 use Rattle.provider.specs.Writing.{data_writes, sector_writes}
 use Rattle.provider.proofs.Cuts.{parts-add, parts-front, parts-put-some}
 use Rattle.provider.proofs.Events.{writes_from-append}

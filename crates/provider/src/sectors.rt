@@ -32,7 +32,13 @@ fn seal_fours(ring: &mut KeyRing, sector: u64, fours: usize, plain: &[u8], out: 
             &plain[at + 2 * width..at + 3 * width],
             &plain[at + 3 * width..at + 4 * width],
         ];
-        seal_apart(ring, unit.offset, 512, four, &mut out[2048 * i..2048 * i + 2048]);
+        seal_apart(
+            ring,
+            unit.offset,
+            512,
+            four,
+            &mut out[2048 * i..2048 * i + 2048],
+        );
     }
 }
 

@@ -1,5 +1,5 @@
-use Rattle.std.proofs.Common.{◌≡◌, ◌+◌, ◌*◌, ◌≤◌, ℕ, length, take, drop, sym, ap, ◌∙◌, arith}
-use Rattle.std.proofs.lemmas.List.{length-drop, length-take-le, take_all}
+use Rattle.std.proofs.Common.{◌≡◌, ◌+◌, ◌*◌, ℕ, take, drop, sym, ap, ◌∙◌, arith}
+use Rattle.std.proofs.lemmas.List.{length-drop, take_all}
 use Rattle.sealing.specs.Sectors.{units}
 use Rattle.provider.proofs.FourSectors.{are_apart, piece_of_four, sealed_four}
 use Rattle.provider.proofs.InMemory.{sealed_all, sealed_next}
@@ -12,7 +12,6 @@ unit-unit-requires-clause-there c = unit_there c.args.ring.now.keying c.loop-j.r
 pub unit-unit-requires-clause-small : goal.unit-unit-requires-clause-small
 unit-unit-requires-clause-small c =
     unit_small c.args.ring.now.keying c.loop-j.ring.keying c.args.sector c.loop-j.j _ c.loop-j.invariant.keying c.layout-layout.ensures.units c.loop-j-test.true (omega (arith, c.requires.place))
-
 
 pub loop-j-preserved : goal.loop-j-preserved
 loop-j-preserved c =

@@ -1,4 +1,4 @@
-use Rattle.std.proofs.Common.{◌≡◌, ◌+◌, ◌-◌, ◌*◌, ◌/◌, ◌<◌, ℕ, List, length, take, drop, subst, sym, ◌∙◌, arith}
+use Rattle.std.proofs.Common.{◌+◌, ◌-◌, ◌*◌, ℕ, List, length, drop, subst, sym, ◌∙◌, arith}
 use Rattle.std.proofs.lemmas.List.{length-drop, take_all}
 use Rattle.provider.specs.Verdicts.{Judges}
 use Rattle.provider.proofs.Verdicts.{accepted_behind, accepted_on}
@@ -15,8 +15,7 @@ returns-in-Some c =
     let long = length-drop (512 * done) device in
     let judges = subst (λ (d : List ℕ). Judges k (n + done) d c.judge-judged.result) (take_all (length device - 512 * done) rest (omega (arith, long))) c.judge-judged.ensures in
     let found = c.in-Some.ensures in
-    let within = judges.within in
-    (
+    let within = judges.within in (
       omega (arith, found.0, within, long),
       sym (accepted_behind k n done m device) ∙ sym (judges.each m found.0) ∙ found.1,
       accepted_on k n done m device c.judge-judged.result c.groups.invariant.accepted judges (omega (arith, found.0)) found.2,

@@ -1,11 +1,9 @@
-use Rattle.std.proofs.Common.{◌≡◌, ◌*◌, ◌/◌, ◌%◌, ◌<◌, ℕ, List, Ok, length, subst, sym, ap, ◌∙◌, arith}
+use Rattle.std.proofs.Common.{◌≡◌, ◌*◌, ◌/◌, ◌%◌, ◌<◌, ℕ, Ok, length, subst, sym, ap, ◌∙◌, arith}
 use Rattle.std.proofs.Math.Nat.{div-add-mod}
 use Rattle.block_traits.specs.Disk.{GivesEach}
-use Rattle.sealing.specs.Data.{opened_data}
 use Rattle.sealing.specs.Sectors.{units}
-use Rattle.block_traits.specs.Parts.{parts}
 use Rattle.provider.specs.Reading.{ReadsAs}
-use Rattle.provider.proofs.Data.{reads_looked, whole_device}
+use Rattle.provider.proofs.Data.{reads_looked}
 use Rattle.provider.proofs.Ranges.{units-off}
 use Rattle.provider.proofs.runs.look_run.Goals as goal
 

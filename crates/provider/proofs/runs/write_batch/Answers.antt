@@ -1,4 +1,4 @@
-use Rattle.std.proofs.Common.{◌≡◌, ◌*◌, ◌/◌, ℕ, List, length, take, refl, subst, sym, ap, ◌∙◌, arith, OnErr, OnOk}
+use Rattle.std.proofs.Common.{◌≡◌, ◌*◌, ◌/◌, ℕ, List, length, refl, subst, ap, ◌∙◌, arith, OnErr, OnOk}
 use Rattle.std.proofs.lemmas.List.{length-take-le, take_at}
 use Rattle.block_traits.specs.declared.disk.Event.{Event}
 use Rattle.block_traits.specs.Disk.{FailsIn, Logs, write_events}

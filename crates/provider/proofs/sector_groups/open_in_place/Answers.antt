@@ -1,4 +1,4 @@
-use Rattle.std.proofs.Common.{◌≡◌, ◌+◌, ◌-◌, ◌*◌, ◌/◌, ◌<◌, ℕ, List, Ok, length, take, drop, subst, sym, ap, ◌∙◌, arith}
+use Rattle.std.proofs.Common.{◌≡◌, ◌+◌, ◌-◌, ◌*◌, ◌/◌, ◌<◌, ℕ, List, Ok, length, take, drop, subst, sym, ◌∙◌, arith}
 use Rattle.sealing.specs.Sectors.{device_sectors, reading, units}
 use Rattle.provider.proofs.Data.{opened_next, rest_next}
 use Rattle.provider.proofs.Ranges.{bytes_inside, units-off}

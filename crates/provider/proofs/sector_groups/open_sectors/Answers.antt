@@ -1,5 +1,4 @@
-use Rattle.std.proofs.Common.{rules, ◌≡◌, ◌≢◌, ◌+◌, ◌*◌, ◌/◌, ◌<◌, ℕ, Some, Err, length, subst, sym, ap, ◌∙◌, arith}
-use Rattle.std.proofs.Math.Nat.{div-add-mod}
+use Rattle.std.proofs.Common.{rules, ◌≡◌, ◌≢◌, ◌+◌, ◌*◌, ◌/◌, ℕ, Some, Err, length, subst, sym, ap, ◌∙◌, arith}
 use Rattle.eli_base.specs.declared.algorithms.Auth.TheVariants.{Off}
 use Rattle.sealing.specs.Sectors.{units}
 use Rattle.provider.specs.Verdicts.{IsFirstRefused, accepted_among}

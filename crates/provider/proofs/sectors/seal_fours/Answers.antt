@@ -1,4 +1,4 @@
-use Rattle.std.proofs.Common.{◌≡◌, ◌+◌, ◌-◌, ◌*◌, ◌<◌, ◌≤◌, ℕ, length, take, drop, refl, ap, ◌∙◌, arith}
+use Rattle.std.proofs.Common.{◌≡◌, ◌+◌, ◌-◌, ◌*◌, ◌≤◌, ℕ, length, take, drop, refl, ap, ◌∙◌, arith}
 use Rattle.sealing.specs.Sectors.{units}
 use Rattle.eli_base.specs.Units.{unit_bytes_of}
 use Rattle.provider.proofs.Fours.{four_fit, group_put, wholes_within}

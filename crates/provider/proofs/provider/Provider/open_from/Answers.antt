@@ -1,4 +1,4 @@
-use Rattle.std.proofs.Common.{◌≡◌, ◌*◌, arith}
+use Rattle.std.proofs.Common.{arith}
 use Rattle.provider.proofs.Ranges.{request_inside}
 use Rattle.provider.proofs.provider.Provider.open_from.Goals as goal
 

@@ -1,4 +1,4 @@
-use Rattle.std.proofs.Common.{◌≡◌, ◌*◌, arith}
+use Rattle.std.proofs.Common.{arith}
 use Rattle.provider.proofs.Ranges.{request_inside}
 use Rattle.provider.proofs.provider.Provider.seal_into.Goals as goal
 

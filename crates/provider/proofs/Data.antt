@@ -1,26 +1,28 @@
 -- Logical sectors one after the other, as the device sectors that they are sealed to and opened from.
-use Rattle.std.proofs.Common.{◌≡◌, ◌≢◌, ℕ, zero, suc, ◌+◌, ◌-◌, ◌*◌, ◌/◌, ◌%◌, ◌<◌, ◌≤◌, Bool, true, false, cond, is_ok, List, [], ◌∷◌, ◌++◌, length, get_or, take, drop, Option, Some, None, Result, Ok, Err, bytes_eq, refl, sym, ap, subst, ◌∙◌, arith, append_assoc, append-nil, add-one, add-zero}
+use Rattle.std.proofs.Common.{◌≡◌, ◌≢◌, ℕ, zero, suc, ◌+◌, ◌-◌, ◌*◌, ◌/◌, ◌%◌, ◌^◌, ◌<◌, ◌≤◌, Bool, true, false, cond, is_err, is_ok, MatchResult, List, [], ◌∷◌, ◌++◌, length, get_or, take, drop, Option, Some, None, Result, Ok, Err, refl, sym, ap, subst, ◌∙◌, arith, append_assoc, append-nil, add-one}
 use Rattle.std.proofs.Math.Nat.{div-add-mod, div-lt_iff_lt-mul}
-use Rattle.std.proofs.lemmas.List.{get_or-drop, get_or-take, drop-drop, take-take, drop-take, drop_at, take_at, take_all, length-append, length-take-le, length-drop}
-use Rattle.std.proofs.lemmas.Slice.{take-put_mid}
+use Rattle.std.proofs.lemmas.List.{get_or-drop, get_or-take, drop-drop, take-take, drop-take, drop_at, take_at, take_all, length-take-le, length-drop}
+use Rattle.std.proofs.lemmas.Slice.{drop-put_mid, take-put_mid}
 use borrow.Rule.Slice.PartMut.{put_mid}
 use Rattle.block_traits.specs.declared.disk.Event.{Event}
 use Rattle.block_traits.specs.Content.{Content, present}
-use Rattle.block_traits.specs.Disk.{GivesEachFrom, writes_from}
+use Rattle.block_traits.specs.Disk.{GivesEachFrom, write_events, writes_from}
 use Rattle.block_traits.specs.Parts.{parts}
 use Rattle.block_traits.proofs.PartLists.{get_or-parts, length-parts}
 use Rattle.eli_base.specs.declared.algorithms.Auth.TheVariants.{Off}
 use Rattle.eli_base.specs.Keying.{Keying}
 use Rattle.sealing.specs.Data.{opened_data, opened_sectors, sealed_sectors}
 use Rattle.sealing.specs.Sectors.{before, device_sectors, joined, reading, seal, unit_reading_at, unit_readings, units}
-use Rattle.sealing.specs.TaggedUnits.{opened_tagged}
 use Rattle.sealing.proofs.Sectors.{length-seal}
 use Rattle.sealing.proofs.TaggedUnitLaws.{length-unit_readings-tagged, unit_reading-alone}
-use Rattle.provider.specs.Judging.{accepted_among}
-use Rattle.provider.specs.Reading.{standing, StandFrom, ReadsFrom, sector_reading, sector_readings}
+use Rattle.provider.specs.Verdicts.{accepted_among}
+use Rattle.provider.specs.declared.faults.BadUnit.{BadUnit}
+use Rattle.provider.specs.Reading.{standing, StandFrom, ReadsFrom, sector_readings}
 use Rattle.provider.specs.Writing.{data_writes, sector_writes}
 use Rattle.provider.proofs.Cuts.{parts-add, parts-front, parts-put-some}
 use Rattle.provider.proofs.Events.{writes_from-append}
+use Rattle.provider.proofs.Ranges.{units-off}
+use Rattle.range_keys.specs.Ring.{IsKeying}
 use Rattle.provider.proofs.Readings.{joined-push}
 use Rattle.provider.proofs.UnitLists.{length-standing}
 
@@ -167,6 +169,14 @@ opened_none k sector size device out = let none : 0 ≡ 0 * size = omega arith i
 pub opened_all_of : (k : Keying) (sector i count size : ℕ) (device : List (List ℕ)) (out : List ℕ) → i ≡ count → length out ≤ count * size → opened_data k sector i device ≡ Ok (take (i * size) out) → opened_data k sector count device ≡ Ok out
 opened_all_of k sector i count size device out end all so =
     ap (λ (c : ℕ). opened_data k sector c device) (sym end) ∙ so ∙ ap (λ (c : ℕ). Ok (take (c * size) out)) end ∙ ap Ok (take_all (count * size) out all)
+
+-- the bytes behind a logical sector that is opened in place stand as they did
+pub rest_next : (i size width : ℕ) (now all block : List ℕ) → width ≡ size → length block ≡ width → i * size + size ≤ length now → drop (i * size) now ≡ drop (i * size) all
+    → drop ((i + 1) * size) (put_mid (i * size) width now block) ≡ drop ((i + 1) * size) all
+rest_next i size width now all block wide long inside rest =
+    let at : (i + 1) * size ≡ i * size + size = omega arith in
+    drop-put_mid (i * size) width now block ((i + 1) * size) (omega (arith, at, wide)) (omega (arith, inside)) long
+    ∙ ap (λ (m : ℕ). drop m now) at ∙ sym (drop-drop size (i * size) now) ∙ ap (drop size) rest ∙ drop-drop size (i * size) all ∙ ap (λ (m : ℕ). drop m all) (sym at)
 
 -- ---- the first unit that is refused
 
@@ -341,3 +351,38 @@ reads_looked told k sector count device answer each long is =
     let P : ℕ → Type 0 = λ n. StandFrom told n (count * units k) (parts 512 (count * units k) device) in
     let stand = subst P at (StandFrom-each told (sector * units k) 0 (count * units k) device each (omega (arith, long, wide))) in
     reads_as told k sector count (parts 512 (count * units k) device) answer stand is
+
+-- where it was opened
+pub opened_ok : {A : Type 0} (r : Result A BadUnit) (P : Type 0) (Q : BadUnit → Type 0) → is_err r ≡ false → MatchResult r (λ _. P) Q → P
+opened_ok (Ok done) P Q ok so = so
+opened_ok (Err bad) P Q ok so = absurd (cc ok)
+
+-- the bytes of device sectors that have no tags are those of the logical sectors
+pub whole_device : (k : Keying) (out device : ℕ) → k.auth ≡ Off → out % k.sectorsize ≡ 0 → device ≡ out / k.sectorsize * (512 * units k) → IsKeying k → out ≡ device
+whole_device k out device off whole long is =
+    let S : ℕ = k.sectorsize in
+    let some : 0 < S = omega (arith, is.at_least) in
+    let wide : 512 * units k ≡ S = omega (arith, units-off k S off refl some is.whole, is.whole) in
+    let all : out / S * S ≡ device = ap (λ (w : ℕ). out / S * w) (sym wide) ∙ sym long in
+    omega (arith, div-add-mod out S, whole, all)
+
+-- a unit among those of some logical sectors has a small number
+pub refused_within : (k : Keying) (sector count rows m device : ℕ) → rows ≡ units k → device ≡ count * (512 * units k) → m < device / 512 → (sector + count) * units k < 2 ^ 44 → sector * rows + m < 2 ^ 44
+refused_within k sector count rows m device same long lt small =
+    let at : sector * rows ≡ sector * units k = ap (λ (u : ℕ). sector * u) same in
+    let spread : count * (512 * units k) ≡ 512 * (count * units k) = omega arith in
+    let both : (sector + count) * units k ≡ sector * units k + count * units k = omega arith in
+    omega (arith, at, spread, both, long, lt, small)
+
+-- ---- to the disk
+
+-- device sectors that are written in ascending order are the writes of their logical sectors
+pub written : (k : Keying) (sector size rows : ℕ) (from sealed : List ℕ) → rows ≡ units k → size ≡ k.sectorsize → length sealed ≡ length from / size * (512 * units k)
+    → parts 512 (length from / k.sectorsize * units k) sealed ≡ sealed_sectors k sector (length from / k.sectorsize) from → write_events (sector * rows) sealed ≡ data_writes k sector (length from / size) from
+written k sector size rows from sealed same sized long so =
+    let count : ℕ = length from / k.sectorsize in
+    let counted : length from / size ≡ count = ap (λ (s : ℕ). length from / s) sized in
+    let spread : count * (512 * units k) ≡ 512 * (count * units k) = omega arith in
+    let all : length sealed ≡ count * (512 * units k) = long ∙ ap (λ (n : ℕ). n * (512 * units k)) counted in
+    let many : length sealed / 512 ≡ count * units k = omega (arith, all, spread) in
+    (λ o. writes_from (sector * same o) (parts 512 (many o) sealed)) ∙ ap (writes_from (sector * units k)) so ∙ writes_all k sector count from ∙ ap (λ (n : ℕ). data_writes k sector n from) (sym counted)

@@ -1,18 +1,13 @@
 -- What is logged logical sector by logical sector.
-use Rattle.std.proofs.Common.{◌≡◌, ℕ, zero, suc, ◌+◌, ◌-◌, ◌*◌, ◌/◌, ◌<◌, ◌≤◌, List, [], ◌∷◌, ◌++◌, length, take, drop, sym, ap, ◌∙◌, arith, add-one, append-nil, append_assoc}
-use Rattle.std.proofs.lemmas.List.{drop-drop, length-drop, length-take-le, take-append-drop}
-use borrow.Rule.Slice.PartMut.{put_mid}
+use Rattle.std.proofs.Common.{◌≡◌, ℕ, suc, ◌+◌, ◌-◌, ◌*◌, ◌/◌, ◌<◌, ◌≤◌, List, [], ◌∷◌, ◌++◌, length, take, drop, sym, ap, ◌∙◌, arith}
+use Rattle.std.proofs.lemmas.List.{drop-drop, take-append-drop}
 use Rattle.block_traits.specs.declared.disk.Event.{Event}
 use Rattle.block_traits.specs.declared.disk.Event.TheVariants.{Write}
 use Rattle.block_traits.specs.Disk.{writes_from}
-use Rattle.block_traits.specs.Parts.{parts}
-use Rattle.block_traits.proofs.PartLists.{length-parts}
 use Rattle.eli_base.specs.Keying.{Keying}
-use Rattle.sealing.specs.Sectors.{device_sectors, seal, units}
-use Rattle.provider.specs.Writing.{sector_writes, data_writes}
+use Rattle.provider.specs.Writing.{data_writes}
 use Rattle.provider.proofs.Adjoining.{data_writes-more}
 use Rattle.provider.proofs.Batches.{batch_count, batch_length}
-use Rattle.provider.proofs.Cuts.{parts-put-some}
 
 pub writes_from-append : (n : ℕ) (xs ys : List (List ℕ)) → writes_from n (xs ++ ys) ≡ writes_from n xs ++ writes_from (n + length xs) ys
 writes_from-append n [] ys = let at : n ≡ n + 0 = omega arith in ap (λ (m : ℕ). writes_from m ys) at

@@ -1,10 +1,10 @@
 -- Whole units of a logical sector, four at a time.
-use Rattle.std.proofs.Common.{◌≡◌, ◌≢◌, ℕ, suc, ◌+◌, ◌-◌, ◌*◌, ◌/◌, ◌%◌, ◌<◌, ◌≤◌, min, List, [], ◌∷◌, ◌++◌, length, get_or, take, take-add, drop, refl, sym, ap, ◌∙◌, arith, add-one}
+use Rattle.std.proofs.Common.{◌≡◌, ◌≢◌, ℕ, suc, ◌+◌, ◌-◌, ◌*◌, ◌/◌, ◌%◌, ◌<◌, ◌≤◌, min, List, [], ◌∷◌, ◌++◌, length, get_or, take, take-add, drop, sym, ap, ◌∙◌, arith}
 use Rattle.std.proofs.Math.Nat.{div-add-mod, div-mul-le_self, mul-le-mul_left, mul-le-mul_right}
 use Rattle.std.proofs.lemmas.Nat.{mod-mul-add}
 use Rattle.std.proofs.Math.Seq.{drop-cons}
 use borrow.Rule.Slice.PartMut.{put_mid}
-use Rattle.block_traits.specs.Parts.{part, parts}
+use Rattle.block_traits.specs.Parts.{parts}
 use Rattle.eli_base.specs.declared.algorithms.Auth.{Auth}
 use Rattle.eli_base.specs.declared.algorithms.Auth.TheVariants.{Off, Sha256, Sha384, Sha512}
 use Rattle.eli_base.specs.Keying.{Keying}
@@ -13,7 +13,7 @@ use Rattle.sealing.specs.TaggedUnits.{sealed_tagged}
 use Rattle.sealing.specs.Sectors.{seal, unit_size, unit_size_at, units}
 use Rattle.sealing.proofs.TaggedUnitLaws.{sealed_unit-tagged}
 use Rattle.sealing.proofs.Sectors.{length-seal}
-use Rattle.provider.specs.Judging.{HasWholeFour}
+use Rattle.provider.specs.Verdicts.{HasWholeFour}
 use Rattle.provider.proofs.Cuts.{parts-put-some}
 
 -- there are as many units as whole ones, or more

@@ -1,5 +1,5 @@
 -- One logical sector that is sealed or opened in memory.
-use Rattle.std.proofs.Common.{◌≡◌, ◌≢◌, ℕ, ◌+◌, ◌-◌, ◌*◌, ◌/◌, ◌%◌, ◌<◌, ◌≤◌, min, true, is_ok, List, [], ◌∷◌, ◌++◌, length, get_or, take, drop, Result, Ok, Err, refl, sym, ap, subst, ◌∙◌, arith, add-one}
+use Rattle.std.proofs.Common.{◌≡◌, ◌≢◌, ℕ, ◌+◌, ◌-◌, ◌*◌, ◌/◌, ◌%◌, ◌<◌, ◌≤◌, min, true, is_ok, List, [], ◌∷◌, ◌++◌, length, get_or, take, drop, Ok, sym, ap, ◌∙◌, arith, add-one}
 use Rattle.std.proofs.Math.Nat.{mul-le-mul_right, div-mul-le_self}
 use Rattle.std.proofs.lemmas.Nat.{mod-mul-add}
 use Rattle.std.proofs.Math.Seq.{take-suc}
@@ -13,7 +13,7 @@ use Rattle.eli_base.specs.Units.{media_sectors, unit_bytes_of}
 use Rattle.eli_base.proofs.Units.{units_reach}
 use Rattle.sealing.specs.TaggedUnits.{opened_tagged, sealed_tagged}
 use Rattle.sealing.specs.Sectors.{device_sectors, joined, reading, seal, unit_readings, unit_size, unit_size_at, units}
-use Rattle.provider.specs.Judging.{accepted_among}
+use Rattle.provider.specs.Verdicts.{accepted_among}
 use Rattle.sealing.proofs.TaggedUnitLaws.{length-unit_readings-tagged, sealed_unit-tagged, unit_reading-tagged}
 use Rattle.sealing.proofs.Sectors.{length-seal}
 use Rattle.provider.proofs.Cuts.{parts-put}

@@ -14,4 +14,4 @@ pub mod InMemory
 pub mod Data
 pub mod OpenedSlots
 pub mod FourSectors
-pub mod Judging
+pub mod Verdicts

@@ -1,5 +1,5 @@
 -- Where logical sectors stand on the disk.
-use Rattle.std.proofs.Common.{◌≡◌, ℕ, ◌+◌, ◌-◌, ◌*◌, ◌/◌, ◌%◌, ◌^◌, ◌<◌, ◌≤◌, sym, ap, ◌∙◌, arith}
+use Rattle.std.proofs.Common.{◌≡◌, ℕ, ◌+◌, ◌-◌, ◌*◌, ◌/◌, ◌%◌, ◌^◌, ◌<◌, ◌≤◌, subst, sym, ap, ◌∙◌, arith}
 use Rattle.std.proofs.Math.Nat.{mul-le-mul_right, mul-le-mul_left, div-mul-le_self, mul-one}
 use Rattle.eli_base.specs.declared.algorithms.Auth.{Auth}
 use Rattle.eli_base.specs.declared.algorithms.Auth.TheVariants.{Off}
@@ -38,3 +38,11 @@ request_inside k sector count size fits =
     let within : (sector + count) * bytes ≤ media * bytes = mul-le-mul_right bytes fits in
     let whole : media * bytes ≤ all = div-mul-le_self all bytes in
     omega (arith, within, whole)
+
+-- one of some logical sectors has its device sectors among those of all
+pub sector_small : (k now : Keying) (sector i count : ℕ) → now ≡ k → i < count → (sector + count) * units k < 2 ^ 44 → (sector + i) * units now + units now < 2 ^ 44
+sector_small k now sector i count same more small =
+    let next : sector + i + 1 ≤ sector + count = omega arith in
+    let most : (sector + i + 1) * units k ≤ (sector + count) * units k = mul-le-mul_right (units k) next in
+    let here : (sector + i) * units k + units k < 2 ^ 44 = omega (arith, most, small) in
+    subst (λ (h : Keying). (sector + i) * units h + units h < 2 ^ 44) (sym same) here

@@ -1,6 +1,6 @@
 pub mod Answers
 pub mod Attached
-pub mod Judging
+pub mod Verdicts
 pub mod Opening
 pub mod Reading
 pub mod Reads

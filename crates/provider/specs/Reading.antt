@@ -1,11 +1,9 @@
 -- What the logical sectors of a disk read as, as they stand now (geli(8)).
-use Rattle.std.specs.Prelude.{◌≡◌, ℕ, zero, suc, ◌+◌, ◌*◌, ◌/◌, ◌%◌, ◌≤◌, Bool, true, List, [], ◌∷◌, length, replicate, Option, Some, None, Result, is_ok}
+use Rattle.std.specs.Prelude.{◌≡◌, ℕ, zero, suc, ◌+◌, ◌*◌, List, [], ◌∷◌, Option, Some, None, Result}
 use Rattle.block_traits.specs.Content.{Content, present}
-use Rattle.block_traits.specs.Disk.{DiskState, GivesEach}
-use Rattle.block_traits.specs.Parts.{parts}
+use Rattle.block_traits.specs.Disk.{DiskState}
 use Rattle.eli_base.specs.Keying.{Keying}
-use Rattle.eli_base.specs.Units.{unit_bytes_of}
-use Rattle.sealing.specs.Sectors.{joined, unit_reading_at, reading, unit_readings, units}
+use Rattle.sealing.specs.Sectors.{joined, reading, unit_readings, units}
 
 -- so many device sectors from number n on, as they stand now
 abbrev pub standing : Content → ℕ → ℕ → List (List ℕ)

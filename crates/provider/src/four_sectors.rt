@@ -6,6 +6,7 @@ ghost use Rattle.sealing.specs.Data.{sealed_sectors};
 ghost use Rattle.sealing.specs.Sectors.{units};
 
 use auth_sectors::seal_apart;
+use block_traits::sector_of;
 use range_keys::KeyRing;
 
 /// Seals four logical sectors one after the other, the first of number `sector`, each into as many device sectors as it
@@ -37,9 +38,9 @@ pub fn seal_four_sectors(ring: &mut KeyRing, sector: u64, plain: &[u8], out: &mu
         let mut sealed = [0; 2048];
         seal_apart(ring, unit.offset, width as u64, four, &mut sealed);
         let at = 512 * j;
-        first[at..at + 512].copy_from_slice(&sealed[..512]);
-        second[at..at + 512].copy_from_slice(&sealed[512..1024]);
-        third[at..at + 512].copy_from_slice(&sealed[1024..1536]);
-        fourth[at..at + 512].copy_from_slice(&sealed[1536..]);
+        first[at..at + 512].copy_from_slice(&sector_of(&sealed, 0));
+        second[at..at + 512].copy_from_slice(&sector_of(&sealed, 1));
+        third[at..at + 512].copy_from_slice(&sector_of(&sealed, 2));
+        fourth[at..at + 512].copy_from_slice(&sector_of(&sealed, 3));
     }
 }

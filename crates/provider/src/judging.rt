@@ -2,7 +2,7 @@
 ghost use Rattle.std.specs.Prelude.{◌≡◌, ◌≢◌, ◌↔◌, ◌+◌, ◌*◌, ◌/◌, ◌^◌, ◌%◌, ◌<◌, ◌≤◌, IsTrue, is_ok, length, true};
 ghost use Rattle.eli_base.specs.declared.algorithms.Auth.TheVariants.{Off};
 ghost use Rattle.sealing.specs.Sectors.{unit_reading_at, units};
-ghost use Rattle.provider.specs.Judging.{HasWholeFour, IsFirstRefused, Judges, accepted_among, verdict};
+ghost use Rattle.provider.specs.Verdicts.{HasWholeFour, IsFirstRefused, Judges, accepted_among, verdict};
 
 use crate::judged::Judged;
 use auth_sectors::{apart_accepted, unit_accepted};

@@ -6,7 +6,7 @@ ghost use Rattle.block_traits.specs.Parts.{parts};
 ghost use Rattle.eli_metadata.specs.Checks.{settings_of, size_matches, slot_matches, supported};
 ghost use Rattle.provider.specs.Answers.{AttachAnswers, Means, ReadAnswers, Target, WriteAnswers, request};
 ghost use Rattle.provider.specs.Attached.{IsKept, attached_with, has_tags, media};
-ghost use Rattle.provider.specs.Judging.{Judges};
+ghost use Rattle.provider.specs.Verdicts.{Judges};
 ghost use Rattle.provider.specs.Rest.{rest_of};
 ghost use Rattle.range_keys.specs.Ring.{IsKeying};
 ghost use Rattle.sealing.specs.Data.{opened_data, sealed_sectors};

@@ -138,7 +138,6 @@ fn look_batch<D: Disk>(
     ensures missed { result ≡ false → D.state disk.new ≡ D.state disk.old }
     ensures keying { ring.new.keying ≡ ring.old.keying }
 {
-    ring.is_of_a_keying();
     let units = ring.layout().units;
     if !disk.peek(sector * units as u64, device) {
         return false;
@@ -167,7 +166,6 @@ fn read_batch<D: Disk>(
     ensures answer { RunAnswers ring.old.keying sector (length into.old / size) (D.state disk.old) (D.state disk.new) into.new result }
     ensures keying { ring.new.keying ≡ ring.old.keying }
 {
-    ring.is_of_a_keying();
     let units = ring.layout().units;
     let device = &mut buffer[..into.len() / size * (512 * units)];
     if look_batch(ring, disk, sector, size, into, device) {
@@ -193,7 +191,6 @@ fn read_batches<D: Disk>(
     ensures answer { RunAnswers ring.old.keying sector (length into.old / size) (D.state disk.old) (D.state disk.new) into.new result }
     ensures keying { ring.new.keying ≡ ring.old.keying }
 {
-    ring.is_of_a_keying();
     let most = buffer.len() / (512 * ring.layout().units);
     let count = into.len() / size;
     let mut done = 0;
@@ -256,7 +253,6 @@ fn write_batch<D: Disk>(
     ensures left { write_events (sector * units ring.old.keying) (take (length from.now / size * (512 * units ring.old.keying)) buffer.new)
         ≡ data_writes ring.old.keying sector (length from.now / size) from.now }
 {
-    ring.is_of_a_keying();
     let units = ring.layout().units;
     let sealed = &mut buffer[..from.len() / size * (512 * units)];
     seal_sectors(ring, sector, from, sealed);
@@ -282,7 +278,6 @@ pub fn write_run<D: Disk>(
     ensures unasked { (D.state disk.new).reads ≡ (D.state disk.old).reads }
     ensures keying { ring.new.keying ≡ ring.old.keying }
 {
-    ring.is_of_a_keying();
     let most = buffer.len() / (512 * ring.layout().units);
     let count = from.len() / size;
     let mut done = 0;

@@ -4,7 +4,7 @@ ghost use Rattle.block_traits.specs.Parts.{parts};
 ghost use Rattle.eli_base.specs.declared.algorithms.Auth.TheVariants.{Off};
 ghost use Rattle.sealing.specs.Data.{opened_data, sealed_sectors};
 ghost use Rattle.sealing.specs.Sectors.{units};
-ghost use Rattle.provider.specs.Judging.{accepted_among};
+ghost use Rattle.provider.specs.Verdicts.{accepted_among};
 
 use crate::BadUnit;
 use crate::four_sectors::seal_four_sectors;
@@ -141,12 +141,13 @@ pub fn open_sectors(
     ensures stays { OnErr result (out.new ≡ out.old) }
     ensures keying { ring.new.keying ≡ ring.old.keying }
 {
+    let units = ring.layout().units as u64;
     if ring.auth() == Auth::Off {
         out.copy_from_slice(device);
         open_in_place(ring, sector, out);
         return Ok(());
     }
-    let n = sector * ring.layout().units as u64;
+    let n = sector * units;
     if let Some(m) = first_refused(ring, n, device) {
         return Err(BadUnit {
             offset: 512 * (n + m as u64),

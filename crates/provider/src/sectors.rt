@@ -4,7 +4,7 @@ ghost use Rattle.block_traits.specs.Parts.{parts};
 ghost use Rattle.eli_base.specs.declared.algorithms.Auth.TheVariants.{Off};
 ghost use Rattle.eli_base.specs.Units.{unit_bytes_of};
 ghost use Rattle.sealing.specs.Sectors.{device_sectors, reading, seal, units};
-ghost use Rattle.provider.specs.Judging.{accepted_among};
+ghost use Rattle.provider.specs.Verdicts.{accepted_among};
 
 use auth_sectors::{open_accepted, seal_apart, seal_piece};
 use block_traits::Sector;
@@ -32,7 +32,13 @@ fn seal_fours(ring: &mut KeyRing, sector: u64, fours: usize, plain: &[u8], out: 
             &plain[at + 2 * width..at + 3 * width],
             &plain[at + 3 * width..at + 4 * width],
         ];
-        seal_apart(ring, unit.offset, 512, four, &mut out[2048 * i..2048 * i + 2048]);
+        seal_apart(
+            ring,
+            unit.offset,
+            512,
+            four,
+            &mut out[2048 * i..2048 * i + 2048],
+        );
     }
 }
 

@@ -51,7 +51,12 @@ pub fn read_tagged_units<D: Disk>(
 {
     for j in 0..ring.layout().units {
         let unit = ring.unit(sector, j);
-        match read_tagged(ring, disk, unit.offset / 512, &mut block[unit.start..unit.end]) {
+        match read_tagged(
+            ring,
+            disk,
+            unit.offset / 512,
+            &mut block[unit.start..unit.end],
+        ) {
             Ok(()) => {}
             Err(fault) => return Err(fault),
         }

@@ -1,5 +1,5 @@
 use Rattle.std.proofs.Common.{◌≡◌, ◌-◌, ◌<◌, ◌≤◌, ℕ, true}
-use Rattle.provider.specs.Judging.{accepted_among}
+use Rattle.provider.specs.Verdicts.{accepted_among}
 use Rattle.provider.proofs.judging.first_refused.Given as goal
 
 abbrev pub invariant-groups : goal.invariant-groups

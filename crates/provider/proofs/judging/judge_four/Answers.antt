@@ -1,16 +1,20 @@
-use Rattle.std.proofs.Common.{◌≡◌, ◌+◌, ◌*◌, ◌-◌, ◌≤◌, ℕ, Bool, false, List, get_or, length, take, drop, refl, sym, ap, ◌∙◌, arith}
+use Rattle.std.proofs.Common.{◌≡◌, ◌-◌, ℕ, Bool, false, List, [], ◌∷◌, get_or, length, take, drop, refl, sym, ap, ◌∙◌, arith}
 use Rattle.std.proofs.lemmas.List.{length-drop, length-take-le}
 use Rattle.eli_base.specs.Units.{unit_bytes_of}
 use Rattle.provider.proofs.FourSectors.{each_of_four}
 use Rattle.provider.proofs.Fours.{whole_size}
-use Rattle.provider.proofs.Judging.{judged_at, judges_four}
+use Rattle.provider.proofs.Verdicts.{judged_at, judges_four}
 use Rattle.provider.proofs.judging.judge_four.Goals as goal
 
 pub slice_bounds-four-end : goal.slice_bounds-four-end
 slice_bounds-four-end c = sym (length-take-le 512 c.args.device.now (omega (arith, c.requires.four)))
 
 pub apart_accepted-requires-clause-sectors : goal.apart_accepted-requires-clause-sectors
-apart_accepted-requires-clause-sectors c = ?
+apart_accepted-requires-clause-sectors c =
+    let device = c.args.device.now in
+    each_of_four (λ (j : ℕ). length (get_or (take 512 device ∷ take (1024 - 512) (drop 512 device) ∷ take (1536 - 1024) (drop 1024 device) ∷ take (2048 - 1536) (drop 1536 device) ∷ []) j []) ≡ 512)
+    (length-take-le 512 device (omega (arith, c.requires.four))) (length-take-le 512 (drop 512 device) (omega (arith, length-drop 512 device, c.requires.four)))
+    (length-take-le 512 (drop 1024 device) (omega (arith, length-drop 1024 device, c.requires.four))) (length-take-le 512 (drop 1536 device) (omega (arith, length-drop 1536 device, c.requires.four)))
 
 pub returns : goal.returns
 returns c =

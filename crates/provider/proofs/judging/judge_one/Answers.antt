@@ -1,7 +1,7 @@
 use Rattle.std.proofs.Common.{◌≡◌, ◌+◌, ◌*◌, ◌/◌, ◌%◌, ◌<◌, ℕ, refl, subst, ap, ◌∙◌, arith}
 use Rattle.std.proofs.Math.Nat.{div-add-mod}
 use Rattle.sealing.specs.Sectors.{units}
-use Rattle.provider.proofs.Judging.{judged_at, judges_one, unit_sized}
+use Rattle.provider.proofs.Verdicts.{judged_at, judges_one, unit_sized}
 use Rattle.provider.proofs.judging.judge_one.Goals as goal
 
 pub returns : goal.returns

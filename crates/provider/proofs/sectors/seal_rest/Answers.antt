@@ -1,5 +1,4 @@
-use Rattle.std.proofs.Common.{◌≡◌, ◌+◌, ◌*◌, ℕ, length, ap, ◌∙◌, arith}
-use Rattle.sealing.specs.Sectors.{units}
+use Rattle.std.proofs.Common.{◌≡◌, ◌∙◌, arith}
 use Rattle.provider.proofs.InMemory.{sealed_all, sealed_next}
 use Rattle.provider.proofs.UnitLists.{stands, unit_small, unit_there}
 use Rattle.provider.proofs.sectors.seal_rest.Goals as goal

@@ -1,5 +1,5 @@
 use Rattle.std.proofs.Common.{◌≡◌, ◌<◌, ℕ, true}
-use Rattle.provider.specs.Judging.{verdict}
+use Rattle.provider.specs.Verdicts.{verdict}
 use Rattle.provider.proofs.judged.Judged.refused.Given as goal
 
 abbrev pub invariant-loop-m : goal.invariant-loop-m

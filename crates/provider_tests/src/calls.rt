@@ -1,0 +1,218 @@
+//! Which calls a provider makes of a disk that lets itself be looked at: the fewest that its contracts allow. No clause
+//! counts looks.
+use crate::common::{attached, made, read, write};
+use block_traits::{Disk, DiskFailed, Event, Sector, sector_of};
+use crash_disk::MemDisk;
+use eli_base::{Auth, Cipher, REQUEST_LIMIT};
+use provider::Provider;
+use std::alloc::{AllocError, Global};
+use std::cell::Cell;
+use std::rc::Rc;
+use std::test::Fail;
+use verify_sweep::sweep;
+
+// How often each call of a disk was made.
+#[derive(Clone, Copy, Debug, PartialEq, Eq)]
+struct Calls {
+    looks: u64,
+    reads: u64,
+    writes: u64,
+    runs: u64,
+    flushes: u64,
+}
+
+const NONE: Calls = Calls {
+    looks: 0,
+    reads: 0,
+    writes: 0,
+    runs: 0,
+    flushes: 0,
+};
+
+// A disk as large as `size`, which itself is never asked. It tells no content, answers each look, and notes each call.
+#[derive(Drop)]
+struct LookingDisk {
+    size: MemDisk,
+    sectors: Vec<Sector>,
+    reads: u64,
+    calls: Rc<Cell<Calls>>,
+}
+
+impl LookingDisk {
+    fn new(alloc: Global, sectors: u16, calls: Rc<Cell<Calls>>) -> Result<LookingDisk, Fail> {
+        Ok(LookingDisk {
+            size: MemDisk::new(alloc, u64::from(sectors), 0)?,
+            sectors: vec![in alloc; [0; 512]; usize::from(sectors)]?,
+            reads: 0,
+            calls,
+        })
+    }
+
+    // What stands in a sector.
+    fn standing(&self, n: u64) -> Sector {
+        match self.sectors.get(n as usize) {
+            Some(sector) => *sector,
+            None => [0; 512],
+        }
+    }
+}
+
+// Puts a sector among others.
+fn put(sectors: &mut Vec<Sector>, n: u64, from: &Sector) {
+    if let Some(sector) = sectors.get_mut(n as usize) {
+        *sector = *from;
+    }
+}
+
+impl Disk for LookingDisk {
+    ghost use Rattle.block_traits.specs.Disk.{untold};
+    ghost use Rattle.crash_disk.specs.MemDisk.{mem_disk_of};
+
+    ghost state = { λ disk. let size = mem_disk_of disk.size in untold size.size size.faults disk.reads size.well_formed.bound };
+
+    fn sectors(&self) -> u64 {
+        self.size.sectors()
+    }
+
+    fn read(&mut self, n: u64, into: &mut Sector) -> Result<(), DiskFailed> {
+        let calls = self.calls.get();
+        let reads = calls.reads.saturating_add(1);
+        self.calls.set(Calls { reads, ..calls });
+        self.reads = self.reads.saturating_add(1);
+        *into = self.standing(n);
+        Ok(())
+    }
+
+    fn peek(&mut self, first: u64, into: &mut [u8]) -> bool {
+        let calls = self.calls.get();
+        let looks = calls.looks.saturating_add(1);
+        self.calls.set(Calls { looks, ..calls });
+        for (j, sector) in into.chunks_mut(512).enumerate() {
+            sector.copy_from_slice(&self.standing(first.saturating_add(j as u64)));
+        }
+        true
+    }
+
+    fn count_reads(&mut self, many: u64) {
+        self.reads = self.reads.saturating_add(many);
+    }
+
+    fn write(&mut self, n: u64, from: &Sector) -> Result<(), DiskFailed> {
+        let calls = self.calls.get();
+        let writes = calls.writes.saturating_add(1);
+        self.calls.set(Calls { writes, ..calls });
+        put(&mut self.sectors, n, from);
+        Ok(())
+    }
+
+    fn write_sectors(&mut self, first: u64, from: &[u8]) -> Result<(), DiskFailed> {
+        let calls = self.calls.get();
+        let runs = calls.runs.saturating_add(1);
+        self.calls.set(Calls { runs, ..calls });
+        for j in 0..from.len() / 512 {
+            put(
+                &mut self.sectors,
+                first.saturating_add(j as u64),
+                &sector_of(from, j),
+            );
+        }
+        Ok(())
+    }
+
+    fn flush(&mut self) -> Result<(), DiskFailed> {
+        let calls = self.calls.get();
+        let flushes = calls.flushes.saturating_add(1);
+        self.calls.set(Calls { flushes, ..calls });
+        Ok(())
+    }
+
+    fn events(&self) -> Option<&[Event]> {
+        None
+    }
+}
+
+// A provider of logical sectors of 4,096 bytes, attached upon such a disk, and the calls of the disk.
+#[derive(Drop)]
+struct Watched {
+    provider: Provider<LookingDisk>,
+    calls: Rc<Cell<Calls>>,
+}
+
+impl Watched {
+    fn new(alloc: Global, auth: Auth) -> Result<Watched, Fail> {
+        let calls = Rc::new(alloc, Cell::new(NONE))?;
+        let mut disk = LookingDisk::new(alloc, 1024, calls.clone()?)?;
+        let meta = made(alloc, &mut disk, (Cipher::AesXts, auth, 4096), 0x5a)?;
+        let provider = attached(alloc, disk, &meta, false)?;
+        calls.set(NONE);
+        Ok(Watched { provider, calls })
+    }
+
+    // The calls since they were asked for.
+    fn since(&self) -> Calls {
+        self.calls.replace(NONE)
+    }
+}
+
+// So many bytes of one value.
+fn bytes_of(alloc: Global, byte: u8, count: usize) -> Result<Vec<u8>, AllocError> {
+    Ok(vec![in alloc; byte; count]?)
+}
+
+// A run of sectors that the buffer of a provider has room for is written at once, and any run is read by one look.
+#[test]
+fn plain_runs(rt: HostRuntime) -> Result<(), Fail> {
+    let mut watched = Watched::new(rt.alloc(), Auth::Off)?;
+    let run = bytes_of(rt.alloc(), 7, 32_768)?;
+    assert!(&rt; write(&mut watched.provider, 1, &run)?.is_ok());
+    assert_eq!(&rt; watched.since(), Calls { runs: 1, ..NONE });
+    let mut into = bytes_of(rt.alloc(), 0, 65_536)?;
+    assert!(&rt; read(&mut watched.provider, 0, &mut into)?.is_ok());
+    assert_eq!(&rt; watched.since(), Calls { looks: 1, ..NONE });
+    assert!(&rt; into.get(4096..36_864) == Some(run.as_slice()));
+    assert!(&rt; watched.provider.flush().is_ok());
+    assert_eq!(&rt; watched.since(), Calls { flushes: 1, ..NONE });
+    Ok(())
+}
+
+// With tags seven logical sectors fill the buffer: 64 device sectors, nine each. One look serves as many.
+#[test]
+fn tagged_runs(rt: HostRuntime) -> Result<(), Fail> {
+    let mut watched = Watched::new(rt.alloc(), Auth::Sha256)?;
+    let run = bytes_of(rt.alloc(), 7, 65_536)?;
+    assert!(&rt; write(&mut watched.provider, 0, &run)?.is_ok());
+    assert_eq!(&rt; watched.since(), Calls { runs: 3, ..NONE });
+    let mut into = bytes_of(rt.alloc(), 0, 65_536)?;
+    assert!(&rt; read(&mut watched.provider, 0, &mut into)?.is_ok());
+    assert_eq!(&rt; watched.since(), Calls { looks: 3, ..NONE });
+    assert!(&rt; into == run);
+    assert!(&rt; watched.provider.flush().is_ok());
+    assert_eq!(&rt; watched.since(), Calls { flushes: 1, ..NONE });
+    Ok(())
+}
+
+// How many units of the first sixteen logical sectors fail.
+fn failing(watched: &mut Watched, found: &mut [u8]) -> Result<u32, Fail> {
+    if !watched.provider.authenticated() || found.len() < REQUEST_LIMIT as usize {
+        return Err(Fail::from("no tags, or no room"));
+    }
+    match sweep(&mut watched.provider, 0, 16, found) {
+        Ok(swept) if swept.next == 16 => Ok(swept.bad),
+        _ => Err(Fail::from("the disk failed, or the sweep ended early")),
+    }
+}
+
+// A sweep looks at four logical sectors at once, whether their units fail or not.
+#[test]
+fn a_sweep(rt: HostRuntime) -> Result<(), Fail> {
+    let mut watched = Watched::new(rt.alloc(), Auth::Sha256)?;
+    let mut found = bytes_of(rt.alloc(), 0, REQUEST_LIMIT as usize)?;
+    assert_eq!(&rt; failing(&mut watched, &mut found)?, 144);
+    assert_eq!(&rt; watched.since(), Calls { looks: 4, ..NONE });
+    let run = bytes_of(rt.alloc(), 7, 65_536)?;
+    assert!(&rt; write(&mut watched.provider, 0, &run)?.is_ok());
+    watched.calls.set(NONE);
+    assert_eq!(&rt; failing(&mut watched, &mut found)?, 0);
+    assert_eq!(&rt; watched.since(), Calls { looks: 4, ..NONE });
+    Ok(())
+}

@@ -332,6 +332,10 @@ if strace -qq -o traced -e inject=fdatasync:error=EIO:when=1 true 2>/dev/null; t
     says "  in two reads" test "$(grep -c pread64 traced)" = 6
     says "a read that fails is told" test "$(broken pread64:error=EIO:when=2..3 <<<"$both")" = "ok,ok,$fault,ok ${b:0:21},ok ${b:0:21},ok"
     fresh
+    "$program" init -P -K k.key c.img >out
+    strace -f -qq -o traced -e trace=flock "$program" script c.img <<<"$session" >out
+    says "an image is locked once in a run, and no other file is" test "$(grep -c flock traced)" = 1
+    fresh
     strace -qq -y -o traced -e trace=fsync,fdatasync,rename,renameat,renameat2 "$program" init -P -K k.key -B b c.img >out
     steps=$(sed -nE "s|^fsync\([0-9]+<$PWD/(b\.new[0-9]+)>.*|sync \1|p; s|^fsync\([0-9]+<$PWD>.*|sync folder|p
         s|^rename[a-z0-9]*\(.*\"(b\.new[0-9]+)\", .*\"b\".*|name \1|p" traced | paste -sd,)

@@ -1,5 +1,6 @@
--- What a read of a file answers, how it is held, and which calls are made of it.
+-- What a read of a file answers, how it is held, which calls are made of it, and how failures are counted.
 use Rattle.std.specs.Prelude.{◌≡◌, List, [], ◌∷◌, ℕ, Bool, true, false, Option, None, Some, Result, Ok, Err}
+use Rattle.block_traits.specs.Causes.{Counted}
 use Rattle.file_edge.specs.Asked.{more}
 
 -- the bytes that were read, if they were
@@ -17,12 +18,22 @@ abbrev pub IsLocked : {F : Type 0} → (F → Bool → Type 0) → Bool → F �
 IsLocked locks false file held = held ≡ true
 IsLocked locks true file held = locks file held
 
+-- a call that fails is one fault more, or as many as can be counted; any other is none
+abbrev pub CountsFault : {T E : Type 0} → Result T E → ℕ → ℕ → Type 0
+CountsFault (Ok done) before now = now ≡ before
+CountsFault (Err error) before now = Counted 1 before now
+
 -- one call of a file: so many bytes are read at a byte offset (pread(2)), bytes are written at one (pwrite(2)), what
 -- was written is brought to the disk (fdatasync(2))
 pub data Call : Type 0 where
   ReadAt : (at count : ℕ) → Call
   WriteAt : (at : ℕ) → (bytes : List ℕ) → Call
   SyncData : Call
+
+-- nothing was asked of it yet, where that is told
+abbrev pub IsUncalled : Option (List Call) → Type 0
+IsUncalled None = Unit {0}
+IsUncalled (Some calls) = calls ≡ []
 
 module _ {F : Type 0} (calls : F → Option (List Call)) where
   -- a file that is open stays open, and nothing was asked of it

@@ -1,8 +1,8 @@
 //! A file, or a device, as a disk.
 ghost use Rattle.std.specs.Prelude.{◌≡◌, ◌<◌, ◌≤◌, ◌^◌, ◌+◌, ◌*◌, ◌/◌, ◌%◌, ◌∷◌, [], IsErr, IsNone, MatchOption, OnErr, OnOk, false, is_err, is_ok, length, true};
-ghost use Rattle.block_traits.specs.Causes.{Counted, Rose};
+ghost use Rattle.block_traits.specs.Causes.{Counted};
 ghost use Rattle.block_traits.specs.Disk.{FailsIn, Gives, GivesEach, Logs, write_events};
-ghost use Rattle.file_edge.specs.ImageFile.{AsksFile, IsLocked, LeavesFile, ReadAt, SyncData, looked, read_bytes};
+ghost use Rattle.file_edge.specs.ImageFile.{AsksFile, CountsFault, IsLocked, IsUncalled, LeavesFile, ReadAt, SyncData, looked, read_bytes};
 ghost use Rattle.file_edge.specs.Opening.{AsksImage};
 ghost use Rattle.file_edge.specs.Told.{EndsTold, Leaves, ReadsTold, contents, told_in};
 ghost use Rattle.file_edge.specs.Writing.{WritesFile, WritesWithin};
@@ -90,6 +90,7 @@ impl<F: Drop> FileDisk<F> {
     fn of_opened(file: F, images: &[FileId], changes: bool, id: FileId) -> FileDisk<F>
     where
         F: ImageFile,
+        requires uncalled { IsUncalled (F.calls file) }
         ensures disk { IsDiskOfFile (⟦<F as ImageFile>⟧) images.now changes file id result }
         ensures faults { result.faults ≡ 0 }
         ensures reads { result.reads ≡ 0 }
@@ -112,6 +113,7 @@ impl<F: Drop> FileDisk<F> {
     fn of_free(file: F, id: FileId, changes: bool) -> FileDisk<F>
     where
         F: ImageFile,
+        requires uncalled { IsUncalled (F.calls file) }
         ensures disk { IsDiskHeld (⟦<F as ImageFile>⟧) changes file id result }
         ensures faults { result.faults ≡ 0 }
         ensures reads { result.reads ≡ 0 }
@@ -195,7 +197,7 @@ impl<F: Drop> FileDisk<F> {
         ensures file { self.new.file ≡ self.old.file }
         ensures sectors { self.new.sectors ≡ self.old.sectors }
         ensures later { self.old.faults ≤ self.new.faults }
-        ensures rose { Rose self.old.faults self.new.faults }
+        ensures one { Counted 1 self.old.faults self.new.faults }
         ensures reads { self.new.reads ≡ self.old.reads }
         ensures unsynced { self.new.unsynced ≡ self.old.unsynced }
     {
@@ -206,6 +208,7 @@ impl<F: Drop> FileDisk<F> {
 
 // Whether a file may be used: one that is to be changed is locked first.
 fn is_held<F: ImageFile>(file: &F, changes: bool) -> bool
+    requires uncalled { IsUncalled (F.calls file.now) }
     ensures { IsLocked F.locks changes file.now result }
 {
     if changes {
@@ -303,6 +306,7 @@ impl<F: ImageFile + Drop> Disk for FileDisk<F> {
         ensures bytes { OnOk result (Gives (file_disk_state F.told self.old) n into.new) }
         ensures ok { OnOk result (Logs [] (file_disk_state F.told self.old) (file_disk_state F.told self.new)) }
         ensures err { OnErr result (FailsIn [] (file_disk_state F.told self.old) (file_disk_state F.told self.new)) }
+        ensures faults { CountsFault result self.old.faults self.new.faults }
         ensures asked { Counted 1 self.old.reads self.new.reads }
         ensures placed { MatchOption self.old.file (IsErr result)
             (λ file. F.reads file (512 * n) (read_bytes result into.new)) }
@@ -337,6 +341,7 @@ impl<F: ImageFile + Drop> Disk for FileDisk<F> {
         ensures asked { Counted many self.old.reads self.new.reads }
         ensures logs { Logs [] (file_disk_state F.told self.old) (file_disk_state F.told self.new) }
         ensures file { self.new.file ≡ self.old.file }
+        ensures faults { self.new.faults ≡ self.old.faults }
         ensures unsynced { self.new.unsynced ≡ self.old.unsynced }
     {
         self.reads = self.reads.saturating_add(many);
@@ -349,6 +354,7 @@ impl<F: ImageFile + Drop> Disk for FileDisk<F> {
             (file_disk_state F.told self.old) (file_disk_state F.told self.new)) }
         ensures err { OnErr result (FailsIn (Event.Write n from.now ∷ [])
             (file_disk_state F.told self.old) (file_disk_state F.told self.new)) }
+        ensures faults { CountsFault result self.old.faults self.new.faults }
         ensures unasked { self.new.reads ≡ self.old.reads }
         ensures placed { WritesFile (⟦<F as ImageFile>⟧) (512 * n) from.now (is_ok result) self.old.file self.new.file }
         ensures unsynced { self.new.unsynced ≡ self.old.unsynced }
@@ -368,6 +374,7 @@ impl<F: ImageFile + Drop> Disk for FileDisk<F> {
             (file_disk_state F.told self.old) (file_disk_state F.told self.new)) }
         ensures err { OnErr result (FailsIn (write_events first from.now)
             (file_disk_state F.told self.old) (file_disk_state F.told self.new)) }
+        ensures faults { CountsFault result self.old.faults self.new.faults }
         ensures unasked { self.new.reads ≡ self.old.reads }
         ensures placed { WritesFile (⟦<F as ImageFile>⟧) (512 * first) from.now (is_ok result)
             self.old.file self.new.file }
@@ -386,6 +393,7 @@ impl<F: ImageFile + Drop> Disk for FileDisk<F> {
             (file_disk_state F.told self.old) (file_disk_state F.told self.new)) }
         ensures err { OnErr result (FailsIn (Event.Flush ∷ [])
             (file_disk_state F.told self.old) (file_disk_state F.told self.new)) }
+        ensures faults { CountsFault result self.old.faults self.new.faults }
         ensures unasked { self.new.reads ≡ self.old.reads }
         ensures synced { self.old.unsynced ≡ false →
             MatchOption self.old.file (IsErr result) (λ file. F.syncs file (is_ok result)) }

@@ -6,7 +6,7 @@ ghost use Rattle.std.specs.declared.io.Error.{Error};
 ghost use Rattle.block_traits.specs.Disk.{write_events};
 ghost use Rattle.block_traits.specs.declared.disk.Event.TheVariants.{Flush};
 ghost use Rattle.file_edge.specs.Asked.{more};
-ghost use Rattle.file_edge.specs.ImageFile.{Call, ReadAt, SyncData, WriteAt, read_bytes};
+ghost use Rattle.file_edge.specs.ImageFile.{Call, IsUncalled, ReadAt, SyncData, WriteAt, read_bytes};
 ghost use Rattle.file_edge.specs.Told.{EndsTold, Leaves, ReadsTold, Told, contents};
 ghost use Rattle.file_edge.specs.declared.found.Found.{Found};
 
@@ -62,8 +62,9 @@ pub trait ImageFile: Drop {
     fn found(&self) -> io::Result<Found>
         ensures { tells self.now result };
 
-    /// Locks it, without waiting, for as long as it is open.
+    /// Locks it, without waiting, for as long as it is open. That comes before all that is noted of its calls.
     fn lock(&self) -> io::Result<()>
+        requires uncalled { IsUncalled (calls self.now) }
         ensures { locks self.now (is_ok result) };
 
     /// The byte offset of the end.

@@ -6,6 +6,7 @@ ghost use Rattle.std.specs.declared.io.Error.{Error};
 ghost use Rattle.block_traits.specs.Causes.{HasCause};
 ghost use Rattle.file_edge.specs.Asked.{Asked, Find, Look, Open, Remove, Rename, Sync, SyncFolder, Write, asking, making, more};
 ghost use Rattle.file_edge.specs.Folder.{IsFolderOf};
+ghost use Rattle.file_edge.specs.ImageFile.{IsUncalled};
 ghost use Rattle.file_edge.specs.Names.{IsUsual, MakesName, NamedFiles, OpensTold, RenamesName, SyncsNames, WritesNew, without_name};
 ghost use Rattle.file_edge.specs.Opening.{to_read};
 ghost use Rattle.file_edge.specs.declared.found.Found.{Found};
@@ -46,9 +47,10 @@ pub trait Opener {
     /// What its names have, and which of them the new file has, where that is told.
     ghost told: { Self → Option NamedFiles };
 
-    /// Opens the file of this name.
+    /// Opens the file of this name. Nothing was asked of it yet.
     fn open(&mut self, how: &OpenOptions, name: &str) -> io::Result<Self::File>
         ensures answers { answers self.old how.now name.now result }
+        ensures uncalled { IfOk result (λ file. IsUncalled (Self.File.calls file)) }
         ensures opened { how.now ≡ to_read → OpensTold (⟦<Self::File as ImageFile>⟧) (told self.old) name.now result }
         ensures told { IsUsual how.now → told self.new ≡ told self.old }
         ensures asked { asked self.new ≡ more (asking (Open how.now name.now) (is_ok result)) (asked self.old) }

@@ -1,5 +1,6 @@
 //! How an image is opened.
-ghost use Rattle.std.specs.Prelude.{◌≡◌, true};
+ghost use Rattle.std.specs.Prelude.{◌≡◌, IfOk, true};
+ghost use Rattle.file_edge.specs.ImageFile.{IsUncalled};
 ghost use Rattle.file_edge.specs.Opening.{AsksImage, OpensImage};
 
 use crate::opener::Opener;
@@ -13,6 +14,7 @@ pub(crate) fn open_image<O: Opener>(
     name: &str,
 ) -> io::Result<O::File>
     ensures opens { OpensImage O.answers opener.old changes name.now result }
+    ensures uncalled { IfOk result (λ file. IsUncalled (O.File.calls file)) }
     ensures told { O.told opener.new ≡ O.told opener.old }
     ensures asked { AsksImage O.asked opener.old changes name.now opener.new }
 {
@@ -24,6 +26,7 @@ pub(crate) fn open_image<O: Opener>(
 
 fn open_to_change<O: Opener>(opener: &mut O, name: &str) -> io::Result<O::File>
     ensures opens { OpensImage O.answers opener.old true name.now result }
+    ensures uncalled { IfOk result (λ file. IsUncalled (O.File.calls file)) }
     ensures told { O.told opener.new ≡ O.told opener.old }
     ensures asked { AsksImage O.asked opener.old true name.now opener.new }
 {

@@ -9,7 +9,7 @@ use Rattle.block_traits.specs.declared.disk.DiskFailed.{DiskFailed}
 use Rattle.disk_layers.specs.Concat.{AsksOne, BothDo, FlushesBoth, WritesOne}
 use Rattle.disk_layers.specs.Waiting.{last_waiting}
 use Rattle.disk_layers.specs.WriteBehind.{BehindReadAnswers, BehindWritesSector, FlushAnswers, behind_of}
-use Rattle.file_edge.specs.ImageFile.{AsksFile, LeavesFile, ReadAt, SyncData, looked, read_bytes}
+use Rattle.file_edge.specs.ImageFile.{AsksFile, CountsFault, LeavesFile, ReadAt, SyncData, looked, read_bytes}
 use Rattle.file_edge.specs.Writing.{WritesFile}
 use Rattle.file_edge.specs.declared.file_disk.FileDisk.{FileDisk}
 use Rattle.file_edge.specs.declared.image_file.ImageFile as file
@@ -23,6 +23,7 @@ module _ {F : Type 0} (f : file.Ghosts F) where
   pub record ReadsInFile (n : ℕ) (bytes : List ℕ) (old new : FileDisk F) (result : Result (Unit {0}) DiskFailed) : Type 0 where
     pub placed : MatchOption old.file (IsErr result) (λ file. f.reads file (512 * n) (read_bytes result bytes))
     pub asks : AsksFile f.calls (ReadAt (512 * n) 512) old.file new.file
+    pub faults : CountsFault result old.faults new.faults
     pub unsynced : new.unsynced ≡ old.unsynced
 
   -- so many bytes from sector n on are looked at by one read of the file
@@ -34,6 +35,7 @@ module _ {F : Type 0} (f : file.Ghosts F) where
   -- bytes are written from sector n on by one write of the file, where it reaches so far
   pub record WritesInFile (n : ℕ) (bytes : List ℕ) (old new : FileDisk F) (result : Result (Unit {0}) DiskFailed) : Type 0 where
     pub placed : WritesFile f (512 * n) bytes (is_ok result) old.file new.file
+    pub faults : CountsFault result old.faults new.faults
     pub unsynced : new.unsynced ≡ old.unsynced
 
   -- the file is synced once; after a failed sync each one fails and isn't made
@@ -41,6 +43,7 @@ module _ {F : Type 0} (f : file.Ghosts F) where
     pub synced : old.unsynced ≡ false → MatchOption old.file (IsErr result) (λ file. f.syncs file (is_ok result))
     pub stays : old.unsynced ≡ true → IsErr result
     pub unsynced : new.unsynced ≡ is_err result
+    pub faults : CountsFault result old.faults new.faults
     pub asks : old.unsynced ≡ false → AsksFile f.calls SyncData old.file new.file
     pub kept : old.unsynced ≡ true → LeavesFile f.calls old.file new.file
 
@@ -65,7 +68,7 @@ module _ {F : Type 0} (f : file.Ghosts F) where
     -- reads that a look has served are counted: in the disk of a file, or above the one below, or in the first; and
     -- nothing is done
     abbrev pub ImageCounts : ℕ → ImageDisk F g → ImageDisk F g → Type 0
-    ImageCounts many (Plain old) (Plain new) = (new.file ≡ old.file) × (new.unsynced ≡ old.unsynced)
+    ImageCounts many (Plain old) (Plain new) = (new.file ≡ old.file) × (new.faults ≡ old.faults) × (new.unsynced ≡ old.unsynced)
     ImageCounts many (Behind old) (Behind new) = behind_of g.state new ≡ behind_of g.state old
     ImageCounts many (Join old) (Join new) =
         Logs [] (g.state old.first) (g.state new.first) × Counted many (g.state old.first).reads (g.state new.first).reads × (new.second ≡ old.second)

@@ -10,4 +10,4 @@ returns-in-Ok-clause-ok g c =
 
 pub returns-in-Err-clause-err : goal.returns-in-Err-clause-err
 returns-in-Err-clause-err g c =
-    fails_left c.args.self.now.sectors 0 (Flush ∷ []) (Flush ∷ []) _ _ _ refl (rw (c.fail-in-Err.ensures.file, c.fail-in-Err.ensures.sectors) refl) c.fail-in-Err.ensures.sectors refl c.fail-in-Err.ensures.later c.fail-in-Err.ensures.rose refl c.in-Err.ensures.told
+    fails_left c.args.self.now.sectors 0 (Flush ∷ []) (Flush ∷ []) _ _ _ refl (rw (c.fail-in-Err.ensures.file, c.fail-in-Err.ensures.sectors) refl) c.fail-in-Err.ensures.sectors refl c.fail-in-Err.ensures.later c.fail-in-Err.ensures.one.least refl c.in-Err.ensures.told

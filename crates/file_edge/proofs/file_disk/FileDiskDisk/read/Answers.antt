@@ -13,4 +13,4 @@ returns-in-Ok-clause-ok g c = logs_same c.args.self.now.sectors _ _ refl refl re
 
 pub returns-in-Err-clause-err : goal.returns-in-Err-clause-err
 returns-in-Err-clause-err g c =
-    fails_same c.args.self.now.sectors [] _ _ refl (rw (c.fail.ensures.file, c.fail.ensures.sectors) refl) c.fail.ensures.sectors refl c.fail.ensures.later c.fail.ensures.rose c.read_open.ensures.told
+    fails_same c.args.self.now.sectors [] _ _ refl (rw (c.fail.ensures.file, c.fail.ensures.sectors) refl) c.fail.ensures.sectors refl c.fail.ensures.later c.fail.ensures.one.least c.read_open.ensures.told

@@ -10,4 +10,4 @@ returns-in-Ok-clause-ok g c =
 
 pub returns-in-Err-clause-err : goal.returns-in-Err-clause-err
 returns-in-Err-clause-err g c =
-    fails_left c.args.self.now.sectors _ _ (write_events c.args.first c.args.from.now) _ _ _ refl (rw (c.fail.ensures.file, c.fail.ensures.sectors) refl) c.fail.ensures.sectors refl c.fail.ensures.later c.fail.ensures.rose (same_events c.args.first c.args.from.now) c.in-Err.ensures.told
+    fails_left c.args.self.now.sectors _ _ (write_events c.args.first c.args.from.now) _ _ _ refl (rw (c.fail.ensures.file, c.fail.ensures.sectors) refl) c.fail.ensures.sectors refl c.fail.ensures.later c.fail.ensures.one.least (same_events c.args.first c.args.from.now) c.in-Err.ensures.told

@@ -1,24 +1,26 @@
 -- Units that are listed one after the other.
-use Rattle.std.proofs.Common.{◌≡◌, ◌⊎◌, inl, inr, ℕ, zero, suc, get_or, ◌+◌, ◌-◌, ◌*◌, ◌/◌, ◌%◌, ◌^◌, ◌<◌, ◌≤◌, Bool, true, false, cond, List, [], ◌∷◌, ◌++◌, length, take, drop, replicate, All, Option, Some, None, Result, Ok, Err, IsErr, is_ok, refl, sym, ap, subst, ◌∙◌, arith, add-one, add-zero, append-nil, append_assoc, length-append}
-use Rattle.std.proofs.Math.Nat.{div-add-mod, div-mul-le_self, le_of_mul-le-mul_right, mul-le-mul_right}
-use Rattle.std.proofs.Math.Seq.{take-suc}
-use Rattle.std.proofs.lemmas.List.{drop-drop, length-drop, length-take-le, take-append-drop, take_at}
+use Rattle.std.proofs.Common.{◌≡◌, ◌⊎◌, inl, inr, ℕ, zero, suc, ◌+◌, ◌-◌, ◌*◌, ◌/◌, ◌^◌, ◌<◌, ◌≤◌, Bool, true, false, cond, List, [], ◌∷◌, ◌++◌, length, take, drop, All, Option, Some, None, Result, Ok, Err, IsErr, is_ok, refl, sym, ap, subst, ◌∙◌, arith, add-zero, append-nil, append_assoc, length-append}
+use Rattle.std.proofs.Math.Nat.{div-mul-le_self, mul-le-mul_right}
+use Rattle.std.proofs.lemmas.List.{drop-drop, length-drop, length-take-le, take-append-drop, take_all, take_at}
 use Rattle.std.proofs.lemmas.List.Elements.{All-append, All-cons, All-nil}
 use Rattle.std.proofs.lemmas.Slice.{drop-append-drop}
 use borrow.Rule.Slice.PartMut.{put_mid}
 use Rattle.block_traits.specs.Content.{Content, IsSector, present}
-use Rattle.block_traits.specs.Disk.{DiskState, Gives, GivesEach, GivesEachFrom, GivesFrom, Logs}
+use Rattle.block_traits.specs.Disk.{DiskState, GivesEach, GivesEachFrom, GivesFrom, Logs}
 use Rattle.block_traits.specs.Causes.{Counted}
-use Rattle.block_traits.specs.Parts.{parts}
+use Rattle.block_traits.specs.Parts.{part, parts}
 use Rattle.block_traits.specs.declared.disk.DiskFailed.{DiskFailed}
 use Rattle.block_traits.proofs.Causes.{Counted-then}
 use Rattle.block_traits.proofs.Logs.{Logs-then, content-Logs}
 use Rattle.block_traits.proofs.PartLists.{length-parts}
 use Rattle.eli_base.specs.Keying.{Keying}
 use Rattle.eli_base.specs.Units.{media_sectors}
-use Rattle.provider.specs.Reading.{StandAccepted, StandFrom, standing, units_accepted}
+use Rattle.provider.specs.Reading.{StandFrom, standing}
 use Rattle.provider.specs.Reads.{FailsAmong}
-use Rattle.provider.proofs.Looks.{StandFrom-each}
+use Rattle.provider.specs.Verdicts.{Judges, verdict}
+use Rattle.provider.specs.declared.judged.Judged.{Judged}
+use Rattle.provider.proofs.Cuts.{parts-add}
+use Rattle.provider.proofs.Data.{StandFrom-each}
 use Rattle.range_keys.specs.Keys.{le64}
 use Rattle.sealing.specs.Sectors.{unit_reading_at, units}
 use Rattle.verify_sweep.specs.Sweeping.{Lists, ListsFailing, Looks, Sweep, SweepAnswers, failing_units, faults_in, le64s, unit_readings_at, refused_at, sectors_swept}
@@ -65,16 +67,12 @@ failing-of k n sector sectors = faults-of _ _ (512 * n) (unit_readings_at k (n +
 
 -- ---- what is listed
 
--- those that fail are those that aren't accepted
-failing-are : (k : Keying) (n : ℕ) (sectors : List (List ℕ)) → failing_units k n sectors ≡ refused_at n (units_accepted k n sectors)
-failing-are k n [] = refl
-failing-are k n (sector ∷ sectors) =
-    let rest = failing-are k (n + 1) sectors in
-    let more : List Bool = units_accepted k (n + 1) sectors in
-    elim (failing-of k n sector sectors) [
-      | inl fine ↦ fine.1 ∙ rest ∙ ap (λ (b : Bool). refused_at n (b ∷ more)) (sym fine.0)
-      | inr bad ↦ bad.1 ∙ ap (λ (l : List ℕ). 512 * n ∷ l) rest ∙ ap (λ (r : Result (List ℕ) ℕ). refused_at n (is_ok r ∷ more)) (sym bad.0)
-    ]
+-- one that fails is one that isn't accepted
+failing-one : (k : Keying) (n : ℕ) (sector : List ℕ) → failing_units k n (sector ∷ []) ≡ refused_at n (is_ok (unit_reading_at k n sector) ∷ [])
+failing-one k n sector = elim (failing-of k n sector []) [
+  | inl fine ↦ fine.1 ∙ ap (λ (b : Bool). refused_at n (b ∷ [])) (sym fine.0)
+  | inr bad ↦ bad.1 ∙ ap (λ (r : Result (List ℕ) ℕ). refused_at n (is_ok r ∷ [])) (sym bad.0)
+]
 
 -- a unit that is accepted is looked at, and nothing is listed
 pub Lists-none : (n bad : ℕ) (accepted : Bool) (found : List ℕ) → accepted ≡ true → Lists (refused_at n (accepted ∷ [])) bad bad found found
@@ -104,17 +102,8 @@ Lists-one n bad width accepted found bytes so is wide =
           ∙ sym (ap (λ (l : List ℕ). front ++ le64s l ++ behind) one);
     }
 
-refused_at-append : (n : ℕ) (front behind : List Bool) → refused_at n (front ++ behind) ≡ refused_at n front ++ refused_at (n + length front) behind
-refused_at-append n [] behind = ap (λ (m : ℕ). refused_at m behind) (sym (add-zero n))
-refused_at-append n (true ∷ front) behind =
-    let at : n + 1 + length front ≡ n + suc (length front) = omega arith in
-    refused_at-append (n + 1) front behind ∙ ap (λ (m : ℕ). refused_at (n + 1) front ++ refused_at m behind) at
-refused_at-append n (false ∷ front) behind =
-    let at : n + 1 + length front ≡ n + suc (length front) = omega arith in
-    ap (λ (l : List ℕ). 512 * n ∷ l) (refused_at-append (n + 1) front behind ∙ ap (λ (m : ℕ). refused_at (n + 1) front ++ refused_at m behind) at)
-
-pub Lists-nothing : (n bad : ℕ) (found : List ℕ) → Lists (refused_at n []) bad bad found found
-Lists-nothing n bad found = record {
+pub Lists-nothing : (bad : ℕ) (found : List ℕ) → Lists [] bad bad found found
+Lists-nothing bad found = record {
   now_is = sym (add-zero bad);
   listed = sym (take-append-drop (8 * bad) found) ∙ ap (λ (l : List ℕ). l ++ drop (8 * bad) found) (sym (append-nil (take (8 * bad) found)));
 }
@@ -137,40 +126,49 @@ Lists-then ns more bad now next before found after room one two =
           ∙ ap (λ (l : List ℕ). l ++ drop (8 * next) before) (append_assoc front (le64s ns) (le64s more) ∙ ap (λ (l : List ℕ). front ++ l) (sym (le64s-append ns more)));
     }
 
--- one device sector more
-pub Lists-next : (n j bad now next : ℕ) (accepted : List Bool) (before found after : List ℕ) → 8 * bad ≤ length before → j < length accepted
-    → Lists (refused_at n (take j accepted)) bad now before found → Lists (refused_at (n + j) (get_or accepted j false ∷ [])) now next found after
-    → Lists (refused_at n (take (j + 1) accepted)) bad next before after
-Lists-next n j bad now next accepted before found after room lt one two =
-    let P : List ℕ → Type 0 = λ l. Lists l bad next before after in
-    let count : length (take j accepted) ≡ j = length-take-le j accepted (omega arith) in
-    let all : refused_at n (take (j + 1) accepted) ≡ refused_at n (take j accepted) ++ refused_at (n + j) (get_or accepted j false ∷ []) =
-    ap (λ (m : ℕ). refused_at n (take m accepted)) (add-one j)
-    ∙ ap (refused_at n) (take-suc accepted j false lt)
-    ∙ refused_at-append n (take j accepted) (get_or accepted j false ∷ [])
-    ∙ ap (λ (m : ℕ). refused_at n (take j accepted) ++ refused_at (n + m) (get_or accepted j false ∷ [])) count in
-    subst P (sym all) (Lists-then (refused_at n (take j accepted)) (refused_at (n + j) (get_or accepted j false ∷ [])) bad now next before found after room one two)
+-- some device sectors, and more behind them
+pub Lists-more : (k : Keying) (n done many bad now next : ℕ) (device before found after : List ℕ) → 8 * bad ≤ length before → Lists (failing_units k n (parts 512 done device)) bad now before found
+    → Lists (failing_units k (n + done) (parts 512 many (drop (512 * done) device))) now next found after → Lists (failing_units k n (parts 512 (done + many) device)) bad next before after
+Lists-more k n done many bad now next device before found after room one two =
+    let front : List (List ℕ) = parts 512 done device in
+    let behind : List (List ℕ) = parts 512 many (drop (512 * done) device) in
+    let all : failing_units k n (parts 512 (done + many) device) ≡ failing_units k n front ++ failing_units k (n + done) behind =
+    ap (failing_units k n) (parts-add done many device) ∙ failing_units-append k n front behind
+    ∙ ap (λ (m : ℕ). failing_units k n front ++ failing_units k (n + m) behind) (length-parts 512 done device) in
+    subst (λ (l : List ℕ). Lists l bad next before after) (sym all) (Lists-then (failing_units k n front) (failing_units k (n + done) behind) bad now next before found after room one two)
+
+-- one more that was checked
+pub Lists-judged : (k : Keying) (n m bad now next : ℕ) (judged : Judged) (device before found after : List ℕ) → 8 * bad ≤ length before → Judges k n device judged → m < judged.count
+    → Lists (failing_units k n (parts 512 m device)) bad now before found → Lists (refused_at (n + m) (verdict judged m ∷ [])) now next found after → Lists (failing_units k n (parts 512 (m + 1) device)) bad next before after
+Lists-judged k n m bad now next judged device before found after room judges lt one two =
+    let same : refused_at (n + m) (verdict judged m ∷ []) ≡ failing_units k (n + m) (parts 512 1 (drop (512 * m) device)) =
+    ap (λ (b : Bool). refused_at (n + m) (b ∷ [])) (judges.each m lt) ∙ sym (failing-one k (n + m) (part 512 m device)) in
+    Lists-more k n m 1 bad now next device before found after room one (subst (λ (l : List ℕ). Lists l now next found after) same two)
+
+-- at most as many fail as there are
+pub few_failing : (k : Keying) (n : ℕ) (sectors : List (List ℕ)) → length (failing_units k n sectors) ≤ length sectors
+few_failing k n [] = omega arith
+few_failing k n (sector ∷ sectors) =
+    let rest = few_failing k (n + 1) sectors in
+    let P : List ℕ → Type 0 = λ l. length l ≤ suc (length sectors) in
+    elim (failing-of k n sector sectors) [
+      | inl fine ↦ subst P (sym fine.1) (omega (arith, rest))
+      | inr bad ↦ subst P (sym bad.1) (omega (arith, rest))
+    ]
+
+-- at most as many are listed as were looked at
+pub listed_few : (k : Keying) (n count bad now : ℕ) (device before after : List ℕ) → Lists (failing_units k n (parts 512 count device)) bad now before after → now ≤ bad + count
+listed_few k n count bad now device before after lists = omega (arith, lists.now_is, few_failing k n (parts 512 count device), length-parts 512 count device)
 
 -- ---- units that were looked at
 
-StandFrom-one : (told : Option Content) (n : ℕ) (bytes : List ℕ) → GivesFrom told n bytes → StandFrom told n 1 (bytes ∷ [])
-StandFrom-one None n bytes gives = tt
-StandFrom-one (Some c) n bytes gives = ap (λ (b : List ℕ). b ∷ []) gives
-
-pub Looks-one : (k : Keying) (n bad now : ℕ) (accepted : Bool) (unit before after : List ℕ) (old new : DiskState) → length unit ≡ 512 → Gives old n unit → accepted ≡ is_ok (unit_reading_at k n unit)
-    → Lists (refused_at n (accepted ∷ [])) bad now before after → Counted 1 old.reads new.reads → Logs [] old new → Looks k n 1 bad now before after old new
-Looks-one k n bad now accepted unit before after old new long gives so lists asked logs =
-    let P : List ℕ → Type 0 = λ l. Lists l bad now before after in
-    let same : refused_at n (accepted ∷ []) ≡ failing_units k n (unit ∷ []) = ap (λ (b : Bool). refused_at n (b ∷ [])) so ∙ sym (failing-are k n (unit ∷ [])) in
-    record {
-      sectors = unit ∷ [];
-      all = refl;
-      whole = All-cons IsSector unit [] long (All-nil IsSector);
-      stand = StandFrom-one old.content n unit gives;
-      lists = subst P same lists;
-      asked = asked;
-      logs = logs;
-    }
+-- what one read gave
+pub gives_one : (told : Option Content) (n : ℕ) (bytes : List ℕ) → length bytes ≡ 512 → GivesFrom told n bytes → GivesEachFrom told n bytes
+gives_one None n bytes long gives = λ j lt. tt
+gives_one (Some c) n bytes long gives = λ j lt.
+    let none : 0 ≡ j = omega (arith, long, lt) in
+    let here : part 512 0 bytes ≡ present c (n + 0) = take_all 512 bytes (omega (arith, long)) ∙ gives ∙ ap (present c) (sym (add-zero n)) in
+    subst (λ (m : ℕ). part 512 m bytes ≡ present c (n + m)) none here
 
 whole_parts : (count : ℕ) (bytes : List ℕ) → 512 * count ≤ length bytes → All IsSector (parts 512 count bytes)
 whole_parts zero bytes room = All-nil IsSector
@@ -183,48 +181,19 @@ StandFrom-parts told first count bytes each fits =
     let at : first + 0 ≡ first = omega arith in
     subst P at (StandFrom-each told first 0 count bytes each (omega (arith, fits)))
 
-pub Looks-some : (k : Keying) (n count bad now : ℕ) (accepted : List Bool) (bytes before after : List ℕ) (old new : DiskState) → length bytes ≡ 512 * count → GivesEach old n bytes
-    → accepted ≡ units_accepted k n (parts 512 count bytes) → Lists (refused_at n accepted) bad now before after → Counted count old.reads new.reads → Logs [] old new
-    → Looks k n count bad now before after old new
-Looks-some k n count bad now accepted bytes before after old new long each so lists asked logs =
-    let P : List ℕ → Type 0 = λ l. Lists l bad now before after in
-    let same : refused_at n accepted ≡ failing_units k n (parts 512 count bytes) = ap (refused_at n) so ∙ sym (failing-are k n (parts 512 count bytes)) in
+pub Looks-some : (k : Keying) (n count bad now : ℕ) (bytes before after : List ℕ) (old new : DiskState) → length bytes ≡ 512 * count → GivesEach old n bytes
+    → Lists (failing_units k n (parts 512 (length bytes / 512) bytes)) bad now before after → Counted count old.reads new.reads → Logs [] old new → Looks k n count bad now before after old new
+Looks-some k n count bad now bytes before after old new long each lists asked logs =
+    let same : length bytes / 512 ≡ count = omega (arith, long) in
     record {
       sectors = parts 512 count bytes;
       all = length-parts 512 count bytes;
       whole = whole_parts count bytes (omega (arith, long));
       stand = StandFrom-parts old.content n count bytes each (omega (arith, long));
-      lists = subst P same lists;
+      lists = subst (λ (m : ℕ). Lists (failing_units k n (parts 512 m bytes)) bad now before after) same lists;
       asked = asked;
       logs = logs;
     }
-
--- where all are accepted, none is listed
-refused_none : (n count : ℕ) → refused_at n (replicate count true) ≡ []
-refused_none n zero = refl
-refused_none n (suc count) = refused_none (n + 1) count
-
-Looks-accepted : (k : Keying) (n count bad : ℕ) (found : List ℕ) (old new : DiskState) → StandAccepted k n count old → Counted count old.reads new.reads → Logs [] old new
-    → Looks k n count bad bad found found old new
-Looks-accepted k n count bad found old new seen asked logs =
-    let P : List ℕ → Type 0 = λ l. Lists l bad bad found found in
-    Looks-some k n count bad bad (replicate count true) seen.bytes found found old new seen.all seen.stand (sym seen.accepted) (subst P (sym (refused_none n count)) (Lists-nothing n bad found)) asked logs
-
--- the units of four logical sectors, of which the first is the one that device sector n begins
-pub Looks-sectors : (k : Keying) (n width bad : ℕ) (found : List ℕ) (old new : DiskState) → width ≡ units k → 0 < width → n % width ≡ 0
-    → StandAccepted k (n / width * units k) (4 * units k) old → Counted (4 * units k) old.reads new.reads → Logs [] old new → Looks k n (4 * width) bad bad found found old new
-Looks-sectors k n width bad found old new is some begins seen asked logs =
-    let P : ℕ → Type 0 = λ m. Looks k m (4 * width) bad bad found found old new in
-    let Q : ℕ → Type 0 = λ u. StandAccepted k (n / width * u) (4 * u) old → Counted (4 * u) old.reads new.reads → Looks k (n / width * width) (4 * width) bad bad found found old new in
-    let at : n / width * width ≡ n = omega (arith, div-add-mod n width) in
-    subst P at (subst Q is (λ stand count. Looks-accepted k (n / width * width) (4 * width) bad found old new stand count logs) seen asked)
-
--- four logical sectors whose units are there are there
-pub four_there : (n left width media : ℕ) → 0 < width → n % width ≡ 0 → 4 * width ≤ left → n + left ≤ media * width → n / width + 4 ≤ media
-four_there n left width media some begins room inside =
-    let at : n / width * width ≡ n = omega (arith, div-add-mod n width) in
-    let all : (n / width + 4) * width ≤ media * width = omega (arith, at) in
-    le_of_mul-le-mul_right all some
 
 -- units of sectors that are there have small numbers
 pub unit_small : (k : Keying) (n size : ℕ) → n ≤ media_sectors k.auth k.sectorsize (512 * size) * units k → size < 2 ^ 44 → n ≤ 2 ^ 44
@@ -258,17 +227,6 @@ standing-append c n (suc count) more =
     let at : n + 1 + count ≡ n + suc count = omega arith in
     ap (standing c n) all
     ∙ ap (λ (l : List (List ℕ)). present c n ∷ l) (standing-append c (n + 1) count more ∙ ap (λ (m : ℕ). standing c (n + 1) count ++ standing c m more) at)
-
--- at most as many fail as there are
-pub few_failing : (k : Keying) (n : ℕ) (sectors : List (List ℕ)) → length (failing_units k n sectors) ≤ length sectors
-few_failing k n [] = omega arith
-few_failing k n (sector ∷ sectors) =
-    let rest = few_failing k (n + 1) sectors in
-    let P : List ℕ → Type 0 = λ l. length l ≤ suc (length sectors) in
-    elim (failing-of k n sector sectors) [
-      | inl fine ↦ subst P (sym fine.1) (omega (arith, rest))
-      | inr bad ↦ subst P (sym bad.1) (omega (arith, rest))
-    ]
 
 -- ---- some units more
 

@@ -1,12 +1,13 @@
 //! Units that are read and looked at, one after the other.
-ghost use Rattle.std.specs.Prelude.{◌≡◌, ◌≢◌, ℕ, ◌+◌, ◌*◌, ◌^◌, ◌<◌, ◌≤◌, List, [], ◌∷◌, None, IfOk, IfSome, OnErr, length};
+ghost use Rattle.std.specs.Prelude.{◌≡◌, ◌≢◌, ◌+◌, ◌*◌, ◌/◌, ◌^◌, ◌<◌, ◌≤◌, [], ◌∷◌, IfOk, OnErr, length};
 ghost use Rattle.block_traits.specs.Disk.{DiskState};
+ghost use Rattle.block_traits.specs.Parts.{parts};
 ghost use Rattle.eli_base.specs.declared.algorithms.Auth.TheVariants.{Off};
 ghost use Rattle.eli_base.specs.Requests.{request_limit};
 ghost use Rattle.provider.specs.Attached.{IsKept, media};
 ghost use Rattle.provider.specs.Reads.{FailsAt};
 ghost use Rattle.sealing.specs.Sectors.{units};
-ghost use Rattle.verify_sweep.specs.Sweeping.{Lists, Looks, Sweep, SweepAnswers, refused_at};
+ghost use Rattle.verify_sweep.specs.Sweeping.{Lists, Looks, Sweep, SweepAnswers, failing_units, refused_at};
 
 use block_traits::{Disk, DiskFailed, Sector};
 use provider::Provider;
@@ -22,6 +23,9 @@ pub struct Swept {
 
 // How many units a sweep looks at, at most.
 const MOST_UNITS: u64 = 16_384;
+
+// How many device sectors are looked at at once, at most.
+const WINDOW: u64 = 36;
 
 // Puts the offset of device sector `n` behind so many others, where its unit isn't accepted. Gives how many are
 // listed then.
@@ -40,113 +44,100 @@ fn list(n: u64, accepted: bool, found: &mut [u8], bad: u32) -> u32
     bad + 1
 }
 
-// The same of four device sectors, the first of number `n`.
-fn list_four(n: u64, accepted: &[bool; 4], found: &mut [u8], bad: u32) -> u32
-    requires small { n + 4 ≤ 2 ^ 44 }
-    requires few { bad + 4 ≤ 16384 }
+// Lists those of the next units of device sectors whose tag differs, as many as are checked at once. The first device
+// sector has number `n`. Gives at how many it looked, and how many are listed then.
+fn list_next<D: Disk>(
+    on: &Provider<D>,
+    n: u64,
+    device: &[u8],
+    found: &mut [u8],
+    bad: u32,
+) -> (usize, u32)
+    requires on { on.now.keying.auth ≢ Off }
+    requires some { 512 ≤ length device.now }
+    requires inside { n + length device.now / 512 ≤ media on.now.keying (D.state on.now.disk) * units on.now.keying }
+    requires few { bad + length device.now / 512 ≤ 16384 }
     requires room { request_limit ≤ length found.old }
-    ensures { Lists (refused_at n accepted.now) bad result found.old found.new }
+    ensures some { 1 ≤ result.0 }
+    ensures within { 512 * result.0 ≤ length device.now }
+    ensures lists { Lists (failing_units on.now.keying n (parts 512 result.0 device.now)) bad result.1 found.old found.new }
 {
+    let judged = on.judge(n, device);
     let mut now = bad;
-    for j in 0..4 {
-        now = list(n + j as u64, accepted[j], found, now);
+    for m in 0..judged.count {
+        now = list(n + m as u64, judged.accepts(m), found, now);
+    }
+    (judged.count, now)
+}
+
+// Lists those of the units of device sectors whose tag differs, where the first has number `n`. Gives how many are
+// listed then.
+fn list_all<D: Disk>(on: &Provider<D>, n: u64, device: &[u8], found: &mut [u8], bad: u32) -> u32
+    requires on { on.now.keying.auth ≢ Off }
+    requires inside { n + length device.now / 512 ≤ media on.now.keying (D.state on.now.disk) * units on.now.keying }
+    requires few { bad + length device.now / 512 ≤ 16384 }
+    requires room { request_limit ≤ length found.old }
+    ensures { Lists (failing_units on.now.keying n (parts 512 (length device.now / 512) device.now)) bad result found.old found.new }
+{
+    let count = device.len() / 512;
+    let mut now = bad;
+    let mut done = 0;
+    'groups: while done < count {
+        let (many, next) = list_next(on, n + done as u64, &device[512 * done..], found, now);
+        done += many;
+        now = next;
     }
     now
 }
 
-// Reads the unit in device sector `n`, and lists its offset where it fails. Gives how many are listed then.
-fn look<D: Disk>(
-    on: &mut Provider<D>,
-    n: u64,
-    found: &mut [u8],
-    bad: u32,
-) -> Result<u32, DiskFailed>
-    requires on { on.old.keying.auth ≢ Off }
-    requires inside { n < media on.old.keying (D.state on.old.disk) * units on.old.keying }
-    requires few { bad < 16384 }
-    requires room { request_limit ≤ length found.old }
-    ensures ok { IfOk result (λ now. Looks on.old.keying n 1 bad now found.old found.new (D.state on.old.disk) (D.state on.new.disk)) }
-    ensures err { OnErr result (FailsAt 1 (D.state on.old.disk) (D.state on.new.disk)) }
-    ensures kept { IsKept on.old on.new }
+// How many device sectors are looked at at once, the first of number `n`, of so many that are left: those of whole
+// logical sectors where they fit, and of fours of small ones, since their tags are computed side by side.
+fn looked_at(units: u64, n: u64, left: u64) -> u64
+    requires units { 1 ≤ units }
+    requires left { 1 ≤ left }
+    ensures some { 1 ≤ result }
+    ensures within { result ≤ left }
+    ensures fits { 512 * result ≤ 18432 }
 {
-    let mut unit: Sector = [0; 512];
-    on.get_unit(n, &mut unit)?;
-    let accepted = on.unit_ok(n, &unit);
-    Ok(list(n, accepted, found, bad))
+    let begun = n % units;
+    if begun != 0 || units > WINDOW {
+        return (units - begun).min(WINDOW).min(left);
+    }
+    let group = if units <= 4 { 4 * units } else { units };
+    (WINDOW - WINDOW % group).min(left)
 }
 
-// Looks at the units in four device sectors at once, the first of number `n`, where that can be done, and lists the
-// offsets of those that fail. Gives how many are listed then. Else nothing has changed.
-fn look_at_four<D: Disk>(on: &mut Provider<D>, n: u64, found: &mut [u8], bad: u32) -> Option<u32>
-    requires on { on.old.keying.auth ≢ Off }
-    requires inside { n + 4 ≤ media on.old.keying (D.state on.old.disk) * units on.old.keying }
-    requires few { bad + 4 ≤ 16384 }
-    requires room { request_limit ≤ length found.old }
-    ensures some { IfSome result (λ now. Looks on.old.keying n 4 bad now found.old found.new (D.state on.old.disk) (D.state on.new.disk)) }
-    ensures missed { result ≡ None → D.state on.new.disk ≡ D.state on.old.disk }
-    ensures stays { result ≡ None → found.new ≡ found.old }
-    ensures kept { IsKept on.old on.new }
-{
-    let mut units = [0; 2048];
-    match on.look_at_four(n, &mut units) {
-        Some(accepted) => Some(list_four(n, &accepted, found, bad)),
-        None => None,
-    }
-}
-
-// Looks at the units of four logical sectors at once, where device sector `n` begins the first of them, so many device
-// sectors are left, and that can be done. Gives how many units there are where all are accepted: then none of them is
-// listed, whatever was listed before. Else nothing has changed.
-fn pass_four_sectors<D: Disk>(on: &mut Provider<D>, n: u64, left: u64) -> Option<u64>
-    requires on { on.old.keying.auth ≢ Off }
-    requires inside { n + left ≤ media on.old.keying (D.state on.old.disk) * units on.old.keying }
-    ensures many { IfSome result (λ many. (1 ≤ many) × (many ≤ left)) }
-    ensures some { IfSome result (λ many. (bad : ℕ) (found : List ℕ) → Looks on.old.keying n many bad bad found found (D.state on.old.disk) (D.state on.new.disk)) }
-    ensures missed { result ≡ None → D.state on.new.disk ≡ D.state on.old.disk }
-    ensures kept { IsKept on.old on.new }
-{
-    let units = on.units();
-    if n % units != 0 || left < 4 * units {
-        return None;
-    }
-    if !on.look_at_four_sectors(n / units) {
-        return None;
-    }
-    Some(4 * units)
-}
-
-// Looks at the next units, of which so many are left: at those of four logical sectors at once where that can be done
-// and all of them are accepted, else at four units at once where that can be done, and else at one. Gives at how many,
-// and how many are listed then.
+// Looks at the next units, of which so many are left: at as many at once as `window` has room for where that can be
+// done, and else at one. Gives at how many, and how many are listed then.
 fn look_on<D: Disk>(
     on: &mut Provider<D>,
     n: u64,
     left: u64,
     found: &mut [u8],
     bad: u32,
+    window: &mut [u8],
 ) -> Result<(u64, u32), DiskFailed>
     requires on { on.old.keying.auth ≢ Off }
     requires some { 1 ≤ left }
     requires inside { n + left ≤ media on.old.keying (D.state on.old.disk) * units on.old.keying }
     requires few { bad + left ≤ 16384 }
     requires room { request_limit ≤ length found.old }
+    requires window { 18432 ≤ length window.old }
     ensures many { IfOk result (λ seen. (1 ≤ seen.0) × (seen.0 ≤ left)) }
     ensures ok { IfOk result (λ seen. Looks on.old.keying n seen.0 bad seen.1 found.old found.new (D.state on.old.disk) (D.state on.new.disk)) }
     ensures err { OnErr result (FailsAt 1 (D.state on.old.disk) (D.state on.new.disk)) }
     ensures kept { IsKept on.old on.new }
 {
-    if let Some(many) = pass_four_sectors(on, n, left) {
-        return Ok((many, bad));
+    let many = looked_at(on.units(), n, left);
+    let device = &mut window[..512 * many as usize];
+    if on.look(n, device) {
+        let now = list_all(on, n, device, found, bad);
+        return Ok((many, now));
     }
-    if left >= 4 {
-        if let Some(now) = look_at_four(on, n, found, bad) {
-            return Ok((4, now));
-        }
-    }
-    match look(on, n, found, bad) {
-        Ok(now) => Ok((1, now)),
-        Err(failed) => Err(failed),
-    }
+    let mut unit: Sector = [0; 512];
+    on.get_unit(n, &mut unit)?;
+    let now = list_all(on, n, &unit, found, bad);
+    Ok((1, now))
 }
 
 /// Looks at the units of logical sectors from number `start` on, and lists those whose tag isn't that of their cipher
@@ -176,10 +167,11 @@ pub fn sweep<D: Disk>(
     let sectors = count.min(on.sectors() - start).min(MOST_UNITS / units);
     let first = start * units;
     let all = sectors * units;
+    let mut window = [0; 18_432];
     let mut bad = 0;
     let mut done = 0;
-    'groups: while done < all {
-        let (many, now) = look_on(on, first + done, all - done, found, bad)?;
+    'looks: while done < all {
+        let (many, now) = look_on(on, first + done, all - done, found, bad, &mut window)?;
         done += many;
         bad = now;
     }

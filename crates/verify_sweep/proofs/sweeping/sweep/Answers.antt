@@ -34,11 +34,11 @@ look_on-requires-clause-inside g c =
     let fits : c.args.start + c.min-sectors.result ≤ media k disk = omega (arith, there, c.min.ensures, c.min-sectors.ensures, c.requires.place) in
     let within = units_within c.args.start c.min-sectors.result c.units-units.result (media k disk) fits in
     let same : media k disk * c.units-units.result ≡ media k disk * units k = ap (λ (u : ℕ). media k disk * u) units_is in
-    let kept = c.groups.invariant.kept in
-    let size = c.groups.invariant.lists.logs.size in
+    let kept = c.looks.invariant.kept in
+    let size = c.looks.invariant.lists.logs.size in
     let F : Keying → ℕ → ℕ = λ (j : Keying) (m : ℕ). media_sectors j.auth j.sectorsize (512 * m) * units j in
-    let now : F c.groups.on.keying (state c.groups.on.disk).size ≡ F k disk.size = (λ i. F (kept.keying i) (size i)) in
-    omega (arith, within, same, now, c.groups-test.true)
+    let now : F c.looks.on.keying (state c.looks.on.disk).size ≡ F k disk.size = (λ i. F (kept.keying i) (size i)) in
+    omega (arith, within, same, now, c.looks-test.true)
 
 pub returns-in_err-many-clause-answer : goal.returns-in_err-many-clause-answer
 returns-in_err-many-clause-answer g c =
@@ -50,11 +50,11 @@ returns-in_err-many-clause-answer g c =
     let swept_is : c.min-sectors.result ≡ min (min c.args.count (media k disk - c.args.start)) (16384 / units k) =
     c.min-sectors.ensures ∙ (λ i. min ((c.min.ensures ∙ ap (λ (m : ℕ). min c.args.count (m - c.args.start)) there) i) (16384 / units_is i)) in
     let count : c.min-sectors.result * c.units-units.result ≡ min (min c.args.count (media k disk - c.args.start)) (16384 / units k) * units k = (λ i. swept_is i * units_is i) in
-    let lists = c.groups.invariant.lists in
-    let done = c.groups.done in
+    let lists = c.looks.invariant.lists in
+    let done = c.looks.done in
     let fails : FailsAmong (min (min c.args.count (media k disk - c.args.start)) (16384 / units k) * units k) disk (state c.look_on.new.on.disk) = record {
       unit = done;
-      within = let P : ℕ → Type 0 = λ m. done < m in subst P count c.groups-test.true;
+      within = let P : ℕ → Type 0 = λ m. done < m in subst P count c.looks-test.true;
       fails = record {
         asked = Counted-then done 1 (done + 1) refl lists.asked c.in_err-many.ensures.err.asked;
         fails = FailsIn-then [] [] lists.logs c.in_err-many.ensures.err.fails;
@@ -63,21 +63,21 @@ returns-in_err-many-clause-answer g c =
     let s : Sweep = record { keying = k; media = media k disk; start = c.args.start; count = c.args.count } in
     sweep_fails s c.args.found.now c.look_on.new.found c.from_residual.result disk (state c.look_on.new.on.disk) c.from_residual.ensures.0 fails
 
-pub groups-preserved : goal.groups-preserved
-groups-preserved g c =
+pub looks-preserved : goal.looks-preserved
+looks-preserved g c =
     let state = g.D.Disk.state in
     let k = c.args.on.now.keying in
-    let n : ℕ = c.args.start * c.units-units.result + c.groups.done in
-    let was = c.groups.invariant.kept in
+    let n : ℕ = c.args.start * c.units-units.result + c.looks.done in
+    let was = c.looks.invariant.kept in
     let seen = c.in_ok-many.ensures in
-    let P : Keying → Type 0 = λ j. Looks j n c.in_ok-many.many c.groups.bad c.in_ok-many.now c.groups.found c.look_on.new.found (state c.groups.on.disk) (state c.look_on.new.on.disk) in
+    let P : Keying → Type 0 = λ j. Looks j n c.in_ok-many.many c.looks.bad c.in_ok-many.now c.looks.found c.look_on.new.found (state c.looks.on.disk) (state c.look_on.new.on.disk) in
     let looks = subst P was.keying seen.ok in
     let most = few_failing k n looks.sectors in
-    let few = c.groups.invariant.few in
+    let few = c.looks.invariant.few in
     record {
       kept = record { keying = seen.kept.keying ∙ was.keying; slot = seen.kept.slot ∙ was.slot; readonly = seen.kept.readonly ∙ was.readonly };
       within = omega (arith, seen.many.1);
       few = omega (arith, looks.lists.now_is, most, looks.all, few);
-      lists = ListsFailing-next k (c.args.start * c.units-units.result) c.groups.done c.in_ok-many.many c.groups.bad c.in_ok-many.now c.args.found.now c.groups.found c.look_on.new.found (state c.args.on.now.disk)
-          (state c.groups.on.disk) (state c.look_on.new.on.disk) c.groups.invariant.lists looks;
+      lists = ListsFailing-next k (c.args.start * c.units-units.result) c.looks.done c.in_ok-many.many c.looks.bad c.in_ok-many.now c.args.found.now c.looks.found c.look_on.new.found (state c.args.on.now.disk)
+          (state c.looks.on.disk) (state c.look_on.new.on.disk) c.looks.invariant.lists looks;
     }

@@ -8,7 +8,6 @@
 mod faults;
 mod job;
 mod laws;
-mod opening;
 mod queue;
 mod request;
 

@@ -7,7 +7,6 @@ ghost use Rattle.provider.specs.Attached.{IsKept, media};
 ghost use Rattle.sealing.specs.Sectors.{units};
 ghost use Rattle.bio_queue.specs.Owners.{IsMadeFor};
 
-use crate::opening::{open_all, seal_all};
 use crate::{Job, Reaped};
 use block_traits::{Disk, DiskFailed, NoMemory, Sector};
 use eli_base::REQUEST_LIMIT;
@@ -126,14 +125,8 @@ impl OpenRequest {
             Job::Write { sector, count } => {
                 let units = count * each as u32;
                 let mut device = vec![in alloc; 0; 512 * units as usize]?;
-                seal_all(
-                    on,
-                    sector,
-                    count,
-                    512 * each as usize,
-                    from,
-                    device.as_mut_slice(),
-                );
+                on.is_of_a_keying();
+                on.seal_into(sector, from, device.as_mut_slice());
                 Ok(OpenRequest {
                     tag,
                     job: *job,
@@ -213,17 +206,9 @@ impl OpenRequest {
     {
         match self.job {
             Job::Read { sector, count } => {
-                open_all(
-                    on,
-                    sector,
-                    count,
-                    512 * on.units() as usize,
-                    &self.device,
-                    into,
-                )?;
-                Ok(Reaped::Bytes {
-                    length: count * on.sector_size(),
-                })
+                let length = count * on.sector_size();
+                on.open_from(sector, &self.device, &mut into[..length as usize])?;
+                Ok(Reaped::Bytes { length })
             }
             Job::Write { .. } => Ok(Reaped::Written),
             Job::Flush => Ok(Reaped::Flushed),

@@ -3,22 +3,23 @@ use Rattle.std.proofs.Common.{◌≡◌, ℕ, zero, suc, ◌+◌, ◌-◌, ◌*�
 use Rattle.std.proofs.Math.Nat.{mul-div_cancel}
 use Rattle.std.proofs.Math.Seq.{drop-cons}
 use Rattle.std.proofs.lemmas.Bool.{eqb-true, eq-eqb}
-use Rattle.std.proofs.lemmas.List.{take_at, drop_at, drop_all}
-use Rattle.block_traits.specs.Content.{Content, present}
+use Rattle.std.proofs.lemmas.List.{drop_all}
+use Rattle.block_traits.specs.Content.{Content}
 use Rattle.block_traits.specs.Disk.{DiskState, GivesFrom, Logs, writes_from}
 use Rattle.block_traits.specs.declared.disk.Event.{Event}
 use Rattle.block_traits.specs.declared.disk.Event.TheVariants as event
 use Rattle.block_traits.proofs.Logs.{Logs-nothing, Logs-then, content-Logs}
 use Rattle.eli_base.specs.Keying.{Keying}
 use Rattle.provider.specs.Attached.{media}
-use Rattle.provider.specs.Reading.{ReadsFrom, StandFrom, sector_readings, standing}
-use Rattle.provider.specs.Writing.{data_writes, sector_writes}
+use Rattle.provider.specs.Reading.{StandFrom, standing}
+use Rattle.provider.specs.Writing.{data_writes}
+use Rattle.provider.proofs.Data.{reads_as, writes_all}
 use Rattle.range_keys.specs.Ring.{IsKeying}
-use Rattle.sealing.specs.Sectors.{joined, reading, seal, units}
+use Rattle.sealing.specs.Sectors.{seal, units}
 use Rattle.sealing.proofs.Sectors.{length-seal}
 use Rattle.bio_queue.specs.Answers.{Gave, HasBadUnit, IsGiven, ReapAnswers, StepsOn, TakesOut, asked, units_of}
 use Rattle.bio_queue.specs.Requests.{Request, exchanged, first_of, next_of, put_in, request_with, step_events, stepped}
-use Rattle.sealing.specs.Data.{opened_data, opened_sectors, sealed_sectors}
+use Rattle.sealing.specs.Data.{sealed_sectors}
 use Rattle.bio_queue.specs.declared.faults.ReapFault.{ReapFault}
 use Rattle.bio_queue.specs.declared.faults.ReapFault.TheVariants as reap
 use Rattle.bio_queue.specs.declared.job.Job.{Job}
@@ -121,23 +122,6 @@ written_through tag sector count all (suc many) done device old new long sum h f
       rest.1,
     )
 
-writes-append : (n : ℕ) (xs ys : List (List ℕ)) → writes_from n (xs ++ ys) ≡ writes_from n xs ++ writes_from (n + length xs) ys
-writes-append n [] ys = let at : n ≡ n + 0 = omega arith in ap (λ (m : ℕ). writes_from m ys) at
-writes-append n (x ∷ xs) ys =
-    let at : n + 1 + length xs ≡ n + suc (length xs) = omega arith in
-    ap (λ (l : List Event). event.Write n x ∷ l) (writes-append (n + 1) xs ys ∙ ap (λ (m : ℕ). writes_from (n + 1) xs ++ writes_from m ys) at)
-
--- the device sectors of a write in ascending order are its writes
-writes_all : (k : Keying) (sector count : ℕ) (bytes : List ℕ) → writes_from (sector * units k) (sealed_sectors k sector count bytes) ≡ data_writes k sector count bytes
-writes_all k sector zero bytes = refl
-writes_all k sector (suc count) bytes =
-    let S : ℕ = k.sectorsize in
-    let first : List (List ℕ) = seal k sector (take S bytes) in
-    let at : sector * units k + length first ≡ (sector + 1) * units k = let n = length-seal k sector (take S bytes) in omega arith in
-    writes-append (sector * units k) first (sealed_sectors k (sector + 1) count (drop S bytes))
-    ∙ ap (λ (m : ℕ). sector_writes k sector (take S bytes) ++ writes_from m (sealed_sectors k (sector + 1) count (drop S bytes))) at
-    ∙ ap (λ (l : List Event). sector_writes k sector (take S bytes) ++ l) (writes_all k (sector + 1) count (drop S bytes))
-
 length-sealed_sectors : (k : Keying) (sector count : ℕ) (bytes : List ℕ) → length (sealed_sectors k sector count bytes) ≡ count * units k
 length-sealed_sectors k sector zero bytes = omega arith
 length-sealed_sectors k sector (suc count) bytes =
@@ -181,39 +165,6 @@ read_through tag sector count all (suc many) done device old new sum h found =
       stand_next old.disk.content h.0.disk.content n done many step.bytes rest.0 (content-Logs old.disk h.0.disk step.logs) step.given rest.2,
       rest.3 ∙ (λ i. Some (record { tag = tag; job = Read sector count; done = all; units = all; device = append_assoc device (step.bytes ∷ []) rest.0 i })),
     )
-
-length-standing : (c : Content) (n count : ℕ) → length (standing c n count) ≡ count
-length-standing c n zero = refl
-length-standing c n (suc count) = ap suc (length-standing c (n + 1) count)
-
-standing-more : (c : Content) (n m count : ℕ) → standing c n (m + count) ≡ standing c n m ++ standing c (n + m) count
-standing-more c n zero count =
-    let at : n ≡ n + 0 = omega arith in
-    let all : zero + count ≡ count = omega arith in
-    λ i. standing c (at i) (all i)
-standing-more c n (suc m) count =
-    let all : suc m + count ≡ suc (m + count) = omega arith in
-    let at : n + 1 + m ≡ n + suc m = omega arith in
-    ap (standing c n) all ∙ ap (λ (l : List (List ℕ)). present c n ∷ l) (standing-more c (n + 1) m count ∙ ap (λ (x : ℕ). standing c (n + 1) m ++ standing c x count) at)
-
--- what stands there reads as the provider reads it
-read_all : (k : Keying) (c : Content) (sector count : ℕ) → opened_sectors k sector count (standing c (sector * units k) (count * units k)) ≡ sector_readings k c sector count
-read_all k c sector zero = refl
-read_all k c sector (suc count) =
-    let P : ℕ = units k in
-    let sum : suc count * P ≡ P + count * P = omega arith in
-    let at : sector * P + P ≡ (sector + 1) * P = omega arith in
-    let all : standing c (sector * P) (suc count * P) ≡ standing c (sector * P) P ++ standing c ((sector + 1) * P) (count * P) =
-    ap (standing c (sector * P)) sum ∙ standing-more c (sector * P) P (count * P) ∙ ap (λ (n : ℕ). standing c (sector * P) P ++ standing c n (count * P)) at in
-    let long = length-standing c (sector * P) P in
-    let first = ap (take P) all ∙ take_at (standing c (sector * P) P) (standing c ((sector + 1) * P) (count * P)) P long in
-    let rest = ap (drop P) all ∙ drop_at (standing c (sector * P) P) (standing c ((sector + 1) * P) (count * P)) P long in
-    (λ i. reading k sector (first i) ∷ opened_sectors k (sector + 1) count (rest i)) ∙ ap (λ (l : List (Result (List ℕ) ℕ)). reading k sector (standing c (sector * P) P) ∷ l) (read_all k c (sector + 1) count)
-
-reads_as : (told : Option Content) (k : Keying) (sector count : ℕ) (device : List (List ℕ)) (answer : Result (List ℕ) ℕ) → StandFrom told (sector * units k) (count * units k) device → opened_data k sector count device ≡ answer
-    → ReadsFrom told k sector count answer
-reads_as None k sector count device answer stand is = tt
-reads_as (Some c) k sector count device answer stand is = sym (ap joined (read_all k c sector count)) ∙ ap (opened_data k sector count) (sym stand) ∙ is
 
 -- ---- a job alone
 

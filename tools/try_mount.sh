@@ -866,14 +866,15 @@ case_moments() { # signals to each process and to all, from the passphrase to th
     local signal who at said wrong began took
     "$make" -i 100000 -J pass 20M i.img key i.backup 2>notes
     up -m i.img && down
-    mv i.img i.made && cp --sparse=always i.made i.img && head -c 50000 /dev/urandom >new
-    began=$(date +%s%N)
-    used
-    took=$(share "($(date +%s%N) - $began) / 10**9")
+    mv i.img i.made
     for signal in ${SIGNALS:-TERM INT KILL}; do
         for who in ${ROLES:-all front keeper device server files geli}; do
             wrong=0
             : >reached
+            cp --sparse=always i.made i.img && head -c 50000 /dev/urandom >new
+            began=$(date +%s%N) # anew, as the load changes
+            used
+            took=$(share "($(date +%s%N) - $began) / 10**9")
             for ((at = 0; at < rounds; at++)); do
                 said=$(round $signal $who "$(share "0.05 + $at / $rounds * $took")" 3>&1)
                 [ -z "$said" ] || { wrong=$((wrong + 1)) && echo "  at $at: $said" && sweep && rm -rf run/*; }

@@ -33,7 +33,7 @@ import threading
 import time
 from pathlib import Path
 
-from lib import Failed, files_of, name_of, note, seen
+from lib import REFUSED, Failed, Refusals, files_of, name_of, note
 
 SIGNALS = {signal.SIGTERM, signal.SIGINT, signal.SIGHUP}
 BLOCKED = SIGNALS | {signal.SIGCHLD}
@@ -43,7 +43,7 @@ EXT = ("ext2", "ext3", "ext4")
 MAKE = ("mke2fs", "-q", "-F", "-t", "ext4", "-b", "4096", "-E", "nodiscard")
 FOR_FUSE2FS = ("-O", "^extent,^64bit,^metadata_csum")
 PACKAGES = {"fuse2fs": "fuse2fs", "grub-mount": "grub-common"}
-REFUSED = re.compile(": (write|write-zeroes|flush): command failed: ")  # libnbd says it of what a server refused
+REFUSAL = re.compile(": (write|write-zeroes|flush): command failed: ")  # libnbd says it of what a server refused
 NEEDS_JOURNAL = "Journal needs recovery"  # fuse2fs says it where it may not write
 JOURNAL = "Writing to the journal is not supported."  # fuse2fs says it of each ext4 that has one
 NEW = 1 << 20  # bytes that are zeros at the beginning of a provider, or a file, where nobody wrote to it yet
@@ -291,26 +291,14 @@ class Device(Program):
     """nbdfuse, which says a line of each request that the server refused: who uses a filesystem need not hear of it."""
 
     def __init__(self, command, lock, files):
-        self.files = files  # of the image
-        self.refused, self.first = 0, ""
+        self.refusals = Refusals(files)
         super().__init__(command, lock, start_new_session=True)
 
     def read(self):
         for line in self.process.stdout:
             self.lines.append(line)
-            if REFUSED.search(line):
-                self.refused += 1
-                self.first = self.first or self.moment()
-
-    def moment(self):
-        """When the first was refused, and why, as far as that can be seen."""
-        why = next(filter(None, (seen(file, is_ours=True) for file in self.files)), "")
-        return time.strftime("%H:%M:%S") + f" ({why})" * bool(why)
-
-    def tells(self):
-        """What it heard, where a write or a flush was refused."""
-        how_many = "once, at" if self.refused == 1 else f"{self.refused} times, the first at"
-        return f"a write or a flush was refused {how_many} {self.first}" if self.refused else ""
+            if REFUSAL.search(line):
+                self.refusals.add()
 
 
 class Keeper:
@@ -531,8 +519,8 @@ class Keeper:
         if not self.number:
             return
         said = self.state.text(self.state.ended)
-        if said.startswith("a write or a flush was refused"):
-            said = self.device and self.device.tells() or said
+        if said.startswith(REFUSED) and self.device and self.device.refusals.count:
+            said = str(self.device.refusals)
         if not said:
             tail = self.device.said() if self.device else ""
             self.problem = self.problem or (

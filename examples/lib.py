@@ -137,6 +137,35 @@ def holder_of(state, own=None):
     return None
 
 
+REFUSED = "a write or a flush was refused"
+
+
+class Refusals:
+    """The writes and flushes that a server of an image refused: how many, when the first one was, and why."""
+
+    def __init__(self, files):
+        self.files = files  # of the image
+        self.count, self.first = 0, ""
+        self.is_whole = True  # no more of them can have been
+
+    def add(self, when=None):
+        """One more, at a time in seconds, or now."""
+        self.count += 1
+        if self.count == 1:
+            self.first = time.strftime("%H:%M:%S", time.localtime(when)) + self.why()
+
+    def why(self):
+        """Why, as far as that can be seen now."""
+        why = next(filter(None, (seen(file, is_ours=True) for file in self.files)), "")
+        return f" ({why})" * bool(why)
+
+    def __str__(self):
+        if not self.count:
+            return REFUSED + self.why()
+        how_many = "once, at" if self.count == 1 else f"{self.count} times, the first at"
+        return f"{REFUSED} {'' if self.is_whole else 'at least '}{how_many} {self.first}"
+
+
 def name_of(process):
     """How a process was called."""
     try:

@@ -13,10 +13,14 @@ processes that are, a line for each, 0 where that isn't known. Those signals to 
 is killed they end too, once nobody is connected.
 
 `ended` gets `ok` in the end, or what went wrong. geli-nbd flushes the provider however its client ends, and its status
-tells whether any write or flush was refused.
+tells whether any write or flush was refused. How many of those of a socket were, nbdkit's filter log tells.
 """
+import calendar
 import contextlib
+import mmap
 import os
+import re
+import resource
 import signal
 import socket
 import subprocess
@@ -24,10 +28,13 @@ import sys
 import time
 from pathlib import Path
 
-from lib import Failed, files_of, note, seen, told
+from lib import Failed, Refusals, files_of, note, told
 
 SIGNALS = {signal.SIGTERM, signal.SIGINT, signal.SIGHUP}
 CONNECTED = "03"  # of a row of /proc/net/unix
+LOOK = 0.5  # seconds after which it is looked again whether something was refused
+AHEAD = 1 << 26  # bytes that the log may have that weren't looked at yet
+REFUSAL = re.compile(rb"\.\.\.(?:Write|Zero|Flush) id=\d+ return=-1 ")  # of a line of the log
 STATUSES = {
     3: "its client couldn't be read",
     4: "its client went away before it was answered",
@@ -36,17 +43,16 @@ STATUSES = {
 }
 
 
-def how_it_ended(status, said, files):
-    """What the status of geli-nbd and its standard error say: `ok`, or what went wrong."""
+def how_it_ended(status, said, refusals):
+    """What the status of geli-nbd, its standard error and the log say: `ok`, or what went wrong."""
     if status == 0:
         return "ok"
     if status < 0:
         return f"geli-nbd was ended by {signal.Signals(-status).name}"
     if said.startswith("error "):
-        return f"attach: {told(said, files)}"
+        return f"attach: {told(said, refusals.files)}"
     if status == 1:
-        why = next(filter(None, map(seen, files)), "")
-        return "a write or a flush was refused" + f" ({why})" * bool(why)
+        return str(refusals)
     return STATUSES.get(status, said or f"geli-nbd ended with status {status}")
 
 
@@ -62,13 +68,64 @@ def in_child():
     signal.pthread_sigmask(signal.SIG_BLOCK, SIGNALS)
 
 
+def limit_files(process, size):
+    """Lets a process, 0 for this one, write no file beyond this size."""
+    _, most = resource.prlimit(process, resource.RLIMIT_FSIZE)
+    size = size if most == resource.RLIM_INFINITY else min(size, most)
+    resource.prlimit(process, resource.RLIMIT_FSIZE, (size, most))
+
+
+class Log:
+    """What nbdkit's filter log writes: a line where a request begins, and one where it has ended. It lies in memory, so
+    that no client waits for its reader. What was read is given back; where nobody reads it, it ends at its limit."""
+
+    def __init__(self, refusals):
+        self.refusals = refusals
+        self.file = os.memfd_create("log")
+        self.at = 0  # the first byte that wasn't read yet
+        self.limit = AHEAD
+
+    def words(self):
+        return [f"logfile=/dev/fd/{self.file}", "logappend=true"]
+
+    def in_child(self):
+        in_child()
+        signal.signal(signal.SIGXFSZ, signal.SIG_IGN)
+        limit_files(0, self.limit)
+
+    def read(self, process):
+        """Counts what was refused since the last time, and lets the process write on."""
+        size, first = os.fstat(self.file).st_size, self.at // mmap.PAGESIZE * mmap.PAGESIZE
+        if size == self.at:
+            return
+        if size >= self.limit:
+            self.refusals.is_whole = False
+        with mmap.mmap(self.file, size - first, offset=first) as lines:
+            for found in REFUSAL.finditer(lines, self.at - first):
+                self.refusals.add(self.moment(lines, found.start()))
+            end = lines.rfind(b"\n") + 1
+            self.at = first + end
+            with contextlib.suppress(OSError):  # it grows no more where this can't be, or the process has ended
+                lines.madvise(mmap.MADV_REMOVE, 0, end // mmap.PAGESIZE * mmap.PAGESIZE)
+                limit_files(process, self.at + AHEAD)
+                self.limit = self.at + AHEAD
+
+    @staticmethod
+    def moment(lines, at):
+        """The time, in UTC, that the line of this byte begins with, in seconds; None where it was cut at the limit."""
+        start = lines.rfind(b"\n", 0, at) + 1
+        with contextlib.suppress(ValueError):
+            return calendar.timegm(time.strptime(lines[start:start + 19].decode(), "%Y-%m-%d %H:%M:%S"))
+        return None
+
+
 class Server:
     """A geli-nbd, and nbdkit in front of it where that is needed."""
 
     def __init__(self, words, command):
         self.words, self.command = words, command
-        self.files = list(map(os.path.realpath, files_of(command[-1])))  # the folder is another later
-        self.geli = self.nbdkit = None
+        self.refusals = Refusals(list(map(os.path.realpath, files_of(command[-1]))))  # the folder is another later
+        self.geli = self.nbdkit = self.log = None
 
     def start_geli(self, **streams):
         # Who waits for the end of all behind a mount, by a lock that they inherit, waits for geli-nbd too.
@@ -76,8 +133,8 @@ class Server:
                                      close_fds="socket" in self.words, **streams)
 
     def start_behind_nbdkit(self, *options, ends_with=None):
-        """Starts geli-nbd on a socket, waits until it has attached the provider, and starts nbdkit over it. That ends
-        once nobody is connected and the pipe `ends_with` has ended."""
+        """Starts geli-nbd on a socket, waits until it has attached the provider, and starts nbdkit over it. That logs
+        what is refused, and ends once nobody is connected and the pipe `ends_with` has ended."""
         front, back = socket.socketpair()
         with front:
             with back:
@@ -86,21 +143,29 @@ class Server:
                 return
             words, kept = [f"socket-fd={front.fileno()}"], [front.fileno()]
             if ends_with:
-                options += ("--filter=exitwhen",)
-                words += [f"exit-when-pipe-closed={ends_with}", "exit-when-poll=1"]
-                kept.append(ends_with)
+                self.log = Log(self.refusals)
+                options += ("--filter=exitwhen", "--filter=log")
+                words += [f"exit-when-pipe-closed={ends_with}", "exit-when-poll=1", *self.log.words()]
+                kept += [ends_with, self.log.file]
             if "partition" in self.words:
                 options += ("--filter=partition",)
                 words.append(f"partition={self.words['partition']}")
             # Its clients would be refused after a SIGTERM.
-            self.nbdkit = subprocess.Popen(["nbdkit", *options, "nbd", *words], preexec_fn=in_child, pass_fds=kept)
+            start = self.log.in_child if self.log else in_child
+            self.nbdkit = subprocess.Popen(["nbdkit", *options, "nbd", *words], preexec_fn=start, pass_fds=kept)
+
+    def look(self):
+        """Looks whether something was refused."""
+        if self.log:
+            self.log.read(self.nbdkit.pid)
 
     def wait(self):
         """Waits for the end of both, and writes down how it went; what it wrote down."""
         if self.nbdkit:
             self.nbdkit.wait()
+            self.look()
         said = self.geli.stderr.read().decode(errors="replace").strip()
-        text = how_it_ended(self.geli.wait(), said, self.files)
+        text = how_it_ended(self.geli.wait(), said, self.refusals)
         put(self.words["ended"], text)
         return text
 
@@ -183,7 +248,8 @@ def wait_for_end(server, place):
     """Waits for a signal, and then for the end of the clients; or until nbdkit or geli-nbd ended by themselves."""
     ends = False
     while server.nbdkit.poll() is None and server.geli.poll() is None:
-        got = signal.sigtimedwait(SIGNALS | {signal.SIGCHLD}, 0.1 if ends else 3600)
+        got = signal.sigtimedwait(SIGNALS | {signal.SIGCHLD}, 0.1 if ends else LOOK)
+        server.look()
         if got and got.si_signo in SIGNALS and not ends:
             ends = True
             with contextlib.suppress(OSError):

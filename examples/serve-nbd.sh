@@ -7,7 +7,7 @@
 # SOCKET must not exist. geli-nbd(8) runs on behind it, and nbdkit between, so that the key is derived once for all
 # clients, until `serve-nbd.sh -e SOCKET` ends it. That waits for the clients to disconnect, says who they are, and
 # flushes and detaches the provider. It answers 0 only where that went well, and where no write of a client was refused,
-# as on a full disk.
+# as on a full disk. Else it says how many were, when the first was, and why.
 # -r: read-only. -n: only this partition of the data, counted from 1. The passphrase is asked for; -j names a
 # file whose first line it is, -p says that there is none.
 # It needs nbdkit; geli-nbd(8) alone serves one client. Some clients, with URI=nbd+unix:///?socket=SOCKET (whole path):

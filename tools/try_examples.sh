@@ -503,9 +503,9 @@ def refused(work, *words):
     return False
 
 EOS
-    lost="serve-nbd.sh: what clients wrote may be lost: a write or a flush was refused"$'\n1'
-    ended() { # what is said at the end, but for the reason, and the status
-        "$serve" -e sock 2>&1 | sed 's/ (.*)$//'
+    lost="serve-nbd.sh: what clients wrote may be lost: a write or a flush was refused"
+    ended() { # what is said at the end, but for the reason and the time, and the status
+        "$serve" -e sock 2>&1 | sed 's/ (.*)$//; s/[0-9][0-9]:[0-9:]*$/TIME/'
         echo "${PIPESTATUS[0]}"
     }
     if nbdsh -c pass 2>commands; then
@@ -526,7 +526,7 @@ h.flush()
 EOS
         "$serve" -p -k key part.img sock 2>notes
         says "a write to a part of a sector that can't be read is refused, and others go on" nbdsh -u "$uri" -c - <part.py
-        says "  and that is told at the end" test "$(ended)" = "$lost"
+        says "  and that is told at the end" test "$(ended)" = "$lost 2 times, the first at TIME"$'\n1'
         "$serve" -p -k key part.img sock 2>notes
         says "  and nothing is, where none was refused" test "$(nbdsh -u "$uri" -c 'h.pwrite(b"f" * 512, 4096)'
             ended)" = $'sock: ended, all is flushed\n0'
@@ -555,7 +555,7 @@ EOS
         for again in '' yes; do
             "$serve" -k key -j pass small.d/s.img sock 2>notes
             says "a write on a full disk is refused${again:+, and made again}" env AGAIN=$again nbdsh -u "$uri" -c - <refused.py
-            says "  and that is told at the end" test "$(ended)" = "$lost"
+            says "  and that is told at the end" test "$(ended)" = "$lost once, at TIME"$'\n1'
         done
         umount small.d
     else

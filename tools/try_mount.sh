@@ -443,6 +443,54 @@ EOS
     says "an interrupt of serve-nbd.sh at $rounds moments leaves nothing" test $wrong = 0
 }
 
+# refused_from PIECE: how many are refused of 20 writes of a client that goes on
+refused_from() {
+    timeout 60 nbdsh -u "$uri" -c - 2>client.out <<EOS
+refused = 0
+for at in range($1, $1 + 20):
+    try:
+        h.pwrite(b"b" * 65536, at << 18)
+    except nbd.Error:
+        refused += 1
+print(refused)
+EOS
+}
+# What a server's notes of requests take, in blocks of 512 bytes.
+blocks_of_log() { find "/proc/$1/fd" -lname '/memfd:log*' -exec stat -Lc %b {} +; }
+in_order() { printf '%s\n' "$@" | sort -c; }
+case_refused() { # writes of a server's clients that are refused, and room again
+    nbdsh -c pass 2>notes || { echo "not tried: writes of clients that are refused (no nbdsh)"; return; }
+    local uri="nbd+unix:///?socket=$folder/sock" process before after first second
+    mkdir -p small
+    command mount -t tmpfs -o size=20M small small 2>notes || { echo "not tried: a full disk (no tmpfs)"; return; }
+    "$make" -i 100 -J pass 40M small/s.img key small.backup 2>notes
+    server -k key -j pass small/s.img sock
+    process=$(cat sock.pid)
+    fallocate -l $(($(df --output=avail -B1 small | tail -n 1) - 8192)) small/filler
+    before=$(date +%T)
+    first=$(refused_from 4)
+    after=$(date +%T)
+    sleep 1
+    kill -STOP "$process"
+    second=$(refused_from 40)
+    kill -CONT "$process"
+    says "on a full disk writes of a client are refused" test "${first:-0}" -gt 0
+    says "  and of another one, while who waits for the server stands still" test "${second:-0}" -gt 0
+    rm small/filler
+    says "  and done once there is room again" timeout 60 nbdsh -u "$uri" -c \
+        'h.pwrite(b"c" * 65536, 1 << 20); h.flush(); [h.pread(512, 0) for _ in range(5000)]'
+    sleep 1
+    says "  and what is noted of each request takes no room" test "$(blocks_of_log "$process")" -lt 100
+    says "  but serve-nbd.sh -e answers 1" test "$(server -e sock; echo $?)" = 1
+    says "  and says how many, and why" told \
+        "what clients wrote may be lost: a write or a flush was refused $((first + second)) times, .* (.* is full)\$"
+    says "  and since when" in_order "$before" "$(sed 's/.*the first at //; s/ .*//' notes)" "$after"
+    says "  and nothing is left" nothing_left small/s.img
+    server -k key -j pass small/s.img sock
+    says "  and it is told once" server -e sock
+    umount small
+}
+
 case_slow() { # a disk whose sync is slow
     head -c 100000 /dev/urandom >new
     for SYNC in 0.2 1; do
@@ -818,14 +866,15 @@ case_moments() { # signals to each process and to all, from the passphrase to th
     local signal who at said wrong began took
     "$make" -i 100000 -J pass 20M i.img key i.backup 2>notes
     up -m i.img && down
-    mv i.img i.made && cp --sparse=always i.made i.img && head -c 50000 /dev/urandom >new
-    began=$(date +%s%N)
-    used
-    took=$(share "($(date +%s%N) - $began) / 10**9")
+    mv i.img i.made
     for signal in ${SIGNALS:-TERM INT KILL}; do
         for who in ${ROLES:-all front keeper device server files geli}; do
             wrong=0
             : >reached
+            cp --sparse=always i.made i.img && head -c 50000 /dev/urandom >new
+            began=$(date +%s%N) # anew, as the load changes
+            used
+            took=$(share "($(date +%s%N) - $began) / 10**9")
             for ((at = 0; at < rounds; at++)); do
                 said=$(round $signal $who "$(share "0.05 + $at / $rounds * $took")" 3>&1)
                 [ -z "$said" ] || { wrong=$((wrong + 1)) && echo "  at $at: $said" && sweep && rm -rf run/*; }
@@ -938,7 +987,7 @@ GELI_NBD=$(readlink -f "${GELI_NBD:-$top/geli-nbd}")
 export GELI GELI_NBD
 [ $# = 0 ] || shift
 names=("$@")
-[ ${#names[@]} -gt 0 ] || names=(rest sync fio large kernel partition full serve slow stalled damaged interrupt by_hand
+[ ${#names[@]} -gt 0 ] || names=(rest sync fio large kernel partition full serve refused slow stalled damaged interrupt by_hand
     programs namespace signals shutdown moments kill)
 work=$(mktemp -d)
 folder=$work/none failures=0

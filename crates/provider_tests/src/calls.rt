@@ -64,6 +64,13 @@ fn put(sectors: &mut Vec<Sector>, n: u64, from: &Sector) {
     }
 }
 
+// Puts sectors one after the other, the first to number `first`.
+fn put_all(sectors: &mut Vec<Sector>, first: u64, from: &[u8]) {
+    for j in 0..from.len() / 512 {
+        put(sectors, first.saturating_add(j as u64), &sector_of(from, j));
+    }
+}
+
 impl Disk for LookingDisk {
     ghost use Rattle.block_traits.specs.Disk.{untold};
     ghost use Rattle.crash_disk.specs.MemDisk.{mem_disk_of};
@@ -109,13 +116,7 @@ impl Disk for LookingDisk {
         let calls = self.calls.get();
         let runs = calls.runs.saturating_add(1);
         self.calls.set(Calls { runs, ..calls });
-        for j in 0..from.len() / 512 {
-            put(
-                &mut self.sectors,
-                first.saturating_add(j as u64),
-                &sector_of(from, j),
-            );
-        }
+        put_all(&mut self.sectors, first, from);
         Ok(())
     }
 

@@ -44,14 +44,14 @@ use Rattle.nbd_session.proofs.Settling.{HaveFlush, HaveFlush-left, HaveFlush-rig
 
 -- ---- a session in two parts
 
-record Split (n : ℕ) (k : Keying) (c : Content) (xs ys : List Exchange) (deeds : List Deed) : Type 0 where
-  first : List Deed
-  second : List Deed
-  are : deeds ≡ first ++ second
-  did_first : DidEach n k c xs first
-  did_second : DidEach (n + length xs) k (after (session_steps n k xs first) c) ys second
+pub record Split (n : ℕ) (k : Keying) (c : Content) (xs ys : List Exchange) (deeds : List Deed) : Type 0 where
+  pub first : List Deed
+  pub second : List Deed
+  pub are : deeds ≡ first ++ second
+  pub did_first : DidEach n k c xs first
+  pub did_second : DidEach (n + length xs) k (after (session_steps n k xs first) c) ys second
 
-split-did : (xs ys : List Exchange) (deeds : List Deed) (n : ℕ) (k : Keying) (c : Content) → DidEach n k c (xs ++ ys) deeds → Split n k c xs ys deeds
+pub split-did : (xs ys : List Exchange) (deeds : List Deed) (n : ℕ) (k : Keying) (c : Content) → DidEach n k c (xs ++ ys) deeds → Split n k c xs ys deeds
 split-did [] ys deeds n k c h =
     let same : n ≡ n + 0 = omega arith in
     record {
@@ -75,7 +75,7 @@ split-did (x ∷ xs) ys (d ∷ ds) n k c h =
           (subst (λ (now : Content). DidEach (n + 1 + length xs) k now ys rest.second) (sym (after-then c mine (session_steps (n + 1) k xs rest.first))) rest.did_second);
     }
 
-steps-split : (xs ys : List Exchange) (first second : List Deed) (n : ℕ) (k : Keying) (c : Content) → DidEach n k c xs first
+pub steps-split : (xs ys : List Exchange) (first second : List Deed) (n : ℕ) (k : Keying) (c : Content) → DidEach n k c xs first
     → session_steps n k (xs ++ ys) (first ++ second) ≡ session_steps n k xs first ++ session_steps (n + length xs) k ys second
 steps-split [] ys [] second n k c h = let same : n ≡ n + 0 = omega arith in ap (λ (m : ℕ). session_steps m k ys second) same
 steps-split [] ys (d ∷ ds) second n k c h = absurd h
@@ -88,7 +88,7 @@ steps-split (x ∷ xs) ys (d ∷ ds) second n k c h =
     ∙ sym (append_assoc mine (session_steps (n + 1) k xs ds) (session_steps (n + length (x ∷ xs)) k ys second))
 
 -- deeds of later exchanges change nothing
-steps-more : (xs : List Exchange) (first more : List Deed) (n : ℕ) (k : Keying) (c : Content) → DidEach n k c xs first → session_steps n k xs (first ++ more) ≡ session_steps n k xs first
+pub steps-more : (xs : List Exchange) (first more : List Deed) (n : ℕ) (k : Keying) (c : Content) → DidEach n k c xs first → session_steps n k xs (first ++ more) ≡ session_steps n k xs first
 steps-more [] first more n k c h = refl
 steps-more (x ∷ xs) [] more n k c h = absurd h
 steps-more (x ∷ xs) (d ∷ ds) more n k c h = ap (λ (l : List Step). exchange_steps n k x d ++ l) (steps-more xs ds more (n + 1) k (after (exchange_steps n k x d) c) h.1)
@@ -102,7 +102,7 @@ refused-none ReadOnly kind m k c x d refused by = by
 refused-none Invalid kind m k c x d refused by = by
 refused-none PassesEnd kind m k c x d refused by = by
 
-quiet-flush : (flush : Bool) (n : ℕ) → placed_at (flush_steps flush) n ≡ []
+pub quiet-flush : (flush : Bool) (n : ℕ) → placed_at (flush_steps flush) n ≡ []
 quiet-flush true n = refl
 quiet-flush false n = refl
 
@@ -156,7 +156,7 @@ alone-second P (x ∷ xs) ys h = alone-second P xs ys h.1
 all-done : (steps : List Step) (count : ℕ) → count ≡ length steps → take count steps ≡ steps
 all-done steps count h = ap (λ (n : ℕ). take n steps) h ∙ take-length steps
 
-have-own : (m : ℕ) (k : Keying) (q : Request) (whole : List ℕ) → has_fua q.flags ≡ true → HaveFlush (flush_steps (has_fua q.flags))
+pub have-own : (m : ℕ) (k : Keying) (q : Request) (whole : List ℕ) → has_fua q.flags ≡ true → HaveFlush (flush_steps (has_fua q.flags))
 have-own m k q whole h = subst (λ (b : Bool). HaveFlush (flush_steps b)) (sym h) tt
 
 flushed-write : (kind : RequestKind) (m : ℕ) (k : Keying) (c : Content) (x : Exchange) (d : Deed) → has_fua x.request.flags ≡ true → d.count ≡ length (steps_of_write m k x.request d.whole)
@@ -178,7 +178,7 @@ flushed-by kinds.Read m k c x d h by = absurd h
 flushed-by kinds.Unknown m k c x d h by = absurd h
 flushed-by kinds.Disconnect m k c x d h by = absurd h
 
-one-flushed : (xs : List Exchange) (ds : List Deed) (m : ℕ) (k : Keying) (c : Content) → OneHasFlushed xs → DidEach m k c xs ds → HaveFlush (session_steps m k xs ds)
+pub one-flushed : (xs : List Exchange) (ds : List Deed) (m : ℕ) (k : Keying) (c : Content) → OneHasFlushed xs → DidEach m k c xs ds → HaveFlush (session_steps m k xs ds)
 one-flushed [] ds m k c h did = absurd h
 one-flushed (x ∷ xs) [] m k c h did = absurd did
 one-flushed (x ∷ xs) (d ∷ ds) m k c h did =
@@ -191,7 +191,7 @@ one-flushed (x ∷ xs) (d ∷ ds) m k c h did =
 
 -- ---- the write
 
-wrote-by : (kind : RequestKind) (n : ℕ) (k : Keying) (c : Content) (x : Exchange) (bytes : List ℕ) (d : Deed) → WroteBy kind x bytes → DidBy Done kind n k c x d
+pub wrote-by : (kind : RequestKind) (n : ℕ) (k : Keying) (c : Content) (x : Exchange) (bytes : List ℕ) (d : Deed) → WroteBy kind x bytes → DidBy Done kind n k c x d
     → IsOfWrite k c x.request bytes d.whole × (take d.count (steps_of_kind kind n k x d.whole) ≡ steps_of_write n k x.request d.whole)
 wrote-by kinds.Write n k c x bytes d h by =
     (subst (λ (l : List ℕ). IsOfWrite k c x.request l d.whole) (sym h) by.0, all-done (steps_of_write n k x.request d.whole) d.count by.1)
@@ -202,7 +202,7 @@ wrote-by kinds.Flush n k c x bytes d h by = absurd h
 wrote-by kinds.Unknown n k c x bytes d h by = absurd h
 wrote-by kinds.Disconnect n k c x bytes d h by = absurd h
 
-own-flush : (kind : RequestKind) (x : Exchange) (bytes : List ℕ) → WroteBy kind x bytes → FlushesBy kind x → has_fua x.request.flags ≡ true
+pub own-flush : (kind : RequestKind) (x : Exchange) (bytes : List ℕ) → WroteBy kind x bytes → FlushesBy kind x → has_fua x.request.flags ≡ true
 own-flush kinds.Write x bytes h flushes = flushes.1
 own-flush kinds.WriteZeroes x bytes h flushes = flushes.1
 own-flush kinds.Read x bytes h flushes = absurd h
@@ -211,20 +211,20 @@ own-flush kinds.Unknown x bytes h flushes = absurd h
 own-flush kinds.Disconnect x bytes h flushes = absurd h
 
 -- where a part of a range lies among the sectors of the range: so many sectors before it, and so many behind it
-record Lies (k : Keying) (r part : ByteRange) (lead rest : ℕ) : Type 0 where
-  first : first_sector k r + lead ≡ first_sector k part
-  count : sectors_covered k r ≡ lead + (sectors_covered k part + rest)
-  place : lead * k.sectorsize + skipped k part ≡ skipped k r + (part.offset - r.offset)
-  fits : skipped k part + part.count ≤ sectors_covered k part * k.sectorsize
+pub record Lies (k : Keying) (r part : ByteRange) (lead rest : ℕ) : Type 0 where
+  pub first : first_sector k r + lead ≡ first_sector k part
+  pub count : sectors_covered k r ≡ lead + (sectors_covered k part + rest)
+  pub place : lead * k.sectorsize + skipped k part ≡ skipped k r + (part.offset - r.offset)
+  pub fits : skipped k part + part.count ≤ sectors_covered k part * k.sectorsize
 
 -- numbers of a range: its sectors and the bytes before it
-record Covers (S offset count first skip sectors : ℕ) : Type 0 where
-  at : first * S + skip ≡ offset
-  low : skip < S
-  few : sectors * S ≤ skip + count + (S - 1)
-  many : skip + count + (S - 1) < sectors * S + S
+pub record Covers (S offset count first skip sectors : ℕ) : Type 0 where
+  pub at : first * S + skip ≡ offset
+  pub low : skip < S
+  pub few : sectors * S ≤ skip + count + (S - 1)
+  pub many : skip + count + (S - 1) < sectors * S + S
 
-covers : (k : Keying) (r : ByteRange) → 0 < k.sectorsize → Covers k.sectorsize r.offset r.count (first_sector k r) (skipped k r) (sectors_covered k r)
+pub covers : (k : Keying) (r : ByteRange) → 0 < k.sectorsize → Covers k.sectorsize r.offset r.count (first_sector k r) (skipped k r) (sectors_covered k r)
 covers k r some =
     let S : ℕ = k.sectorsize in
     let all : ℕ = skipped k r + r.count + (S - 1) in
@@ -255,7 +255,7 @@ ends_in S o p n m f g s t a b r q high =
     let lt = lt_of_mul-lt-mul_right S less in
     omega (arith, lt)
 
-lies : (k : Keying) (r part : ByteRange) → 0 < k.sectorsize → IsPartOf part r → Lies k r part (first_sector k part - first_sector k r) (first_sector k r + sectors_covered k r - (first_sector k part + sectors_covered k part))
+pub lies : (k : Keying) (r part : ByteRange) → 0 < k.sectorsize → IsPartOf part r → Lies k r part (first_sector k part - first_sector k r) (first_sector k r + sectors_covered k r - (first_sector k part + sectors_covered k part))
 lies k r part some is =
     let S : ℕ = k.sectorsize in
     let mine = covers k part some in
@@ -278,7 +278,7 @@ lies k r part some is =
     }
 
 -- the bytes of a part among those of the sectors
-cut_out : (lead skip n reach d more all : ℕ) (whole bytes : List ℕ) → lead + skip ≡ more + d → skip + n ≤ reach → d + n ≤ all → take all (drop more whole) ≡ bytes
+pub cut_out : (lead skip n reach d more all : ℕ) (whole bytes : List ℕ) → lead + skip ≡ more + d → skip + n ≤ reach → d + n ≤ all → take all (drop more whole) ≡ bytes
     → take n (drop skip (take reach (drop lead whole))) ≡ take n (drop d bytes)
 cut_out lead skip n reach d more all whole bytes place fits inside are =
     of_first skip n reach (drop lead whole) fits
@@ -337,7 +337,7 @@ stands number k q part bytes whole c earlier tail image is of part_is quiet flus
     ∙ ap (part_of k part) reads
     ∙ ap (λ (l : List ℕ). Ok l) (cut_out (lead * S) (skipped k part) part.count (count * S) (part.offset - r.offset) (skipped k r) r.count whole bytes in_it.place in_it.fits (omega (arith, starts, ends)) of.splices.written)
 
-four : (a b c d e : List Step) → (a ++ ((b ++ c) ++ d)) ++ e ≡ a ++ (b ++ (c ++ (d ++ e)))
+pub four : (a b c d e : List Step) → (a ++ ((b ++ c) ++ d)) ++ e ≡ a ++ (b ++ (c ++ (d ++ e)))
 four a b c d e = simp append_assoc
 
 lasting-by : (ds : List Deed) (n : ℕ) (k : Keying) (c : Content) (x : Exchange) (between : List Exchange) (bytes : List ℕ) (part : ByteRange) (earlier later : List Step) (image : List (List ℕ)) → IsKeying k
@@ -369,7 +369,7 @@ lasting-by (d ∷ ds) n k c x between bytes part earlier later image is did wrot
     have (subst (λ (s : List Step). IsTorn (after s c) image) all torn)
 
 -- the first steps, and some of the others
-take-past : (a b : List Step) (t : ℕ) → length a ≤ t → take t (a ++ b) ≡ a ++ take (t - length a) b
+pub take-past : (a b : List Step) (t : ℕ) → length a ≤ t → take t (a ++ b) ≡ a ++ take (t - length a) b
 take-past a b t late =
     let split : t ≡ length a + (t - length a) = omega (arith, late) in
     ap (λ (n : ℕ). take n (a ++ b)) split ∙ take-append-add a b (t - length a)
@@ -501,17 +501,21 @@ read_by Invalid side y bytes image old has reads h = tt
 read_by ReadOnly side y bytes image old has reads h = absurd h
 read_by PassesEnd side y bytes image old has reads h = absurd h
 
-pub acknowledged_reads : (k : Keying) (xs : List Exchange) (c : Content) (new : DiskState) → IsKeying k → (s : Survives k xs c new) → ReadsLasting k xs c s.deeds
-acknowledged_reads k xs c new is s x bytes part a t image late torn side y old keyed has serves kind same =
-    let lasts = acknowledged_lasts k xs c new is s x bytes part a t image late torn in
-    let reads : range_reading side.keying (survivor image) (range_of y.request) ≡ Ok (part_bytes part (range_of x.request) bytes) =
-    (λ i. range_reading (keyed i) (survivor image) (same i)) ∙ lasts in
+-- what a range of a survivor reads as is answered
+pub reads-range : (k : Keying) (r : ByteRange) (bytes : List ℕ) (image : List (List ℕ)) → range_reading k (survivor image) r ≡ Ok bytes → (side : Side) (y : Exchange) (old : DiskState) → side.keying ≡ k → HasImage image old
+    → ServesExchange side y old → request_kind y.request.code ≡ kinds.Read → range_of y.request ≡ r → AnswersWith y.error y bytes old
+reads-range k r bytes image lasts side y old keyed has serves kind same =
+    let reads : range_reading side.keying (survivor image) (range_of y.request) ≡ Ok bytes = (λ i. range_reading (keyed i) (survivor image) (same i)) ∙ lasts in
     let read = subst (λ (j : RequestKind). ServesKind j side y old) kind serves.1 in
-    read_by y.error side y (part_bytes part (range_of x.request) bytes) image old has reads read.1
+    read_by y.error side y bytes image old has reads read.1
+
+pub acknowledged_reads : (k : Keying) (xs : List Exchange) (c : Content) (new : DiskState) → IsKeying k → (s : Survives k xs c new) → ReadsLasting k xs c s.deeds
+acknowledged_reads k xs c new is s x bytes part a t image late torn =
+    reads-range k part (part_bytes part (range_of x.request) bytes) image (acknowledged_lasts k xs c new is s x bytes part a t image late torn)
 
 -- ---- whoever attaches the image
 
-attached_reads : {D : Type 0} (state : D → DiskState) (k : Keying) (r : ByteRange) (bytes : List ℕ) (image : List (List ℕ)) (params : Params) (s : ℕ) (master : List ℕ) (disk : D) (result : Result (Attached D) (D × AttachFault))
+pub attached_reads : {D : Type 0} (state : D → DiskState) (k : Keying) (r : ByteRange) (bytes : List ℕ) (image : List (List ℕ)) (params : Params) (s : ℕ) (master : List ℕ) (disk : D) (result : Result (Attached D) (D × AttachFault))
     → HasImage image (state disk) → keying_of params (record { bytes = master }) ≡ k
     → ((side : Side) (y : Exchange) (old : DiskState) → side.keying ≡ k → HasImage image old → ServesExchange side y old → request_kind y.request.code ≡ kinds.Read → range_of y.request ≡ r → AnswersWith y.error y bytes old)
     → AttachesOrLacksMemory disk params s master result → AttachesAndAnswers state r bytes result

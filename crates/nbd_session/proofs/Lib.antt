@@ -7,4 +7,7 @@ pub mod Running
 pub mod Talking
 pub mod Durable
 pub mod Settling
+pub mod Placing
 pub mod Lasting
+pub mod InUnits
+pub mod Later

@@ -1,12 +1,13 @@
 -- What was answered before a flush that was answered too: it lasts, whenever power fails after that.
-use Rattle.std.specs.Prelude.{◌≡◌, ◌⊎◌, ℕ, ◌+◌, ◌-◌, ◌≤◌, Bool, true, List, [], ◌∷◌, ◌++◌, length, take, drop, Some, None, Result, Ok, Err}
+use Rattle.std.specs.Prelude.{◌≡◌, ◌⊎◌, ℕ, ◌+◌, ◌-◌, ◌*◌, ◌<◌, ◌≤◌, Bool, true, false, List, [], ◌∷◌, ◌++◌, length, take, drop, get_or, Some, None, Result, Ok, Err, All, Contains}
 use Rattle.std.specs.List.{AllByRecursion}
 use Rattle.block_traits.specs.Content.{Content}
-use Rattle.block_traits.specs.Crash.{IsTorn}
+use Rattle.block_traits.specs.Crash.{IsTorn, IsUnsettled}
 use Rattle.block_traits.specs.Disk.{DiskState, FailsIn}
-use Rattle.byte_ranges.specs.Ranges.{first_sector, range_reading, sectors_covered}
+use Rattle.byte_ranges.specs.Ranges.{first_sector, range_reading, sectors_covered, skipped}
 use Rattle.byte_ranges.specs.declared.ranges.ByteRange.{ByteRange}
 use Rattle.eli_base.specs.Keying.{Keying, keying_of}
+use Rattle.eli_base.specs.Units.{unit_bytes_of}
 use Rattle.eli_base.specs.declared.parameters.Params.{Params}
 use Rattle.eli_metadata.specs.declared.metadata.Metadata.{Metadata}
 use Rattle.provider.specs.Answers.{AttachAnswers}
@@ -15,14 +16,19 @@ use Rattle.provider.specs.declared.faults.AttachFault.{AttachFault}
 use Rattle.provider.specs.declared.faults.AttachFault.TheVariants as attach
 use Rattle.provider_readings.specs.Attaching.{HasImage, IsOpenedBy}
 use Rattle.provider_readings.specs.Data.{survivor}
-use Rattle.readings.specs.Steps.{Step, Flush, after}
-use Rattle.readings.specs.Survivors.{content_media, moment}
+use Rattle.readings.specs.Crashes.{image_unit}
+use Rattle.readings.specs.Ever.{placed_at}
+use Rattle.readings.specs.Read.{are_chained}
+use Rattle.readings.specs.Steps.{Step, Flush, after, cell}
+use Rattle.readings.specs.Survivors.{IsStrange, ReadsAsPut, content_media, moment}
+use Rattle.readings.specs.Writings.{PutUnit, Writing, Put}
+use Rattle.sealing.specs.Sectors.{unit_place, unit_size, units}
 use Rattle.nbd_words.specs.Transmission.{has_fua, request_kind}
 use Rattle.nbd_words.specs.declared.transmission.ReplyError.{ReplyError}
 use Rattle.nbd_words.specs.declared.transmission.ReplyError.TheVariants.{Done, ReadOnly, Failed, Invalid, PassesEnd}
 use Rattle.nbd_words.specs.declared.transmission.RequestKind.{RequestKind}
 use Rattle.nbd_words.specs.declared.transmission.RequestKind.TheVariants as kinds
-use Rattle.nbd_session.specs.Durable.{Deed, Survives, session_steps}
+use Rattle.nbd_session.specs.Durable.{Deed, Survives, exchange_steps, session_steps}
 use Rattle.nbd_session.specs.Requests.{Exchange, ServesExchange, Side, range_of, side_of, zeros_of}
 
 -- a range is a part of another
@@ -116,6 +122,141 @@ ReadsLasting k xs c deeds = (x : Exchange) (bytes : List ℕ) (part : ByteRange)
     (side : Side) (y : Exchange) (old : DiskState) → side.keying ≡ k → HasImage image old → ServesExchange side y old →
     request_kind y.request.code ≡ kinds.Read → range_of y.request ≡ part → AnswersWith y.error y (part_bytes part (range_of x.request) bytes) old
 
+-- ---- what may have been written again
+
+-- Of a session's exchanges one is a write of these bytes that was done, and it or one of those just behind it has
+-- flushed. What all others wrote, and where, is left open.
+pub record IsFlushedWrite (xs : List Exchange) (x : Exchange) (bytes : List ℕ) : Type 0 where
+  pub before : List Exchange
+  pub between : List Exchange
+  pub since : List Exchange
+  pub are : xs ≡ before ++ (x ∷ (between ++ since))
+  pub wrote : WroteBy (request_kind x.request.code) x bytes
+  pub done : x.error ≡ Done
+  pub flushed : HasFlushed x ⊎ OneHasFlushed between
+
+-- so many steps are those of the exchanges up to the flush, or more
+abbrev pub IsBehindFlush : (k : Keying) (xs : List Exchange) (x : Exchange) (bytes : List ℕ) → IsFlushedWrite xs x bytes → List Deed → ℕ → Type 0
+IsBehindFlush k xs x bytes a deeds t = length (session_steps 0 k (a.before ++ (x ∷ a.between)) deeds) ≤ t
+
+-- a range has bytes of this logical sector
+pub record Covers (k : Keying) (r : ByteRange) (sector : ℕ) : Type 0 where
+  pub low : first_sector k r ≤ sector
+  pub high : sector < first_sector k r + sectors_covered k r
+
+-- the bytes that a write of a range gave one of its logical sectors: its own, spliced into what stood there (`DidBy`)
+abbrev pub sector_given : Keying → ByteRange → Deed → ℕ → List ℕ
+sector_given k r d sector = take k.sectorsize (drop ((sector - first_sector k r) * k.sectorsize) d.whole)
+
+-- an exchange with this number, which is a write, placed this writing in the device sector of unit j of a logical
+-- sector, by so many of its steps
+pub record HasGiven (number : ℕ) (k : Keying) (x : Exchange) (d : Deed) (left sector j : ℕ) (w : Writing) : Type 0 where
+  pub covers : Covers k (range_of x.request) sector
+  pub is : w ≡ Put (record { number = number; keying = k; sector = sector; bytes = sector_given k (range_of x.request) d sector; unit = j })
+  pub placed : Contains (placed_at (take left (exchange_steps number k x d)) (unit_place k sector j)) w
+
+-- one of these did, the first of which has this number, by so many of their steps
+abbrev pub OneHasGiven : ℕ → Keying → List Exchange → List Deed → ℕ → ℕ → ℕ → Writing → Type 0
+OneHasGiven number k (x ∷ xs) (d ∷ ds) left sector j w =
+    HasGiven number k x d left sector j w ⊎ OneHasGiven (number + 1) k xs ds (left - length (exchange_steps number k x d)) sector j w
+OneHasGiven number k xs ds left sector j w = ⊥
+
+-- how many of the first t steps are not of the exchanges before it
+abbrev pub steps_left : (k : Keying) (xs : List Exchange) (x : Exchange) (bytes : List ℕ) → IsFlushedWrite xs x bytes → List Deed → ℕ → ℕ
+steps_left k xs x bytes a deeds t = t - length (session_steps 0 k a.before deeds)
+
+-- the write that was flushed did, or one behind it, by the first t steps of the session
+abbrev pub IsGivenSince : (k : Keying) (xs : List Exchange) (x : Exchange) (bytes : List ℕ) → IsFlushedWrite xs x bytes → List Deed → ℕ → ℕ → ℕ → Writing → Type 0
+IsGivenSince k xs x bytes a deeds t sector j w =
+    OneHasGiven (length a.before) k (x ∷ (a.between ++ a.since)) (drop (length a.before) deeds) (steps_left k xs x bytes a deeds t) sector j w
+
+-- From the flush's answer on, all that a device sector of its range may hold was placed there by the write or by a later
+-- one.
+abbrev pub HoldsOrLater : Keying → List Exchange → Content → List Deed → Type 0
+HoldsOrLater k xs c deeds = (x : Exchange) (bytes : List ℕ) (a : IsFlushedWrite xs x bytes) (t sector j : ℕ) →
+    IsBehindFlush k xs x bytes a deeds t → Covers k (range_of x.request) sector → j < units k →
+    All (IsGivenSince k xs x bytes a deeds t sector j) (cell c (take t (session_steps 0 k xs deeds)) (unit_place k sector j))
+
+-- a unit reads as one for which this holds
+pub record ReadsAsSuch (P : Writing → Type 0) (k : Keying) (reading : Result (List ℕ) ℕ) : Type 0 where
+  pub unit : PutUnit
+  pub such : P (Put unit)
+  pub reads : ReadsAsPut k unit reading
+
+-- a device sector of an image was being written: it had more than one kept value, and has bytes that are none of them
+pub record IsTornThere (cell : List Writing) (now : Content) (image : List (List ℕ)) (n : ℕ) : Type 0 where
+  pub unsettled : IsUnsettled now n
+  pub writing : Writing
+  pub strange : IsStrange cell (get_or image n []) writing
+
+-- So in every torn image each unit there reads as the write gave it, or as a later one did; or it was being written, and
+-- then `Endures` says what it may read as.
+abbrev pub UnitsLastOrLater : Keying → List Exchange → Content → List Deed → Type 0
+UnitsLastOrLater k xs c deeds = (x : Exchange) (bytes : List ℕ) (a : IsFlushedWrite xs x bytes) (t sector j : ℕ) (image : List (List ℕ)) →
+    IsBehindFlush k xs x bytes a deeds t → Covers k (range_of x.request) sector → j < units k →
+    IsTorn (moment t (session_steps 0 k xs deeds) c) image →
+    ReadsAsSuch (IsGivenSince k xs x bytes a deeds t sector j) k (image_unit k sector image j)
+    ⊎ IsTornThere (cell c (take t (session_steps 0 k xs deeds)) (unit_place k sector j)) (moment t (session_steps 0 k xs deeds) c) image (unit_place k sector j)
+
+-- some bytes lie in unit j of the logical sector in which they begin
+pub record IsInUnit (k : Keying) (j : ℕ) (r : ByteRange) : Type 0 where
+  pub there : j < units k
+  pub some : 0 < r.count
+  pub starts : unit_bytes_of k.auth * j ≤ skipped k r
+  pub ends : skipped k r + r.count ≤ unit_bytes_of k.auth * j + unit_size k j
+
+-- they aren't among the first 16 bytes of a unit that is chained to the one before it: those are lost where the two stem
+-- from different writes
+abbrev pub KeepsFront : Keying → ℕ → ByteRange → Type 0
+KeepsFront k j r = (are_chained k.cipher k.auth ≡ false) ⊎ (j ≡ 0) ⊎ (unit_bytes_of k.auth * j + 16 ≤ skipped k r)
+
+-- no device sector of a logical sector has more than one kept value
+abbrev pub IsSettled : Keying → Content → ℕ → Type 0
+IsSettled k now sector = (j : ℕ) → j < units k → IsUnsettled now (unit_place k sector j) → ⊥
+
+-- an exchange, which is a write, gave a part of one logical sector these bytes: where the part is in its range they are
+-- its own, and else beside its own what stood there before (`DidBy`)
+pub record HasGivenBytes (k : Keying) (x : Exchange) (d : Deed) (part : ByteRange) (got : List ℕ) : Type 0 where
+  pub covers : Covers k (range_of x.request) (first_sector k part)
+  pub is : got ≡ take part.count (drop (skipped k part) (sector_given k (range_of x.request) d (first_sector k part)))
+  pub own : (bytes : List ℕ) → WroteBy (request_kind x.request.code) x bytes → IsPartOf part (range_of x.request) →
+      got ≡ part_bytes part (range_of x.request) bytes
+
+-- one of these did, the first of which has this number, and was begun by so many of their steps
+abbrev pub OneHasGivenBytes : ℕ → Keying → List Exchange → List Deed → ℕ → ByteRange → List ℕ → Type 0
+OneHasGivenBytes number k (x ∷ xs) (d ∷ ds) left part got =
+    ((0 < left) × HasGivenBytes k x d part got)
+    ⊎ OneHasGivenBytes (number + 1) k xs ds (left - length (exchange_steps number k x d)) part got
+OneHasGivenBytes number k xs ds left part got = ⊥
+
+-- the write that was flushed did, or one behind it, by the first t steps of the session
+abbrev pub IsGivenPart : (k : Keying) (xs : List Exchange) (x : Exchange) (bytes : List ℕ) → IsFlushedWrite xs x bytes → List Deed → ℕ → ByteRange → List ℕ → Type 0
+IsGivenPart k xs x bytes a deeds t part got =
+    OneHasGivenBytes (length a.before) k (x ∷ (a.between ++ a.since)) (drop (length a.before) deeds) (steps_left k xs x bytes a deeds t) part got
+
+-- A part of its range that lies in one unit, at a moment from the flush's answer on at which its logical sector wasn't
+-- being written.
+pub record IsSettledPart (k : Keying) (xs : List Exchange) (c : Content) (deeds : List Deed) (x : Exchange) (bytes : List ℕ) (a : IsFlushedWrite xs x bytes) (t : ℕ) (part : ByteRange) (j : ℕ) : Type 0 where
+  pub behind : IsBehindFlush k xs x bytes a deeds t
+  pub part_is : IsPartOf part (range_of x.request)
+  pub inside : IsInUnit k j part
+  pub front : KeepsFront k j part
+  pub settled : IsSettled k (moment t (session_steps 0 k xs deeds) c) (first_sector k part)
+
+-- So in every torn image such a part reads as its bytes, or as those that a later write gave it.
+abbrev pub PartsLastOrLater : Keying → List Exchange → Content → List Deed → Type 0
+PartsLastOrLater k xs c deeds = (x : Exchange) (bytes : List ℕ) (part : ByteRange) (a : IsFlushedWrite xs x bytes) (t j : ℕ) (image : List (List ℕ)) →
+    IsSettledPart k xs c deeds x bytes a t part j → IsTorn (moment t (session_steps 0 k xs deeds) c) image →
+    (got : List ℕ) × (range_reading k (survivor image) part ≡ Ok got) × IsGivenPart k xs x bytes a deeds t part got
+
+-- and so it is answered to a read of just this part on a disk with that image, or the disk failed
+abbrev pub ReadsLastingOrLater : Keying → List Exchange → Content → List Deed → Type 0
+ReadsLastingOrLater k xs c deeds = (x : Exchange) (bytes : List ℕ) (part : ByteRange) (a : IsFlushedWrite xs x bytes) (t j : ℕ) (image : List (List ℕ)) →
+    IsSettledPart k xs c deeds x bytes a t part j → IsTorn (moment t (session_steps 0 k xs deeds) c) image →
+    (got : List ℕ) × IsGivenPart k xs x bytes a deeds t part got × ((side : Side) (y : Exchange) (old : DiskState) → side.keying ≡ k →
+    HasImage image old → ServesExchange side y old → request_kind y.request.code ≡ kinds.Read → range_of y.request ≡ part →
+    AnswersWith y.error y got old)
+
 -- ---- what a flush found
 
 -- one of a session's exchanges has flushed, and none behind it wrote the sectors of this range
@@ -154,6 +295,15 @@ AttachesLasting {D} state k xs c deeds = (x : Exchange) (bytes : List ℕ) (part
     HasImage image (state disk) → IsOpenedBy image m params key s master → keying_of params (record { bytes = master }) ≡ k →
     AttachAnswers (record { meta = m; params = params; disk = state disk }) (record { key = key; named = None; readonly = readonly }) disk result →
     AttachesAndAnswers state part (part_bytes part (range_of x.request) bytes) result
+
+-- also where the sectors may have been written again
+abbrev pub AttachesLastingOrLater : {D : Type 0} → (D → DiskState) → Keying → List Exchange → Content → List Deed → Type 0
+AttachesLastingOrLater {D} state k xs c deeds = (x : Exchange) (bytes : List ℕ) (part : ByteRange) (a : IsFlushedWrite xs x bytes) (t j : ℕ) (image : List (List ℕ)) →
+    IsSettledPart k xs c deeds x bytes a t part j → IsTorn (moment t (session_steps 0 k xs deeds) c) image →
+    (m : Metadata) (params : Params) (key : List ℕ) (readonly : Bool) (s : ℕ) (master : List ℕ) (disk : D) (result : Result (Attached D) (D × AttachFault)) →
+    HasImage image (state disk) → IsOpenedBy image m params key s master → keying_of params (record { bytes = master }) ≡ k →
+    AttachAnswers (record { meta = m; params = params; disk = state disk }) (record { key = key; named = None; readonly = readonly }) disk result →
+    (got : List ℕ) × IsGivenPart k xs x bytes a deeds t part got × AttachesAndAnswers state part got result
 
 -- ---- a session that was closed
 

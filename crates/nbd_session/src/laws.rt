@@ -7,7 +7,7 @@ ghost use Rattle.block_traits.specs.declared.disk.DiskFailed.{DiskFailed};
 ghost use Rattle.eli_base.specs.Keying.{Keying};
 ghost use Rattle.range_keys.specs.Ring.{IsKeying};
 ghost use Rattle.nbd_session.specs.Durable.{Survives};
-ghost use Rattle.nbd_session.specs.Lasting.{AttachesLasting, KeepsIn, LastsIn, ReadsLasting, SurvivesClosed};
+ghost use Rattle.nbd_session.specs.Lasting.{AttachesLasting, AttachesLastingOrLater, HoldsOrLater, KeepsIn, LastsIn, PartsLastOrLater, ReadsLasting, ReadsLastingOrLater, SurvivesClosed, UnitsLastOrLater};
 ghost use Rattle.nbd_session.specs.Requests.{Exchange, ServesExchanges, Side};
 ghost use Rattle.nbd_session.specs.Session.{HasSession};
 ghost use Rattle.nbd_session.specs.declared.streams.End.{End};
@@ -28,6 +28,19 @@ pub fn acknowledged_writes_last<D: Disk>()
     ensures last { (k : Keying) (xs : List Exchange) (c : Content) (new : DiskState) → IsKeying k → (s : Survives k xs c new) → LastsIn k xs c s.deeds }
     ensures read { (k : Keying) (xs : List Exchange) (c : Content) (new : DiskState) → IsKeying k → (s : Survives k xs c new) → ReadsLasting k xs c s.deeds }
     ensures attach { (k : Keying) (xs : List Exchange) (c : Content) (new : DiskState) → IsKeying k → (s : Survives k xs c new) → AttachesLasting D.state k xs c s.deeds }
+{}
+
+/// So it is too where its sectors may have been written again, flushed or not: if power fails when the flush was answered,
+/// or at any moment later, the range has its bytes in every torn image, or those of a later write. Clause `cells` says it
+/// of what each device sector of the range may hold, clause `units` of what stands in the image, unit by unit, and clause
+/// `parts` of the bytes that a part of the range reads as. Clause `read` says it of a read that a client is answered, and
+/// clause `attach` of whoever attaches a disk with the image.
+pub fn acknowledged_writes_last_or_later<D: Disk>()
+    ensures cells { (k : Keying) (xs : List Exchange) (c : Content) (new : DiskState) → IsKeying k → (s : Survives k xs c new) → HoldsOrLater k xs c s.deeds }
+    ensures units { (k : Keying) (xs : List Exchange) (c : Content) (new : DiskState) → IsKeying k → (s : Survives k xs c new) → UnitsLastOrLater k xs c s.deeds }
+    ensures parts { (k : Keying) (xs : List Exchange) (c : Content) (new : DiskState) → IsKeying k → (s : Survives k xs c new) → PartsLastOrLater k xs c s.deeds }
+    ensures read { (k : Keying) (xs : List Exchange) (c : Content) (new : DiskState) → IsKeying k → (s : Survives k xs c new) → ReadsLastingOrLater k xs c s.deeds }
+    ensures attach { (k : Keying) (xs : List Exchange) (c : Content) (new : DiskState) → IsKeying k → (s : Survives k xs c new) → AttachesLastingOrLater D.state k xs c s.deeds }
 {}
 
 /// What a flush found stands: if power fails when the flush was answered, or at any moment later, each range whose sectors

@@ -1,8 +1,8 @@
-use Rattle.std.proofs.Common.{◌≡◌, ◌∙◌, inl, ℕ, ◌+◌, ◌-◌, ◌%◌, ◌<◌, ◌≤◌, List, length, take, drop, arith}
+use Rattle.std.proofs.Common.{◌≡◌, ◌∙◌, inl, ℕ, ◌+◌, ◌-◌, ◌%◌, ◌<◌, length, take, drop, arith}
 use Rattle.std.proofs.lemmas.Nat.{mod_below}
 use Rattle.nbd_session.specs.Requests.{side_of}
 use Rattle.nbd_session.proofs.Serving.{many_of, payload_there, written_there}
-use borrow.Rule.Slice.PartMut.{mid_of, put_mid}
+use borrow.Rule.Slice.PartMut.{put_mid}
 use Rattle.nbd_session.proofs.served.serve_write.Goals as goal
 
 pub returns-clause-serves : goal.returns-clause-serves

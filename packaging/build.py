@@ -10,8 +10,10 @@ goes on there. The crate with the longest chain of others behind it comes first.
 At x86-64-v3 one word of the sources is another: AES goes by planes of 32 bytes (crates/aes_planes/src/width.rt). So
 the crates on aes_planes are proved for that level by themselves, and their libraries are kept in out/wide/ of TREE.
 
-Standard error says how far it is, standard output what rt says. GELI_JOBS is how many processors are used; without it,
-as many as there are, as far as there are 4 GB of free memory for each. The status is 0 where all was built.
+Standard error says how far it is, at least once a minute, and about how long the rest takes: packaging/costs.txt has
+what each crate took on another machine, and what was built so far says how much slower or quicker this one is. Standard
+output has what rt says. GELI_JOBS is how many processors are used; without it, as many as there are, as far as there
+are 4 GB of free memory for each. The status is 0 if all was built.
 """
 import concurrent.futures
 import contextlib
@@ -29,6 +31,7 @@ import time
 PARTS = ("src", "specs", "proofs")
 BYTES_OF_JOB = 4_000_000_000
 MOST_JOBS_OF_CRATE = 4
+SECONDS_OF_SILENCE = 60
 WIDE_LEVELS = ("x86-64-v3",)
 WIDTH_CRATE, WIDTH_FILE = "aes_planes", "src/width.rt"
 NARROW, WIDE = "WIDE: bool = false", "WIDE: bool = true"
@@ -66,14 +69,32 @@ def below(uses, name):
     return found
 
 
-def seconds_of(folder):
-    """Returns about how many seconds one processor works at a crate: its code tells it better than its proofs."""
-    lines = 0
-    for at, _, names in os.walk(f"{folder}/src"):
-        for name in names:
-            with open(f"{at}/{name}", "rb") as it:
-                lines += it.read().count(b"\n")
-    return 15 + lines / 10
+class Costs:
+    """What each crate took on the machine of costs.txt: the seconds of its processors, and how many of them went by
+    while one worked and the others had nothing to do. If a crate isn't listed they are guessed by the lines of its
+    code."""
+
+    def __init__(self, tree):
+        self.tree, self.listed = tree, {}
+        for line in text_of(f"{tree}/packaging/costs.txt").splitlines():
+            name, _, words = line.partition("#")[0].partition(":")
+            if words.split():
+                self.listed[name.strip()] = tuple(float(it) for it in words.split())
+
+    def of(self, name):
+        if name in self.listed:
+            return self.listed[name]
+        lines = 0
+        for at, _, files in os.walk(f"{self.tree}/crates/{name}/src"):
+            for file in files:
+                with open(f"{at}/{file}", "rb") as it:
+                    lines += it.read().count(b"\n")
+        return 15 + lines / 10, 10
+
+    def seconds(self, name, jobs):
+        """Returns how long the crate takes with so many jobs."""
+        work, alone = self.of(name)
+        return alone + (work - alone) / jobs
 
 
 def text_of(file):
@@ -137,11 +158,13 @@ class Build:
         self.crates = []
         for top in self.programs:
             self.crates += [it for it in [*below(self.uses, top), top] if it not in self.crates]
-        self.seconds = {it: seconds_of(f"{tree}/crates/{it}") for it in self.crates}
-        self.behind = dict(self.seconds)
+        self.costs = Costs(tree)
+        # How long the longest chain takes that begins with the crate.
+        self.chain = {it: self.costs.seconds(it, MOST_JOBS_OF_CRATE) for it in self.crates}
         for name in reversed(self.crates):
             for dep in self.uses[name]:
-                self.behind[dep] = max(self.behind[dep], self.seconds[dep] + self.behind[name])
+                self.chain[dep] = max(self.chain[dep], self.costs.seconds(dep, MOST_JOBS_OF_CRATE) + self.chain[name])
+        # The processor seconds of each crate that is built.
         self.lanes, self.began, self.took = processors(), time.monotonic(), {}
         self.is_ending, self.started = False, set()
 
@@ -187,14 +210,16 @@ class Build:
         return f"{tree}/crates/{name}"
 
     def rt(self, folder, log, *words):
-        """Runs rt and returns whether it ended well."""
+        """Runs rt for the crate of this folder, and returns whether it ended well."""
         if self.is_ending:
             return False
         with subprocess.Popen(["rt", *words], cwd=folder, stdin=subprocess.DEVNULL, stdout=log, stderr=log) as ran:
             self.started.add(ran)
-            status = ran.wait()
+            _, status, used = os.wait4(ran.pid, 0)
+            ran.returncode = os.waitstatus_to_exitcode(status)
             self.started.discard(ran)
-        return status == 0
+        self.took[os.path.basename(folder)] = used.ru_utime + used.ru_stime
+        return ran.returncode == 0
 
     def prove(self, name, jobs):
         """Builds a library or a program, and returns whether it could."""
@@ -227,42 +252,71 @@ class Build:
         shutil.copy(f"{folder}/out/{name}", f"{self.made}/{program}-{self.level}")
         return True
 
-    def tell(self, name):
-        """Says how far the build is, and about how long the rest takes by what was built so far."""
-        gone, left = time.monotonic() - self.began, [it for it in self.crates if it not in self.took]
-        text = f"crate {len(self.took)} of {len(self.crates)} is proved ({name}), {gone / 60:.0f} minutes gone"
-        of_done = sum(self.seconds[it] for it in self.took)
-        if left and 10 * of_done > sum(self.seconds.values()):
-            work = sum(self.seconds[it] for it in left) / self.lanes
-            rate = sum(self.took.values()) / of_done
-            text += f", about {max(work, max(self.behind[it] for it in left)) * rate / 60:.0f} to go"
-        say(text)
+    def left(self, waiting, running):
+        """Returns about how many seconds the rest takes, by going through it as `all` does. `running` has, for each
+        crate that is being built, its jobs and for how long it has been."""
+        work, done = {it: self.costs.of(it)[0] for it in self.crates}, {*self.crates} - {*waiting} - {*running}
+        # (a library that an earlier build left takes no time, and until a twentieth is proved, this machine counts as
+        # quick as that of costs.txt)
+        proved = [it for it in done if 10 * self.took[it] > work[it]]
+        expected = sum(work[it] for it in proved)
+        rate = sum(self.took[it] for it in proved) / expected if 20 * expected > sum(work.values()) else 1
+        waiting, step, seconds = set(waiting), 5, 0
+        rest = {}
+        for name, (jobs, gone) in running.items():
+            rest[name] = [jobs, max(rate * self.costs.seconds(name, jobs) - gone, step)]
+        while waiting or rest:
+            while found := self.next_of(waiting, done, self.lanes - sum(jobs for jobs, _ in rest.values())):
+                name, jobs = found
+                waiting.discard(name)
+                rest[name] = [jobs, rate * self.costs.seconds(name, jobs)]
+            for it in rest.values():
+                it[1] -= step
+            for name in [it for it, (_, left) in rest.items() if left <= 0]:
+                done.add(name)
+                del rest[name]
+            seconds += step
+        return seconds
 
-    def next_of(self, waiting, idle):
+    def tell(self, waiting, running):
+        """Says what is being proved, how far that is, and about how long the rest takes."""
+        now, count = time.monotonic(), len(self.crates) - len(waiting) - len(running)
+        if not running and not waiting:
+            return
+        left = self.left(waiting, {it: (jobs, now - since) for it, (jobs, since) in running.items()})
+        names = " ".join(sorted(running, key=self.chain.get, reverse=True))
+        say(
+            f"{count} of {len(self.crates)} crates are proved, {(now - self.began) / 60:.0f} minutes gone, "
+            f"about {left / 60:.0f} to go; being proved: {names}"
+        )
+
+    def next_of(self, waiting, done, idle):
         """Returns the crate that is to begin, and how many processors it gets, or None."""
-        ready = [it for it in waiting if all(dep in self.took for dep in self.uses[it])]
+        ready = [it for it in waiting if all(dep in done for dep in self.uses[it])]
         if not ready or idle < 1:
             return None
-        return max(ready, key=self.behind.get), max(1, min(MOST_JOBS_OF_CRATE, idle - len(ready) + 1))
+        return max(ready, key=self.chain.get), max(1, min(MOST_JOBS_OF_CRATE, idle - len(ready) + 1))
 
     def all(self):
         """Builds all, and returns the name of the crate that failed, or None."""
-        waiting, running, parent = set(self.crates), {}, os.getppid()
+        waiting, done, running, parent, told = set(self.crates), set(), {}, os.getppid(), 0
         for name in self.crates:
             self.take(name)
         with concurrent.futures.ThreadPoolExecutor(self.lanes) as pool:
             while waiting or running:
-                while found := self.next_of(waiting, self.lanes - sum(jobs for _, jobs, _ in running.values())):
+                while found := self.next_of(waiting, done, self.lanes - sum(jobs for _, jobs, _ in running.values())):
                     waiting.discard(found[0])
                     running[pool.submit(self.prove, *found)] = *found, time.monotonic()
                 ended = concurrent.futures.wait(running, 1, concurrent.futures.FIRST_COMPLETED).done
                 for it in ended:
-                    name, jobs, since = running.pop(it)
+                    name, _, _ = running.pop(it)
                     if not it.result():
                         self.end()
                         return name
-                    self.took[name] = (time.monotonic() - since) * jobs
-                    self.tell(name)
+                    done.add(name)
+                if ended or time.monotonic() - told > SECONDS_OF_SILENCE:
+                    told = time.monotonic()
+                    self.tell(waiting, {name: (jobs, since) for name, jobs, since in running.values()})
                 if os.getppid() != parent:
                     self.end()
                     return next(iter(waiting), self.crates[-1])
@@ -271,7 +325,9 @@ class Build:
     def end(self):
         self.is_ending = True
         for it in [*self.started]:
-            it.terminate()
+            # (`terminate` would take the status that `rt` waits for)
+            with contextlib.suppress(ProcessLookupError):
+                os.kill(it.pid, signal.SIGTERM)
 
 
 @contextlib.contextmanager
@@ -308,7 +364,7 @@ def build_for(tree, made, level):
 
         for it in signals:
             signal.signal(it, stop)
-        say(f"{level}: {len(build.crates)} crates are proved, up to {build.lanes} at a time")
+        say(f"{level}: proving {len(build.crates)} crates, up to {build.lanes} at a time")
         failed = build.all()
         for name in [failed] if failed else build.crates:
             with contextlib.suppress(OSError), open(f"{room}/{name}.log", encoding="utf-8", errors="replace") as log:

@@ -19,7 +19,7 @@ none_attached t by attach.WrongKey is h = (has_sector t is h.0, h.1, h.2)
 none_attached t by attach.NoMemory is h = absurd h
 
 -- one opened, and there was no memory
-pub without_memory : (t : Target) (by : Means) (slot : ℕ) (master : List ℕ) → IsChecked t.meta t.params t.disk.size → SlotOpens t.meta t.params by.key by.named slot master → AttachFails t by attach.NoMemory
+pub without_memory : (t : Target) (by : Means) (slot : ℕ) (master : List ℕ) → IsChecked t.meta t.params t.disk.size → SlotOpens t.meta (params_media t.params) by.key by.named slot master → AttachFails t by attach.NoMemory
 without_memory t by slot master is h = (has_sector t is h.room, subst IsSome (sym h.opened) refl)
 
 -- one opened, and its provider is attached
@@ -34,7 +34,7 @@ made_of t by given slot master is room found opens = record {
   readonly = sym (ap (λ (r : Bool). by.readonly || r) is.readonly);
 }
 
-pub attached_so : {D : Type 0} (t : Target) (by : Means) (given : D) (slot : ℕ) (master : MasterKey) (p : Attached D) → IsChecked t.meta t.params t.disk.size → SlotOpens t.meta t.params by.key by.named slot master.bytes
+pub attached_so : {D : Type 0} (t : Target) (by : Means) (given : D) (slot : ℕ) (master : MasterKey) (p : Attached D) → IsChecked t.meta t.params t.disk.size → SlotOpens t.meta (params_media t.params) by.key by.named slot master.bytes
     → p ≡ attached_with t.params master slot by.readonly given → IsAttached t by given p
 attached_so {D = D} t by given slot master p is h same =
     subst (λ (q : Attached D). IsAttached t by given q) (sym same) (made_of t by given slot master is (has_sector t is h.room) h.opened h.opens)

@@ -11,9 +11,10 @@ use Rattle.provider.specs.Attached.{OpensAsNamed, opened}
 abbrev pub params_media : Params → ℕ
 params_media p = media_sectors p.auth p.sectorsize p.provsize
 
--- there is one, and the slot that is asked for opens with the user key u to this master key
-pub record SlotOpens (m : Metadata) (p : Params) (u : List ℕ) (named : Option ℕ) (slot : ℕ) (master : List ℕ) : Type 0 where
-  pub room : 1 ≤ params_media p
+-- a provider of so many logical sectors has one, and the slot that is asked for opens with the user key u to this
+-- master key
+pub record SlotOpens (m : Metadata) (media : ℕ) (u : List ℕ) (named : Option ℕ) (slot : ℕ) (master : List ℕ) : Type 0 where
+  pub room : 1 ≤ media
   pub opened : opened m u named ≡ Some (record { bytes = master }, slot)
   pub opens : OpensAsNamed m u named slot master
 

@@ -5,7 +5,7 @@ ghost use Rattle.eli_base.specs.Keying.{keying_of};
 ghost use Rattle.eli_metadata.specs.Checks.{settings_of, slot_matches, supported};
 ghost use Rattle.key_slots.specs.Slots.{IsKeyBits};
 ghost use Rattle.provider.specs.Attached.{OpensAsNamed, buffer_bytes, opened};
-ghost use Rattle.provider.specs.Opening.{SlotOpens, SlotFails};
+ghost use Rattle.provider.specs.Opening.{SlotOpens, SlotFails, params_media};
 
 use crate::AttachFault;
 use block_traits::NoMemory;
@@ -54,7 +54,7 @@ pub fn open_slot(
     requires checked { supported meta.now ≡ Ok (settings_of params.now) }
     requires slot { slot_matches meta.now named ≡ Ok tt }
     ensures { MatchResult result
-        (λ found. SlotOpens meta.now params.now key.now.bytes named found.slot found.master.bytes)
+        (λ found. SlotOpens meta.now (params_media params.now) key.now.bytes named found.slot found.master.bytes)
         (SlotFails meta.now params.now key.now.bytes named) }
 {
     let Ok(_) = Geometry::of(params) else {

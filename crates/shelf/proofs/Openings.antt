@@ -106,7 +106,7 @@ fails_as t slot readonly disk attach.NoMemory old is h =
 -- ---- the key is tried alone
 
 -- the slot opens
-pub tries_well : (t : Trial) (slot : Option ℕ) (readonly : Bool) (found : ℕ) (master : List ℕ) → SlotOpens t.meta t.params t.key.bytes slot found master
+pub tries_well : (t : Trial) (slot : Option ℕ) (readonly : Bool) (found : ℕ) (master : List ℕ) → SlotOpens t.meta (params_media t.params) t.key.bytes slot found master
     → Ok tt ≡ without_value (tried_in slot readonly t)
 tries_well t slot readonly found master h = sym (ap without_value (tried_as t slot readonly (Some (record { bytes = master }, found)) h.room h.opened))
 

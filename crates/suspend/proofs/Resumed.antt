@@ -7,7 +7,7 @@ use Rattle.key_slots.specs.Slots.{Opens}
 use Rattle.eli_base.specs.declared.parameters.MasterKey.{MasterKey}
 use Rattle.provider.specs.Answers.{Means, Target}
 use Rattle.provider.specs.Attached.{Attached, OpensAsNamed, attached_with}
-use Rattle.provider.specs.Opening.{SlotFails, SlotOpens}
+use Rattle.provider.specs.Opening.{SlotFails, SlotOpens, params_media}
 use Rattle.provider.specs.declared.faults.AttachFault.{AttachFault}
 use Rattle.provider.specs.declared.faults.AttachFault.TheVariants as attach
 use Rattle.provider.proofs.Checked.{IsChecked}
@@ -32,7 +32,7 @@ same_so xs ys r is said = (bytes_eq-Decides xs ys).0 (is_true (bytes_eq xs ys) (
 -- ---- the slot that opened
 
 -- it opened for the disk
-pub opens_to : (t : Target) (by : Means) (slot : ℕ) (master : List ℕ) → IsChecked t.meta t.params t.disk.size → SlotOpens t.meta t.params by.key by.named slot master → OpensTo t by slot master
+pub opens_to : (t : Target) (by : Means) (slot : ℕ) (master : List ℕ) → IsChecked t.meta t.params t.disk.size → SlotOpens t.meta (params_media t.params) by.key by.named slot master → OpensTo t by slot master
 opens_to t by slot master is h = record { room = has_sector t is h.room; opened = h.opened; opens = h.opens }
 
 -- none did

@@ -1,18 +1,17 @@
 -- What resuming answers, each answer with its cause (geli(8), "resume").
-use Rattle.std.specs.Prelude.{◌≡◌, ◌≢◌, ℕ, ◌≤◌, List, Some, Result, Ok, Err}
+use Rattle.std.specs.Prelude.{◌≡◌, ◌≢◌, ℕ, List, Result, Ok, Err}
 use Rattle.provider.specs.declared.faults.AttachFault.TheVariants as attach
 use Rattle.provider.specs.Answers.{AttachFails, IsAttached, Means, Target, target_media}
-use Rattle.provider.specs.Attached.{Attached, OpensAsNamed, opened}
+use Rattle.provider.specs.Attached.{Attached}
+use Rattle.provider.specs.Opening.{SlotOpens}
 use Rattle.sha2.specs.Sha256.{sha256}
 use Rattle.suspend.specs.declared.faults.ResumeFault.{ResumeFault}
 use Rattle.suspend.specs.declared.faults.ResumeFault.TheVariants as resume
 use Rattle.suspend.specs.Suspension.{Suspension}
 
 -- the disk has a whole logical sector, and the slot that is asked for opens to this master key
-pub record OpensTo (t : Target) (by : Means) (slot : ℕ) (master : List ℕ) : Type 0 where
-  pub room : 1 ≤ target_media t
-  pub opened : opened t.meta by.key by.named ≡ Some (record { bytes = master }, slot)
-  pub opens : OpensAsNamed t.meta by.key by.named slot master
+abbrev pub OpensTo : Target → Means → ℕ → List ℕ → Type 0
+OpensTo t by slot master = SlotOpens t.meta (target_media t) by.key by.named slot master
 
 -- it opens to a master key with the digest that was kept
 pub record OpensTheSame (t : Target) (by : Means) (mark : List ℕ) : Type 0 where

@@ -5,7 +5,7 @@ use Rattle.eli_base.specs.Units.{tag_bytes}
 use Rattle.sealing.specs.TaggedUnits.{cipher_text_in, kept_tag, tag_of}
 use Rattle.auth_sectors.specs.declared.Mismatch.{Mismatch}
 
--- bytes with so many zeros behind them that there are 64
+-- bytes with so many zeros after them that there are 64
 abbrev pub padded : List ℕ → List ℕ
 padded bytes = bytes ++ replicate (64 - length bytes) 0
 

@@ -49,7 +49,7 @@ pub fn seal_piece(ring: &mut KeyRing, offset: u64, plain: &[u8], out: &mut Secto
 }
 
 /// Seals the plain bytes of four units of one length into their device sectors. The first stands at this byte offset
-/// of the device, and each other `step` bytes behind the one before it.
+/// of the device, and each other `step` bytes after the one before it.
 pub fn seal_apart(ring: &mut KeyRing, offset: u64, step: u64, plain: [&[u8]; 4], out: &mut [u8])
     requires on { ring.old.keying.auth ≢ Auth.Off }
     requires lengths { HaveOneLength plain }
@@ -88,9 +88,9 @@ pub fn seal_apart(ring: &mut KeyRing, offset: u64, step: u64, plain: [&[u8]; 4],
 }
 
 /// Opens a unit of as many plain bytes as `out` has, from its device sector, which stands at this byte offset of the
-/// device. What is behind the cipher text isn't looked at.
+/// device. What follows the cipher text isn't looked at.
 ///
-/// A mismatch is answered exactly where the tag differs, and `out` is then all zeros.
+/// A mismatch is returned exactly if the tag differs, and `out` is then all zeros.
 pub fn open_piece(
     ring: &mut KeyRing,
     offset: u64,
@@ -133,7 +133,7 @@ pub fn unit_accepted(ring: &KeyRing, offset: u64, size: usize, from: &Sector) ->
 }
 
 /// Which of four units of `size` plain bytes are accepted, each from its device sector. The first stands at this byte
-/// offset of the device, and each other `step` bytes behind the one before it. Nothing is deciphered.
+/// offset of the device, and each other `step` bytes after the one before it. Nothing is deciphered.
 #[tactic(auto, using(crate::proofs::Openings::sector_long))]
 pub fn apart_accepted(
     ring: &KeyRing,

@@ -11,7 +11,7 @@ use hmac_kdf::{Hmac256, Hmac384, Hmac512};
 use range_keys::KeyRing;
 use sha512_lanes::{codes_of_four_384, codes_of_four_512};
 
-// The bytes, and zeros behind them up to `N`.
+// The bytes, and zeros after them up to `N`.
 fn filled<const N: usize>(bytes: &[u8]) -> [u8; N]
     requires { length bytes.now ≤ N }
     ensures { result ≡ bytes.now ++ replicate (N - length bytes.now) 0 }
@@ -21,7 +21,7 @@ fn filled<const N: usize>(bytes: &[u8]) -> [u8; N]
     out
 }
 
-/// The bytes, and zeros behind them.
+/// The bytes, followed by zeros.
 pub fn padded(bytes: &[u8]) -> [u8; 64]
     requires { length bytes.now ≤ 64 }
     ensures { result ≡ padded bytes.now }
@@ -56,7 +56,7 @@ pub fn tag_of(ring: &KeyRing, offset: u64, cipher_text: &[u8]) -> [u8; 64]
     code_of(ring.auth(), &ring.tag_key_at(offset), cipher_text)
 }
 
-// Four codes, each with zeros behind it.
+// Four codes, each with zeros after it.
 fn all_padded<const N: usize>(codes: &[[u8; N]; 4]) -> [[u8; 64]; 4]
     requires { N ≤ 64 }
     ensures { result ≡ padded (get_or codes.now 0 []) ∷ padded (get_or codes.now 1 [])
@@ -87,7 +87,7 @@ fn codes_of_four(auth: Auth, keys: &[[u8; 32]; 4], messages: [&[u8]; 4]) -> [[u8
 }
 
 /// The tags of four cipher texts of one length. The first is that of this byte offset, and each other is that of the
-/// offset `step` bytes behind the one before it.
+/// offset `step` bytes after the one before it.
 pub fn tags_of_four(ring: &KeyRing, offset: u64, step: u64, texts: [&[u8]; 4]) -> [[u8; 64]; 4]
     requires on { ring.now.keying.auth ≢ Auth.Off }
     requires place { offset + 3 * step < 2 ^ 64 }
@@ -112,7 +112,7 @@ pub fn is_same(a: &[u8; 64], b: &[u8; 64]) -> bool
     same
 }
 
-/// Whether a device sector has this tag, which has zeros behind it.
+/// Whether a device sector has this tag, which is followed by zeros.
 pub fn has_tag(ring: &KeyRing, sector: &[u8], tag: &[u8; 64]) -> bool
     requires { length sector.now ≡ 512 }
     ensures { IsTrue result ↔ (padded (kept_tag ring.now.keying sector.now) ≡ tag.now) }

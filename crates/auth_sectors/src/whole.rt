@@ -1,4 +1,4 @@
-//! A unit in its device sector: a tag, cipher text behind it, and zeros behind that.
+//! A unit in its device sector: a tag, cipher text after it, and zeros after that.
 
 ghost use Rattle.std.specs.Prelude.{◌≡◌, ◌-◌, ◌%◌, ◌≤◌, ◌++◌, drop, length, replicate};
 ghost use Rattle.eli_base.specs.Units.{tag_bytes, unit_bytes_of};
@@ -8,8 +8,8 @@ use crate::tags::tag_size;
 use range_keys::KeyRing;
 use sealing::seal_run;
 
-/// Enciphers the plain bytes of a unit into their place in its device sector, which is behind that of the tag, and
-/// puts zeros behind them.
+/// Enciphers the plain bytes of a unit into their place in its device sector, which is after that of the tag, and
+/// puts zeros after them.
 pub fn encipher(ring: &mut KeyRing, offset: u64, plain: &[u8], sector: &mut [u8])
     requires at_most { length plain.now ≤ unit_bytes_of ring.old.keying.auth }
     requires blocks { length plain.now % 16 ≡ 0 }

@@ -18,13 +18,13 @@ pub record ReadsSector (before : DiskState) (bytes : List ℕ) (after : DiskStat
   pub logs : Logs [] before after
   pub asked : Counted 1 before.reads after.reads
 
--- they are metadata
+-- the last device sector was read, and its bytes are metadata
 pub record SavesMetadata (before : DiskState) (bytes : List ℕ) (after : DiskState) : Type 0 where
   pub reads : ReadsSector before bytes after
   pub m : Metadata
   pub is : metadata_in bytes ≡ Ok m
 
--- they are none, for this reason
+-- the last device sector was read, and its bytes are no metadata, for this reason
 pub record FindsNone (before : DiskState) (refusal : Refusal) (bytes : List ℕ) (after : DiskState) : Type 0 where
   pub reads : ReadsSector before bytes after
   pub fault : MetaFault

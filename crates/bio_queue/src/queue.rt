@@ -1,4 +1,19 @@
-//! The requests that are open on a provider.
+//! The requests that are open on a provider, from `submit` to `reap`.
+//!
+//! The invariant: the requests stand in ascending order of their tags, all tags are below 32, and the vector has room
+//! for 32 requests. So no tag is used twice, at most 32 are open, and `submit` needs no memory for a place in the
+//! list. Callers may rely on a tag naming at most one request, and on `submit` giving the least tag that isn't in
+//! use.
+//!
+//! A refusal leaves the queue as it was, with one exception: if the data of a read isn't authentic (`Integrity`),
+//! `reap` takes the request out all the same. If the device fails in `step`, the unit isn't counted as done, though
+//! its write or flush may have happened.
+//!
+//! A write is sealed by `submit` and a read is opened by `reap`, so a step is one call of the disk and needs no
+//! memory.
+//!
+//! The queue can't know that it serves one provider alone, since its type doesn't name one. So `step` and `reap` have
+//! a condition on the request, and `has_request` checks it for callers that can't know.
 ghost use Rattle.std.specs.Prelude.{◌≡◌, ◌↔◌, ◌+◌, ◌<◌, ◌≤◌, [], IfOk, IfSome, IsTrue, MatchResult, length, vec_capacity, vec_len};
 ghost use Rattle.std.specs.List.{insert};
 ghost use Rattle.eli_base.specs.Requests.{request_limit};
@@ -82,7 +97,7 @@ impl Queue {
         }
     }
 
-    /// Opens a request for a job, and answers the least tag that isn't in use. A write is sealed here, from its plain
+    /// Opens a request for a job, and returns the least tag that isn't in use. A write is sealed here, from its plain
     /// bytes `from`. No call of the disk is made, and the provider is as before.
     ///
     /// In this order: `ReadOnly`, exactly where the provider is read-only and the job is a write; `OutOfRange`,
@@ -112,7 +127,7 @@ impl Queue {
     }
 
     /// Does the next unit of the request with this tag, in ascending order of device sectors, or its one flush, and
-    /// answers how many units are left.
+    /// returns how many units are left.
     ///
     /// In this order: `NoRequest`, exactly where no request has the tag; `AllDone`, exactly where no unit is left;
     /// and then the queue and the provider are as before. `DeviceFault`, only where the device failed: the unit isn't

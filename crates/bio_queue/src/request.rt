@@ -55,7 +55,7 @@ fn is_made_for<D: Disk>(on: &Provider<D>, sector: u64, count: u32, units: u32) -
         && u64::from(units) == many * on.units()
 }
 
-// The device sector that stands behind `done` others among their bytes.
+// The device sector that stands after `done` others among their bytes.
 fn unit_of(device: &[u8], done: usize) -> Sector
     requires { 512 * done + 512 ≤ length device.now }
     ensures { result ≡ take 512 (drop (512 * done) device.now) }
@@ -66,7 +66,7 @@ fn unit_of(device: &[u8], done: usize) -> Sector
     unit
 }
 
-// Reads device sector `n` to the place that it has behind `done` others among their bytes.
+// Reads device sector `n` to the place that it has after `done` others among their bytes.
 fn read_unit<D: Disk>(
     on: &mut Provider<D>,
     n: u64,

@@ -76,7 +76,7 @@ pub part_flushed : (k : Keying) (r : ByteRange) (flush : Bool) (cover : Cover) (
 part_flushed k r flush cover bytes whole old middle third new is size are splices writes fails =
     part k r flush cover bytes whole old middle new is size are splices (FailsIn-then (data_writes k cover.first cover.count whole) (flush_events flush) writes fails)
 
--- the same, where the writes are said of the keying that the provider still has
+-- `part_flushed`, where the writes are said of the keying that the provider still has
 pub part_flushed_by : (k other : Keying) (r : ByteRange) (flush : Bool) (cover : Cover) (bytes whole : List ℕ) (old middle third new : DiskState) → other ≡ k → IsCoverOf k r cover → length bytes ≡ cover.whole → AreBytes whole
     → SplicesInto k r cover.skip bytes whole true old middle → Logs (data_writes other cover.first cover.count whole) middle third → FailsIn (flush_events flush) third new
     → IsWrittenInPart k r flush (take r.count (drop cover.skip bytes)) old new

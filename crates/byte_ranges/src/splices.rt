@@ -55,7 +55,7 @@ fn put_front<D: Disk>(
     true
 }
 
-// Puts the last bytes of a sector behind the bytes of a write.
+// Puts the last bytes of a sector after the bytes of a write.
 fn put_back<D: Disk>(
     provider: &mut Provider<D>,
     sectors: &mut [u8],

@@ -71,7 +71,7 @@ stays_so line command old said new gate shut same =
     becomes_as line command old said new old.holding same
     (stays_as line command old said new old.holding refl (λ kept is. absurd (unsuspended (needs command) kept shut (subst (λ (x : Holding). refused_by (needs command) x ≡ None) is gate))))
 
--- the same of one that is served an attached drawer
+-- a line that leaves the drawer as it is, of a verb that is served on an attached drawer
 pub attached_becomes : {A : Type 0} (line : List ℕ) (command : Command) (answer_to : Result A Refusal → Answer) (Row : Attachment → Step A) (old : Reach) (said : Answer) (new : Reach) → refused_by (needs command) old.holding ≡ None → passes (needs command) ≡ false
     → ((a : Attachment) → Stays (Row a)) → AttachedWith old.holding (λ a. Replies answer_to (Row a) old said new) → Becomes line command old said new
 attached_becomes line command answer_to Row old said new gate shut stays h =

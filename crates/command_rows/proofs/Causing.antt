@@ -28,13 +28,13 @@ pub then_since : {A B : Type 0} {First : Step A} {Next : A → Step B} (line : L
 then_since {A} {B} {First} {Next} line command start old answer new h why next =
     next_why line command start Next h.given h.middle answer new (why h.given h.middle h.first) (λ a is. next a h.middle (subst (λ (r : Result A Refusal). First old r h.middle) is h.first)) h.next
 
--- the same from its first step on
+-- two steps of a line that begins with the first of them
 pub then_why : {A B : Type 0} {First : Step A} {Next : A → Step B} (line : List ℕ) (command : Command) (old : Reach) (answer : Result B Refusal) (new : Reach) → Then First Next old answer new
     → ((given : Result A Refusal) (middle : Reach) → First old given middle → Why line command old given middle)
     → ((a : A) (middle : Reach) → First old (Ok a) middle → Next a middle answer new → Why line command old answer new) → Why line command old answer new
 then_why line command old answer new h why next = then_since line command old old answer new h why next
 
--- the same where the first step changes nothing
+-- two steps of a line, the first of which changes nothing
 pub same_then_why : {A B : Type 0} {First : Step A} {Next : A → Step B} (line : List ℕ) (command : Command) (old : Reach) (answer : Result B Refusal) (new : Reach) → Then First Next old answer new
     → ((a : A) (middle : Reach) → First old (Ok a) middle → middle ≡ old) → ((given : Result A Refusal) (middle : Reach) → First old given middle → Why line command old given middle)
     → ((a : A) → First old (Ok a) old → Next a old answer new → Why line command old answer new) → Why line command old answer new

@@ -79,7 +79,7 @@ quiet_are stores (Err refusal) = none_breaks (λ events. events ≡ []) stores r
 pub quiet_did : {A : Type 0} (stores : Bool) (old : DiskState) (answer : Result A Refusal) (new : DiskState) → Logs [] old new → Did (λ events. events ≡ []) stores old answer new
 quiet_did stores old answer new logs = record { events = []; logs = logs; are = quiet_are stores answer }
 
--- events behind a step without events
+-- events after a step without events
 did_next : {A B : Type 0} (Row : List Event → Type 0) (stores : Bool) (First : Step A) (Next : A → Step B) (old : Reach) (given : Result A Refusal) (middle : Reach) (answer : Result B Refusal) (new : Reach) → Logs [] old.disk middle.disk → First old given middle
     → ((a : A) → First old (Ok a) middle → Next a middle answer new → Did Row stores middle.disk answer new.disk) → GoesOn Next given middle answer new → Did Row stores old.disk answer new.disk
 did_next Row stores First Next old (Ok a) middle answer new quiet first next h =

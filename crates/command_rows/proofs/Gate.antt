@@ -18,7 +18,7 @@ by_attachment (IsSuspended kept) Without With Claim without with h = without ref
 pub with_attached : (holding : Holding) (Holds : Attachment → Type 0) (Claim : Type 0) → ((a : Attachment) → holding ≡ IsAttached a → Holds a → Claim) → AttachedWith holding Holds → Claim
 with_attached holding Holds Claim with h = by_attachment holding ⊥ Holds Claim (λ is none. absurd none) with h
 
--- the same backwards
+-- the way back: what holds where nothing is attached, or of what is, holds of the holding
 pub unattached : (holding : Holding) (Without : Type 0) (With : Attachment → Type 0) → attachment_in holding ≡ None → Without → MatchOption (attachment_in holding) Without With
 unattached holding Without With is h = subst (λ (o : Option Attachment). MatchOption o Without With) (sym is) h
 
@@ -51,7 +51,7 @@ passed_refusal : (refused : Option Refusal) (Row : Type 0) (Refuses : Refusal �
 passed_refusal None Row Refuses Claim row refuses h = row refl h
 passed_refusal (Some refusal) Row Refuses Claim row refuses h = refuses refusal refl h
 
--- the same, with what the gate says of a line that goes through its row
+-- a line is refused at the gate, or goes through its row, and then the gate refused nothing
 pub by_passed_gate : (line : List ℕ) (command : Command) (old : Reach) (reply : Answer) (new : Reach) (Claim : Type 0) → (refused_by (needs command) old.holding ≡ None → GoesThrough line command old reply new → Claim)
     → ((refusal : Refusal) → refused_by (needs command) old.holding ≡ Some refusal → IsRefused old reply new refusal → Claim) → Serves line command old reply new → Claim
 by_passed_gate line command old reply new Claim row refuses h =

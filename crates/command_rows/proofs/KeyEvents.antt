@@ -4,7 +4,7 @@ use Rattle.command_rows.specs.Vocabulary.{DiskState, Event, Refusal}
 use Rattle.std.proofs.Common.{List, Ok, Result, false, ◌∙◌, ◌≡◌}
 use Rattle.command_rows.proofs.Events.{Did, Quiet, Step, did_then}
 
--- ---- events behind steps without events, on a disk of the same size
+-- ---- events after steps without events, on a disk of the same size
 
 abbrev pub DoesFrom : {A : Type 0} → (List Event → Type 0) → DiskState → Step A → Type 0
 DoesFrom {A} Row start R = (old : Reach) (answer : Result A Refusal) (new : Reach) → old.disk.size ≡ start.size → R old answer new → Did Row false old.disk answer new.disk

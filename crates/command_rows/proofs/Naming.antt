@@ -7,7 +7,7 @@ use Rattle.std.proofs.Math.ListN.{set}
 use Rattle.std.proofs.lemmas.Slice.Eq.{bytes_eq-Decides}
 use Rattle.command_rows.specs.Rows.{DrawerState, NamesDiffer, place_of}
 
--- the place of a name by whether the first drawer has it, and its place behind that
+-- the place of a name by whether the first drawer has it, and its place after that
 abbrev pub place_by : Bool → Option ℕ → Option ℕ
 place_by same behind = cond same (Some 0) (option_map (λ n. n + 1) behind)
 
@@ -50,7 +50,7 @@ differ-removed [] place before found differ = absurd (let no : ⊥ = cc found in
 differ-removed (d ∷ ds) zero before found differ = differ.1
 differ-removed (d ∷ ds) (suc place) before found differ = (none-removed d.name ds place before found differ.0, differ-removed ds place before found differ.1)
 
--- ---- a drawer is added behind the others
+-- ---- a drawer is added after the others
 
 other_name : (a b : List ℕ) (back : Bool) → bytes_eq b a ≡ back → bytes_eq a b ≡ false → bytes_eq b a ≡ false
 other_name a b false is other = is

@@ -157,7 +157,7 @@ OpensOrFails-refused parts (refusals.CabinetFault word) old new is cause = cause
 OpensOrFails-refused parts refusals.NoMemory old new is cause = tt
 OpensOrFails-refused parts _ old new is cause = absurd (cc is)
 
--- the same since an earlier state, whose cabinet is the same
+-- opening has its cause also since an earlier state, whose cabinet is the same
 OpensOrFails-earlier : (earlier old new : Reach) (answer : Result Attachment Refusal) → earlier.disk.faults ≤ old.disk.faults → old.cabinet ≡ earlier.cabinet
     → OpensOrFails old answer new → OpensOrFails earlier answer new
 OpensOrFails-earlier earlier old new (Ok done) later same opens = tt

@@ -32,7 +32,7 @@ same_keyed a old new is h had =
 pub queue_holds : (a : Attachment) (new : Reach) (queue : List Request) → new.holding ≡ IsAttached (with_queue queue a) → HoldsSame a new.holding
 queue_holds a new queue is = record { now = with_queue queue a; is = is; slot = refl; keying = refl; readonly = refl }
 
--- behind a step that changes nothing
+-- after a step that changes nothing
 pub holds_next : {A B : Type 0} (a : Attachment) (Next : A → Step B) (given : Result A Refusal) (middle : Reach) (answer : Result B Refusal) (new : Reach) → middle.holding ≡ IsAttached a
     → ((value : A) → Next value middle answer new → HoldsSame a new.holding) → GoesOn Next given middle answer new → HoldsSame a new.holding
 holds_next a Next (Ok value) middle answer new is next h = next value h

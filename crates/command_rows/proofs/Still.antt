@@ -88,7 +88,7 @@ try_still line slot readonly words =
 
 -- ---- rows that store a file
 
--- the same, but that it may store the file that is named at a place
+-- a row leaves counts and holding as `Still` says, but may store the file that is named at a place
 pub record StillBut {A : Type 0} (line : List ℕ) (file : Option Span) (R : Step A) : Type 0 where
   pub counts : Counts R
   pub stays : Stays R

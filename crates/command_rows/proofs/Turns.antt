@@ -33,7 +33,7 @@ always : {X : Type 0} (o : Option X) (Claim : Type 0) → MatchOption o Claim (�
 always None Claim h = h
 always (Some x) Claim h = h
 
--- the same of each line
+-- one claim that follows from every way in which a line may go
 pub by_each_turn : (line : List ℕ) (command : Command) (old : World) (answer : Answer) (new : World) (Claim : Type 0) → (ListsDrawers old answer new → Claim) → (IsUnknown old answer new → Claim) → ((n : ℕ) → TakesOutDrawer old answer new n → Claim)
     → ((n : ℕ) → ChangesAt (Serves line command) old answer new n → Claim) → Turn line command old answer new → Claim
 by_each_turn line command old answer new Claim listed unknown left changed h =

@@ -84,7 +84,7 @@ BecomesBy (IsSuspended kept) line command old answer new = StaysSuspended kept o
 abbrev pub Becomes : List ℕ → Command → Reach → Answer → Reach → Type 0
 Becomes line command old answer new = BecomesBy new.holding line command old answer new
 
--- the drawer at a place did
+-- the drawer at a place became what `Becomes` says
 pub record BecomesAt (line : List ℕ) (command : Command) (answer : Answer) (old new : World) (place : ℕ) : Type 0 where
   pub before : DrawerState
   pub found : slice_get old.drawers place ≡ Some before
@@ -92,12 +92,12 @@ pub record BecomesAt (line : List ℕ) (command : Command) (answer : Answer) (ol
   pub there : slice_get new.drawers place ≡ Some after
   pub becomes : Becomes line command (reach before old) answer (reach after new)
 
--- one that is taken out of the list didn't
+-- the drawer at a place became what `Becomes` says, unless the line takes it out of the list
 abbrev pub BecomesUnless : Bool → List ℕ → Command → Answer → World → World → ℕ → Type 0
 BecomesUnless true line command answer old new place = Unit {0}
 BecomesUnless false line command answer old new place = BecomesAt line command answer old new place
 
--- so did the drawer that a line names, if there is one
+-- the drawer that a line names became what `Becomes` says, if there is one
 abbrev pub BecomesSo : List ℕ → Command → Answer → World → World → Type 0
 BecomesSo line command answer old new =
     MatchOption (provider_of command) (Unit {0})

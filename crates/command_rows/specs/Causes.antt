@@ -75,7 +75,7 @@ LineHasCause line command old (refusals.RequestDone tag) new = AttachedWith old.
 LineHasCause line command old (refusals.RequestsOpen count) new = AttachedWith old.holding (FindsInQueue line command old.disk (refusals.RequestsOpen count))
 LineHasCause line command old refusal new = IsGround refusal × HasGround line command old refusal
 
--- the same of the drawer at a place
+-- the refusal has a cause in the drawer at a place
 pub record CausedAt (line : List ℕ) (command : Command) (refusal : Refusal) (old new : World) (place : ℕ) : Type 0 where
   pub before : DrawerState
   pub found : slice_get old.drawers place ≡ Some before
@@ -83,7 +83,8 @@ pub record CausedAt (line : List ℕ) (command : Command) (refusal : Refusal) (o
   pub there : slice_get new.drawers place ≡ Some after
   pub cause : LineHasCause line command (reach before old) refusal (reach after new)
 
--- the same of a line: one without a provider lacked memory, and one that names no drawer is refused so
+-- the refusal of a line has its cause: a line without a provider lacked memory, one that names no drawer is refused for
+-- that, and else the cause is in the drawer that it names
 abbrev pub CausedBy : Option Span → List ℕ → Command → Refusal → World → World → Type 0
 CausedBy named line command refusal old new =
     MatchOption named (refusal ≡ refusals.NoMemory)

@@ -10,7 +10,7 @@ pub record ShowsMetadataAt (disk : DiskState) (place : ℕ) (m : Metadata) : Typ
   pub told : disk.content ≡ Some content
   pub read : metadata_in (present content place) ≡ Ok m
 
--- the same of the last sector
+-- the disk tells its content, and its last sector is read as these metadata
 pub record ShowsMetadata (disk : DiskState) (m : Metadata) : Type 0 where
   pub enough : 2 ≤ disk.size
   pub shown : ShowsMetadataAt disk (last_sector disk) m

@@ -56,7 +56,7 @@ pub record StepsAt (line : List ℕ) (command : Command) (answer : Answer) (old 
   pub others : new ≡ slice_set old place after
   pub steps : StepsBy line command answer before after
 
--- the drawer at a place isn't there any more; the others stay as they are, and those behind it move up
+-- the drawer at a place isn't there any more; the others stay as they are, and those after it move up
 pub record LeavesAt (answer : Answer) (old new : List DrawerState) (place : ℕ) : Type 0 where
   pub before : DrawerState
   pub found : slice_get old place ≡ Some before
@@ -76,6 +76,6 @@ abbrev pub OnlyAt : List ℕ → Command → Answer → List DrawerState → Lis
 OnlyAt line command answer old new None = new ≡ old
 OnlyAt line command answer old new (Some place) = ChangesBy (takes_out command) line command answer old new place
 
--- the same of the drawer that the command names
+-- of all drawers only the one that the command names changes so; if it names none, nothing does
 abbrev pub OnlySteps : List ℕ → Command → Answer → List DrawerState → List DrawerState → Type 0
 OnlySteps line command answer old new = OnlyAt line command answer old new (place_named line command old)

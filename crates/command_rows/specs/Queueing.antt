@@ -4,7 +4,7 @@ use Rattle.eli_base.specs.declared.refusals.Refusal.TheVariants as refusals
 use Rattle.command_rows.specs.Vocabulary.{DiskState, IsOpenRequest, Refusal, Request, media}
 use Rattle.command_rows.specs.World.{Attachment, Reach}
 
--- the same provider, on which these requests are open
+-- this attachment with these open requests in place of its own
 abbrev pub with_queue : List Request → Attachment → Attachment
 with_queue queue a = record { slot = a.slot; keying = a.keying; readonly = a.readonly; queue = queue }
 

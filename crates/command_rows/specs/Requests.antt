@@ -27,7 +27,7 @@ abbrev pub bytes_read : List ℕ → Result ℕ Refusal → Result (List ℕ) Re
 bytes_read buffer (Ok count) = Ok (take count buffer)
 bytes_read buffer (Err refusal) = Err refusal
 
--- the same where it may be that nothing was read
+-- so many bytes at the front were read, or nothing was to be read, or it was refused
 abbrev pub bytes_given : List ℕ → Result (Option ℕ) Refusal → Result (Option (List ℕ)) Refusal
 bytes_given buffer (Ok (Some count)) = Ok (Some (take count buffer))
 bytes_given buffer (Ok None) = Ok None

@@ -28,7 +28,7 @@ pub record Then {A B : Type 0} (First : Reach → Result A Refusal → Reach →
 abbrev pub Decides : {A : Type 0} → Result A Refusal → Reach → Result A Refusal → Reach → Type 0
 Decides decided old answer new = (answer ≡ decided) × (new ≡ old)
 
--- the same, where the number of the disk's device sectors is all that decides
+-- nothing changes, and the answer is decided by the number of the disk's device sectors alone
 abbrev pub DecidesBySize : {A : Type 0} → (ℕ → Result A Refusal) → Reach → Result A Refusal → Reach → Type 0
 DecidesBySize decided old answer new = Decides (decided old.disk.size) old answer new
 

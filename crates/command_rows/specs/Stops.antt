@@ -21,7 +21,7 @@ ChangesOrStays Changes answer old new = Changes old true new
 abbrev pub LeavesAtEachMoment : List ℕ → Command → Option Files → Answer → DrawerState → DrawerState → Type 0
 LeavesAtEachMoment line command told answer old new = ChangesOrStays (ChangesMetadata line command told old.holding) answer old.disk new.disk
 
--- so is the drawer at a place left
+-- the drawer at a place is left as `LeavesAtEachMoment` says
 pub record LeavesPlace (line : List ℕ) (command : Command) (answer : Answer) (old new : World) (place : ℕ) : Type 0 where
   pub before : DrawerState
   pub found : slice_get old.drawers place ≡ Some before
@@ -29,12 +29,12 @@ pub record LeavesPlace (line : List ℕ) (command : Command) (answer : Answer) (
   pub there : slice_get new.drawers place ≡ Some after
   pub leaves : LeavesAtEachMoment line command old.cabinet.files answer before after
 
--- one that is taken out of the list isn't
+-- the drawer at a place is left as `LeavesAtEachMoment` says, unless the line takes it out of the list
 abbrev pub LeavesUnless : Bool → List ℕ → Command → Answer → World → World → ℕ → Type 0
 LeavesUnless true line command answer old new place = Unit {0}
 LeavesUnless false line command answer old new place = LeavesPlace line command answer old new place
 
--- so a line leaves the drawer that it names, if there is one
+-- a line leaves the drawer that it names as `LeavesAtEachMoment` says, if there is one
 abbrev pub LeavesOldOrNew : List ℕ → Command → Answer → World → World → Type 0
 LeavesOldOrNew line command answer old new =
     MatchOption (provider_of command) (Unit {0})

@@ -80,7 +80,7 @@ pub record IsUnknown (old : World) (reply : Answer) (new : World) : Type 0 where
 abbrev pub takes_out : Command → Bool
 takes_out command = (traits_of command).takes_out
 
--- the drawer at a place is taken out with its disk, attached or not, and those behind it move up; of a disk that is
+-- the drawer at a place is taken out with its disk, attached or not, and those after it move up; of a disk that is
 -- gone nothing is said
 pub record TakesOutDrawer (old : World) (reply : Answer) (new : World) (place : ℕ) : Type 0 where
   pub before : DrawerState

@@ -77,7 +77,7 @@ IsAmong drawers drawer = (place : ℕ) × (slice_get drawers place ≡ Some draw
 abbrev pub HoldsKeying : Holding → Type 0
 HoldsKeying holding = IfSome (attachment_in holding) (λ a. IsKeying a.keying)
 
--- the same of each of the drawers
+-- what is attached on each of the drawers has a keying that a provider may have
 abbrev pub HoldKeyings : List DrawerState → Type 0
 HoldKeyings drawers = (drawer : DrawerState) → IsAmong drawers drawer → HoldsKeying drawer.holding
 

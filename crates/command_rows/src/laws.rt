@@ -40,7 +40,7 @@ pub fn what_init_makes_can_be_attached()
 {}
 
 /// A line changes only the drawer that it names: the others keep their names, their disks and what they do with them,
-/// and stay in order. `eject` takes it out of the list, and those behind it move up. Else the history of its disk grows
+/// and stay in order. `eject` takes it out of the list, and those after it move up. Else the history of its disk grows
 /// by the events of the line. A line that is served has those of its row, which its verb says (`events` of `Verb`). One
 /// that is refused has none; but where the disk failed the first ones, and where the backup of `init` isn't stored it
 /// may have all.

@@ -1,4 +1,4 @@
--- A line is its first word, and each other word behind a zero byte.
+-- A line is its first word, and each other word after a zero byte.
 use Rattle.std.proofs.Common.{◌≡◌, ℕ, List, [], ◌∷◌, ◌++◌, map, sym, ap}
 use Rattle.std.proofs.lemmas.List.{append-nil}
 use Rattle.std.specs.List.{join_with_byte, flat_map}

@@ -26,7 +26,7 @@ last-push [] word = refl
 last-push (x ∷ []) word = refl
 last-push (x ∷ y ∷ words) word = last-push (y ∷ words) word
 
--- the values of an option, behind one more
+-- the values of an option, after one more
 values-push : (option : Valued) (items : List Item) (item : Item) → values option (items ++ item ∷ []) ≡ values option items ++ value_in option item
 values-push option [] item = append-nil (value_in option item)
 values-push option (x ∷ xs) item = rw (values-push option xs item) (sym (append_assoc (value_in option x) (values option xs) (value_in option item)))
@@ -36,7 +36,7 @@ or_swap true true c = refl
 or_swap true false c = refl
 or_swap false b c = refl
 
--- whether an option is set, behind one more
+-- whether an option is set, after one more
 has_switch-push : (switch : Switch) (items : List Item) (item : Item) → has_switch switch (items ++ item ∷ []) ≡ (sets switch item || has_switch switch items)
 has_switch-push switch [] item = refl
 has_switch-push switch (x ∷ xs) item = rw (has_switch-push switch xs item) (or_swap (sets switch x) (sets switch item) (has_switch switch xs))
@@ -100,7 +100,7 @@ or_else_assoc : {A : Type 0} (a b c : Option A) → or_else a (or_else b c) ≡ 
 or_else_assoc None b c = refl
 or_else_assoc (Some a) b c = refl
 
--- one behind others, and then the rest
+-- one after others, and then the rest
 append_one : (before : List Item) (item : Item) (items : List Item) → before ++ item ∷ [] ++ items ≡ before ++ item ∷ items
 append_one before item items = append_assoc before (item ∷ []) items
 
@@ -110,7 +110,7 @@ first_option_fault-append before (item ∷ items) more =
     rw (first_option_fault-append (before ++ item ∷ []) items more, append_one before item items)
     (or_else_assoc (option_fault before item) (first_option_fault (before ++ item ∷ []) items) (first_option_fault (before ++ item ∷ items) more))
 
--- what the letters of a group come to behind some options
+-- what the letters of a group come to after some options
 abbrev group_outcome : List Item → Group → Result (Settings × Option Valued) Usage
 group_outcome before group = outcome (first_option_fault before group.items) (settings_given (before ++ group.items), group.waiting)
 
@@ -143,7 +143,7 @@ letters_are verb number start (b ∷ bs) before =
     letter_is (letter_of verb b) number (start + 1) bs before (letters verb number (start + 1) bs) (λ next. taken_letters verb number (start + 1) bs next)
     (λ more. letters_are verb number (start + 1) bs more)
 
--- what options and operands come to behind some options
+-- what options and operands come to after some options
 abbrev options_outcome : List Item → Options → Result (Settings × List Word) Usage
 options_outcome before read = outcome (first_option_fault before read.items) (settings_given (before ++ read.items), read.operands)
 

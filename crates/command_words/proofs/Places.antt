@@ -101,7 +101,7 @@ items_append : (line : List ℕ) (items more : List Item) → ItemsStand line it
 items_append line [] more h g = g
 items_append line (item ∷ items) more h g = (h.0, items_append line items more h.1 g)
 
--- the bytes behind the first
+-- the bytes after the first
 tail_of : (line rest : List ℕ) (start b : ℕ) (bs : List ℕ) → drop start line ≡ rest → take (suc (length bs)) rest ≡ b ∷ bs → take (length bs) (drop (start + 1) line) ≡ bs
 tail_of line [] start b bs e h = let no : ⊥ = cc in absurd no
 tail_of line (y ∷ ys) start b bs e h =
@@ -127,7 +127,7 @@ letters_stand line verb number start (b ∷ bs) h =
     let behind : Stands line (record { number = number; start = start + 1; bytes = bs }) = tail_stands line number start b bs h in
     letter_stands line (letter_of verb b) number (start + 1) bs _ behind (letters_stand line verb number (start + 1) bs behind)
 
--- the letters of a word stand behind its dash
+-- the letters of a word stand after its dash
 abbrev KindStands : List ℕ → ℕ → ℕ → Kind → Type 0
 KindStands line number start Ends = Unit {0}
 KindStands line number start (Letters bytes) = Stands line (record { number = number; start = start; bytes = bytes })

@@ -27,7 +27,7 @@ use Rattle.command_words.proofs.Places.{Stands, AllStand, Parts, parts_stand, dr
 abbrev IsAsciiTest : (ℕ → Bool) → Type 0
 IsAsciiTest p = (b : ℕ) → p b ≡ true → b < 128
 
--- behind a separator: the parts begin and end at the bounds of characters
+-- after a separator: the parts begin and end at the bounds of characters
 abbrev Follow : List ℕ → ℕ → List (List ℕ) → Type 0
 Follow line start [] = Unit {0}
 Follow line start (part ∷ parts) = IsCharBoundary line start × IsCharBoundary line (start + length part) × Follow line (start + length part + 1) parts

@@ -1,4 +1,4 @@
--- The first part of a line, and the parts behind it.
+-- The first part of a line, and the parts after it.
 use Rattle.std.proofs.Common.{◌≡◌, ℕ, suc, ◌+◌, List, [], ◌∷◌, length, take, drop, refl, sym, ◌∙◌, ap, arith, nat_lt, true, false, Bool, cond, not}
 use Rattle.std.proofs.lemmas.Bool.Decides.{nat_tests}
 use Rattle.std.specs.List.{slice_split, position_or_len, onto_first}
@@ -28,7 +28,7 @@ one_more : (b : Bool) (x : ℕ) (xs : List ℕ) (n : ℕ) (all : List (List ℕ)
 one_more true x xs n all split h e = rw zero_below (ap (λ rest. [] ∷ rest) (sym e))
 one_more false x xs n all split h e = ap (onto_first x) h ∙ rw (one_is_suc, suc_and_one, both_more)
 
--- a list is cut behind its first part
+-- a list is cut after its first part
 pub first_part : (p : ℕ → Bool) (xs : List ℕ) → slice_split p xs ≡ take (position_or_len p xs) xs ∷ cond (nat_lt (position_or_len p xs) (length xs)) (slice_split p (drop (position_or_len p xs + 1) xs)) []
 first_part p [] = refl
 first_part p (x ∷ xs) = one_more (p x) x xs (position_or_len p xs) (slice_split p xs) (slice_split p) (first_part p xs) refl

@@ -24,7 +24,7 @@ all_differ (name ∷ names) = not (list_any (bytes_eq name) names) && all_differ
 abbrev pub are_images : List (List ℕ) → Bool
 are_images names = nat_le 1 (length names) && nat_le (length names) 16 && all_differ names
 
--- the names behind `script`, where the words are that and names that a script's images may have
+-- the names after `script`, where the words are that and names that a script's images may have
 abbrev pub script_images : List (List ℕ) → Option (List (List ℕ))
 script_images [] = None
 script_images (word ∷ names) = if bytes_eq word (codes "script") && are_images names then Some names else None

@@ -53,7 +53,7 @@ kind_of (b ∷ []) = Other
 kind_of (b ∷ c ∷ bs) =
     if b == 45 then (if bytes_eq (c ∷ bs) (codes "-") then Ends else Letters (c ∷ bs)) else Other
 
--- the options at the front of some words, and the operands behind them
+-- the options at the front of some words, and the operands after them
 pub record Options : Type 0 where
   pub items : List Item
   pub operands : List Word
@@ -99,7 +99,7 @@ value_in option (Missing number) = []
 abbrev pub values : Valued → List Item → List Word
 values option items = flat_map (value_in option) items
 
--- the fault of an option behind others
+-- the fault of an option after others
 abbrev pub option_fault : List Item → Item → Option Usage
 option_fault before (Set switch) = None
 option_fault before (Given option word) =
@@ -111,7 +111,7 @@ abbrev pub or_else : {A : Type 0} → Option A → Option A → Option A
 or_else None other = other
 or_else (Some a) other = Some a
 
--- the first fault among options that stand behind others
+-- the first fault among options that stand after others
 abbrev pub first_option_fault : List Item → List Item → Option Usage
 first_option_fault before [] = None
 first_option_fault before (item ∷ items) = or_else (option_fault before item) (first_option_fault (before ++ item ∷ []) items)

@@ -109,7 +109,7 @@ abbrev pub taken_letters : Verb → ℕ → ℕ → List ℕ → Settings → Re
 taken_letters verb number start [] s = Ok (s, None)
 taken_letters verb number start (b ∷ bs) s = taken_letter (letter_of verb b) number (start + 1) bs s (λ next. taken_letters verb number (start + 1) bs next)
 
--- a word at the place of an option, and the words behind it
+-- a word at the place of an option, and the words after it
 abbrev pub taken_word : Kind → Verb → Word → List Word → Settings → (Settings → Option Valued → Result (Settings × List Word) Usage) → Result (Settings × List Word) Usage
 taken_word Ends verb word behind s next = Ok (s, behind)
 taken_word (Letters bytes) verb word behind s next = and_then (taken_letters verb word.number (word.start + 1) bytes s) (λ read. next read.0 read.1)

@@ -79,7 +79,7 @@ settled verb total settings words = by_form (form_of verb words) verb total sett
 abbrev pub by_options : Verb → ℕ → Options → Result Command Usage
 by_options verb total read = unless_usage (first_option_fault [] read.items) (settled verb total (settings_given read.items) read.operands)
 
--- the command of the words behind the verb; the line has so many
+-- the command of the words after the verb; the line has so many
 abbrev pub by_verb : Option Verb → ℕ → List Word → Result Command Usage
 by_verb None total behind = Err (record { word = 0; reason = UnknownVerb })
 by_verb (Some verb) total behind = by_options verb total (options verb total behind None)

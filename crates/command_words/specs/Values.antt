@@ -59,7 +59,7 @@ reason_unless good reason = if good then None else Some reason
 abbrev pub file_fault : List ℕ → Option Reason
 file_fault bytes = if bytes_eq bytes (codes "-") then Some DashFile else None
 
--- the fault of one more file, behind so many of the same option
+-- the fault of one more file, after so many of the same option
 abbrev pub files_fault : ℕ → List ℕ → Option Reason
 files_fault before bytes =
     if bytes_eq bytes (codes "-") then Some DashFile else (if nat_le 16 before then Some TooManyFiles else None)

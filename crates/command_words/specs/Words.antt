@@ -35,6 +35,6 @@ abbrev pub words : Sep → List ℕ → List Word
 words sep [] = []
 words sep (b ∷ bs) = placed_words sep 0 0 (slice_split (is_between sep) (b ∷ bs))
 
--- the parts behind one of so many bytes at the front
+-- the parts after one of so many bytes at the front
 abbrev pub parts_behind : Sep → ℕ → List ℕ → List (List ℕ)
 parts_behind sep len bytes = if nat_lt len (length bytes) then slice_split (is_between sep) (drop (len + 1) bytes) else []

@@ -65,7 +65,7 @@ impl<'a> Words<'a> {
         }
     }
 
-    /// The next word and the words behind it.
+    /// The next word and the words after it.
     #[tactic(auto, using(crate::proofs::Words::word_taken))]
     pub fn split_first(self) -> Option<(Piece<'a>, Words<'a>)>
         ensures words { MatchOption result (left self.entry ≡ [])
@@ -112,7 +112,7 @@ impl<'a> Words<'a> {
         words.number - self.number
     }
 
-    // What is left behind a part of `len` bytes, with the number of the next word.
+    // What is left after a part of `len` bytes, with the number of the next word.
     fn behind(self, len: usize, number: u32) -> Words<'a>
         requires going { self.ended ≡ false }
         requires inside { len ≤ length self.rest.now }

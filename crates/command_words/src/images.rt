@@ -85,7 +85,7 @@ fn are_images(names: &[String]) -> bool
     !names.is_empty() && names.len() <= 16 && all_differ(names)
 }
 
-/// The names behind `script`, where the words are that and 1 to 16 different names.
+/// The names after `script`, if the words are that and 1 to 16 different names.
 pub fn script_images(words: &[String]) -> Option<&[String]>
     ensures { MatchOption result (script_images (map string_bytes words.now) ≡ None)
         (λ names. script_images (map string_bytes words.now) ≡ Some (map string_bytes names.now)) }

@@ -7,7 +7,7 @@ ghost use Rattle.command_words.specs.Pass.{kind_seen};
 pub enum WordKind<'a> {
     /// The word `--`, which ends the options.
     Ends,
-    /// The letters of a group, behind its dash.
+    /// The letters of a group, after its dash.
     Letters(&'a [u8]),
     /// The first operand.
     Other,

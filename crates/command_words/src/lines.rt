@@ -219,7 +219,7 @@ fn command(verb: Verb, settings: Settings, operands: Operands) -> Command
     }
 }
 
-// The command of the words behind the options of a verb.
+// The command of the words after the options of a verb.
 fn settle(verb: Verb, settings: Settings, words: Words) -> Result<Command, Usage>
     ensures { result ≡ settled verb (words.entry.number + length (left words.entry)) settings (left words.entry) }
 {
@@ -241,7 +241,7 @@ fn settle(verb: Verb, settings: Settings, words: Words) -> Result<Command, Usage
     Ok(command(verb, settings, operands))
 }
 
-// The command of the words behind a verb.
+// The command of the words after a verb.
 #[tactic(auto, using(crate::proofs::Options::options_taken))]
 fn read_command(verb: Verb, words: Words) -> Result<Command, Usage>
     ensures { result ≡ by_verb (Some verb) (words.entry.number + length (left words.entry)) (left words.entry) }

@@ -39,7 +39,7 @@ fn put_rest(settings: &mut Settings, option: Valued, rest: Piece) -> Result<Opti
     Ok(None)
 }
 
-// Takes the letters of a group, and answers the option that waits for its value.
+// Takes the letters of a group, and returns the option that waits for its value.
 fn take_letters(settings: &mut Settings, verb: Verb, group: Piece) -> Result<Option<Valued>, Usage>
     ensures { MatchResult result
         (λ waiting. taken_letters verb group.entry.number group.entry.start group.entry.bytes.now settings.old ≡ Ok (settings.new, waiting))
@@ -72,7 +72,7 @@ fn take_letters(settings: &mut Settings, verb: Verb, group: Piece) -> Result<Opt
     Ok(None)
 }
 
-/// Takes the options of a verb from the words behind it. What is left are the operands.
+/// Takes the options of a verb from the words after it. What is left are the operands.
 pub fn take_options<'a>(verb: Verb, words: Words<'a>) -> Result<(Settings, Words<'a>), Usage>
     ensures options { let total = words.entry.number + length (left words.entry) in
         let taken = taken_options verb total (left words.entry) (settings_given []) None in

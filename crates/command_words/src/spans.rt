@@ -64,7 +64,7 @@ impl Sep {
 pub struct Span {
     /// The place of the first byte.
     pub start: u32,
-    /// The place behind the last byte.
+    /// The place after the last byte.
     pub end: u32,
     /// The number of the word in which the value stands, from 0.
     pub word: u32,

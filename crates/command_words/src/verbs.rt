@@ -41,7 +41,7 @@ pub struct Traits {
     pub lets_go: bool,
     /// Whether it changes the requests that are open on its drawer.
     pub changes_requests: bool,
-    /// Whether it is a request, which leaves an attached drawer attached whatever is answered.
+    /// Whether it is a request, which leaves an attached drawer attached whatever the reply.
     pub is_request: bool,
     /// Whether it takes its drawer out of the list.
     pub takes_out: bool,

@@ -50,7 +50,7 @@ split : (i at : ℕ) (bytes : List ℕ) → position_from is_colon i bytes ≡ S
 split i at [] found = absurd (cc found)
 split i at (byte ∷ bytes) found = split_more (byte == 58) i at byte bytes refl (split (i + 1) at bytes) found
 
--- the first colon stands behind bytes that are none
+-- the first colon stands after bytes that are none
 not_colon : (b : Bool) (byte : ℕ) → (byte == 58) ≡ b → IsOther byte → b ≡ false
 not_colon true byte here other = absurd (other (eqb-true byte 58 here))
 not_colon false byte here other = refl
@@ -83,7 +83,7 @@ is_join name rest at middle same is found some more place =
       place = omega arith;
     }
 
--- what a name with a join has behind its front
+-- what a name with a join has after its front
 pub record IsRest (rest : List ℕ) (middle : ℕ) : Type 0 where
   pub at : ℕ
   pub found : position_from is_colon 0 rest ≡ Some at

@@ -20,12 +20,12 @@ pub record FailsInFlush (old new : DiskState) : Type 0 where
   pub fails : FailsIn (Flush ∷ []) old new
   pub unasked : new.reads ≡ old.reads
 
--- sector n was asked for in the first, or behind its sectors in the second, and the other is as it was
+-- sector n was asked for in the first, or after its sectors in the second, and the other is as it was
 pub record AsksOne {A B : Type 0} (a : A → DiskState) (b : B → DiskState) (n : ℕ) (bytes : List ℕ) (old new : A) (old_second new_second : B) (result : Result (Unit {0}) DiskFailed) : Type 0 where
   pub first : n < (a old).size → AsksSector n bytes (a old) (a new) result × (new_second ≡ old_second)
   pub second : (a old).size ≤ n → AsksSector (n - (a old).size) bytes (b old_second) (b new_second) result × (new ≡ old)
 
--- sector n was written in the first, or behind its sectors in the second, and the other is as it was
+-- sector n was written in the first, or after its sectors in the second, and the other is as it was
 pub record WritesOne {A B : Type 0} (a : A → DiskState) (b : B → DiskState) (n : ℕ) (bytes : List ℕ) (old new : A) (old_second new_second : B) (result : Result (Unit {0}) DiskFailed) : Type 0 where
   pub first : n < (a old).size → ChangesSector (Write n bytes) (a old) (a new) result × (new_second ≡ old_second)
   pub second : (a old).size ≤ n → ChangesSector (Write (n - (a old).size) bytes) (b old_second) (b new_second) result × (new ≡ old)
@@ -45,7 +45,7 @@ first_events size [] = []
 first_events size (Write n bytes ∷ events) = (if nat_lt n size then Write n bytes ∷ first_events size events else first_events size events)
 first_events size (Flush ∷ events) = Flush ∷ first_events size events
 
--- the writes of the sectors behind them, by their numbers in the second disk, and the flushes
+-- the writes of the sectors after them, by their numbers in the second disk, and the flushes
 abbrev pub second_events : ℕ → List Event → List Event
 second_events size [] = []
 second_events size (Write n bytes ∷ events) = (if nat_lt n size then second_events size events else Write (n - size) bytes ∷ second_events size events)

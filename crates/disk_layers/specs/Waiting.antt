@@ -29,7 +29,7 @@ last_after n (write ∷ waiting) found = last_after n waiting (if write.n == n t
 abbrev pub last_waiting : ℕ → List Waiting → Option (List ℕ)
 last_waiting n waiting = last_after n waiting None
 
--- the first of these writes were done, and then the disk refused one: it and those behind it are left
+-- the first of these writes were done, and then the disk refused one: it and those after it are left
 pub record StopsIn (all left : List Waiting) (old new : DiskState) : Type 0 where
   pub done : List Waiting
   pub refused : Waiting

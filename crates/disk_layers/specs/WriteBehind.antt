@@ -57,7 +57,7 @@ BehindReadAnswers None n bytes old new (Err failed) = RefusesRead old new
 
 -- ---- writing, which reads nothing
 
--- a write was put behind those that wait, and nothing was done below
+-- a write was put after those that wait, and nothing was done below
 pub record PutsBehind (write : Waiting) (old new : Behind) : Type 0 where
   pub under : new.under ≡ old.under
   pub waiting : new.waiting ≡ old.waiting ++ write ∷ []
@@ -72,7 +72,7 @@ pub record MakesRoom (write : Waiting) (old new : Behind) : Type 0 where
   pub room : new.room ≡ old.room
   pub clean : new.clean ≡ old.clean
 
--- the disk below refused a write that waited: it and those behind it wait still
+-- the disk below refused a write that waited: it and those after it wait still
 pub record RefusesWrite (old new : Behind) : Type 0 where
   pub stops : StopsIn old.waiting new.waiting old.under new.under
   pub unasked : new.under.reads ≡ old.under.reads

@@ -1,11 +1,11 @@
-//! Two disks as one, the second behind the first.
+//! Two disks as one, the second after the first.
 ghost use Rattle.std.specs.Prelude.{◌≡◌, ◌+◌, ◌-◌, ◌/◌, ◌%◌, ◌<◌, ◌≤◌, ◌^◌, ◌∷◌, [], OnOk, OnErr, length};
 ghost use Rattle.block_traits.specs.Disk.{write_events};
 ghost use Rattle.disk_layers.specs.Concat.{AsksOne, BothDo, BothLog, LogsOnly, FailsToDo, FlushesBoth, WritesOne};
 
 use block_traits::{Disk, DiskFailed, Event, Sector};
 
-/// Two disks as one: the sectors of the first, and behind them those of the second. As a disk it
+/// Two disks as one: the sectors of the first, followed by those of the second. As a disk it
 /// tells no content and shows no events.
 // The size of a disk that tells no content is bounded here, so that the bound is `Disk`.
 #[derive(Drop)]
@@ -25,8 +25,8 @@ impl<A: Disk, B: Disk> Concat<A, B> {
         Concat { first, second }
     }
 
-    /// Reads sector `n`: sector `n` of the first, or behind that sector `n` minus its size of the second. The other is
-    /// left alone. `DiskFailed` comes only where that disk failed.
+    /// Reads sector `n`: sector `n` of the first, or beyond its end sector `n` minus its size of the second. The other
+    /// is left alone. `DiskFailed` comes only where that disk failed.
     pub fn read_at(&mut self, n: u64, into: &mut Sector) -> Result<(), DiskFailed>
         requires { n < (A.state self.old.first).size + (B.state self.old.second).size }
         ensures { AsksOne A.state B.state n into.new self.old.first self.new.first self.old.second self.new.second result }
@@ -39,8 +39,8 @@ impl<A: Disk, B: Disk> Concat<A, B> {
         }
     }
 
-    /// Writes sector `n`: sector `n` of the first, or behind that sector `n` minus its size of the second. The other is
-    /// left alone. `DiskFailed` comes only where that disk failed, and then the write was done or wasn't.
+    /// Writes sector `n`: sector `n` of the first, or beyond its end sector `n` minus its size of the second. The other
+    /// is left alone. `DiskFailed` comes only where that disk failed, and then the write was done or wasn't.
     pub fn write_at(&mut self, n: u64, from: &Sector) -> Result<(), DiskFailed>
         requires { n < (A.state self.old.first).size + (B.state self.old.second).size }
         ensures answer { WritesOne A.state B.state n from.now self.old.first self.new.first self.old.second self.new.second result }

@@ -12,7 +12,7 @@ pub enum Layer {
     /// Writes are kept back from the file of what follows `behind:`.
     Behind,
     /// Two files as one: the first's name stands between `join:` and the byte `middle`, a colon, and the second's
-    /// behind that.
+    /// after that.
     Join { middle: usize },
 }
 
@@ -30,7 +30,7 @@ pub fn layer_of(name: &str) -> Layer
     }
 }
 
-// The same of a name that isn't `behind:` and more.
+// What a name asks for that doesn't begin with `behind:`, or has nothing after that.
 fn join_of(bytes: &[u8]) -> Layer
     ensures behind { (result ≡ Layer.Behind) → ⊥ }
     ensures join { (middle : ℕ) → (result ≡ Layer.Join middle) ↔ IsJoin middle bytes.now }
@@ -59,7 +59,7 @@ pub enum Parts<'a> {
     Whole,
     /// What follows `behind:`.
     Behind(&'a str),
-    /// What is before and behind the first colon that follows `join:`.
+    /// What is before and after the first colon that follows `join:`.
     Join(&'a str, &'a str),
 }
 

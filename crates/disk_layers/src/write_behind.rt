@@ -1,4 +1,16 @@
-//! Writes that are kept back from a disk.
+//! Writes that are kept back from a disk until a flush, or until as many wait as there is room for.
+//!
+//! The invariant is the *order*: the history of the disk below, followed by the writes that wait. A write or a flush
+//! that returns Ok adds just itself to the order, and a read returns what stands there last. So what was written can
+//! be read at once, but only a flush that returns Ok has brought all of it to the disk below.
+//!
+//! Waiting writes go below one by one, the oldest first, and each leaves the list only after the disk below returned
+//! Ok. If the disk refuses one, it may have been done or not. It stays in the list with all writes after it, so it
+//! may later stand twice in the order. A new write for which room was to be made isn't taken then. After any refusal
+//! of the disk below `clean` stays false. `close` returns the disk even if its flush failed; what still waited is
+//! lost then.
+//!
+//! The room for all waiting writes is reserved in `new`, so no later call can fail for want of memory.
 ghost use Rattle.std.specs.Prelude.{◌≡◌, ◌<◌, ◌≤◌, ◌∷◌, [], IfOk, IfErr, OnOk, OnErr, false, length};
 ghost use Rattle.std.specs.VecDeque.{deque_len, deque_capacity};
 ghost use Rattle.block_traits.specs.Causes.{Counted, Rose};
@@ -81,9 +93,9 @@ impl<D: Disk> WriteBehind<D> {
         }
     }
 
-    /// Puts a write behind those that wait. Where as many wait as there is room for, they are written below first, in
+    /// Adds a write after those that wait. If as many wait as there is room for, they are written below first, in
     /// their order; else nothing is done below. `DiskFailed` comes only where the disk below failed: the write that it
-    /// refused and those behind it wait still, and this one isn't taken.
+    /// refused and those after it wait still, and this one isn't taken.
     pub fn write_at(&mut self, n: u64, from: &Sector) -> Result<(), DiskFailed>
         requires { n < (D.state self.old.under).size }
         ensures answer { BehindWriteAnswers (record { n = n; bytes = from.now }) (behind_of D.state self.old) (behind_of D.state self.new) result }
@@ -99,7 +111,7 @@ impl<D: Disk> WriteBehind<D> {
     }
 
     /// Writes all that wait below, in their order, and then flushes below. `DiskFailed` comes only where the disk below
-    /// failed: a write that it refused and those behind it wait still.
+    /// failed: a write that it refused and those after it wait still.
     pub fn flush_all(&mut self) -> Result<(), DiskFailed>
         ensures answer { FlushAnswers (behind_of D.state self.old) (behind_of D.state self.new) result }
         ensures order { OnOk result (order (behind_of D.state self.new) ≡ logged (Event.Flush ∷ []) (order (behind_of D.state self.old))) }

@@ -17,7 +17,7 @@ given_named id (Some bytes) = Holds id bytes.items
 abbrev pub changed : Change → NameMap → NameMap
 changed change named = with_name (string_bytes change.name) (given_named change.id change.bytes) named
 
--- what names have behind these changes
+-- what names have after these changes
 abbrev pub after_changes : NameMap → List Change → NameMap
 after_changes named [] = named
 after_changes named (change ∷ changes) = after_changes (changed change named) changes

@@ -40,13 +40,13 @@ fn serves(disk: &mut FileDisk<File>) -> bool {
     one && take(disk, 4) && has(disk, 1, 4) && has(disk, 2, 4)
 }
 
-// Whether it takes bytes where its file has 1,100 left: sector 1 stands before the end, and what reaches behind it is
+// Whether it takes bytes where its file has 1,100 left: sector 1 stands before the end, and what reaches beyond it is
 // refused whole.
 fn serves_the_front(disk: &mut FileDisk<File>) -> bool {
     takes(disk, 1, 5) && !takes(disk, 2, 6) && !take(disk, 6)
 }
 
-// The file becomes shorter: what stands behind its end then fails. The null device can't be synced.
+// The file becomes shorter: what stands beyond its end then fails. The null device can't be synced.
 #[test]
 fn a_file_is_a_disk(rt: HostRuntime) -> Result<(), Fail> {
     let name = "file_disk_test.img";

@@ -203,7 +203,7 @@ fn takes_two_flushes<R: Abort + Drop>(
     )
 }
 
-// A flush of a layer is a sync of the file of what waits, behind its write, and of the second file of a join.
+// A flush of a layer is a sync of the file of what waits, after its write, and of the second file of a join.
 #[test]
 fn a_flush_of_a_layer_syncs_its_files(rt: HostRuntime) -> Result<(), Fail> {
     let alloc = rt.alloc();
@@ -426,7 +426,7 @@ fn over_both<R: Abort + Drop>(rt: R, alloc: Global, script: &[u8]) -> Result<Mem
     Ok(output)
 }
 
-// Each provider takes 384 random bytes, of which the first 64 are its salt: the second takes those behind the first's.
+// Each provider takes 384 random bytes, of which the first 64 are its salt: the second takes those after the first's.
 #[test]
 fn two_providers_take_successive_random_bytes(rt: HostRuntime) -> Result<(), Fail> {
     let alloc = rt.alloc();

@@ -1,4 +1,4 @@
--- Known bytes that stay, and then are read, or more are written behind them.
+-- Known bytes that stay, and then are read, or more are written after them.
 use Rattle.std.proofs.Common.{ℕ, List, Option, Some, None, Result, Ok, Err, refl, ◌∙◌}
 use Rattle.std.specs.Io.KnownBytes.{Keeps, ReadConsumes, WriteAppends}
 

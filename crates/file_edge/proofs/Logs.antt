@@ -1,4 +1,4 @@
--- Lists of requests, one behind another.
+-- Lists of requests, one after another.
 use Rattle.std.proofs.Common.{◌≡◌, List, ◌++◌, refl, ap, ◌∙◌, append_assoc, Option, Some, None}
 use Rattle.file_edge.specs.Asked.{more}
 

@@ -5,7 +5,7 @@ use Rattle.std.specs.Str.{bytes_eq}
 use Rattle.std.proofs.lemmas.Slice.Eq.{bytes_eq-Decides}
 use Rattle.file_edge.specs.Names.{Absent, Holds, MakesName, Named, NamedFiles, RenamesName, SyncsNames, WritesNew, appended, made_empty, named_of, renamed, with_name, with_new, without_name, written_behind}
 
--- the same name, and another
+-- a name equals itself
 same_name : (name : List ℕ) → bytes_eq name name ≡ true
 same_name name = (bytes_eq-Decides name name).1 refl
 

@@ -7,7 +7,7 @@ use Rattle.std.specs.declared.io.ErrorKind.{ErrorKind}
 use Rattle.std.specs.declared.io.ErrorKind.TheVariants.{AlreadyExists}
 
 -- one request: what a name leads to, through links; what has a name; the file of a name; a new file of a mode and a
--- name, or one whose name something has already; bytes behind those of the new file; the new file on the disk; another
+-- name, or one whose name something has already; bytes after those of the new file; the new file on the disk; another
 -- name for a file, in place of what has it; the folder of a name on the disk; a name less
 pub data FileRequest : Type 0 where
   Find : (name : List ℕ) → FileRequest
@@ -29,7 +29,7 @@ pub record Asked : Type 0 where
 abbrev pub asking : FileRequest → Bool → List Asked
 asking request done = record { request = request; done = done } ∷ []
 
--- the same list with more behind it, where it is told
+-- a list with these items added at its end, where it is told
 abbrev pub more : {A : Type 0} → List A → Option (List A) → Option (List A)
 more items told = option_map (λ before. before ++ items) told
 

@@ -33,7 +33,7 @@ abbrev pub loaded_answer : Result (List ℕ) Error → ℕ → Result (List ℕ)
 loaded_answer (Ok bytes) limit = load_answer (Some bytes) limit
 loaded_answer (Err error) limit = Err (read_fault (error_kind error))
 
--- it is read to its end, or to a byte behind the limit, and that is what is answered
+-- it is read to its end, or to a byte past the limit, and that is what is answered
 pub record ReadsWhole {F : Type 0} (f : image_file.Ghosts F) (file : F) (limit : ℕ) (result : Result (List ℕ) LoadFault) : Type 0 where
   pub read : Result (List ℕ) Error
   pub held : f.holds file (min (limit + 1) (2 ^ 64 - 1)) read
@@ -71,7 +71,7 @@ module _ {O F : Type 0} (o : opener.Ghosts O F) (f : image_file.Ghosts F) (image
     pub absent : result ≡ Err load.Absent
     pub asked : o.asked new ≡ o.asked old
 
-  -- the same of a name that is text
+  -- a load under a name: one that is text names a file, and another names none
   pub record LoadsNamed (old : O) (name : List ℕ) (limit : ℕ) (result : Result (List ℕ) LoadFault) (new : O) : Type 0 where
     pub text : IsUtf8 name → LoadsNamedFile old name limit result new
     pub no_text : (IsUtf8 name → ⊥) → LoadsNone old result new

@@ -42,7 +42,7 @@ module _ {F : Type 0} (calls : F → Option (List Call)) where
   LeavesFile (Some old) (Some new) = calls new ≡ calls old
   LeavesFile old new = ⊥
 
-  -- the same, but for this one call
+  -- a file that is open stays open, and this one call alone was asked of it
   abbrev pub AsksFile : Call → Option F → Option F → Type 0
   AsksFile call None None = Unit {0}
   AsksFile call (Some old) (Some new) = calls new ≡ more (call ∷ []) (calls old)

@@ -43,12 +43,12 @@ with_new has names = record { named = with_name names.fresh has names.named; fre
 abbrev pub made_empty : List ℕ → NamedFiles → NamedFiles
 made_empty name names = record { named = with_name name (Holds None []) names.named; fresh = name }
 
--- bytes behind those of a file
+-- bytes after those of a file
 abbrev pub appended : Named → List ℕ → Named
 appended (Holds id bytes) more = Holds id (bytes ++ more)
 appended has more = has
 
--- bytes were written behind those of the new file
+-- bytes were written after those of the new file
 abbrev pub written_behind : List ℕ → NamedFiles → NamedFiles
 written_behind bytes names = with_new (appended (names.named names.fresh) bytes) names
 
@@ -110,7 +110,7 @@ module _ {F : Type 0} (f : image_file.Ghosts F) where
   OpensWhat Failing (Ok file) = NeverRead file
   OpensWhat Failing (Err error) = error_kind error ≢ NotFound
 
-  -- the same of a name, where that is told
+  -- what is opened under a name has what the name has (`OpensWhat`), where that is told
   abbrev pub OpensTold : Option NamedFiles → List ℕ → Result F Error → Type 0
   OpensTold told name opened = IfSome told (λ names. OpensWhat (names.named name) opened)
 
@@ -133,7 +133,7 @@ bytes_beside images has = None
 abbrev pub files_beside : List FileId → NameMap → Files
 files_beside images named name = if is_utf8 name then bytes_beside images (named name) else None
 
--- the same, where that is told
+-- the files that names have beside these images, where that is told
 abbrev pub told_files : List FileId → Option NamedFiles → Option Files
 told_files images told = option_map (files_beside images) (named_of told)
 

@@ -40,7 +40,7 @@ IsMove (Err stops.Renamed) = Unit {0}
 IsMove (Err stops.FolderSynced) = Unit {0}
 IsMove (Err stop) = ⊥
 
--- what a store asks behind the names that it met, by the next name beside and how it ends: a new file that its owner
+-- what a store asks after the names that it met, by the next name beside and how it ends: a new file that its owner
 -- alone may read and write, and then what is asked for that
 abbrev pub replacing : List ℕ → List ℕ → List ℕ → Result Unit Stop → List Asked
 replacing name beside bytes (Err stops.Named) = []
@@ -121,7 +121,7 @@ module _ {O F : Type 0} (o : opener.Ghosts O F) (images : List FileId) where
   Stores before name bytes (Err stops.Spared) new = Spares before name new
   Stores before name bytes result new = Replaces before name bytes result new
 
-  -- the same, by what was answered
+  -- a store under a name, by the answer that it gave
   pub record StoresNamedFile (before : O) (name bytes : List ℕ) (result : Result Unit StoreFault) (new : O) : Type 0 where
     pub ended : Result Unit Stop
     pub stores : Stores before name bytes ended new

@@ -22,8 +22,8 @@ module _ {S X : Type 0} (answers : S → Result X Error → S → Type 0) where
   AreInterrupted zero old new = new ≡ old
   AreInterrupted (suc times) old new = (last : S) × AreInterrupted times old last × IsInterrupted last new
 
-  -- One call was answered so, behind those that a signal interrupted, and there was no other. The last may be
-  -- interrupted too behind 2^64 - 1 such.
+  -- One call was answered so, after those that a signal interrupted, and there was no other. The last may be
+  -- interrupted too after 2^64 - 1 such.
   pub record AnswersOnce (old : S) (answer : Result X Error) (new : S) : Type 0 where
     pub times : ℕ
     pub asked : S
@@ -31,7 +31,7 @@ module _ {S X : Type 0} (answers : S → Result X Error → S → Type 0) where
     pub answered : answers asked answer new
     pub gave_up : IfErr answer (λ error. error_kind error ≡ Interrupted → times ≡ 2 ^ 64 - 1)
 
-  -- the same, and this is what was made of the answer
+  -- one call was answered, as `AnswersOnce` says, and this is what was made of the answer
   pub record PassesOn (old : S) (passed : Option X) (new : S) : Type 0 where
     pub answer : Result X Error
     pub once : AnswersOnce old answer new

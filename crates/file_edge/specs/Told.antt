@@ -9,7 +9,7 @@ pub record Told : Type 0 where
   pub content : Content
   pub fits : IsContentOf (length content.base) content
 
--- the same without what is known of it
+-- what a file tells of its sectors, as plain content
 abbrev pub contents : Option Told → Option Content
 contents None = None
 contents (Some t) = Some t.content

@@ -27,7 +27,8 @@ module _ {F : Type 0} (f : image_file.Ghosts F) (at : ℕ) (bytes : List ℕ) (d
     pub within : StandsBeforeEnd end at (length bytes) → PutsBytesThere old new
     pub behind : (StandsBeforeEnd end at (length bytes) → ⊥) → PutsNone old new
 
-  -- the same of a file that is open, which stays open
+  -- if a file is open, the bytes were written to it as far as it still reaches, and it stays open; else the write
+  -- failed
   abbrev pub WritesFile : Option F → Option F → Type 0
   WritesFile None None = done ≡ false
   WritesFile (Some old) (Some new) = WritesWithin old new

@@ -12,9 +12,9 @@ pub enum Ask {
     Open(OpenOptions, String),
     /// A new file of these permissions and this name.
     Make(u32, String),
-    /// The same, and something has the name.
+    /// A new file of these permissions and this name, which something has already.
     Meet(u32, String),
-    /// Bytes behind those of the new file.
+    /// Bytes written at the end of the new file.
     Write(Vec<u8>),
     /// The new file on the disk.
     Sync,

@@ -1,8 +1,23 @@
-//! A file, or a device, as a disk.
+//! A file, or a device, as a disk: sector n stands at byte 512 * n.
+//!
+//! The invariant: the number of sectors is fixed when the disk is opened, and is below 2^44, so every byte offset is
+//! below 2^53. A name that gives no image gives a disk too: it has two sectors, no file, and its every call fails. So
+//! callers need no second kind of value for an image that isn't there.
+//!
+//! Callers may rely on each call being at most one read, write or sync of the file. A call that fails is counted once
+//! in `faults`, and nothing else is. A write asks for the file's end first, so a file that became shorter isn't made
+//! longer. What a failed write leaves isn't known: it may end within a sector.
+//!
+//! After a failed sync every flush fails, and the file isn't asked again (`unsynced`). The system may have dropped
+//! what it couldn't write, and a second sync could succeed without it.
+//!
+//! A file that is to be changed is locked before it is read, written or synced, so that two runs don't change one
+//! image.
 ghost use Rattle.std.specs.Prelude.{◌≡◌, ◌<◌, ◌≤◌, ◌^◌, ◌+◌, ◌*◌, ◌/◌, ◌%◌, ◌∷◌, [], IsErr, IsNone, MatchOption, OnErr, OnOk, false, is_err, is_ok, length, true};
 ghost use Rattle.block_traits.specs.Causes.{Counted};
 ghost use Rattle.block_traits.specs.Disk.{FailsIn, Gives, GivesEach, Logs, write_events};
-ghost use Rattle.file_edge.specs.ImageFile.{AsksFile, CountsFault, IsLocked, IsUncalled, LeavesFile, ReadAt, SyncData, looked, read_bytes};
+ghost use Rattle.file_edge.specs.ImageFile.{AsksFile, CountsFault, IsLocked, IsUncalled, LeavesFile};
+ghost use Rattle.file_edge.specs.ImageFile.{ReadAt, SyncData, looked, read_bytes};
 ghost use Rattle.file_edge.specs.Opening.{AsksImage};
 ghost use Rattle.file_edge.specs.Told.{EndsTold, Leaves, ReadsTold, contents, told_in};
 ghost use Rattle.file_edge.specs.Writing.{WritesFile, WritesWithin};
@@ -252,7 +267,7 @@ fn write_within<F: ImageFile>(file: &mut F, at: u64, from: &[u8]) -> bool
     }
 }
 
-// The same of a file, if one is open.
+// Writes whole sectors all in one, if a file is open and still reaches so far.
 #[tactic(auto, using(crate::proofs::Left::leaves_nothing))]
 fn write_open<F: ImageFile>(file: &mut Option<F>, at: u64, from: &[u8]) -> Result<(), DiskFailed>
     requires fits { at + length from.now ≤ 2 ^ 53 }
@@ -347,7 +362,7 @@ impl<F: ImageFile + Drop> Disk for FileDisk<F> {
         self.reads = self.reads.saturating_add(many);
     }
 
-    /// Besides what a disk does: where the file became shorter, what stands behind its end isn't written.
+    /// Besides what a disk does: if the file became shorter, what stands beyond its end isn't written.
     fn write(&mut self, n: u64, from: &Sector) -> Result<(), DiskFailed>
         requires { n < (file_disk_state F.told self.old).size }
         ensures ok { OnOk result (Logs (Event.Write n from.now ∷ [])
@@ -366,7 +381,7 @@ impl<F: ImageFile + Drop> Disk for FileDisk<F> {
     }
 
     /// Besides what a disk does: the sectors are one write of the file. Where it became shorter, so that one of them
-    /// stands behind its end, none is written.
+    /// stands beyond its end, none is written.
     fn write_sectors(&mut self, first: u64, from: &[u8]) -> Result<(), DiskFailed>
         requires whole { length from.now % 512 ≡ 0 }
         requires inside { first + length from.now / 512 ≤ (file_disk_state F.told self.old).size }

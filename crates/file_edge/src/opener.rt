@@ -74,7 +74,7 @@ pub trait Opener {
         ensures told { MakesName name.now (is_ok result) (told self.old) (told self.new) }
         ensures asked { asked self.new ≡ more (making mode name.now result) (asked self.old) };
 
-    /// Writes all bytes behind those of the new file.
+    /// Writes all bytes at the end of the new file.
     fn write(&mut self, bytes: &[u8]) -> io::Result<()>
         ensures told { WritesNew bytes.now (is_ok result) (told self.old) (told self.new) }
         ensures asked { asked self.new ≡ more (asking (Write bytes.now) (is_ok result)) (asked self.old) };

@@ -40,8 +40,9 @@ impl<R: Reader> Source for InputSource<R> {
       ends = source.ends;
     } };
 
-    /// Besides what a source does: it answers as one read of the reader did, made again only where a signal interrupted
-    /// it, and fails only where that failed. Where the reader knows its bytes, they are given, and 0 only at their end.
+    /// Besides what a source does: it returns what one read of the reader returned, made again only where a signal
+    /// interrupted it, and fails only where that failed. Where the reader knows its bytes, they are given, and 0 only
+    /// at their end.
     fn take(&mut self, into: &mut [u8]) -> Result<usize, SourceFailed>
         requires { 0 < length into.old }
         ensures bound { IfOk result (λ k. k ≤ length into.new) }
@@ -114,8 +115,9 @@ impl<W: Writer> OutputSink<W> {
 impl<W: Writer> Sink for OutputSink<W> {
     ghost state = { λ sink. record { taken = None; faults = sink.faults; refused = sink.faults; idle = sink.idle } };
 
-    /// Besides what a sink does: it answers as one write of the writer did, made again only where a signal interrupted
-    /// it, and fails only where that failed. Where the writer knows its bytes, those that are taken stand behind them.
+    /// Besides what a sink does: it returns what one write of the writer returned, made again only where a signal
+    /// interrupted it, and fails only where that failed. Where the writer knows its bytes, those that are taken follow
+    /// them.
     fn give(&mut self, from: &[u8]) -> Result<usize, SinkFailed>
         ensures bound { IfOk result (λ k. k ≤ length from.now) }
         ensures known { WriteAppends (W.contents self.old.writer) (W.contents self.new.writer) result from.now }

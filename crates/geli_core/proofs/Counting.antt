@@ -121,7 +121,7 @@ fault_is : (answer : Option Answer) → is_device_fault answer ≡ true → answ
 fault_is (Some (answers.Refused refusals.DeviceFault)) h = refl
 fault_is answer h = false_is h
 
--- one line, and so many behind it
+-- one line, and so many after it
 one_more : (named fault : Bool) (b m a rest : ℕ) → b ≤ m → (named ≡ true → fault ≡ true → Rose b m) → m ≤ a → (a < 2 ^ 64 - 1 → m + rest ≤ a) → a < 2 ^ 64 - 1 → b + (cond (named && fault) 1 0 + rest) ≤ a
 one_more true true b m a rest le rose later bound small = let r = rose refl refl in let s = bound small in omega (arith, r, s, later, small)
 one_more true false b m a rest le rose later bound small = let s = bound small in omega (arith, le, s)
@@ -165,7 +165,7 @@ further_still true place k s h = absurd (let none : ⊥ = cc s in none)
 further_still false None k s h = absurd (let none : ⊥ = cc h in none)
 further_still false (Some found) k s h = let is : found ≡ k = same_some found k h in let more : found + 1 ≡ suc k = omega (arith, is) in ap Some more
 
--- the first drawer has the name, or it doesn't and another behind it has
+-- the first drawer has the name, or it doesn't and another after it has
 where_named : (same : Bool) (place : Option ℕ) (n : ℕ) → cond same (Some 0) (option_map (λ k. k + 1) place) ≡ Some n → ((same ≡ true) × (n ≡ 0)) ⊎ ((k : ℕ) × (same ≡ false) × (place ≡ Some k) × (n ≡ suc k))
 where_named true place n h = inl (refl, sym (same_some 0 n h))
 where_named false None n h = absurd (let none : ⊥ = cc h in none)

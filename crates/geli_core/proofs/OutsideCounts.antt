@@ -78,7 +78,7 @@ line_rises (Ok (Some command)) line (Some said) old new h = line_counted old sai
 
 -- ---- a run
 
--- one line, and so many behind it
+-- one line, and so many after it
 one_more : (is : Bool) (before middle now rest : ℕ) → Rises is before middle → RoseBy rest middle now → RoseBy (cond is 1 0 + rest) before now
 one_more true before middle now rest one many =
     let r = one.rose refl in

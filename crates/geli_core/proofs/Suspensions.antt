@@ -24,7 +24,7 @@ use Rattle.geli_core.proofs.Keyings.{among_removed}
 use Rattle.geli_core.proofs.ReadsBack.{turned}
 use Rattle.geli_core.proofs.SlotKeys.{tried_opens}
 
--- ---- a drawer behind a line
+-- ---- a drawer after a line
 
 -- the line names it, and what it does with its disk came about so
 record IsNamed (sep : Sep) (line : List ℕ) (start next : World) (before drawer : DrawerState) : Type 0 where

@@ -13,7 +13,7 @@ pub record FailedHeld (old new : DrawerState) : Type 0 where
   pub held : is_idle old.holding ≡ false
   pub rose : Rose old.disk.faults new.disk.faults
 
--- one more than those behind, where this drawer failed
+-- one more than those after it, where this drawer failed
 pub record FailedToo (Behind : ℕ → Type 0) (many : ℕ) (old new : DrawerState) : Type 0 where
   pub behind : ℕ
   pub one_more : many ≡ 1 + behind
@@ -27,7 +27,7 @@ ManyFailed many (old ∷ olds) (new ∷ news) = ManyFailed many olds news ⊎ Fa
 ManyFailed many [] (new ∷ news) = ⊥
 ManyFailed many (old ∷ olds) [] = ⊥
 
--- as many of the drawers that were there behind the lines failed as the trace says
+-- as many of the drawers that were there after the lines failed as the trace says
 abbrev pub ClosesWithFailures : World → Trace → World → Type 0
 ClosesWithFailures entry trace exit = IfSome trace.closing (λ failed. ManyFailed failed (world_behind entry trace.lines).drawers exit.drawers)
 

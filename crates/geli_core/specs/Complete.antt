@@ -32,7 +32,7 @@ pub record RunsToEnd (sep : Sep) (lines : List (List ℕ)) (old : Whole) (trace 
   pub printed : TookAll (answers_text (answers_of trace.lines ++ closing_answers failed)) old.sink new.sink
   pub by_answers : status ≡ status_by (any_refused (answers_of trace.lines ++ closing_answers failed))
 
--- the same of all lines that the source gave, which is at its end
+-- a script was run to its end: the trace has all lines that the source gave, which is at its end
 pub record ScriptToEnd (old : Whole) (trace : Trace) (status : Status) (new : Whole) : Type 0 where
   pub read : List ℕ
   pub gave : old.source.left ≡ prepend_known read new.source.left
@@ -42,7 +42,7 @@ pub record ScriptToEnd (old : Whole) (trace : Trace) (status : Status) (new : Wh
   pub cut : CutsInto read lines rest
   pub to_end : RunsToEnd Blanks (lines ++ last_line rest) old trace status new
 
--- the same of one command, and the source was not read
+-- one command was run to its end: the trace has its line alone, and the source was not read
 pub record CommandToEnd (line : List ℕ) (old : Whole) (trace : Trace) (status : Status) (new : Whole) : Type 0 where
   pub source : new.source ≡ old.source
   pub to_end : RunsToEnd Zeros (line ∷ []) old trace status new
@@ -54,6 +54,6 @@ CompletesBy (Some names) command line old trace status new = GaveWithinLimits ol
 CompletesBy None (Some command) line old trace status new = RunsUnless (ByTrace (CommandToEnd line) trace) old status new
 CompletesBy None None line old trace status new = Unit {0}
 
--- the same of the words, where the sink didn't fail
+-- the words are run to their end as `CompletesBy` says, unless the sink failed
 abbrev pub Completes : List (List ℕ) → Whole → Trace → Status → Whole → Type 0
 Completes words old trace status new = (Rose old.sink.faults new.sink.faults → ⊥) → CompletesBy (script_images words) (command_in (line_of words)) (line_of words) old trace status new

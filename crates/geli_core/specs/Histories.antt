@@ -91,7 +91,8 @@ pub record Grew (old new : DrawerState) : Type 0 where
   pub events : List Event
   pub logs : Logs events old.disk new.disk
 
--- the same of each drawer, in order, but for those whose names are gone, which may be left out; none is added
+-- each drawer keeps its name and its history only grew (`Grew`), in order; a drawer whose name is gone may be left out,
+-- and none is added
 abbrev pub EachGrew : (List ℕ → Type 0) → List DrawerState → List DrawerState → Type 0
 EachGrew Gone [] [] = Unit {0}
 EachGrew Gone [] (new ∷ news) = ⊥

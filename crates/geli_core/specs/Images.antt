@@ -55,7 +55,7 @@ one_or_none state None = []
 one_or_none state (Some disk) = state disk ∷ []
 
 -- the disks that are handed back where no shelf takes all of them: those that one took, the one that it refused, and
--- those behind it
+-- those after it
 abbrev pub disks_back : {D : Type 0} → (D → DiskState) → NotShelved D → List DiskState
 disks_back state refused = disks_on state refused.shelf ++ (one_or_none state refused.disk ++ map state refused.rest.items)
 

@@ -17,13 +17,13 @@ abbrev pub IfRefused : Answer → (Refusal → Type 0) → Type 0
 IfRefused (answers.Refused refusal) Holds = Holds refusal
 IfRefused answer Holds = Unit {0}
 
--- Of a command: a refusal has its cause. Want of memory is answered only to verbs that may lack it. Where the drawer
--- that it names has what its verb needs, and nothing fails, it is served, or there was no memory and its verb may lack
--- it. It changes only the drawer that it names, whose disk logs events of the line. Where it changes metadata, the disk
--- holds the old or the new at each moment of it. What the drawer does with its disk changes by the verbs that do that
--- alone. No count of the cabinet or the entropy falls, and a failure of theirs is answered only where its count rose.
--- The files stay but for the one that `backup`, `init -B` or `verify` names, of which no more than one store is made;
--- no other verb makes a store.
+-- The laws that a command keeps. A refusal has its cause. Want of memory is answered only to verbs that may lack it.
+-- Where the drawer that it names has what its verb needs, and nothing fails, it is served, or there was no memory and
+-- its verb may lack it. It changes only the drawer that it names, whose disk logs events of the line. Where it changes
+-- metadata, the disk holds the old or the new at each moment of it. What the drawer does with its disk changes by the
+-- verbs that do that alone. No count of the cabinet or the entropy falls, and a failure of theirs is answered only
+-- where its count rose. The files stay but for the one that `backup`, `init -B` or `verify` names, of which no more
+-- than one store is made; no other verb makes a store.
 pub record KeepsLaws (line : List ℕ) (command : Command) (old : World) (answer : Answer) (new : World) : Type 0 where
   pub caused : IfRefused answer (λ refusal. Caused line command refusal old new)
   pub memory : IfRefused answer (λ refusal. refusal ≡ refusals.NoMemory → IsTrue (may_lack_memory command))
@@ -35,7 +35,7 @@ pub record KeepsLaws (line : List ℕ) (command : Command) (old : World) (answer
   pub counts : CountsFailures old answer new
   pub files : StoresItsFile line command old new
 
--- the same of a line that says a command
+-- a line that says a command keeps the laws of every line
 abbrev pub LineKeepsLaws : Result (Option Command) Usage → List ℕ → World → Option Answer → World → Type 0
 LineKeepsLaws (Ok (Some command)) line old (Some answer) new = KeepsLaws line command old answer new
 LineKeepsLaws read line old answer new = Unit {0}

@@ -14,7 +14,7 @@ IsOneLine bytes = AllByRecursion (λ b. b ≢ newline) bytes
 abbrev pub ended : List ℕ → List ℕ
 ended line = line ++ newline ∷ []
 
--- the bytes are these lines, a newline behind each, and then a rest without one
+-- the bytes are these lines, a newline after each, and then a rest without one
 pub record CutsInto (bytes : List ℕ) (lines : List (List ℕ)) (rest : List ℕ) : Type 0 where
   pub whole : bytes ≡ flat_map ended lines ++ rest
   pub each : AllByRecursion IsOneLine lines

@@ -75,11 +75,11 @@ place_played line (PlacesUnit tag) k told answer events m =
     let found = task_with tag m.tasks in goes_on (request_steps k found events) (tasks_stepped answer found k (cells_after told m.steps) m.tasks) m
 place_played line (PlacesNoMore tag) k told answer events m = goes_on (raw_steps events) (tasks_reaped answer tag m.tasks) m
 
--- the same of a command
+-- what a command that was answered so makes of the play of an attached drawer, as `place_played` says
 abbrev pub command_played : List ℕ → Command → Keying → Option Content → Answer → List Event → Play → Play
 command_played line command k told answer events m = place_played line ((verb_of command).places line) k told answer events m
 
--- the same by what is attached after the line: where nothing is, no request is open
+-- what a command makes of the play of a drawer, by what is attached after the line: if nothing is, no request is open
 abbrev pub played_by : Option Attachment → List ℕ → Command → Option Content → Answer → List Event → Play → Play
 played_by None line command told answer events m = goes_on (raw_steps events) [] m
 played_by (Some a) line command told answer events m = command_played line command a.keying told answer events m
@@ -96,7 +96,7 @@ LinePlays told sep line answer old m next new = ((new ≡ old) × (next ≡ goes
 
 -- ---- lines
 
--- a drawer and its play while lines are served, where its disk told this content before the run: behind each line it is
+-- a drawer and its play while lines are served, where its disk told this content before the run: after each line it is
 -- one of the drawers of the world there
 abbrev pub DrawerPlaces : Option Content → Sep → List ServedLine → DrawerState → Play → Play → DrawerState → Type 0
 DrawerPlaces told sep [] old m last new = (new ≡ old) × (last ≡ m)
@@ -104,7 +104,7 @@ DrawerPlaces told sep (l ∷ lines) old m last new =
     (middle : DrawerState) × (next : Play)
     × IsAmong l.next.drawers middle × LinePlays told sep l.line l.answer old m next middle × DrawerPlaces told sep lines middle next last new
 
--- the same from the entry of a run on, before which nothing was done
+-- a drawer and its play while lines are served from the entry of a run on, before which nothing was done
 abbrev pub DrawerPlays : Sep → List ServedLine → DrawerState → Play → DrawerState → Type 0
 DrawerPlays sep lines old last new = DrawerPlaces old.disk.content sep lines old no_play last new
 
@@ -124,7 +124,7 @@ pub record DrawerPlaysAndCloses (sep : Sep) (entry : World) (lines : List Served
   pub closes : ClosesWith middle last new
   pub are : play ≡ goes_on (raw_steps last) [] served
 
--- the same up to the exit of a run, at which the drawers were closed, or nothing was done
+-- a drawer and its play from the entry of a run to its exit, at which the drawers were closed, or nothing was done
 abbrev pub PlaysToExit : World → Sep → List ServedLine → Option ℕ → DrawerState → Play → DrawerState → Type 0
 PlaysToExit entry sep lines None old play new = DrawerPlays sep lines old play new
 PlaysToExit entry sep lines (Some failed) old play new = DrawerPlaysAndCloses sep entry lines old play new

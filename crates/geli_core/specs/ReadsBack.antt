@@ -11,7 +11,7 @@ use Rattle.geli_core.specs.Survivors.{SurvivesBy}
 use Rattle.geli_core.specs.Trace.{ServedLine}
 use Rattle.geli_core.specs.Vocabulary.{Flushes, Play, Reads, Sep, Step, Work, Writes, cell, data_from, data_read, data_steps, task_with}
 
--- When a line comes that names this provider, behind these lines, its drawer is attached. It was there at entry, and
+-- When a line comes that names this provider, after these lines, its drawer is attached. It was there at entry, and
 -- did the steps of a play since, line by line. Where its disk told its content at entry, this holds of the keying that
 -- is attached, of that content and of the play.
 pub record StandsSo (sep : Sep) (entry : World) (served : List ServedLine) (start : World) (line : List ℕ) (prov : Span) (Holds : Keying → Content → Play → Type 0) : Type 0 where

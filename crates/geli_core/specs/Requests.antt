@@ -16,7 +16,7 @@ use Rattle.geli_core.specs.Vocabulary.{Flush, Flushes, IsCovered, Play, Reads, R
 abbrev pub HoldsOwn : Holding → DiskState → Type 0
 HoldsOwn holding disk = IfSome (attachment_in holding) (λ a. AreAllOf a.keying (media a.keying disk) a.queue)
 
--- the same of each of the drawers
+-- the requests that are open on each of the drawers are of its provider
 abbrev pub HoldOwn : List DrawerState → Type 0
 HoldOwn drawers = (drawer : DrawerState) → IsAmong drawers drawer → HoldsOwn drawer.holding drawer.disk
 
@@ -37,7 +37,7 @@ CoversWork steps k (Writes number sector count bytes) = All (IsCovered steps) (d
 CoversWork steps k Flushes = Unit {0}
 
 -- a drawer after some lines, when a line came that names this provider and reaps the request with this tag, and as it
--- is after further lines: its play goes on from the one to the other, and a flush behind them covers the write that was
+-- is after further lines: its play goes on from the one to the other, and a flush after them covers the write that was
 -- reaped
 pub record CoversReaped (sep : Sep) (entry : World) (served : List ServedLine) (start : World) (reap : ServedLine) (prov : Span) (tag : ℕ) (rest : List ServedLine) (drawer : DrawerState) : Type 0 where
   pub before : DrawerState

@@ -27,7 +27,7 @@ script_limit = 2 ^ 40
 
 -- ---- what was printed
 
--- all answers, those of the closing behind them; or, where the run broke off, those to its lines; or, where the sink
+-- all answers, those of the closing after them; or, where the run broke off, those to its lines; or, where the sink
 -- failed, up to a part of the last answer, or of the closing
 abbrev pub PrintsAnswers : List (Option Answer) → ℕ → SinkState → Status → SinkState → Type 0
 PrintsAnswers answers failed old Done new = (any_refused (answers ++ closing_answers failed) ≡ false) × TookAll (answers_text (answers ++ closing_answers failed)) old new
@@ -41,7 +41,7 @@ PrintsAnswers answers failed old NoMemory new = ⊥
 
 -- ---- a script
 
--- the bytes that a source gave: those that were read, which are whole lines and a rest, and those behind them
+-- the bytes that a source gave: those that were read, which are whole lines and a rest, and those after them
 pub record Taken : Type 0 where
   pub read : List ℕ
   pub lines : List (List ℕ)
@@ -95,7 +95,7 @@ ServesUpTo taken served answers old NoMemory new = ⊥
 
 -- a script was run: the source gave bytes, the lines of the trace among them were served, the drawers were closed, and
 -- the answers were printed; no more bytes are taken from the source than make a script too long, and no further piece
--- behind the byte that ended it
+-- after the byte that ended it
 pub record RunsScript (old : Whole) (trace : Trace) (status : Status) (new : Whole) : Type 0 where
   pub sep : trace.sep ≡ Blanks
   pub taken : Taken
@@ -165,7 +165,7 @@ EndsBy (Some names) command status = status ≢ BadWords
 EndsBy None (Some command) status = (status ≡ Done) ⊎ (status ≡ SomeRefused)
 EndsBy None None status = status ≡ BadWords
 
--- the same of the words
+-- how a run of these words may end
 abbrev pub Ends : List (List ℕ) → Status → Type 0
 Ends words status = EndsBy (script_images words) (command_in (line_of words)) status
 

@@ -34,11 +34,11 @@ pub record SurvivesBy (Plays : DrawerState → Play → DrawerState → Type 0) 
   pub endures : IfSome before.disk.content (EnduresCrashes play.steps)
   pub requests : HasNoRequests before.holding → IfSome before.disk.content (λ c. HasTasks new.holding play.tasks)
 
--- the same of each drawer that is there behind these lines
+-- each drawer that is there after these lines survives crashes, by its play
 abbrev pub EachSurvives : Sep → World → List ServedLine → World → Type 0
 EachSurvives sep entry served now = (drawer : DrawerState) → IsAmong now.drawers drawer → SurvivesBy (DrawerPlays sep served) entry.drawers drawer
 
--- and of each that is there at exit
+-- each drawer that is there at exit survives crashes, by its play
 abbrev pub EachSurvivesRun : World → Trace → World → Type 0
 EachSurvivesRun entry trace exit = (drawer : DrawerState) → IsAmong exit.drawers drawer →
     SurvivesBy (PlaysToExit entry trace.sep trace.lines trace.closing) entry.drawers drawer

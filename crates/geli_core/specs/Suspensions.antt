@@ -17,7 +17,7 @@ use Rattle.geli_core.specs.Vocabulary.{Sep, line_reading, reach}
 -- ---- while a drawer is suspended
 
 -- the drawer is suspended all the time while lines are served, this is kept of it, and its disk logs nothing, whatever
--- lines name it: behind each line it is one of the drawers of the world there, under its name
+-- lines name it: after each line it is one of the drawers of the world there, under its name
 abbrev pub StaysSuspendedThrough : Kept → List ServedLine → DrawerState → DrawerState → Type 0
 StaysSuspendedThrough kept [] old new = (new ≡ old) × (old.holding ≡ IsSuspended kept)
 StaysSuspendedThrough kept (l ∷ lines) old new =
@@ -49,7 +49,7 @@ pub record SuspendedSince (sep : Sep) (entry : World) (served : List ServedLine)
   pub keeps : kept ≡ kept_by a before.disk
   pub stays : StaysSuspendedThrough kept later after drawer
 
--- one of these two holds of each drawer that is suspended behind these lines
+-- one of these two holds of each drawer that is suspended after these lines
 abbrev pub AreSuspended : Sep → World → List ServedLine → World → Type 0
 AreSuspended sep entry served now = (drawer : DrawerState) (kept : Kept) → IsAmong now.drawers drawer → drawer.holding ≡ IsSuspended kept →
     SuspendedBefore entry served drawer kept ⊎ ((a : Attachment) × SuspendedSince sep entry served drawer kept a)
@@ -70,7 +70,7 @@ pub record HadMaster (sep : Sep) (entry : World) (served : List ServedLine) (dra
   pub since : SuspendedSince sep entry served drawer kept a
   pub same : (master ≡ a.keying.master) ⊎ AreCollision a.keying.master master
 
--- A drawer that was suspended when the line came is attached behind it, with a master key that the given key opens. Its
+-- A drawer that was suspended when the line came is attached after it, with a master key that the given key opens. Its
 -- digest is the one that was kept; and where the drawer was suspended by one of the lines, it is the one that it had
 -- then, or the two collide under SHA-256.
 pub record ResumesSame (sep : Sep) (entry : World) (served : List ServedLine) (start : World) (line : List ℕ) (prov : Span) (words : KeyWords) (next : World) : Type 0 where

@@ -58,7 +58,7 @@ abbrev pub counts_with : List ℕ → Option AskedSweep → Option Answer → Li
 counts_with counts (Some asked) (Some (answers.Verified offsets next)) = counts ++ asked.count ∷ []
 counts_with counts asked answer = counts
 
--- Behind parts with these counts, the first of which began at the first sector, a part goes from where they ended to
+-- After parts with these counts, the first of which began at the first sector, a part goes from where they ended to
 -- `next`: the units that fail there are listed. All together go over the sectors before `next`, each once; and where
 -- their counts, each cut to the sectors of a part, reach the end, so do they.
 pub record IsNextPart (course : Course) (counts : List ℕ) (count : ℕ) (offsets : List ℕ) (next : ℕ) (old new : World) : Type 0 where

@@ -4,7 +4,7 @@ use Rattle.command_rows.specs.Rows.{Answer, World}
 use Rattle.geli_core.specs.Run.{ServesLine}
 use Rattle.geli_core.specs.Vocabulary.{ClosesWorld, Sep}
 
--- a line that was served, what was answered to it, and the world behind it
+-- a line that was served, what was answered to it, and the world after it
 pub record ServedLine : Type 0 where
   pub line : List ℕ
   pub answer : Option Answer
@@ -16,12 +16,12 @@ lines_of lines = map (λ (l : ServedLine). l.line) lines
 abbrev pub answers_of : List ServedLine → List (Option Answer)
 answers_of lines = map (λ (l : ServedLine). l.answer) lines
 
--- the world behind some lines
+-- the world after some lines
 abbrev pub world_behind : World → List ServedLine → World
 world_behind entry [] = entry
 world_behind entry (l ∷ lines) = world_behind l.next lines
 
--- each line is served in the world behind those before it
+-- each line is served in the world after those before it
 abbrev pub EachServed : Sep → World → List ServedLine → Type 0
 EachServed sep start [] = Unit {0}
 EachServed sep start (l ∷ lines) = ServesLine sep l.line start l.answer l.next × EachServed sep l.next lines
@@ -30,7 +30,7 @@ EachServed sep start (l ∷ lines) = ServesLine sep l.line start l.answer l.next
 abbrev pub Run : Sep → World → List ServedLine → World → Type 0
 Run sep old lines new = EachServed sep old lines × (new ≡ world_behind old lines)
 
--- this holds of each line, behind those that were served before it and in the world there
+-- this holds of each line, after those that were served before it and in the world there
 abbrev pub EachLine : (List ServedLine → World → ServedLine → Type 0) → List ServedLine → World → List ServedLine → Type 0
 EachLine P served start [] = Unit {0}
 EachLine P served start (l ∷ lines) = P served start l × EachLine P (served ++ l ∷ []) l.next lines
@@ -47,7 +47,7 @@ abbrev pub ClosesBy : Option ℕ → World → World → Type 0
 ClosesBy None behind exit = exit ≡ behind
 ClosesBy (Some failed) behind exit = ClosesWorld behind failed exit
 
--- each line was served, from the world at entry on, and the drawers were closed behind them, up to the world at exit
+-- each line was served, from the world at entry on, and the drawers were closed after them, up to the world at exit
 pub record IsTrace (entry : World) (trace : Trace) (exit : World) : Type 0 where
   pub served : EachServed trace.sep entry trace.lines
   pub closes : ClosesBy trace.closing (world_behind entry trace.lines) exit

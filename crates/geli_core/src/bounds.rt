@@ -21,8 +21,9 @@ pub fn device_faults_are_counted()
         slice_get old.drawers place ≡ Some before → RisesBy (device_faults sep name lines) before place new }
 {}
 
-/// The same of lines that may take drawers out, no two of which have one name. The drawer is there at last, perhaps in
-/// front of its place; or one of the lines takes it out, and the count of faults of its disk rose so before that line.
+/// Device faults are counted as in `device_faults_are_counted`, also if lines may take drawers out; no two drawers have
+/// the same name. The drawer is there at the end, perhaps in front of its place; or one of the lines takes it out, and
+/// the count of faults of its disk rose so before that line.
 pub fn device_faults_are_counted_until_eject()
     ensures { (sep : Sep) (lines : List ServedLine) (old new : World) (name : List ℕ) (place : ℕ) (before : DrawerState) →
         Run sep old lines new → NamesDiffer old.drawers → place_of name old.drawers ≡ Some place → slice_get old.drawers place ≡ Some before →

@@ -41,7 +41,7 @@ fn status_by(refused: bool) -> Status
 }
 
 impl<K: Sink, C: Cabinet, E: Entropy, D: Disk> Site<'_, K, C, E, D> {
-    /// Closes the drawers, prints a refusal for each flush that failed, and answers the status.
+    /// Closes the drawers, prints a refusal for each flush that failed, and returns the status.
     pub(crate) fn close_and_print(&mut self, refused: bool) -> Status
         ensures same { BorrowsAsBefore self.old self.new }
         ensures closes { ClosesAndPrints refused (site_now K.state C.state E.state D.state self.old) result
@@ -54,7 +54,7 @@ impl<K: Sink, C: Cabinet, E: Entropy, D: Disk> Site<'_, K, C, E, D> {
         }
     }
 
-    // Serves a last line without a newline, if there is one, and answers whether anything was refused.
+    // Serves a last line without a newline, if there is one, and returns whether anything was refused.
     fn serve_last(&mut self, line: &[u8], refused: bool) -> Result<bool, WriteEnd>
         requires { length line.now ≤ line_limit }
         ensures same { BorrowsAsBefore self.old self.new }

@@ -147,8 +147,7 @@ fn plain_part(bytes: &[u8]) -> &[u8]
     }
 }
 
-// Puts the first bytes of a text without a newline behind those of the line, as far as it has room, and answers how
-// many.
+// Adds the first bytes of a text without a newline to those of the line, as far as it has room, and returns how many.
 fn feed_text(line: &mut Vec<u8>, text: &[u8]) -> usize
     requires room { line_limit ≤ vec_capacity line.old }
     requires short { vec_len line.old ≤ line_limit }

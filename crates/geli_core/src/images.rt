@@ -24,7 +24,7 @@ pub struct NotShelved<D: Drop> {
     pub shelf: Option<Drawers<D>>,
     /// The disk that was refused, if there was a shelf.
     pub disk: Option<D>,
-    /// Those behind it.
+    /// The disks after it.
     pub rest: Vec<D>,
 }
 
@@ -66,7 +66,7 @@ pub fn run_images<S: Source, K: Sink, C: Cabinet, E: Entropy>(
     Ok((status, shelf))
 }
 
-/// The same over disks of any one type, without boxes, of words that were read.
+/// Runs words that were read over drawers of these names and disks, which are of any one type and needn't be boxed.
 pub fn run_over<S: Source, K: Sink, C: Cabinet, E: Entropy, D: Disk>(
     alloc: Global,
     said: &Words<'_>,

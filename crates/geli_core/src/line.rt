@@ -15,7 +15,7 @@ use shelf::Drawers;
 /// `Refused` exactly where the printed reply is a refusal. `WriteEnd` comes only where the sink failed; the line was
 /// served all the same.
 ///
-/// Of each such line holds, whatever its row, what the law `a_line_keeps_the_laws` says: why it's refused, that it is
+/// What the law `a_line_keeps_the_laws` says holds of each such line, whatever its row: why it's refused, that it is
 /// served where there is no cause of a refusal, which lines never answer want of memory, which drawer changes, and what
 /// its last sector may hold at each moment of a line that changes metadata, whenever power fails.
 pub fn serve_line<K: Sink, C: Cabinet, E: Entropy, D: Disk>(

@@ -22,7 +22,7 @@ pub fn requests_are_of_their_providers()
         Run sep old lines new → HoldKeyings old.drawers → HaveNoRequests old.drawers → HoldOwn new.drawers }
 {}
 
-/// Of an attached drawer whose requests are of its provider, `step` and `reap` are refused with `NoRequest` exactly
+/// On an attached drawer whose requests are of its provider, `step` and `reap` are refused with `NoRequest` exactly
 /// where no open request has the tag.
 pub fn missing_requests_are_refused()
     ensures step { (line : List ℕ) (prov : Span) (tag : ℕ) (a : Attachment) (old new : Reach) (said : Answer) →
@@ -34,7 +34,7 @@ pub fn missing_requests_are_refused()
 {}
 
 /// A flush covers each write that was reaped before it was submitted, whatever lines come between: after the lines from
-/// the `reap` on, a flush stands behind each unit of the write. The request was submitted in the run, on a drawer whose
+/// the `reap` on, a flush follows each unit of the write. The request was submitted in the run, on a drawer whose
 /// disk tells its content.
 pub fn flushes_cover_reaped_writes()
     ensures { (sep : Sep) (served : List ServedLine) (entry start : World) (reap : ServedLine) (prov : Span) (tag : ℕ)

@@ -1,4 +1,15 @@
-//! What a run works on.
+//! What a run works on: the drawers, the output, the files and the random bytes, borrowed by one value. The input is
+//! passed beside it.
+//!
+//! The invariant is `BorrowsAsBefore`: after each method the value borrows what it borrowed before. Every method
+//! promises this, and `run` relies on it: when the borrows end, what was said of the site's drawers and files is true
+//! of the caller's own. Without the promise a method might have exchanged a reference for another, and the caller
+//! would know nothing of its own values.
+//!
+//! The value keeps no state of its own, so a failure leaves nothing to undo. A run that breaks off leaves the four
+//! values as its lines left them, and the closing of the drawers if there was one.
+//!
+//! One value stands for four parameters, so the functions of a run have short signatures.
 ghost use Rattle.std.specs.Prelude.{◌≡◌};
 
 use shelf::Drawers;

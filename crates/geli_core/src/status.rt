@@ -7,7 +7,7 @@ ghost use Rattle.geli_core.specs.Status.{status_number};
 pub enum Status {
     /// The input was read to its end, or one command was given, and nothing was refused.
     Done,
-    /// The same, and some command was refused.
+    /// The input was read to its end, or one command was given, and some command was refused.
     SomeRefused,
     /// The words ask for nothing that the program does.
     BadWords,

@@ -31,7 +31,8 @@ pub fn lines_survive_crashes()
         Run sep old lines new → HoldKeyings old.drawers → EachSurvives sep old lines new }
 {}
 
-/// The same of each drawer that is there after the drawers were closed, whose last step is the flush of that, or none.
+/// Each drawer that is there after a run survives crashes as after its lines (`lines_survive_crashes`). Its last step
+/// is the flush of its closing, if it was flushed.
 pub fn runs_survive_crashes()
     ensures { (entry exit : World) (trace : Trace) → IsTrace entry trace exit → HoldKeyings entry.drawers → EachSurvivesRun entry trace exit }
 {}
@@ -42,7 +43,7 @@ pub fn runs_survive_crashes()
 /// provider may have, and each read that it answers is, logical sector by logical sector, what the writings say that
 /// the image chose from the cells of the run; or the range passes the end, or the disk failed.
 ///
-/// Clause `steps` says it of any steps that endure crashes; `lines` of those of a drawer that is there behind some
+/// Clause `steps` says it of any steps that endure crashes; `lines` of those of a drawer that is there after some
 /// lines, by what is said of it there; and `runs` of those at exit, by what `geli_main`, `run` and `run_images` ensure
 /// of a run.
 pub fn crashed_runs_attach_and_read<D: Disk>()

@@ -25,7 +25,7 @@ use std::alloc::Global;
 
 const USAGE: &[u8] = b"usage: geli script IMAGE... or geli VERB ...\n";
 
-/// Does what the words of the command line ask for, on the disks of the shelf, and prints what is answered.
+/// Does what the words of the command line ask for, on the disks of the shelf, and prints the replies.
 ///
 /// `script` and one to sixteen different names read lines from the input to its end, and each is served and its answer
 /// printed before the next. All other words are one command, and the input isn't read. At the end the drawers are

@@ -24,7 +24,7 @@ fn number_of(sector: &Sector) -> u8 {
 // from the program, in python3.
 const AS_THEY_STAND: [(usize, u8); 5] = [(128, 5), (130, 7), (160, 6), (4088, 7), (4096, 0)];
 
-// The same where the MD5 is made anew behind the change.
+// The ranges of bits whose change is refused with this number if the MD5 is made anew after it.
 const HASHED_ANEW: [(usize, u8); 17] = [
     (128, 5),
     (130, 0),
@@ -55,7 +55,7 @@ fn is_answered(sector: &Sector, ranges: &[(usize, u8)], bit: usize) -> bool {
     false
 }
 
-// The sector with the MD5 of its first 495 bytes behind them.
+// The sector with the MD5 of its first 495 bytes after them.
 fn hashed(sector: &Sector) -> Sector {
     let mut anew = *sector;
     let digest = Md5::digest(&sector[..495]);
@@ -72,7 +72,7 @@ fn flipped(byte: usize, place: u32) -> Sector {
     sector
 }
 
-// A change of the MD5 itself, or of the byte behind it, stays where it is.
+// A change of the MD5 itself, or of the byte after it, stays where it is.
 #[test]
 fn each_bit_is_refused_by_its_table(rt: HostRuntime) {
     for bit in 0..4096usize {

@@ -1,4 +1,4 @@
-//! When the sink and the source are asked: each reply is given before the source is asked for more, and behind its end
+//! When the sink and the source are asked: each reply is given before the source is asked for more, and after its end
 //! or a failure it isn't asked again. No clause orders the calls of two objects, so they share their notes.
 use crate::common::words;
 use block_traits::{Sink, SinkFailed, Source, SourceFailed};

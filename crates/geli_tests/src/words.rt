@@ -30,7 +30,7 @@ fn plain(alloc: Global, text: &str) -> Result<String, Fail> {
     Ok(out)
 }
 
-// Puts so many letters behind the others.
+// Puts so many letters after the others.
 fn push_letters(out: &mut String, letters: usize) -> Result<(), Fail> {
     for _ in 0..letters {
         out.push('a')?;

@@ -1,4 +1,4 @@
--- The names up to a place, and those behind it; and what a run begins with.
+-- The names up to a place, and those after it; and what a run begins with.
 use Rattle.std.proofs.Common.{◌≡◌, Bool, Option, ◌∙◌, ap, sym, subst, ℕ, ◌+◌, ◌<◌, List, [], ◌∷◌, ◌++◌, drop, get_or, length, map, take}
 use Rattle.std.proofs.lemmas.List.{map-append, map_more, take-append-drop}
 use Rattle.block_traits.specs.Cabinet.{CabinetState}

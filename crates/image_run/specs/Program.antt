@@ -45,11 +45,11 @@ abbrev pub changes_by : Option (List (List ℕ)) → Option Command → Bool
 changes_by (Some names) said = true
 changes_by None said = not (reads_alone said)
 
--- the same of the images of the words
+-- whether the images of these words are to be changed
 abbrev pub changes_images : List (List ℕ) → Bool
 changes_images words = changes_by (script_images words) (command_in (line_of words))
 
--- the same by what words say
+-- whether the images are to be changed, by what the words say
 abbrev pub changes_said : Words → Bool
 changes_said (Script names) = true
 changes_said (One line command) = not (reads_alone (Some command))
@@ -78,7 +78,8 @@ module _ {O F : Type 0} {g : Ghosts (FileDisk F)} (o : opener.Ghosts O F) (f : i
     pub told : o.told new ≡ o.told between
     pub asked : AsksDevice o.asked between new
 
-  -- the same of the images that the words name, which are to be changed but where the command only reads
+  -- what the run of these words begins with: the images that they name are opened, to be changed unless the command
+  -- only reads, and then the random bytes
   abbrev pub OpensAll : List (List ℕ) → List (ImageDisk F g) → List FileId → RandomFile F → O → O → Type 0
   OpensAll words disks files random old new = OpensNamed (changes_images words) (image_names words) disks files random old new
 
@@ -94,7 +95,7 @@ module _ {O F : Type 0} (g : Ghosts (FileDisk F)) (o : opener.Ghosts O F) (f : i
   -- the run of the words over drawers with those names, in which just the disks of these images lay, to the drawers
   -- that are left, holds all that is said of runs. The disk of a file alone tells what its file tells. The cabinet has
   -- the files that were told of the names, but for these images, the random bytes are those that were told, and of
-  -- neither anything was asked before; behind the run they are those that are left. `survives`: whatever a power failure
+  -- neither anything was asked before; after the run they are those that are left. `survives`: whatever a power failure
   -- leaves in the file of an image alone that tells its sectors, at any moment of the run, reads as promised, from the
   -- content that the file had when it was opened.
   pub record RunsOverFiles (words : List (List ℕ)) (opener : O) (source : SourceState) (sink : SinkState) (status : Status) (left : List DrawerState) (outside : OutsideState) : Type 0 where

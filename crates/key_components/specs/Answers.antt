@@ -106,7 +106,8 @@ pub record IsAt (taking : Taking) (told : Option Files) (line : List ℕ) (spans
   pub named : span.word ≡ word
   pub served : IfSome told (λ files. first_fault taking files line 0 before ≡ None)
 
--- the same among the passphrase files, which come behind the key files
+-- the word is that of a passphrase file; all key files, and the passphrase files before it, are without fault, where
+-- that is told
 pub record IsOfPassphrases (told : Option Files) (line : List ℕ) (words : KeyWords) (word : ℕ) : Type 0 where
   pub keys : IfSome told (λ files. first_fault key_files files line 0 words.files ≡ None)
   pub at : IsAt passphrase_files told line words.pass word
@@ -125,7 +126,8 @@ MayRefuse named old new (FileTooLong word limit) = (limit ≡ named) × Rose old
 MayRefuse named old new NoMemory = Unit {0}
 MayRefuse named old new refusal = ⊥
 
--- the same of a passphrase file, whose first line may be too long besides: of that the cabinet counts nothing
+-- whether one passphrase file may be refused so: as any file, or because its first line is too long, which the cabinet
+-- doesn't count
 abbrev pub MayRefusePassphrase : CabinetState → CabinetState → Refusal → Type 0
 MayRefusePassphrase old new (FileTooLong word limit) = MayRefuse file_limit old new (FileTooLong word limit) ⊎ (limit ≡ passphrase_limit)
 MayRefusePassphrase old new refusal = MayRefuse file_limit old new refusal

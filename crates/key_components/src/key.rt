@@ -55,7 +55,7 @@ pub fn load_components<C: Cabinet>(
     // Where no file is named nothing is refused.
     ensures named { IfErr result (λ _. 1 ≤ length words.now.files + length words.now.pass) }
 
-    // One file after another is loaded, each once, and none behind the one whose word is named.
+    // One file after another is loaded, each once, and none after the one whose word is named.
     ensures asked { LoadsEach (words.now.files ++ words.now.pass) (C.state files.old) result (C.state files.new) }
 
     // No file changes, and no count falls.

@@ -106,7 +106,7 @@ const DIGESTS: [(Auth, Cipher, u16, &str); 15] = [
 
 const OFFSETS: [u64; 5] = [0, 512, 4_608, 536_870_400, 536_870_912];
 
-/// The same of four whole pieces, each behind the one before it, as the tool prints it.
+/// The digests of the device sectors of four whole pieces, one after another, as tools/piece_digests.py prints them.
 const FOURS: [(Auth, Cipher, u16, &str); 3] = [
     (
         Auth::Sha256,
@@ -128,7 +128,7 @@ const FOURS: [(Auth, Cipher, u16, &str); 3] = [
     ),
 ];
 
-// Two of four pieces that begin here stand before the second range key, and two behind.
+// Two of four pieces that begin here stand before the second range key, and two after.
 const FIRST_OF_FOUR: u64 = 536_869_888;
 
 fn ring_of(
@@ -240,7 +240,7 @@ fn opens_short(rt: &impl Abort, ring: &mut KeyRing, sector: &[u8; 512], want: Op
     answer.is_ok() == want.is_some() && out == [want.unwrap_or(0); 32]
 }
 
-// Behind a short piece stand zeros, at which nobody looks. A turned bit of the piece is told.
+// After a short piece stand zeros, at which nobody looks. A turned bit of the piece is told.
 #[test]
 fn a_short_piece(rt: HostRuntime) -> Result<(), Fail> {
     let mut ring = ring_of(&rt, rt.alloc(), Auth::Sha256, Cipher::AesXts, 128)?;

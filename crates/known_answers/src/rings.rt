@@ -302,7 +302,7 @@ fn vectors_and_tag_keys(rt: HostRuntime) -> Result<(), Fail> {
 }
 
 // The numbers of 0 to 16 whose range keys a ring keeps, each as the bit of its place. The ring has logical sectors of
-// 512 bytes, so each number begins 2^29 bytes behind the one before it.
+// 512 bytes, so each number begins 2^29 bytes after the one before it.
 fn kept(ring: &KeyRing) -> u32 {
     let mut bits = 0;
     for number in 0..17u32 {

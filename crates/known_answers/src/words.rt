@@ -21,7 +21,7 @@ fn meaning(sign: u8) -> (u8, usize) {
     }
 }
 
-// Puts so many of a byte behind the others.
+// Puts so many of a byte after the others.
 fn push_times(bytes: &mut Vec<u8>, byte: u8, count: usize) -> Result<(), Fail> {
     for _ in 0..count {
         bytes.push(byte)?;

@@ -32,7 +32,7 @@ wish_of words = Other
 
 -- ---- a provider to attach
 
--- the words of `geli attach` with these behind it
+-- the words of `geli attach` with these after it
 abbrev pub attach_words : List (List ℕ) → List (List ℕ)
 attach_words words = codes "attach" ∷ words
 
@@ -46,7 +46,7 @@ abbrev pub attaches_readonly : Command → Bool
 attaches_readonly (commands.Attach prov only_check readonly slot old) = readonly
 attaches_readonly command = false
 
--- behind `attach` the words are a command that attaches, in this line, and this is the name of its image
+-- after `attach` the words are a command that attaches, in this line, and this is the name of its image
 pub record AsksToAttach (words : List (List ℕ)) (name line : List ℕ) (command : Command) : Type 0 where
   pub spelled : line ≡ line_of (attach_words words)
   pub reads : command_in line ≡ Some command

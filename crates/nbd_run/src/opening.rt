@@ -56,7 +56,7 @@ fn open_named<O: Opener + Drop>(
     }
 }
 
-/// The same of the image that is asked for, to be changed unless it is attached read-only.
+/// Opens the image that is asked for, to be changed unless it is attached read-only, and the random bytes.
 pub(crate) fn open_asked<O: Opener + Drop>(
     alloc: Global,
     opener: O,

@@ -61,7 +61,7 @@ after-then c steps more =
 
 -- ---- one exchange
 
--- behind some steps, of which each has a lower number, an exchange that was answered so did these
+-- after some steps, of which each has a lower number, an exchange that was answered so did these
 record Did (error : ReplyError) (kind : RequestKind) (n : ℕ) (k : Keying) (x : Exchange) (steps : List Step) (c : Content) : Type 0 where
   pub deed : Deed
   pub by : DidBy error kind n k (after steps c) x deed
@@ -125,7 +125,7 @@ fails-none {d} {new} fails = let none : take fails.count [] ≡ [] = take-none f
 
 -- ---- by kind
 
--- the steps of a write fit behind others
+-- the steps of a write fit after others
 write-fits : (n : ℕ) (k : Keying) (x : Exchange) (steps : List Step) (whole : List ℕ) → AreStepsBelow n steps → IsKeying k
     → sectors_covered k (range_of x.request) * k.sectorsize ≡ length whole → AreBytes whole → AreStepsBelow (n + 1) (steps ++ steps_of_write n k x.request whole)
 write-fits n k x steps whole below is size are =

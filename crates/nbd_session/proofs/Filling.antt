@@ -1,4 +1,4 @@
--- Bytes that a source gave, one piece behind another.
+-- Bytes that a source gave, one piece after another.
 use Rattle.std.proofs.Common.{◌≡◌, ◌∙◌, ℕ, ◌+◌, ◌<◌, ◌≤◌, List, [], ◌++◌, length, take, Err, refl, ap, sym, subst, arith, append_assoc, append-nil, length-take-le, Option, None, Some}
 use Rattle.std.proofs.Math.Seq.{take-append-add}
 use Rattle.std.proofs.lemmas.List.{take-append-le}

@@ -94,7 +94,7 @@ stands-plain P k j reading lt st = (λ i. get_or (units_in (st.keying i) st.unit
 stands-rest : (P : Writing → Type 0) (k : Keying) (j : ℕ) (reading : Result (List ℕ) ℕ) → j < units k → (st : Stands P k j reading) → drop 16 (opened_bytes reading) ≡ drop 16 (part (unit_bytes_of k.auth) j st.unit.bytes)
 stands-rest P k j reading lt st = ap (λ (r : Result (List ℕ) ℕ). drop 16 (opened_bytes r)) st.reads.is ∙ st.reads.rest ∙ ap (drop 16) (stands-plain P k j reading lt st)
 
--- some of its bytes, which begin behind the first 16 where these may be lost
+-- some of its bytes, which begin after the first 16 where these may be lost
 record SameThere (f whole : List ℕ) (s n : ℕ) : Type 0 where
   reach : s + n ≤ length f
   same : take n (drop s f) ≡ take n (drop s whole)

@@ -210,7 +210,7 @@ own-flush kinds.Flush x bytes h flushes = absurd h
 own-flush kinds.Unknown x bytes h flushes = absurd h
 own-flush kinds.Disconnect x bytes h flushes = absurd h
 
--- where a part of a range lies among the sectors of the range: so many sectors before it, and so many behind it
+-- where a part of a range lies among the sectors of the range: so many sectors before it, and so many after it
 pub record Lies (k : Keying) (r part : ByteRange) (lead rest : ℕ) : Type 0 where
   pub first : first_sector k r + lead ≡ first_sector k part
   pub count : sectors_covered k r ≡ lead + (sectors_covered k part + rest)
@@ -291,7 +291,7 @@ cut_out lead skip n reach d more all whole bytes place fits inside are =
 three : (a b c d : List Step) → (a ++ (b ++ c)) ++ d ≡ a ++ (b ++ (c ++ d))
 three a b c d = simp append_assoc
 
--- it stands behind these steps, and what follows has a flush and leaves the part alone
+-- it stands after these steps, and what follows has a flush and leaves the part alone
 stands : (number : ℕ) (k : Keying) (q : Request) (part : ByteRange) (bytes whole : List ℕ) (c : Content) (earlier tail : List Step) (image : List (List ℕ)) → IsKeying k → IsOfWrite k (after earlier c) q bytes whole
     → IsPartOf part (range_of q) → IsQuiet k (first_sector k part) (sectors_covered k part) tail → HaveFlush tail
     → IsTorn (after (earlier ++ (data_steps number k (first_sector k (range_of q)) (sectors_covered k (range_of q)) whole ++ tail)) c) image

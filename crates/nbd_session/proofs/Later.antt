@@ -206,7 +206,7 @@ given-matches (x ∷ xs) (d ∷ ds) number k left sector j w (inl h) =
     (record { number = number; keying = k; sector = sector; bytes = sector_given k (range_of x.request) d sector; unit = j }, record { is = h.is; keying = refl; of_sector = refl; unit = refl })
 given-matches (x ∷ xs) (d ∷ ds) number k left sector j w (inr h) = given-matches xs ds (number + 1) k (left - length (exchange_steps number k x d)) sector j w h
 
--- the deeds of the write and of those behind it
+-- the deeds of the write and of those after it
 deeds_since : (k : Keying) (xs : List Exchange) (c : Content) (new : DiskState) (s : Survives k xs c new) (x : Exchange) (bytes : List ℕ) (a : IsFlushedWrite xs x bytes)
     → (before : Content) × (content_media k before ≡ content_media k c) × DidEach (length a.before) k before (x ∷ (a.between ++ a.since)) (drop (length a.before) s.deeds)
 deeds_since k xs c new s x bytes a =

@@ -19,7 +19,7 @@ use Rattle.readings.proofs.Survivors.{All-last}
 use Rattle.sealing.specs.Sectors.{unit_place, units}
 use Rattle.nbd_session.proofs.Settling.{HaveFlush}
 
--- ---- what may stand in a cell behind a flush
+-- ---- what may stand in a cell after a flush
 
 -- what is new in one more step, which may be here
 one-more : {X : Type 0} (P : X → Type 0) (here : Bool) (x : X) (later now : List X) → All P (cond here (x ∷ later) later) → 0 < length now → All P now

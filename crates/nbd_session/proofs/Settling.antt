@@ -247,7 +247,7 @@ pub data-same : (k : Keying) (first count : ℕ) (c d : Content) → ((n : ℕ) 
     → data_reading k c first count ≡ data_reading k d first count
 data-same k first count c d same = ap joined (sectors-same count k first c d same)
 
--- behind a flush one writing alone is in a cell, and stays there while nothing else is placed
+-- after a flush one writing alone is in a cell, and stays there while nothing else is placed
 pub stays-alone : (c : Content) (earlier later : List Step) (n : ℕ) → placed_at later n ≡ []
     → (w : Writing) × (cell c ((earlier ++ Flush ∷ []) ++ later) n ≡ w ∷ []) × (cell c (earlier ++ Flush ∷ []) n ≡ w ∷ [])
 stays-alone c earlier later n quiet =

@@ -83,7 +83,7 @@ WroteBy kinds.Write x bytes = bytes ≡ x.payload
 WroteBy kinds.WriteZeroes x bytes = bytes ≡ zeros_of x.request
 WroteBy kind x bytes = ⊥
 
--- Of a session's exchanges one is a write of these bytes that was done, and it or one of those just behind it has
+-- One of a session's exchanges is a write of these bytes that was done, and it or one of those just after it has
 -- flushed. None of these and none of the rest wrote the sectors of this part of its range again.
 pub record IsAcknowledged (k : Keying) (xs : List Exchange) (x : Exchange) (bytes : List ℕ) (part : ByteRange) : Type 0 where
   pub before : List Exchange
@@ -124,7 +124,7 @@ ReadsLasting k xs c deeds = (x : Exchange) (bytes : List ℕ) (part : ByteRange)
 
 -- ---- what may have been written again
 
--- Of a session's exchanges one is a write of these bytes that was done, and it or one of those just behind it has
+-- One of a session's exchanges is a write of these bytes that was done, and it or one of those just after it has
 -- flushed. What all others wrote, and where, is left open.
 pub record IsFlushedWrite (xs : List Exchange) (x : Exchange) (bytes : List ℕ) : Type 0 where
   pub before : List Exchange
@@ -165,7 +165,7 @@ OneHasGiven number k xs ds left sector j w = ⊥
 abbrev pub steps_left : (k : Keying) (xs : List Exchange) (x : Exchange) (bytes : List ℕ) → IsFlushedWrite xs x bytes → List Deed → ℕ → ℕ
 steps_left k xs x bytes a deeds t = t - length (session_steps 0 k a.before deeds)
 
--- the write that was flushed did, or one behind it, by the first t steps of the session
+-- the write that was flushed did, or one after it, by the first t steps of the session
 abbrev pub IsGivenSince : (k : Keying) (xs : List Exchange) (x : Exchange) (bytes : List ℕ) → IsFlushedWrite xs x bytes → List Deed → ℕ → ℕ → ℕ → Writing → Type 0
 IsGivenSince k xs x bytes a deeds t sector j w =
     OneHasGiven (length a.before) k (x ∷ (a.between ++ a.since)) (drop (length a.before) deeds) (steps_left k xs x bytes a deeds t) sector j w
@@ -229,7 +229,7 @@ OneHasGivenBytes number k (x ∷ xs) (d ∷ ds) left part got =
     ⊎ OneHasGivenBytes (number + 1) k xs ds (left - length (exchange_steps number k x d)) part got
 OneHasGivenBytes number k xs ds left part got = ⊥
 
--- the write that was flushed did, or one behind it, by the first t steps of the session
+-- the write that was flushed did, or one after it, by the first t steps of the session
 abbrev pub IsGivenPart : (k : Keying) (xs : List Exchange) (x : Exchange) (bytes : List ℕ) → IsFlushedWrite xs x bytes → List Deed → ℕ → ByteRange → List ℕ → Type 0
 IsGivenPart k xs x bytes a deeds t part got =
     OneHasGivenBytes (length a.before) k (x ∷ (a.between ++ a.since)) (drop (length a.before) deeds) (steps_left k xs x bytes a deeds t) part got
@@ -259,7 +259,7 @@ ReadsLastingOrLater k xs c deeds = (x : Exchange) (bytes : List ℕ) (part : Byt
 
 -- ---- what a flush found
 
--- one of a session's exchanges has flushed, and none behind it wrote the sectors of this range
+-- one of a session's exchanges has flushed, and none after it wrote the sectors of this range
 pub record IsKeptSince (k : Keying) (xs : List Exchange) (flush : Exchange) (r : ByteRange) : Type 0 where
   pub before : List Exchange
   pub since : List Exchange
@@ -307,8 +307,8 @@ AttachesLastingOrLater {D} state k xs c deeds = (x : Exchange) (bytes : List ℕ
 
 -- ---- a session that was closed
 
--- of a session's exchanges one is a write of these bytes that was done, and none behind it wrote the sectors of this part
--- of its range again
+-- one of a session's exchanges is a write of these bytes that was done, and none after it wrote the sectors of this
+-- part of its range again
 pub record IsLastWritten (k : Keying) (xs : List Exchange) (x : Exchange) (bytes : List ℕ) (part : ByteRange) : Type 0 where
   pub before : List Exchange
   pub later : List Exchange
@@ -318,7 +318,7 @@ pub record IsLastWritten (k : Keying) (xs : List Exchange) (x : Exchange) (bytes
   pub part_is : IsPartOf part (range_of x.request)
   pub alone : AllByRecursion (LeavesAlone k part) later
 
--- once the disk was flushed behind all of them, each such part reads as its bytes there in every torn image
+-- once the disk was flushed after all of them, each such part reads as its bytes there in every torn image
 abbrev pub LastsClosed : Keying → List Exchange → Content → List Deed → Type 0
 LastsClosed k xs c deeds = (x : Exchange) (bytes : List ℕ) (part : ByteRange) → IsLastWritten k xs x bytes part → (image : List (List ℕ)) →
     IsTorn (after (session_steps 0 k xs deeds ++ Flush ∷ []) c) image →

@@ -107,7 +107,7 @@ pub record IsLastAnswered (client : ClientFlags) (os : List ClientOption) : Type
   pub lead : LeadTo client last os
   pub some : 0 < length os
 
--- why no more options are answered behind these, and which bytes were taken behind them
+-- why no more options are answered after these, and which bytes were taken after them
 abbrev pub EndsOptions : End → ClientFlags → List ClientOption → List ℕ → SourceState → SourceState → Type 0
 EndsOptions Closed client os bytes source rest =
     (LeadTo client Ending os × (bytes ≡ [])) ⊎ (LeadTo client More os × StopsOptions Closed client bytes source rest)
@@ -116,7 +116,7 @@ EndsOptions WriteFault client os bytes source rest = IsLastAnswered client os ×
 EndsOptions Malformed client os bytes source rest =
     LeadTo client More os × (StopsOptions Malformed client bytes source rest ⊎ ((limit ≤ length os) × (bytes ≡ [])))
 
--- requests follow these options; or the session ends, and these bytes were taken behind them
+-- requests follow these options; or the session ends, and these bytes were taken after them
 abbrev pub LeadOn : Result (Unit {0}) End → ClientFlags → List ClientOption → List ℕ → SourceState → SourceState → Type 0
 LeadOn (Ok done) client os bytes source rest = LeadTo client Serving os × (bytes ≡ [])
 LeadOn (Err end) client os bytes source rest = EndsOptions end client os bytes source rest

@@ -67,7 +67,7 @@ told code export =
     option_reply code replies.Info (export_info export)
     ++ (option_reply code replies.Info (block_size_info export) ++ bare_reply code replies.Acknowledged)
 
--- the export, as NBD_OPT_EXPORT_NAME is answered; a client may do without the zeros behind it
+-- the export, as NBD_OPT_EXPORT_NAME is answered; a client may do without the zeros after it
 abbrev pub plain_answer : Export → ClientFlags → List ℕ
 plain_answer export client = if client.no_zeroes then take 10 (plain_export export) else plain_export export
 

@@ -18,14 +18,14 @@ pub record ServedSoFar (side : Side) (many : ℕ) (old new : DiskState) (source 
   pub gave : TookAll (concat (map reply_of exchanges)) sink after
   pub noted : denied ≡ list_any is_denied exchanges
 
--- why no more are served behind these, and which bytes were taken behind them
+-- why no more are served after these, and which bytes were taken after them
 abbrev pub EndsRun : End → List Exchange → List ℕ → SourceState → SourceState → Type 0
 EndsRun Closed xs bytes source rest = Stops (Err Closed) bytes source rest ⊎ ((limit ≤ length xs) × (bytes ≡ []))
 EndsRun ReadFault xs bytes source rest = Stops (Err ReadFault) bytes source rest
 EndsRun WriteFault xs bytes source rest = (0 < length xs) × (bytes ≡ [])
 EndsRun Malformed xs bytes source rest = Stops (Err Malformed) bytes source rest
 
--- Just these requests were taken, and the bytes of none that could be served stand behind them. Each was served on the
+-- Just these requests were taken, and the bytes of none that could be served stand after them. Each was served on the
 -- disk that the one before it left, and answered; where the sink failed, it was in the answer to the last.
 -- Whether one of them was denied.
 pub record ServesRun (side : Side) (old new : DiskState) (source rest : SourceState) (sink : SinkState) (end : End) (after : SinkState) (denied : Bool) : Type 0 where

@@ -43,13 +43,13 @@ pub record EndsUnknown (end : End) (t : Talk) (source rest : SourceState) : Type
   pub exchanges : t.exchanges ≡ []
   pub bare : t.rest ≡ []
 
--- at one of its options, or behind the last
+-- at one of its options, or after the last
 pub record EndsAtOptions (end : End) (t : Talk) (source rest : SourceState) : Type 0 where
   pub client : IsClient t.flags t.client
   pub ends : EndsOptions end t.client t.options t.rest source rest
   pub exchanges : t.exchanges ≡ []
 
--- at one of its requests, or behind the last
+-- at one of its requests, or after the last
 pub record EndsAtRequests (end : End) (t : Talk) (source rest : SourceState) : Type 0 where
   pub client : IsClient t.flags t.client
   pub options : LeadTo t.client Serving t.options

@@ -1,4 +1,4 @@
--- Why no more requests of a client are served, and which bytes were taken behind those that were.
+-- Why no more requests of a client are served, and which bytes were taken after those that were.
 use Rattle.std.specs.Prelude.{◌≡◌, ◌⊎◌, ℕ, ◌<◌, ◌≤◌, List, ◌++◌, length, Result, Ok, Err, Some}
 use Rattle.std.specs.Io.KnownBytes.{IsAtEnd}
 use Rattle.block_traits.specs.Causes.{Rose}

@@ -54,7 +54,7 @@ GivesTexts Closed texts old new = TookAll (concat texts) old new
 GivesTexts ReadFault texts old new = TookAll (concat texts) old new
 GivesTexts Malformed texts old new = TookAll (concat texts) old new
 
--- the same where the session may go on
+-- these texts were given, and the session goes on, or it ended so
 abbrev pub GivesOn : Result (Unit {0}) End → List (List ℕ) → SinkState → SinkState → Type 0
 GivesOn (Ok done) texts old new = TookAll (concat texts) old new
 GivesOn (Err end) texts old new = GivesTexts end texts old new

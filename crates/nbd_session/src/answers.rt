@@ -40,7 +40,7 @@ fn give_bare<K: Sink>(code: u32, reply: OptionReply, output: &mut K) -> Result<(
     give_all(&option_reply_head(code, reply, 0), output)
 }
 
-// The export, without a reply's head; the zeros behind it are for a client that wants them.
+// The export, without a reply's head; the zeros after it are for a client that wants them.
 fn give_export<K: Sink>(export: &Export, client: &ClientFlags, output: &mut K) -> Result<(), End>
     ensures { GivesBytes (plain_answer export.now client.now) (K.state output.old) result (K.state output.new) }
 {

@@ -45,7 +45,7 @@ pub fn acknowledged_writes_last_or_later<D: Disk>()
 
 /// What a flush found stands: if power fails when the flush was answered, or at any moment later, each range whose sectors
 /// weren't written since reads in every torn image that is left as it read then. The content then is what the flush's
-/// exchange left (`DidIts`, which `Survives` has of each), of which the reads before and behind it were answered.
+/// exchange left (`DidIts`, which `Survives` has of each), of which the reads before and after it were answered.
 pub fn flushed_ranges_keep()
     ensures { (k : Keying) (xs : List Exchange) (c : Content) (new : DiskState) → IsKeying k → (s : Survives k xs c new) → KeepsIn k xs c s.deeds }
 {}

@@ -22,7 +22,7 @@ pub enum Outcome {
     Ending,
 }
 
-/// Greets a client and answers its options, until it wants the export to be served. It may have any name.
+/// Greets a client and replies to its options, until it wants the export to be served. It may have any name.
 pub fn negotiate<S: Source, K: Sink>(
     input: &mut S,
     output: &mut K,
@@ -72,7 +72,7 @@ fn answer_options<S: Source, K: Sink>(
     Err(End::Malformed)
 }
 
-// Takes an option and answers it.
+// Takes an option and replies to it.
 fn answer_option<S: Source, K: Sink>(
     input: &mut S,
     output: &mut K,

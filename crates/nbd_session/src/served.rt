@@ -19,8 +19,8 @@ use provider::Provider;
 /// The most bytes of a request.
 pub const MOST: u32 = 33_554_432;
 
-/// Takes a request and answers it. It gives whether the session goes on, and whether this was a write, a request for
-/// zeros or a flush that was answered with an error.
+/// Takes a request and replies to it. It returns whether the session goes on, and whether this was a write, a request
+/// for zeros or a flush that was answered with an error.
 pub fn serve_request<D: Disk, S: Source, K: Sink>(
     provider: &mut Provider<D>,
     room: &mut [u8],
@@ -157,7 +157,7 @@ fn may_read<D: Disk>(provider: &Provider<D>, request: &Request) -> bool
     has_range(provider, &range_of(request))
 }
 
-// Gives the head of a reply and the bytes behind it, which stand in the room from `start + 16` on.
+// Gives the head of a reply and the bytes after it, which stand in the room from `start + 16` on.
 fn give_bytes<K: Sink>(
     room: &mut [u8],
     start: usize,
@@ -298,7 +298,7 @@ fn write_room<D: Disk>(
     ReplyError::Done
 }
 
-// Serves a request for zeros, behind which no bytes come.
+// Serves a request for zeros, after which no bytes come.
 fn serve_zeros<D: Disk, K: Sink>(
     provider: &mut Provider<D>,
     room: &mut [u8],

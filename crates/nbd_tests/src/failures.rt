@@ -38,7 +38,7 @@ const CALLS: [(u64, u64, u64); 25] = [
     (1, 0, 0),
 ];
 
-// Calls of each kind that making a provider takes: none reads, the metadata is written, and flushed before and behind.
+// Calls of each kind that making a provider takes: none reads, the metadata is written, and flushed before and after.
 const MADE: (u64, u64, u64) = (0, 1, 2);
 
 fn of_kind(calls: (u64, u64, u64), kind: CallKind) -> u64 {
@@ -98,7 +98,7 @@ impl Failing {
     fn is_answered(&self, alloc: Global, place: &mut Place) -> Result<bool, Fail> {
         let mut output = MemSink::new(alloc, &[], &[], 8192)?;
         let outcome = self.outcome(alloc, place, &mut output)?;
-        // Behind the negotiation.
+        // After the negotiation.
         let mut at: usize = 104;
         let mut before: u64 = 0;
         let mut events: u64 = 4;

@@ -80,7 +80,7 @@ fn a_session_begins_as_nbdkits(rt: HostRuntime) -> Result<(), Fail> {
 }
 
 // The options of the client that asks: structured replies, the exports, what one is by no name and by another, and to be
-// served. Each stands behind the one before it, with so many bytes of data.
+// served. Each stands after the one before it, with so many bytes of data.
 const OPTIONS: [(usize, u32, u32); 5] = [
     (4, 8, 0),
     (20, 3, 0),
@@ -104,7 +104,7 @@ fn options_are_those_of_libnbd(rt: HostRuntime) -> Result<(), Fail> {
     Ok(())
 }
 
-// What answers them: each stands behind the one before it.
+// What answers them: each stands after the one before it.
 const ANSWERS: [(usize, u32, OptionReply, u32); 8] = [
     (18, 8, OptionReply::Unsupported, 0),
     (38, 3, OptionReply::Server, 4),

@@ -80,7 +80,7 @@ impl Client {
     }
 }
 
-// What a client was answered behind the negotiation, why the session ended, and the events since the provider was attached.
+// What a client was answered after the negotiation, why the session ended, and the events since the provider was attached.
 #[derive(Drop)]
 struct Answer {
     end: End,
@@ -246,7 +246,7 @@ fn of_the_second_sector(alloc: Global, size: u32) -> Result<Client, Fail> {
 }
 
 // Under a code for integrity a sector that was never written has no tag: it can't be read, and so not written in part.
-// Once it was written whole it can; the one behind it still can't.
+// Once it was written whole it can; the one after it still can't.
 #[test]
 fn sectors_that_were_never_written(rt: HostRuntime) -> Result<(), Fail> {
     let alloc = rt.alloc();
@@ -301,7 +301,7 @@ const LIST: u32 = 3;
 const STRANGE: u32 = 99;
 
 // Flags that aren't known, another magic number, too much data, and an option of a client that takes no answers: none of them
-// is answered behind the greeting. What has as much data as is taken is.
+// is answered after the greeting. What has as much data as is taken is.
 #[test]
 fn what_ends_the_negotiation(rt: HostRuntime) -> Result<(), Fail> {
     let alloc = rt.alloc();

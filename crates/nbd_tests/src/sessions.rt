@@ -122,8 +122,8 @@ fn answered_to(taken: usize) -> usize {
     answered
 }
 
-// The same of the client without fixed newstyle that wants no zeros: what it says of itself and its one option, a write of
-// 16 bytes, and a read of as many.
+// How many bytes are sent in reply to the first `taken` bytes of the client without fixed newstyle that wants no zeros:
+// what it says of itself and its one option, a write of 16 bytes, and a read of as many.
 fn answered_by_name(taken: usize) -> usize {
     if taken < 20 {
         return 18;

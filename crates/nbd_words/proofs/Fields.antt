@@ -12,7 +12,7 @@ use Rattle.nbd_words.specs.declared.transmission.Request.{Request}
 pub number-first : (n x : ℕ) (rest : List ℕ) → x < 256 ^ n → big_number_at (big_bytes n x ++ rest) 0 n ≡ x
 number-first n x rest small = big_from-take 0 n n (big_bytes n x ++ rest) (omega arith) ∙ big_number-reads_back n x rest small
 
--- a number behind another
+-- a number after another
 pub number-next : (m x place n : ℕ) (rest : List ℕ) → big_number_at (big_bytes m x ++ rest) (m + place) n ≡ big_number_at rest place n
 number-next m x place n rest =
     ap (λ (at : ℕ). big_from 0 n (take n (drop (at + place) (big_bytes m x ++ rest)))) (sym (length-bytes_high_first m x))

@@ -57,7 +57,7 @@ option_reply_number replies.Info = 3
 option_reply_number replies.Unsupported = 2 ^ 31 + 1
 option_reply_number replies.Invalid = 2 ^ 31 + 3
 
--- the head of a reply to an option of this code, with so many bytes of data behind it
+-- the head of a reply to an option of this code, with so many bytes of data after it
 abbrev pub option_reply_head : ℕ → OptionReply → ℕ → List ℕ
 option_reply_head code reply size =
     big_bytes 8 0x3e889045565a9 ++ (big_bytes 4 code ++ (big_bytes 4 (option_reply_number reply) ++ big_bytes 4 size))

@@ -47,7 +47,7 @@ pub fn option_replies_read_back()
         → option_reply_in (option_reply_head code reply size) ≡ Some (record { code = code; reply = reply; length = size }) }
 {}
 
-/// What is told of an export is read back from its bytes, in each of its three forms.
+/// What a client is told of an export is read back from its bytes, in each of its three forms.
 pub fn exports_read_back()
     ensures info { (export : Export) → HasExportInRange export → export_info_in (export_info export) ≡ Some (record { size = export.size; flags = export.flags }) }
     ensures sizes { (export : Export) → HasExportInRange export

@@ -28,7 +28,7 @@ const READ_ONLY: u16 = 2;
 pub struct ClientFlags {
     /// `NBD_FLAG_C_FIXED_NEWSTYLE`: it knows that each option is answered.
     pub fixed_newstyle: bool,
-    /// `NBD_FLAG_C_NO_ZEROES`: it wants no zeros behind the answer to `NBD_OPT_EXPORT_NAME`.
+    /// `NBD_FLAG_C_NO_ZEROES`: it wants no zeros after the reply to `NBD_OPT_EXPORT_NAME`.
     pub no_zeroes: bool,
 }
 
@@ -73,7 +73,7 @@ pub enum OptionReply {
     Invalid,
 }
 
-/// What is told of an export.
+/// What a client is told of an export.
 #[derive(Clone, Copy, Debug, PartialEq, Eq)]
 pub struct Export {
     /// Its bytes.

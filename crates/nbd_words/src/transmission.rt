@@ -19,9 +19,9 @@ const NO_HOLE: u16 = 2;
 /// A request, but for the bytes of a write (doc/proto.md, "Request message").
 #[derive(Clone, Copy, Debug, PartialEq, Eq)]
 pub struct Request {
-    /// Its flags: `flags_limit` tells which one of its kind may have.
+    /// Its flags: `flags_limit` says which ones a request of its kind may have.
     pub flags: u16,
-    /// What is asked for, as `request_kind` tells.
+    /// What is asked for, as `request_kind` says.
     pub code: u16,
     /// What its reply is known by.
     pub cookie: u64,
@@ -48,7 +48,7 @@ pub enum RequestKind {
     Unknown,
 }
 
-/// What a reply answers (doc/proto.md, "Error values").
+/// The error of a reply, or none (doc/proto.md, "Error values").
 #[derive(Clone, Copy, Debug, PartialEq, Eq)]
 pub enum ReplyError {
     /// It was done.

@@ -88,7 +88,7 @@ ReadsFrom-both (Some c) now k sector m n a b same h g =
     let here : data_reading k c (sector + m) n ≡ Ok b = subst (λ (told : Option Content). ReadsFrom told k (sector + m) n (Ok b)) same g in
     ap joined (sector_readings-more k c sector m n) ∙ joined-both (sector_readings k c sector m) (sector_readings k c (sector + m) n) a b h here
 
--- bytes of m sectors, a fault among n more, and others behind them
+-- bytes of m sectors, a fault among n more, and others after them
 ReadsFrom-fault : (told now : Option Content) (k : Keying) (sector m n rest : ℕ) (a : List ℕ) (offset : ℕ) → now ≡ told → ReadsFrom told k sector m (Ok a) → ReadsFrom now k (sector + m) n (Err offset)
     → ReadsFrom told k sector (m + n + rest) (Err offset)
 ReadsFrom-fault None now k sector m n rest a offset same h g = tt
@@ -98,9 +98,9 @@ ReadsFrom-fault (Some c) now k sector m n rest a offset same h g =
     ap joined (sector_readings-more k c sector m n) ∙ joined-behind (sector_readings k c sector m) (sector_readings k c (sector + m) n) a offset h here in
     ap joined (sector_readings-more k c sector (m + n) rest) ∙ joined-front (sector_readings k c sector (m + n)) (sector_readings k c (sector + (m + n)) rest) offset both
 
--- ---- faults, behind sectors that were read
+-- ---- faults, after sectors that were read
 
--- the first fault of n sectors, behind m that were read, is that of them all and of those behind them
+-- the first fault of n sectors, after m that were read, is that of them all and of those after them
 pub RunFault-behind : (k : Keying) (sector m n rest offset : ℕ) (a : List ℕ) (first middle last : DiskState) → Counted (m * units k) first.reads middle.reads → Logs [] first middle → ReadsAs first k sector m (Ok a)
     → RunFault k (sector + m) n offset middle last → RunFault k sector (m + n + rest) offset first last
 RunFault-behind k sector m n rest offset a first middle last asked logs so fault = record {
@@ -132,7 +132,7 @@ accepted_behind (Some c) now k sector m passed unit a same so accepted =
     let at : sector + m + passed ≡ sector + (m + passed) = omega arith in
     (read_on k c sector m passed a (data_reading k c (sector + m) passed) so refl here.0, subst (λ (s : ℕ). AreAccepted k c s unit) at here.1)
 
--- the device failed in n sectors, behind m that were read
+-- the device failed in n sectors, after m that were read
 pub RunFails-behind : (k : Keying) (sector m n rest : ℕ) (a : List ℕ) (first middle last : DiskState) → Counted (m * units k) first.reads middle.reads → Logs [] first middle → ReadsAs first k sector m (Ok a)
     → RunFails k (sector + m) n middle last → RunFails k sector (m + n + rest) first last
 RunFails-behind k sector m n rest a first middle last asked logs so fails = record {

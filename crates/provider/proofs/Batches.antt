@@ -17,7 +17,7 @@ use Rattle.provider.proofs.Adjoining.{ReadsFrom-both, RunFails-behind, RunFault-
 
 -- ---- where they stand
 
--- the bytes of so many, behind others
+-- the bytes of so many, after others
 pub batch_length : (size many wide i : ℕ) (bytes : List ℕ) → wide ≡ many * size → (i + many) * size ≤ length bytes → length (take wide (drop (i * size) bytes)) ≡ many * size
 batch_length size many wide i bytes broad room =
     length-take-le wide (drop (i * size) bytes) (omega (arith, length-drop (i * size) bytes, room, broad)) ∙ broad
@@ -36,7 +36,7 @@ batch_fits k now size many most wide i width buffer bytes kept some broad room w
 
 -- ---- what is read
 
--- a fault behind those that were read
+-- a fault after those that were read
 pub batch_fault : (fault : ReadFault) (first middle last : DiskState) (k now : Keying) (sector done many count : ℕ) (front block bytes : List ℕ) → now ≡ k
     → Counted (done * units k) first.reads middle.reads → Logs [] first middle → done + many ≤ count → ReadsAs first k sector done (Ok front)
     → RunAnswers now (sector + done) many middle last block (Err fault) → RunAnswers k sector count first last bytes (Err fault)
@@ -52,7 +52,7 @@ batch_fault (Integrity offset) first middle last k now sector done many count fr
     let all : done + many + (count - (done + many)) ≡ count = omega arith in
     subst Q all (RunFault-behind k sector done many (count - (done + many)) offset front first middle last asked logs so (subst P same gives))
 
--- bytes behind those that were read
+-- bytes after those that were read
 pub batch_reads : (told now_told : Option Content) (k now : Keying) (sector done many size wide : ℕ) (into block : List ℕ) → now ≡ k → now_told ≡ told → length block ≡ many * size
     → done * size ≤ length into → ReadsFrom told k sector done (Ok (take (done * size) into)) → ReadsFrom now_told now (sector + done) many (Ok block)
     → ReadsFrom told k sector (done + many) (Ok (take ((done + many) * size) (put_mid (done * size) wide into block)))

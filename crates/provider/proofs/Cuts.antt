@@ -30,7 +30,7 @@ parts-front (suc n) xs ys e =
     let others = parts-front n (drop 512 xs) (drop 512 ys) (sym (drop-take 512 (512 * n) xs) ∙ ap (drop 512) all ∙ drop-take 512 (512 * n) ys) in
     λ i. first i ∷ others i
 
--- parts that are put behind others
+-- parts that are put after others
 pub parts-put-some : (n m k : ℕ) (xs ys : List ℕ) → length ys ≡ 512 * m → 512 * n ≤ length xs → parts 512 (n + m) (put_mid (512 * n) k xs ys) ≡ parts 512 n xs ++ parts 512 m ys
 parts-put-some n m k xs ys len room =
     let now : List ℕ = put_mid (512 * n) k xs ys in

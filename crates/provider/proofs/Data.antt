@@ -60,7 +60,7 @@ sealed-front k sector (suc m) bytes =
     (λ i. seal k sector (first i) ++ sealed_sectors k (sector + 1) m (rest i))
     ∙ ap (λ (l : List (List ℕ)). seal k sector (take S bytes) ++ l) (sealed-front k (sector + 1) m (drop S bytes))
 
--- some are put behind those before them
+-- some are put after those before them
 pub sealed_some : (k now : Keying) (sector n m last size width wide from room : ℕ) (bytes out block : List ℕ) → now ≡ k → size ≡ k.sectorsize → last ≡ n + m → wide ≡ m * size → width ≡ 512 * units k → from ≡ n * width
     → length block ≡ m * width → n * width ≤ length out → parts 512 (m * units now) block ≡ sealed_sectors now (sector + n) m (take wide (drop (n * size) bytes))
     → parts 512 (n * units k) out ≡ sealed_sectors k sector n bytes → parts 512 (last * units k) (put_mid from room out block) ≡ sealed_sectors k sector last bytes
@@ -170,7 +170,7 @@ pub opened_all_of : (k : Keying) (sector i count size : ℕ) (device : List (Lis
 opened_all_of k sector i count size device out end all so =
     ap (λ (c : ℕ). opened_data k sector c device) (sym end) ∙ so ∙ ap (λ (c : ℕ). Ok (take (c * size) out)) end ∙ ap Ok (take_all (count * size) out all)
 
--- the bytes behind a logical sector that is opened in place stand as they did
+-- the bytes after a logical sector that is opened in place stand as they did
 pub rest_next : (i size width : ℕ) (now all block : List ℕ) → width ≡ size → length block ≡ width → i * size + size ≤ length now → drop (i * size) now ≡ drop (i * size) all
     → drop ((i + 1) * size) (put_mid (i * size) width now block) ≡ drop ((i + 1) * size) all
 rest_next i size width now all block wide long inside rest =
@@ -262,7 +262,7 @@ data_refused (suc count) (suc i) k sector j device on long lt within each here =
     let offset : 512 * ((sector + 1) * u + (i * u + j)) ≡ 512 * (sector * u + (suc i * u + j)) = omega (arith, next, more) in
     (λ o. joined (front.1 o ∷ opened_sectors k (sector + 1) count rest)) ∙ ap (before front.0) fault ∙ ap Err offset
 
--- the same of bytes
+-- the first unit that isn't accepted is the fault, of device sectors as one run of bytes
 pub opened_refused : (k : Keying) (sector count m : ℕ) (device : List ℕ) → k.auth ≢ Off → 0 < units k → m < count * units k → ((i : ℕ) → i < m → accepted_among k (sector * units k) device i ≡ true)
     → accepted_among k (sector * units k) device m ≡ false → opened_data k sector count (parts 512 (count * units k) device) ≡ Err (512 * (sector * units k + m))
 opened_refused k sector count m device on some lt each here =

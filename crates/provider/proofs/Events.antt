@@ -29,7 +29,7 @@ run_writes-start k sector count size bytes =
     let none : 0 * size ≡ 0 = omega arith in
     λ i. data_writes k (at i) (left i) (drop (none i) bytes)
 
--- the writes of some of them, and those behind
+-- the writes of some of them, and those after
 pub run_writes-some : (k now : Keying) (sector count size many wide : ℕ) (bytes : List ℕ) (i : ℕ) → now ≡ k → size ≡ k.sectorsize → 0 < size → wide ≡ many * size → i + many ≤ count
     → (i + many) * size ≤ length bytes
     → run_writes k sector count size bytes i ≡ data_writes now (sector + i) (length (take wide (drop (i * size) bytes)) / size) (take wide (drop (i * size) bytes)) ++ run_writes k sector count size bytes (i + many)

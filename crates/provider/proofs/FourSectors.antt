@@ -12,7 +12,7 @@ use Rattle.provider.proofs.Cuts.{parts-add, parts-front}
 pub piece_of_four : (m : ℕ) (bytes piece : List ℕ) (pieces : List (List ℕ)) → m < 4 → parts 512 4 bytes ≡ pieces → piece ≡ take 512 (drop (512 * m) bytes) → piece ≡ get_or pieces m []
 piece_of_four m bytes piece pieces lt so is = is ∙ sym (get_or-parts 512 4 m bytes lt) ∙ ap (λ (l : List (List ℕ)). get_or l m []) so
 
--- the device sectors of one logical sector, and of those behind it
+-- the device sectors of one logical sector, and of those after it
 sealed_before : (k : Keying) (sector m : ℕ) (bytes plain out rest : List ℕ) → plain ≡ take k.sectorsize bytes → length out ≡ 512 * units k → device_sectors k out ≡ seal k sector plain
     → parts 512 (m * units k) rest ≡ sealed_sectors k (sector + 1) m (drop k.sectorsize bytes) → parts 512 (suc m * units k) (out ++ rest) ≡ sealed_sectors k sector (suc m) bytes
 sealed_before k sector m bytes plain out rest is long sealed so =

@@ -50,7 +50,7 @@ whole_sealed k now sector j offset at width bytes piece on same lt place starts 
     ∙ (λ i. sealed_tagged (sym same i) (there i) (take (sym wide i) (drop (sym starts i) bytes)))
     ∙ ap (sealed_tagged now offset) (sym is)
 
--- a group that is put behind those before it
+-- a group that is put after those before it
 pub group_put : (k now : Keying) (sector i offset at width room : ℕ) (bytes out sealed a b c d : List ℕ) → k.auth ≢ Off → now ≡ k → width ≡ unit_bytes_of k.auth → unit_bytes_of k.auth * (4 * i + 4) ≤ k.sectorsize
     → offset ≡ 512 * (sector * units k + 4 * i) → at ≡ unit_bytes_of k.auth * (4 * i)
     → a ≡ take width (drop at bytes) → b ≡ take width (drop (at + width) bytes) → c ≡ take width (drop (at + 2 * width) bytes) → d ≡ take width (drop (at + 3 * width) bytes)

@@ -48,7 +48,7 @@ pub column_put : (J : ℕ) (l : List (List Bool)) (x : List Bool) (P : ℕ → �
 column_put J l x P room each new j i lt less =
     let most : j ≤ J = omega arith in column_of J j l x P room each new (eq-or-lt_of_le most) i less
 
--- ---- some units behind others
+-- ---- some units after others
 
 pub accepted_behind : (k : Keying) (n done m : ℕ) (device : List ℕ) → accepted_among k (n + done) (drop (512 * done) device) m ≡ accepted_among k n device (done + m)
 accepted_behind k n done m device =

@@ -101,7 +101,7 @@ pub record FindsFault (k : Keying) (r : SectorRequest) (offset : ℕ) (old new :
   pub finds : RunFault k r.sector r.count offset old new
 
 -- a device call failed: nothing was logged, every unit of the request before the one that was to be read was
--- accepted, and none behind it was read
+-- accepted, and none after it was read
 pub record FailsRead (k : Keying) (r : SectorRequest) (old new : DiskState) : Type 0 where
   pub in_range : IsInRange r
   pub fails : RunFails k r.sector r.count old new

@@ -2,7 +2,7 @@
 -- order, and each is looked at before the next one is read: so a fault is that of the first unit that has one, and
 -- where a call of the disk failed, every unit before the one that was to be read was accepted. A read leaves no
 -- event, but the disk counts it: the unit with a fault, and the one whose read failed, is that of the last read, and
--- none behind it was read.
+-- none after it was read.
 use Rattle.std.specs.Prelude.{◌≡◌, ◌≢◌, ℕ, ◌+◌, ◌*◌, ◌<◌, List, [], take, Result, Ok, Err, IfSome, IsOk}
 use Rattle.block_traits.specs.Causes.{Counted}
 use Rattle.block_traits.specs.Content.{Content, present}
@@ -26,7 +26,7 @@ pub record FailsAt (count : ℕ) (old new : DiskState) : Type 0 where
   pub asked : Counted count old.reads new.reads
   pub fails : FailsIn [] old new
 
--- the read of one of so many units failed: each one before it was read, and none behind it
+-- the read of one of so many units failed: each one before it was read, and none after it
 pub record FailsAmong (count : ℕ) (old new : DiskState) : Type 0 where
   pub unit : ℕ
   pub within : unit < count
@@ -56,7 +56,7 @@ pub record SectorFault (k : Keying) (sector offset : ℕ) (old new : DiskState) 
   pub logs : Logs [] old new
   pub reads : IfSome old.content (λ c. sector_reading k c sector ≡ Err offset)
 
--- the device failed where this unit was to be read, all units before it were accepted, none behind it was read, and
+-- the device failed where this unit was to be read, all units before it were accepted, none after it was read, and
 -- nothing was logged
 pub record SectorFails (k : Keying) (sector : ℕ) (old new : DiskState) : Type 0 where
   pub unit : ℕ
@@ -73,7 +73,7 @@ SectorAnswers k sector old new bytes (Err (OutOfRange first count media)) = ⊥
 
 -- ---- some logical sectors
 
--- there is authentication, a unit of the logical sector behind so many is the first of them all whose tag differs, at
+-- there is authentication, a unit of the logical sector after so many is the first of them all whose tag differs, at
 -- this byte offset of the device, it was the last to be read, and nothing was logged
 pub record RunFault (k : Keying) (sector count offset : ℕ) (old new : DiskState) : Type 0 where
   pub tagged : k.auth ≢ Off
@@ -86,8 +86,8 @@ pub record RunFault (k : Keying) (sector count offset : ℕ) (old new : DiskStat
   pub logs : Logs [] old new
   pub reads : ReadsAs old k sector count (Err offset)
 
--- the device failed where a unit of the logical sector behind so many was to be read, all units before it were
--- accepted, none behind it was read, and nothing was logged
+-- the device failed where a unit of the logical sector after so many was to be read, all units before it were
+-- accepted, none after it was read, and nothing was logged
 pub record RunFails (k : Keying) (sector count : ℕ) (old new : DiskState) : Type 0 where
   pub passed : ℕ
   pub unit : ℕ

@@ -1,4 +1,16 @@
-//! A disk that is read and written under a keying.
+//! An attached provider: a disk whose logical sectors are read and written under one keying.
+//!
+//! The invariant: the ring holds the keys of that keying, and the buffer has the size of the device sectors of as
+//! many logical sectors as fit in 32 KiB, or of one if none does. All memory is reserved by `attach`, so no later
+//! call fails for want of it. Callers may rely on keying, slot and read-only state staying as they are (`IsKept`).
+//!
+//! A request is checked before the disk is called: a write first for read-only, then each for its range. A refused
+//! `read` leaves the caller's bytes all zeros, so nothing of a sector whose tag is wrong gets out. A `write` that the
+//! disk refuses has written a prefix of its sealed device sectors, in ascending order. A refused `attach` gives the
+//! disk back, and no call of it was made.
+//!
+//! Data is sealed into the buffer and then written by as few calls of the disk as the buffer allows. So the buffer
+//! holds sealed bytes only, never plain ones, and needs no clearing.
 ghost use Rattle.std.specs.Prelude.{◌≡◌, ◌≢◌, ℕ, ◌+◌, ◌*◌, ◌/◌, ◌%◌, ◌^◌, ◌<◌, ◌≤◌, ◌↔◌, ◌∷◌, [], List, IsTrue, OnOk, OnErr, None, Ok, Err, IfErr, IfOk, IfSome, MatchResult, false, is_ok, length, replicate, true};
 ghost use Rattle.block_traits.specs.Causes.{Counted};
 ghost use Rattle.block_traits.specs.Disk.{DiskState, FailsIn, Gives, GivesEach, Logs};
@@ -226,7 +238,7 @@ impl<D: Disk> Provider<D> {
         answer
     }
 
-    // The same, where `into` may hold any bytes after a refusal.
+    // Reads logical sectors as `read` does, but after a refusal `into` may hold any bytes.
     fn read_sectors(&mut self, sector: u64, into: &mut [u8]) -> Result<(), ReadFault>
         requires some { 0 < length into.old }
         requires whole { length into.old % self.old.keying.sectorsize ≡ 0 }

@@ -1,4 +1,15 @@
 //! Logical sectors one after the other, opened and sealed, with authentication and without.
+//!
+//! The invariant of every loop here: the sectors before `done` are finished, in ascending order, and no later one has
+//! been begun. So a read counts one read of the disk for each unit, up to the one that failed, and a write has logged
+//! the device sectors of a prefix. No function changes the keying. The contracts of `Provider` rest on these counts.
+//!
+//! Many sectors are first looked at by one call (`peek`). A look that fails, or that finds a wrong tag, has changed
+//! nothing on the disk and counted no read. It doesn't say which unit is at fault, so the sectors are then read unit
+//! by unit, which finds the first one. Disks that refuse every look are always read so.
+//!
+//! After a refusal `into` and `buffer` may hold any bytes; `Provider::read` clears the caller's. A run is cut into
+//! batches that fit the buffer, which has room for the device sectors of one logical sector at least.
 ghost use Rattle.std.specs.Prelude.{◌≡◌, ℕ, ◌+◌, ◌*◌, ◌/◌, ◌%◌, ◌^◌, ◌<◌, ◌≤◌, [], Ok, OnOk, OnErr, IfSome, Option, false, length, take, true};
 ghost use Rattle.block_traits.specs.Causes.{Counted};
 ghost use Rattle.block_traits.specs.Content.{Content};

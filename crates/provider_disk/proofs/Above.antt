@@ -15,7 +15,7 @@ use Rattle.provider_disk.specs.OpenedFits.{IsContentOf-opened, length-opened_sec
 use Rattle.provider_disk.proofs.OpenedImages.{altered_above, image_above, torn_above}
 use Rattle.provider_disk.proofs.OpenedLemmas.{opened_events-append, take-opened}
 
--- what is behind the same front
+-- what is after the same front
 same_behind : (front events more : List Event) → front ++ events ≡ front ++ more → events ≡ more
 same_behind front events more same = sym (drop-append_seam front events) ∙ ap (drop (length front)) same ∙ drop-append_seam front more
 

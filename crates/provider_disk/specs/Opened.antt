@@ -17,7 +17,7 @@ plain_of (Err offset) = []
 unfoldable pub opened_single : Keying → ℕ → List ℕ → List ℕ
 opened_single k n bytes = plain_of (reading k n (bytes ∷ []))
 
--- the same of device sectors one behind the other, the first of which is sector n
+-- what logical sectors from n on read as, where their device sectors hold these bytes, one after another
 abbrev pub opened_from : Keying → ℕ → List (List ℕ) → List (List ℕ)
 opened_from k n [] = []
 opened_from k n (bytes ∷ sectors) = opened_single k n bytes ∷ opened_from k (n + 1) sectors
@@ -26,7 +26,7 @@ opened_from k n (bytes ∷ sectors) = opened_single k n bytes ∷ opened_from k 
 abbrev pub opened_data_sectors : Keying → List (List ℕ) → List (List ℕ)
 opened_data_sectors k sectors = opened_from k 0 (take (length sectors - 1) sectors)
 
--- the writes of the first sectors, so many, with what they then read as, and the flushes; writes behind them are left
+-- the writes of the first sectors, so many, with what they then read as, and the flushes; writes after them are left
 -- out
 abbrev pub opened_events : Keying → ℕ → List Event → List Event
 opened_events k count [] = []

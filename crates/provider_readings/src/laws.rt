@@ -30,7 +30,7 @@ pub fn writes_are_steps()
         events_of (data_steps number k sector count bytes) ≡ data_writes k sector count bytes }
 {}
 
-/// What a read of logical sectors answers after some steps is what the last writings of the cells say.
+/// What a read of logical sectors returns after some steps is what the last writings of the cells say.
 pub fn reads_are_of_last_writings()
     ensures { (c : Content) (steps : List Step) (k : Keying) (sector count : ℕ) →
         IsContentOf (length c.base) c → AreSteps steps → IsKeying k → sector + count ≤ content_media k c →

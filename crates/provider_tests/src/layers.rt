@@ -100,7 +100,7 @@ fn writes_wait(rt: HostRuntime) -> Result<(), Fail> {
     Ok(())
 }
 
-// Two disks as one: a sector behind the first is one of the second, and a run is cut between them.
+// Two disks as one: a sector beyond the first is one of the second, and a run is cut between them.
 #[test]
 fn two_disks_are_one(rt: HostRuntime) -> Result<(), Fail> {
     let alloc = rt.alloc();
@@ -167,7 +167,7 @@ fn a_provider_upon_a_provider(rt: HostRuntime) -> Result<(), Fail> {
     Ok(())
 }
 
-// Whether the first unit is B's and all behind the next 16 bytes is A's.
+// Whether the first unit is B's and all after the next 16 bytes is A's.
 fn is_mixed(bytes: &[u8]) -> bool {
     bytes.iter().enumerate().all(|(i, byte)| {
         if i < 512 {

@@ -20,7 +20,7 @@ le64 n = to_le_bytes w64 n
 abbrev pub iv_key : List ℕ → List ℕ
 iv_key master = take 64 master
 
--- Data-Key, the bytes behind it
+-- Data-Key, the bytes after it
 abbrev pub data_key : List ℕ → List ℕ
 data_key master = drop 64 master
 
@@ -64,7 +64,7 @@ key_bytes keylen = keylen / 8
 abbrev pub first_part : ℕ → List ℕ → List ℕ
 first_part keylen range = take (key_bytes keylen) range
 
--- K2 of XTS, the key of the tweak (IEEE 1619, 5.1): the bytes behind it. CBC has one key.
+-- K2 of XTS, the key of the tweak (IEEE 1619, 5.1): the bytes after it. CBC has one key.
 abbrev pub second_part : Cipher → ℕ → List ℕ → List ℕ
 second_part AesXts keylen range = take (key_bytes keylen) (drop (key_bytes keylen) range)
 second_part AesCbc keylen range = first_part keylen range

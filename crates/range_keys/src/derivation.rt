@@ -90,7 +90,7 @@ pub fn digest_at(keyed: &Sha256, offset: u64) -> [u8; 32]
     hasher.finalize()
 }
 
-/// The digests of a key and of four offsets, each `step` bytes behind the one before it, from hashes that begin with
+/// The digests of a key and of four offsets, each `step` bytes after the one before it, from hashes that begin with
 /// the key. They are computed side by side.
 pub fn digests_apart(keyed: &Prefix, offset: u64, step: u64) -> [[u8; 32]; 4]
     requires { offset + 3 * step < 2 ^ 64 }

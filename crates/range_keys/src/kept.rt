@@ -21,8 +21,8 @@ pub struct KeptKeys {
 }
 
 impl KeptKeys {
-    /// Brings the key of this number to the front of those that are kept, and makes it where it isn't among them. The
-    /// answer is whether it is kept now; where there is no memory for it, it is the one that isn't.
+    /// Brings the key of this number to the front of those that are kept, and makes it if it isn't among them. It
+    /// returns whether the key is kept now; if there is no memory for it, it is the one that isn't (`unkept`).
     pub fn bring(&mut self, cipher: Cipher, keylen: u16, base: &[u8; 64], number: u64) -> bool
         requires allowed { IsTrue (allows_length cipher keylen) }
         requires keys { AreKept cipher keylen base.now self.old.cache }

@@ -1,4 +1,18 @@
-//! The ring of a provider's keys.
+//! The ring of a provider's keys, from which all other crates take the keys of its data.
+//!
+//! The invariant is `IsRing`: whatever the ring has stored is what its parameters and its master key give. It stores
+//! how a logical sector is cut into units, the key of which range keys are made, the hash states with which initial
+//! vectors and tag keys begin, and at most sixteen range keys, each under its own number.
+//!
+//! So callers may rely on one thing: a key depends on the keying and the byte offset alone, never on what was asked
+//! before. Contracts see the keying, which no call changes, and the numbers of the kept range keys, the most recently
+//! used first.
+//!
+//! A failure leaves no trace for the caller: if there is no memory to keep a new range key, `key_at` lends it from a
+//! field outside the cache (`unkept`). The key is the right one, and the kept numbers stay.
+//!
+//! Range keys are kept because deriving one (HMAC-SHA512) and expanding it is costly, and neighbouring sectors share
+//! it.
 
 ghost use Rattle.std.specs.Prelude.{◌≡◌, ◌≢◌, ◌↔◌, ◌+◌, ◌*◌, ◌/◌, ◌^◌, ◌<◌, ◌≤◌, [], ◌∷◌, IsTrue, IfOk, Contains, length, nat_eq};
 ghost use Rattle.std.specs.List.{IsDistinct};
@@ -158,7 +172,7 @@ impl KeyRing {
     }
 
     /// The keys of four tags, where the provider has authentication. The first is that of the piece at this byte
-    /// offset, and each other that of the piece `step` bytes behind the one before it.
+    /// offset, and each other that of the piece `step` bytes after the one before it.
     pub fn tag_keys_apart(&self, offset: u64, step: u64) -> [[u8; 32]; 4]
         requires on { self.now.keying.auth ≢ Auth.Off }
         requires place { offset + 3 * step < 2 ^ 64 }

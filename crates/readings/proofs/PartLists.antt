@@ -38,7 +38,7 @@ block-part j i bytes lt =
     ∙ take-take 16 rest (drop (16 * i) (drop (512 * j) bytes)) fits
     ∙ ap (take 16) (drop-drop (16 * i) (512 * j) bytes ∙ ap (λ (m : ℕ). drop m bytes) at)
 
--- the same block of the same part
+-- lists that agree in a part agree in the blocks of that part
 pub same_block : (j i : ℕ) (xs ys : List ℕ) → i < 32 → part 512 j xs ≡ part 512 j ys → block xs (32 * j + i) ≡ block ys (32 * j + i)
 same_block j i xs ys lt same = sym (block-part j i xs lt) ∙ ap (λ (p : List ℕ). block p i) same ∙ block-part j i ys lt
 

@@ -1,4 +1,4 @@
--- Numbers of eight bytes, one behind the other, and a line for each.
+-- Numbers of eight bytes, one after the other, and a line for each.
 use Rattle.std.proofs.Common.{◌≡◌, ℕ, zero, suc, ◌+◌, ◌*◌, ◌^◌, ◌<◌, ◌≤◌, List, [], ◌∷◌, ◌++◌, length, take, drop, map, get_or, refl, sym, ap, ◌∙◌, arith}
 use Rattle.std.proofs.lemmas.List.{drop-drop, take_all}
 use Rattle.std.proofs.lemmas.Nat.{from_le_bytes-to_le_bytes_8}
@@ -40,7 +40,7 @@ next_line count i bytes offset lt is =
     concat-more bad_line (numbers_in count bytes) i 0 (omega (arith, all))
     ∙ ap (λ (n : ℕ). concat (map bad_line (take i (numbers_in count bytes))) ++ bad_line n) (get_or-numbers_in count i bytes lt ∙ sym is)
 
--- the first lines, and those behind them
+-- the first lines, and those after them
 pub lines_behind : (count i : ℕ) (bytes : List ℕ) → bad_lines (numbers_in count bytes) ≡ bad_lines (take i (numbers_in count bytes)) ++ bad_lines (drop i (numbers_in count bytes))
 unfolding bad_lines
 lines_behind count i bytes = concat-split bad_line (numbers_in count bytes) i

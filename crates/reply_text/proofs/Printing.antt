@@ -63,7 +63,7 @@ pub Prints-failed : (text : List ℕ) (old new : SinkState) (result : Result (Un
 Prints-failed text old new (Ok done) failed part = absurd (false≢true failed)
 Prints-failed text old new (Err end) failed part = part
 
--- the pieces up to a place, and those behind it
+-- the pieces up to a place, and those after it
 pub concat-split : {X : Type 0} (text : X → List ℕ) (pieces : List X) (n : ℕ) → concat (map text pieces) ≡ concat (map text (take n pieces)) ++ concat (map text (drop n pieces))
 concat-split text pieces n =
     ap (λ (ps : List _). concat (map text ps)) (sym (take-append-drop n pieces)) ∙ ap concat (map-append text (take n pieces) (drop n pieces))
@@ -74,7 +74,7 @@ pub concat-more : {X : Type 0} (text : X → List ℕ) (pieces : List X) (n : �
 concat-more text pieces n d inside =
     rw (take_more pieces n d inside, map-append, concat-append, append-nil) refl
 
--- a text was put behind another
+-- a text was put after another
 pub PutsAll-then : (first second : List ℕ) {held middle_held left : List ℕ} {old middle new : SinkState} → PutsAll first held old middle_held middle → PutsAll second middle_held middle left new → PutsAll (first ++ second) held old left new
 PutsAll-then first second {held} {middle_held} {left} a b = record {
   given = a.given ++ b.given;

@@ -94,7 +94,7 @@ field text = 32 ∷ text
 unfoldable pub decimal_fields : List ℕ → List ℕ
 decimal_fields numbers = concat (map (λ number. field (decimal number)) numbers)
 
--- the fields of a refusal in order: the numbers that it carries, and of `Usage` the reason behind its number
+-- the fields of a refusal in order: the numbers that it carries, and of `Usage` the reason after its number
 abbrev pub refusal_fields : Refusal → List ℕ
 refusal_fields (refusals.Usage word reason) = decimal_fields (word ∷ []) ++ field (reason_name reason)
 refusal_fields refusals.UnknownProvider = []

@@ -2,7 +2,7 @@
 ghost use Rattle.std.specs.Prelude.{◌≡◌, ◌<◌, ◌≤◌, drop, false};
 ghost use Rattle.std.specs.Fmt.{digits, digit_glyph};
 
-/// Puts the digits of a number at the end of the buffer, and answers where they start.
+/// Puts the digits of a number at the end of the buffer, and returns where they start.
 pub(crate) fn hexadecimal(number: u32, buffer: &mut [u8; 8]) -> usize
     ensures start { result ≤ 8 }
     ensures digits { drop result buffer.new ≡ digits 16 false number }

@@ -9,7 +9,7 @@ use block_traits::Sink;
 /// Texts that are still to be given to the sink, at most so many bytes of them.
 pub(crate) type Page<const N: usize> = ArrayVec<u8, N>;
 
-/// Puts a text behind those on the page. Where the page has no room for it, the sink is given the page
+/// Adds a text to those on the page. If the page has no room for it, the sink is given the page
 /// first.
 pub(crate) fn put<K: Sink, const N: usize>(
     text: &[u8],

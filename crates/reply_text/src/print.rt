@@ -28,7 +28,7 @@ pub fn write_text<K: Sink>(text: &[u8], output: &mut K) -> Result<(), WriteEnd>
     Ok(())
 }
 
-// Puts texts one behind another.
+// Puts texts one after another.
 pub(crate) fn write_pieces<K: Sink, const N: usize>(
     pieces: &[&[u8]],
     page: &mut Page<N>,

@@ -201,7 +201,7 @@ pub KeepsOneOf-MovesPart : (oldsize : ℕ) (disk disk' : DiskState) (entropy ent
 KeepsOneOf-MovesPart oldsize disk disk' entropy entropy' moves =
     KeepsOneOf-part disk disk' moves.old oldsize moves.prepares.bytes moves.random moves.fails.count moves.prepares.sizes moves.prepares.told moves.prepares.found moves.fails.logs.content
 
--- the last sector is settled by the flush behind it, and the passes behind that write elsewhere
+-- the last sector is settled by the flush after it, and the passes after that write elsewhere
 alone_after : (events : List Event) (value : List ℕ) (last : ℕ) → All (WritesHere (λ other. ⊥) last) events → kept_after events last (value ∷ []) ≡ value ∷ []
 alone_after [] value last all = refl
 alone_after (Write m new ∷ events) value last all =

@@ -7,11 +7,11 @@ use Rattle.block_traits.specs.Streams.{EntropyState, Takes}
 abbrev pub trash_size : ℕ
 trash_size = 2480
 
--- a sector with zeros in place of the magic, and these bytes behind them
+-- a sector with zeros in place of the magic, and these bytes after them
 abbrev pub without_magic : List ℕ → List ℕ
 without_magic rest = zeros 16 ++ rest
 
--- the sectors of the six passes, in order: behind the zeros the pieces of random bytes, and at last zeros alone
+-- the sectors of the six passes, in order: after the zeros the pieces of random bytes, and at last zeros alone
 unfoldable pub trash_sectors : List ℕ → List (List ℕ)
 trash_sectors random = map without_magic (passes_of 496 random)
 

@@ -18,7 +18,7 @@ pub fn draw<E: Entropy>(entropy: &mut E) -> Result<[u8; 2480], EntropyFailed>
     Ok(random)
 }
 
-// A pass makes a sector of its bytes: zeros in place of the magic, and the bytes behind them.
+// A pass makes a sector of its bytes: zeros in place of the magic, and the bytes after them.
 #[derive(Clone, Copy)]
 struct WithoutMagic;
 

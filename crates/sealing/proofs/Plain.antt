@@ -22,7 +22,7 @@ units_fill k off low whole =
     let size : 512 * ((k.sectorsize - 1) / 512 + 1) ≡ k.sectorsize = omega arith in
     ap (λ (m : ℕ). 512 * m) n ∙ size
 
--- bytes of a logical sector in its device sectors, one behind the other, are these bytes
+-- bytes of a logical sector in its device sectors, one after the other, are these bytes
 pub concat-device_sectors : (k : Keying) (bytes : List ℕ) → k.auth ≡ Off → 512 ≤ k.sectorsize → k.sectorsize % 512 ≡ 0 → length bytes ≡ k.sectorsize
     → concat (device_sectors k bytes) ≡ bytes
 concat-device_sectors k bytes off low whole len = let fill = units_fill k off low whole in concat-parts 512 (units k) bytes (omega (arith, fill, len))

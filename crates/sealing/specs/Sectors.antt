@@ -61,7 +61,7 @@ opened_with _ k sector sectors = map (unit_reading k sector sectors) (range_with
 abbrev pub unit_readings : Keying → ℕ → List (List ℕ) → List (Result (List ℕ) ℕ)
 unit_readings k sector sectors = opened_with k.auth k sector sectors
 
--- these bytes and what is read behind them, which may be a fault
+-- these bytes and what is read after them, which may be a fault
 abbrev pub before : List ℕ → Result (List ℕ) ℕ → Result (List ℕ) ℕ
 before bytes (Ok more) = Ok (bytes ++ more)
 before bytes (Err offset) = Err offset

@@ -33,7 +33,7 @@ sealed_tagged k offset plain = tagged k offset (sealed_run k offset plain)
 abbrev pub kept_tag : Keying → List ℕ → List ℕ
 kept_tag k sector = take (tag_bytes k.auth) sector
 
--- the cipher text of so many bytes that a device sector has; what is behind it isn't looked at
+-- the cipher text of so many bytes that a device sector has; what is after it isn't looked at
 abbrev pub cipher_text_in : Keying → ℕ → List ℕ → List ℕ
 cipher_text_in k size sector = take size (drop (tag_bytes k.auth) sector)
 

@@ -90,7 +90,7 @@ pub record HasRead (k : Keying) (start count : ℕ) (old new : DiskState) (hashe
   pub reads : ReadsAs old k start count (Ok bytes)
   pub holds : Holds256 hasher bytes
 
--- and more behind them
+-- and more after them
 pub HasRead-more : (k now : Keying) (start i count sector : ℕ) (batch : List ℕ) (first middle last : DiskState) (hasher next : Sha256) → now ≡ k → sector ≡ start + i
     → HasRead k start i first middle hasher → SectorsAnswer now sector count middle (Ok batch) last → ((m : List ℕ) → Holds256 hasher m → Holds256 next (m ++ batch))
     → HasRead k start (i + count) first last next
@@ -112,7 +112,7 @@ fails_behind (refusals.Integrity offset) k start i count rest first middle last 
 fails_behind refusals.DeviceFault k start i count rest first middle last hasher before h = RunFails-behind k start i count rest before.bytes first middle last before.asked before.logs before.reads h
 fails_behind refusal k start i count rest first middle last hasher before h = absurd h
 
--- a refusal behind them is that of all
+-- a refusal after them is that of all
 pub HasRead-fails : (refusal : Refusal) (k now : Keying) (start i count all sector : ℕ) (first middle last : DiskState) (hasher : Sha256) → now ≡ k → sector ≡ start + i → i + count ≤ all
     → HasRead k start i first middle hasher → SectorsAnswer now sector count middle (Err refusal) last → SectorsAnswer k start all first (Err refusal) last
 HasRead-fails refusal k now start i count all sector first middle last hasher same at within before h =

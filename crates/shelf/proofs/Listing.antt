@@ -1,4 +1,4 @@
--- The drawers one after the other: the first one with a name, their entries, and one more behind the others.
+-- The drawers one after the other: the first one with a name, their entries, and one more after the others.
 use Rattle.std.proofs.Common.{◌≡◌, ◌∙◌, ◌++◌, ◌+◌, ◌<◌, ℕ, List, [], ◌∷◌, length, get_or, take, drop, map, suc, add-one, ap, sym, subst, arith, refl, Bool, false, cond, Option, None, Some, option_map, bytes_eq, IsNone, is_some}
 use Rattle.std.proofs.Math.Seq.{drop-cons}
 use Rattle.std.proofs.lemmas.List.{length-map, map-append, take_more}
@@ -15,7 +15,7 @@ shifted : (place : ℕ) (found : Option ℕ) → option_map (λ n. n + place) (o
 shifted place None = refl
 shifted place (Some n) = ap (λ (m : ℕ). Some m) (omega arith)
 
--- a drawer has another name, so that the first one with the name is behind it
+-- a drawer has another name, so that the first one with the name is after it
 pub place_behind : {D : Type 0} (state : D → DiskState) (name : List ℕ) (drawers : List (Drawer D)) (place : ℕ) (drawer : Drawer D) → place < length drawers → drawer ≡ get_or drawers place drawer → bytes_eq drawer.name name ≡ false
     → place_of name (drawers_of state drawers) ≡ option_map (λ n. n + place) (place_of name (drawers_of state (drop place drawers)))
     → place_of name (drawers_of state drawers) ≡ option_map (λ n. n + (place + 1)) (place_of name (drawers_of state (drop (place + 1) drawers)))
@@ -47,7 +47,7 @@ none_found (Some n) h = absurd (let no : ⊥ = cc h in no)
 abbrev pub idle : {D : Type 0} → List ℕ → D → Drawer D
 idle name disk = record { name = name; held = held.Idle disk }
 
--- a disk stands behind the others, idle
+-- a disk stands after the others, idle
 pub added : {D : Type 0} (state : D → DiskState) (name given : List ℕ) (disk : D) (drawers left : List (Drawer D)) → length drawers < 16 → place_of name (drawers_of state drawers) ≡ None → given ≡ name
     → left ≡ drawers ++ idle given disk ∷ [] → Adds name (state disk) (drawers_of state drawers) (drawers_of state left)
 added {D} state name given disk drawers left room free same is =

@@ -35,7 +35,7 @@ removed_differ drawers place before small here differ = λ state.
     subst NamesDiffer (sym (map-remove (drawer_of state) drawers place))
     (differ-removed (drawers_of state drawers) place (drawer_of state before) (slice_get-drawers state drawers place before small here) (differ state))
 
--- a disk stands behind the others, idle, under a name that none has
+-- a disk stands after the others, idle, under a name that none has
 pub added_differ : {D : Type 0} (state : D → DiskState) (name given : List ℕ) (disk : D) (drawers left : List (Drawer D)) → place_of name (drawers_of state drawers) ≡ None → given ≡ name → left ≡ drawers ++ idle_drawer given disk ∷ []
     → DifferInName drawers → DifferInName left
 added_differ {D} state name given disk drawers left free same is differ = λ other.

@@ -15,7 +15,7 @@ use Rattle.shelf.specs.Trying.{IsTrial, tried_in}
 use Rattle.shelf.specs.declared.trying.Trial.{Trial}
 use Rattle.shelf.proofs.Openings.{means, opens_as, room, small_as, target, tried_as, wrong_as}
 
--- ---- the steps behind the trial
+-- ---- the steps after the trial
 
 goes_as : (kept : Kept) (given answer : Result Attachment Refusal) (old : Reach) (said : Result (Unit {0}) Refusal) (new : Reach) → given ≡ answer → GoesOn (AttachesAgain kept) answer old said new → GoesOn (AttachesAgain kept) given old said new
 goes_as kept given answer old said new is h = subst (λ (g : Result Attachment Refusal). GoesOn (AttachesAgain kept) g old said new) (sym is) h

@@ -68,7 +68,7 @@ abbrev pub or_bytes : List ℕ → Result (Unit {0}) ReadFault → Result (List 
 or_bytes bytes (Ok done) = Ok bytes
 or_bytes bytes (Err fault) = Err (read_refusal fault)
 
--- the steps behind the length
+-- the steps after the length
 read_behind : {D : Type 0} (state : D → DiskState) (queue : List Request) (cabinet : CabinetState) (entropy : EntropyState) (old new : Attached D) (sector count : ℕ) (bytes : List ℕ) (result : Result (Unit {0}) ReadFault)
     → length bytes ≡ count * old.keying.sectorsize → IsKept old new
     → ReadAnswers state (record { sector = sector; count = count; media = media old.keying (state old.disk) }) bytes old new result
@@ -102,7 +102,7 @@ read_answered state queue cabinet entropy old new sector count before bytes resu
 
 -- ---- a write
 
--- the steps behind the length
+-- the steps after the length
 write_behind : {D : Type 0} (state : D → DiskState) (queue : List Request) (cabinet : CabinetState) (entropy : EntropyState) (old new : Attached D) (sector count : ℕ) (bytes : List ℕ) (result : Result (Unit {0}) WriteFault)
     → IsKept old new → WriteAnswers state (record { sector = sector; count = count; media = media old.keying (state old.disk) }) bytes old new result → (state new.disk).reads ≡ (state old.disk).reads
     → Then (NeedsWritable (attachment_of queue old)) (λ _. Then (NeedsSectors (attachment_of queue old) sector count) (λ _. WritesSectors (attachment_of queue old) sector count bytes))

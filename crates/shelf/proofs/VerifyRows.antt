@@ -156,7 +156,7 @@ pub verify_untagged : {D : Type 0} (state : D → DiskState) (queue : List Reque
     → VerifyRow line file count restart (attachment_of queue p) (at state queue cabinet entropy p) (Err refusals.NotAuthenticated) (at state queue cabinet entropy p)
 verify_untagged state queue cabinet entropy p line file count restart untagged = Then-refused (NeedsTags (attachment_of queue p)) _ _ _ _ (sym (ap if_tagged untagged), refl)
 
--- the steps behind the tags
+-- the steps after the tags
 tagged_behind : {D : Type 0} (state : D → DiskState) (queue : List Request) (cabinet : CabinetState) (entropy : EntropyState) (p : Attached D) (line : List ℕ) (file : Span) (count : ℕ) (restart : Bool) (answer : Result SweptPart Refusal) (new : Reach) → has_tags p.keying.auth ≡ true
     → Then (FindsPlace restart line file) (λ place. Then (SweepsFrom (attachment_of queue p) place count) (λ part. StoresPlace line file part)) (at state queue cabinet entropy p) answer new
     → VerifyRow line file count restart (attachment_of queue p) (at state queue cabinet entropy p) answer new
@@ -170,7 +170,7 @@ verify_unplaced state queue cabinet loaded entropy p line file count restart ref
     tagged_behind state queue cabinet entropy p line file count restart (Err refusal) (at state queue loaded entropy p) tagged
     (Then-refused (FindsPlace restart line file) _ (at state queue cabinet entropy p) (at state queue loaded entropy p) refusal finds)
 
--- the steps behind the place
+-- the steps after the place
 placed_behind : {D : Type 0} (state : D → DiskState) (queue : List Request) (cabinet loaded : CabinetState) (entropy : EntropyState) (p : Attached D) (line : List ℕ) (file : Span) (count : ℕ) (restart : Bool) (place : ℕ) (answer : Result SweptPart Refusal) (new : Reach)
     → has_tags p.keying.auth ≡ true → FindsPlace restart line file (at state queue cabinet entropy p) (Ok place) (at state queue loaded entropy p)
     → Then (SweepsFrom (attachment_of queue p) place count) (λ part. StoresPlace line file part) (at state queue loaded entropy p) answer new

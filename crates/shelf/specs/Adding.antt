@@ -14,7 +14,7 @@ pub record IsFreeName (name : List ℕ) (drawers : List DrawerState) : Type 0 wh
   pub room : length drawers < most_drawers
   pub new_name : IsNone (place_of name drawers)
 
--- the disk stands behind the others, idle
+-- the disk stands after the others, idle
 pub record Adds (name : List ℕ) (disk : DiskState) (old new : List DrawerState) : Type 0 where
   pub free : IsFreeName name old
   pub added : new ≡ old ++ record { name = name; disk = disk; holding = Idle } ∷ []

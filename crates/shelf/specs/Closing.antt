@@ -30,7 +30,7 @@ Closing (drawer ∷ drawers) count new =
     (failed : Bool) × (closed : DrawerState) × (others : ℕ) × (behind : List DrawerState)
     × Closes drawer failed closed × Closing drawers others behind × (count ≡ failures failed + others) × (new ≡ closed ∷ behind)
 
--- the same of a world, whose cabinet and entropy stay
+-- the drawers of a world are closed in order, and so many flushes failed; its cabinet and entropy stay
 pub record ClosesWorld (old : World) (failed : ℕ) (new : World) : Type 0 where
   pub drawers : Closing old.drawers failed new.drawers
   pub cabinet : new.cabinet ≡ old.cabinet

@@ -182,7 +182,7 @@ impl<D: Disk> Drawer<D> {
         }
     }
 
-    /// What the disk answers to `events` where the drawer is idle.
+    /// What the disk returns for `events`, if the drawer is idle.
     pub fn events(&self) -> Option<&[Event]>
         ensures { ShowsBy (holding_of self.now.held) (disk_in D.state self.now.held) (option_copied result) }
     {
@@ -254,7 +254,7 @@ fn serve_idle<D: Disk, C: Cabinet, E: Entropy>(
     }
 }
 
-// The same, on an attached drawer.
+// Serves a command on an attached drawer.
 fn serve_attached<D: Disk, C: Cabinet, E: Entropy>(
     alloc: Global,
     provider: Provider<D>,
@@ -312,7 +312,7 @@ fn serve_attached<D: Disk, C: Cabinet, E: Entropy>(
     }
 }
 
-// The same, of a request, which leaves the drawer attached.
+// Serves a command that is a request for sectors, on an attached drawer, which stays attached.
 fn serve_sectors<D: Disk>(
     provider: &mut Provider<D>,
     queue: &mut Queue,
@@ -371,7 +371,7 @@ fn serve_sectors<D: Disk>(
     }
 }
 
-// The same, on a suspended drawer, of which no verb changes the sectors.
+// Serves a command on a suspended drawer. No verb changes its sectors.
 fn serve_suspended<D: Disk, C: Cabinet, E: Entropy>(
     alloc: Global,
     suspended: Suspended<D>,
@@ -412,7 +412,7 @@ fn serve_suspended<D: Disk, C: Cabinet, E: Entropy>(
     }
 }
 
-// The same, of a verb that only reads the disk, whatever the drawer does with it: that stays.
+// Serves a command that only reads the disk, whether the drawer is idle, attached or suspended: it stays so.
 fn serve_any<P: MetaPlace, C: Cabinet>(
     alloc: Global,
     place: &mut P,

@@ -1,4 +1,18 @@
-//! The drawers in order of adding.
+//! The drawers of a shelf, in order of adding: each has a named disk, which is idle, attached or suspended.
+//!
+//! The invariant: there are at most 16 drawers, the vector has room for 16, no two drawers have the same name, and
+//! the buffer of requests has as many bytes as the longest request. So a name stands for one drawer at most, and a
+//! drawer can be put back without memory.
+//!
+//! A line changes the drawer that it names and no other. Since a command may turn a drawer into one of another kind
+//! (idle, attached, suspended), `serve` takes it out of the list and puts it back in its place. A request on an
+//! attached provider is served in place instead, because a provider is large (some 3,000 bytes).
+//!
+//! After a refusal a drawer is as the row of the verb says (`command_rows`). A refused `add` gives the disk back and
+//! changes nothing. `eject` takes a drawer out together with its disk.
+//!
+//! That names differ is stated for every way in which disks may describe themselves (`DifferInName`), since the
+//! invariant can't know which one a caller uses.
 ghost use Rattle.std.specs.Prelude.{◌≡◌, ◌<◌, ◌≤◌, ℕ, List, map, [], IfOk, IfSome, MatchResult, length, option_copied};
 ghost use Rattle.std.specs.Prelude.{vec_capacity, vec_len};
 ghost use Rattle.std.specs.List.{insert};
@@ -68,8 +82,8 @@ impl<D: Disk> Drawers<D> {
         Ok(Drawers { drawers, buffer })
     }
 
-    /// Adds a disk behind the others, idle. A refusal gives the disk back and leaves the shelf as it was:
-    /// `Full` exactly where there is no room, else `Taken` exactly where a drawer has the name.
+    /// Adds a disk after the others, idle. A refusal gives the disk back and leaves the shelf as it was:
+    /// `Full` exactly if there is no room, else `Taken` exactly if a drawer has the name.
     pub fn add(&mut self, name: &str, disk: D) -> Result<(), (D, AddFault)>
         ensures adds { MatchResult result
             (λ _. Adds name.now (D.state disk) (drawers_of D.state self.old.drawers) (drawers_of D.state self.new.drawers))
@@ -94,9 +108,9 @@ impl<D: Disk> Drawers<D> {
     }
 
     /// Serves a command, whose places are those of the line: `UnknownProvider` exactly where no drawer has the name of
-    /// its provider, and else what the drawer answers. The other drawers stay as they are. `list` answers an entry for
-    /// each drawer, or that there was no memory. `eject` takes the drawer out with its disk, of which nothing more is
-    /// said.
+    /// its provider, and else the reply of the drawer. The other drawers stay as they are. `list` replies with an entry
+    /// for each drawer, or that there was no memory. `eject` takes the drawer out with its disk, of which nothing more
+    /// is said.
     pub fn serve<C: Cabinet, E: Entropy>(
         &mut self,
         line: &[u8],
@@ -153,7 +167,7 @@ impl<D: Disk> Drawers<D> {
         self.buffer.as_slice()
     }
 
-    /// Flushes the disk of each attached or suspended drawer, in order, and answers how many flushes failed. All
+    /// Flushes the disk of each attached or suspended drawer, in order, and returns how many flushes failed. All
     /// drawers are idle then.
     pub fn close(&mut self) -> u32
         ensures closing { Closing (drawers_of D.state self.old.drawers) result (drawers_of D.state self.new.drawers) }
@@ -175,7 +189,7 @@ impl<D: Disk> Drawers<D> {
         let _ = &self.drawers;
     }
 
-    /// What the disk of the named drawer answers to `events`. None comes exactly where no idle drawer has the name or
+    /// What the disk of the named drawer returns for `events`. None comes exactly where no idle drawer has the name or
     /// the disk doesn't show its events.
     pub fn events(&self, name: &str) -> Option<&[Event]>
         ensures { ShowsEvents name.now (drawers_of D.state self.now.drawers) (option_copied result) }
@@ -192,7 +206,7 @@ fn failures(refused: bool) -> u32
     if refused { 1 } else { 0 }
 }
 
-// Closes the drawers in order, and answers how many flushes failed.
+// Closes the drawers in order, and returns how many flushes failed.
 fn close_all<D: Disk>(drawers: &mut Vec<Drawer<D>>) -> u32
     requires small { vec_len drawers.old ≤ 16 }
     requires room { 16 ≤ vec_capacity drawers.old }

@@ -126,7 +126,7 @@ fn submit_flush<D: Disk>(provider: &mut Provider<D>, queue: &mut Queue) -> Resul
     submit_answer(queue.submit(provider, &Job::Flush, &[]))
 }
 
-/// Opens a request, and answers its tag. A write is sealed here: the bytes that its digits spell go through the buffer.
+/// Opens a request, and returns its tag. A write is sealed here: the bytes that its digits spell go through the buffer.
 pub fn submit<D: Disk>(
     provider: &mut Provider<D>,
     queue: &mut Queue,
@@ -165,7 +165,7 @@ fn check_request<D: Disk>(provider: &Provider<D>, queue: &Queue, tag: u8) -> Res
     }
 }
 
-/// Does the next unit of the open request with this tag, and answers how many are left. A request that isn't one of the
+/// Does the next unit of the open request with this tag, and returns how many are left. A request that isn't one of the
 /// provider, as that is now, is none.
 pub fn step<D: Disk>(provider: &mut Provider<D>, queue: &mut Queue, tag: u8) -> Result<u64, Refusal>
     ensures { (cabinet : CabinetState) (entropy : EntropyState) →
@@ -179,7 +179,7 @@ pub fn step<D: Disk>(provider: &mut Provider<D>, queue: &mut Queue, tag: u8) -> 
 }
 
 /// Takes out the open request with this tag, whose units are all done. The bytes of a read are put to the front of the
-/// buffer, and their number is answered.
+/// buffer, and their number is returned.
 pub fn reap<D: Disk>(
     provider: &mut Provider<D>,
     queue: &mut Queue,

@@ -13,7 +13,7 @@ use eli_metadata::Metadata;
 use reply_text::Reply;
 use verify_sweep::Swept;
 
-/// The reply of a command that answers nothing else.
+/// The reply of a command that returns nothing else.
 pub fn done_or(answer: Result<(), Refusal>) -> Reply
     ensures reply { (bytes : List ℕ) → answer_of bytes result ≡ done_or answer }
     ensures payload { FitsPayload 0 result }
@@ -35,7 +35,7 @@ pub fn dump_or(answer: Result<Metadata, Refusal>) -> Reply
     }
 }
 
-/// The reply of a command that answers bytes, which stand in the buffer.
+/// The reply of a command that returns bytes, which stand in the buffer.
 pub fn payload_or(answer: Result<u32, Refusal>) -> Reply
     requires { IfOk answer (λ bytes. bytes ≤ request_limit) }
     ensures reply { (bytes : List ℕ) → answer_of bytes result ≡ payload_or (bytes_read bytes answer) }

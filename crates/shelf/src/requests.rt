@@ -59,7 +59,7 @@ fn write_answer(answer: Result<(), WriteFault>) -> Result<(), Refusal>
     }
 }
 
-/// Reads logical sectors to the front of the buffer, and answers how many bytes they have.
+/// Reads logical sectors to the front of the buffer, and returns how many bytes they have.
 pub fn read<D: Disk>(
     provider: &mut Provider<D>,
     sector: u64,
@@ -105,7 +105,7 @@ pub fn write<D: Disk>(
     write_answer(provider.write(sector, &buffer[..given]))
 }
 
-/// Puts the bytes that digits spell to the front of the buffer, and answers how many.
+/// Puts the bytes that digits spell to the front of the buffer, and returns how many.
 pub fn decode(digits: &[u8], buffer: &mut [u8]) -> usize
     requires spelled { SpellsBytes digits.now }
     requires room { length buffer.old ≡ request_limit }

@@ -79,7 +79,7 @@ fn find_place<C: Cabinet>(
     }
 }
 
-// Lists the units that fail from a place on, if that isn't behind the last sector.
+// Lists the units that fail from a place on, if that isn't beyond the last sector.
 fn sweep_from<D: Disk>(
     provider: &mut Provider<D>,
     place: u64,

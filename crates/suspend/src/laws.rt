@@ -20,7 +20,7 @@ pub fn resumed_master_is_the_same_or_collides<D: Disk>()
         (p.keying.master ≡ master) ⊎ AreCollision master p.keying.master }
 {}
 
-/// A law: what a suspended provider tells of itself in numbers tells all that was kept.
+/// A law: the numbers that a suspended provider gives of itself determine all that was kept.
 pub fn rest_tells_all<D: Disk>()
     ensures { (s t : Suspension D) → suspended_rest s ≡ suspended_rest t →
         (s.slot ≡ t.slot) × (s.sectorsize ≡ t.sectorsize) × (s.sectors ≡ t.sectors) × (s.readonly ≡ t.readonly) × (s.mark ≡ t.mark) }

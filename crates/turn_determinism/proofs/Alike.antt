@@ -20,7 +20,7 @@ unrisen n m later quiet = omega (arith, later, quiet)
 
 -- ---- disks
 
--- the same content is told by both
+-- both disks tell the same content
 pub record AlikeDisk (d d' : DiskState) : Type 0 where
   pub content : Content
   pub told : d.content ≡ Some content
@@ -35,7 +35,7 @@ still_disk d d' e e' same is is' = rw (is, is') same
 told_after : (events : List Event) (c : Content) (before after : Option Content) → before ≡ Some c → after ≡ logged events before → after ≡ Some (with_events events c)
 told_after events c before after told is = is ∙ ap (logged events) told
 
--- the same events are logged by both
+-- disks that log the same events stay alike
 pub logs_alike : (events : List Event) (d d' e e' : DiskState) → AlikeDisk d d' → Logs events d e → Logs events d' e' → IsSameCount e.reads e'.reads → AlikeDisk e e'
 logs_alike events d d' e e' same logs logs' reads = record {
   content = with_events events same.content;
@@ -101,7 +101,7 @@ pub keeps_alike : (c c' b b' : CabinetState) → AlikeCabinet c c' → b.files �
 keeps_alike c c' b b' same is is' unstored unstored' =
     record { files = same.files; told = is ∙ same.told; told' = is' ∙ same.told'; stores = uncounted_same same.stores unstored unstored' }
 
--- the same file is stored in both, in one store
+-- cabinets in which the same file is stored, in one store, stay alike
 pub stored_alike : (name bytes : List ℕ) (c c' b b' : CabinetState) → AlikeCabinet c c' → b.files ≡ stored name bytes c.files → b'.files ≡ stored name bytes c'.files → Counted 1 c.stores b.stores → Counted 1 c'.stores b'.stores
     → AlikeCabinet b b'
 stored_alike name bytes c c' b b' same is is' once once' = record {

@@ -48,7 +48,7 @@ events_done events old (Ok done) new quiet h = (refl, h)
 events_done events old (Err refusals.DeviceFault) new quiet h = absurd (quiet h.rose)
 events_done events old (Err refusal) new quiet h = absurd h
 
--- the same events are done, and nothing is read
+-- disks that do the same events, and of which nothing is read, answer the same and stay alike
 events_alike : (events : List Event) (d d' : DiskState) (answer answer' : Result (Unit {0}) Refusal) (e e' : DiskState) → AlikeDisk d d' → ¬ Rose d.faults e.faults → ¬ Rose d'.faults e'.faults
     → DoesEvents events d answer e → DoesEvents events d' answer' e' → e.reads ≡ d.reads → e'.reads ≡ d'.reads → (answer' ≡ answer) × AlikeDisk e e'
 events_alike events d d' answer answer' e e' same quiet quiet' h h' unasked unasked' =
@@ -67,7 +67,7 @@ does_sure events = record {
 pub writes_sure : (a : Attachment) (sector count : ℕ) (bytes : List ℕ) → Sure (WritesSectors a sector count bytes)
 writes_sure a sector count bytes = does_sure (data_writes a.keying sector count bytes)
 
--- ---- a flush, behind which the drawer does something else
+-- ---- a flush, after which the drawer does something else
 
 pub detaches_sure : Sure Detaches
 detaches_sure = record {

@@ -35,17 +35,17 @@ replaced_same d d' m m' size is = rw (size, is) refl
 stored_same : (d d' : DiskState) (m m' : Metadata) → d'.size ≡ d.size → m' ≡ m → store_events d' (encoded m') ≡ store_events d (encoded m)
 stored_same d d' m m' size is = rw (size, is) refl
 
--- the same events are logged, and nothing is read
+-- disks that log the same events, and of which nothing is read, stay alike
 pub unread_alike : (events events' : List Event) (d d' e e' : DiskState) → AlikeDisk d d' → events' ≡ events → Logs events d e → Logs events' d' e' → e.reads ≡ d.reads → e'.reads ≡ d'.reads → AlikeDisk e e'
 unread_alike events events' d d' e e' same is logs logs' unasked unasked' =
     let P : List Event → Type 0 = λ es. Logs es d' e' in
     logs_alike events d d' e e' same logs (subst P is logs') (uncounted_same same.reads unasked unasked')
 
--- the same key is made of the same
+-- two keys that are made of the same are the same
 key_same : (made made' : Result UserKey KeyFault) (key key' : UserKey) → made ≡ Ok key → made' ≡ Ok key' → made' ≡ made → key' ≡ key
 key_same made made' key key' h h' is = let e : Ok key' ≡ Ok key = sym h' ∙ is ∙ h in cc e
 
--- the same refusal
+-- two refusals of the same are the same
 pub refusal_same : (o o' : Option Refusal) (refusal refusal' : Refusal) → o ≡ Some refusal → o' ≡ Some refusal' → o' ≡ o → refusal' ≡ refusal
 refusal_same o o' refusal refusal' h h' is = let e : Some refusal' ≡ Some refusal = sym h' ∙ is ∙ h in cc e
 

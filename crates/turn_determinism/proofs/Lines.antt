@@ -23,7 +23,7 @@ use Rattle.turn_determinism.proofs.Places
 use Rattle.turn_determinism.proofs.Rows
 use Rattle.turn_determinism.proofs.Steps.{Both, HasMemory, ResultLoads, Step, Sure, then_sure, unless_missed}
 
--- the same is answered, what is reached is alike, and as many files were loaded, unless one is refused
+-- both lines have the same answer, what they reach is alike, and as many files were loaded, unless one is refused
 pub record SameLine (counts : Bool) (reply reply' : Answer) (new new' : Reach) : Type 0 where
   pub agrees : reply' ≡ reply
   pub same : Alike new new'

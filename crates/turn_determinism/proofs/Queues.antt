@@ -81,12 +81,12 @@ least_same queue tag tag' h h' =
     let no' : tag' < tag → ⊥ = λ lt. let none : false ≡ true = subst P h'.free (h.least tag' lt) in cc none in
     omega (arith, no, no')
 
--- the queue behind it
+-- the queue after it
 QueueIs : Keying → Job → List ℕ → List Request → List Request → Result ℕ SubmitFault → Type 0
 QueueIs k job from old new (Ok tag) = IsLeastFree tag old × (new ≡ put_in (asked k tag job from) old)
 QueueIs k job from old new (Err fault) = new ≡ old
 
--- why a job is taken or isn't, and the queue behind it
+-- why a job is taken or isn't, and the queue after it
 record SubmitIs (k : Keying) (readonly : Bool) (there : ℕ) (job : Job) (from : List ℕ) (old new : List Request) (tag : Result ℕ SubmitFault) : Type 0 where
   why : Why readonly there job (length old) tag
   queue : QueueIs k job from old new tag

@@ -40,7 +40,7 @@ same_entropy_later e f is = rw is (omega arith)
 pub same_disk_later : (d e : DiskState) → e ≡ d → d.faults ≤ e.faults
 same_disk_later d e is = rw is (omega arith)
 
--- what fails nowhere fails nowhere in its front, nor behind that
+-- what fails nowhere fails nowhere in its front, nor after that
 quiet_front : (before between now : ℕ) → between ≤ now → ¬ Rose before now → ¬ Rose before between
 quiet_front before between now later quiet rose = quiet (omega (arith, later, rose))
 
@@ -79,7 +79,7 @@ abbrev pub ResultLoads : {A : Type 0} → Result A Refusal → CabinetState → 
 ResultLoads (Ok value) c c' = IsSameCount c.loads c'.loads
 ResultLoads (Err refusal) c c' = LoadsUnlessMissed refusal c c'
 
--- the same answer, and what is reached is alike; as many files were loaded, unless one is refused
+-- both steps have the same answer, and what they reach is alike; as many files were loaded, unless one is refused
 pub record Settled (counts : Bool) {A : Type 0} (answer answer' : Result A Refusal) (new new' : Reach) : Type 0 where
   pub agrees : answer' ≡ answer
   pub same : Alike new new'

@@ -9,7 +9,7 @@ use Rattle.command_rows.specs.Answer as answers
 abbrev pub IsSameCount : ℕ → ℕ → Type 0
 IsSameCount count count' = min count (2 ^ 64 - 1) ≡ min count' (2 ^ 64 - 1)
 
--- the same size, content, readiness to show it, and counts
+-- two disks have the same size, content, readiness to show it, and counts
 pub record IsSameDisk (disk disk' : DiskState) : Type 0 where
   pub size : disk'.size ≡ disk.size
   pub shows : disk'.shows ≡ disk.shows
@@ -17,33 +17,33 @@ pub record IsSameDisk (disk disk' : DiskState) : Type 0 where
   pub faults : disk'.faults ≡ disk.faults
   pub reads : IsSameCount disk.reads disk'.reads
 
--- the same name, disk, and use of it
+-- two drawers have the same name and disk, and do the same with it
 pub record IsSameDrawer (drawer drawer' : DrawerState) : Type 0 where
   pub name : drawer'.name ≡ drawer.name
   pub disk : IsSameDisk drawer.disk drawer'.disk
   pub holding : drawer'.holding ≡ drawer.holding
 
--- the same files and faults, and as many stores; of how often one was loaded `LoadsAsMany` speaks, and of how often one
--- was absent or too long nothing
+-- two cabinets have the same files and faults, and as many stores. `LoadsAsMany` speaks of how often files were loaded;
+-- nothing speaks of how often one was absent or too long.
 pub record IsSameCabinet (cabinet cabinet' : CabinetState) : Type 0 where
   pub files : cabinet'.files ≡ cabinet.files
   pub faults : cabinet'.faults ≡ cabinet.faults
   pub stores : IsSameCount cabinet.stores cabinet'.stores
 
--- the same random bytes are left, and the counts are the same
+-- two entropies have the same random bytes left, and the same counts
 pub record IsSameEntropy (entropy entropy' : EntropyState) : Type 0 where
   pub left : entropy'.left ≡ entropy.left
   pub faults : entropy'.faults ≡ entropy.faults
   pub calls : IsSameCount entropy.calls entropy'.calls
 
--- as many drawers, each the same in its place
+-- two shelves have as many drawers, each the same in its place
 abbrev pub AreSameDrawers : List DrawerState → List DrawerState → Type 0
 AreSameDrawers [] [] = Unit {0}
 AreSameDrawers [] (drawer' ∷ drawers') = ⊥
 AreSameDrawers (drawer ∷ drawers) [] = ⊥
 AreSameDrawers (drawer ∷ drawers) (drawer' ∷ drawers') = IsSameDrawer drawer drawer' × AreSameDrawers drawers drawers'
 
--- the same drawers, cabinet and entropy
+-- two worlds have the same drawers, cabinet and entropy
 pub record IsSameWorld (world world' : World) : Type 0 where
   pub drawers : AreSameDrawers world.drawers world'.drawers
   pub cabinet : IsSameCabinet world.cabinet world'.cabinet
@@ -59,7 +59,7 @@ abbrev pub LoadsAsMany : Answer → CabinetState → CabinetState → Type 0
 LoadsAsMany (answers.Refused refusal) cabinet cabinet' = LoadsUnlessMissed refusal cabinet cabinet'
 LoadsAsMany answer cabinet cabinet' = IsSameCount cabinet.loads cabinet'.loads
 
--- the same answer, and the same world; and as many files were loaded, if so many were before
+-- two turns have the same answer and leave the same world; and as many files were loaded, if so many were before
 pub record IsSameTurn (old : World) (answer : Answer) (new : World)
     (old' : World) (answer' : Answer) (new' : World) : Type 0 where
   pub answered : answer' ≡ answer

@@ -12,10 +12,10 @@ ghost use Rattle.turn_determinism.specs.Told.{IsTold};
 /// where the objects that it reaches tell what they hold, no count of their faults rises in either turn, and neither
 /// answer is want of memory.
 ///
-/// The same are all drawers, with their names, the sizes, the contents and the counts of their disks, and what they do
-/// with them; the files; the random bytes that are left; and the counts of faults, of reads and of calls of the
-/// entropy. How often files were loaded is the same too, unless a file is refused, being absent or too long. Counts
-/// that aren't below 2^64 - 1 are taken for the same.
+/// These agree in both: all drawers, with their names, the sizes, the contents and the counts of their disks, and what
+/// they do with them; the files; the random bytes that are left; and the counts of faults, of reads and of calls of the
+/// entropy. How often files were loaded agrees too, unless a file is refused, being absent or too long. Counts that
+/// aren't below 2^64 - 1 count as equal.
 pub fn a_line_does_one_thing()
     ensures { (line : List ℕ) (command : Command) (old : World) (answer answer' : Answer) (new new' : World) →
         IsTold line command old → IsQuiet line command old new → IsQuiet line command old new' →
@@ -24,8 +24,8 @@ pub fn a_line_does_one_thing()
         IsSameTurn old answer new old answer' new' }
 {}
 
-/// The same of a line in two worlds that are the same, so that it goes on from line to line: worlds that are the same
-/// stay so.
+/// Worlds that are the same stay so: a line has the same answer in both, and leaves both the same. So this goes on from
+/// line to line.
 pub fn same_worlds_stay_the_same()
     ensures { (line : List ℕ) (command : Command) (old old' : World) (answer answer' : Answer) (new new' : World) →
         IsSameWorld old old' → IsTold line command old → IsQuiet line command old new → IsQuiet line command old' new' →

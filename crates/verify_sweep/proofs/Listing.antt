@@ -26,7 +26,7 @@ use Rattle.sealing.specs.Sectors.{unit_reading_at, units}
 use Rattle.verify_sweep.specs.Sweeping.{Lists, ListsFailing, Looks, Sweep, SweepAnswers, failing_units, faults_in, le64s, unit_readings_at, refused_at, sectors_swept}
 use Rattle.verify_sweep.specs.declared.sweeping.Swept.{Swept}
 
--- ---- lists of units and of numbers, one behind the other
+-- ---- lists of units and of numbers, one after the other
 
 pub unit_readings_at-append : (k : Keying) (n : ℕ) (front behind : List (List ℕ)) → unit_readings_at k n (front ++ behind) ≡ unit_readings_at k n front ++ unit_readings_at k (n + length front) behind
 unit_readings_at-append k n [] behind = ap (λ (m : ℕ). unit_readings_at k m behind) (sym (add-zero n))
@@ -53,7 +53,7 @@ length-le64s (n ∷ ns) = length-append (le64 n) (le64s ns) ∙ (let all : 8 + l
 
 -- ---- one device sector: it is accepted, or it fails at its own byte offset
 
--- what is listed of a device sector and of those behind it
+-- what is listed of a device sector and of those after it
 faults-of : (test : Bool) (bytes : List ℕ) (offset : ℕ) (readings : List (Result (List ℕ) ℕ)) →
     let r : Result (List ℕ) ℕ = cond test (Ok bytes) (Err offset) in
     ((is_ok r ≡ true) × (faults_in (r ∷ readings) ≡ faults_in readings)) ⊎ ((r ≡ Err offset) × (faults_in (r ∷ readings) ≡ offset ∷ faults_in readings))
@@ -85,7 +85,7 @@ Lists-none n bad accepted found so =
       listed = sym (take-append-drop (8 * bad) found) ∙ ap (λ (l : List ℕ). l ++ behind) (sym (append-nil front)) ∙ sym (ap (λ (l : List ℕ). front ++ le64s l ++ behind) none);
     }
 
--- the offset of one that isn't is put behind the others
+-- the offset of one that isn't is put after the others
 pub Lists-one : (n bad width : ℕ) (accepted : Bool) (found bytes : List ℕ) → accepted ≡ false → bytes ≡ le64 (512 * n) → width ≡ 8
     → Lists (refused_at n (accepted ∷ [])) bad (bad + 1) found (put_mid (8 * bad) width found bytes)
 Lists-one n bad width accepted found bytes so is wide =
@@ -108,7 +108,7 @@ Lists-nothing bad found = record {
   listed = sym (take-append-drop (8 * bad) found) ∙ ap (λ (l : List ℕ). l ++ drop (8 * bad) found) (sym (append-nil (take (8 * bad) found)));
 }
 
--- some, and others behind them
+-- some, and others after them
 Lists-then : (ns more : List ℕ) (bad now next : ℕ) (before found after : List ℕ) → 8 * bad ≤ length before → Lists ns bad now before found → Lists more now next found after
     → Lists (ns ++ more) bad next before after
 Lists-then ns more bad now next before found after room one two =
@@ -126,7 +126,7 @@ Lists-then ns more bad now next before found after room one two =
           ∙ ap (λ (l : List ℕ). l ++ drop (8 * next) before) (append_assoc front (le64s ns) (le64s more) ∙ ap (λ (l : List ℕ). front ++ l) (sym (le64s-append ns more)));
     }
 
--- some device sectors, and more behind them
+-- some device sectors, and more after them
 pub Lists-more : (k : Keying) (n done many bad now next : ℕ) (device before found after : List ℕ) → 8 * bad ≤ length before → Lists (failing_units k n (parts 512 done device)) bad now before found
     → Lists (failing_units k (n + done) (parts 512 many (drop (512 * done) device))) now next found after → Lists (failing_units k n (parts 512 (done + many) device)) bad next before after
 Lists-more k n done many bad now next device before found after room one two =

@@ -47,13 +47,13 @@ refused_at n (false ∷ accepted) = 512 * n ∷ refused_at (n + 1) accepted
 
 -- ---- some units
 
--- these numbers were put behind so many others, and what is behind them stays
+-- these numbers were put after so many others, and what is after them stays
 pub record Lists (ns : List ℕ) (bad now : ℕ) (before after : List ℕ) : Type 0 where
   pub now_is : now ≡ bad + length ns
   pub listed : after ≡ take (8 * bad) before ++ le64s ns ++ drop (8 * now) before
 
 -- so many device sectors from number n on were read once, nothing was logged, and the offsets of those that fail were
--- put behind those that were listed before
+-- put after those that were listed before
 pub record Looks (k : Keying) (n count bad now : ℕ) (before after : List ℕ) (old new : DiskState) : Type 0 where
   pub sectors : List (List ℕ)
   pub all : length sectors ≡ count

@@ -24,7 +24,7 @@ pub fn units_are_listed_once()
     ensures once { (k : Keying) (n : ℕ) (sectors : List (List ℕ)) → IsStrictlyIncreasing (failing_units k n sectors) }
 {}
 
-/// A law: what is listed of some device sectors and then of those behind them is what is listed of them all at once.
+/// A law: what is listed of some device sectors and then of those after them is what is listed of them all at once.
 pub fn parts_list_what_the_whole_lists()
     ensures { (k : Keying) (n : ℕ) (front behind : List (List ℕ)) →
         failing_units k n (front ++ behind) ≡ failing_units k n front ++ failing_units k (n + length front) behind }

@@ -103,7 +103,7 @@ writing_still bytes force = record {
 restore_still : (line : List ℕ) (file : Span) (force : Bool) → Still (RestoreRow line file force)
 restore_still line file force = still_then (file_still file_limit line file) (λ bytes. still_then (writing_still bytes force) (λ m. done_still tt))
 
--- the same of one file
+-- two readings of one file have the same bytes
 bytes_same : (limit : ℕ) (line : List ℕ) (file : Span) (cabinet : CabinetState) (bytes named : List ℕ) → NamesFile limit line file cabinet bytes → IsFile limit cabinet.files line file named → named ≡ bytes
 bytes_same limit line file cabinet bytes named names h =
     let other : file_answer file.word limit (names.files (bytes_at line file)) ≡ Ok named = subst (λ (o : Option Files). IsFile limit o line file named) names.told h in

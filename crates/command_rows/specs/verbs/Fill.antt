@@ -8,7 +8,7 @@ use Rattle.rand_pcg.specs.Pcg.{pcg64, pcg64_of_seed}
 use Rattle.command_rows.specs.Rows.{AsksToWrite, AttachedWith, Attachment, Holding, NeedsSectors, NeedsWritable, NoBadFile, NoChanges, NoGround, OfOther, PlacesGenerated, Ranged, Reach, Replies, Then, Verb, WritesSectors, done_or}
 use Rattle.command_rows.specs.Vocabulary.{DiskState, Event, Refusal, Span, data_writes, media}
 
--- the bytes of the next words of a PCG64, each as eight bytes, the least significant first, and the generator behind
+-- the bytes of the next words of a PCG64, each as eight bytes, the least significant first, and the generator after
 -- them
 abbrev pub generated : ℕ → Lcg → List ℕ × Lcg
 generated words g = word_bytes (to_le_bytes w64) pcg64 words g

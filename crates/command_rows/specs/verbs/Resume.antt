@@ -24,7 +24,8 @@ ResumeRow line words kept old answer new =
     Then (TryRow line None kept.readonly words)
     (λ a. AttachesAgain kept a) old answer new
 
--- `resume`: the same of the suspended provider, and the master key is the one that it had
+-- what `resume` finds where nothing refuses it: a key that opens the suspended provider's metadata (`FindsKey`), to the
+-- master key that the provider had
 pub record FindsSameKey (line : List ℕ) (words : KeyWords) (old : Reach) (kept : Kept) : Type 0 where
   pub key : FindsKey line None kept.readonly words old
   pub same : same_key kept key.a ≡ Ok tt

@@ -159,8 +159,8 @@ pub record WrapsOpened (told : Option Files) (line : List ℕ) (words : KeyWords
   pub master : asked.master ≡ found.0.bytes
   pub target : asked.slot ≡ unwrap_or slot found.1
 
--- the same of an attached drawer, which wraps its own master key, for the slot that is named, or else for that which
--- gave it
+-- the master key that is wrapped, and for which slot: an idle drawer's as `WrapsOpened` says; an attached drawer wraps
+-- its own, for the slot that is named, or else for the one that gave it
 abbrev pub WrapsKey : Holding → Option Files → List ℕ → KeyWords → Option ℕ → KeyChange → Type 0
 WrapsKey holding told line words slot asked =
     MatchOption (attachment_in holding) (WrapsOpened told line words slot asked) (λ a. (asked.master ≡ a.keying.master) × (asked.slot ≡ unwrap_or slot a.slot))

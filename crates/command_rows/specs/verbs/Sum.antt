@@ -16,7 +16,7 @@ pub record Sums (k : Keying) (sector count : ℕ) (old : DiskState) (digest : Li
   pub read : SectorsAnswer k sector count old (Ok bytes) new
   pub digest_is : digest ≡ sha256 bytes
 
--- the same by the answer
+-- what reading and hashing sectors comes to, by its answer: a digest, or the refusal of the read
 abbrev pub SumAnswer : Keying → ℕ → ℕ → DiskState → Result (List ℕ) Refusal → DiskState → Type 0
 SumAnswer k sector count old (Ok digest) new = Sums k sector count old digest new
 SumAnswer k sector count old (Err refusal) new = SectorsAnswer k sector count old (Err refusal) new

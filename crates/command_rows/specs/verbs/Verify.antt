@@ -131,13 +131,13 @@ pub record RefusesLong (restart : Bool) (line : List ℕ) (file : Span) (old : C
   pub long : refusal ≡ refusals.FileTooLong file.word place_size
   pub refuses : RefusesFile place_size line file old refusal new
 
--- the bytes say a place behind the last of so many sectors
+-- the bytes say a place beyond the last of so many sectors
 pub record SaysTooFar (word : ℕ) (bytes : List ℕ) (there : ℕ) (refusal : Refusal) : Type 0 where
   pub place : ℕ
   pub says : place_in word (Some bytes) ≡ Ok place
   pub refused : if_inside place there ≡ Err refusal
 
--- the file has too few bytes for a place, or says one behind the last sector of what is attached
+-- the file has too few bytes for a place, or says one beyond the last sector of what is attached
 pub record RefusesPlace (line : List ℕ) (file : Span) (restart : Bool) (disk : DiskState) (told : Option Files) (refusal : Refusal) (a : Attachment) : Type 0 where
   pub loads : restart ≡ false
   pub bytes : List ℕ

@@ -1,4 +1,4 @@
--- Events that are logged after others are logged behind them.
+-- Events that are logged after others are logged after them.
 use Rattle.std.proofs.Common.{ap, ◌∙◌}
 use Rattle.block_traits.specs.Content.{logged}
 use Rattle.block_traits.proofs.Logs.{logged-append}

@@ -1,4 +1,4 @@
--- The first colon behind the front, and what a join is.
+-- The first colon after the front, and what a join is.
 use Rattle.std.proofs.Common.{arith}
 use Rattle.disk_layers.proofs.Colons.{joins, no_join-short, no_join-none, plain}
 use Rattle.disk_layers.proofs.layer.join_of.Goals as goal

@@ -1,6 +1,7 @@
 pub mod Cabinets
 pub mod ImageLemmas
 pub mod Keeping
+pub mod Looks
 pub mod PlanLemmas
 pub mod Replay
 pub mod Streams

@@ -11,7 +11,7 @@ use Rattle.crash_disk.specs.declared.plan.CallKind.TheVariants as call
 use Rattle.crash_disk.specs.declared.mem_disk.MemDisk.{MemDisk}
 use Rattle.crash_disk.specs.Count.{one_more}
 use Rattle.crash_disk.specs.Image.{numbers_below}
-use Rattle.crash_disk.specs.Plan.{PlanState, counted, more_reads, no_plan, planned}
+use Rattle.crash_disk.specs.Plan.{PlanState, counted, has_read, more_reads, no_plan, planned}
 use Rattle.crash_disk.specs.SectorLog.{content_of}
 
 -- its content, how many events it has room for, how often it has failed, and which calls fail
@@ -60,6 +60,10 @@ change_fails kind state = is_full state || is_some (planned kind state.plan)
 -- its event is appended: there is room, and it doesn't fail or the plan says that it lands
 abbrev pub change_lands : CallKind → MemState → Bool
 change_lands kind state = not (is_full state) && unwrap_or (planned kind state.plan) true
+
+-- a look gives what stands: the plan has no read, which one of the reads could be that it serves
+abbrev pub lets_look : MemState → Bool
+lets_look state = not (has_read state.plan.entries)
 
 -- after the next read
 abbrev pub after_read : MemState → MemState

@@ -50,3 +50,8 @@ lands_at kind nth (entry ∷ entries) = if same_kind entry.kind kind && (entry.n
 -- what the entries say of the next call of a kind
 abbrev pub planned : CallKind → PlanState → Option Bool
 planned kind plan = lands_at kind (one_more (made kind plan)) plan.entries
+
+-- there is an entry for a read
+abbrev pub has_read : List FailAt → Bool
+has_read [] = false
+has_read (entry ∷ entries) = if same_kind entry.kind Read then true else has_read entries

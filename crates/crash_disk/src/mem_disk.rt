@@ -148,12 +148,12 @@ impl MemDisk {
 }
 
 impl Disk for MemDisk {
-    ghost use Rattle.std.specs.Prelude.{◌+◌, ◌%◌};
+    ghost use Rattle.std.specs.Prelude.{true, ◌+◌, ◌%◌};
     ghost use Rattle.block_traits.specs.Causes.{Counted};
-    ghost use Rattle.block_traits.specs.Disk.{FailsIn, Gives, Logs, write_events};
+    ghost use Rattle.block_traits.specs.Disk.{FailsIn, Gives, GivesEach, Logs, write_events};
     ghost use Rattle.block_traits.specs.EachWritten.{EachWritten};
     ghost use Rattle.block_traits.specs.Parts.{parts};
-    ghost use Rattle.crash_disk.specs.MemDisk.{WritesSector, after_change, after_look, after_read, change_fails, mem_disk_of, read_fails, mem_state_of};
+    ghost use Rattle.crash_disk.specs.MemDisk.{WritesSector, after_change, after_look, after_read, change_fails, lets_look, mem_disk_of, read_fails, mem_state_of};
 
     ghost state = { mem_disk_of };
 
@@ -175,6 +175,25 @@ impl Disk for MemDisk {
         }
         *into = *self.log.get(n);
         Ok(())
+    }
+
+    /// A look gives what stands now, unless the plan has a read. A read that a look serves can't fail: so where one may
+    /// have to, each is made by itself.
+    fn peek(&mut self, first: u64, into: &mut [u8]) -> bool
+        requires whole { length into.old % 512 ≡ 0 }
+        requires inside { first + length into.old / 512 ≤ (mem_disk_of self.old).size }
+        ensures stand { result ≡ true → GivesEach (mem_disk_of self.old) first into.new }
+        ensures stays { mem_disk_of self.new ≡ mem_disk_of self.old }
+        ensures answer { result ≡ lets_look (mem_state_of self.old) }
+        ensures after { mem_state_of self.new ≡ mem_state_of self.old }
+    {
+        if self.plan.has_read() {
+            return false;
+        }
+        for j in 0..into.len() / 512 {
+            into[512 * j..512 * j + 512].copy_from_slice(self.log.get(first + j as u64));
+        }
+        true
     }
 
     fn count_reads(&mut self, many: u64)

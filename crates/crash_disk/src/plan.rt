@@ -1,6 +1,6 @@
 //! Which calls of a disk fail.
 ghost use Rattle.std.specs.Prelude.{◌≡◌, OnOk, OnErr};
-ghost use Rattle.crash_disk.specs.Plan.{lands_at};
+ghost use Rattle.crash_disk.specs.Plan.{has_read, lands_at};
 
 use block_traits::NoMemory;
 use std::alloc::Global;
@@ -86,6 +86,13 @@ impl Plan {
         self.reads = self.reads.saturating_add(many);
     }
 
+    /// Whether a read is among the calls that fail, also where that was made.
+    pub fn has_read(&self) -> bool
+        ensures { result ≡ has_read self.now.entries }
+    {
+        has_read(&self.entries)
+    }
+
     fn count(&mut self, kind: CallKind)
         ensures { self.new ≡ counted kind self.old }
     {
@@ -117,4 +124,16 @@ fn entry_at(entries: &[FailAt], kind: CallKind, nth: u64) -> Option<bool>
         }
     }
     None
+}
+
+// Whether an entry is for a read.
+fn has_read(entries: &[FailAt]) -> bool
+    ensures { result ≡ has_read entries.now }
+{
+    for entry in entries {
+        if entry.kind == CallKind::Read {
+            return true;
+        }
+    }
+    false
 }

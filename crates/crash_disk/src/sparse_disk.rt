@@ -141,12 +141,12 @@ impl SparseDisk {
 }
 
 impl Disk for SparseDisk {
-    ghost use Rattle.std.specs.Prelude.{◌+◌, ◌%◌, ◌/◌};
+    ghost use Rattle.std.specs.Prelude.{true, ◌+◌, ◌%◌, ◌/◌};
     ghost use Rattle.block_traits.specs.Causes.{Counted};
-    ghost use Rattle.block_traits.specs.Disk.{FailsIn, Gives, Logs, write_events};
+    ghost use Rattle.block_traits.specs.Disk.{FailsIn, Gives, GivesEach, Logs, write_events};
     ghost use Rattle.block_traits.specs.EachWritten.{EachWritten};
     ghost use Rattle.block_traits.specs.Parts.{parts};
-    ghost use Rattle.crash_disk.specs.MemDisk.{WritesSector, after_change, after_look, after_read, change_fails, read_fails};
+    ghost use Rattle.crash_disk.specs.MemDisk.{WritesSector, after_change, after_look, after_read, change_fails, lets_look, read_fails};
     ghost use Rattle.crash_disk.specs.SparseDisk.{sparse_disk_of, sparse_state_of};
 
     ghost state = { sparse_disk_of };
@@ -169,6 +169,25 @@ impl Disk for SparseDisk {
         }
         *into = self.log.get(n);
         Ok(())
+    }
+
+    /// A look gives what stands now, unless the plan has a read. A read that a look serves can't fail: so where one may
+    /// have to, each is made by itself.
+    fn peek(&mut self, first: u64, into: &mut [u8]) -> bool
+        requires whole { length into.old % 512 ≡ 0 }
+        requires inside { first + length into.old / 512 ≤ (sparse_disk_of self.old).size }
+        ensures stand { result ≡ true → GivesEach (sparse_disk_of self.old) first into.new }
+        ensures stays { sparse_disk_of self.new ≡ sparse_disk_of self.old }
+        ensures answer { result ≡ lets_look (sparse_state_of self.old) }
+        ensures after { sparse_state_of self.new ≡ sparse_state_of self.old }
+    {
+        if self.plan.has_read() {
+            return false;
+        }
+        for j in 0..into.len() / 512 {
+            into[512 * j..512 * j + 512].copy_from_slice(&self.log.get(first + j as u64));
+        }
+        true
     }
 
     fn count_reads(&mut self, many: u64)

@@ -68,8 +68,8 @@ pub(crate) fn read_sectors<D: Disk>(
     }
 }
 
-/// Reads the sectors of a range. Its bytes then stand in `into` from `cover.skip` on. `false`: the disk failed, or a unit
-/// has another tag than its ciphertext.
+/// Reads the sectors of a range. Its bytes then stand in `into` from `cover.skip` on. `false`: the disk failed, or a
+/// unit has another tag than its ciphertext.
 pub fn read_range<D: Disk>(
     provider: &mut Provider<D>,
     range: &ByteRange,

@@ -87,8 +87,8 @@ fn put_back<D: Disk>(
 }
 
 // Puts beside the bytes of a write, which stand at their places among the bytes of its sectors, what the first and the
-// last sector have there. `edge` is room for one sector. `false`: the disk failed, or a unit of such a sector has another
-// tag than its ciphertext.
+// last sector have there. `edge` is room for one sector. `false`: the disk failed, or a unit of such a sector has
+// another tag than its ciphertext.
 fn splice<D: Disk>(
     provider: &mut Provider<D>,
     sectors: &mut [u8],
@@ -158,9 +158,9 @@ fn flush_where<D: Disk>(provider: &mut Provider<D>, wanted: bool) -> bool
 }
 
 /// Writes a range, whose bytes stand in `sectors` from `cover.skip` on, and flushes the disk where `flush` asks for it.
-/// What the first and the last sector have beside the range is read first: at most two sectors, and none where the range
-/// is whole sectors. `edge` is room for one sector. `false`: the disk failed; or a unit that had to be read has another
-/// tag than its ciphertext, and nothing was written.
+/// What the first and the last sector have beside the range is read first: at most two sectors, and none where the
+/// range is whole sectors. `edge` is room for one sector. `false`: the disk failed; or a unit that had to be read has
+/// another tag than its ciphertext, and nothing was written.
 pub fn write_range<D: Disk>(
     provider: &mut Provider<D>,
     sectors: &mut [u8],

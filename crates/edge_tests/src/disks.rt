@@ -144,8 +144,8 @@ fn run_of(alloc: Global, sectors: u8) -> Result<Vec<u8>, AllocError> {
     Ok(bytes)
 }
 
-// Whether the image of a name takes a run from sector 1 on that is flushed, after its first and third sector, which have
-// zeros, were read.
+// Whether the image of a name takes a run from sector 1 on that is flushed, after its first and third sector, which
+// have zeros, were read.
 fn takes_run_as(rt: &HostRuntime, name: &str, run: &[u8]) -> Result<bool, Fail> {
     let mut opener = SystemFiles::new(rt.clone()?);
     let mut files = Vec::new(rt.alloc());

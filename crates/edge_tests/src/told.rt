@@ -342,8 +342,8 @@ fn alone<'a>(words: &'a [&'a str], room: u64) -> Given<'a> {
 }
 
 // Just the images, the random bytes and the files that lines load are opened, an image to be changed but where the
-// command only reads; no file is made, replaced or removed but the one that a line names to be stored, each other has its
-// bytes, and three words are served.
+// command only reads; no file is made, replaced or removed but the one that a line names to be stored, each other has
+// its bytes, and three words are served.
 #[test]
 fn a_run_changes_no_name_but_those_it_stores(rt: HostRuntime) -> Result<(), Fail> {
     let alloc = rt.alloc();

@@ -4,9 +4,9 @@
 //! below 2^53. A name that gives no image gives a disk too: it has two sectors, no file, and its every call fails. So
 //! callers need no second kind of value for an image that isn't there.
 //!
-//! Callers may rely on each call being at most one read, write or sync of the file. A call that fails is counted once
-//! in `faults`, and nothing else is. A write asks for the file's end first, so a file that became shorter isn't made
-//! longer. What a failed write leaves isn't known: it may end within a sector.
+//! Callers may rely on each call being at most one read, write or sync of the file. A read, write or flush that fails
+//! is counted once in `faults`, and nothing else is. A write asks for the file's end first, so a file that became
+//! shorter isn't made longer. What a failed write leaves isn't known: it may end within a sector.
 //!
 //! After a failed sync every flush fails, and the file isn't asked again (`unsynced`). The system may have dropped
 //! what it couldn't write, and a second sync could succeed without it.

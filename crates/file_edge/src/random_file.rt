@@ -50,7 +50,8 @@ impl<F: ImageFile> Entropy for RandomFile<F> {
       calls = random.calls;
     } };
 
-    /// Besides what entropy does: it returns what the device returned, and fails only where that failed or there is none.
+    /// Besides what entropy does: it returns what the device returned, and fails only where that failed or there is
+    /// none.
     fn fill(&mut self, into: &mut [u8]) -> Result<(), EntropyFailed>
         ensures ok { OnOk result (left_in F.left self.old.device
             ≡ prepend_known into.new (left_in F.left self.new.device)) }

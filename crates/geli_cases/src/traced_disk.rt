@@ -41,7 +41,8 @@ pub fn untraced(alloc: Global, disk: SparseDisk, gives_looks: bool) -> Result<Tr
 }
 
 impl TracedDisk {
-    /// A disk to which nothing was done, with its trace, and whether a look gives what the disk in it gives, or nothing.
+    /// A disk to which nothing was done, with its trace, and whether a look gives what the disk in it gives, or
+    /// nothing.
     pub fn new(disk: SparseDisk, trace: SharedTrace, gives_looks: bool) -> TracedDisk {
         TracedDisk {
             disk,

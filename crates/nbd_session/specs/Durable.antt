@@ -87,8 +87,9 @@ DidEach number k c (x ∷ xs) (d ∷ ds) =
 DidEach number k c [] (d ∷ ds) = ⊥
 DidEach number k c (x ∷ xs) [] = ⊥
 
--- What exchanges did to a disk that told this content before, as steps: its history grew by exactly their events; and if
--- power fails at any moment of them, each logical sector of the image that is left reads as promised, under each keying.
+-- What exchanges did to a disk that told this content before, as steps: its history grew by exactly their events; and
+-- if power fails at any moment of them, each logical sector of the image that is left reads as promised, under each
+-- keying.
 pub record Survives (k : Keying) (xs : List Exchange) (c : Content) (new : DiskState) : Type 0 where
   pub deeds : List Deed
   pub did : DidEach 0 k c xs deeds

@@ -100,8 +100,8 @@ pub record IsAcknowledged (k : Keying) (xs : List Exchange) (x : Exchange) (byte
 abbrev pub steps_to_flush : (k : Keying) (xs : List Exchange) (x : Exchange) (bytes : List ℕ) (part : ByteRange) → IsAcknowledged k xs x bytes part → List Deed → ℕ
 steps_to_flush k xs x bytes part a deeds = length (session_steps 0 k (a.before ++ (x ∷ a.between)) deeds)
 
--- A write that is acknowledged lasts. If power fails when the flush was answered, or at any moment later, each such part of
--- its range reads as its bytes there in every torn image that is left.
+-- A write that is acknowledged lasts. If power fails when the flush was answered, or at any moment later, each such
+-- part of its range reads as its bytes there in every torn image that is left.
 abbrev pub LastsIn : Keying → List Exchange → Content → List Deed → Type 0
 LastsIn k xs c deeds = (x : Exchange) (bytes : List ℕ) (part : ByteRange) (a : IsAcknowledged k xs x bytes part) (t : ℕ) (image : List (List ℕ)) →
     steps_to_flush k xs x bytes part a deeds ≤ t → IsTorn (moment t (session_steps 0 k xs deeds) c) image →
@@ -170,8 +170,8 @@ abbrev pub IsGivenSince : (k : Keying) (xs : List Exchange) (x : Exchange) (byte
 IsGivenSince k xs x bytes a deeds t sector j w =
     OneHasGiven (length a.before) k (x ∷ (a.between ++ a.since)) (drop (length a.before) deeds) (steps_left k xs x bytes a deeds t) sector j w
 
--- From the flush's answer on, all that a device sector of its range may hold was placed there by the write or by a later
--- one.
+-- From the flush's answer on, all that a device sector of its range may hold was placed there by the write or by a
+-- later one.
 abbrev pub HoldsOrLater : Keying → List Exchange → Content → List Deed → Type 0
 HoldsOrLater k xs c deeds = (x : Exchange) (bytes : List ℕ) (a : IsFlushedWrite xs x bytes) (t sector j : ℕ) →
     IsBehindFlush k xs x bytes a deeds t → Covers k (range_of x.request) sector → j < units k →
@@ -189,8 +189,8 @@ pub record IsTornThere (cell : List Writing) (now : Content) (image : List (List
   pub writing : Writing
   pub strange : IsStrange cell (get_or image n []) writing
 
--- So in every torn image each unit there reads as the write gave it, or as a later one did; or it was being written, and
--- then `Endures` says what it may read as.
+-- So in every torn image each unit there reads as the write gave it, or as a later one did; or it was being written,
+-- and then `Endures` says what it may read as.
 abbrev pub UnitsLastOrLater : Keying → List Exchange → Content → List Deed → Type 0
 UnitsLastOrLater k xs c deeds = (x : Exchange) (bytes : List ℕ) (a : IsFlushedWrite xs x bytes) (t sector j : ℕ) (image : List (List ℕ)) →
     IsBehindFlush k xs x bytes a deeds t → Covers k (range_of x.request) sector → j < units k →
@@ -205,8 +205,8 @@ pub record IsInUnit (k : Keying) (j : ℕ) (r : ByteRange) : Type 0 where
   pub starts : unit_bytes_of k.auth * j ≤ skipped k r
   pub ends : skipped k r + r.count ≤ unit_bytes_of k.auth * j + unit_size k j
 
--- they aren't among the first 16 bytes of a unit that is chained to the one before it: those are lost where the two stem
--- from different writes
+-- they aren't among the first 16 bytes of a unit that is chained to the one before it: those are lost where the two
+-- stem from different writes
 abbrev pub KeepsFront : Keying → ℕ → ByteRange → Type 0
 KeepsFront k j r = (are_chained k.cipher k.auth ≡ false) ⊎ (j ≡ 0) ⊎ (unit_bytes_of k.auth * j + 16 ≤ skipped k r)
 
@@ -271,8 +271,8 @@ pub record IsKeptSince (k : Keying) (xs : List Exchange) (flush : Exchange) (r :
 abbrev pub steps_through : (k : Keying) (xs : List Exchange) (flush : Exchange) (r : ByteRange) → IsKeptSince k xs flush r → List Deed → List Step
 steps_through k xs flush r a deeds = session_steps 0 k (a.before ++ (flush ∷ [])) deeds
 
--- As a range read when the flush was answered, whoever wrote it and however often, so it reads in every torn image that is
--- left if power fails then or at any moment later.
+-- As a range read when the flush was answered, whoever wrote it and however often, so it reads in every torn image that
+-- is left if power fails then or at any moment later.
 abbrev pub KeepsIn : Keying → List Exchange → Content → List Deed → Type 0
 KeepsIn k xs c deeds = (flush : Exchange) (r : ByteRange) (a : IsKeptSince k xs flush r) (t : ℕ) (image : List (List ℕ)) →
     first_sector k r + sectors_covered k r ≤ content_media k c → length (steps_through k xs flush r a deeds) ≤ t →

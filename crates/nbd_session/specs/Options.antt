@@ -38,7 +38,8 @@ abbrev pub is_export_name : OptionKind → Bool
 is_export_name kinds.ExportName = true
 is_export_name kind = false
 
--- whether an option is taken of this client: its data aren't too many; without fixed newstyle, it is NBD_OPT_EXPORT_NAME
+-- whether an option is taken of this client: its data aren't too many; without fixed newstyle, it is
+-- NBD_OPT_EXPORT_NAME
 abbrev pub is_taken : ClientFlags → OptionHead → Bool
 is_taken client head = nat_le head.length option_limit && (client.fixed_newstyle || is_export_name (option_kind head.code))
 

@@ -1,5 +1,5 @@
--- What a request of a client does to the provider, and what is answered (the NBD project's doc/proto.md, "Request types"
--- and "Error values").
+-- What a request of a client does to the provider, and what is answered (the NBD project's doc/proto.md, "Request
+-- types" and "Error values").
 use Rattle.std.specs.Prelude.{◌≡◌, ◌⊎◌, ℕ, ◌<◌, ◌≤◌, Bool, true, false, List, [], ◌∷◌, ◌++◌, length, replicate, Some}
 use Rattle.block_traits.specs.Disk.{DiskState, FailsIn, Logs}
 use Rattle.block_traits.specs.declared.disk.Event.TheVariants.{Flush}

@@ -63,10 +63,10 @@ abbrev pub FlushesLast : {E : Type 0} → Result (Unit {0}) E → DiskState → 
 FlushesLast (Ok done) old new = Logs (Flush ∷ []) old new
 FlushesLast (Err failed) old new = FailsIn (Flush ∷ []) old new
 
--- What became of a client and a provider on a disk, before the last flush. Just what the client said was taken, and just
--- the answers were given, one for each option and request, in order; where the sink failed, all but the last whole, and
--- nothing was taken after that. The export that was told is the provider. Each request was served on the disk that the
--- one before it left. Whether a write, a request for zeros or a flush was answered with an error.
+-- What became of a client and a provider on a disk, before the last flush. Just what the client said was taken, and
+-- just the answers were given, one for each option and request, in order; where the sink failed, all but the last
+-- whole, and nothing was taken after that. The export that was told is the provider. Each request was served on the
+-- disk that the one before it left. Whether a write, a request for zeros or a flush was answered with an error.
 pub record Talks (side : Side) (end : End) (denied : Bool) (source rest : SourceState) (sink after : SinkState) (old new : DiskState) : Type 0 where
   pub talk : Talk
   pub took : SourceGave (bytes_said talk) source rest

@@ -14,16 +14,16 @@ use crate::streams::End;
 use block_traits::{Disk, DiskFailed, Sink, Source};
 use provider::Provider;
 
-/// The bytes of the room in which a client is served: a reply's head, a request's bytes, and what its first and its last
-/// sector have beside them.
+/// The bytes of the room in which a client is served: a reply's head, a request's bytes, and what its first and its
+/// last sector have beside them.
 pub const ROOM: usize = 33_685_520;
 
 /// The bytes of the edge, in which a sector is read that a write covers in part.
 pub const EDGE: usize = 65_536;
 
-/// Serves a client until it ends, and then flushes the disk, however the session ended. It gives why it ended, the disk,
-/// whether the last flush was made, and whether a write, a request for zeros or a flush was answered with an error. The
-/// room has `ROOM` bytes and the edge `EDGE`; nothing is allocated.
+/// Serves a client until it ends, and then flushes the disk, however the session ended. It gives why it ended, the
+/// disk, whether the last flush was made, and whether a write, a request for zeros or a flush was answered with an
+/// error. The room has `ROOM` bytes and the edge `EDGE`; nothing is allocated.
 pub fn serve<D: Disk, S: Source, K: Sink>(
     provider: Provider<D>,
     room: &mut [u8],

@@ -8,8 +8,8 @@ use nbd_session::End;
 use std::alloc::Global;
 use std::test::Fail;
 
-// What the requests of `GOING` ask of a disk, with sectors of 512 bytes: sectors that are read, written, and flushes. A write
-// reads each sector that it covers in part first.
+// What the requests of `GOING` ask of a disk, with sectors of 512 bytes: sectors that are read, written, and flushes. A
+// write reads each sector that it covers in part first.
 const CALLS: [(u64, u64, u64); 25] = [
     (1, 1, 1),
     (1, 0, 0),
@@ -93,8 +93,8 @@ impl Failing {
         place.serves(provider, &mut input, output)
     }
 
-    // Whether just the request that meets the failure is answered with NBD_EIO, every other one as by nbdkit, and just the
-    // events that the failure keeps away are missing.
+    // Whether just the request that meets the failure is answered with NBD_EIO, every other one as by nbdkit, and just
+    // the events that the failure keeps away are missing.
     fn is_answered(&self, alloc: Global, place: &mut Place) -> Result<bool, Fail> {
         let mut output = MemSink::new(alloc, &[], &[], 8192)?;
         let outcome = self.outcome(alloc, place, &mut output)?;
@@ -164,8 +164,8 @@ fn a_disk_fails_at_each_call(rt: HostRuntime) -> Result<(), Fail> {
     Ok(())
 }
 
-// What a client of one write and one read is answered where the source or the sink fails at a call: why the session ended,
-// how many bytes were answered, and how many events there are.
+// What a client of one write and one read is answered where the source or the sink fails at a call: why the session
+// ended, how many bytes were answered, and how many events there are.
 fn with_streams(
     alloc: Global,
     place: &mut Place,
@@ -187,8 +187,8 @@ fn with_streams(
     Ok((outcome.end, output.bytes().len(), history.len()))
 }
 
-// The source is asked for the flags, the head of the option, the head of the write, its bytes, the head of the read and that
-// of the end. The answers are a greeting of 18 bytes, an export of 10, a reply of 16 and one of 32.
+// The source is asked for the flags, the head of the option, the head of the write, its bytes, the head of the read and
+// that of the end. The answers are a greeting of 18 bytes, an export of 10, a reply of 16 and one of 32.
 #[test]
 fn a_source_fails_at_each_call(rt: HostRuntime) -> Result<(), Fail> {
     let alloc = rt.alloc();

@@ -79,8 +79,8 @@ fn a_session_begins_as_nbdkits(rt: HostRuntime) -> Result<(), Fail> {
     Ok(())
 }
 
-// The options of the client that asks: structured replies, the exports, what one is by no name and by another, and to be
-// served. Each stands after the one before it, with so many bytes of data.
+// The options of the client that asks: structured replies, the exports, what one is by no name and by another, and to
+// be served. Each stands after the one before it, with so many bytes of data.
 const OPTIONS: [(usize, u32, u32); 5] = [
     (4, 8, 0),
     (20, 3, 0),

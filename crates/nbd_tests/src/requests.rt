@@ -80,7 +80,8 @@ impl Client {
     }
 }
 
-// What a client was answered after the negotiation, why the session ended, and the events since the provider was attached.
+// What a client was answered after the negotiation, why the session ended, and the events since the provider was
+// attached.
 #[derive(Drop)]
 struct Answer {
     end: End,
@@ -123,8 +124,8 @@ const SIZE: u64 = 262_144;
 
 const MOST: u32 = 33_554_432;
 
-// Requests that are refused: whether the export is read-only, the request's code, flags, offset and length, and the number of
-// the error: NBD_EPERM is 1, NBD_EINVAL 22, NBD_ENOSPC 28.
+// Requests that are refused: whether the export is read-only, the request's code, flags, offset and length, and the
+// number of the error: NBD_EPERM is 1, NBD_EINVAL 22, NBD_ENOSPC 28.
 const REFUSED: [(bool, u16, u16, u64, u32, u8); 32] = [
     (false, READ, 0, 0, 0, 22),
     (false, READ, 0, 0, MOST + 1, 22),
@@ -300,8 +301,8 @@ const LIST: u32 = 3;
 
 const STRANGE: u32 = 99;
 
-// Flags that aren't known, another magic number, too much data, and an option of a client that takes no answers: none of them
-// is answered after the greeting. What has as much data as is taken is.
+// Flags that aren't known, another magic number, too much data, and an option of a client that takes no answers: none
+// of them is answered after the greeting. What has as much data as is taken is.
 #[test]
 fn what_ends_the_negotiation(rt: HostRuntime) -> Result<(), Fail> {
     let alloc = rt.alloc();

@@ -95,8 +95,8 @@ fn the_largest_sectors(rt: HostRuntime) -> Result<(), Fail> {
     Ok(())
 }
 
-// How many bytes are answered to the first `taken` bytes of the client that reads and writes. A message is answered when
-// it came whole: what it says of itself and its one option, then each request with the bytes of a write.
+// How many bytes are answered to the first `taken` bytes of the client that reads and writes. A message is answered
+// when it came whole: what it says of itself and its one option, then each request with the bytes of a write.
 fn answered_to(taken: usize) -> usize {
     if taken < 28 {
         return 18;

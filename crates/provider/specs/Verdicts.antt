@@ -6,7 +6,8 @@ use Rattle.eli_base.specs.Units.{unit_bytes_of}
 use Rattle.sealing.specs.Sectors.{unit_reading_at, units}
 use Rattle.provider.specs.declared.judged.Judged.{Judged}
 
--- whether the unit of a number among them is accepted, as the one that stands there; the first device sector has number n
+-- whether the unit of a number among them is accepted, as the one that stands there; the first device sector has number
+-- n
 abbrev pub accepted_among : Keying → ℕ → List ℕ → ℕ → Bool
 accepted_among k n device m = is_ok (unit_reading_at k (n + m) (part 512 m device))
 

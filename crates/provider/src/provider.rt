@@ -339,9 +339,9 @@ impl<D: Disk> Provider<D> {
         self.disk.read(n, into)
     }
 
-    /// Looks at as many device sectors as `into` has room for at once, the first of number `n`, where the disk lets that
-    /// be done. True: `into` has them, and a read of each is counted. False: nothing has changed, and `into` may hold
-    /// any bytes.
+    /// Looks at as many device sectors as `into` has room for at once, the first of number `n`, where the disk lets
+    /// that be done. True: `into` has them, and a read of each is counted. False: nothing has changed, and `into` may
+    /// hold any bytes.
     pub fn look(&mut self, n: u64, into: &mut [u8]) -> bool
         requires whole { length into.old % 512 ≡ 0 }
         requires inside { n + length into.old / 512 ≤ media self.old.keying (D.state self.old.disk) * units self.old.keying }

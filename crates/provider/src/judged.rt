@@ -10,8 +10,8 @@ pub struct Judged {
     /// How many rows there are.
     pub rows: usize,
     /// Of each row, which units are accepted: the one of its number, and each `rows` behind the one before it.
-    pub accepted: [[bool; 4]; 4],
+    pub accepted: [[bool; 4]; 10],
     pub ghost some: { 1 ≤ rows },
-    pub ghost few: { rows ≤ 4 },
+    pub ghost few: { rows ≤ 10 },
     pub ghost within: { count ≤ 4 * rows },
 }

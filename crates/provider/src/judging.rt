@@ -9,6 +9,10 @@ use auth_sectors::{apart_accepted, unit_accepted};
 use block_traits::sector_of;
 use range_keys::KeyRing;
 
+// How many rows are checked at once, at most. A logical sector of 4,096 bytes has ten units with HMAC/SHA512, and nine
+// with HMAC/SHA256.
+const MOST_ROWS: usize = 10;
+
 impl Judged {
     /// Whether the unit of this number among them is accepted.
     pub fn accepts(&self, m: usize) -> bool
@@ -45,7 +49,7 @@ fn judge_one(ring: &KeyRing, n: u64, device: &[u8]) -> Judged
     Judged {
         count: 1,
         rows: 1,
-        accepted: [[accepted; 4]; 4],
+        accepted: [[accepted; 4]; MOST_ROWS],
     }
 }
 
@@ -67,22 +71,22 @@ fn judge_four(ring: &KeyRing, n: u64, device: &[u8]) -> Judged
     Judged {
         count: 4,
         rows: 1,
-        accepted: [apart_accepted(ring, 512 * n, 512, size, four); 4],
+        accepted: [apart_accepted(ring, 512 * n, 512, size, four); MOST_ROWS],
     }
 }
 
-// The units of four logical sectors, of which the first begins in device sector `n`. Each has four units at most.
+// The units of four logical sectors, of which the first begins in device sector `n`. Each has ten units at most.
 fn judge_four_sectors(ring: &KeyRing, n: u64, device: &[u8]) -> Judged
     requires on { ring.now.keying.auth ≢ Off }
     requires begins { n % units ring.now.keying ≡ 0 }
-    requires few { units ring.now.keying ≤ 4 }
+    requires few { units ring.now.keying ≤ 10 }
     requires all { 512 * (4 * units ring.now.keying) ≤ length device.now }
     requires small { n < 2 ^ 44 }
     ensures { Judges ring.now.keying n device.now result }
 {
     let units = ring.layout().units;
     let width = 512 * units;
-    let mut accepted = [[false; 4]; 4];
+    let mut accepted = [[false; 4]; MOST_ROWS];
     for j in 0..units {
         let unit = ring.unit(n / units as u64, j);
         let at = 512 * j;
@@ -102,8 +106,8 @@ fn judge_four_sectors(ring: &KeyRing, n: u64, device: &[u8]) -> Judged
     }
 }
 
-/// Checks the next units of device sectors that stand one after the other, the first of number `n`: four whole ones of
-/// a logical sector, or all of four logical sectors that have no four whole ones, or one.
+/// Checks the next units of device sectors that stand one after the other, the first of number `n`: all of four
+/// logical sectors of ten units or fewer, or four whole ones of one logical sector, or one.
 pub fn judge(ring: &KeyRing, n: u64, device: &[u8]) -> Judged
     requires on { ring.now.keying.auth ≢ Off }
     requires some { 512 ≤ length device.now }
@@ -114,11 +118,11 @@ pub fn judge(ring: &KeyRing, n: u64, device: &[u8]) -> Judged
     let j = (n % layout.units as u64) as usize;
     let whole = layout.size / layout.unit_bytes;
     let count = device.len() / 512;
+    if j == 0 && layout.units <= MOST_ROWS && 4 * layout.units <= count {
+        return judge_four_sectors(ring, n, device);
+    }
     if j + 4 <= whole && 4 <= count {
         return judge_four(ring, n, device);
-    }
-    if j == 0 && whole < 4 && 4 * layout.units <= count {
-        return judge_four_sectors(ring, n, device);
     }
     judge_one(ring, n, device)
 }

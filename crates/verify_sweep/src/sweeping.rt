@@ -25,7 +25,7 @@ pub struct Swept {
 const MOST_UNITS: u64 = 16_384;
 
 // How many device sectors are looked at at once, at most.
-const WINDOW: u64 = 36;
+const WINDOW: u64 = 40;
 
 // Puts the offset of device sector `n` behind so many others, where its unit isn't accepted. Gives how many are
 // listed then.
@@ -91,19 +91,20 @@ fn list_all<D: Disk>(on: &Provider<D>, n: u64, device: &[u8], found: &mut [u8], 
 }
 
 // How many device sectors are looked at at once, the first of number `n`, of so many that are left: those of whole
-// logical sectors where they fit, and of fours of small ones, since their tags are computed side by side.
+// logical sectors where they fit, and a multiple of four of those that have ten units or fewer: the tags of four such
+// sectors are computed side by side.
 fn looked_at(units: u64, n: u64, left: u64) -> u64
     requires units { 1 ≤ units }
     requires left { 1 ≤ left }
     ensures some { 1 ≤ result }
     ensures within { result ≤ left }
-    ensures fits { 512 * result ≤ 18432 }
+    ensures fits { 512 * result ≤ 20480 }
 {
     let begun = n % units;
     if begun != 0 || units > WINDOW {
         return (units - begun).min(WINDOW).min(left);
     }
-    let group = if units <= 4 { 4 * units } else { units };
+    let group = if units <= 10 { 4 * units } else { units };
     (WINDOW - WINDOW % group).min(left)
 }
 
@@ -122,7 +123,7 @@ fn look_on<D: Disk>(
     requires inside { n + left ≤ media on.old.keying (D.state on.old.disk) * units on.old.keying }
     requires few { bad + left ≤ 16384 }
     requires room { request_limit ≤ length found.old }
-    requires window { 18432 ≤ length window.old }
+    requires window { 20480 ≤ length window.old }
     ensures many { IfOk result (λ seen. (1 ≤ seen.0) × (seen.0 ≤ left)) }
     ensures ok { IfOk result (λ seen. Looks on.old.keying n seen.0 bad seen.1 found.old found.new (D.state on.old.disk) (D.state on.new.disk)) }
     ensures err { OnErr result (FailsAt 1 (D.state on.old.disk) (D.state on.new.disk)) }
@@ -167,7 +168,7 @@ pub fn sweep<D: Disk>(
     let sectors = count.min(on.sectors() - start).min(MOST_UNITS / units);
     let first = start * units;
     let all = sectors * units;
-    let mut window = [0; 18_432];
+    let mut window = [0; 20_480];
     let mut bad = 0;
     let mut done = 0;
     'looks: while done < all {

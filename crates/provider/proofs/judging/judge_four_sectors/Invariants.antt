@@ -4,6 +4,6 @@ use Rattle.provider.proofs.judging.judge_four_sectors.Given as goal
 
 abbrev pub invariant-loop-j : goal.invariant-loop-j
 invariant-loop-j l = record {
-  long : length l.accepted ≡ 4;
+  long : length l.accepted ≡ 10;
   each : (j i : ℕ) → j < l.j → i < 4 → get_or (get_or l.accepted j []) i false ≡ accepted_among l.ring.keying l.n l.device (i * l.units + j);
 }

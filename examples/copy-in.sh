@@ -3,13 +3,13 @@
 #
 #   copy-in.sh [-c] [-p] [-j PASSFILE] [-k KEYFILE]... SOURCE IMAGE
 #
-# What stands there in the provider is overwritten. The passphrase is asked for; -j names a file whose first line it is,
-# -p says that there is none. With -c the sectors are read again afterwards and compared.
-# Where SOURCE ends within a sector, the rest of that sector becomes zeros.
+# The data in those sectors of the provider are overwritten. The passphrase is asked for; -j names a file whose first
+# line it is, -p says that there is none. With -c the sectors are read again afterwards and compared.
+# If SOURCE ends within a sector, the rest of that sector becomes zeros.
 #
-# It works by nbdcopy(1) over geli-nbd(8) where both are there, and else, or where they fail, in pieces of up to 131,072
-# bytes over one `geli script`, some lines ahead of the replies. It says how far it is on standard error. It answers 0
-# only where all was written and flushed. If it is broken off, some sectors are new and some old: give it again.
+# It uses nbdcopy(1) over geli-nbd(8) if both are installed. Otherwise, or if they fail, it copies in pieces of up to
+# 131,072 bytes over one `geli script`, some lines ahead of the replies. Standard error shows the progress. It exits with
+# 0 only if everything was written and flushed. If it is broken off, some sectors are new and some old: run it again.
 set -euo pipefail
 # shellcheck source=lib.sh
 . "$(dirname -- "$(readlink -f -- "${BASH_SOURCE[0]}")")/lib.sh"

@@ -1,4 +1,4 @@
-# lib.sh: what the scripts of this folder share. It is read by them with `.`, and does nothing alone.
+# lib.sh: what the scripts of this folder share. They read it with `.`; alone it does nothing.
 #
 # GELI and GELI_NBD name the programs, `geli` and `geli-nbd` on the path if they aren't set. The scripts need bash 4.4
 # or later, and python3, which holds the two ends of a `geli script` (lib.py).

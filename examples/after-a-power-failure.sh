@@ -44,7 +44,7 @@ def stop(session, *lines):
 
 
 def metadata(session, length, name):
-    """The fields of the metadata, where they are sound."""
+    """The fields of the metadata, if they are valid."""
     back = f"geli restore BACKUP {shlex.quote(name)}"
     rows, reply = session.ask("dump", session.image)
     if reply != "ok":

@@ -30,7 +30,7 @@ usage() {
     exit 2
 }
 
-# over_disk NAME: sets `size` to what a disk, or a file, has, where nobody else uses it and its loss is meant.
+# over_disk NAME: sets `size` to the bytes of a disk, or a file, if nobody else uses it and the user confirms its loss.
 over_disk() {
     if [ ! -b "$1" ] && [ ! -f "$1" ]; then fail "'$1' is no disk"; fi
     [ -w "$1" ] || fail "'$1' can't be written"

@@ -81,7 +81,7 @@ take_over() {
     remove_claim
 }
 
-# Removes the folder of a mount that nothing stands behind yet; nobody else claims it meanwhile.
+# Removes the folder of a mount for which nothing runs yet; nobody else claims it meanwhile.
 remove_claim() {
     local old=''
     [ ! -s "$state/private" ] || old=$(<"$state/private")

@@ -4,9 +4,9 @@
 #
 #   scrub-provider.sh [-r] [-m MINUTES] [-p] [-j PASSFILE] [-k KEYFILE]... IMAGE PLACE
 #
-# PLACE is a file that remembers where the next run goes on. A run goes on to the end, or with -m for so many minutes;
-# the run after that starts over; -r starts over at once. The passphrase is asked for; -j names a file whose first line
-# it is, -p says that there is none.
+# PLACE is a file that remembers where the next run goes on. A run goes on to the end, or with -m for so many minutes.
+# After one that reached the end the next run starts over; -r starts over at once. The passphrase is asked for; -j names
+# a file whose first line it is, -p says that there is none.
 #
 # The findings go to standard output, and the progress to standard error if that is a terminal. So cron mails the report
 # of a line like this; add `>report || mail -s scrub root <report` at its end to get one only if the status isn't 0:
@@ -55,7 +55,7 @@ from lib import Failed, Progress, Session, WHY_UNREADABLE, fields_of, ranges, ru
 
 
 def beginning(place, restart, sectors):
-    """The sector at which the run begins, and whether it begins anew: also where the last one reached the end."""
+    """The sector at which the run begins, and whether it starts over, as after a run that reached the end."""
     if restart or not os.path.exists(place):
         return 0, True
     with open(place, "rb") as file:

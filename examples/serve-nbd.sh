@@ -4,10 +4,10 @@
 #   serve-nbd.sh [-r] [-n PARTITION] [-p] [-j PASSFILE] [-k KEYFILE]... IMAGE SOCKET
 #   serve-nbd.sh -e SOCKET
 #
-# SOCKET must not exist. The server runs until `serve-nbd.sh -e SOCKET` ends it: nbdkit at the socket, and geli-nbd(8),
-# so that the key is derived once for all clients. -e waits for the clients to disconnect, says who they are, and flushes
-# and detaches the provider. It exits with 0 only if that went well and no write of a client was refused, for example on
-# a full disk. Otherwise it says how many writes were refused, when the first was, and why.
+# SOCKET must not exist. The server runs until `serve-nbd.sh -e SOCKET` ends it. It is geli-nbd(8) with nbdkit at the
+# socket, so that the key is derived once for all clients. -e waits for the clients to disconnect, says who they are,
+# and flushes and detaches the provider. It exits with 0 only if that went well and no write of a client was refused,
+# for example on a full disk. Otherwise it says how many writes were refused, when the first was, and why.
 # -r: read-only. -n: only this partition of the data, counted from 1. The passphrase is asked for; -j names a
 # file whose first line it is, -p says that there is none.
 # It needs nbdkit; geli-nbd(8) alone serves one client. Some clients, with URI=nbd+unix:///?socket=SOCKET (whole path):
@@ -42,7 +42,7 @@ is_server() {
     { read -r _ name state _ <"/proc/$1/stat"; } 2>/dev/null && [[ $name = '(python'* ]] && [ "$state" != Z ]
 }
 
-# Says who is connected to the server behind a socket.
+# Says who is connected to the server at a socket.
 tell_clients() {
     local client
     note "$1: a client is connected, and is waited for: unmount, or end it"
@@ -51,7 +51,7 @@ tell_clients() {
     done <"$2"
 }
 
-# Ends the server behind a socket, and tells whether all was flushed. It serves its clients until they disconnect.
+# Ends the server at a socket, and returns whether all was flushed. It serves its clients until they disconnect.
 end_server() {
     local socket=$1 pid said=''
     local -i turns=0
@@ -105,7 +105,7 @@ is_text "$socket"
 key_ready
 
 # It goes to the background once the provider is attached; no key file is needed any more then. A session of its own
-# keeps it running when the terminal is closed. Where this is broken off before, nobody has asked it to write yet.
+# keeps it running when the terminal is closed. If this is broken off before, nobody has asked it to write yet.
 left() {
     [ -z "${!:-}" ] || kill -KILL -- "-$!" "$!" 2>/dev/null || : # it may have no session yet
     rm -f -- "$socket" "$socket.pid" "$socket.ended" "$socket.clients"

@@ -128,7 +128,7 @@ class Server:
         self.geli = self.nbdkit = self.log = None
 
     def start_geli(self, **streams):
-        # A process that waits for the end of all programs of a mount, by a lock that they inherit, waits for it too.
+        # What waits for the end of all programs of a mount, by a lock that they inherit, waits for geli-nbd too.
         self.geli = subprocess.Popen(self.command, stderr=subprocess.PIPE, preexec_fn=in_child,
                                      close_fds="socket" in self.words, **streams)
 

@@ -12,8 +12,9 @@ the crates on aes_planes are proved for that level by themselves, and their libr
 
 Standard error says how far it is, at least once a minute, and about how long the rest takes: packaging/costs.txt has
 what each crate took on another machine, and what was built so far says how much slower or quicker this one is. Standard
-output has what rt says. GELI_JOBS is how many processors are used; without it, as many as there are, as far as there
-are 4 GB of free memory for each. The status is 0 if all was built.
+output has what rt says. GELI_JOBS is how many jobs are there at a time; without it, as many crates as there are
+processors, if there are 4 GB of free memory for each, and some of them have more than one job. The status is 0 if all
+was built.
 """
 import concurrent.futures
 import contextlib
@@ -30,7 +31,7 @@ import time
 
 PARTS = ("src", "specs", "proofs")
 BYTES_OF_JOB = 4_000_000_000
-MOST_JOBS_OF_CRATE = 4
+MOST_JOBS_OF_CRATE, JOBS_OF_OTHER_CRATES = 4, 2
 SECONDS_OF_SILENCE = 60
 WIDE_LEVELS = ("x86-64-v3",)
 WIDTH_CRATE, WIDTH_FILE = "aes_planes", "src/width.rt"
@@ -91,10 +92,10 @@ class Costs:
                     lines += it.read().count(b"\n")
         return 15 + lines / 10, 10
 
-    def seconds(self, name, jobs):
-        """Returns how long the crate takes with so many jobs."""
+    def seconds(self, name):
+        """Returns how long the crate takes with as many jobs as it can get."""
         work, alone = self.of(name)
-        return alone + (work - alone) / jobs
+        return alone + (work - alone) / MOST_JOBS_OF_CRATE
 
 
 def text_of(file):
@@ -105,10 +106,12 @@ def text_of(file):
 
 
 def processors():
+    """Returns how many processors are used, and whether more jobs than that may be there at a time."""
     given = os.environ.get("GELI_JOBS", "")
     if given.isdigit() and int(given):
-        return int(given)
-    found = [len(os.sched_getaffinity(0))]
+        return int(given), False
+    there = len(os.sched_getaffinity(0))
+    found = [there]
     found += [1024 * int(it) // BYTES_OF_JOB for it in re.findall(r"MemAvailable:\s+(\d+)", text_of("/proc/meminfo"))]
     # What a container may use can be less than the machine has.
     group = ("cpu.max", "memory.max", "memory.current")
@@ -117,7 +120,7 @@ def processors():
         found.append(int(quota[0]) // int(quota[1]))
     if most and taken and most[0].isdigit():
         found.append((int(most[0]) - int(taken[0])) // BYTES_OF_JOB)
-    return max(1, min(found))
+    return max(1, min(found)), min(found) == there
 
 
 def link_or_copy(source, to):
@@ -160,12 +163,13 @@ class Build:
             self.crates += [it for it in [*below(self.uses, top), top] if it not in self.crates]
         self.costs = Costs(tree)
         # How long the longest chain takes that begins with the crate.
-        self.chain = {it: self.costs.seconds(it, MOST_JOBS_OF_CRATE) for it in self.crates}
+        self.chain = {it: self.costs.seconds(it) for it in self.crates}
         for name in reversed(self.crates):
             for dep in self.uses[name]:
-                self.chain[dep] = max(self.chain[dep], self.costs.seconds(dep, MOST_JOBS_OF_CRATE) + self.chain[name])
+                self.chain[dep] = max(self.chain[dep], self.costs.seconds(dep) + self.chain[name])
+        self.lanes, self.may_exceed = processors()
         # The processor seconds of each crate that is built.
-        self.lanes, self.began, self.took = processors(), time.monotonic(), {}
+        self.began, self.took = time.monotonic(), {}
         self.is_ending, self.started = False, set()
 
     def home(self, name):
@@ -261,18 +265,26 @@ class Build:
         proved = [it for it in done if 10 * self.took[it] > work[it]]
         expected = sum(work[it] for it in proved)
         rate = sum(self.took[it] for it in proved) / expected if 20 * expected > sum(work.values()) else 1
-        waiting, step, seconds = set(waiting), 5, 0
-        rest = {}
+        waiting, step, seconds, rest = set(waiting), 5, 0, {}
+
+        def begin(name, jobs, gone):
+            alone = rate * self.costs.of(name)[1]
+            rest[name] = [jobs, alone - gone, max(rate * work[name] - alone - jobs * max(gone - alone, 0), step)]
+
         for name, (jobs, gone) in running.items():
-            rest[name] = [jobs, max(rate * self.costs.seconds(name, jobs) - gone, step)]
+            begin(name, jobs, gone)
         while waiting or rest:
-            while found := self.next_of(waiting, done, self.lanes - sum(jobs for jobs, _ in rest.values())):
-                name, jobs = found
-                waiting.discard(name)
-                rest[name] = [jobs, rate * self.costs.seconds(name, jobs)]
+            while found := self.next_of(waiting, done, {name: it[0] for name, it in rest.items()}):
+                waiting.discard(found[0])
+                begin(*found, 0)
+            busy = sum(1 if alone > 0 else jobs for jobs, alone, _ in rest.values())
+            share = step * min(1, self.lanes / busy)
             for it in rest.values():
-                it[1] -= step
-            for name in [it for it, (_, left) in rest.items() if left <= 0]:
+                if it[1] > 0:
+                    it[1] -= share
+                else:
+                    it[2] -= share * it[0]
+            for name in [name for name, it in rest.items() if it[1] <= 0 and it[2] <= 0]:
                 done.add(name)
                 del rest[name]
             seconds += step
@@ -290,12 +302,20 @@ class Build:
             f"about {left / 60:.0f} to go; being proved: {names}"
         )
 
-    def next_of(self, waiting, done, idle):
-        """Returns the crate that is to begin, and how many processors it gets, or None."""
-        ready = [it for it in waiting if all(dep in done for dep in self.uses[it])]
+    def next_of(self, waiting, done, running):
+        """Returns the crate that is to begin and how many jobs it gets, or None. `running` has the jobs of the rest."""
+        ready, idle = [it for it in waiting if all(dep in done for dep in self.uses[it])], self.lanes - len(running)
+        if not self.may_exceed:
+            idle = self.lanes - sum(running.values())
         if not ready or idle < 1:
             return None
-        return max(ready, key=self.chain.get), max(1, min(MOST_JOBS_OF_CRATE, idle - len(ready) + 1))
+        name = max(ready, key=self.chain.get)
+        if not self.may_exceed:
+            return name, max(1, min(MOST_JOBS_OF_CRATE, idle - len(ready) + 1))
+        # The crate that the rest waits for longest gets all, and the others fill what it leaves idle: a crate keeps the
+        # jobs that it began with.
+        is_head = all(self.chain[name] >= self.chain[it] for it in running)
+        return name, min(self.lanes, MOST_JOBS_OF_CRATE if is_head else JOBS_OF_OTHER_CRATES)
 
     def all(self):
         """Builds all, and returns the name of the crate that failed, or None."""
@@ -304,7 +324,7 @@ class Build:
             self.take(name)
         with concurrent.futures.ThreadPoolExecutor(self.lanes) as pool:
             while waiting or running:
-                while found := self.next_of(waiting, done, self.lanes - sum(jobs for _, jobs, _ in running.values())):
+                while found := self.next_of(waiting, done, {name: jobs for name, jobs, _ in running.values()}):
                     waiting.discard(found[0])
                     running[pool.submit(self.prove, *found)] = *found, time.monotonic()
                 ended = concurrent.futures.wait(running, 1, concurrent.futures.FIRST_COMPLETED).done
@@ -368,7 +388,7 @@ def build_for(tree, made, level):
         failed = build.all()
         for name in [failed] if failed else build.crates:
             with contextlib.suppress(OSError), open(f"{room}/{name}.log", encoding="utf-8", errors="replace") as log:
-                print(f"== {name}", log.read(), sep="\n", end="")
+                print(f"== {name}: {build.took.get(name, 0):.0f} seconds of processors", log.read(), sep="\n", end="")
         if failed:
             say(f"the crate {failed} was not proved")
     return not failed

@@ -15,6 +15,8 @@ use std::rc::Rc;
 
 // A disk has fewer sectors.
 const MOST_SECTORS: u64 = 1 << 44;
+// Whether looks give anything.
+const LOOKS: [(&str, bool); 2] = [("on", true), ("off", false)];
 
 /// The disks of a case in the order of their first naming, and which of them are on the shelf.
 #[derive(Drop)]
@@ -24,6 +26,8 @@ pub struct Disks {
     shelf: Vec<String>,
     // Whether a line named the disks on the shelf; else all are there, and no layer is.
     is_named: bool,
+    // Whether the disks of a run give looks.
+    gives_looks: bool,
 }
 
 /// A disk of a case.
@@ -38,6 +42,14 @@ pub struct CaseDisk {
     is_kept: bool,
 }
 
+// How the disks of a case are given to a run.
+#[derive(Drop)]
+struct Lending<'a> {
+    // The calls that fail.
+    fails: &'a [NamedFail],
+    gives_looks: bool,
+}
+
 impl Disks {
     /// No disk.
     pub fn new(alloc: Global) -> Disks {
@@ -46,6 +58,7 @@ impl Disks {
             layers: Layers::new(alloc),
             shelf: Vec::new(alloc),
             is_named: false,
+            gives_looks: true,
         }
     }
 
@@ -144,12 +157,27 @@ impl Disks {
         line.words(alloc, &mut self.shelf)
     }
 
+    /// Says whether the disks of a run give looks from now on.
+    pub fn set_looks(&mut self, line: &mut Line<'_>) -> Result<(), Fault> {
+        self.gives_looks = line.one_of(&LOOKS, "looks are on or off")?;
+        Ok(())
+    }
+
+    /// Whether the disks of a run give looks.
+    pub fn gives_looks(&self) -> bool {
+        self.gives_looks
+    }
+
     /// The disks on the shelf, in order, made anew with the calls that fail.
     pub fn drawers(&mut self, alloc: Global, fails: &[NamedFail]) -> Result<Vec<Drawer>, Fault> {
         let mut drawers = Vec::new(alloc);
+        let lending = Lending {
+            fails,
+            gives_looks: self.gives_looks,
+        };
         for name in &self.shelf {
             let name = name.as_str();
-            let disk = run_disk(alloc, &mut self.disks, &self.layers, name, fails)?;
+            let disk = run_disk(alloc, &mut self.disks, &self.layers, name, &lending)?;
             add_drawer(alloc, name, disk, &mut drawers)?;
         }
         Ok(drawers)
@@ -211,16 +239,16 @@ impl CaseDisk {
         &self.disk
     }
 
-    // The disk for a run, with the calls that fail.
-    fn lend(&mut self, alloc: Global, fails: &[NamedFail]) -> Result<TracedDisk, Fault> {
+    // The disk for a run.
+    fn lend(&mut self, alloc: Global, lending: &Lending<'_>) -> Result<TracedDisk, Fault> {
         if self.trace.is_some() {
             return Err(Fault::Bad("a disk is on the shelf twice"));
         }
         let mut disk = anew(alloc, &self.disk)?;
-        fail_calls(alloc, fails, self.name.as_str(), &mut disk)?;
+        fail_calls(alloc, lending.fails, self.name.as_str(), &mut disk)?;
         let trace = new_trace(alloc)?;
         self.trace = Some(trace.clone()?);
-        Ok(TracedDisk::new(disk, trace))
+        Ok(TracedDisk::new(disk, trace, lending.gives_looks))
     }
 
     // Whether the run has the disk still.
@@ -273,25 +301,30 @@ fn run_disk(
     disks: &mut [CaseDisk],
     layers: &Layers,
     name: &str,
-    fails: &[NamedFail],
+    lending: &Lending<'_>,
 ) -> Result<RunDisk, Fault> {
     match layers.find(name) {
-        None => Ok(RunDisk::Plain(find(disks, name)?.lend(alloc, fails)?)),
+        None => Ok(RunDisk::Plain(find(disks, name)?.lend(alloc, lending)?)),
         Some(Layer::Behind { under, room }) => {
             behind(
                 alloc,
-                find(disks, under.as_str())?.lend(alloc, fails)?,
+                find(disks, under.as_str())?.lend(alloc, lending)?,
                 *room,
             )
         }
         Some(Layer::Join { first, second }) => {
-            let first = find(disks, first.as_str())?.lend(alloc, fails)?;
-            joined(first, find(disks, second.as_str())?.lend(alloc, fails)?)
+            let first = find(disks, first.as_str())?.lend(alloc, lending)?;
+            joined(first, find(disks, second.as_str())?.lend(alloc, lending)?)
         }
         Some(Layer::Provider { under, passphrase }) => {
             let disk = find(disks, under.as_str())?;
             let last = disk.sector(disk.disk.sectors().saturating_sub(1))?;
-            opened(alloc, disk.lend(alloc, fails)?, &last, passphrase.as_str())
+            opened(
+                alloc,
+                disk.lend(alloc, lending)?,
+                &last,
+                passphrase.as_str(),
+            )
         }
     }
 }

@@ -34,6 +34,7 @@ pub enum Has {
     Take,
     Layer(LayerKind),
     Shelf,
+    Looks,
     File(Form),
     Watch,
     Entropy(Form),
@@ -75,7 +76,7 @@ pub enum Form {
 }
 
 // The word that each kind of line begins with.
-const KINDS: [(&str, Kind); 38] = [
+const KINDS: [(&str, Kind); 39] = [
     ("case", Kind::Case),
     ("run", Kind::Run),
     ("pick", Kind::Pick),
@@ -91,6 +92,7 @@ const KINDS: [(&str, Kind); 38] = [
     ("join", Kind::Has(Has::Layer(LayerKind::Join))),
     ("provider", Kind::Has(Has::Layer(LayerKind::Provider))),
     ("shelf", Kind::Has(Has::Shelf)),
+    ("looks", Kind::Has(Has::Looks)),
     ("file", Kind::Has(Has::File(Form::Hex))),
     ("file-count", Kind::Has(Has::File(Form::Counted))),
     ("file-times", Kind::Has(Has::File(Form::Times))),

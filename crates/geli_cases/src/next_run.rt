@@ -200,7 +200,7 @@ pub fn add_offers(
             Part::Text(refusal.unwrap_or("ok")),
         ]);
         if refusal.is_none() {
-            let disk = untraced(alloc, blank(alloc, OFFERED_SECTORS, OFFERED_ROOM)?)?;
+            let disk = untraced(alloc, blank(alloc, OFFERED_SECTORS, OFFERED_ROOM)?, true)?;
             add_drawer(alloc, name, RunDisk::Plain(disk), drawers)?;
         }
     }

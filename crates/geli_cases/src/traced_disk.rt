@@ -25,6 +25,7 @@ pub type SharedTrace = Rc<RefCell<Trace>>;
 pub struct TracedDisk {
     disk: SparseDisk,
     trace: SharedTrace,
+    gives_looks: bool,
 }
 
 /// A trace of nothing.
@@ -35,14 +36,18 @@ pub fn new_trace(alloc: Global) -> Result<SharedTrace, Fault> {
 }
 
 /// A disk to which nothing was done, with a trace at which nobody looks.
-pub fn untraced(alloc: Global, disk: SparseDisk) -> Result<TracedDisk, Fault> {
-    Ok(TracedDisk::new(disk, new_trace(alloc)?))
+pub fn untraced(alloc: Global, disk: SparseDisk, gives_looks: bool) -> Result<TracedDisk, Fault> {
+    Ok(TracedDisk::new(disk, new_trace(alloc)?, gives_looks))
 }
 
 impl TracedDisk {
-    /// A disk to which nothing was done, with its trace.
-    pub fn new(disk: SparseDisk, trace: SharedTrace) -> TracedDisk {
-        TracedDisk { disk, trace }
+    /// A disk to which nothing was done, with its trace, and whether a look gives what the disk in it gives, or nothing.
+    pub fn new(disk: SparseDisk, trace: SharedTrace, gives_looks: bool) -> TracedDisk {
+        TracedDisk {
+            disk,
+            trace,
+            gives_looks,
+        }
     }
 
     // Notes the last event of the disk, if it is a further one.
@@ -67,6 +72,13 @@ impl Disk for TracedDisk {
 
     fn read(&mut self, n: u64, into: &mut Sector) -> Result<(), DiskFailed> {
         self.disk.read(n, into)
+    }
+
+    fn peek(&mut self, first: u64, into: &mut [u8]) -> bool {
+        if !self.gives_looks {
+            return false;
+        }
+        self.disk.peek(first, into)
     }
 
     fn count_reads(&mut self, many: u64) {

@@ -73,6 +73,7 @@ impl World {
             Has::Take => self.disks.take(alloc, line),
             Has::Layer(kind) => self.disks.lay_over(alloc, kind, line),
             Has::Shelf => self.disks.set_shelf(alloc, line),
+            Has::Looks => self.disks.set_looks(line),
             Has::File(form) => self.files.tell(alloc, form, line),
             Has::Watch => self.files.watch(alloc, line.word()),
             Has::Entropy(form) => {
@@ -206,7 +207,7 @@ impl World {
         objects: &mut Objects,
     ) -> Result<u8, Fault> {
         let mut drawers = Vec::new(alloc);
-        let disk = RunDisk::Plain(untraced(alloc, disk)?);
+        let disk = RunDisk::Plain(untraced(alloc, disk, self.disks.gives_looks())?);
         add_drawer(alloc, name, disk, &mut drawers)?;
         let mut others = Disks::new(alloc);
         top_call(alloc, drawers, &self.next.words, objects, &mut others)

@@ -4,7 +4,7 @@ use Rattle.command_rows.specs.Rows.{Attaches, Attachment, GoesOn, Idle, IsAttach
 use Rattle.command_rows.specs.Vocabulary.{Attached, CabinetState, DiskState, EntropyState, KeyFault, Keying, MasterKey, Metadata, Refusal, Settings, UserKey, key_refusal_of, keying_of, media_sectors, opened, settings_of}
 use Rattle.provider.specs.Answers as answers
 use Rattle.provider.specs.Answers.{Means, Target, target_media}
-use Rattle.provider.specs.Opening.{SlotFails, SlotOpens}
+use Rattle.provider.specs.Opening.{SlotFails, SlotOpens, params_media}
 use Rattle.provider.specs.declared.faults.AttachFault.{AttachFault}
 use Rattle.provider.specs.declared.faults.AttachFault.TheVariants as attach
 use Rattle.provider.proofs.Checked.{checked}

@@ -52,7 +52,7 @@ class OpenSSL:
 
 
 def serve():
-    """Answers each line, as `xts seal 128 512`, by the nanoseconds of a call, those of calls that do nothing, and the last bytes that one leaves."""
+    """Replies to each line, as `xts seal 128 512`, with the nanoseconds of a call, those of calls that do nothing, and the last bytes that one leaves."""
     crypto = ctypes.CDLL(ctypes.util.find_library("crypto"))
     crypto.EVP_CIPHER_CTX_new.restype = ctypes.c_void_p
     update = crypto.EVP_CipherUpdate

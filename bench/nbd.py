@@ -144,14 +144,16 @@ def copies_in(side, _):
         return timed("nbdcopy", "--flush", side.folder / "data", f"nbd+unix:///?socket={path}")
 
 
-def copies_out(side, is_first):
-    out = side.folder / "out"
-    with side.served() as path:
-        spent = timed("nbdcopy", f"nbd+unix:///?socket={path}", out)
-    if is_first:
-        run("cmp", side.folder / "data", out)
-    out.unlink()
-    return spent
+def copies_out(*options):
+    def of_side(side, is_first):
+        out = side.folder / "out"
+        with side.served() as path:
+            spent = timed("nbdcopy", *options, f"nbd+unix:///?socket={path}", out)
+        if is_first:
+            run("cmp", side.folder / "data", out)
+        out.unlink()
+        return spent
+    return of_side
 
 
 def at_random(work):
@@ -228,7 +230,8 @@ def make_inputs(folder):
 def rows():
     """Each row: its name, and what it does with a side, which gives seconds."""
     yield "nbdcopy in, 500 MB", copies_in
-    yield "nbdcopy out, 500 MB", copies_out
+    yield "nbdcopy out, 500 MB", copies_out()
+    yield "nbdcopy out, 500 MB, one connection", copies_out("-C", "1")
     yield f"{REQUESTS:,} reads of 4 KiB", at_random("h.pread(4096, place)")
     yield f"{REQUESTS:,} writes of 4 KiB", at_random("h.pwrite(piece, place)")
     for name in TREES:

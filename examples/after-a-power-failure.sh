@@ -4,14 +4,13 @@
 #   after-a-power-failure.sh [-p] [-j PASSFILE] [-k KEYFILE]... IMAGE
 #
 # The passphrase is asked for; -j names a file whose first line it is, -p says that there is none. Work on a copy of
-# the image where you can. First the metadata are looked at, then the key is tried, then every sector is
-# read, or verified where it is authenticated. Status 0: all can be read. Status 1: something can't, and standard
-# output says what.
+# the image if you can. First the metadata are checked, then the key is tried, then every sector is read, or verified
+# if it is authenticated. Status 0: all can be read. Status 1: something can't, and standard output says what.
 #
 # What it can't see: a sector whose 512-byte parts come from different writes, all of them whole. That is what a
-# crash may leave of sectors that were written after the last flush. The filesystem inside isn't looked at: give
-# mount-provider.sh, which checks an ext4 first (-c repairs it, after a copy of the image), or other filesystems' own
-# tools, on a copy by copy-out.sh. Without authentication it doesn't see damaged sectors either.
+# crash may leave of sectors that were written after the last flush. The filesystem inside isn't checked: use
+# mount-provider.sh, which checks an ext4 first (-c repairs it; copy the image before), or the filesystem's own tools,
+# on a copy by copy-out.sh. Without authentication it doesn't see damaged sectors either.
 set -euo pipefail
 # shellcheck source=lib.sh
 . "$(dirname -- "$(readlink -f -- "${BASH_SOURCE[0]}")")/lib.sh"
@@ -45,7 +44,7 @@ def stop(session, *lines):
 
 
 def metadata(session, length, name):
-    """The fields of the metadata, where they are sound."""
+    """The fields of the metadata, if they are valid."""
     back = f"geli restore BACKUP {shlex.quote(name)}"
     rows, reply = session.ask("dump", session.image)
     if reply != "ok":

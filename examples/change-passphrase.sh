@@ -6,9 +6,9 @@
 # The old passphrase is asked for, and the new one twice; -j and -J name files whose first lines they are, -p and -P say
 # that there is none. Without -K the new key takes the key files of the old one. BACKUP must not exist.
 #
-# The new key goes into the other slot where that is empty. It is tried there, and only then the old key is deleted: so
-# at each moment one of the two opens the provider. Where both slots have keys, the new one takes the place of the old
-# one at once; a power failure then leaves the old or the new.
+# If the other slot is empty, the new key goes into it. It is tried there, and only then the old key is deleted: so at
+# each moment one of the two opens the provider. If both slots have keys, the new one takes the place of the old one at
+# once; a power failure then leaves the old or the new.
 #
 # Older backups still open with the old passphrase, and give the same master key: destroy them.
 set -euo pipefail

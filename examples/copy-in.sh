@@ -3,13 +3,14 @@
 #
 #   copy-in.sh [-c] [-p] [-j PASSFILE] [-k KEYFILE]... SOURCE IMAGE
 #
-# What stands there in the provider is overwritten. The passphrase is asked for; -j names a file whose first line it is,
-# -p says that there is none. With -c the sectors are read again afterwards and compared.
-# Where SOURCE ends within a sector, the rest of that sector becomes zeros.
+# The data in those sectors of the provider are overwritten. The passphrase is asked for; -j names a file whose first
+# line it is, -p says that there is none. With -c the sectors are read again afterwards and compared.
+# If SOURCE ends within a sector, the rest of that sector becomes zeros.
 #
-# It works by nbdcopy(1) over geli-nbd(8) where both are there, and else, or where they fail, in pieces of up to 131,072
-# bytes over one `geli script`, some lines ahead of the replies. It says how far it is on standard error. It answers 0
-# only where all was written and flushed. If it is broken off, some sectors are new and some old: give it again.
+# It uses nbdcopy(1) over geli-nbd(8) if both are installed. Otherwise, or if they fail, it copies in pieces of up to
+# 131,072 bytes over one `geli script`, some lines ahead of the replies. Standard error shows the progress. It exits
+# with 0 only if everything was written and flushed. If it is broken off, some sectors are new and some old: run it
+# again.
 set -euo pipefail
 # shellcheck source=lib.sh
 . "$(dirname -- "$(readlink -f -- "${BASH_SOURCE[0]}")")/lib.sh"
@@ -53,7 +54,7 @@ class CopyIn:
 
     @contextlib.contextmanager
     def halfway(self):
-        """What is broken off in it leaves some sectors written, which is told."""
+        """If it is broken off, some sectors are written, which is reported."""
         try:
             yield
         except (Failed, OSError, KeyboardInterrupt):
@@ -61,7 +62,7 @@ class CopyIn:
             raise
 
     def by_nbdcopy(self, program, width):
-        """Copies by nbdcopy; whether that went well, and None where nothing can have been written."""
+        """Copies by nbdcopy; whether that went well, and None if nothing can have been written."""
         if sys.stderr.isatty():
             note("deriving the key ...")
         with self.halfway():
@@ -74,7 +75,7 @@ class CopyIn:
         return done
 
     def fill_up(self, width):
-        """Writes the last sector, with zeros behind the end of the file: nbdcopy leaves what stands there."""
+        """Writes the last sector, with zeros after the end of the file: nbdcopy leaves the bytes that are there."""
         session = Session(self.geli, self.image)
         is_attached = False
         try:
@@ -129,7 +130,7 @@ class CopyIn:
         return width
 
     def pieces(self, file, width, whole):
-        """Gives the first sector and the bytes of each line, the last ones with zeros behind the end of the file."""
+        """Gives the first sector and the bytes of each line, the last ones with zeros after the end of the file."""
         count = -(-self.size // width)
         for at in range(0, count, REQUEST // width):
             some = min(REQUEST // width, count - at)

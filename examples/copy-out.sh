@@ -3,13 +3,13 @@
 #
 #   copy-out.sh [-b BYTES] [-p] [-j PASSFILE] [-k KEYFILE]... IMAGE TARGET
 #
-# TARGET must not exist; it holds the data in the clear. -b: so many bytes and no more, such as 4000123 or 80M, the
-# length of the file that was copied in; without it the whole provider is copied. The passphrase is asked for; -j names
-# a file whose first line it is, -p says that there is none. The image isn't changed.
+# TARGET must not exist; it holds the data in the clear. -b: at most so many bytes, such as 4000123 or 80M, the length
+# of the file that was copied in; without it the whole provider is copied. The passphrase is asked for; -j names a file
+# whose first line it is, -p says that there is none. The image isn't changed.
 #
-# It works by nbdcopy(1) over geli-nbd(8) where both are there, and else, or where they fail, in pieces of up to 131,072
-# bytes over one `geli script`, some lines ahead of the replies. It says how far it is on standard error. Until all is
-# read and synced the file is called TARGET.part, and it stays so where a sector can't be read, or the copy is broken
+# It uses nbdcopy(1) over geli-nbd(8) if both are installed. Otherwise, or if they fail, it copies in pieces of up to
+# 131,072 bytes over one `geli script`, some lines ahead of the replies. Standard error shows the progress. Until all is
+# read and synced the file is called TARGET.part. It keeps that name if a sector can't be read, or the copy is broken
 # off.
 set -euo pipefail
 # shellcheck source=lib.sh

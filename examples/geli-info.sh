@@ -3,9 +3,9 @@
 #
 #   geli-info.sh [--json] [-p] [-j PASSFILE] [-k KEYFILE]... IMAGE
 #
-# No key is needed. Where one is named it is tried: by -k alone, or -p, one without a passphrase. None is asked for.
-# --json, or -J: as one object of JSON, with sizes in bytes. Status 0: there is a provider, and the key that was named
-# opens it.
+# No key is needed. If a key is given it is tried; -k or -p without -j means a key without a passphrase. Nothing is
+# asked. --json, or -J: prints one object of JSON, with sizes in bytes. Status 0: there is a provider, and the key that
+# was given opens it.
 set -euo pipefail
 # shellcheck source=lib.sh
 . "$(dirname -- "$(readlink -f -- "${BASH_SOURCE[0]}")")/lib.sh"

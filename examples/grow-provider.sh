@@ -5,16 +5,16 @@
 #
 # SIZE is the new length in bytes, or such as 80M or 2G, a multiple of 4096. BACKUP must not exist. The passphrase is
 # asked for; -j names a file whose first line it is, -p says that there is none. The data stay where they are. The new
-# part of the file takes no space on the disk until it is written; with -f it takes all of it now. Of
+# part of the file takes no space on the disk until it is written; with -f it takes all of it now. In
 # `join:FIRST:SECOND` the second file grows.
 #
-# If power fails on the way, the metadata are at their old place or at the new one. Where the image opens, all is well.
-# Where it doesn't (error 5), give this again with -s and the length that the image had before. The same goes where an
-# error comes on the way. Don't make the file shorter then: its end may have the only metadata.
+# If power fails on the way, the metadata are at their old place or at the new one. If the image opens, all is well. If
+# it doesn't (error 5), run this again with -s and the length that the image had before. Do so too if an error occurs on
+# the way. Don't make the file shorter then: its end may have the only metadata.
 #
-# The new sectors of an authenticated provider are written once, with zeros, since they couldn't be read else. If that
-# is broken off, -s goes on with it: it writes those that can't be read.
-# Older backups don't fit any more: `geli restore -f` takes them all the same.
+# The new sectors of an authenticated provider are written once, with zeros, since they couldn't be read otherwise. If
+# that is broken off, -s goes on with it: it writes those that can't be read.
+# Older backups don't fit any more: `geli restore -f` restores them nevertheless.
 # The filesystem in the provider stays as large as it was: mount-provider.sh -g grows an ext4.
 set -euo pipefail
 # shellcheck source=lib.sh

@@ -1,4 +1,4 @@
-"""keep_mount.py: keeps what stands behind one mount, from its server to its end. mount-provider.sh runs it.
+"""keep_mount.py: keeps the programs of one mount, from its server to its end. mount-provider.sh runs it.
 
     python3 keep_mount.py CALLED mount WORD=VALUE...
     python3 keep_mount.py CALLED unmount WORD=VALUE...
@@ -44,9 +44,9 @@ MAKE = ("mke2fs", "-q", "-F", "-t", "ext4", "-b", "4096", "-E", "nodiscard")
 FOR_FUSE2FS = ("-O", "^extent,^64bit,^metadata_csum")
 PACKAGES = {"fuse2fs": "fuse2fs", "grub-mount": "grub-common"}
 REFUSAL = re.compile(": (write|write-zeroes|flush): command failed: ")  # libnbd says it of what a server refused
-NEEDS_JOURNAL = "Journal needs recovery"  # fuse2fs says it where it may not write
+NEEDS_JOURNAL = "Journal needs recovery"  # fuse2fs says it if it may not write
 JOURNAL = "Writing to the journal is not supported."  # fuse2fs says it of each ext4 that has one
-NEW = 1 << 20  # bytes that are zeros at the beginning of a provider, or a file, where nobody wrote to it yet
+NEW = 1 << 20  # bytes that are zeros at the beginning of a provider, or a file, if nobody wrote to it yet
 AT_REST = 3.0  # seconds after which what was written is synced, though nobody asks
 PATIENCE = 5.0  # seconds in which a mount that is in use is waited for, once its end is asked for
 GRACE = 2.0  # seconds in which a device that nobody needs any more may end by itself
@@ -84,12 +84,12 @@ def mounts(process="self"):
 
 
 def top_of(folder):
-    """What is mounted on a folder, above all else there; None where nothing is."""
+    """What is mounted on a folder, above all else there; None if nothing is."""
     return next((it for it in reversed(mounts()) if it.folder == str(folder)), None)
 
 
 def mount_of(folder):
-    """The number of what is mounted on a folder; None where nothing is."""
+    """The number of what is mounted on a folder; None if nothing is."""
     top = top_of(folder)
     return top and top.number
 
@@ -126,7 +126,7 @@ def named(numbers):
 
 
 def unmount_by(*words):
-    """Unmounts by a program; what it said where it couldn't, else nothing."""
+    """Unmounts by a program; what it said if it couldn't, else nothing."""
     ran = subprocess.run(words, stdin=subprocess.DEVNULL, stdout=subprocess.PIPE, stderr=subprocess.STDOUT, check=False)
     return "" if ran.returncode == 0 else ran.stdout.decode(errors="replace").strip() or f"{words[0]} failed"
 
@@ -182,7 +182,7 @@ class State:
         self.keeper, self.private = self.path / "keeper", self.path / "private"
 
     def text(self, file):
-        """What a file of it has; nothing where it isn't there."""
+        """What a file of it has; nothing if it isn't there."""
         with contextlib.suppress(OSError):
             return file.read_text(errors="surrogateescape").strip()
         return ""
@@ -232,7 +232,7 @@ class State:
 
 
 def is_held(file):
-    """Whether another process holds the lock of a file; where none does, this one does."""
+    """Whether another process holds the lock of a file; if none does, this one takes it."""
     try:
         fcntl.flock(file, fcntl.LOCK_EX | fcntl.LOCK_NB)
     except BlockingIOError:
@@ -241,7 +241,7 @@ def is_held(file):
 
 
 def is_used(path):
-    """Whether a process holds the lock of a file, where it is there."""
+    """Whether a process holds the lock of a file, if it exists."""
     with contextlib.suppress(FileNotFoundError), open(path, "rb") as file:
         return is_held(file)
     return False
@@ -282,7 +282,7 @@ class Program:
         return self.process.poll() is None
 
     def said(self):
-        """Its last lines; all of them, where it has ended."""
+        """Its last lines; all of them, if it has ended."""
         self.reader.join(0 if self.runs() else 2)
         return "".join(self.lines).strip()
 
@@ -302,7 +302,7 @@ class Device(Program):
 
 
 class Keeper:
-    """One mount. `say` tells the one who asked for it, until it is mounted."""
+    """One mount. `say` reports to the one who asked for it, until it is mounted."""
 
     def __init__(self, words, say):
         self.words, self.say = words, say
@@ -391,7 +391,7 @@ class Keeper:
         return said
 
     def make(self):
-        """Makes an ext4: by -m only where nobody wrote to the provider yet."""
+        """Makes an ext4: by -m only if nobody wrote to the provider yet."""
         if "M" not in self.options:
             table = self.found("PTTYPE")
             if table:
@@ -406,7 +406,7 @@ class Keeper:
         self.kind = "ext4"
 
     def check(self):
-        """Checks an ext: fuse2fs mounts what a crash has left as it is, and fails where a journal must be played."""
+        """Checks an ext: fuse2fs mounts what a crash has left as it is, and fails if a journal must be played."""
         status, said = self.e2fsck()
         if not 0 <= status < 4:
             raise Failed(f"the filesystem in it is damaged, and wasn't mounted: {said}\n"
@@ -423,7 +423,7 @@ class Keeper:
         forced = "-fy" if "c" in self.options else "-fp" if "g" in self.options else "-p"
         status, said = self.work("checking the filesystem", "e2fsck", forced, self.state.nbd)
         if status >= 8 and "c" in self.options:
-            # Where the superblock's checksum alone is wrong, and there is no second superblock, this writes it anew.
+            # If the superblock's checksum alone is wrong, and there is no second superblock, this writes it anew.
             now = time.strftime("set_super_value mtime %Y%m%d%H%M%S")
             self.work("mending the superblock", "debugfs", "-w", "-n", "-R", now, self.state.nbd)
             status, said = self.work("checking the filesystem", "e2fsck", forced, self.state.nbd)
@@ -476,7 +476,7 @@ class Keeper:
         self.say("up", f"its {self.kind} is mounted on {self.folder}" + ", to be read alone" * self.reads_only)
 
     def sync_at_rest(self):
-        """Syncs the image again and again, where it was written to: fuse2fs asks for that by fsync(2) alone."""
+        """Syncs the image again and again, if it was written to: fuse2fs asks for that by fsync(2) alone."""
         synced = None
         while True:
             time.sleep(AT_REST)
@@ -555,7 +555,7 @@ class Keeper:
             self.state.put(self.state.waits, said)
 
     def unmount_device(self):
-        """Unmounts the device, also one that comes only now, and waits for its server. Where another mount namespace
+        """Unmounts the device, also one that comes only now, and waits for its server. If another mount namespace
         still has it, it is ended there too."""
         number, since = None, time.monotonic()
         while mount_of(self.state.disk) or is_used(self.state.device):
@@ -582,7 +582,7 @@ def leave_caller(claim, pipe):
 
 
 def keep(words, pipe):
-    """The keeper, which tells the caller until it is mounted, and writes down in the end how it went."""
+    """The keeper, which reports to the caller until it is mounted, and writes down in the end how it went."""
     claim, state = int(words["claim"]), State(words["state"])
     leave_caller(claim, pipe)
     held = os.open(state.path, os.O_RDONLY)  # what cleans /tmp leaves a folder alone that is locked
@@ -604,7 +604,7 @@ def keep(words, pipe):
     os.write(claim, f"1\n{problem}\n".encode(errors="surrogateescape") if problem else b"0\n")
     if problem and not was_up:
         say("failed", problem)
-    # What nobody has heard of yet is told to whom asks.
+    # Whoever asks hears what nobody has heard of yet.
     if not problem or (not was_up and is_told):
         state.remove()
 
@@ -628,7 +628,7 @@ class Front:
             os.kill(self.keeper, signal.SIGTERM)
 
     def relay(self, pipe):
-        """Shows what the keeper says until it has no more to say. A step is told at a terminal once it lasts."""
+        """Shows what the keeper says until it has no more to say. A step is shown at a terminal once it lasts."""
         step, rest = "", b""
         while True:
             if not select.select([pipe], [], [], 1 if step else None)[0]:
@@ -643,7 +643,7 @@ class Front:
                 step = self.show(*line.decode(errors="surrogateescape").partition("\t"))
 
     def show(self, kind, _, text):
-        """Shows a line; gives the step that has begun, where a terminal is looked at."""
+        """Shows a line; gives the step that has begun, if there is a terminal."""
         name, quoted = self.words["called"], shlex.quote(self.words["folder"])
         if kind == "step":
             return text if sys.stderr.isatty() else ""
@@ -660,7 +660,7 @@ class Front:
         return ""
 
     def end(self):
-        """Waits for the keeper where it ends; the status, which no signal changes any more."""
+        """Waits for the keeper if it ends; the status, which no signal changes any more."""
         signal.pthread_sigmask(signal.SIG_BLOCK, SIGNALS)
         if self.is_up and not self.is_interrupted:
             return 0
@@ -707,7 +707,7 @@ def ask(state, folder, forced):
 
 
 def unmount_folder(folder):
-    """Unmounts what is on a folder; what was said where that couldn't be done, else nothing."""
+    """Unmounts what is on a folder; what was said if that couldn't be done, else nothing."""
     top = top_of(folder)
     if not top:
         return ""
@@ -728,7 +728,7 @@ def wait_for_result(state, result, folder):
 
 
 def number_over(device, folder):
-    """The number of what is mounted on a folder from a device, where nobody has noted it yet; None where nothing is."""
+    """The number of what is mounted on a folder from a device, if nobody has noted it yet; None if nothing is."""
     top = top_of(folder)
     return top.number if top and top.source in (str(device), *loops_over(device), "grub-mount") else None
 

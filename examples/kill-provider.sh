@@ -1,12 +1,12 @@
 #!/usr/bin/env bash
-# kill-provider.sh: destroys a provider, once it is sure that there is one and that this is meant.
+# kill-provider.sh: destroys a provider after checking that there is one and asking for confirmation.
 #
 #   kill-provider.sh [-y] IMAGE
 #
-# `geli kill` asks nothing: of a file that holds no provider it overwrites the last 512 bytes all the same. This refuses
-# where no sound metadata stand there, says what would be lost, and asks for the name of the image; -y doesn't ask.
+# `geli kill` asks nothing, and overwrites the last 512 bytes even of a file that holds no provider. This script refuses
+# if there are no valid metadata, says what would be lost, and asks for the name of the image; -y doesn't ask.
 #
-# The keys in the metadata are destroyed, and so the data can't be read any more. Whoever has a backup of the metadata,
+# The keys in the metadata are destroyed, so the data can't be read any more. Anyone who has a backup of the metadata,
 # and its key, can bring them back (`geli restore`): destroy the backups too.
 set -euo pipefail
 # shellcheck source=lib.sh

@@ -57,7 +57,7 @@ def note(text):
 
 
 def called(name):
-    """How another script is called: NAME.sh, or geli-NAME where they are installed (lib.sh says so)."""
+    """How another script is called: NAME.sh, or geli-NAME if they are installed (lib.sh says so)."""
     return f"geli-{name}" if os.environ.get("GELI_INSTALLED") else f"{name}.sh"
 
 
@@ -102,7 +102,7 @@ def told(reply, files=(), own=None):
 
 
 def seen(path, own=None, is_ours=False):
-    """Why an image can't be opened, locked or written, if that can be seen. The process `own` may hold it; where it is
+    """Why an image can't be opened, locked or written, if that can be seen. The process `own` may hold it; if it is
     ours, so may any."""
     try:
         state = os.stat(path)
@@ -210,13 +210,13 @@ def sizes_of(fields):
 
 
 def sizes_by_dump(geli, image):
-    """The same of an image, without a key; zeros where its metadata can't be read."""
+    """These two numbers for an image, without a key; zeros if its metadata can't be read."""
     dump = subprocess.run([geli, "dump", image], stdout=subprocess.PIPE, check=False).stdout.decode()
     return sizes_of(fields_of(row for row in dump.split("\n") if ": " in row)) if "sectorsize: " in dump else (0, 0)
 
 
 def ranges(numbers):
-    """Ascending numbers as ranges: of each the first, and the one behind the last."""
+    """Ascending numbers as ranges: the first of each, and the one after its last."""
     found = []
     for number in numbers:
         if found and number <= found[-1][1]:
@@ -252,7 +252,7 @@ class Session:
         self.width = self.sectors = 0  # the bytes of a sector, and how many there are, once the provider is attached
 
     def say(self, *words, data=None):
-        """Says a line of words, and bytes behind them as digits."""
+        """Says a line of words, and bytes after them as digits."""
         line = self.script.stdin
         try:
             line.write(" ".join(map(str, words)).encode())
@@ -410,7 +410,7 @@ class Session:
             options = []
 
     def end(self):
-        """The end of the script, which detaches, and its status. A flush that fails there is told by one line more."""
+        """The end of the script, which detaches, and its status. A flush that fails there prints one more line."""
         with contextlib.suppress(OSError):
             self.script.stdin.close()
         rest = self.script.stdout.read().decode().strip()
@@ -421,7 +421,7 @@ class Session:
 
 
 class Progress:
-    """Says once a second how far it is, where standard error is a terminal."""
+    """Says once a second how far it is, if standard error is a terminal."""
 
     def __init__(self, whole):
         self.whole = whole

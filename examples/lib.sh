@@ -1,4 +1,4 @@
-# lib.sh: what the scripts of this folder share. It is read by them with `.`, and does nothing alone.
+# lib.sh: what the scripts of this folder share. They read it with `.`; alone it does nothing.
 #
 # GELI and GELI_NBD name the programs, `geli` and `geli-nbd` on the path if they aren't set. The scripts need bash 4.4
 # or later, and python3, which holds the two ends of a `geli script` (lib.py).
@@ -39,7 +39,7 @@ at_end() {
 trap at_end EXIT
 trap 'exit 130' INT TERM HUP
 
-# private_folder [FILE]: a folder for passphrases, in memory where the system has such a place. It goes away when the
+# private_folder [FILE]: a folder for passphrases, in memory if the system has such a place. It goes away when the
 # script ends. FILE gets its name before it is there, so that who comes after a kill can remove it.
 # shellcheck disable=SC2120 # one script gives it
 private_folder() {
@@ -57,7 +57,7 @@ private_folder() {
     fail 'there is no folder for a passphrase: TMPDIR names another, without blanks'
 }
 
-# sure_of NAME WHAT: goes on only where somebody types the name at the terminal.
+# sure_of NAME WHAT: goes on only if somebody types the name at the terminal.
 sure_of() {
     local typed
     has_terminal || fail 'nothing was changed: no terminal to ask at'
@@ -65,7 +65,7 @@ sure_of() {
     [ "$typed" = "$1" ] || fail 'nothing was changed: the names differ'
 }
 
-# A name that is a word of a geli command can't be a link as in one_word, where geli makes the file.
+# If geli makes the file, its name in a command can't be a link as in one_word.
 is_text() {
     python3 -c 'import sys; sys.argv[1].encode()' "$1" 2>/dev/null || fail "the name '$1' is no UTF-8: use another"
 }
@@ -170,7 +170,7 @@ need() {
     local name package
     for name in "$GELI" python3 "$@"; do
         if command -v "$name" >/dev/null; then
-            # Where it is the launcher of a clone it is built now, where that can be told, and not behind a mount.
+            # The launcher of a clone builds the program now, so that this can be said, and not while it mounts.
             [ "$name" != "$GELI_NBD" ] || "$name" --version </dev/null >/dev/null || fail "'$name' doesn't run"
             continue
         fi
@@ -190,10 +190,10 @@ need() {
     done
 }
 
-# nbdcopy_over: prints the program that serves nbdcopy, where both are there.
+# nbdcopy_over: prints the program that serves nbdcopy, if both are installed.
 nbdcopy_over() {
     if command -v nbdcopy >/dev/null && command -v "$GELI_NBD" >/dev/null; then
-        # Where it is the launcher of a clone it is built now, where that can be told.
+        # The launcher of a clone builds the program now, so that this can be said.
         if "$GELI_NBD" --version </dev/null >/dev/null; then command -v "$GELI_NBD"; fi
     fi
 }

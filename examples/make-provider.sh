@@ -5,14 +5,14 @@
 #   make-provider.sh -d [-a] [-i ITERATIONS] [-J PASSFILE] DISK KEYFILE BACKUP
 #
 # SIZE is in bytes, or such as 80M or 2G, a multiple of 4096. IMAGE and BACKUP must not exist: nothing is overwritten.
-# (`geli init` alone makes a provider over whatever file it is given, and says nothing of what was there.) KEYFILE is
-# used where it exists; else it is made, of 64 random bytes. The passphrase is asked for twice; -J names a file
-# whose first line is the passphrase. Opening the provider takes the key file and the passphrase, both.
+# (`geli init` alone makes a provider over whatever file it is given, without a word about what was there.) If KEYFILE
+# exists it is used; otherwise it is made, of 64 random bytes. The passphrase is asked for twice; -J names a file whose
+# first line is the passphrase. Opening the provider takes both the key file and the passphrase.
 #
 # IMAGE is a sparse file: it takes space on the disk as sectors are written, so a disk that is full later makes writes
 # fail. With -f it takes all of its space now. Deleting files in the provider later frees no space on the disk.
 #
-# -d: over a disk, as /dev/sdb, or over a file that is there. All that is on it is lost, so its name is to be typed.
+# -d: over a disk, such as /dev/sdb, or over an existing file. All that is on it is lost, so its name must be typed.
 #
 # The provider has AES-XTS with keys of 256 bits, sectors of 4096 bytes and 1,000,000 iterations. With -a its
 # sectors are authenticated by HMAC/SHA256 and each of them is written once, with zeros, since a sector of such a
@@ -30,7 +30,7 @@ usage() {
     exit 2
 }
 
-# over_disk NAME: sets `size` to what a disk, or a file, has, where nobody else uses it and its loss is meant.
+# over_disk NAME: sets `size` to the bytes of a disk, or a file, if nobody else uses it and the user confirms its loss.
 over_disk() {
     if [ ! -b "$1" ] && [ ! -f "$1" ]; then fail "'$1' is no disk"; fi
     [ -w "$1" ] || fail "'$1' can't be written"

@@ -5,26 +5,26 @@
 #   mount-provider.sh -u [-f] FOLDER
 #
 # An ext2, ext3 or ext4 is mounted by fuse2fs; any other filesystem by grub-mount, read-only, such as FreeBSD's UFS.
-# -m: makes an ext4 first, where the provider is new. -M: makes one over whatever is in it, and asks before.
+# -m: makes an ext4 first, if the provider is new. -M: makes one over whatever is in it, and asks before.
 # -r: read-only. -n: the filesystem in this partition of the data, counted from 1. -g: grows an ext4 to its provider.
 # The passphrase is asked for; -j names a file whose first line it is, -p says that there is none.
 #
 # An ext4 is checked before it is mounted to be written to. A damaged one isn't mounted: -c repairs it (e2fsck -fy);
 # copy the image before.
 #
-# It stays mounted when the terminal is closed. -u unmounts it, and answers 0 only where all that was written meanwhile
-# is in the provider, and flushed, and no write was refused. So does umount(8), but for the answer. A mount that has got
-# into another mount namespace is waited for; -f ends it there too. What stands behind the mount is kept in
-# /tmp/geli-mounts-UID (GELI_MOUNTS names another folder).
+# It stays mounted when the terminal is closed. -u unmounts it, and exits with 0 only if all that was written meanwhile
+# is in the provider and flushed, and no write was refused. umount(8) unmounts it too, without that exit status. If
+# another mount namespace has the mount too, -u waits for it; with -f it ends it there. The state of the mounts is kept
+# in /tmp/geli-mounts-UID (GELI_MOUNTS names another folder).
 #
-# fuse2fs 1.47 has its limits: `sync` does nothing there, and cp may answer 0 on a full disk where -u then answers 1. It
+# fuse2fs 1.47 has its limits: `sync` does nothing there, and on a full disk cp may exit with 0, but -u then with 1. It
 # loses blocks of files with extents whose space was allocated ahead, so -m makes an ext4 without extents; its largest
-# file has 4,402,345,721,856 bytes. What is deleted while it is open stays as .fuse_hidden..., and deleting frees no
-# space of the image's disk.
+# file has 4,402,345,721,856 bytes. A file that is deleted while it is open stays as .fuse_hidden..., and deleting frees
+# no space of the image's disk.
 #
 # -K, as root, mounts by the kernel and a loop device instead. Its ext4 has a journal, and `sync` reaches the image, so
-# trust it with what must survive a power failure. Of fuse2fs trust what an fsync(2) was answered for, and what was at
-# rest for some seconds: the check before the next mount mends the rest.
+# use it for what must survive a power failure. With fuse2fs, rely on data only after an fsync(2) has succeeded, or
+# after some seconds without writes: the check before the next mount mends the rest.
 #
 # It needs geli-nbd, nbdfuse, fusermount3, and fuse2fs or grub-mount; -n needs nbdkit. On Debian:
 #
@@ -81,7 +81,7 @@ take_over() {
     remove_claim
 }
 
-# Removes the folder of a mount that nothing stands behind yet; nobody else claims it meanwhile.
+# Removes the folder of a mount for which nothing runs yet; nobody else claims it meanwhile.
 remove_claim() {
     local old=''
     [ ! -s "$state/private" ] || old=$(<"$state/private")

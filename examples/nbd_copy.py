@@ -39,7 +39,7 @@ class Copy:
             self.start(command, subprocess.PIPE, stdin=client, stdout=client)
 
     def accepted(self, place):
-        """The connection of nbdcopy, where that doesn't end before."""
+        """The connection of nbdcopy, unless that ends before."""
         while True:
             with contextlib.suppress(socket.timeout):
                 client, _ = place.accept()
@@ -52,7 +52,7 @@ class Copy:
         self.processes.append(subprocess.Popen(words, stderr=errors, **streams))
 
     def ended_well(self):
-        """Waits for both: whether all was copied and flushed, and None where the provider wasn't attached."""
+        """Waits for both: whether all was copied and flushed, and None if the provider wasn't attached."""
         nbdcopy, geli = self.processes
         said = geli.stderr.read()
         if said.startswith(b"error "):
@@ -109,7 +109,7 @@ def pieces_out(program, key, image, size):
 
 
 class Reader:
-    """The data of a provider: by nbdcopy as far as it goes, and by lines of `geli script` behind that."""
+    """The data of a provider: by nbdcopy as far as it goes, and by lines of `geli script` after that."""
 
     def __init__(self, geli, program, image, key):
         self.geli, self.program, self.image, self.key = geli, program, image, key
@@ -125,7 +125,7 @@ class Reader:
         self.width, self.room = self.session.width, self.session.width * self.session.sectors
 
     def pieces(self, size):
-        """The first bytes, piece by piece. Where the provider can't be attached, that is told at once."""
+        """The first bytes, piece by piece. If the provider can't be attached, that is reported at once."""
         copied = iter(())
         if not self.session:
             if sys.stderr.isatty():

@@ -76,8 +76,8 @@ def limit_files(process, size):
 
 
 class Log:
-    """What nbdkit's filter log writes: a line where a request begins, and one where it has ended. It lies in memory, so
-    that no client waits for its reader. What was read is given back; where nobody reads it, it ends at its limit."""
+    """What nbdkit's filter log writes: a line when a request begins, and one when it has ended. It lies in memory, so
+    that no client waits for its reader. What was read is freed; if nobody reads it, it ends at its limit."""
 
     def __init__(self, refusals):
         self.refusals = refusals
@@ -105,14 +105,14 @@ class Log:
                 self.refusals.add(self.moment(lines, found.start()))
             end = lines.rfind(b"\n") + 1
             self.at = first + end
-            with contextlib.suppress(OSError):  # it grows no more where this can't be, or the process has ended
+            with contextlib.suppress(OSError):  # it grows no more if this can't be, or the process has ended
                 lines.madvise(mmap.MADV_REMOVE, 0, end // mmap.PAGESIZE * mmap.PAGESIZE)
                 limit_files(process, self.at + AHEAD)
                 self.limit = self.at + AHEAD
 
     @staticmethod
     def moment(lines, at):
-        """The time, in UTC, that the line of this byte begins with, in seconds; None where it was cut at the limit."""
+        """The time, in UTC, that the line of this byte begins with, in seconds; None if it was cut at the limit."""
         start = lines.rfind(b"\n", 0, at) + 1
         with contextlib.suppress(ValueError):
             return calendar.timegm(time.strptime(lines[start:start + 19].decode(), "%Y-%m-%d %H:%M:%S"))
@@ -120,7 +120,7 @@ class Log:
 
 
 class Server:
-    """A geli-nbd, and nbdkit in front of it where that is needed."""
+    """A geli-nbd, and nbdkit in front of it if that is needed."""
 
     def __init__(self, words, command):
         self.words, self.command = words, command
@@ -128,7 +128,7 @@ class Server:
         self.geli = self.nbdkit = self.log = None
 
     def start_geli(self, **streams):
-        # Who waits for the end of all behind a mount, by a lock that they inherit, waits for geli-nbd too.
+        # What waits for the end of all programs of a mount, by a lock that they inherit, waits for geli-nbd too.
         self.geli = subprocess.Popen(self.command, stderr=subprocess.PIPE, preexec_fn=in_child,
                                      close_fds="socket" in self.words, **streams)
 
@@ -211,7 +211,7 @@ class Socket:
 
 
 def serve_socket(server):
-    """Serves the clients of a socket in the background; answers once it is there."""
+    """Serves the clients of a socket in the background; returns once it is there."""
     reads, writes = os.pipe()
     if os.fork():
         os.close(writes)
@@ -222,7 +222,7 @@ def serve_socket(server):
         return 0
     signal.pthread_sigmask(signal.SIG_BLOCK, SIGNALS | {signal.SIGCHLD})
     words, path = server.words, server.words["socket"]
-    ends_with, _ = os.pipe()  # where this process is killed
+    ends_with, _ = os.pipe()  # if this process is killed
     server.start_behind_nbdkit("-f", "-U", path, ends_with=ends_with)
     os.close(ends_with)
     while server.nbdkit and server.nbdkit.poll() is None and not os.path.exists(path):

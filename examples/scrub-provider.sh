@@ -1,20 +1,19 @@
 #!/usr/bin/env bash
-# scrub-provider.sh: looks at every sector of an authenticated provider, in parts, and says which can't be read. Of the
-# image nothing is changed.
+# scrub-provider.sh: checks every sector of an authenticated provider, in parts, and says which can't be read. The image
+# isn't changed.
 #
 #   scrub-provider.sh [-r] [-m MINUTES] [-p] [-j PASSFILE] [-k KEYFILE]... IMAGE PLACE
 #
-# PLACE is a file that keeps where the next run goes on. A run goes on to the end, or with -m until so many minutes are
-# over; the one behind the end begins anew, as -r does at once. The passphrase is asked for; -j names a file whose first
-# line it is, -p says that there is none.
+# PLACE is a file that remembers where the next run goes on. A run goes on to the end, or with -m for so many minutes.
+# After one that reached the end the next run starts over; -r starts over at once. The passphrase is asked for; -j names
+# a file whose first line it is, -p says that there is none.
 #
-# What was found goes to standard output, and how far it is to standard error where that is a terminal. So cron mails
-# the report of a line like this; with `>report || mail -s scrub root <report` behind it, only one where the status
-# isn't 0:
+# The findings go to standard output, and the progress to standard error if that is a terminal. So cron mails the report
+# of a line like this; add `>report || mail -s scrub root <report` at its end to get one only if the status isn't 0:
 #
 #   0 3 * * 0  scrub-provider.sh -m 120 -p -k /root/backup.key /dev/sdb2 /var/lib/backup.place
 #
-# Status 0: all sectors that were looked at can be read. Status 1: some can't, and standard output says which.
+# Status 0: all sectors that were checked can be read. Status 1: some can't, and standard output says which.
 # Status 2: the words aren't understood. Status 3: it could not be done, or only in part, and standard error says why.
 set -euo pipefail
 # shellcheck source=lib.sh
@@ -56,7 +55,7 @@ from lib import Failed, Progress, Session, WHY_UNREADABLE, fields_of, ranges, ru
 
 
 def beginning(place, restart, sectors):
-    """The sector at which the run begins, and whether it begins anew: also where the last one reached the end."""
+    """The sector at which the run begins, and whether it starts over, as after a run that reached the end."""
     if restart or not os.path.exists(place):
         return 0, True
     with open(place, "rb") as file:

@@ -4,10 +4,10 @@
 #   serve-nbd.sh [-r] [-n PARTITION] [-p] [-j PASSFILE] [-k KEYFILE]... IMAGE SOCKET
 #   serve-nbd.sh -e SOCKET
 #
-# SOCKET must not exist. geli-nbd(8) runs on behind it, and nbdkit between, so that the key is derived once for all
-# clients, until `serve-nbd.sh -e SOCKET` ends it. That waits for the clients to disconnect, says who they are, and
-# flushes and detaches the provider. It answers 0 only where that went well, and where no write of a client was refused,
-# as on a full disk. Else it says how many were, when the first was, and why.
+# SOCKET must not exist. The server runs until `serve-nbd.sh -e SOCKET` ends it. It is geli-nbd(8) with nbdkit at the
+# socket, so that the key is derived once for all clients. -e waits for the clients to disconnect, says who they are,
+# and flushes and detaches the provider. It exits with 0 only if that went well and no write of a client was refused,
+# for example on a full disk. Otherwise it says how many writes were refused, when the first was, and why.
 # -r: read-only. -n: only this partition of the data, counted from 1. The passphrase is asked for; -j names a
 # file whose first line it is, -p says that there is none.
 # It needs nbdkit; geli-nbd(8) alone serves one client. Some clients, with URI=nbd+unix:///?socket=SOCKET (whole path):
@@ -18,14 +18,14 @@
 #   qemu-system-x86_64 -drive file="$URI",format=raw          a disk of a virtual machine
 #   nbd-client -unix SOCKET /dev/nbd0 && mount /dev/nbd0 DIR  a disk of Linux (root, kernel module nbd)
 #
-# Where a whole disk image has the provider in one of its partitions, IMAGE can be a loop device of that partition:
+# If the provider is in a partition of a whole disk image, IMAGE can be a loop device of that partition:
 #
 #   losetup --find --show --offset BYTES --sizelimit BYTES disk.img
 #
-# What a client wrote is in the image once it is answered, and safe from a power failure once the client has flushed, as
-# when it unmounts; no `sync` reaches fuse2fs 1.47. After a crash see after-a-power-failure.sh, and check the filesystem
-# (e2fsck). A sector of an authenticated provider that was never written answers an I/O error: make such a provider by
-# make-provider.sh -a.
+# A client's write is in the image once it is acknowledged, and safe from a power failure once the client has flushed,
+# as it does when it unmounts; no `sync` reaches fuse2fs 1.47. After a crash see after-a-power-failure.sh, and check the
+# filesystem (e2fsck). Reading a sector of an authenticated provider that was never written is an I/O error: make such
+# a provider by make-provider.sh -a.
 set -euo pipefail
 # shellcheck source=lib.sh
 . "$(dirname -- "$(readlink -f -- "${BASH_SOURCE[0]}")")/lib.sh"
@@ -42,7 +42,7 @@ is_server() {
     { read -r _ name state _ <"/proc/$1/stat"; } 2>/dev/null && [[ $name = '(python'* ]] && [ "$state" != Z ]
 }
 
-# Says who is connected to the server behind a socket.
+# Says who is connected to the server at a socket.
 tell_clients() {
     local client
     note "$1: a client is connected, and is waited for: unmount, or end it"
@@ -51,7 +51,7 @@ tell_clients() {
     done <"$2"
 }
 
-# Ends the server behind a socket, and tells whether all was flushed. It serves its clients until they disconnect.
+# Ends the server at a socket, and returns whether all was flushed. It serves its clients until they disconnect.
 end_server() {
     local socket=$1 pid said=''
     local -i turns=0
@@ -105,7 +105,7 @@ is_text "$socket"
 key_ready
 
 # It goes to the background once the provider is attached; no key file is needed any more then. A session of its own
-# keeps it running when the terminal is closed. Where this is broken off before, nobody has asked it to write yet.
+# keeps it running when the terminal is closed. If this is broken off before, nobody has asked it to write yet.
 left() {
     [ -z "${!:-}" ] || kill -KILL -- "-$!" "$!" 2>/dev/null || : # it may have no session yet
     rm -f -- "$socket" "$socket.pid" "$socket.ended" "$socket.clients"

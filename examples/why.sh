@@ -4,13 +4,13 @@
 #   why.sh WORD...
 #   why.sh error NUMBER [WORD...]
 #
-# WORD... is what stands behind `geli`, as in `why.sh init -s 4k -P -K a.key a.img`. Status 0: the words are a command,
-# or lines of a script would be. Status 1: they aren't, and standard output says why. A verb of FreeBSD's that isn't
-# here is answered by what does its work. `error` and what stands behind it, as geli printed it, says what geli(8) says
-# of that refusal.
+# WORD... are the words after `geli`, as in `why.sh init -s 4k -P -K a.key a.img`. Status 0: they are a command, or
+# would be one as a line of a script. Status 1: they aren't, and standard output says why. For a verb of FreeBSD's that
+# is missing here it says what to use instead. `error` and the words after it, as geli printed them, give what geli(8)
+# says about that refusal.
 #
-# `geli` itself prints its usage line alone for them. It says more where they are a line of a script; here that script
-# has an image by a name that no file can have, so whatever the words ask for, no image has their name.
+# `geli` itself prints its usage line alone for wrong words, but says more about a line of a script. So this runs the
+# words as such a line; that script names an image that can't exist, so nothing is ever done, whatever the words say.
 set -euo pipefail
 # shellcheck source=lib.sh
 . "$(dirname -- "$(readlink -f -- "${BASH_SOURCE[0]}")")/lib.sh"

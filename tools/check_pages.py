@@ -13,14 +13,16 @@ It prints, each with its file and line:
 - a README of more than 7 KB, which nobody reads in three minutes;
 - crates that docs/PROOFS.md doesn't name, and where the table of docs/ARCHITECTURE.md isn't crates.txt: its groups, the
   crates of each in their order, and what each stands on;
-- wrong bodies that must stay (STAY) and have no row in docs/WRONG_BODIES.md or no file, and each wrong body whose old
-  text doesn't stand exactly once in the file that it names.
+- wrong bodies that must stay (STAY) and have no row in docs/WRONG_BODIES.md or no file, each wrong body whose old text
+  doesn't stand exactly once in the file that it names, and a sentence of that page that counts them wrongly.
 It ends with status 1 where it found something.
 """
 import itertools
 import re
+import statistics
 import subprocess
 import sys
+from collections import Counter
 from pathlib import Path
 
 from layer_layout import direct, uses_of
@@ -211,6 +213,15 @@ def missing_bodies():
                 yield "%s: a wrong body that must stay has no row in %s" % (name, BODIES)
 
 
+def bad_count(names):
+    """The sentence that counts the wrong bodies, where docs/WRONG_BODIES.md hasn't just this one."""
+    each = Counter(name.split("/")[1] for name in names if name.endswith(".edit")).values()
+    count = "%d wrong bodies in %d crates, %d to %d in each, in the median %g." % (
+        sum(each), len(each), min(each), max(each), statistics.median(each))
+    if "There are " + count not in (ROOT / BODIES).read_text(encoding="utf-8"):
+        yield "%s: there are %s" % (BODIES, count)
+
+
 def bad_edits(names):
     """The wrong bodies that can't be made: some old text doesn't stand exactly once in the file named before it."""
     for name in names:
@@ -238,7 +249,8 @@ def main():
             print("%s:%d: %s" % (name, at, what))
         count += len(found)
     if not sys.argv[1:]:
-        others = [*long_readme(), *missing_crates(), *differing_crates(), *missing_bodies(), *bad_edits(names)]
+        others = [*long_readme(), *missing_crates(), *differing_crates(), *missing_bodies(), *bad_count(names),
+                  *bad_edits(names)]
         print("".join(line + "\n" for line in others), end="")
         count += len(others)
     print("%d found in %d pages" % (count, len(asked)))

@@ -21,8 +21,8 @@ INTRODUCTION = """# The definitions
 
 Contracts are stated in definitions, which each crate has in `specs/`.
 Each page below prints those of one crate: name, comment and file.
-Where neither the comment nor the head of its file names a source, a definition is this project's own.
-`tools/definitions.py` makes the pages; with `--check` it tells where one isn't what `specs/` say.
+If neither the comment nor the head of its file names a source, a definition is this project's own.
+`tools/definitions.py` makes the pages; with `--check` it lists pages that differ from `specs/`.
 To change a page, change the comment over the definition and run the tool.
 
 """

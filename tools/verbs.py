@@ -217,7 +217,7 @@ def verbs_of_readme():
 def shared_verbs():
     """The verbs that COMPATIBILITY says come from FreeBSD."""
     items = section("COMPATIBILITY").split("\n.It\n")
-    item = next((item for item in items if item.startswith("Of the commands\n")), "")
+    item = next((item for item in items if item.startswith("The commands\n")), "")
     return {name for line in re.findall(r"^\.Cm (.*)$", item, re.M) for name in re.findall(r"\w+", line)}
 
 

@@ -12,7 +12,7 @@ It prints, each with its file and line:
 - in a list under a file of specs/ each definition that this file hasn't;
 - a README of more than 7 KB, which nobody reads in three minutes;
 - crates that docs/PROOFS.md doesn't name, and where the table of docs/ARCHITECTURE.md isn't crates.txt: its groups, the
-  crates of each in their order, and what each stands on;
+  crates of each in their order, and what each stands on; crates of crates.txt before one that they use;
 - wrong bodies that must stay (STAY) and have no row in docs/WRONG_BODIES.md or no file, each wrong body whose old text
   doesn't stand exactly once in the file that it names, and a sentence of that page that counts them wrongly.
 It ends with status 1 where it found something.
@@ -193,6 +193,13 @@ def shown_crates():
                 yield name, sorted(CODE.findall(cell))
 
 
+def early_crates():
+    uses, before = uses_of((ROOT / "crates.txt").read_text(encoding="utf-8")), set()
+    for crate, used in uses.items():
+        yield from ("crates.txt: %s stands before %s, which it uses" % (crate, it) for it in used if it not in before)
+        before.add(crate)
+
+
 def differing_crates():
     listed, shown = list(listed_crates()), list(shown_crates())
     for here, there in itertools.zip_longest(listed, shown):
@@ -249,8 +256,8 @@ def main():
             print("%s:%d: %s" % (name, at, what))
         count += len(found)
     if not sys.argv[1:]:
-        others = [*long_readme(), *missing_crates(), *differing_crates(), *missing_bodies(), *bad_count(names),
-                  *bad_edits(names)]
+        others = [*long_readme(), *missing_crates(), *early_crates(), *differing_crates(), *missing_bodies(),
+                  *bad_count(names), *bad_edits(names)]
         print("".join(line + "\n" for line in others), end="")
         count += len(others)
     print("%d found in %d pages" % (count, len(asked)))

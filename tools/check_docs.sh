@@ -1,11 +1,19 @@
 #!/usr/bin/env bash
-# Runs the checks of the pages, each of which says what it finds; status 1 where one found something. Outside the gate.
+# Runs the checks of the pages, each of which says what it finds; status 1 if one found something. Outside the gate.
+# The links are looked at in the tree, and in the pages as ./install puts them (packaging/docs), which needs no build.
 #
 #   tools/check_docs.sh
 cd "$(dirname "$(readlink -f "${BASH_SOURCE[0]}")")" || exit 2
 status=0
 ./check_pages.py || status=1
 ./check_links.py || status=1
+installed=$(mktemp -d)
+trap 'rm -rf "$installed"' EXIT
+../packaging/docs "$installed" >/dev/null || status=1
+if ! found=$(./check_links.py "$installed"); then
+    status=1
+    while IFS= read -r line; do echo "as installed: $line"; done <<<"$found"
+fi
 for check in definitions names_twice format_numbers pictures format_pictures verbs; do
     "./$check.py" --check || status=1
 done

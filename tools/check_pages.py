@@ -11,17 +11,21 @@ It prints, each with its file and line:
 - paths that lead to no file, from the root or from the page's own folder;
 - in a list under a file of specs/ each definition that this file hasn't;
 - a README of more than 7 KB, which nobody reads in three minutes;
-- crates that docs/ARCHITECTURE.md or docs/PROOFS.md doesn't name;
+- crates that docs/PROOFS.md doesn't name, and where the table of docs/ARCHITECTURE.md isn't crates.txt: its groups, the
+  crates of each in their order, and what each stands on; crates of crates.txt before one that they use;
 - wrong bodies that must stay (STAY) and have no row in docs/WRONG_BODIES.md or no file, each wrong body whose old text
   doesn't stand exactly once in the file that it names, and a sentence of that page that counts them wrongly.
 It ends with status 1 where it found something.
 """
+import itertools
 import re
 import statistics
 import subprocess
 import sys
 from collections import Counter
 from pathlib import Path
+
+from layer_layout import direct, uses_of
 
 ROOT = Path(__file__).resolve().parent.parent
 COLUMNS, WORDS, README_BYTES = 120, 40, 7168
@@ -158,11 +162,50 @@ def long_readme():
 
 
 def missing_crates():
-    lines = (ROOT / "crates.txt").read_text(encoding="utf-8").split("\n")
-    crates = [line.split(":")[0] for line in lines if ":" in line and not line.startswith("#")]
-    for page in "docs/ARCHITECTURE.md", "docs/PROOFS.md":
-        text = (ROOT / page).read_text(encoding="utf-8")
-        yield from ("%s: nothing of the crate %s" % (page, crate) for crate in crates if "`%s`" % crate not in text)
+    text = (ROOT / "docs/PROOFS.md").read_text(encoding="utf-8")
+    for crate in uses_of((ROOT / "crates.txt").read_text(encoding="utf-8")):
+        if "`%s`" % crate not in text:
+            yield "docs/PROOFS.md: nothing of the crate %s" % crate
+
+
+def listed_crates():
+    """The groups of crates.txt and their crates, with what each stands on that no other crate beside it brings."""
+    text = (ROOT / "crates.txt").read_text(encoding="utf-8")
+    uses = uses_of(text)
+    least = direct(uses)
+    for line in text.split("\n")[1:]:
+        if line.startswith("# "):
+            yield "**%s**" % line[2:]
+        elif line:
+            name, _, words = line.partition(":")
+            yield name, sorted([*least[name], *(it for it in words.split() if it not in uses)])
+
+
+def shown_crates():
+    """The same by the table of docs/ARCHITECTURE.md. A row of several crates has one cell for all, or one for each."""
+    for line in (ROOT / "docs/ARCHITECTURE.md").read_text(encoding="utf-8").split("\n"):
+        cells = [cell.strip() for cell in line.strip().strip("|").split(" | ")]
+        if line.startswith("| **"):
+            yield cells[0].strip(" |")
+        elif line.startswith("| `") and len(cells) == 3:
+            names, below = CODE.findall(cells[0]), cells[2].split(";")
+            for name, cell in zip(names, below * (1 if len(below) == len(names) else len(names))):
+                yield name, sorted(CODE.findall(cell))
+
+
+def early_crates():
+    uses, before = uses_of((ROOT / "crates.txt").read_text(encoding="utf-8")), set()
+    for crate, used in uses.items():
+        yield from ("crates.txt: %s stands before %s, which it uses" % (crate, it) for it in used if it not in before)
+        before.add(crate)
+
+
+def differing_crates():
+    listed, shown = list(listed_crates()), list(shown_crates())
+    for here, there in itertools.zip_longest(listed, shown):
+        if here != there:
+            yield "docs/ARCHITECTURE.md: crates.txt has %s, the table %s" % (here, there)
+            return
 
 
 def missing_bodies():
@@ -213,7 +256,8 @@ def main():
             print("%s:%d: %s" % (name, at, what))
         count += len(found)
     if not sys.argv[1:]:
-        others = [*long_readme(), *missing_crates(), *missing_bodies(), *bad_count(names), *bad_edits(names)]
+        others = [*long_readme(), *missing_crates(), *early_crates(), *differing_crates(), *missing_bodies(),
+                  *bad_count(names), *bad_edits(names)]
         print("".join(line + "\n" for line in others), end="")
         count += len(others)
     print("%d found in %d pages" % (count, len(asked)))

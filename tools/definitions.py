@@ -82,9 +82,10 @@ def definitions_in(crate):
 
 
 def shown(text):
-    """Text that Markdown shows as it stands: names in backquotes are left."""
+    """Text that Markdown shows as it stands: names in backquotes are left, and the name of a page is a link to it."""
     parts = re.split(r"(`[^`]*`)", text)
-    return "".join(part if part.startswith("`") else re.sub(r"([*<])", r"\\\1", part) for part in parts)
+    parts = [part if part.startswith("`") else re.sub(r"([*<])", r"\\\1", part) for part in parts]
+    return re.sub(r"\bdocs/([A-Z_]+\.md)", r"[docs/\1](../\1)", "".join(parts))
 
 
 def wrapped(text, first="", rest=""):

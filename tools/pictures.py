@@ -29,7 +29,7 @@ STEPS = [
     (4, "auth_sectors", ["seal_piece", "seal_apart"], "with authentication: units with their tags, one or four at once"),
     (5, "range_keys", ["key_at", "iv_at", "tag_key_at"], "for both: the keys of a byte offset"),
     (5, "sealing", ["seal_run"], "for both: enciphers one run of blocks under these keys"),
-    (6, "xts_mode", ["xts_seal_sliced"], "AES-XTS, eight blocks at a time (aes_planes); or cbc_mode, block by block"),
+    (6, "xts_mode", ["xts_seal_sliced"], "AES-XTS, sixteen blocks at a time (aes_planes); or cbc_mode, block by block"),
     (4, "block_traits", ["write", "write_sectors"], "the trait Disk: device sectors go to whatever disk is below"),
     (5, "disk_layers", ["write_at", "write_sectors"], "behind:FILE, whose writes wait, and join:FILE:FILE, two as one"),
     (6, "file_edge", ["write", "write_sectors"], "the file, by calls of the system"),

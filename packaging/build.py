@@ -31,7 +31,9 @@ import time
 
 PARTS = ("src", "specs", "proofs")
 BYTES_OF_JOB = 4_000_000_000
-MOST_JOBS_OF_CRATE, JOBS_OF_OTHER_CRATES = 4, 2
+MOST_JOBS_OF_CRATE = 4
+# What each job costs at its start where a crate has several, and from when on they gain: seconds of a processor.
+START_OF_JOB, WORK_FOR_JOBS = 18, 120
 SECONDS_OF_SILENCE = 60
 WIDE_LEVELS = ("x86-64-v3",)
 WIDTH_CRATE, WIDTH_FILE = "aes_planes", "src/width.rt"
@@ -92,10 +94,18 @@ class Costs:
                     lines += it.read().count(b"\n")
         return 15 + lines / 10, 10
 
+    def work(self, name, jobs):
+        """Returns the seconds of processors that the crate takes with so many jobs."""
+        return self.of(name)[0] + (START_OF_JOB * jobs if jobs > 1 else 0)
+
+    def jobs(self, name):
+        """Returns how many jobs are best for the crate, if no other waits."""
+        return MOST_JOBS_OF_CRATE if self.of(name)[0] >= WORK_FOR_JOBS else 1
+
     def seconds(self, name):
-        """Returns how long the crate takes with as many jobs as it can get."""
-        work, alone = self.of(name)
-        return alone + (work - alone) / MOST_JOBS_OF_CRATE
+        """Returns how long the crate takes with these."""
+        alone, jobs = self.of(name)[1], self.jobs(name)
+        return alone + (self.work(name, jobs) - alone) / jobs
 
 
 def text_of(file):
@@ -168,8 +178,8 @@ class Build:
             for dep in self.uses[name]:
                 self.chain[dep] = max(self.chain[dep], self.costs.seconds(dep) + self.chain[name])
         self.lanes, self.may_exceed = processors()
-        # The processor seconds of each crate that is built.
-        self.began, self.took = time.monotonic(), {}
+        # The processor seconds of each crate that is built, and its jobs.
+        self.began, self.took, self.jobs = time.monotonic(), {}, {}
         self.is_ending, self.started = False, set()
 
     def home(self, name):
@@ -259,7 +269,8 @@ class Build:
     def left(self, waiting, running):
         """Returns about how many seconds the rest takes, by going through it as `all` does. `running` has, for each
         crate that is being built, its jobs and for how long it has been."""
-        work, done = {it: self.costs.of(it)[0] for it in self.crates}, {*self.crates} - {*waiting} - {*running}
+        work = {it: self.costs.work(it, self.jobs.get(it, 1)) for it in self.crates}
+        done = {*self.crates} - {*waiting} - {*running}
         # (a library that an earlier build left takes no time, and until a twentieth is proved, this machine counts as
         # quick as that of costs.txt)
         proved = [it for it in done if 10 * self.took[it] > work[it]]
@@ -268,8 +279,8 @@ class Build:
         waiting, step, seconds, rest = set(waiting), 5, 0, {}
 
         def begin(name, jobs, gone):
-            alone = rate * self.costs.of(name)[1]
-            rest[name] = [jobs, alone - gone, max(rate * work[name] - alone - jobs * max(gone - alone, 0), step)]
+            alone, shared = self.costs.of(name)[1], self.costs.work(name, jobs) - self.costs.of(name)[1]
+            rest[name] = [jobs, rate * alone - gone, max(rate * shared - jobs * max(gone - rate * alone, 0), step)]
 
         for name, (jobs, gone) in running.items():
             begin(name, jobs, gone)
@@ -312,10 +323,10 @@ class Build:
         name = max(ready, key=self.chain.get)
         if not self.may_exceed:
             return name, max(1, min(MOST_JOBS_OF_CRATE, idle - len(ready) + 1))
-        # The crate that the rest waits for longest gets all, and the others fill what it leaves idle: a crate keeps the
-        # jobs that it began with.
+        # The crate that the rest waits for longest gets several if that is quicker, and the others fill what it leaves
+        # idle: a crate keeps the jobs that it began with.
         is_head = all(self.chain[name] >= self.chain[it] for it in running)
-        return name, min(self.lanes, MOST_JOBS_OF_CRATE if is_head else JOBS_OF_OTHER_CRATES)
+        return name, min(self.lanes, self.costs.jobs(name) if is_head else 1)
 
     def all(self):
         """Builds all, and returns the name of the crate that failed, or None."""
@@ -326,6 +337,7 @@ class Build:
             while waiting or running:
                 while found := self.next_of(waiting, done, {name: jobs for name, jobs, _ in running.values()}):
                     waiting.discard(found[0])
+                    self.jobs[found[0]] = found[1]
                     running[pool.submit(self.prove, *found)] = *found, time.monotonic()
                 ended = concurrent.futures.wait(running, 1, concurrent.futures.FIRST_COMPLETED).done
                 for it in ended:

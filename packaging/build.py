@@ -304,8 +304,6 @@ class Build:
     def tell(self, waiting, running):
         """Says what is being proved, how far that is, and about how long the rest takes."""
         now, count = time.monotonic(), len(self.crates) - len(waiting) - len(running)
-        if not running and not waiting:
-            return
         left = self.left(waiting, {it: (jobs, now - since) for it, (jobs, since) in running.items()})
         names = " ".join(sorted(running, key=self.chain.get, reverse=True))
         say(
@@ -330,7 +328,7 @@ class Build:
 
     def all(self):
         """Builds all, and returns the name of the crate that failed, or None."""
-        waiting, done, running, parent, told = set(self.crates), set(), {}, os.getppid(), 0
+        waiting, done, running, parent, told, ended = set(self.crates), set(), {}, os.getppid(), 0, None
         for name in self.crates:
             self.take(name)
         with concurrent.futures.ThreadPoolExecutor(self.lanes) as pool:
@@ -339,6 +337,9 @@ class Build:
                     waiting.discard(found[0])
                     self.jobs[found[0]] = found[1]
                     running[pool.submit(self.prove, *found)] = *found, time.monotonic()
+                if ended or time.monotonic() - told > SECONDS_OF_SILENCE:
+                    told = time.monotonic()
+                    self.tell(waiting, {name: (jobs, since) for name, jobs, since in running.values()})
                 ended = concurrent.futures.wait(running, 1, concurrent.futures.FIRST_COMPLETED).done
                 for it in ended:
                     name, _, _ = running.pop(it)
@@ -346,9 +347,6 @@ class Build:
                         self.end()
                         return name
                     done.add(name)
-                if ended or time.monotonic() - told > SECONDS_OF_SILENCE:
-                    told = time.monotonic()
-                    self.tell(waiting, {name: (jobs, since) for name, jobs, since in running.values()})
                 if os.getppid() != parent:
                     self.end()
                     return next(iter(waiting), self.crates[-1])

@@ -4,7 +4,7 @@
  *   whole fill|sum|verify CIPHER SECTORSIZE FILE BYTES CHUNK
  *
  * CIPHER: aes-128-xts aes-256-xts aes-128-cbc aes-256-cbc, plain, or with +sha256 +sha384 +sha512 behind it (GELI's
- * pieces: a key of each unit by SHA-256, an HMAC of its cipher text stored before it).
+ * pieces: a key of each unit by SHA-256, an HMAC of its ciphertext stored before it).
  * CHUNK: how many bytes a call of the system moves; 512 as GELI here does (fill then also seeks to the end for each),
  * more as a C programmer would. Prints the seconds and, for sum, the digest. `verify` computes each unit's code and
  * compares it, deciphers nothing, and ends with status 3 where one differs. */

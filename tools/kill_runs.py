@@ -122,7 +122,7 @@ class Reader:
         self.sectors = (len(image) - 512) // (512 * self.units)
 
     def run(self, offset, text):
-        """The plain bytes of a run of cipher text at a byte offset."""
+        """The plain bytes of a run of ciphertext at a byte offset."""
         step = 512 if self.hash else self.size
         key = sha512(self.base, b"ekey" + le64((offset >> 20) // step))
         if self.is_cbc:

@@ -30,7 +30,7 @@ FOURS = (("Sha256", "AesXts", 128), ("Sha384", "AesCbc", 192), ("Sha512", "AesXt
 
 
 def sealed(base, cipher, bits, number, offset, plain):
-    """The cipher text of a run at a byte offset, under the range key of this number."""
+    """The ciphertext of a run at a byte offset, under the range key of this number."""
     key = hmac.new(base, b"ekey" + struct.pack("<Q", number), hashlib.sha512).digest()
     size = bits // 8
     if cipher == "AesXts":

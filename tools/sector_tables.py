@@ -2,11 +2,11 @@
 """The tables of the tests of plain_sectors.
 
 A table for each cipher and key length, with a digest for each sector size S from 512 to 65536, in this order. It is the
-SHA-256 digest of one plain text sealed at five byte offsets, one sealed sector after the other: 0, S, the last sector
+SHA-256 digest of one plaintext sealed at five byte offsets, one sealed sector after the other: 0, S, the last sector
 under key number 0, the first under key number 1, and the last below 2^53. And the digests of some sectors by their
 number, of metadata of versions 5 to 7.
 
-The master key is the bytes 0 to 127: IV-Key, then Data-Key. The plain text of a logical sector of S bytes is byte
+The master key is the bytes 0 to 127: IV-Key, then Data-Key. The plaintext of a logical sector of S bytes is byte
 i = (7 * i + i / 256) mod 256.
 """
 import hashlib

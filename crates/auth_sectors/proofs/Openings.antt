@@ -25,7 +25,7 @@ accepts true false plain offset to from = let wrong = to refl in absurd cc
 accepts false true plain offset to from = let wrong = from refl in absurd cc
 accepts false false plain offset to from = refl
 
--- whether a device sector has the tag that was computed of its cipher text is whether it reads as bytes
+-- whether a device sector has the tag that was computed of its ciphertext is whether it reads as bytes
 pub tag_tells : (k : Keying) (offset tag size : ℕ) (sector code : List ℕ) (same : Bool) → length sector ≡ 512 → tag ≡ tag_bytes k.auth
     → code ≡ padded (tag_of k offset (take (tag + size - tag) (drop tag sector))) → (IsTrue same ↔ (padded (kept_tag k sector) ≡ code))
     → is_ok (opened_tagged k offset size sector) ≡ same

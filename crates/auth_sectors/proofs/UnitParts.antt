@@ -18,7 +18,7 @@ pub one_length : (slices : List (Bor (List ℕ))) (j : ℕ) → HaveOneLength sl
     → length (slice_index_or slices j nothing).now ≡ length (slice_index_or slices 0 nothing).now
 one_length slices j alike below = ap length (sym (bytes_of_is slices j)) ∙ alike j below ∙ ap length (bytes_of_is slices 0)
 
--- a tag in front of cipher text with zeros after it is the unit
+-- a tag in front of ciphertext with zeros after it is the unit
 pub unit_with_tag : (k now later : Keying) (offset size n : ℕ) (plain text code sector : List ℕ) → now ≡ k → later ≡ k → size ≡ tag_bytes k.auth → length plain ≡ n
     → length (sealed_run now offset plain) ≡ length plain → drop (tag_bytes now.auth) text ≡ sealed_run now offset plain ++ replicate (unit_bytes_of now.auth - length plain) 0
     → code ≡ padded (tag_of later offset (take (size + n - size) (drop size text))) → sector ≡ take size code ++ drop (length (take size code)) text

@@ -1,6 +1,6 @@
 //! Device sectors of a GELI provider with authentication (geli(8), "DATA AUTHENTICATION"; g_eli_integrity.c).
 //!
-//! A unit is the part of a logical sector that stands in one device sector: a tag, the cipher text of the unit's
+//! A unit is the part of a logical sector that stands in one device sector: a tag, the ciphertext of the unit's
 //! plain bytes, and zeros, all under the keys of the device sector's own byte offset. No call fails for want of
 //! memory.
 #![tactic(auto)]
@@ -22,7 +22,7 @@ use sealing::open_run;
 use tags::{has_tag, padded, tag_of, tag_size, tags_of_four};
 use whole::{encipher, put_tag};
 
-/// That the tag in a device sector isn't that of its cipher text. Of both the first `length` bytes are the tag, and the
+/// That the tag in a device sector isn't that of its ciphertext. Of both the first `length` bytes are the tag, and the
 /// rest is zeros.
 #[derive(Clone, Copy, Debug, PartialEq, Eq)]
 pub struct Mismatch {
@@ -30,7 +30,7 @@ pub struct Mismatch {
     pub length: u8,
     /// The tag that the device sector has.
     pub kept: [u8; 64],
-    /// The tag of the cipher text.
+    /// The tag of the ciphertext.
     pub computed: [u8; 64],
 }
 
@@ -88,7 +88,7 @@ pub fn seal_apart(ring: &mut KeyRing, offset: u64, step: u64, plain: [&[u8]; 4],
 }
 
 /// Opens a unit of as many plain bytes as `out` has, from its device sector, which stands at this byte offset of the
-/// device. What follows the cipher text isn't looked at.
+/// device. What follows the ciphertext isn't looked at.
 ///
 /// A mismatch is returned exactly if the tag differs, and `out` is then all zeros.
 pub fn open_piece(
@@ -121,7 +121,7 @@ pub fn open_piece(
 }
 
 /// Whether a unit of `size` plain bytes is accepted, from its device sector, which stands at this byte offset of the
-/// device: whether the tag is that of its cipher text. Nothing is deciphered.
+/// device: whether the tag is that of its ciphertext. Nothing is deciphered.
 pub fn unit_accepted(ring: &KeyRing, offset: u64, size: usize, from: &Sector) -> bool
     requires on { ring.now.keying.auth ≢ Auth.Off }
     requires at_most { size ≤ unit_bytes_of ring.now.keying.auth }

@@ -48,7 +48,7 @@ fn code_of(auth: Auth, key: &[u8; 32], message: &[u8]) -> [u8; 64]
     }
 }
 
-/// The tag of the cipher text at this byte offset.
+/// The tag of the ciphertext at this byte offset.
 pub fn tag_of(ring: &KeyRing, offset: u64, cipher_text: &[u8]) -> [u8; 64]
     requires { ring.now.keying.auth ≢ Auth.Off }
     ensures { result ≡ padded (tag_of ring.now.keying offset cipher_text.now) }
@@ -86,7 +86,7 @@ fn codes_of_four(auth: Auth, keys: &[[u8; 32]; 4], messages: [&[u8]; 4]) -> [[u8
     }
 }
 
-/// The tags of four cipher texts of one length. The first is that of this byte offset, and each other is that of the
+/// The tags of four ciphertexts of one length. The first is that of this byte offset, and each other is that of the
 /// offset `step` bytes after the one before it.
 pub fn tags_of_four(ring: &KeyRing, offset: u64, step: u64, texts: [&[u8]; 4]) -> [[u8; 64]; 4]
     requires on { ring.now.keying.auth ≢ Auth.Off }

@@ -1,4 +1,4 @@
-//! A unit in its device sector: a tag, cipher text after it, and zeros after that.
+//! A unit in its device sector: a tag, ciphertext after it, and zeros after that.
 
 ghost use Rattle.std.specs.Prelude.{◌≡◌, ◌-◌, ◌%◌, ◌≤◌, ◌++◌, drop, length, replicate};
 ghost use Rattle.eli_base.specs.Units.{tag_bytes, unit_bytes_of};
@@ -27,7 +27,7 @@ pub fn encipher(ring: &mut KeyRing, offset: u64, plain: &[u8], sector: &mut [u8]
     zeros.fill(0);
 }
 
-/// Puts a tag in front of the cipher text.
+/// Puts a tag in front of the ciphertext.
 pub fn put_tag(tag: &[u8], sector: &mut [u8])
     requires { length tag.now ≤ length sector.old }
     ensures { sector.new ≡ tag.now ++ drop (length tag.now) sector.old }

@@ -175,7 +175,7 @@ Gave k (Read sector count) device before after reaped =
 Gave k (Write sector count) device before after reaped = (reaped ≡ Written) × (after ≡ before)
 Gave k Flush device before after reaped = (reaped ≡ Flushed) × (after ≡ before)
 
--- a unit among the device sectors that a read was given has another tag than its cipher text: the first has this byte
+-- a unit among the device sectors that a read was given has another tag than its ciphertext: the first has this byte
 -- offset
 abbrev pub HasBadUnit : Keying → Job → List (List ℕ) → ℕ → Type 0
 HasBadUnit k (Read sector count) device offset = opened_data k sector count device ≡ Err offset

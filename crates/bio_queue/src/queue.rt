@@ -156,7 +156,7 @@ impl Queue {
     ///
     /// In this order: `NoRequest`, exactly where no request has the tag; `NotDone`, exactly where units are left; and
     /// then the queue and `into` are as before. `Integrity`, exactly where the tag of a unit that was read isn't that
-    /// of its cipher text, with the byte offset of the first one; the request is then taken out too, and `into` is
+    /// of its ciphertext, with the byte offset of the first one; the request is then taken out too, and `into` is
     /// all zeros.
     pub fn reap<D: Disk>(
         &mut self,

@@ -58,7 +58,7 @@ AsksSectorsFrom asks first many a = MatchOption (asked_sectors asks) ⊥ (IsOfSe
 
 -- ---- the tags
 
--- the request with this tag is done, and has a unit that was read with another tag than its cipher text: the first one
+-- the request with this tag is done, and has a unit that was read with another tag than its ciphertext: the first one
 -- at this offset
 pub record HasReadFault (tag offset : ℕ) (a : Attachment) : Type 0 where
   pub request : Request
@@ -73,7 +73,7 @@ pub record ReadsFault (sectors : Sectors) (disk : DiskState) (offset : ℕ) (a :
   pub are : IsOfSectors first many a sectors
   pub reads : ReadsAs disk a.keying first many (Err offset)
 
--- a unit that is read has another tag than its cipher text: the first one at this offset
+-- a unit that is read has another tag than its ciphertext: the first one at this offset
 abbrev pub FaultOf : Asks → DiskState → ℕ → Attachment → Type 0
 FaultOf AsksNothing disk offset a = ⊥
 FaultOf (AsksToRead sectors) disk offset a = ReadsFault sectors disk offset a

@@ -43,7 +43,7 @@ pub record LinePassesEnd (line : List ℕ) (command : Command) (disk : DiskState
   pub has : there ≡ media a.keying disk
   pub passes : there < sector + count
 
--- a unit that a line reads has another tag than its cipher text: the first one at this offset
+-- a unit that a line reads has another tag than its ciphertext: the first one at this offset
 abbrev pub FindsBadUnit : List ℕ → Command → DiskState → ℕ → Attachment → Type 0
 FindsBadUnit line command disk offset a = FaultOf (asks_of line command) disk offset a
 

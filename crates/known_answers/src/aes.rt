@@ -13,14 +13,14 @@ fn schedule_of(first: u128, second: u128, length: usize) -> Result<Schedule, Fai
     Ok(Schedule::new(key).ok_or("a key was refused")?)
 }
 
-// The key and the plain text of FIPS 197, appendix C.
+// The key and the plaintext of FIPS 197, appendix C.
 const FIRST: u128 = 0x000102030405060708090a0b0c0d0e0f;
 
 const SECOND: u128 = 0x101112131415161718191a1b1c1d1e1f;
 
 const PLAIN: u128 = 0x00112233445566778899aabbccddeeff;
 
-// The bytes of the key, and what the plain text is enciphered to.
+// The bytes of the key, and what the plaintext is enciphered to.
 const VECTORS: [(usize, u128); 3] = [
     (16, 0x69c4e0d86a7b0430d8cdb78070b4c55a),
     (24, 0xdda97ca4864cdfe06eaf70a0ec0d7191),

@@ -15,7 +15,7 @@ fn text_of(numbers: [u128; 4]) -> [u8; 64] {
     out
 }
 
-// A key, and what the plain text of the standard is enciphered to under it.
+// A key, and what the plaintext of the standard is enciphered to under it.
 #[derive(Clone, Copy)]
 struct Vector {
     key: [u128; 2],
@@ -93,7 +93,7 @@ fn vectors_of_the_standard(rt: HostRuntime) -> Result<(), Fail> {
     Ok(())
 }
 
-// A random key and initial vector, the length of a plain text, and its cipher text's digest.
+// A random key and initial vector, the length of a plaintext, and its ciphertext's digest.
 #[derive(Clone, Copy)]
 struct Row {
     key: [u128; 2],

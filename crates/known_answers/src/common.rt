@@ -11,7 +11,7 @@ pub(crate) fn bytes_of(numbers: [u128; 2]) -> [u8; 32] {
     out
 }
 
-// The plain text of the tables: byte i is (7 * i + i / 256) mod 256.
+// The plaintext of the tables: byte i is (7 * i + i / 256) mod 256.
 pub(crate) fn fill(text: &mut [u8]) {
     for (i, byte) in text.iter_mut().enumerate() {
         *byte = ((7 * (i % 256) + i / 256 % 256) % 256) as u8;

@@ -1,5 +1,5 @@
 //! Where logical sectors stand, by the rules of g_eli.h: the last device sector has the metadata, and with
-//! authentication each device sector has a tag and the rest of its 512 bytes of cipher text.
+//! authentication each device sector has a tag and the rest of its 512 bytes of ciphertext.
 use eli_base::{Auth, Cipher, Geometry, Params, UnitSpan};
 use std::test::Fail;
 

@@ -12,7 +12,7 @@ use std::test::Fail;
 const SECTOR_SIZES: [u32; 8] = [512, 1024, 2048, 4096, 8192, 16384, 32768, 65536];
 
 // By tools/sector_tables.py, over Python's hmac, hashlib and cryptography: a table for each cipher and key length, with
-// a digest for each of the sector sizes above, of what one plain text is sealed to at five byte offsets, one sector
+// a digest for each of the sector sizes above, of what one plaintext is sealed to at five byte offsets, one sector
 // after the other.
 
 const XTS_128: [&str; 8] = [
@@ -79,7 +79,7 @@ struct Combination {
     sectorsize: u32,
 }
 
-// Seals the plain text at a byte offset, adds what it is sealed to to the digest, and opens it again.
+// Seals the plaintext at a byte offset, adds what it is sealed to to the digest, and opens it again.
 fn check_at(
     rt: &impl Abort,
     alloc: Global,
@@ -169,7 +169,7 @@ fn sectors_by_cipher_and_size(rt: HostRuntime) -> Result<(), Fail> {
     check_table(&rt, alloc, Cipher::AesCbc, 256, &CBC_256)
 }
 
-// A logical sector by its number, and the digest of what the plain text is sealed to there.
+// A logical sector by its number, and the digest of what the plaintext is sealed to there.
 struct Vector {
     version: u32,
     cipher: Cipher,
@@ -179,7 +179,7 @@ struct Vector {
     digest: &'static str,
 }
 
-// By the same script, under the same master key, of the same plain text.
+// By the same script, under the same master key, of the same plaintext.
 const VECTORS: [Vector; 9] = [
     Vector {
         version: 7,

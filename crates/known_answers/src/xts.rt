@@ -115,7 +115,7 @@ fn vectors_of_the_standard(rt: HostRuntime) -> Result<(), Fail> {
     Ok(())
 }
 
-// Random keys and a random tweak, the length of a plain text, and its cipher text's digest.
+// Random keys and a random tweak, the length of a plaintext, and its ciphertext's digest.
 #[derive(Clone, Copy)]
 struct Row {
     first: [u128; 2],

@@ -94,7 +94,7 @@ pub record IsRead (k : Keying) (r : SectorRequest) (bytes : List ℕ) (old new :
   pub logs : Logs [] old new
   pub reads : ReadsAs old k r.sector r.count (Ok bytes)
 
--- a unit has another tag than its cipher text: nothing was logged, and it is the first of the request that has, at this
+-- a unit has another tag than its ciphertext: nothing was logged, and it is the first of the request that has, at this
 -- byte offset of the device, and the last that was read
 pub record FindsFault (k : Keying) (r : SectorRequest) (offset : ℕ) (old new : DiskState) : Type 0 where
   pub in_range : IsInRange r

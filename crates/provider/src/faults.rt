@@ -95,7 +95,7 @@ impl From<OutOfRange> for WriteFault {
     }
 }
 
-/// The tag of the unit at this byte offset of the device isn't that of its cipher text.
+/// The tag of the unit at this byte offset of the device isn't that of its ciphertext.
 #[derive(Clone, Copy, Debug, PartialEq, Eq, Error)]
 #[error("the tag at byte {offset} differs")]
 pub struct BadUnit {

@@ -222,7 +222,7 @@ impl<D: Disk> Provider<D> {
     /// `OutOfRange` comes exactly where the request passes the end, and then no call of the disk is made. Sectors that
     /// a look doesn't serve are read unit by unit, each opened before the next one is read. The first fault ends the
     /// request: `DeviceFault` comes only where the device failed and all units before were accepted, and `Integrity`
-    /// exactly where a unit is the first whose tag isn't that of its cipher text, at the unit's byte offset on the
+    /// exactly where a unit is the first whose tag isn't that of its ciphertext, at the unit's byte offset on the
     /// device. After a refusal `into` is all zeros.
     pub fn read(&mut self, sector: u64, into: &mut [u8]) -> Result<(), ReadFault>
         requires some { 0 < length into.old }
@@ -312,7 +312,7 @@ impl<D: Disk> Provider<D> {
     /// Opens logical sectors from number `sector` on into `out`, from the bytes of their device sectors, one after the
     /// other. No call of the disk is made.
     ///
-    /// `BadUnit` comes exactly where the tag of a unit isn't that of its cipher text, with the byte offset of the
+    /// `BadUnit` comes exactly where the tag of a unit isn't that of its ciphertext, with the byte offset of the
     /// first one, and `out` is then as it was.
     pub fn open_from(&mut self, sector: u64, device: &[u8], out: &mut [u8]) -> Result<(), BadUnit>
         requires whole { length out.old % self.old.keying.sectorsize ≡ 0 }
@@ -359,7 +359,7 @@ impl<D: Disk> Provider<D> {
     }
 
     /// Checks the next units of device sectors that stand one after the other, the first of number `n`: whether the tag
-    /// of each is that of its cipher text. No call of the disk is made.
+    /// of each is that of its ciphertext. No call of the disk is made.
     pub fn judge(&self, n: u64, device: &[u8]) -> Judged
         requires on { self.now.keying.auth ≢ Auth.Off }
         requires some { 512 ≤ length device.now }

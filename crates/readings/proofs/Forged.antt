@@ -1,4 +1,4 @@
--- One unit with authentication: a fault, a known cipher text, or forged.
+-- One unit with authentication: a fault, a known ciphertext, or forged.
 use Rattle.std.proofs.Common.{◌≡◌, ◌≢◌, ◌↔◌, ◌⊎◌, inl, inr, ℕ, ◌*◌, List, [], ◌∷◌, true, Result, Ok, Err, Contains, bytes_eq, refl, sym, ap, subst, ◌∙◌, arith, true≢false}
 use Rattle.std.proofs.lemmas.Bool.{cases_Bool, cond-false, false_from_ne_true}
 use Rattle.std.proofs.lemmas.List.Elements.{Contains-append_cases, Contains-append_right, Contains-push_cases}
@@ -54,7 +54,7 @@ fault-is k n bytes =
       λ differs. cond-false (is_accepted k n bytes) good (Err (512 * n)) (false_from_ne_true (is_accepted k n bytes) (λ h. differs (accepted_tag k n bytes h))),
     )
 
--- ---- the cipher text
+-- ---- the ciphertext
 
 has_cipher_text : (k : Keying) (n : ℕ) (bytes : List ℕ) (w : Writing) → HasCipherTextOf k n bytes w ⊎ (HasCipherTextOf k n bytes w → ⊥)
 has_cipher_text k n bytes w = elim (cases_Bool (is_accepted k n (device_bytes w))) [

@@ -1,4 +1,4 @@
--- What part of the plain text of a run depends on what part of its cipher text.
+-- What part of the plaintext of a run depends on what part of its ciphertext.
 use Rattle.std.proofs.Common.{◌≡◌, ℕ, zero, suc, ◌+◌, ◌-◌, ◌*◌, ◌/◌, ◌<◌, ◌≤◌, List, ◌++◌, length, drop, bit_xor, sym, ap, ◌∙◌, arith, lit<, length-append}
 use Rattle.std.proofs.lemmas.Simd.{length-zip2, length-chunk}
 use Rattle.std.specs.Int.{w128, to_le_bytes}

@@ -25,7 +25,7 @@ use Rattle.readings.proofs.Local.{xts_open-part, cbc_open-part, cbc_open-rest}
 use Rattle.readings.proofs.Matching.{matching-cases}
 use Rattle.readings.proofs.Sectors.{device_bytes-off, plain_bytes-off, AreSectors-writings}
 
--- ---- runs whose cipher text has a part in common
+-- ---- runs whose ciphertext has a part in common
 
 opened_by-rest : (c : Cipher) (k : Keying) (offset j : ℕ) (xs ys : List ℕ) → IsKeying k → length xs ≡ length ys → 512 * j + 512 ≤ length xs
     → part 512 j xs ≡ part 512 j ys → drop 16 (part 512 j (opened_by c k offset xs)) ≡ drop 16 (part 512 j (opened_by c k offset ys))

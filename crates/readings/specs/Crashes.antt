@@ -38,7 +38,7 @@ pub record HasFaultCause (k : Keying) (sector j : ℕ) (cells : ℕ → List Wri
 -- ---- a unit that is accepted
 
 -- with authentication unit j of a logical sector is a fault; or it reads by itself, namely as one of these writings,
--- which is accepted there and has its cipher text, or its bytes are forged
+-- which is accepted there and has its ciphertext, or its bytes are forged
 abbrev pub FaultsOrIsKnownOrForged : Keying → ℕ → ℕ → List (List ℕ) → List Writing → Type 0
 FaultsOrIsKnownOrForged k sector j image known =
     let n = unit_place k sector j in let there = get_or image n [] in

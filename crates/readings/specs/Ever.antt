@@ -28,30 +28,30 @@ ever c steps n = map Raw (get_or c.base n [] ∷ written_to c.history n) ++ plac
 
 -- ---- the unit in device sector n, of a provider with authentication
 
--- the cipher text that these bytes have as the unit in device sector n
+-- the ciphertext that these bytes have as the unit in device sector n
 abbrev pub cipher_text_at : Keying → ℕ → List ℕ → List ℕ
 cipher_text_at k n bytes = cipher_text_in k (unit_size_at k n) bytes
 
--- whether their tag is that of their cipher text: then the unit is accepted
+-- whether their tag is that of their ciphertext: then the unit is accepted
 abbrev pub is_accepted : Keying → ℕ → List ℕ → Bool
 is_accepted k n bytes = bytes_eq (kept_tag k bytes) (tag_of k (512 * n) (cipher_text_at k n bytes))
 
--- the writing is accepted there and has the cipher text of these bytes
+-- the writing is accepted there and has the ciphertext of these bytes
 pub record HasCipherTextOf (k : Keying) (n : ℕ) (bytes : List ℕ) (w : Writing) : Type 0 where
   pub accepted : IsTrue (is_accepted k n (device_bytes w))
   pub cipher_text : cipher_text_at k n (device_bytes w) ≡ cipher_text_at k n bytes
 
--- the tag in these bytes is right for their cipher text, and no accepted writing of the list has this cipher text
+-- the tag in these bytes is right for their ciphertext, and no accepted writing of the list has this ciphertext
 pub record IsForged (k : Keying) (n : ℕ) (bytes : List ℕ) (ever : List Writing) : Type 0 where
   pub accepted : IsTrue (is_accepted k n bytes)
   pub new : (w : Writing) → Contains ever w → HasCipherTextOf k n bytes w → ⊥
 
--- the tag in these bytes is right for their cipher text, and no accepted writing of the list has this tag
+-- the tag in these bytes is right for their ciphertext, and no accepted writing of the list has this tag
 pub record HasNewTag (k : Keying) (n : ℕ) (bytes : List ℕ) (ever : List Writing) : Type 0 where
   pub accepted : IsTrue (is_accepted k n bytes)
   pub new : (w : Writing) → Contains ever w → IsTrue (is_accepted k n (device_bytes w)) → kept_tag k (device_bytes w) ≢ kept_tag k bytes
 
--- an accepted writing of the list has the tag of these bytes for another cipher text: a collision of HMAC under one key
+-- an accepted writing of the list has the tag of these bytes for another ciphertext: a collision of HMAC under one key
 pub record CollidesWithOneOf (k : Keying) (n : ℕ) (bytes : List ℕ) (ever : List Writing) : Type 0 where
   pub member : Writing
   pub is_in : Contains ever member
@@ -59,7 +59,7 @@ pub record CollidesWithOneOf (k : Keying) (n : ℕ) (bytes : List ℕ) (ever : L
   pub differ : cipher_text_at k n (device_bytes member) ≢ cipher_text_at k n bytes
   pub same_tag : tag_of k (512 * n) (cipher_text_at k n (device_bytes member)) ≡ tag_of k (512 * n) (cipher_text_at k n bytes)
 
--- they read as a writing of the list that is accepted and has their cipher text
+-- they read as a writing of the list that is accepted and has their ciphertext
 pub record ReadsAsOneOf (k : Keying) (n : ℕ) (bytes : List ℕ) (ever : List Writing) : Type 0 where
   pub member : Writing
   pub is_in : Contains ever member

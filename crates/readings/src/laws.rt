@@ -53,7 +53,7 @@ pub fn matching_is_put_there()
 
 /// What any bytes read as, as the unit in a device sector of a provider with authentication, for any list of
 /// writings: a fault at the byte offset of the device sector exactly where the tag in them isn't that of their
-/// cipher text; else as one of these writings that is accepted there and has their cipher text; else they are forged.
+/// ciphertext; else as one of these writings that is accepted there and has their ciphertext; else they are forged.
 pub fn units_fault_or_are_known_or_forged()
     ensures fault { (k : Keying) (n : ℕ) (bytes : List ℕ) →
         (unit_reading_at k n bytes ≡ Err (512 * n)) ↔ (kept_tag k bytes ≢ tag_of k (512 * n) (cipher_text_at k n bytes)) }
@@ -62,7 +62,7 @@ pub fn units_fault_or_are_known_or_forged()
         ReadsAsOneOf k n bytes ever ⊎ IsForged k n bytes ever }
 {}
 
-/// Forged bytes have a tag that no accepted one of these writings has, or their cipher text and that of one of these
+/// Forged bytes have a tag that no accepted one of these writings has, or their ciphertext and that of one of these
 /// writings are a collision of HMAC under one key.
 pub fn forged_units_are_new_tags_or_collisions()
     ensures { (k : Keying) (n : ℕ) (bytes : List ℕ) (ever : List Writing) → IsForged k n bytes ever →
@@ -124,7 +124,7 @@ pub fn cells_were_ever_there()
 {}
 
 /// With authentication each unit of any image is a fault at the byte offset of its device sector, or it reads as one of
-/// any list of writings, which is accepted there and has its cipher text, or its bytes are forged.
+/// any list of writings, which is accepted there and has its ciphertext, or its bytes are forged.
 pub fn tagged_units_fault_or_are_known_or_forged()
     ensures { (k : Keying) (sector j : ℕ) (image : List (List ℕ)) (ever : List Writing) → k.auth ≢ Off →
         sector * units k + units k ≤ length image → j < units k →

@@ -38,7 +38,7 @@ length-tagged k offset cipher_text fits =
     let all = tag_and_unit k.auth in
     omega arith
 
--- a unit whose tag is that of its cipher text is opened
+-- a unit whose tag is that of its ciphertext is opened
 pub opened_tagged-good : (k : Keying) (offset size : ℕ) (sector cipher_text : List ℕ) → kept_tag k sector ≡ tag_of k offset cipher_text → cipher_text_in k size sector ≡ cipher_text
     → opened_tagged k offset size sector ≡ Ok (opened_run k offset cipher_text)
 opened_tagged-good k offset size sector cipher_text tag same =

@@ -7,20 +7,20 @@ use Rattle.cbc_mode.specs.Cbc.{cbc_seal, cbc_open}
 use Rattle.xts_mode.specs.Xts.{xts_seal, xts_open}
 use Rattle.range_keys.specs.Keys.{first_key, second_key, iv, tweak}
 
--- the cipher text of a run by this cipher: XTS (IEEE 1619) or CBC (NIST SP 800-38A)
+-- the ciphertext of a run by this cipher: XTS (IEEE 1619) or CBC (NIST SP 800-38A)
 abbrev pub sealed_by : Cipher → Keying → ℕ → List ℕ → List ℕ
 sealed_by AesXts k offset bytes = xts_seal (first_key k offset) (second_key k offset) (tweak offset) bytes
 sealed_by AesCbc k offset bytes = cbc_seal (first_key k offset) (iv k offset) bytes
 
--- its plain text
+-- its plaintext
 abbrev pub opened_by : Cipher → Keying → ℕ → List ℕ → List ℕ
 opened_by AesXts k offset bytes = xts_open (first_key k offset) (second_key k offset) (tweak offset) bytes
 opened_by AesCbc k offset bytes = cbc_open (first_key k offset) (iv k offset) bytes
 
--- the cipher text of a run under this keying
+-- the ciphertext of a run under this keying
 abbrev pub sealed_run : Keying → ℕ → List ℕ → List ℕ
 sealed_run k offset bytes = sealed_by k.cipher k offset bytes
 
--- the plain text of a run under this keying
+-- the plaintext of a run under this keying
 abbrev pub opened_run : Keying → ℕ → List ℕ → List ℕ
 opened_run k offset bytes = opened_by k.cipher k offset bytes

@@ -1,4 +1,4 @@
--- An authenticated device sector: a tag, cipher text, and zeros (geli(8), "DATA AUTHENTICATION"; g_eli_integrity.c).
+-- An authenticated device sector: a tag, ciphertext, and zeros (geli(8), "DATA AUTHENTICATION"; g_eli_integrity.c).
 -- Each stands under the keys of its own byte offset.
 use Rattle.std.specs.Prelude.{ℕ, ◌-◌, List, [], ◌++◌, length, take, drop, replicate, Result, Ok, Err, if◌then◌else◌}
 use Rattle.std.specs.Str.{bytes_eq}
@@ -17,11 +17,11 @@ hmac_of Sha256 key message = hmac256 key message
 hmac_of Sha384 key message = hmac384 key message
 hmac_of Sha512 key message = hmac512 key message
 
--- the tag of cipher text
+-- the tag of ciphertext
 abbrev pub tag_of : Keying → ℕ → List ℕ → List ℕ
 tag_of k offset cipher_text = hmac_of k.auth (tag_key k offset) cipher_text
 
--- the device sector with this cipher text
+-- the device sector with this ciphertext
 abbrev pub tagged : Keying → ℕ → List ℕ → List ℕ
 tagged k offset cipher_text = tag_of k offset cipher_text ++ cipher_text ++ replicate (unit_bytes_of k.auth - length cipher_text) 0
 
@@ -33,11 +33,11 @@ sealed_tagged k offset plain = tagged k offset (sealed_run k offset plain)
 abbrev pub kept_tag : Keying → List ℕ → List ℕ
 kept_tag k sector = take (tag_bytes k.auth) sector
 
--- the cipher text of so many bytes that a device sector has; what is after it isn't looked at
+-- the ciphertext of so many bytes that a device sector has; what is after it isn't looked at
 abbrev pub cipher_text_in : Keying → ℕ → List ℕ → List ℕ
 cipher_text_in k size sector = take size (drop (tag_bytes k.auth) sector)
 
--- the plain bytes of a unit of this size, or where the tag isn't that of its cipher text, a fault at its byte offset
+-- the plain bytes of a unit of this size, or where the tag isn't that of its ciphertext, a fault at its byte offset
 abbrev pub opened_tagged : Keying → ℕ → ℕ → List ℕ → Result (List ℕ) ℕ
 opened_tagged k offset size sector =
     (if bytes_eq (kept_tag k sector) (tag_of k offset (cipher_text_in k size sector)) then Ok (opened_run k offset (cipher_text_in k size sector))

@@ -18,7 +18,7 @@ same_front : (n : ℕ) (xs ys : List ℕ) → length xs ≡ n → length ys ≡ 
 same_front n xs ys lx ly same =
     sym (take_at xs (replicate (64 - length xs) 0) n lx) ∙ ap (take n) same ∙ take_at ys (replicate (64 - length ys) 0) n ly
 
--- a unit is accepted where the one test holds, and what tells the same is the other
+-- a unit is accepted if the test holds, and `same` is true exactly if it does
 accepts : (test same : Bool) (plain : List ℕ) (offset : ℕ) → (IsTrue test → IsTrue same) → (IsTrue same → IsTrue test) → is_ok (cond test (Ok plain) (Err offset)) ≡ same
 accepts true true plain offset to from = refl
 accepts true false plain offset to from = let wrong = to refl in absurd cc

@@ -1,4 +1,4 @@
--- What is told of a tag that differs.
+-- What is reported of a tag that differs.
 use Rattle.std.specs.Prelude.{◌≡◌, ◌≢◌, ℕ, ◌-◌, List, ◌++◌, length, replicate}
 use Rattle.eli_base.specs.Keying.{Keying}
 use Rattle.eli_base.specs.Units.{tag_bytes}
@@ -9,7 +9,7 @@ use Rattle.auth_sectors.specs.declared.Mismatch.{Mismatch}
 abbrev pub padded : List ℕ → List ℕ
 padded bytes = bytes ++ replicate (64 - length bytes) 0
 
--- the mismatch tells the tag that the device sector has, and that of its ciphertext of so many bytes, which is another
+-- the mismatch has the tag that the device sector has, and that of its ciphertext of so many bytes, which is another
 pub record ShowsMismatch (k : Keying) (offset size : ℕ) (sector : List ℕ) (mismatch : Mismatch) : Type 0 where
   pub bytes : mismatch.length ≡ tag_bytes k.auth
   pub kept : mismatch.kept ≡ padded (kept_tag k sector)

@@ -22,8 +22,8 @@ use sealing::open_run;
 use tags::{has_tag, padded, tag_of, tag_size, tags_of_four};
 use whole::{encipher, put_tag};
 
-/// That the tag in a device sector isn't that of its ciphertext. Of both the first `length` bytes are the tag, and the
-/// rest is zeros.
+/// The tag in a device sector isn't that of its ciphertext. In both fields the first `length` bytes are the tag, and
+/// the rest are zeros.
 #[derive(Clone, Copy, Debug, PartialEq, Eq)]
 pub struct Mismatch {
     /// How many bytes a tag has.

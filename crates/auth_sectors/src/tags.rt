@@ -1,4 +1,4 @@
-//! Tags, in the first bytes of 64.
+//! Tags, each with zeros after it up to 64 bytes.
 
 ghost use Rattle.std.specs.Prelude.{◌≡◌, ◌≢◌, ◌↔◌, ◌+◌, ◌*◌, ◌-◌, ◌^◌, ◌<◌, ◌≤◌, [], ◌∷◌, ◌++◌, IsTrue, get_or, length, replicate};
 ghost use Rattle.eli_base.specs.Units.{tag_bytes};
@@ -36,7 +36,7 @@ pub fn tag_size(ring: &KeyRing) -> usize
     ring.auth().tag_bytes()
 }
 
-// The code of a message by which data is authenticated.
+// The code that authenticates a message, with zeros after it.
 fn code_of(auth: Auth, key: &[u8; 32], message: &[u8]) -> [u8; 64]
     ensures { result ≡ padded (hmac_of auth key.now message.now) }
 {

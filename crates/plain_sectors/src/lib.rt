@@ -10,8 +10,8 @@ ghost use Rattle.sealing.specs.Sectors.{device_sectors, seal, reading};
 use range_keys::KeyRing;
 use sealing::{open_run, seal_run};
 
-/// Seals the plain bytes of one logical sector in place, where there is no authentication. `offset` is the
-/// sector's place on the device in bytes. What it is sealed to reads as the plain bytes again.
+/// Seals the plain bytes of one logical sector in place, without authentication. `offset` is the sector's place on the
+/// device in bytes. What it is sealed to reads as the plain bytes again.
 pub fn seal_plain(ring: &mut KeyRing, offset: u64, block: &mut [u8])
     requires off { ring.old.keying.auth ≡ Off }
     requires size { length block.old ≡ ring.old.keying.sectorsize }
@@ -26,8 +26,8 @@ pub fn seal_plain(ring: &mut KeyRing, offset: u64, block: &mut [u8])
     seal_run(ring, offset, block);
 }
 
-/// Opens the bytes of one logical sector in place, where there is no authentication. `offset` is the sector's
-/// place on the device in bytes. No bytes are refused.
+/// Opens the bytes of one logical sector in place, without authentication. `offset` is the sector's place on the device
+/// in bytes. No bytes are refused.
 pub fn open_plain(ring: &mut KeyRing, offset: u64, block: &mut [u8])
     requires off { ring.old.keying.auth ≡ Off }
     requires size { length block.old ≡ ring.old.keying.sectorsize }

@@ -20,7 +20,7 @@ le64 n = to_le_bytes w64 n
 abbrev pub iv_key : List ℕ → List ℕ
 iv_key master = take 64 master
 
--- Data-Key, the bytes after it
+-- Data-Key, the bytes of the master key after IV-Key
 abbrev pub data_key : List ℕ → List ℕ
 data_key master = drop 64 master
 
@@ -29,7 +29,7 @@ abbrev pub base_key : Auth → List ℕ → List ℕ
 base_key Off master = data_key master
 base_key _ master = hmac512 (data_key master) (0x10 ∷ [])
 
--- the key of which range keys are made: the base key, and IV-Key where the metadata's version is below 7
+-- the key of which range keys are made: the base key, or IV-Key if the metadata's version is below 7
 abbrev pub range_base : ℕ → Auth → List ℕ → List ℕ
 range_base version auth master = if nat_lt version 7 then iv_key master else base_key auth master
 
@@ -64,7 +64,7 @@ key_bytes keylen = keylen / 8
 abbrev pub first_part : ℕ → List ℕ → List ℕ
 first_part keylen range = take (key_bytes keylen) range
 
--- K2 of XTS, the key of the tweak (IEEE 1619, 5.1): the bytes after it. CBC has one key.
+-- K2 of XTS, the key of the tweak (IEEE 1619, 5.1): the bytes after those of K1. CBC has one key.
 abbrev pub second_part : Cipher → ℕ → List ℕ → List ℕ
 second_part AesXts keylen range = take (key_bytes keylen) (drop (key_bytes keylen) range)
 second_part AesCbc keylen range = first_part keylen range
@@ -85,6 +85,6 @@ iv k offset = take 16 (sha256 (iv_key k.master ++ le64 offset))
 abbrev pub tweak : ℕ → ℕ
 tweak offset = offset
 
--- the key of the tag of what stands there: 32 bytes
+-- the key of the tag of what stands at this offset: 32 bytes
 abbrev pub tag_key : Keying → ℕ → List ℕ
 tag_key k offset = sha256 (auth_key k.master ++ le64 offset)

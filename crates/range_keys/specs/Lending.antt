@@ -7,7 +7,7 @@ use Rattle.range_keys.specs.Numbers.{AfterUse}
 use Rattle.range_keys.specs.Ring.{Ring}
 use Rattle.range_keys.specs.contracts.ring.KeyRing.{the_row}
 
--- it has the keying that it had, and keeps the range key of this offset if there is memory for it
+-- the ring has the keying that it had, and keeps the range key of this offset if there is memory for it
 abbrev pub LendsKeyAt : MutBor Ring → ℕ → Fml
 LendsKeyAt ring offset =
     follows_so the_row the_row ring.ghost_name none (λ _ _. ⊤)

@@ -6,9 +6,8 @@ use Rattle.std.specs.Set.{remove_key}
 abbrev pub room : ℕ
 room = 16
 
--- what becomes of the list of kept numbers where the key of this number is asked for: a number in it comes to the
--- front; another is put in front, and of seventeen the last is dropped, or where there is no memory for it, the list
--- stays
+-- what becomes of the list of kept numbers when the key of this number is asked for: a number in it comes to the front;
+-- another is put in front, and of seventeen the last is dropped, or if there is no memory for it, the list stays
 pub record AfterUse (number : ℕ) (old new : List ℕ) : Type 0 where
   pub kept : Contains old number → new ≡ number ∷ remove_key (nat_eq number) old
   pub other : ¬ Contains old number → (new ≡ take room (number ∷ old)) ⊎ (new ≡ old)

@@ -43,7 +43,7 @@ fn base_key(auth: Auth, master: &MasterKey) -> [u8; 64]
     }
 }
 
-/// The key of which range keys are made: the base key, and IV-Key where the metadata's version is below 7.
+/// The key of which range keys are made: the base key, or IV-Key if the metadata's version is below 7.
 pub fn range_base(version: u32, auth: Auth, master: &MasterKey) -> [u8; 64]
     ensures { result ≡ range_base version auth master.now.bytes }
 {

@@ -8,7 +8,8 @@ use aes_core::Schedule;
 use aes_planes::SlicedSchedule;
 use eli_base::Cipher;
 
-/// The expanded keys of a range. AES-XTS has two; of AES-CBC both are the one key. It is 2.4 KB large, and is lent.
+/// The expanded keys of a range. AES-XTS has two; with AES-CBC both are the one key. A `RangeKey` has 2.4 KB, and is
+/// lent.
 #[derive(Drop)]
 pub struct RangeKey {
     /// K1 of XTS, the key of the data, with its bit planes.

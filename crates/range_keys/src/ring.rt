@@ -53,7 +53,7 @@ pub struct Unit {
     pub offset: u64,
     /// Where its plain bytes begin among those of the logical sector.
     pub start: usize,
-    /// Where they end.
+    /// Where its plain bytes end.
     pub end: usize,
 }
 
@@ -125,8 +125,8 @@ impl KeyRing {
     }
 
     /// Lends the expanded keys of the range in which this byte offset lies. The last sixteen that were asked for are
-    /// kept, where there is memory for them; another is made anew. The starred clause says what the ring is once the
-    /// loan has ended.
+    /// kept, if there is memory for them; another is made anew. The starred clause says what the ring is once the loan
+    /// has ended.
     pub fn key_at(&mut self, offset: u64) -> &RangeKey
         ensures* after { sem 𝓛 (LendsKeyAt self.entry offset) }
         ensures first { result.now.first ≡ first_key self.old.keying offset }
@@ -163,7 +163,7 @@ impl KeyRing {
         vector
     }
 
-    /// The key of the tag of the piece at this byte offset, where the provider has authentication.
+    /// The key of the tag of the piece at this byte offset, for a provider with authentication.
     pub fn tag_key_at(&self, offset: u64) -> [u8; 32]
         requires { self.now.keying.auth ≢ Auth.Off }
         ensures { result ≡ tag_key self.now.keying offset }
@@ -171,8 +171,8 @@ impl KeyRing {
         digest_at(&self.tags, offset)
     }
 
-    /// The keys of four tags, where the provider has authentication. The first is that of the piece at this byte
-    /// offset, and each other that of the piece `step` bytes after the one before it.
+    /// The keys of four tags, for a provider with authentication. The first is that of the piece at this byte offset,
+    /// and each other that of the piece `step` bytes after the one before it.
     pub fn tag_keys_apart(&self, offset: u64, step: u64) -> [[u8; 32]; 4]
         requires on { self.now.keying.auth ≢ Auth.Off }
         requires place { offset + 3 * step < 2 ^ 64 }

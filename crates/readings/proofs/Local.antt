@@ -13,7 +13,7 @@ use Rattle.cbc_mode.specs.Cbc.{opened_block, cbc_open}
 use Rattle.cbc_mode.proofs.Chain.{block_before-start, block_before-more}
 use Rattle.readings.proofs.PartLists.{same_block, part-blocks, part-blocks_rest}
 
--- where two lists have the same blocks in a part, f of their blocks gives the same part
+-- if two lists have the same blocks in a part, f of their blocks gives the same part
 same_part : (f g : ℕ → List ℕ) (n j : ℕ) → AreBlocks f n → AreBlocks g n → 32 * j + 32 ≤ n → ((i : ℕ) → i < 32 → f (32 * j + i) ≡ g (32 * j + i))
     → part 512 j (blocks f n) ≡ part 512 j (blocks g n)
 same_part f g n j hf hg fits same =
@@ -41,7 +41,7 @@ length-opened key iv c n j long len fits lt =
     let b : length (block (iv ++ c) j) ≡ 16 = length-chunk (16 * j) 16 (iv ++ c) (omega arith) in
     length-zip2 bit_xor (decrypt key (block c j)) (block (iv ++ c) j) (a ∙ sym b) ∙ a
 
--- the block before block i of part j, where the part is the same, and so is the part before it
+-- the block before block i of part j, if the part is the same, and so is the part before it
 before-same : (iv xs ys : List ℕ) (j i : ℕ) → length iv ≡ 16 → i < 32 → part 512 j xs ≡ part 512 j ys → (0 < j → part 512 (j - 1) xs ≡ part 512 (j - 1) ys)
     → block (iv ++ xs) (32 * j + i) ≡ block (iv ++ ys) (32 * j + i)
 before-same iv xs ys zero zero len lt same left =
@@ -71,7 +71,7 @@ cbc_open-part key iv j xs ys long leniv len fits same left =
     (λ i lt. λ t. xor (decrypt key (same_block j i xs ys lt same t)) (before-same iv xs ys j i leniv lt same left t))
     ∙ ap (λ (m : ℕ). part 512 j (blocks g (m / 16))) len
 
--- but for its first block it depends on itself alone
+-- but for its first block a part depends on itself alone
 pub cbc_open-rest : (key iv : List ℕ) (j : ℕ) (xs ys : List ℕ) → IsKeyLength (length key) → length iv ≡ 16 → length xs ≡ length ys → 512 * j + 512 ≤ length xs
     → part 512 j xs ≡ part 512 j ys → drop 16 (part 512 j (cbc_open key iv xs)) ≡ drop 16 (part 512 j (cbc_open key iv ys))
 cbc_open-rest key iv j xs ys long leniv len fits same =

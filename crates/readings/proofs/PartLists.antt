@@ -51,7 +51,7 @@ part-blocks f n j are fits =
     sym (blocks-block (part 512 j all) 32 len)
     ∙ blocks-same (block (part 512 j all)) (λ i. f (32 * j + i)) 32 (λ i lt. block-part j i all lt ∙ block-blocks f n (32 * j + i) are (omega arith))
 
--- and without its first block, 31 of them
+-- a part of a list of blocks without its first block is 31 blocks
 pub part-blocks_rest : (f : ℕ → List ℕ) (n j : ℕ) → AreBlocks f n → 32 * j + 32 ≤ n → drop 16 (part 512 j (blocks f n)) ≡ blocks (λ i. f (32 * j + (i + 1))) 31
 part-blocks_rest f n j are fits =
     let long = length-blocks f n are in

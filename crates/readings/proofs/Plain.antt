@@ -1,4 +1,4 @@
--- Opening the device bytes of writings, where there is no authentication.
+-- Opening the device bytes of writings without authentication.
 use Rattle.std.proofs.Common.{◌≡◌, ℕ, ◌+◌, ◌-◌, ◌*◌, ◌<◌, ◌≤◌, ◌==◌, not, nat_lt, inl, inr, List, [], ◌++◌, length, get_or, take, drop, cond, Bool, true, false, Option, Some, Result, Ok, Contains, refl, sym, ap, subst, ◌∙◌, arith, true≢false, take-append-drop}
 use Rattle.std.proofs.lemmas.Bool.{and_from, cases_Bool, eqb-true, lt-ltb}
 use Rattle.std.proofs.lemmas.List.{get_or-map, length-map}
@@ -54,7 +54,7 @@ opened_unit-off k sector j ws off lt =
     ∙ get_or-map ok (parts 512 (units k) run) j [] (Ok []) (omega arith)
     ∙ ap Ok (get_or-parts 512 (units k) j run lt)
 
--- where the rest is right, and the front is too unless it is lost
+-- what a unit opens to is right if the rest is right, and the front is too unless it is lost
 front_or_all : (lost : Bool) (opened plain : List ℕ) → drop 16 opened ≡ drop 16 plain → (lost ≡ false → opened ≡ plain)
     → opened ≡ cond lost (take 16 opened ++ drop 16 plain) plain
 front_or_all true opened plain rest all = sym (take-append-drop 16 opened) ∙ ap (λ (l : List ℕ). take 16 opened ++ l) rest
@@ -76,7 +76,7 @@ length-all k ws are =
 Contains-matching : (k : Keying) (sector j : ℕ) (ws : List Writing) (p : PutUnit) → AreWritings k ws → j < units k → Matches k sector j (writing_in ws j) p → Contains ws (Put p)
 Contains-matching k sector j ws p are lt m = let count = are.count in subst (Contains ws) m.is (Contains-get_or ws j (Raw []) (omega arith))
 
--- where the front isn't lost, the unit before is of the same write
+-- if the front isn't lost, the unit before is of the same write
 left_same : (k : Keying) (sector j : ℕ) (ws : List Writing) (p : PutUnit) → k.auth ≡ Off → AreWritings k ws → j < units k → Matches k sector j (writing_in ws j) p
     → loses_front k j (matching k sector (j - 1) (writing_in ws (j - 1))) p ≡ false → are_chained k.cipher Off ≡ true → 0 < j
     → part 512 (j - 1) (concat (all_device_bytes ws)) ≡ part 512 (j - 1) (sealed_run k (sector * k.sectorsize) p.bytes)

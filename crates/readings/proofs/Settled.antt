@@ -128,7 +128,7 @@ cell-flushed c earlier between since n w quiet still =
     ∙ ap (λ (v : Writing). cell_after since n (v ∷ [])) (last-quiet between n (ws ++ w ∷ []) quiet ∙ last_writing-push ws w)
     ∙ one-quiet since n w still
 
--- where a cell has one writing, a torn image has it
+-- if a cell has one writing, a torn image has it
 only-stands : (c : Content) (steps : List Step) (n : ℕ) (p : PutUnit) (there : List ℕ) (w : Writing) → cell c steps n ≡ Put p ∷ []
     → IsOfCell (cell c steps n) there w ⊎ (IsStrange (cell c steps n) there w × IsUnsettled (after steps c) n) → w ≡ Put p
 only-stands c steps n p there w one (inl h) =

@@ -52,7 +52,7 @@ some-cell c steps n =
     let some = some-kept_after (c.history ++ events_of steps) n (get_or c.base n [] ∷ []) (omega arith) in
     omega (arith, count, some)
 
--- it is a writing, and where it is a Put, it is among these
+-- w is a writing, and if it is a Put, it is among these
 pub record Fits (among : List Writing) (w : Writing) : Type 0 where
   pub is : IsWriting w
   pub is_in : (p : PutUnit) → w ≡ Put p → Contains among (Put p)

@@ -1,4 +1,4 @@
--- Opening the device bytes of writings, where there is authentication.
+-- Opening the device bytes of writings with authentication.
 use Rattle.std.proofs.Common.{◌≡◌, ◌≢◌, ℕ, ◌+◌, ◌-◌, ◌*◌, ◌<◌, min, inl, inr, List, [], length, false, Option, Result, Ok, refl, sym, ap, subst, ◌∙◌, arith}
 use Rattle.std.proofs.lemmas.Bool.{and_left, cond-false}
 use Rattle.std.proofs.lemmas.List.{get_or-map, length-map}

@@ -15,7 +15,7 @@ use Rattle.readings.specs.Ever.{IsForged, ReadsAsOneOf, ever, placed_at}
 abbrev pub image_units : Keying → ℕ → List (List ℕ) → List (Result (List ℕ) ℕ)
 image_units k sector image = unit_readings k sector (sectors_in k sector image)
 
--- what unit j of it opens to
+-- what unit j of a logical sector of an image opens to under a keying
 abbrev pub image_unit : Keying → ℕ → List (List ℕ) → ℕ → Result (List ℕ) ℕ
 image_unit k sector image j = get_or (image_units k sector image) j (Ok [])
 
@@ -37,8 +37,8 @@ pub record HasFaultCause (k : Keying) (sector j : ℕ) (cells : ℕ → List Wri
 
 -- ---- a unit that is accepted
 
--- with authentication unit j of a logical sector is a fault; or it reads by itself, namely as one of these writings,
--- which is accepted there and has its ciphertext, or its bytes are forged
+-- with authentication unit j of a logical sector is a fault; or it reads by itself, either as one of these writings,
+-- which is accepted there and has its ciphertext, or as forged bytes
 abbrev pub FaultsOrIsKnownOrForged : Keying → ℕ → ℕ → List (List ℕ) → List Writing → Type 0
 FaultsOrIsKnownOrForged k sector j image known =
     let n = unit_place k sector j in let there = get_or image n [] in
@@ -47,8 +47,8 @@ FaultsOrIsKnownOrForged k sector j image known =
 
 -- ---- a logical sector of an image
 
--- where device sectors may hold strange bytes: it reads from the cells, each fault has its cause, and what is accepted
--- is known or forged
+-- if device sectors may hold strange bytes, a logical sector reads from the cells, each fault has its cause, and what
+-- is accepted is known or forged
 pub record ReadsWithCauses (k : Keying) (sector : ℕ) (cells : ℕ → List Writing) (may_be_strange : ℕ → Type 0) (known : ℕ → List Writing) (image : List (List ℕ)) : Type 0 where
   pub from : ReadFromCells k sector cells may_be_strange image
   pub fault : (j offset : ℕ) → j < units k → image_unit k sector image j ≡ Err offset → HasFaultCause k sector j cells may_be_strange image offset

@@ -32,7 +32,7 @@ ever c steps n = map Raw (get_or c.base n [] ∷ written_to c.history n) ++ plac
 abbrev pub cipher_text_at : Keying → ℕ → List ℕ → List ℕ
 cipher_text_at k n bytes = cipher_text_in k (unit_size_at k n) bytes
 
--- whether their tag is that of their ciphertext: then the unit is accepted
+-- whether the tag in these bytes is that of their ciphertext: then the unit is accepted
 abbrev pub is_accepted : Keying → ℕ → List ℕ → Bool
 is_accepted k n bytes = bytes_eq (kept_tag k bytes) (tag_of k (512 * n) (cipher_text_at k n bytes))
 
@@ -59,7 +59,7 @@ pub record CollidesWithOneOf (k : Keying) (n : ℕ) (bytes : List ℕ) (ever : L
   pub differ : cipher_text_at k n (device_bytes member) ≢ cipher_text_at k n bytes
   pub same_tag : tag_of k (512 * n) (cipher_text_at k n (device_bytes member)) ≡ tag_of k (512 * n) (cipher_text_at k n bytes)
 
--- they read as a writing of the list that is accepted and has their ciphertext
+-- these bytes read as a writing of the list that is accepted and has their ciphertext
 pub record ReadsAsOneOf (k : Keying) (n : ℕ) (bytes : List ℕ) (ever : List Writing) : Type 0 where
   pub member : Writing
   pub is_in : Contains ever member

@@ -17,7 +17,7 @@ same_keying a b =
     a.version == b.version && (auth_number a.auth == auth_number b.auth && (cipher_number a.cipher == cipher_number b.cipher
     && (a.keylen == b.keylen && (a.sectorsize == b.sectorsize && bytes_eq a.master b.master))))
 
--- whether it is unit j of this logical sector under this keying
+-- whether a unit that was put is unit j of this logical sector under this keying
 abbrev pub is_put_of : Keying → ℕ → ℕ → PutUnit → Bool
 is_put_of k sector j p = same_keying p.keying k && (p.sector == sector && p.unit == j)
 
@@ -26,7 +26,7 @@ abbrev pub matching : Keying → ℕ → ℕ → Writing → Option PutUnit
 matching k sector j (Put p) = if is_put_of k sector j p then Some p else None
 matching k sector j (Raw bytes) = None
 
--- what that means: the writing is this unit, which is unit j of this logical sector under this keying
+-- what matching means: the writing is this unit, which is unit j of this logical sector under this keying
 pub record Matches (k : Keying) (sector j : ℕ) (w : Writing) (p : PutUnit) : Type 0 where
   pub is : w ≡ Put p
   pub keying : p.keying ≡ k
@@ -62,15 +62,15 @@ abbrev pub opened_bytes : Result (List ℕ) ℕ → List ℕ
 opened_bytes (Ok bytes) = bytes
 opened_bytes (Err offset) = []
 
--- what unit j reads as, from what matches there, what matches in the unit before, and what the unit opens to: where
--- something matches it is that unit's plain bytes, but for the first 16 of a unit that loses its front; else it is what
--- it opens to, and only then it may be a fault
+-- what unit j reads as, from what matches there, what matches in the unit before, and what the unit opens to: if
+-- something matches, that unit's plain bytes, but for the first 16 of a unit that loses its front; else what it opens
+-- to, and only then it may be a fault
 abbrev pub unit_from : Keying → ℕ → Option PutUnit → Option PutUnit → Result (List ℕ) ℕ → Result (List ℕ) ℕ
 unit_from k j None left opened = opened
 unit_from k j (Some p) left opened =
     Ok (if loses_front k j left p then take 16 (opened_bytes opened) ++ drop 16 (plain_bytes p) else plain_bytes p)
 
--- what unit j of a logical sector reads as, where its device sectors hold these writings
+-- what unit j of a logical sector reads as if its device sectors hold these writings
 abbrev pub read_unit : Keying → ℕ → List Writing → ℕ → Result (List ℕ) ℕ
 read_unit k sector ws j =
     unit_from k j (matching k sector j (writing_in ws j)) (matching k sector (j - 1) (writing_in ws (j - 1))) (opened_unit k sector ws j)

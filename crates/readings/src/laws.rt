@@ -17,14 +17,15 @@ ghost use Rattle.readings.specs.Writes.{AreStepsBelow, data_steps, puts_of, raw_
 ghost use Rattle.readings.specs.Crashes.{Endures};
 ghost use Rattle.readings.specs.Ever.{CollidesWithOneOf, HasNewTag, IsForged, ReadsAsOneOf, cipher_text_at, ever, placed_at};
 
-/// What a device sector may hold if power fails after some steps are, place by place, the device bytes of its cell.
+/// The values that a device sector may hold if power fails after some steps are, place by place, the device bytes of
+/// its cell.
 pub fn kept_values_are_cells()
     ensures { (c : Content) (steps : List Step) (n : ℕ) →
         kept_values (after steps c) n ≡ all_device_bytes (cell c steps n) }
 {}
 
-/// What the units of a logical sector open to, from the device bytes of writings, is what these writings say: without
-/// authentication, and with it, where a unit that was put there under this keying is so never a fault.
+/// What the units of a logical sector open to, from the device bytes of writings, is what these writings say, with
+/// authentication and without. So a unit that was put there under this keying is never a fault.
 pub fn units_read_as_written()
     ensures { (k : Keying) (sector : ℕ) (ws : List Writing) → IsKeying k → AreWritings k ws →
         unit_readings k sector (all_device_bytes ws) ≡ read k sector ws }
@@ -37,7 +38,7 @@ pub fn matching_units_read_as_put()
         Matches k sector j (writing_in ws j) p → ReadsAsPut k p (opened_unit k sector ws j) }
 {}
 
-/// A unit is a fault only with authentication and where nothing matches, and then at the byte offset of its own device
+/// A unit is a fault only with authentication and if nothing matches, and then at the byte offset of its own device
 /// sector.
 pub fn faults_are_of_units_that_do_not_match()
     ensures { (k : Keying) (sector j : ℕ) (ws : List Writing) (offset : ℕ) → IsKeying k → AreWritings k ws → j < units k →
@@ -51,9 +52,9 @@ pub fn matching_is_put_there()
         (matching k sector j w ≡ Some p) ↔ Matches k sector j w p }
 {}
 
-/// What any bytes read as, as the unit in a device sector of a provider with authentication, for any list of
-/// writings: a fault at the byte offset of the device sector exactly where the tag in them isn't that of their
-/// ciphertext; else as one of these writings that is accepted there and has their ciphertext; else they are forged.
+/// What any bytes in a device sector read as with authentication, whatever the list of writings. If the tag in them
+/// isn't that of their ciphertext, and only then, they are a fault at the device sector's byte offset. Otherwise they
+/// read as a writing of the list that is accepted there and has their ciphertext, or they are forged.
 pub fn units_fault_or_are_known_or_forged()
     ensures fault { (k : Keying) (n : ℕ) (bytes : List ℕ) →
         (unit_reading_at k n bytes ≡ Err (512 * n)) ↔ (kept_tag k bytes ≢ tag_of k (512 * n) (cipher_text_at k n bytes)) }
@@ -134,7 +135,7 @@ pub fn tagged_units_fault_or_are_known_or_forged()
         ⊎ ((reading ≡ unit_reading_at k n there) × (ReadsAsOneOf k n there ever ⊎ IsForged k n there ever)) }
 {}
 
-/// The moment after some of the steps is that after these steps alone.
+/// The moment after the first of the steps is that after these steps alone.
 pub fn moment_is_after_first_steps()
     ensures { (t : ℕ) (steps : List Step) (c : Content) → moment t steps c ≡ after (take t steps) c }
 {}
@@ -145,19 +146,19 @@ pub fn puts_are_sealed()
         all_device_bytes (puts_of number k sector bytes) ≡ seal k sector bytes }
 {}
 
-/// Where the next write has a number of its own, the writings of the steps still fit one another.
+/// If the next write has a number of its own, the writings of the steps still fit one another.
 pub fn write_has_its_own_number()
     ensures { (next : ℕ) (steps : List Step) (k : Keying) (sector count : ℕ) (bytes : List ℕ) →
         AreStepsBelow next steps → IsKeying k → AreBytes bytes → count * k.sectorsize ≤ length bytes →
         AreStepsBelow (next + 1) (steps ++ data_steps next k sector count bytes) }
 {}
 
-/// Events that are no writes of units are those of steps that place their bytes as they are.
+/// Steps that place the bytes of events as they are log just these events.
 pub fn raw_steps_log_their_events()
     ensures { (events : List Event) → events_of (raw_steps events) ≡ events }
 {}
 
-/// The writings still fit one another where there are none, where other events follow, and among the first of the steps
+/// Writings fit one another if there are none. They still do if other events follow, and among the first of the steps
 /// alone.
 pub fn other_steps_fit()
     ensures none { AreStepsBelow 0 [] }

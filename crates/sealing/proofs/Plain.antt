@@ -1,4 +1,4 @@
--- Sealing and opening where there is no authentication.
+-- Sealing and opening without authentication.
 use Rattle.std.proofs.Common.{◌≡◌, ℕ, ◌+◌, ◌-◌, ◌*◌, ◌/◌, ◌%◌, ◌≤◌, List, length, Ok, ap, ◌∙◌, arith, mul_comm}
 use Rattle.std.proofs.Math.Nat.{div-add-mod}
 use Rattle.std.specs.List.{concat}
@@ -32,7 +32,7 @@ pub seal-plain : (k : Keying) (sector offset : ℕ) (bytes : List ℕ) → k.aut
 seal-plain k sector offset bytes off at =
     ap (λ (a : Auth). sealed_with a k sector bytes) off ∙ ap (λ (o : ℕ). device_sectors k (sealed_run k o bytes)) at
 
--- and read as one
+-- a sector is read as one run
 pub reading-plain : (k : Keying) (sector offset : ℕ) (sectors : List (List ℕ)) (bytes plain : List ℕ) → k.auth ≡ Off → 512 ≤ k.sectorsize → k.sectorsize % 512 ≡ 0 → sector * k.sectorsize ≡ offset
     → concat sectors ≡ bytes → opened_run k offset bytes ≡ plain → length plain ≡ k.sectorsize → reading k sector sectors ≡ Ok plain
 reading-plain k sector offset sectors bytes plain off low whole at whole_bytes is len =

@@ -1,4 +1,4 @@
--- Sealing and opening where there is authentication: each device sector is a unit of its own.
+-- Sealing and opening with authentication: each device sector is a unit of its own.
 use Rattle.std.proofs.Common.{◌≡◌, ◌≢◌, ℕ, ◌+◌, ◌-◌, ◌*◌, ◌%◌, ◌<◌, ◌≤◌, min, List, [], ◌++◌, length, map, get_or, take, drop, replicate, cond, true, Result, Ok, Err, bytes_eq, refl, sym, ap, ◌∙◌, arith, append_assoc, length-append}
 use Rattle.std.proofs.lemmas.Bool.{cond-true}
 use Rattle.std.proofs.lemmas.List.{length-replicate, take_at, drop_at}
@@ -87,7 +87,7 @@ opened_with-tagged Sha512 k sector sectors on = refl
 unit_offset : (k : Keying) (sector j : ℕ) → 512 * unit_place k sector j ≡ 512 * (sector * units k) + 512 * j
 unit_offset k sector j = omega arith
 
--- as many device sectors as units
+-- there are as many device sectors as units
 pub length-seal-tagged : (k : Keying) (sector : ℕ) (bytes : List ℕ) → k.auth ≢ Off → length (seal k sector bytes) ≡ units k
 length-seal-tagged k sector bytes on =
     ap (λ (l : List (List ℕ)). length l) (sealed_with-tagged k.auth k sector bytes on) ∙ length-map-range_with_len (sealed_unit k sector bytes) 0 (units k)
@@ -118,7 +118,7 @@ unit_reading-tagged k sector j sectors on lt =
     ∙ get_or-map-range_with_len (unit_reading k sector sectors) 0 (length sectors) j j (Ok []) lt (omega arith)
     ∙ ap (λ (offset : ℕ). opened_tagged k offset (unit_size k j) (get_or sectors j [])) (unit_offset k sector j)
 
--- which depends on the number and the bytes of its device sector alone
+-- what unit j reads as depends on the number and the bytes of its device sector alone
 pub unit_reading-alone : (k : Keying) (sector j : ℕ) (sectors : List (List ℕ)) → k.auth ≢ Off → length sectors ≡ units k → j < units k
     → get_or (unit_readings k sector sectors) j (Ok []) ≡ unit_reading_at k (sector * units k + j) (get_or sectors j [])
 unit_reading-alone k sector j sectors on count lt =

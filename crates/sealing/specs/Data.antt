@@ -13,6 +13,6 @@ abbrev pub opened_sectors : Keying → ℕ → ℕ → List (List ℕ) → List 
 opened_sectors k sector zero device = []
 opened_sectors k sector (suc count) device = reading k sector (take (units k) device) ∷ opened_sectors k (sector + 1) count (drop (units k) device)
 
--- their bytes one after the other, or the first fault among them
+-- the bytes of so many logical sectors one after the other, or the first fault among them
 abbrev pub opened_data : Keying → ℕ → ℕ → List (List ℕ) → Result (List ℕ) ℕ
 opened_data k sector count device = joined (opened_sectors k sector count device)

@@ -12,7 +12,7 @@ abbrev pub sealed_by : Cipher → Keying → ℕ → List ℕ → List ℕ
 sealed_by AesXts k offset bytes = xts_seal (first_key k offset) (second_key k offset) (tweak offset) bytes
 sealed_by AesCbc k offset bytes = cbc_seal (first_key k offset) (iv k offset) bytes
 
--- its plaintext
+-- the plaintext of a run by this cipher
 abbrev pub opened_by : Cipher → Keying → ℕ → List ℕ → List ℕ
 opened_by AesXts k offset bytes = xts_open (first_key k offset) (second_key k offset) (tweak offset) bytes
 opened_by AesCbc k offset bytes = cbc_open (first_key k offset) (iv k offset) bytes

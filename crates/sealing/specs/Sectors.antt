@@ -11,7 +11,7 @@ use Rattle.eli_base.specs.Units.{units_per_sector, unit_bytes_of}
 use Rattle.sealing.specs.Runs.{sealed_run, opened_run}
 use Rattle.sealing.specs.TaggedUnits.{sealed_tagged, opened_tagged}
 
--- the device sectors of a logical sector
+-- how many device sectors a logical sector takes
 abbrev pub units : Keying → ℕ
 units k = units_per_sector k.auth k.sectorsize
 
@@ -23,7 +23,7 @@ unit_place k sector j = sector * units k + j
 abbrev pub unit_size : Keying → ℕ → ℕ
 unit_size k j = min (unit_bytes_of k.auth) (k.sectorsize - unit_bytes_of k.auth * j)
 
--- its bytes as they stand on the device, one device sector after the other
+-- the bytes of a logical sector as they stand on the device, cut into device sectors
 abbrev pub device_sectors : Keying → List ℕ → List (List ℕ)
 device_sectors k bytes = parts 512 (units k) bytes
 
@@ -82,7 +82,7 @@ reading k sector sectors = joined (unit_readings k sector sectors)
 abbrev pub unit_size_at : Keying → ℕ → ℕ
 unit_size_at k n = unit_size k (n % units k)
 
--- what it reads as there
+-- what the unit in device sector n reads as
 abbrev pub unit_reading_at : Keying → ℕ → List ℕ → Result (List ℕ) ℕ
 unit_reading_at k n sector = opened_tagged k (512 * n) (unit_size_at k n) sector
 

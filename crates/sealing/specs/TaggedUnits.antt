@@ -10,14 +10,14 @@ use Rattle.hmac_kdf.specs.Hmac.{hmac256, hmac384, hmac512}
 use Rattle.range_keys.specs.Keys.{tag_key}
 use Rattle.sealing.specs.Runs.{sealed_run, opened_run}
 
--- the code of a key and a message by which data is authenticated, and none without authentication
+-- the code that authenticates a message under a key; without authentication there is none
 abbrev pub hmac_of : Auth → List ℕ → List ℕ → List ℕ
 hmac_of Off key message = []
 hmac_of Sha256 key message = hmac256 key message
 hmac_of Sha384 key message = hmac384 key message
 hmac_of Sha512 key message = hmac512 key message
 
--- the tag of ciphertext
+-- the tag of ciphertext at this byte offset
 abbrev pub tag_of : Keying → ℕ → List ℕ → List ℕ
 tag_of k offset cipher_text = hmac_of k.auth (tag_key k offset) cipher_text
 
@@ -37,7 +37,7 @@ kept_tag k sector = take (tag_bytes k.auth) sector
 abbrev pub cipher_text_in : Keying → ℕ → List ℕ → List ℕ
 cipher_text_in k size sector = take size (drop (tag_bytes k.auth) sector)
 
--- the plain bytes of a unit of this size, or where the tag isn't that of its ciphertext, a fault at its byte offset
+-- the plain bytes of a unit of this size, or if the tag isn't that of its ciphertext, a fault at its byte offset
 abbrev pub opened_tagged : Keying → ℕ → ℕ → List ℕ → Result (List ℕ) ℕ
 opened_tagged k offset size sector =
     (if bytes_eq (kept_tag k sector) (tag_of k offset (cipher_text_in k size sector)) then Ok (opened_run k offset (cipher_text_in k size sector))

@@ -25,7 +25,7 @@ pub fn sealed_sectors_are_whole()
         All (λ device_sector. length device_sector ≡ 512) (seal k sector bytes) }
 {}
 
-/// A law: from as many device sectors there is a reading for each unit.
+/// A law: from as many device sectors as a logical sector has units, there is a reading for each unit.
 pub fn each_unit_is_read()
     ensures { (k : Keying) (sector : ℕ) (sectors : List (List ℕ)) → length sectors ≡ units k →
         length (unit_readings k sector sectors) ≡ units k }
@@ -40,8 +40,8 @@ pub fn tagged_units_stand_alone()
         get_or (unit_readings k sector sectors) j (Ok []) ≡ unit_reading_at k (unit_place k sector j) (get_or sectors j []) }
 {}
 
-/// A law: so are they with logical sectors of 512 bytes, AES-XTS and no authentication: XTS at the device sector's byte
-/// offset, under the keys of this offset.
+/// A law: with logical sectors of 512 bytes, AES-XTS and no authentication, sealing and opening are XTS at the device
+/// sector's byte offset, under the keys of this offset.
 pub fn device_sector_by_its_number()
     ensures sealed { (k : Keying) (number : ℕ) (bytes : List ℕ) → IsKeying k → IsSingle k → length bytes ≡ 512 →
         let offset = number * 512 in

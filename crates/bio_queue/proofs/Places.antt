@@ -25,8 +25,8 @@ pub none_there : (tag : ℕ) (queue : List Request) → request_place tag queue 
 none_there tag [] h = refl
 none_there tag (x ∷ queue) h = none_step tag x queue (x.tag == tag) (none_there tag queue) h
 
--- what is at the place of a tag: the request with it; and what becomes of the queue where this one is exchanged or
--- taken out
+-- what is at the place of a tag: the request with it; and what becomes of the queue if this one is exchanged or taken
+-- out
 pub record IsAt (tag : ℕ) (queue : List Request) (place : ℕ) (r : Request) : Type 0 where
   pub found : request_with tag queue ≡ Some r
   pub has : r.tag ≡ tag

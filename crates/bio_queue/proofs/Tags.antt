@@ -116,7 +116,7 @@ gap_is n [] h = record {
 }
 gap_is n (x ∷ queue) h = gap_step n x queue (x.tag == n) refl h (gap_is (n + 1) queue (let low = h.0 in ascends-weaker (n + 1) (x.tag + 1) queue (omega arith) h.2))
 
--- it is the least tag that isn't in use
+-- the first gap is the least tag that isn't in use
 pub least_free : (queue : List Request) → AscendsFrom 0 queue → length queue < 32 → IsLeastFree (gap_from 0 queue) queue
 least_free queue h few =
     let gap = gap_is 0 queue h in

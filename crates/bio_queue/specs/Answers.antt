@@ -54,13 +54,13 @@ IsWrite (Read sector count) = ⊥
 IsWrite (Write sector count) = Unit {0}
 IsWrite Flush = ⊥
 
--- its logical sectors are among so many; a flush has none
+-- the logical sectors of a job are among so many; a flush has none
 abbrev pub JobIsInRange : ℕ → Job → Type 0
 JobIsInRange media (Read sector count) = sector + count ≤ media
 JobIsInRange media (Write sector count) = sector + count ≤ media
 JobIsInRange media Flush = Unit {0}
 
--- it passes the end of so many, and these are its numbers
+-- a job passes the end of so many logical sectors, and these are its numbers
 abbrev pub JobPassesEnd : ℕ → Job → ℕ → ℕ → ℕ → Type 0
 JobPassesEnd media (Read sector count) first many there = (media < sector + count) × (first ≡ sector) × (many ≡ count) × (there ≡ media)
 JobPassesEnd media (Write sector count) first many there = (media < sector + count) × (first ≡ sector) × (many ≡ count) × (there ≡ media)
@@ -71,21 +71,21 @@ pub record IsAdmitted (readonly : Bool) (media : ℕ) (job : Job) : Type 0 where
   pub takes : TakesJob readonly job
   pub in_range : JobIsInRange media job
 
--- why it doesn't
+-- why such a provider doesn't take the job
 abbrev pub JobIsRefused : Bool → ℕ → Job → SubmitFault → Type 0
 JobIsRefused readonly media job submit.ReadOnly = IsWrite job × (readonly ≡ true)
 JobIsRefused readonly media job (submit.OutOfRange sector count there) = TakesJob readonly job × JobPassesEnd media job sector count there
 JobIsRefused readonly media job submit.QueueFull = ⊥
 JobIsRefused readonly media job submit.NoMemory = ⊥
 
--- or why a queue of so many requests takes no more
+-- why a job isn't submitted: the provider doesn't take it, the queue of so many requests is full, or there is no memory
 abbrev pub IsRefusedBy : Bool → ℕ → Job → ℕ → SubmitFault → Type 0
 IsRefusedBy readonly media job many submit.ReadOnly = JobIsRefused readonly media job submit.ReadOnly
 IsRefusedBy readonly media job many (submit.OutOfRange sector count there) = JobIsRefused readonly media job (submit.OutOfRange sector count there)
 IsRefusedBy readonly media job many submit.QueueFull = IsAdmitted readonly media job × (many ≡ 32)
 IsRefusedBy readonly media job many submit.NoMemory = IsAdmitted readonly media job × (many < 32)
 
--- its request was put in under the least free tag
+-- the job was admitted, and its request was put in under the least free tag
 pub record IsSubmitted (k : Keying) (readonly : Bool) (d : DiskState) (job : Job) (from : List ℕ) (old new : List Request) (tag : ℕ) : Type 0 where
   pub admitted : IsAdmitted readonly (media k d) job
   pub room : length old < 32
@@ -99,13 +99,13 @@ SubmitAnswers k readonly d job from old new (Err fault) = IsRefusedBy readonly (
 
 -- ---- a step
 
--- the disk is asked once by a unit of a read, and not by others
+-- a unit of a read makes one read of the disk, and no other unit makes any
 abbrev pub AsksReads : Job → DiskState → DiskState → Type 0
 AsksReads (Read sector count) old new = Counted 1 old.reads new.reads
 AsksReads (Write sector count) old new = new.reads ≡ old.reads
 AsksReads Flush old new = new.reads ≡ old.reads
 
--- the bytes that a unit of a read is given are what stands in its device sector, where that is told
+-- the bytes that a unit of a read is given are what stands in its device sector, if the disk tells its sectors
 abbrev pub IsGiven : DiskState → Job → ℕ → List ℕ → Type 0
 IsGiven d (Read sector count) n bytes = Gives d n bytes
 IsGiven d (Write sector count) n bytes = Unit {0}
@@ -146,7 +146,7 @@ StepAnswers tag old new before after (Err step.NoRequest) = (request_with tag ol
 StepAnswers tag old new before after (Err step.AllDone) = IsAllDone tag old × (new ≡ old) × (after ≡ before)
 StepAnswers tag old new before after (Err step.DeviceFault) = FailsStep tag old new before after
 
--- this fact, where the step was refused before a call of the disk
+-- this fact holds if the step was refused before a call of the disk
 abbrev pub OnNoCall : Result ℕ StepFault → Type 0 → Type 0
 OnNoCall (Ok left) P = Unit {0}
 OnNoCall (Err step.NoRequest) P = P

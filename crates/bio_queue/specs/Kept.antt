@@ -6,7 +6,7 @@ use Rattle.bio_queue.specs.declared.job.Job.{Job}
 use Rattle.bio_queue.specs.declared.job.Job.TheVariants.{Read, Write, Flush}
 use Rattle.bio_queue.specs.Requests.{Request, first_of}
 
--- the device sectors that are seen: those of a read that were read, and all of a write
+-- the device sectors that contracts see: those of a read that were read, and all of a write
 abbrev pub shown : Job → ℕ → ℕ → List ℕ → List (List ℕ)
 shown (Read sector count) done units bytes = parts 512 done bytes
 shown (Write sector count) done units bytes = parts 512 units bytes

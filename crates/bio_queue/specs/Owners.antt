@@ -1,5 +1,4 @@
--- Requests that were made of a provider, as it still is: it would make them of their jobs, with as many units, in its
--- sectors.
+-- Requests that a provider, as it is now, would make of their jobs, with as many units, in its sectors.
 use Rattle.std.specs.Prelude.{◌≡◌, ℕ, ◌+◌, ◌*◌, ◌≤◌, List, [], ◌∷◌, IsSomeAnd}
 use Rattle.eli_base.specs.Keying.{Keying}
 use Rattle.eli_base.specs.Requests.{request_limit}
@@ -8,7 +7,7 @@ use Rattle.bio_queue.specs.Requests.{Request, request_with}
 use Rattle.bio_queue.specs.declared.job.Job.{Job}
 use Rattle.bio_queue.specs.declared.job.Job.TheVariants.{Read, Write, Flush}
 
--- so many units are those of so many logical sectors from this one on, of a provider with this keying and so many
+-- `many` units are those of `count` logical sectors from this one on, of a provider with this keying and `media`
 -- logical sectors
 pub record IsMadeFor (k : Keying) (media sector count many : ℕ) : Type 0 where
   pub some : 1 ≤ count
@@ -22,11 +21,11 @@ IsMadeOf k media (Read sector count) many = IsMadeFor k media sector count many
 IsMadeOf k media (Write sector count) many = IsMadeFor k media sector count many
 IsMadeOf k media Flush many = many ≡ 1
 
--- such a provider would make the request of its job
+-- a provider with this keying and so many logical sectors would make the request of its job
 abbrev pub IsOf : Keying → ℕ → Request → Type 0
 IsOf k media r = IsMadeOf k media r.job r.units
 
--- and each request of the queue
+-- such a provider would make each request of the queue
 abbrev pub AreAllOf : Keying → ℕ → List Request → Type 0
 AreAllOf k media [] = Unit {0}
 AreAllOf k media (r ∷ queue) = IsOf k media r × AreAllOf k media queue

@@ -18,7 +18,7 @@ pub record Request : Type 0 where
 abbrev pub left_of : Request → ℕ
 left_of r = r.units - r.done
 
--- ---- where its units stand
+-- ---- where the units of a request stand
 
 -- the number of the first device sector of a job that has so many; a flush has none
 abbrev pub first_of : Job → ℕ → ℕ
@@ -26,7 +26,7 @@ first_of (Read sector count) units = sector * (units / count)
 first_of (Write sector count) units = sector * (units / count)
 first_of Flush units = 0
 
--- the number of the device sector of its next unit
+-- the number of the device sector of a request's next unit
 abbrev pub next_of : Request → ℕ
 next_of r = first_of r.job r.units + r.done
 
@@ -43,17 +43,17 @@ abbrev pub request_with : ℕ → List Request → Option Request
 request_with tag [] = None
 request_with tag (r ∷ queue) = if r.tag == tag then Some r else request_with tag queue
 
--- with one request more, before those with a greater tag
+-- the queue with one request more, before those with a greater tag
 abbrev pub put_in : Request → List Request → List Request
 put_in new [] = new ∷ []
 put_in new (r ∷ queue) = if nat_lt new.tag r.tag then new ∷ r ∷ queue else r ∷ put_in new queue
 
--- with this request in place of the one that has its tag
+-- the queue with this request in place of the one that has its tag
 abbrev pub exchanged : Request → List Request → List Request
 exchanged new [] = []
 exchanged new (r ∷ queue) = if r.tag == new.tag then new ∷ queue else r ∷ exchanged new queue
 
--- without the request with this tag
+-- the queue without the request with this tag
 abbrev pub without : ℕ → List Request → List Request
 without tag [] = []
 without tag (r ∷ queue) = if r.tag == tag then queue else r ∷ without tag queue

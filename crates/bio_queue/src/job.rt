@@ -5,13 +5,13 @@
 pub enum Job {
     /// Logical sectors from number `sector` on are read.
     Read { sector: u64, count: u32 },
-    /// They are written.
+    /// Logical sectors from number `sector` on are written.
     Write { sector: u64, count: u32 },
     /// The disk is flushed.
     Flush,
 }
 
-/// What a request gave that is done.
+/// What a finished request gave.
 #[derive(Clone, Copy)]
 pub enum Reaped {
     /// So many bytes were read.

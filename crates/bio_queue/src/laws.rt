@@ -18,7 +18,7 @@ pub fn requests_meet_conditions()
         IfSome (request_with tag queue) (CanStep k d) × IfSome (request_with tag queue) (CanBeReaped k d) }
 {}
 
-/// A law: where all requests are of the provider, the one with a tag is, or none has the tag.
+/// A law: if all requests are of the provider, the one with a tag is, or none has the tag.
 pub fn requests_are_served()
     ensures { (k : Keying) (media tag : ℕ) (queue : List Request) → AreAllOf k media queue →
         (request_with tag queue ≡ None) ⊎ IsOpenRequest k media tag queue }

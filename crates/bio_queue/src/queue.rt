@@ -85,9 +85,8 @@ impl Queue {
     }
 
     /// Whether an open request has this tag and is one of this provider: the provider, as it is now, would make it of
-    /// its job, in its sectors, with as many units, for no more bytes than a request may have. Where it is, the
-    /// conditions of `step` and `reap` hold. A queue that began empty and served this provider alone has no other
-    /// requests.
+    /// its job, in its sectors, with as many units, for no more bytes than a request may have. If so, the conditions of
+    /// `step` and `reap` hold. A queue that began empty and served this provider alone has no other requests.
     pub fn has_request<D: Disk>(&self, on: &Provider<D>, tag: u8) -> bool
         ensures { IsTrue result ↔ IsOpenRequest on.now.keying (media on.now.keying (D.state on.now.disk)) tag self.now }
     {
@@ -100,9 +99,9 @@ impl Queue {
     /// Opens a request for a job, and returns the least tag that isn't in use. A write is sealed here, from its plain
     /// bytes `from`. No call of the disk is made, and the provider is as before.
     ///
-    /// In this order: `ReadOnly`, exactly where the provider is read-only and the job is a write; `OutOfRange`,
-    /// exactly where the job passes the end; `QueueFull`, exactly where 32 requests are open; `NoMemory`. After a
-    /// refusal the queue is as before.
+    /// In this order: `ReadOnly`, exactly if the provider is read-only and the job is a write; `OutOfRange`, exactly if
+    /// the job passes the end; `QueueFull`, exactly if 32 requests are open; `NoMemory`. After a refusal the queue is
+    /// as before.
     pub fn submit<D: Disk>(
         &mut self,
         on: &mut Provider<D>,
@@ -129,9 +128,9 @@ impl Queue {
     /// Does the next unit of the request with this tag, in ascending order of device sectors, or its one flush, and
     /// returns how many units are left.
     ///
-    /// In this order: `NoRequest`, exactly where no request has the tag; `AllDone`, exactly where no unit is left;
-    /// and then the queue and the provider are as before. `DeviceFault`, only where the device failed: the unit isn't
-    /// done, and what it would have written or flushed may be done or not.
+    /// In this order: `NoRequest`, exactly if no request has the tag; `AllDone`, exactly if no unit is left. After
+    /// these two the queue and the provider are as before. `DeviceFault` comes only if the device failed: the unit
+    /// isn't done, and what it would have written or flushed may be done or not.
     pub fn step<D: Disk>(&mut self, on: &mut Provider<D>, tag: u8) -> Result<u64, StepFault>
         requires { IfSome (request_with tag self.old) (CanStep on.old.keying (D.state on.old.disk)) }
         ensures answer { StepAnswers tag self.old self.new (D.state on.old.disk) (D.state on.new.disk) result }
@@ -151,12 +150,12 @@ impl Queue {
         Ok(request.left())
     }
 
-    /// Takes out the request with this tag, whose units are all done. The bytes of a read are put to the front of
+    /// Takes out the request with this tag, whose units are all done. The bytes of a read are put at the front of
     /// `into`. No call of the disk is made, and the provider is as before.
     ///
-    /// In this order: `NoRequest`, exactly where no request has the tag; `NotDone`, exactly where units are left; and
-    /// then the queue and `into` are as before. `Integrity`, exactly where the tag of a unit that was read isn't that
-    /// of its ciphertext, with the byte offset of the first one; the request is then taken out too, and `into` is
+    /// In this order: `NoRequest`, exactly if no request has the tag; `NotDone`, exactly if units are left. After these
+    /// two the queue and `into` are as before. `Integrity` comes exactly if the tag of a unit that was read isn't that
+    /// of its ciphertext, with the byte offset of the first such unit; the request is then taken out too, and `into` is
     /// all zeros.
     pub fn reap<D: Disk>(
         &mut self,
@@ -238,7 +237,7 @@ fn least_free(requests: &[OpenRequest]) -> usize
     requests.len()
 }
 
-// Puts a request at a place, where there is room.
+// Puts a request at a place; there is room for it.
 fn put_in(requests: &mut Vec<OpenRequest>, place: usize, request: OpenRequest)
     requires inside { place ≤ vec_len requests.old }
     requires room { vec_len requests.old < vec_capacity requests.old }

@@ -161,7 +161,7 @@ impl OpenRequest {
         u64::from(self.units - self.done)
     }
 
-    /// Whether it is one that this provider would make of its job.
+    /// Whether this provider, as it is now, would make such a request of the job.
     pub fn is_of<D: Disk>(&self, on: &Provider<D>) -> bool
         ensures { IsTrue result ↔ IsOf on.now.keying (media on.now.keying (D.state on.now.disk)) self.now }
     {
@@ -172,7 +172,7 @@ impl OpenRequest {
         }
     }
 
-    /// Does the next unit. Where the device fails, the request is as before.
+    /// Does the next unit. If the device fails, the request is as before.
     pub fn step<D: Disk>(&mut self, on: &mut Provider<D>) -> Result<(), DiskFailed>
         requires more { self.old.done < self.old.units }
         requires there { CanStep on.old.keying (D.state on.old.disk) self.old }
@@ -193,7 +193,7 @@ impl OpenRequest {
         Ok(())
     }
 
-    /// What the request gives, whose units are all done: the bytes of a read, at the front of `into`. After a refusal
+    /// What the request gives once all its units are done: the bytes of a read, at the front of `into`. After a refusal
     /// `into` may hold any bytes.
     pub fn give<D: Disk>(&self, on: &mut Provider<D>, into: &mut [u8]) -> Result<Reaped, BadUnit>
         requires room { request_limit ≤ length into.old }

@@ -6,12 +6,12 @@ use Rattle.block_traits.specs.Cabinet.{with_file}
 use Rattle.crash_disk.specs.declared.mem_cabinet.NamedFile.{NamedFile}
 use Rattle.crash_disk.specs.MemCabinet.{file_in, file_place, files_of}
 
--- a file in the place of the first of its name, or behind all others
+-- a file in the place of the first of its name, or after all others
 abbrev pub replaced : NamedFile → List NamedFile → List NamedFile
 replaced new [] = new ∷ []
 replaced new (file ∷ files) = cond (bytes_eq file.name new.name) (new ∷ files) (file ∷ replaced new files)
 
--- a file at a place that was found, or behind all others
+-- a file at a place that was found, or after all others
 abbrev pub put_at : Option ℕ → NamedFile → List NamedFile → List NamedFile
 put_at None new files = files ++ new ∷ []
 put_at (Some place) new files = set files place new

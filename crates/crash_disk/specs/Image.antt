@@ -10,6 +10,6 @@ abbrev pub numbers_below : ℕ → List ℕ
 numbers_below zero = []
 numbers_below (suc n) = numbers_below n ++ n ∷ []
 
--- the whole 512-byte pieces of an image; bytes behind the last one are dropped
+-- the whole 512-byte pieces of an image; bytes after the last one are dropped
 abbrev pub sectors_of : List ℕ → List (List ℕ)
 sectors_of image = map (λ n. take 512 (drop (512 * n) image)) (numbers_below (length image / 512))

@@ -9,8 +9,8 @@ use Rattle.crash_disk.specs.declared.mem_cabinet.NamedFile.{NamedFile}
 use Rattle.crash_disk.specs.Calls.{CallsState, called, next_fails}
 use Rattle.crash_disk.specs.Count.{one_more}
 
--- its files, the calls that fail, how often it has failed, how often a file was absent or too long, and how many loads
--- and how many stores were made
+-- a cabinet's files, the calls that fail, how often it has failed, how often a file was absent or too long, and how
+-- many loads and how many stores were made
 pub record MemCabinetState : Type 0 where
   pub files : List NamedFile
   pub calls : CallsState
@@ -50,7 +50,7 @@ after_load name limit cabinet = record (after_call cabinet) {
   loads = one_more cabinet.loads;
 }
 
--- where the call is listed it fails; else it answers what the file says, but that there may be no memory for the bytes
+-- if the call is listed, it fails; else it returns what the file says, or there is no memory for the bytes
 abbrev pub AnswersLoad : Bool → Result (List ℕ) LoadFault → Result (List ℕ) LoadFault → Type 0
 AnswersLoad true answer result = result ≡ Err Failed
 AnswersLoad false (Err fault) result = result ≡ Err fault

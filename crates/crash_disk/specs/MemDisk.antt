@@ -14,7 +14,7 @@ use Rattle.crash_disk.specs.Image.{numbers_below}
 use Rattle.crash_disk.specs.Plan.{PlanState, counted, has_read, more_reads, no_plan, planned}
 use Rattle.crash_disk.specs.SectorLog.{content_of}
 
--- its content, how many events it has room for, how often it has failed, and which calls fail
+-- a disk's content, how many events it has room for, how often it has failed, and which calls fail
 pub record MemState : Type 0 where
   pub content : Content
   pub room : ℕ
@@ -57,11 +57,11 @@ read_fails state = is_some (planned Read state.plan)
 abbrev pub change_fails : CallKind → MemState → Bool
 change_fails kind state = is_full state || is_some (planned kind state.plan)
 
--- its event is appended: there is room, and it doesn't fail or the plan says that it lands
+-- the event of the next write or flush is appended: there is room, and it doesn't fail or the plan says that it lands
 abbrev pub change_lands : CallKind → MemState → Bool
 change_lands kind state = not (is_full state) && unwrap_or (planned kind state.plan) true
 
--- a look gives what stands: the plan has no read, which one of the reads could be that it serves
+-- a look gives what stands: the plan has no read, which might be one of those that the look serves
 abbrev pub lets_look : MemState → Bool
 lets_look state = not (has_read state.plan.entries)
 
@@ -93,6 +93,6 @@ pub record WritesSector (n : ℕ) (bytes : List ℕ) (old new : MemState) (resul
 abbrev pub present_sectors : Content → List (List ℕ)
 present_sectors c = map (present c) (numbers_below (length c.base))
 
--- what stands there now has always stood there, but that sector n holds these bytes
+-- what stands in each sector now has always stood there, but sector n holds these bytes
 abbrev pub after_alter : ℕ → List ℕ → MemState → MemState
 after_alter n bytes state = record state { content = record { base = slice_set (present_sectors state.content) n bytes; history = [] } }

@@ -1,4 +1,4 @@
--- What a disk in memory is that keeps written sectors alone.
+-- What a disk in memory that keeps written sectors alone is.
 use Rattle.std.specs.Prelude.{ℕ, List, slice_set}
 use Rattle.block_traits.specs.Content.{Content}
 use Rattle.block_traits.specs.Disk.{DiskState, showing}

@@ -13,7 +13,7 @@ pub record MemSourceState : Type 0 where
   pub refused : ℕ
   pub ends : ℕ
 
--- how many bytes the next call gives, where there is so much room
+-- how many bytes the next call gives if there is so much room
 abbrev pub next_given : ℕ → MemSourceState → ℕ
 next_given room source = min (piece source.cuts source.calls room) (length source.left)
 
@@ -62,7 +62,7 @@ pub record MemEntropyState : Type 0 where
   pub faults : ℕ
   pub calls : ℕ
 
--- a call fails that asks for more than is left
+-- a call for so many bytes fails: it asks for more than is left
 abbrev pub fill_fails : ℕ → MemEntropyState → Bool
 fill_fails wanted entropy = nat_lt (length entropy.left) wanted
 

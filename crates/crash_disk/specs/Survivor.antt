@@ -1,4 +1,4 @@
--- What a crash leaves of a disk in memory, where one value is picked in some sectors.
+-- What a crash leaves of a disk in memory if one value is picked in some sectors.
 use Rattle.std.specs.Prelude.{◌≡◌, ◌⊎◌, ℕ, ◌+◌, ◌-◌, ◌<◌, ◌≤◌, ◌==◌, ◌||◌, Bool, false, IsTrue, List, [], ◌∷◌, length, take, slice_get, get_or, Some, if◌then◌else◌}
 use Rattle.block_traits.specs.Content.{Content, kept_values, last_of}
 use Rattle.crash_disk.specs.declared.survivor.Keeping.{Keeping}
@@ -21,11 +21,11 @@ picked_place (pick ∷ picks) n other = if pick.n == n then pick.place else pick
 abbrev pub choice_of : Content → List Pick → ℕ → ℕ
 choice_of c picks n = picked_place picks n (length (kept_values c n) - 1)
 
--- its sector is past the end, was picked before, or has no value at the place
+-- the sector of a pick is past the end, was picked before, or has no value at the place
 abbrev pub IsBad : Content → List Pick → Pick → Type 0
 IsBad c before pick = (length c.base ≤ pick.n) ⊎ IsTrue (is_picked pick.n before) ⊎ (length (kept_values c pick.n) ≤ pick.place)
 
--- no bad pick, and the value that it names
+-- a pick that isn't bad, and the value that it names
 pub record IsGood (c : Content) (before : List Pick) (pick : Pick) (bytes : List ℕ) : Type 0 where
   pub inside : pick.n < length c.base
   pub unpicked : is_picked pick.n before ≡ false

@@ -54,7 +54,7 @@ impl Calls {
         Ok(())
     }
 
-    /// Counts a call, and answers whether it fails.
+    /// Counts a call, and returns whether it fails.
     pub fn next(&mut self) -> bool
         ensures answer { result ≡ next_fails self.old }
         ensures counts { self.new ≡ called self.old }
@@ -71,7 +71,7 @@ impl Calls {
     }
 }
 
-// No more than the cut, which counts as 1 where it is 0.
+// No more than the cut, where a cut of 0 counts as 1.
 fn cut_to(cut: Option<usize>, wanted: usize) -> usize
     ensures { result ≡ cut_to cut wanted }
 {

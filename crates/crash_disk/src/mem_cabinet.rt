@@ -61,7 +61,7 @@ impl MemCabinet {
         }
     }
 
-    /// Makes or replaces the file of this name. This is no call that is counted.
+    /// Makes or replaces the file of this name. This isn't counted as a call.
     pub fn put(&mut self, name: &str, bytes: &[u8]) -> Result<(), NoMemory>
         ensures ok { OnOk result (files_of self.new.files ≡ with_file name.now bytes.now (files_of self.old.files)) }
         ensures err { OnErr result (self.new.files ≡ self.old.files) }
@@ -88,7 +88,7 @@ impl MemCabinet {
         self.calls.set(calls)
     }
 
-    // Counts a call, and answers whether it fails.
+    // Counts a call, and returns whether it fails.
     fn call(&mut self) -> bool
         ensures answer { result ≡ next_fails self.old.calls }
         ensures after { self.new ≡ after_call self.old }

@@ -1,4 +1,4 @@
-//! A disk in memory, which shows its events and fails where a list says.
+//! A disk in memory, which shows its events and fails at the calls that a list names.
 ghost use Rattle.std.specs.Prelude.{◌≡◌, ◌<◌, ◌≤◌, ◌^◌, ◌/◌, ◌∷◌, [], IfOk, IsOk, OnOk, OnErr, is_err, All, length, replicate, take};
 ghost use Rattle.crash_disk.specs.Image.{sectors_of, zero_sector};
 ghost use Rattle.crash_disk.specs.Replay.{replayed};
@@ -31,8 +31,8 @@ impl MemDisk {
         MemDisk::from_sectors(alloc, zero_sectors(alloc, sectors)?, room)
     }
 
-    /// A disk that has the whole 512-byte pieces of an image, with room for so many events. Bytes
-    /// behind the last whole piece are dropped.
+    /// A disk that has the whole 512-byte pieces of an image, with room for so many events. Bytes after the last whole
+    /// piece are dropped.
     pub fn from_image(alloc: Global, image: &[u8], room: u64) -> Result<MemDisk, NoMemory>
         requires { length image.now / 512 < 2 ^ 44 }
         ensures { IfOk result (λ disk. mem_state_of disk ≡ fresh (sectors_of image.now) room) }
@@ -177,8 +177,8 @@ impl Disk for MemDisk {
         Ok(())
     }
 
-    /// A look gives what stands now, unless the plan has a read. A read that a look serves can't fail: so where one may
-    /// have to, each is made by itself.
+    /// A look gives what stands now, unless the plan has a read. A read that a look serves can't fail, so if one may
+    /// have to fail, each is made by itself.
     fn peek(&mut self, first: u64, into: &mut [u8]) -> bool
         requires whole { length into.old % 512 ≡ 0 }
         requires inside { first + length into.old / 512 ≤ (mem_disk_of self.old).size }

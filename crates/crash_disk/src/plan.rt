@@ -14,8 +14,8 @@ pub enum CallKind {
     Flush,
 }
 
-/// A call that fails: the `nth` of its kind, counted from 1 since the disk was made. Its event is
-/// appended where `lands` is set.
+/// A call that fails: the `nth` of its kind, counted from 1 since the disk was made. Its event is appended if `lands`
+/// is set.
 #[derive(Clone, Copy, Debug, PartialEq, Eq)]
 pub struct FailAt {
     pub kind: CallKind,
@@ -69,7 +69,7 @@ impl Plan {
         Ok(())
     }
 
-    /// Counts a call. If it fails, answers whether its event is appended.
+    /// Counts a call. If it fails, returns whether its event is appended.
     #[tactic(auto, using(crate::proofs::PlanLemmas::made_counted, crate::proofs::PlanLemmas::entries_counted))]
     pub fn next(&mut self, kind: CallKind) -> Option<bool>
         ensures answer { result ≡ planned kind self.old }
@@ -86,7 +86,7 @@ impl Plan {
         self.reads = self.reads.saturating_add(many);
     }
 
-    /// Whether a read is among the calls that fail, also where that was made.
+    /// Whether a read is among the calls that fail, even one that was already made.
     pub fn has_read(&self) -> bool
         ensures { result ≡ has_read self.now.entries }
     {

@@ -13,8 +13,8 @@ use crate::survivor::{Pick, SurvivorFault, Torn, is_picked, is_torn, kept_value}
 use block_traits::{Disk, NoMemory, Sector};
 use std::alloc::Global;
 
-/// The disk that a crash leaves after the first events, as `survivor_torn` says it of a `MemDisk`; with
-/// no torn entry, as `survivor_whole` does.
+/// The disk that a crash leaves after the first events, as `survivor_torn` makes it of a `MemDisk`, or with no torn
+/// entry, as `survivor_whole` does.
 pub fn sparse_survivor(
     alloc: Global,
     disk: &SparseDisk,

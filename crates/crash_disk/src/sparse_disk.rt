@@ -95,7 +95,7 @@ impl SparseDisk {
         self.log.first(n)
     }
 
-    /// What stands in sector `n` now. This is no call that is counted.
+    /// What stands in sector `n` now. This isn't counted as a call.
     pub fn get(&self, n: u64) -> Sector
         requires { n < (sparse_disk_of self.now).size }
         ensures { result ≡ present (sparse_state_of self.now).content n }
@@ -171,8 +171,8 @@ impl Disk for SparseDisk {
         Ok(())
     }
 
-    /// A look gives what stands now, unless the plan has a read. A read that a look serves can't fail: so where one may
-    /// have to, each is made by itself.
+    /// A look gives what stands now, unless the plan has a read. A read that a look serves can't fail, so if one may
+    /// have to fail, each is made by itself.
     fn peek(&mut self, first: u64, into: &mut [u8]) -> bool
         requires whole { length into.old % 512 ≡ 0 }
         requires inside { first + length into.old / 512 ≤ (sparse_disk_of self.old).size }

@@ -63,7 +63,8 @@ pub fn survivor_whole(
     survivor_of(alloc, image, disk.room())
 }
 
-/// The same, where besides the named data sectors hold the given bytes.
+/// The disk that a crash leaves after the first events, as `survivor_whole` gives it, but with the torn sectors holding
+/// the given bytes.
 pub fn survivor_torn(
     alloc: Global,
     disk: &MemDisk,

@@ -134,7 +134,7 @@ fn zeros() -> Sector
     [0u8; 512]
 }
 
-// What stands in a sector after events, where these bytes stood there before.
+// What stands in a sector after events, if these bytes stood there before.
 fn value_after(events: &[Event], n: u64, bytes: &Sector) -> Sector
     ensures { result ≡ present_after events.now n bytes.now }
 {

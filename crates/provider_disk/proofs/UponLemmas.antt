@@ -70,7 +70,7 @@ gives_opened k size n count bytes (Some c) single fits inside one reads =
     let small : n < length c.base - 1 = omega arith in
     reads-opened k c n count bytes single one reads ∙ sym (present-opened_content k c n small)
 
--- a read is refused only where the device failed
+-- a read is refused only if the device failed
 pub read_fails : {D : Type 0} (state : D → DiskState) (n : ℕ) (into bytes : List ℕ) (old new : Attached D) (fault : ReadFault) → IsSingle old.keying → IsSector into
     → n < (state old.disk).size - 1 → ReadAnswers state (request state old n into) bytes old new (Err fault) → FailsIn [] (state old.disk) (state new.disk)
 read_fails state n into bytes old new (read.OutOfRange sector count there) single sized inside answer =
@@ -80,7 +80,7 @@ read_fails state n into bytes old new (read.OutOfRange sector count there) singl
 read_fails state n into bytes old new read.DeviceFault single sized inside answer = answer.fails.fails
 read_fails state n into bytes old new (read.Integrity offset) single sized inside answer = absurd (answer.finds.tagged single.off)
 
--- one device sector is read for one that is asked for, also where that read failed
+-- one device sector is read for one that is asked for, even if that read failed
 pub reads_once : (k : Keying) (count before now : ℕ) → IsSingle k → count ≡ 1 → Counted (count * units k) before now → Counted 1 before now
 reads_once k count before now single one asked =
     let P : ℕ → Type 0 = λ many. Counted many before now in
@@ -106,7 +106,7 @@ fails_once state n into bytes old new read.DeviceFault single sized inside answe
     subst P many fails.asked
 fails_once state n into bytes old new (read.Integrity offset) single sized inside answer = absurd (answer.finds.tagged single.off)
 
--- and so is a write
+-- a write is refused only if the device failed
 pub write_fails : {D : Type 0} (state : D → DiskState) (n : ℕ) (bytes : List ℕ) (old new : Attached D) (fault : WriteFault) → IsSingle old.keying → old.readonly ≡ false → IsSector bytes
     → n < (state old.disk).size - 1 → WriteAnswers state (request state old n bytes) bytes old new (Err fault)
     → FailsWrite old.keying (request state old n bytes) bytes (state old.disk) (state new.disk)

@@ -25,7 +25,7 @@ use Rattle.provider_disk.specs.Opened.{KeepsLastData, opened_content, opened_eve
 abbrev pub content_below : Content → List Event → ℕ → Content
 content_below c events t = at_moment (length c.history + t) (with_events events c)
 
--- how many steps were done where the first t of these events were logged below
+-- how many steps were done above once the first t of these events were logged below
 abbrev pub steps_above : Keying → Content → List Event → ℕ → ℕ
 steps_above k c events t = length (opened_events k (length c.base - 1) (take t events))
 
@@ -37,20 +37,20 @@ pub record AreStepsOver (k : Keying) (c : Content) (events : List Event) (steps 
   pub same : opened_content k (with_events events c) ≡ after steps (opened_content k c)
   pub good : AreSteps steps
 
--- what the sectors of the disk upon the provider may then hold, as writings
+-- what the sectors of the disk upon the provider may hold after the first t events below, as writings
 abbrev pub cells_above : Keying → Content → List Event → List Step → ℕ → ℕ → List Writing
 cells_above k c events steps t = cell (opened_content k c) (take (steps_above k c events t) steps)
 
--- what the disk upon the provider told then
+-- what the disk upon the provider told after the first t events below
 abbrev pub content_above : Keying → Content → List Event → List Step → ℕ → Content
 content_above k c events steps t = moment (steps_above k c events t) steps (opened_content k c)
 
 -- ---- if power fails below
 
 -- What `Endures` (readings) promises of a logical sector of a provider under keying j that stands on a disk upon a
--- provider under keying k, of the images of the disk below: each is opened, and then reads as that says of the steps
--- done above. Where torn and altered images are spoken of, the last data sector below holds a kept value: it has the
--- metadata above.
+-- provider under keying k, carried over to the images of the disk below: each is opened, and then reads as promised of
+-- the steps done above. In torn and altered images the last data sector below holds a kept value: it has the metadata
+-- above.
 pub record EnduresBelow (k j : Keying) (c : Content) (events : List Event) (steps : List Step) (t sector : ℕ) : Type 0 where
   pub whole : (choice : ℕ → ℕ) (image : List (List ℕ)) → IsImage (content_below c events t) choice image →
       image_units j sector (opened_data_sectors k image) ≡ read j sector (chosen j sector (cells_above k c events steps t) choice)
@@ -64,18 +64,18 @@ pub record EnduresBelow (k j : Keying) (c : Content) (events : List Event) (step
       Matches j sector place (Put p) p → (image : List (List ℕ)) → IsTorn (content_below c events t) image → KeepsLastData (content_below c events t) image →
       ReadsAsPut j p (image_unit j sector (opened_data_sectors k image) place)
 
--- ---- what a provider on the survivor answers
+-- ---- what a provider on the survivor reads
 
 -- what each of so many logical sectors reads as, from the writings that are chosen of the cells
 abbrev pub sectors_chosen : Keying → ℕ → ℕ → (ℕ → List Writing) → (ℕ → ℕ) → List (Result (List ℕ) ℕ)
 sectors_chosen j sector zero cells choice = []
 sectors_chosen j sector (suc count) cells choice = read_sector j sector (chosen j sector cells choice) ∷ sectors_chosen j (sector + 1) count cells choice
 
--- their bytes one after the other, or the first fault among them
+-- the bytes of these logical sectors one after the other, or the first fault among them
 abbrev pub data_chosen : Keying → ℕ → ℕ → (ℕ → List Writing) → (ℕ → ℕ) → Result (List ℕ) ℕ
 data_chosen j sector count cells choice = joined (sectors_chosen j sector count cells choice)
 
--- what a read of some sectors answers: what the writings say that are chosen of the cells; or the range passes the end,
+-- what a read of some sectors gives: what the writings that are chosen of the cells say; or the range passes the end,
 -- or the disk failed
 abbrev pub ReadsChosen : Keying → SectorRequest → (ℕ → List Writing) → (ℕ → ℕ) → List ℕ → Result (Unit {0}) ReadFault → DiskState → DiskState → Type 0
 ReadsChosen j r cells choice bytes (Ok done) old new = data_chosen j r.sector r.count cells choice ≡ Ok bytes

@@ -13,11 +13,11 @@ abbrev pub plain_of : Result (List ℕ) ℕ → List ℕ
 plain_of (Ok bytes) = bytes
 plain_of (Err offset) = []
 
--- what logical sector n reads as, where its device sector holds these bytes
+-- what logical sector n reads as if its device sector holds these bytes
 unfoldable pub opened_single : Keying → ℕ → List ℕ → List ℕ
 opened_single k n bytes = plain_of (reading k n (bytes ∷ []))
 
--- what logical sectors from n on read as, where their device sectors hold these bytes, one after another
+-- what logical sectors from n on read as if their device sectors hold these bytes, one after another
 abbrev pub opened_from : Keying → ℕ → List (List ℕ) → List (List ℕ)
 opened_from k n [] = []
 opened_from k n (bytes ∷ sectors) = opened_single k n bytes ∷ opened_from k (n + 1) sectors
@@ -26,8 +26,8 @@ opened_from k n (bytes ∷ sectors) = opened_single k n bytes ∷ opened_from k 
 abbrev pub opened_data_sectors : Keying → List (List ℕ) → List (List ℕ)
 opened_data_sectors k sectors = opened_from k 0 (take (length sectors - 1) sectors)
 
--- the writes of the first sectors, so many, with what they then read as, and the flushes; writes after them are left
--- out
+-- the writes of the first so many sectors, with what these then read as, and the flushes; writes of later sectors are
+-- left out
 abbrev pub opened_events : Keying → ℕ → List Event → List Event
 opened_events k count [] = []
 opened_events k count (Write n bytes ∷ events) =

@@ -52,16 +52,16 @@ pub fn crash_images_are_opened()
 {}
 
 /// A provider that stands on a disk upon a provider keeps, if power fails below, all that is promised of one on any
-/// disk: where these events were logged below while these steps were done above, each logical sector of an image that
-/// is left after the first t events reads, opened by both, as the writings of its cells say.
+/// disk. Say that these events were logged below while these steps were done above. Then each logical sector of an
+/// image that is left after the first t events reads, opened by both, as the writings of its cells say.
 pub fn crashes_below_are_read_above()
     ensures { (k j : Keying) (c : Content) (events : List Event) (steps : List Step) (t sector : ℕ) →
         AreStepsOver k c events steps → IsKeying j → sector < content_media j (opened_content k c) → EnduresBelow k j c events steps t sector }
 {}
 
-/// A disk upon a provider on an image that survived has the opened image. A provider attached upon it then reads, again
-/// and again, as the writings say that the image below chose from the cells: those of the steps done above before the
-/// crash.
+/// A disk upon a provider on an image that survived has the opened image. A provider attached upon it then reads,
+/// however often, what the writings say that the image below chose from the cells: those of the steps done above before
+/// the crash.
 pub fn survivors_below_are_read_above<D: Disk>()
     ensures has { (image : List (List ℕ)) (p : ProviderDisk D) → HasImage image (D.state p.on.disk) → HasImage (opened_data_sectors p.on.keying image) (provider_disk_of D.state p) }
     ensures reads { (k : Keying) (c : Content) (events : List Event) (steps : List Step) (t : ℕ) (choice : ℕ → ℕ) (image : List (List ℕ))

@@ -8,9 +8,9 @@ use block_traits::{Disk, DiskFailed, Event, Sector};
 use eli_base::Cipher;
 use provider::Provider;
 
-/// A provider as a disk: its logical sectors are the sectors. Where the disk below is told, this one tells what the
-/// base below reads as and the history below, each write opened, without the writes of the last sector. It shows no
-/// events.
+/// A provider as a disk: its logical sectors are the sectors. If the disk below tells its sectors, this one does too:
+/// its base is what the base below reads as, and its history the one below, with each write opened and without the
+/// writes of the last sector. It shows no events.
 // The bound is `Drop` and not `Disk`, so that the type may be named at a boxed disk.
 #[derive(Drop)]
 pub struct ProviderDisk<D: Drop> {
@@ -28,8 +28,8 @@ fn can_be_disk<D: Disk>(on: &Provider<D>) -> bool
 }
 
 impl<D: Disk> ProviderDisk<D> {
-    /// The provider as a disk. It comes back exactly where it isn't one under AES-XTS without authentication, with
-    /// sectors of 512 bytes, and open for writing. No call of its disk is made.
+    /// The provider as a disk. It comes back exactly if it isn't one under AES-XTS without authentication, with sectors
+    /// of 512 bytes, and open for writing. No call of its disk is made.
     pub fn new(on: Provider<D>) -> Result<ProviderDisk<D>, Provider<D>>
         ensures made { IfOk result (λ disk. disk.on ≡ on) }
         ensures can { OnOk result (CanBeDisk on.keying on.readonly) }
@@ -53,7 +53,7 @@ impl<D: Disk> ProviderDisk<D> {
 }
 
 /// Each call is one of the provider for one logical sector: a read reads one sector below, and nothing else does. It is
-/// refused only where the disk below failed.
+/// refused only if the disk below failed.
 impl<D: Disk> Disk for ProviderDisk<D> {
     ghost use Rattle.provider_disk.specs.ProviderDisk.{provider_disk_of};
 

@@ -40,7 +40,7 @@ pub record IsAttachedOn {D : Type 0} (given : D) (params : Params) (s : ℕ) (ma
   pub slot : p.slot ≡ s
   pub keying : p.keying ≡ keying_of params (record { bytes = master })
 
--- it is attached, or there was no memory, and the disk comes back
+-- the provider is attached, or there was no memory, and the disk comes back
 abbrev pub AttachesOrLacksMemory : {D : Type 0} → D → Params → ℕ → List ℕ → Result (Attached D) (D × AttachFault) → Type 0
 AttachesOrLacksMemory given params s master (Ok p) = IsAttachedOn given params s master p
 AttachesOrLacksMemory given params s master (Err refused) = (refused.0 ≡ given) × (refused.1 ≡ attach.NoMemory)
@@ -52,11 +52,11 @@ abbrev pub image_sectors : Keying → ℕ → ℕ → List (List ℕ) → List (
 image_sectors k sector zero image = []
 image_sectors k sector (suc count) image = joined (image_units k sector image) ∷ image_sectors k (sector + 1) count image
 
--- their bytes one after the other, or the first fault among them
+-- the bytes of these logical sectors one after the other, or the first fault among them
 abbrev pub image_data : Keying → ℕ → ℕ → List (List ℕ) → Result (List ℕ) ℕ
 image_data k sector count image = joined (image_sectors k sector count image)
 
--- what a read of some sectors answers: what the image has for them; or the range passes the end, or the disk failed
+-- what a read of some sectors gives: what the image has for them; or the range passes the end, or the disk failed
 abbrev pub ReadsImage : Keying → SectorRequest → List (List ℕ) → List ℕ → Result (Unit {0}) ReadFault → DiskState → DiskState → Type 0
 ReadsImage k r image bytes (Ok done) old new = image_data k r.sector r.count image ≡ Ok bytes
 ReadsImage k r image bytes (Err (read.Integrity offset)) old new = image_data k r.sector r.count image ≡ Err offset

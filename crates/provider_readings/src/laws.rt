@@ -24,7 +24,7 @@ ghost use Rattle.provider_readings.specs.Data.{data_read, survivor};
 
 use block_traits::Disk;
 
-/// What a write of logical sectors logs are the events of the steps of a write, whatever its number.
+/// A write of logical sectors logs the events of the steps of a write, whatever its number.
 pub fn writes_are_steps()
     ensures { (number : ℕ) (k : Keying) (sector count : ℕ) (bytes : List ℕ) →
         events_of (data_steps number k sector count bytes) ≡ data_writes k sector count bytes }
@@ -64,10 +64,10 @@ pub fn survivors_read_from_cells()
         sector_reading k (survivor image) sector ≡ read_sector k sector from.writings }
 {}
 
-/// `Provider::attach` on a disk with an image that a user key opens, no slot being named, gives the provider, with the
-/// keying of the metadata and the master key of the first slot that opens; or there was no memory. An image is opened
-/// where its last sector has metadata that `check` accepts, of the image's size, with a whole logical sector. The gate
-/// of the slots lets it through, too.
+/// `Provider::attach` on a disk with an image that a user key opens, no slot being named, gives the provider, unless
+/// there was no memory. It has the keying of the metadata and the master key of the first slot that opens. An image is
+/// opened if its last sector has metadata that `check` accepts, of the image's size, with a whole logical sector. The
+/// gate of the slots lets it through, too.
 pub fn survivors_attach<D: Disk>()
     ensures gate { (image : List (List ℕ)) (m : Metadata) (params : Params) (key : List ℕ) (s : ℕ) (master : List ℕ) →
         IsOpenedBy image m params key s master → slot_matches m None ≡ Ok tt }
@@ -78,7 +78,8 @@ pub fn survivors_attach<D: Disk>()
         AttachAnswers target means disk result → AttachesOrLacksMemory disk params s master result }
 {}
 
-/// What it then reads, again and again, is what the image has, unit by unit: what `Endures` (`readings`) speaks of.
+/// What a provider attached on such an image reads, however often, is what the image has, unit by unit: what `Endures`
+/// (`readings`) speaks of.
 pub fn attached_survivors_read<D: Disk>()
     ensures { (image : List (List ℕ)) (sector : ℕ) (into bytes : List ℕ) (old new : Attached D) (answer : Result (Unit {0}) ReadFault) →
         HasImage image (D.state old.disk) → IsKeying old.keying → ReadAnswers D.state (request D.state old sector into) bytes old new answer →

@@ -186,13 +186,13 @@ ended : (events : List Event) (job : Job) (from before after : List ℕ) (answer
 ended events job from before after answer old new h logs =
     subst (λ (d : DiskState). Logs events old.disk d) (sym h.stays.disk) (subst (λ (d : DiskState). Logs events d h.done_in.disk) h.opens.disk logs)
 
--- it is reaped under the keying that it was submitted under
+-- the request is reaped under the keying that it was submitted under
 reaped_so : (job : Job) (from before after : List ℕ) (answer : Result Reaped ReapFault) (old new : InFlight) (h : IsDoneAlone job from before after answer old new) → ReapAnswers old.keying h.tag h.done_in.queue new.queue before after answer
 reaped_so job from before after answer old new h =
     let same = kept_through h.tag (units_of old.keying job) h.open_in h.done_in h.steps ∙ h.opens.keeps.keying in
     subst (λ (k : Keying). ReapAnswers k h.tag h.done_in.queue new.queue before after answer) same h.reaped
 
--- what reaping a request says that was found
+-- what reaping a request that was found says
 taken : (tag : ℕ) (queue left : List Request) (r : Request) (P : Request → Type 0) → request_with tag queue ≡ Some r → TakesOut tag queue left P → P r
 taken tag queue left r P found h = subst P (one (request_with tag queue) h.request r h.found found) h.gives
 

@@ -83,7 +83,7 @@ front_among steps more = subst (λ (l : List Writing). AreAmong l (placed steps)
 pub behind_among : (steps more : List Step) → AreAmong (placed (steps ++ more)) (placed more)
 behind_among steps more = subst (λ (l : List Writing). AreAmong l (placed more)) (sym (placed-append steps more)) (among_behind (placed steps) (placed more))
 
--- where the tasks change to others that place the same
+-- the tasks may change to others that place the same
 pub fits_other : (k : Keying) (next : ℕ) (steps more : List Step) (tasks new : List Task) → AreStepsBelow next (steps ++ pending k tasks) → AreAmong (placed (pending k tasks)) (placed more)
     → All (PlacesAmong k (placed (pending k tasks))) new → AreStepsBelow next ((steps ++ more) ++ pending k new)
 fits_other k next steps more tasks new are more_in new_in =
@@ -94,7 +94,7 @@ fits_other k next steps more tasks new are more_in new_in =
     (both_among those steps more (front_among steps (pending k tasks)) (among_then (placed more) (placed (pending k tasks)) those more_in open_in))
     (among_then (placed (pending k new)) (placed (pending k tasks)) those (pending-from k (placed (pending k tasks)) new new_in) open_in)) are
 
--- where a write comes to them, with a number of its own
+-- a write may be added, with a number of its own
 pub fits_write : (k : Keying) (next sector count : ℕ) (bytes : List ℕ) (steps : List Step) (tasks new : List Task) → AreStepsBelow next (steps ++ pending k tasks) → IsKeying k → AreBytes bytes → count * k.sectorsize ≤ length bytes
     → All (PlacesAmong k (placed (pending k tasks) ++ placed (data_steps next k sector count bytes))) new → AreStepsBelow (next + 1) (steps ++ pending k new)
 fits_write k next sector count bytes steps tasks new are is small fits new_in =

@@ -43,7 +43,7 @@ turned_away readonly k c m job fault queue d shows h =
     let many : length queue ≡ length m.tasks = ap (λ (q : List Request). length q) shows.queue ∙ length-map m.tasks (request_of k) in
     subst (λ (n : ℕ). IsRefusedBy readonly n job (length m.tasks) fault) (same_media k c m.steps d shows.told) (subst (λ (n : ℕ). IsRefusedBy readonly (provider.media k d) job n fault) many h)
 
--- where the queue and the disk are as before
+-- the queue and the disk are as before
 still : (k : Keying) (c : Content) (m : Play) (old new : List Request) (d d' : DiskState) → new ≡ old → d' ≡ d → Shows k c m old d → Shows k c m new d'
 still k c m old new d d' queue disk shows = record {
   play = shows.play;

@@ -40,7 +40,7 @@ length-placed number k sector (suc count) bytes =
     let all : suc count * units k ≡ units k + count * units k = omega arith in
     ap (λ (l : List Writing). length l) (placed-data number k sector count bytes) ∙ omega arith
 
--- they are placed in ascending order, the first where its logical sector begins
+-- the units are placed in ascending order, the first where its logical sector begins
 data_steps-places : (number : ℕ) (k : Keying) (sector count : ℕ) (bytes : List ℕ) → data_steps number k sector count bytes ≡ places_from (sector * units k) (placed (data_steps number k sector count bytes))
 data_steps-places number k sector zero bytes = refl
 data_steps-places number k sector (suc count) bytes =

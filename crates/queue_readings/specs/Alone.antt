@@ -43,7 +43,7 @@ GivesAsRead k old new sector count before after (Err (reap.NotDone left)) = ⊥
 abbrev pub request_for : InFlight → ℕ → List ℕ → SectorRequest
 request_for x sector bytes = record { sector = sector; count = length bytes / x.keying.sectorsize; media = media x.keying x.disk }
 
--- it comes to what the call of the provider does
+-- the job comes to what the call of the provider does
 abbrev pub DoesAsProvider : Job → List ℕ → List ℕ → List ℕ → Result Reaped ReapFault → InFlight → InFlight → Type 0
 DoesAsProvider (Read sector count) from before after answer old new =
     (sector + count ≤ media old.keying old.disk) × GivesAsRead old.keying old.disk new.disk sector count before after answer

@@ -20,7 +20,7 @@ use Rattle.readings.specs.Survivors.{content_media}
 
 -- ---- the calls
 
--- a call, with what it was given and what it answered; of a buffer the bytes before and after
+-- a call, with what it was given and what it returned; of a buffer the bytes before and after
 pub data QueueCall : Type 0 where
   Submit : Job → List ℕ → Result ℕ SubmitFault → QueueCall
   Step : (tag : ℕ) → Result ℕ StepFault → QueueCall
@@ -38,12 +38,12 @@ pub record KeepsKeying (old new : InFlight) : Type 0 where
   pub keying : new.keying ≡ old.keying
   pub readonly : new.readonly ≡ old.readonly
 
--- and its disk is as it was
+-- the provider and its disk are as they were
 pub record KeepsProvider (old new : InFlight) : Type 0 where
   pub keeps : KeepsKeying old new
   pub disk : new.disk ≡ old.disk
 
--- the call was made, and answered so
+-- the call was made, with this result
 abbrev pub IsMade : QueueCall → InFlight → InFlight → Type 0
 IsMade (Submit job from answer) old new =
     AreBytes from × IsAsked old.keying.sectorsize job from × SubmitAnswers old.keying old.readonly old.disk job from old.queue new.queue answer × KeepsProvider old new
@@ -69,13 +69,13 @@ pub record StepsTask (k : Keying) (c : Content) (left : ℕ) (m new : Play) (t :
   pub rest : left ≡ units_left k (task_after k (cell c m.steps) t)
   pub play : new ≡ task_stepped k c t m
 
--- the device failed at it: its step was done or wasn't, and its unit isn't done
+-- the device failed at the next unit of the task: its step was done or wasn't, and the unit isn't done
 pub record FailsAtUnit (k : Keying) (m new : Play) (t : Task) : Type 0 where
   pub more : t.done < units_of k (job_of t.work)
   pub many : ℕ
   pub play : new ≡ broken k t many m
 
--- the move of each call, by its answer, on a provider that is read-only or not
+-- the move of each call, by its result, on a provider that is read-only or not
 abbrev pub MovesPlay : Bool → Keying → Content → QueueCall → Play → Play → Type 0
 MovesPlay readonly k c (Submit job from (Ok tag)) m new = IsAdmitted readonly (content_media k c) job × IsLeastFreeTag tag m.tasks × (new ≡ submitted tag job from m)
 MovesPlay readonly k c (Submit job from (Err fault)) m new = IsRefusedBy readonly (content_media k c) job (length m.tasks) fault × (new ≡ m)

@@ -25,7 +25,7 @@ abbrev pub pending : Keying → List Task → List Step
 pending k [] = []
 pending k (t ∷ tasks) = steps_of k t.work ++ pending k tasks
 
--- it is a writing, and where a unit was put there, by one of these steps
+-- w is a writing, and if it is a unit that was put there, one of these steps put it
 pub record StoodThere (steps : List Step) (w : Writing) : Type 0 where
   pub is : IsWriting w
   pub is_in : (p : PutUnit) → w ≡ Put p → Contains (placed steps) (Put p)
@@ -39,7 +39,7 @@ IsOpen k c steps Flushes done = Unit {0}
 abbrev pub IsOpenTask : Keying → Content → List Step → Task → Type 0
 IsOpenTask k c steps t = IsOpen k c steps t.work t.done
 
--- the steps fit one another, those that are to come with them: no other write has the number of an open one
+-- the steps fit one another, together with those that are to come: no other write has the number of an open one
 pub record IsPlay (k : Keying) (c : Content) (m : Play) : Type 0 where
   pub keying : IsKeying k
   pub content : IsContentOf (length c.base) c
@@ -52,7 +52,7 @@ pub record Shows (k : Keying) (c : Content) (m : Play) (open_requests : List Req
   pub told : d.content ≡ Some (after m.steps c)
   pub queue : open_requests ≡ map (request_of k) m.tasks
 
--- ---- its moves
+-- ---- the moves of a play
 
 -- a job comes to the tasks; a write draws the next number
 abbrev pub submitted : ℕ → Job → List ℕ → Play → Play
@@ -66,7 +66,7 @@ submitted tag job from m = record {
 abbrev pub task_stepped : Keying → Content → Task → Play → Play
 task_stepped k c t m = record { steps = m.steps ++ unit_steps k t.work t.done; tasks = exchange_task (task_after k (cell c m.steps) t) m.tasks; next = m.next }
 
--- its step was done or wasn't, and its unit isn't done
+-- the device failed at the next unit of a task: its step was done or wasn't, and the unit isn't done
 abbrev pub broken : Keying → Task → ℕ → Play → Play
 broken k t many m = record { steps = m.steps ++ take many (unit_steps k t.work t.done); tasks = m.tasks; next = m.next }
 
@@ -80,8 +80,8 @@ pub record IsLeastFreeTag (tag : ℕ) (tasks : List Task) : Type 0 where
   pub free : task_with tag tasks ≡ None
   pub least : (t : ℕ) → t < tag → IsSome (task_with t tasks)
 
--- what a task gives that is done: a read the bytes that its writings say, and of a write each step is among those that
--- were done
+-- what a finished task gives: a read gives the bytes that its writings say, and each step of a write is among those
+-- that were done
 abbrev pub Yields : Keying → List Step → Work → List ℕ → List ℕ → Reaped → Type 0
 Yields k steps (Reads sector count ws) before after given =
     (bytes : List ℕ) × (data_from k sector count ws ≡ Ok bytes) × (given ≡ Bytes (length bytes)) × (length bytes ≡ count * k.sectorsize) × (after ≡ bytes ++ drop (length bytes) before)

@@ -69,7 +69,7 @@ abbrev pub without_task : ℕ → List Task → List Task
 without_task tag [] = []
 without_task tag (t ∷ tasks) = if t.tag == tag then tasks else t ∷ without_task tag tasks
 
--- ---- its moves
+-- ---- the moves of a task
 
 -- the work of a job; a write takes this number
 abbrev pub work_of : ℕ → Job → List ℕ → Work
@@ -104,6 +104,6 @@ abbrev pub sectors_from : Keying → ℕ → ℕ → List Writing → List (Resu
 sectors_from k sector zero ws = []
 sectors_from k sector (suc count) ws = read_sector k sector (take (units k) ws) ∷ sectors_from k (sector + 1) count (drop (units k) ws)
 
--- their bytes one after the other, or the first fault among them
+-- the bytes of these logical sectors one after the other, or the first fault among them
 abbrev pub data_from : Keying → ℕ → ℕ → List Writing → Result (List ℕ) ℕ
 data_from k sector count ws = joined (sectors_from k sector count ws)

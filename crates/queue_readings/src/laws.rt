@@ -33,8 +33,8 @@ pub fn calls_are_moves()
         ShowsIn old.keying c m old → AreMade calls old new → IsPlayed c calls m old new }
 {}
 
-/// A write of the provider may stand between the calls: it takes the next number, and places its units, or the first of
-/// them where the device failed.
+/// A write of the provider may stand between the calls: it takes the next number, and places its units, or if the
+/// device failed, the first of them.
 pub fn writes_may_stand_between()
     ensures { (k : Keying) (c : Content) (m : Play) (queue : List Request) (d new : DiskState) (sector count many : ℕ) (bytes : List ℕ) →
         Shows k c m queue d → AreBytes bytes → count * k.sectorsize ≤ length bytes → Logs (take many (data_writes k sector count bytes)) d new →
@@ -61,8 +61,8 @@ pub fn steps_of_plays_fit()
     ensures { (k : Keying) (c : Content) (m : Play) → IsPlay k c m → AreSteps m.steps }
 {}
 
-/// A flush covers each step that was done before: among them those of each write that was reaped before the flush was
-/// submitted.
+/// A flush covers each step that was done before it: among them those of each write that was reaped before the flush
+/// was submitted.
 pub fn flushes_cover_what_was_done()
     ensures { (steps more : List Step) (s : Step) → Contains steps s → IsCovered ((steps ++ more) ++ Flush ∷ []) s }
 {}

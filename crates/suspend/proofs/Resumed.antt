@@ -31,11 +31,11 @@ same_so xs ys r is said = (bytes_eq-Decides xs ys).0 (is_true (bytes_eq xs ys) (
 
 -- ---- the slot that opened
 
--- it opened for the disk
+-- the slot opened for the disk
 pub opens_to : (t : Target) (by : Means) (slot : ℕ) (master : List ℕ) → IsChecked t.meta t.params t.disk.size → SlotOpens t.meta (params_media t.params) by.key by.named slot master → OpensTo t by slot master
 opens_to t by slot master is h = record { room = has_sector t is h.room; opened = h.opened; opens = h.opens }
 
--- none did
+-- no slot opened
 pub not_resumed : (t : Target) (by : Means) (mark : List ℕ) (fault : AttachFault) → IsChecked t.meta t.params t.disk.size → SlotFails t.meta t.params by.key by.named fault → ResumeFails t by mark (resume_fault_of fault)
 not_resumed t by mark (attach.TooSmall size) is h = none_attached t by (attach.TooSmall size) is h
 not_resumed t by mark attach.WrongKey is h = none_attached t by attach.WrongKey is h
@@ -48,7 +48,7 @@ pub back_so : {D : Type 0} (new old : D) (sectorsize sectors slot : ℕ) (readon
 back_so {D = D} new old sectorsize sectors slot readonly mark s same is =
     ap (λ (d : D). let kept : Suspension D = record { disk = d; sectorsize = sectorsize; sectors = sectors; slot = slot; readonly = readonly; mark = mark } in kept) same ∙ is
 
--- its provider is attached again
+-- the disk's provider is attached again
 made_again : {D : Type 0} (t : Target) (by : Means) (s : Suspension D) (slot : ℕ) (master : MasterKey) → IsChecked t.meta t.params t.disk.size → OpensTo t by slot master.bytes → sha256 master.bytes ≡ s.mark
     → IsResumed t by s (attached_with t.params master slot by.readonly s.disk)
 made_again t by s slot master is opens same =
@@ -65,7 +65,7 @@ pub opens_so : (m : Metadata) (u : List ℕ) (named : Option ℕ) (s : ℕ) (mas
 opens_so m u None s master opens = opens.opens
 opens_so m u (Some slot) s master opens = opens.1
 
--- master keys with one digest are the same, or a collision
+-- two master keys with one digest are the same, or a collision
 pub same_or_collision : (master other mark : List ℕ) → mark ≡ sha256 master → sha256 other ≡ mark → (other ≡ master) ⊎ AreCollision master other
 same_or_collision master other mark kept opened = elim (cases_Bool (bytes_eq other master)) [
   | inl same ↦ inl ((bytes_eq-Decides other master).0 same)

@@ -1,4 +1,4 @@
--- What resuming answers, each answer with its cause (geli(8), "resume").
+-- What resuming returns, each result with its cause (geli(8), "resume").
 use Rattle.std.specs.Prelude.{◌≡◌, ◌≢◌, ℕ, List, Result, Ok, Err}
 use Rattle.provider.specs.declared.faults.AttachFault.TheVariants as attach
 use Rattle.provider.specs.Answers.{AttachFails, IsAttached, Means, Target, target_media}
@@ -13,14 +13,14 @@ use Rattle.suspend.specs.Suspension.{Suspension}
 abbrev pub OpensTo : Target → Means → ℕ → List ℕ → Type 0
 OpensTo t by slot master = SlotOpens t.meta (target_media t) by.key by.named slot master
 
--- it opens to a master key with the digest that was kept
+-- the slot opens to a master key with the digest that was kept
 pub record OpensTheSame (t : Target) (by : Means) (mark : List ℕ) : Type 0 where
   pub slot : ℕ
   pub master : List ℕ
   pub opens : OpensTo t by slot master
   pub same : sha256 master ≡ mark
 
--- it opens to a master key with another digest; these are the one that was kept, and the other
+-- the slot opens to a master key with another digest; these are the one that was kept, and the other
 pub record OpensAnother (t : Target) (by : Means) (mark kept found : List ℕ) : Type 0 where
   pub slot : ℕ
   pub master : List ℕ
@@ -35,8 +35,8 @@ pub record IsResumed {D : Type 0} (t : Target) (by : Means) (s : Suspension D) (
   pub attached : IsAttached t by s.disk p
   pub same : sha256 p.keying.master ≡ s.mark
 
--- why it isn't: the disk has no whole logical sector, no slot that is asked for opens, it opens to another master
--- key, or else there was no memory
+-- why no provider is attached: the disk has no whole logical sector, no slot that is asked for opens, the slot opens to
+-- another master key, or else there was no memory
 abbrev pub ResumeFails : Target → Means → List ℕ → ResumeFault → Type 0
 ResumeFails t by mark (resume.TooSmall size) = AttachFails t by (attach.TooSmall size)
 ResumeFails t by mark resume.WrongKey = AttachFails t by attach.WrongKey

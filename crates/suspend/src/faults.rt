@@ -14,7 +14,7 @@ pub enum ResumeFault {
     /// No slot that is set opens with the user key, or the named one doesn't.
     #[error("wrong key")]
     WrongKey,
-    /// The user key opens another master key than the provider had: the SHA-256 of that one, and of this.
+    /// The user key opens another master key than the provider had: the SHA-256 of the provider's, and of the other.
     #[error("the key opens another master key")]
     DifferentKey { kept: [u8; 32], opened: [u8; 32] },
     /// There was no memory.

@@ -10,8 +10,8 @@ ghost use Rattle.suspend.specs.Suspension.{Suspension};
 
 use block_traits::Disk;
 
-/// A law: a provider that was resumed has a master key that a slot of the metadata gives to the user key. It is the
-/// one whose digest was kept, or the two are a collision of SHA-256.
+/// A law: a provider that was resumed has a master key that the user key opens in a slot of the metadata. It is the one
+/// whose digest was kept, or the two are a collision of SHA-256.
 pub fn resumed_master_is_the_same_or_collides<D: Disk>()
     ensures opens { (target : Target) (by : Means) (s : Suspension D) (p : Attached D) → ResumeAnswers target by s (Ok p) →
         Opens target.meta by.key p.slot p.keying.master }
@@ -20,7 +20,7 @@ pub fn resumed_master_is_the_same_or_collides<D: Disk>()
         (p.keying.master ≡ master) ⊎ AreCollision master p.keying.master }
 {}
 
-/// A law: the numbers that a suspended provider gives of itself determine all that was kept.
+/// A law: the numbers that a suspended provider shows of itself determine all that was kept.
 pub fn rest_tells_all<D: Disk>()
     ensures { (s t : Suspension D) → suspended_rest s ≡ suspended_rest t →
         (s.slot ≡ t.slot) × (s.sectorsize ≡ t.sectorsize) × (s.sectors ≡ t.sectors) × (s.readonly ≡ t.readonly) × (s.mark ≡ t.mark) }

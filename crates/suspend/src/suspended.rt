@@ -53,13 +53,13 @@ impl<D: Drop> Model for Suspended<D> {
 
     ghost view = { λ s. record { disk = s.disk; sectorsize = s.kept.sectorsize; sectors = s.kept.sectors; slot = s.kept.slot; readonly = s.kept.readonly; mark = s.kept.mark } };
 
-    // It keeps these and nothing else: a field more isn't in this record.
+    // It keeps these and nothing else: a further field would be missing in this record.
     ghost invariant = { λ s. s ≡ record { disk = s.disk; kept = record { sectorsize = s.kept.sectorsize; sectors = s.kept.sectors; slot = s.kept.slot; readonly = s.kept.readonly; mark = s.kept.mark } } };
 }
 
 impl<D: Disk> Suspended<D> {
-    /// Suspends a provider: its disk is flushed once, nothing is read, and its keys are let go. It is suspended
-    /// either way.
+    /// Suspends a provider: its disk is flushed once, nothing is read, and its keys are let go. It is suspended even if
+    /// the flush fails.
     pub fn suspend(on: Provider<D>) -> (Suspended<D>, Result<(), DiskFailed>)
         ensures kept { KeepsOfProvider D.state on result.0 }
         ensures ok { OnOk result.1 (Logs (Event.Flush ∷ []) (D.state on.disk) (D.state result.0.disk)) }
@@ -113,8 +113,8 @@ impl<D: Disk> Suspended<D> {
         self.kept.mark
     }
 
-    // The slot of these metadata that the key opens, if it has the master key that the provider had; else why it isn't
-    // resumed.
+    // The slot of these metadata that the key opens, if it has the master key that the provider had; else why the
+    // provider isn't resumed.
     fn open_again(
         &self,
         meta: &Metadata,
@@ -140,15 +140,15 @@ impl<D: Disk> Suspended<D> {
         Ok(found)
     }
 
-    /// Attaches the provider again, by metadata of its disk: with the master key of the slot that is named, or else
-    /// of the first slot that `key` opens, which has to be the master key that it had. Its keying is that of the
-    /// metadata. It is read-only where it was so or the metadata say so.
+    /// Attaches the provider again, by metadata of its disk: with the master key of the slot that is named, or else of
+    /// the first slot that `key` opens, which has to be the master key that it had. Its keying is that of the metadata.
+    /// It is read-only if it was so or the metadata say so.
     ///
     /// `params` are those that `check` gave of the metadata, and both gates let this disk and this slot through.
     ///
-    /// After a refusal it is suspended as before. In this order: `TooSmall`, exactly where the disk has no whole
-    /// logical sector; `WrongKey`, exactly where no slot that is asked for opens; `DifferentKey`, exactly where the
-    /// SHA-256 of the master key that opened isn't the one that was kept; `NoMemory`. No call of the disk is made.
+    /// After a refusal it is suspended as before. In this order: `TooSmall`, exactly if the disk has no whole logical
+    /// sector; `WrongKey`, exactly if no slot that is asked for opens; `DifferentKey`, exactly if the SHA-256 of the
+    /// master key that opened isn't the one that was kept; `NoMemory`. No call of the disk is made.
     pub fn resume(
         self,
         alloc: Global,
@@ -175,7 +175,7 @@ impl<D: Disk> Suspended<D> {
         }
     }
 
-    /// Flushes the disk once, and gives it back either way. Nothing is read.
+    /// Flushes the disk once, and gives it back even if that fails. Nothing is read.
     pub fn detach(self) -> (D, Result<(), DiskFailed>)
         ensures ok { OnOk result.1 (Logs (Event.Flush ∷ []) (D.state self.disk) (D.state result.0)) }
         ensures err { OnErr result.1 (FailsIn (Event.Flush ∷ []) (D.state self.disk) (D.state result.0)) }
@@ -195,7 +195,7 @@ impl<D: Disk> Suspended<D> {
     }
 }
 
-/// It has the disk's state, and keeps what was kept of the provider.
+/// A suspended provider as a place of metadata: it has the disk's state, and keeps what was kept of the provider.
 impl<D: Disk> MetaPlace for Suspended<D> {
     ghost state = { λ s. D.state s.disk };
 

@@ -111,7 +111,7 @@ get_or-unit_readings_at k n (sector ∷ sectors) (suc j) d lt =
     let at : n + 1 + j ≡ n + suc j = omega arith in
     get_or-unit_readings_at k (n + 1) sectors j d (omega arith) ∙ ap (λ (m : ℕ). unit_reading_at k m (get_or sectors j [])) at
 
--- those of one logical sector
+-- the units of one logical sector
 of_one_sector : (k : Keying) (c : Content) (sector : ℕ) → k.auth ≢ Off → unit_readings_at k (sector * units k) (standing c (sector * units k) (units k)) ≡ units_read k c sector
 of_one_sector k c sector on =
     let sectors : List (List ℕ) = standing c (sector * units k) (units k) in

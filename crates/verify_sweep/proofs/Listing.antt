@@ -266,7 +266,7 @@ ListsFailing-next k first i count bad now before found after start middle last s
       logs = Logs-then [] [] so.logs one.logs;
     }
 
--- what is answered where a read failed
+-- what is returned if a read failed
 pub sweep_fails : (s : Sweep) (before after : List ℕ) (answer : Result Swept DiskFailed) (old new : DiskState) → IsErr answer → FailsAmong (sectors_swept s * units s.keying) old new → SweepAnswers s before after answer old new
 sweep_fails s before after (Ok done) old new is fails = absurd cc
 sweep_fails s before after (Err failed) old new is fails = fails

@@ -1,4 +1,4 @@
--- Where sweeps end that follow each other.
+-- Where sweeps that follow each other end.
 use Rattle.std.proofs.Common.{◌≡◌, ℕ, zero, suc, ◌+◌, ◌-◌, ◌/◌, ◌≤◌, min, List, [], ◌∷◌, ◌++◌, map, sum, sym, ap, ◌∙◌, arith, add-zero}
 use Rattle.std.specs.List.{range_with_len}
 use Rattle.std.proofs.lemmas.List.Sums.{sum_by-cons}
@@ -36,7 +36,7 @@ all_sectors k media start (count ∷ counts) =
     ∙ sym (range-append start n (last - (start + n)))
     ∙ ap (range_with_len start) whole
 
--- what is left is reached where the cut counts reach it
+-- what is left is reached if the cut counts reach it
 pub reaches : (k : Keying) (media start : ℕ) (counts : List ℕ) → start ≤ media → media ≤ start + sum (map (cut_count k) counts) → place_after k media start counts ≡ media
 reaches k media start [] h g = omega arith
 reaches k media start (count ∷ counts) h g =

@@ -16,13 +16,12 @@ units_read_from k c sector (suc count) = units_read k c sector ++ units_read_fro
 abbrev pub sweep_at : Keying → ℕ → ℕ → ℕ → Sweep
 sweep_at k media start count = record { keying = k; media = media; start = start; count = count }
 
--- where sweeps over these counts of sectors end, of which the first begins at a place and each other where the one
--- before ended
+-- where sweeps over these counts of sectors end: the first begins at a place, and each other where the one before ended
 abbrev pub place_after : Keying → ℕ → ℕ → List ℕ → ℕ
 place_after k media start [] = start
 place_after k media start (count ∷ counts) = place_after k media (start + sectors_swept (sweep_at k media start count)) counts
 
--- the numbers of the sectors that they go over
+-- the numbers of the sectors that such sweeps go over
 abbrev pub sectors_after : Keying → ℕ → ℕ → List ℕ → List ℕ
 sectors_after k media start [] = []
 sectors_after k media start (count ∷ counts) =

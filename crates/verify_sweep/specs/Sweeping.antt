@@ -39,7 +39,7 @@ abbrev pub le64s : List ℕ → List ℕ
 le64s [] = []
 le64s (n ∷ ns) = le64 n ++ le64s ns
 
--- the byte offsets of those of some device sectors that aren't accepted, of which the first is the one of number n
+-- the byte offsets of the device sectors that aren't accepted, of some of which the first is the one of number n
 abbrev pub refused_at : ℕ → List Bool → List ℕ
 refused_at n [] = []
 refused_at n (true ∷ accepted) = refused_at (n + 1) accepted
@@ -65,14 +65,14 @@ pub record Looks (k : Keying) (n count bad now : ℕ) (before after : List ℕ) 
 
 -- ---- a sweep
 
--- a sweep that is asked for: from where on, and over how many of the logical sectors of a provider with so many
+-- a sweep: where it is to begin, over how many logical sectors it is to go, and how many the provider has
 pub record Sweep : Type 0 where
   pub keying : Keying
   pub media : ℕ
   pub start : ℕ
   pub count : ℕ
 
--- the logical sectors that it goes over: as many as are asked for, unless there are fewer, or they have more than
+-- the logical sectors that a sweep goes over: as many as are asked for, unless there are fewer, or they have more than
 -- 16,384 units
 abbrev pub sectors_swept : Sweep → ℕ
 sectors_swept s = min (min s.count (s.media - s.start)) (16384 / units s.keying)
@@ -89,7 +89,7 @@ pub record ListsFailing (k : Keying) (n count bad : ℕ) (before after : List �
   pub asked : Counted count old.reads new.reads
   pub logs : Logs [] old new
 
--- what it answers: where the next one begins, and how many units are listed; or a read failed
+-- what a sweep returns: where the next one begins, and how many units are listed; or a read failed
 abbrev pub SweepAnswers : Sweep → List ℕ → List ℕ → Result Swept DiskFailed → DiskState → DiskState → Type 0
 SweepAnswers s before after (Ok done) old new =
     (done.next ≡ s.start + sectors_swept s)

@@ -17,7 +17,7 @@ pub fn units_are_those_of_their_sectors()
         unit_readings_at k (sector * units k) (standing c (sector * units k) (count * units k)) ≡ units_read_from k c sector count }
 {}
 
-/// A law: an offset is listed exactly where the unit there fails. The list ascends, so each is listed once.
+/// A law: an offset is listed exactly if the unit there fails. The list ascends, so each is listed once.
 pub fn units_are_listed_once()
     ensures listed { (k : Keying) (n : ℕ) (sectors : List (List ℕ)) (offset : ℕ) →
         Contains (failing_units k n sectors) offset ↔ Fails k n sectors offset }
@@ -30,8 +30,8 @@ pub fn parts_list_what_the_whole_lists()
         failing_units k n (front ++ behind) ≡ failing_units k n front ++ failing_units k (n + length front) behind }
 {}
 
-/// A law: sweeps of which each begins where the one before ended go over all sectors from the first place to the
-/// last, each once.
+/// A law: sweeps that each begin where the one before ended go over all sectors from the first place to the last, each
+/// once.
 pub fn parts_follow_each_other()
     ensures order { (k : Keying) (media start : ℕ) (counts : List ℕ) → start ≤ place_after k media start counts }
     ensures within { (k : Keying) (media start : ℕ) (counts : List ℕ) → start ≤ media → place_after k media start counts ≤ media }
@@ -39,7 +39,8 @@ pub fn parts_follow_each_other()
         sectors_after k media start counts ≡ range_with_len start (place_after k media start counts - start) }
 {}
 
-/// A law: they reach the end once their counts do, each cut to the sectors that a sweep goes over at most.
+/// A law: sweeps that follow one another reach the end once their counts do, each cut to the most sectors that one
+/// sweep goes over.
 pub fn cut_counts_reach_the_end()
     ensures { (k : Keying) (media start : ℕ) (counts : List ℕ) → start ≤ media → media ≤ start + sum (map (cut_count k) counts) →
         place_after k media start counts ≡ media }

@@ -27,8 +27,8 @@ const MOST_UNITS: u64 = 16_384;
 // How many device sectors are looked at at once, at most.
 const WINDOW: u64 = 40;
 
-// Puts the offset of device sector `n` behind so many others, where its unit isn't accepted. Gives how many are
-// listed then.
+// If the unit of device sector `n` isn't accepted, puts its offset after so many others. Returns how many are listed
+// then.
 fn list(n: u64, accepted: bool, found: &mut [u8], bad: u32) -> u32
     requires small { n < 2 ^ 44 }
     requires few { bad < 16384 }
@@ -44,8 +44,8 @@ fn list(n: u64, accepted: bool, found: &mut [u8], bad: u32) -> u32
     bad + 1
 }
 
-// Lists those of the next units of device sectors whose tag differs, as many as are checked at once. The first device
-// sector has number `n`. Gives at how many it looked, and how many are listed then.
+// Looks at the next units, as many as are checked at once, and lists those whose tag differs. The first device sector
+// has number `n`. Returns at how many it looked, and how many are listed then.
 fn list_next<D: Disk>(
     on: &Provider<D>,
     n: u64,
@@ -70,8 +70,7 @@ fn list_next<D: Disk>(
     (judged.count, now)
 }
 
-// Lists those of the units of device sectors whose tag differs, where the first has number `n`. Gives how many are
-// listed then.
+// Lists the units of device sectors, the first of number `n`, whose tag differs. Returns how many are listed then.
 fn list_all<D: Disk>(on: &Provider<D>, n: u64, device: &[u8], found: &mut [u8], bad: u32) -> u32
     requires on { on.now.keying.auth ≢ Off }
     requires inside { n + length device.now / 512 ≤ media on.now.keying (D.state on.now.disk) * units on.now.keying }
@@ -90,9 +89,9 @@ fn list_all<D: Disk>(on: &Provider<D>, n: u64, device: &[u8], found: &mut [u8], 
     now
 }
 
-// How many device sectors are looked at at once, the first of number `n`, of so many that are left: those of whole
-// logical sectors where they fit, and a multiple of four of those that have ten units or fewer: the tags of four such
-// sectors are computed side by side.
+// How many device sectors are looked at at once, the first of number `n`, of so many that are left. They are those of
+// whole logical sectors, if one fits; of logical sectors that have ten units or fewer, a multiple of four, since the
+// tags of four such sectors are computed side by side.
 fn looked_at(units: u64, n: u64, left: u64) -> u64
     requires units { 1 ≤ units }
     requires left { 1 ≤ left }
@@ -108,8 +107,8 @@ fn looked_at(units: u64, n: u64, left: u64) -> u64
     (WINDOW - WINDOW % group).min(left)
 }
 
-// Looks at the next units, of which so many are left: at as many at once as `window` has room for where that can be
-// done, and else at one. Gives at how many, and how many are listed then.
+// Looks at the next units, of which so many are left: at several at once if the disk gives a look at them, else at one.
+// Returns at how many, and how many are listed then.
 fn look_on<D: Disk>(
     on: &mut Provider<D>,
     n: u64,
@@ -141,16 +140,16 @@ fn look_on<D: Disk>(
     Ok((1, now))
 }
 
-/// Looks at the units of logical sectors from number `start` on, and lists those whose tag isn't that of their cipher
-/// text. It goes over `count` sectors, or over fewer: no further than the last one, and over no more units than
+/// Looks at the units of logical sectors from number `start` on, and lists those whose tag isn't that of their
+/// ciphertext. It goes over `count` sectors, or over fewer: no further than the last one, and over no more units than
 /// 16,384.
 ///
-/// The listed units stand at the front of `found` in ascending order, each as eight bytes, the least significant
-/// first: its byte offset on the device. What is behind them stays. One read of each unit of these sectors is counted,
-/// and nothing else is done.
+/// The listed units stand at the front of `found` in ascending order, each as eight bytes, the least significant first:
+/// its byte offset on the device. What is after them stays. One read of each unit of these sectors is counted, and
+/// nothing else is done.
 ///
-/// It is refused only where the device failed: then no more units were read than these, nothing else was done, and
-/// `found` may hold any bytes.
+/// It is refused only if the device failed: then no more units were read than these, nothing else was done, and `found`
+/// may hold any bytes.
 pub fn sweep<D: Disk>(
     on: &mut Provider<D>,
     start: u64,
